@@ -1,0 +1,4 @@
+pub mod Lists
+pub mod Blocks
+pub mod Records
+pub mod Rings
