@@ -1,4 +1,5 @@
 pub mod Lists
+pub mod All
 pub mod Blocks
 pub mod Records
 pub mod Rings

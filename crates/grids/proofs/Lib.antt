@@ -1,0 +1,9 @@
+pub mod Axes
+pub mod Tiles
+pub mod Stamps
+pub mod Spans
+pub mod Boxes
+pub mod Legal
+pub mod Seen
+pub mod Rows
+pub mod Pages

@@ -1,0 +1,34 @@
+// Some tile written since a count, on one page.
+ghost use Prim.Native.Nat.{_≤_};
+ghost use lib.ListN.{length};
+ghost use Rattle.grids.specs.Grids.{TilingOk, stampCount, IsDirtyTile};
+
+use crate::axis::tiles;
+use crate::grid::Tiling;
+
+pub enum DirtyTile {
+    At { column: u64, row: u64 },
+    NoTile,
+}
+
+// Some tile stamped above `held`, or none if there is none. Which one is left open.
+pub fn dirty_tile(page: &[u64], g: Tiling, held: u64) -> DirtyTile
+    requires { ⌜ TilingOk g × (stampCount g ≤ length (now page)) ⌝ }
+    ensures { λ r. ⌜ IsDirtyTile g held (now (page .entry)) r ⌝ }
+{
+    let across = g.across;
+    let down = g.down;
+    let columns = tiles(across) as usize;
+    let count = columns * (tiles(down) as usize);
+    let mut k = 0;
+    while k < count {
+        if held < page[k] {
+            return DirtyTile::At {
+                column: (k % columns) as u64,
+                row: (k / columns) as u64,
+            };
+        }
+        k += 1;
+    }
+    DirtyTile::NoTile
+}
