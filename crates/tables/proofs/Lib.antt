@@ -1,3 +1,5 @@
 pub mod Numbers
 pub mod Lists
 pub mod Listed
+pub mod Blocks
+pub mod Scans
