@@ -3,3 +3,4 @@ pub mod Lists
 pub mod Listed
 pub mod Blocks
 pub mod Scans
+pub mod Records
