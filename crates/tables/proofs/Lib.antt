@@ -4,3 +4,4 @@ pub mod Listed
 pub mod Blocks
 pub mod Scans
 pub mod Records
+pub mod Rings
