@@ -159,3 +159,30 @@ module _ {ℓ} {A : Type ℓ} {w : ℕ} {rd : List ℕ → A} {wr : A → List �
     laid-pushed n k x =
         sym (laid-more w wr cap head (ring w rd cap head n s) x 0 s
         ∙ ap₂ (λ (l : List ℕ) (m : ℕ). sets l (w * placeOf cap head m) (wr x)) (laid-ring n (omega arith)) (zero-add (length (ring w rd cap head n s)) ∙ length-ring w rd cap head n s))
+
+  -- records written further along leave the k-th
+  laid-other : (xs : List A) (j k : ℕ) (s : List ℕ) → w * cap ≤ length s → k < j → j + length xs ≤ cap
+      → along w rd cap head (laid w wr cap head j xs s) k ≡ along w rd cap head s k
+  unfolding laid along
+  laid-other [] j k s fits a b = refl
+  laid-other (x ∷ xs) j k s fits a b =
+      let p = w * placeOf cap head j in
+      laid-other xs (suc j) k (sets s p (wr x)) (omega (arith, length-sets s p (wr x))) (omega arith) (omega arith)
+      ∙ read-other C cap s fits (placeOf cap head j) (placeOf cap head k) x (place-in cap head j h (omega arith)) (place-in cap head k h (omega arith)) (place-apart cap head k j h a (omega arith))
+
+  laid-read : (xs : List A) (i : ℕ) (s : List ℕ) → w * cap ≤ length s → i + length xs ≤ cap
+      → listed (along w rd cap head (laid w wr cap head i xs s)) i (length xs) ≡ xs
+  unfolding laid listed along
+  laid-read [] i s fits b = refl
+  laid-read (x ∷ xs) i s fits b =
+      let p = placeOf cap head i in
+      let t = sets s (w * p) (wr x) in
+      let room : w * cap ≤ length t = omega (arith, length-sets s (w * p) (wr x)) in
+      ap₂ (λ (y : A) (l : List A). y ∷ l)
+      (laid-other xs (suc i) i t room (omega arith) (omega arith) ∙ read-same C cap s fits p x (place-in cap head i h (omega arith)))
+      (laid-read xs (suc i) t room (omega arith))
+
+  -- what was written along the ring is what is read
+  pub ring-laid : (xs : List A) (n : ℕ) (s : List ℕ) → w * cap ≤ length s → n ≤ cap → length xs ≡ n → ring w rd cap head n (laid w wr cap head 0 xs s) ≡ xs
+  unfolding ring
+  ring-laid xs n s fits b e = ap (listed (along w rd cap head (laid w wr cap head 0 xs s)) 0) (sym e) ∙ laid-read xs 0 s fits (omega arith)
