@@ -5,7 +5,8 @@ ghost use Prim.Native.Nat.{_*_, _≤_, _<_};
 ghost use lib.ListN.{length, take, drop};
 ghost use lib.Seq.{sets};
 ghost use Rattle.tables.specs.Rings.{placeOf};
-use crate::table::{put_record, record_at};
+use crate::table::put_record;
+use crate::table::record_at;
 
 // The place of the i-th record.
 pub fn place(cap: usize, head: usize, i: usize) -> usize

@@ -5,7 +5,9 @@ ghost use Prim.Native.Nat.{_+_, _*_, _-_, _≤_};
 ghost use lib.ListN.{length, take, drop};
 ghost use lib.Seq.{sets};
 ghost use Rattle.tables.specs.Blocks.{moved};
-use crate::block::{copy_in, shift_down, shift_up};
+use crate::block::copy_in;
+use crate::block::shift_down;
+use crate::block::shift_up;
 
 // Record i.
 pub fn record_at(s: &[u64], w: usize, i: usize) -> &[u64]

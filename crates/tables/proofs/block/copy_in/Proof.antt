@@ -1,3 +1,4 @@
+-- `copy_in` meets its contract. After j turns, the first j numbers of src are pasted in. Assumes nothing.
 use borrow.Author.Needs.{needs}
 use Prim.Native.Nat.{_-_, _≤_}
 use mathlib.Core.Path.{_≡_}
@@ -7,8 +8,6 @@ use lib.Seq.{paste, paste-zero}
 use Rattle.tables.proofs.Blocks.{copy-step, copy-done}
 use Rattle.tables.proofs.block.copy_in.Statement.{statement}
 use Rattle.tables.proofs.block.copy_in.Tie as tie
-use Rattle.tables.proofs.block.copy_in.Reads as reads
-use Rattle.tables.proofs.block.copy_in.Lts as lts
 
 abbrev Inv-loop : tie.InvT-loop
 Inv-loop s₀ at src j₀ s j = (j ≤ length src) × (length s ≡ length s₀) × (s ≡ paste s₀ at src j)
@@ -16,50 +15,39 @@ Inv-loop s₀ at src j₀ s j = (j ≤ length src) × (length s ≡ length s₀)
 abbrev μ-loop : tie.MeasureT-loop
 μ-loop s₀ at src j₀ s j = length src - j
 
--- src/block.rt:38:5
 loop-holds : tie.Need-loop-holds Inv-loop μ-loop
 loop-holds c = (search needs, search needs, paste-zero (c .args .s .now) (c .args .at) (c .args .src .now))
 
--- src/block.rt:39:21
 mul-s : tie.Need-mul-s Inv-loop μ-loop
 mul-s c = search needs
 
--- src/block.rt:39:21
 shared-slice-read-s : tie.Need-shared-slice-read-s Inv-loop μ-loop
 shared-slice-read-s c = search needs
 
--- src/block.rt:39:11
 add-s : tie.Need-add-s Inv-loop μ-loop
 add-s c = search needs
 
--- src/block.rt:39:9
 mul-s-2 : tie.Need-mul-s-2 Inv-loop μ-loop
 mul-s-2 c = search needs
 
--- src/block.rt:39:9
 slice-write-s : tie.Need-slice-write-s Inv-loop μ-loop
 slice-write-s c = search needs
 
--- src/block.rt:40:9
 add-j : tie.Need-add-j Inv-loop μ-loop
 add-j c = search needs
 
--- src/block.rt:38:5
 loop-less : tie.Need-loop-less Inv-loop μ-loop
 loop-less c = search needs
 
--- src/block.rt:38:5
 loop-again : tie.Need-loop-again Inv-loop μ-loop
 loop-again c =
     let l = c .before .before in
     let a = l .before .args in
     (search needs, simp length-set (search needs), copy-step (a .s .now) (a .at) (a .src .now) (l .before .pre) _ _ (c .before .loop-test .taken) (l .loop .inv .2))
 
--- src/block.rt:33:1
 same-length : tie.Need-same-length Inv-loop μ-loop
 same-length c = search needs
 
--- src/block.rt:33:1
 returns : tie.Need-returns Inv-loop μ-loop
 returns c =
     let a = c .before .before .args in

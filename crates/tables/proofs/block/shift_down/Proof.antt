@@ -1,3 +1,4 @@
+-- `shift_down` meets its contract. After j turns, the first j numbers have moved. Assumes nothing.
 use borrow.Author.Needs.{needs}
 use Prim.Native.Nat.{_+_, _-_, _≤_}
 use mathlib.Core.Path.{_≡_}
@@ -7,8 +8,6 @@ use Rattle.tables.specs.Blocks.{moved}
 use Rattle.tables.proofs.Blocks.{moved-none, down-step}
 use Rattle.tables.proofs.block.shift_down.Statement.{statement}
 use Rattle.tables.proofs.block.shift_down.Tie as tie
-use Rattle.tables.proofs.block.shift_down.Reads as reads
-use Rattle.tables.proofs.block.shift_down.Lts as lts
 
 abbrev Inv-loop : tie.InvT-loop
 Inv-loop s₀ at k n j₀ s j = (j ≤ n) × (length s ≡ length s₀) × (s ≡ moved s₀ at (at + k) j)
@@ -16,57 +15,44 @@ Inv-loop s₀ at k n j₀ s j = (j ≤ n) × (length s ≡ length s₀) × (s �
 abbrev μ-loop : tie.MeasureT-loop
 μ-loop s₀ at k n j₀ s j = n - j
 
--- src/block.rt:14:5
 loop-holds : tie.Need-loop-holds Inv-loop μ-loop
 loop-holds c = (search needs, search needs, moved-none _ _ _)
 
--- src/block.rt:15:23
 add-s : tie.Need-add-s Inv-loop μ-loop
 add-s c = search needs
 
--- src/block.rt:15:23
 add-s-2 : tie.Need-add-s-2 Inv-loop μ-loop
 add-s-2 c = search needs
 
--- src/block.rt:15:21
 mul-s : tie.Need-mul-s Inv-loop μ-loop
 mul-s c = search needs
 
--- src/block.rt:15:21
 slice-read-s : tie.Need-slice-read-s Inv-loop μ-loop
 slice-read-s c = search needs
 
--- src/block.rt:15:11
 add-s-3 : tie.Need-add-s-3 Inv-loop μ-loop
 add-s-3 c = search needs
 
--- src/block.rt:15:9
 mul-s-2 : tie.Need-mul-s-2 Inv-loop μ-loop
 mul-s-2 c = search needs
 
--- src/block.rt:15:9
 slice-write-s : tie.Need-slice-write-s Inv-loop μ-loop
 slice-write-s c = search needs
 
--- src/block.rt:16:9
 add-j : tie.Need-add-j Inv-loop μ-loop
 add-j c = search needs
 
--- src/block.rt:14:5
 loop-less : tie.Need-loop-less Inv-loop μ-loop
 loop-less c = search needs
 
--- src/block.rt:14:5
 loop-again : tie.Need-loop-again Inv-loop μ-loop
 loop-again c =
     let l = c .before .before in
     (search needs, simp length-set (search needs), down-step _ _ _ _ (l .before .pre) _ _ (c .before .loop-test .taken) (l .loop .inv .2))
 
--- src/block.rt:9:1
 same-length : tie.Need-same-length Inv-loop μ-loop
 same-length c = search needs
 
--- src/block.rt:9:1
 returns : tie.Need-returns Inv-loop μ-loop
 returns c =
     let done : c .before .loop .j ≡ c .before .before .args .n = omega arith in

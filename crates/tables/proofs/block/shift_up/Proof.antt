@@ -1,3 +1,4 @@
+-- `shift_up` meets its contract. With j left, the numbers from the j-th on have moved. Assumes nothing.
 use borrow.Author.Needs.{needs}
 use Prim.Native.Nat.{suc, _+_, _-_, _≤_, _<_}
 use mathlib.Core.Path.{_≡_}
@@ -8,8 +9,6 @@ use Rattle.tables.specs.Blocks.{moved}
 use Rattle.tables.proofs.Blocks.{moved-none, up-step}
 use Rattle.tables.proofs.block.shift_up.Statement.{statement}
 use Rattle.tables.proofs.block.shift_up.Tie as tie
-use Rattle.tables.proofs.block.shift_up.Reads as reads
-use Rattle.tables.proofs.block.shift_up.Lts as lts
 
 abbrev Inv-loop : tie.InvT-loop
 Inv-loop s₀ at k n j₀ s j = (j ≤ n) × (length s ≡ length s₀) × (s ≡ moved s₀ (at + k + j) (at + j) (n - j))
@@ -17,47 +16,36 @@ Inv-loop s₀ at k n j₀ s j = (j ≤ n) × (length s ≡ length s₀) × (s �
 abbrev μ-loop : tie.MeasureT-loop
 μ-loop s₀ at k n j₀ s j = j
 
--- src/block.rt:26:5
 loop-holds : tie.Need-loop-holds Inv-loop μ-loop
 loop-holds c = (search needs, search needs, let z : c .args .n - c .args .n ≡ 0 = omega arith in rw z (moved-none _ _ _))
 
--- src/block.rt:27:9
 sub-j : tie.Need-sub-j Inv-loop μ-loop
 sub-j c = search needs
 
--- src/block.rt:28:27
 add-s : tie.Need-add-s Inv-loop μ-loop
 add-s c = search needs
 
--- src/block.rt:28:25
 mul-s : tie.Need-mul-s Inv-loop μ-loop
 mul-s c = search needs
 
--- src/block.rt:28:25
 slice-read-s : tie.Need-slice-read-s Inv-loop μ-loop
 slice-read-s c = search needs
 
--- src/block.rt:28:11
 add-s-2 : tie.Need-add-s-2 Inv-loop μ-loop
 add-s-2 c = search needs
 
--- src/block.rt:28:11
 add-s-3 : tie.Need-add-s-3 Inv-loop μ-loop
 add-s-3 c = search needs
 
--- src/block.rt:28:9
 mul-s-2 : tie.Need-mul-s-2 Inv-loop μ-loop
 mul-s-2 c = search needs
 
--- src/block.rt:28:9
 slice-write-s : tie.Need-slice-write-s Inv-loop μ-loop
 slice-write-s c = search needs
 
--- src/block.rt:26:5
 loop-less : tie.Need-loop-less Inv-loop μ-loop
 loop-less c = search needs
 
--- src/block.rt:26:5
 loop-again : tie.Need-loop-again Inv-loop μ-loop
 loop-again c =
     let l = c .before .before in
@@ -66,11 +54,9 @@ loop-again c =
     let back : j ≡ suc (j - 1) = omega arith in
     (search needs, simp length-set (search needs), up-step _ _ _ _ (l .before .pre) _ (j - 1) (omega arith) (rw back at (l .loop .inv .2)))
 
--- src/block.rt:21:1
 same-length : tie.Need-same-length Inv-loop μ-loop
 same-length c = search needs
 
--- src/block.rt:21:1
 returns : tie.Need-returns Inv-loop μ-loop
 returns c =
     let z : c .before .loop .j ≡ 0 = omega arith in

@@ -1,26 +1,31 @@
+-- `ring_push` meets its contract: a record put at its place. Assumes nothing.
 use borrow.Author.Needs.{needs}
+use mathlib.Core.Path.{ap, _∙_}
+use native.Mathlib.Omega.{arith}
+use Prim.Native.Nat.{_*_}
+use lib.Seq.{sets}
+use Rattle.tables.proofs.Numbers.{row-fits}
 use Rattle.tables.proofs.ring.ring_push.Statement.{statement}
 use Rattle.tables.proofs.ring.ring_push.Tie as tie
-use Rattle.tables.proofs.ring.ring_push.Reads as reads
-use Rattle.tables.proofs.ring.ring_push.Lts as lts
-use Rattle.tables.proofs.ring.place.Reads as place-reads
-use Rattle.tables.proofs.table.put_record.Reads as put-record-reads
 
--- src/ring.rt:36:9
 place-requires : tie.Need-place-requires
 place-requires c κs = search needs
 
--- src/ring.rt:37:5
 put-record-requires : tie.Need-put-record-requires
-put-record-requires c κs = search needs
+put-record-requires c κs =
+    let found = c .before in
+    let a = found .before .before .before .args in
+    omega (arith, row-fits (a .w) (found .place .result) (a .cap) (found .place .ensures .0))
 
--- src/ring.rt:32:1
 same-length : tie.Need-same-length
 same-length c = search needs
 
--- src/ring.rt:32:1
 returns : tie.Need-returns
-returns c = search needs
+returns c =
+    let put = c .before .before in
+    let found = put .before .before in
+    let a = found .before .before .before .args in
+    put .put-record .ensures ∙ ap (λ p. sets (a .s .now) (a .w * p) (a .r .now)) (found .place .ensures .1)
 
 pub ring-push-spec : {M : Type 1} → statement M
 ring-push-spec = tie.close (tie.spec place-requires put-record-requires same-length returns)

@@ -1,22 +1,26 @@
+-- `ring_record` meets its contract: the record at its place. Assumes nothing.
 use borrow.Author.Needs.{needs}
+use mathlib.Core.Path.{ap, _∙_}
+use native.Mathlib.Omega.{arith}
+use Prim.Native.Nat.{_*_}
+use lib.ListN.{take, drop}
+use Rattle.tables.proofs.Numbers.{row-fits}
 use Rattle.tables.proofs.ring.ring_record.Statement.{statement}
 use Rattle.tables.proofs.ring.ring_record.Tie as tie
-use Rattle.tables.proofs.ring.ring_record.Reads as reads
-use Rattle.tables.proofs.ring.ring_record.Lts as lts
-use Rattle.tables.proofs.table.record_at.Reads as record-at-reads
-use Rattle.tables.proofs.ring.place.Reads as place-reads
 
--- src/ring.rt:27:9
 place-requires : tie.Need-place-requires
 place-requires c κs = search needs
 
--- src/ring.rt:28:5
 record-at-requires : tie.Need-record-at-requires
-record-at-requires c κs = ?
+record-at-requires c κs =
+    let a = c .before .before .args in
+    omega (arith, row-fits (a .w) (c .place .result) (a .cap) (c .place .ensures .0))
 
--- src/ring.rt:23:1
 returns : tie.Need-returns
-returns c = ?
+returns c =
+    let found = c .before in
+    let a = found .before .before .args in
+    c .record-at .ensures ∙ ap (λ p. take (a .w) (drop (a .w * p) (a .s .now))) (found .place .ensures .1)
 
 pub ring-record-spec : {M : Type 1} → statement M
 ring-record-spec = tie.close (tie.spec place-requires record-at-requires returns)

@@ -1,55 +1,42 @@
+-- `four_contain` meets its contract: the four tests, as the code joins them. Assumes nothing.
 use borrow.Author.Needs.{needs}
 use Rattle.tables.proofs.Scans.{member-four-read}
 use Rattle.tables.proofs.scan.four_contain.Statement.{statement}
 use Rattle.tables.proofs.scan.four_contain.Tie as tie
-use Rattle.tables.proofs.scan.four_contain.Reads as reads
-use Rattle.tables.proofs.scan.four_contain.Lts as lts
 
--- src/scan.rt:42:6
 mul-result : tie.Need-mul-result
 mul-result c = search needs
 
--- src/scan.rt:42:6
 shared-slice-read-result : tie.Need-shared-slice-read-result
 shared-slice-read-result c = search needs
 
--- src/scan.rt:42:22
 add-result : tie.Need-add-result
 add-result c = search needs
 
--- src/scan.rt:42:20
 mul-result-2 : tie.Need-mul-result-2
 mul-result-2 c = search needs
 
--- src/scan.rt:42:20
 shared-slice-read-result-2 : tie.Need-shared-slice-read-result-2
 shared-slice-read-result-2 c = search needs
 
--- src/scan.rt:42:40
 add-result-2 : tie.Need-add-result-2
 add-result-2 c = search needs
 
--- src/scan.rt:42:38
 mul-result-3 : tie.Need-mul-result-3
 mul-result-3 c = search needs
 
--- src/scan.rt:42:38
 shared-slice-read-result-3 : tie.Need-shared-slice-read-result-3
 shared-slice-read-result-3 c = search needs
 
--- src/scan.rt:42:58
 add-result-3 : tie.Need-add-result-3
 add-result-3 c = search needs
 
--- src/scan.rt:42:56
 mul-result-4 : tie.Need-mul-result-4
 mul-result-4 c = search needs
 
--- src/scan.rt:42:56
 shared-slice-read-result-4 : tie.Need-shared-slice-read-result-4
 shared-slice-read-result-4 c = search needs
 
--- src/scan.rt:38:1
 returns : tie.Need-returns
 returns c =
     let start = c .before .before .before .before in

@@ -1,56 +1,43 @@
+-- `four_within` meets its contract: the four tests, as the code joins them. Assumes nothing.
 use borrow.Author.Needs.{needs}
 use Rattle.tables.specs.Blocks.{atMost}
 use Rattle.tables.proofs.Scans.{all-four-read}
 use Rattle.tables.proofs.scan.four_within.Statement.{statement}
 use Rattle.tables.proofs.scan.four_within.Tie as tie
-use Rattle.tables.proofs.scan.four_within.Reads as reads
-use Rattle.tables.proofs.scan.four_within.Lts as lts
 
--- src/scan.rt:13:6
 mul-result : tie.Need-mul-result
 mul-result c = search needs
 
--- src/scan.rt:13:6
 shared-slice-read-result : tie.Need-shared-slice-read-result
 shared-slice-read-result c = search needs
 
--- src/scan.rt:13:22
 add-result : tie.Need-add-result
 add-result c = search needs
 
--- src/scan.rt:13:20
 mul-result-2 : tie.Need-mul-result-2
 mul-result-2 c = search needs
 
--- src/scan.rt:13:20
 shared-slice-read-result-2 : tie.Need-shared-slice-read-result-2
 shared-slice-read-result-2 c = search needs
 
--- src/scan.rt:13:40
 add-result-2 : tie.Need-add-result-2
 add-result-2 c = search needs
 
--- src/scan.rt:13:38
 mul-result-3 : tie.Need-mul-result-3
 mul-result-3 c = search needs
 
--- src/scan.rt:13:38
 shared-slice-read-result-3 : tie.Need-shared-slice-read-result-3
 shared-slice-read-result-3 c = search needs
 
--- src/scan.rt:13:58
 add-result-3 : tie.Need-add-result-3
 add-result-3 c = search needs
 
--- src/scan.rt:13:56
 mul-result-4 : tie.Need-mul-result-4
 mul-result-4 c = search needs
 
--- src/scan.rt:13:56
 shared-slice-read-result-4 : tie.Need-shared-slice-read-result-4
 shared-slice-read-result-4 c = search needs
 
--- src/scan.rt:9:1
 returns : tie.Need-returns
 unfolding atMost
 returns c =

@@ -1,3 +1,4 @@
+-- `within` meets its contract. What is left is within b where the whole is: four a turn, then one a turn. Assumes nothing.
 use borrow.Author.Needs.{needs}
 use mathlib.Core.Path.{_≡_, sym, ap, _∙_}
 use Prim.Native.Nat.{_-_, _≤_}
@@ -9,9 +10,6 @@ use Rattle.tables.specs.Blocks.{atMost}
 use Rattle.tables.proofs.Scans.{from, from-all, all-more, all-stop, all-done, all-four-more, all-four-stop}
 use Rattle.tables.proofs.scan.within.Statement.{statement}
 use Rattle.tables.proofs.scan.within.Tie as tie
-use Rattle.tables.proofs.scan.within.Reads as reads
-use Rattle.tables.proofs.scan.within.Lts as lts
-use Rattle.tables.proofs.scan.four_within.Reads as four-within-reads
 
 abbrev Inv-loop : tie.InvT-loop
 Inv-loop s b n i₀ i = (i ≤ n) × (n ≡ length s) × (all (atMost b) (from i s) ≡ all (atMost b) s)
@@ -25,73 +23,58 @@ Inv-loop2 s b n i₀ i = (i ≤ n) × (n ≡ length s) × (all (atMost b) (from 
 abbrev μ-loop2 : tie.MeasureT-loop2
 μ-loop2 s b n i₀ i = n - i
 
--- src/scan.rt:22:5
 loop-holds : tie.Need-loop-holds Inv-loop μ-loop Inv-loop2 μ-loop2
 loop-holds c = (search needs, search needs, ap (all (atMost _)) (from-all _))
 
--- src/scan.rt:22:11
 sub-loop : tie.Need-sub-loop Inv-loop μ-loop Inv-loop2 μ-loop2
 sub-loop c = search needs
 
--- src/scan.rt:23:13
 four-within-requires : tie.Need-four-within-requires Inv-loop μ-loop Inv-loop2 μ-loop2
 four-within-requires c κs = search needs
 
--- src/scan.rt:24:13
 returns : tie.Need-returns Inv-loop μ-loop Inv-loop2 μ-loop2
 returns c =
     let l = c .before .before .before in
     sym (all-four-stop (atMost _) _ _ (sym (c .before .four-within .ensures) ∙ not-true _ (c .if1 .taken))) ∙ l .loop .inv .2
 
--- src/scan.rt:26:9
 add-i : tie.Need-add-i Inv-loop μ-loop Inv-loop2 μ-loop2
 add-i c = search needs
 
--- src/scan.rt:22:5
 loop-less : tie.Need-loop-less Inv-loop μ-loop Inv-loop2 μ-loop2
 loop-less c = search needs
 
--- src/scan.rt:22:5
 loop-again : tie.Need-loop-again Inv-loop μ-loop Inv-loop2 μ-loop2
 loop-again c =
     let l = c .before .before .before in
     (search needs, search needs, sym (all-four-more (atMost _) _ _ (sym (c .before .four-within .ensures) ∙ not-false _ (c .if1 .left))) ∙ l .loop .inv .2)
 
--- src/scan.rt:28:5
 loop2-holds : tie.Need-loop2-holds Inv-loop μ-loop Inv-loop2 μ-loop2
 loop2-holds c = (search needs, search needs, c .before .loop .inv .2)
 
--- src/scan.rt:29:12
 mul-if2 : tie.Need-mul-if2 Inv-loop μ-loop Inv-loop2 μ-loop2
 mul-if2 c = search needs
 
--- src/scan.rt:29:12
 shared-slice-read-if2 : tie.Need-shared-slice-read-if2 Inv-loop μ-loop Inv-loop2 μ-loop2
 shared-slice-read-if2 c = search needs
 
--- src/scan.rt:30:13
 returns-2 : tie.Need-returns-2 Inv-loop μ-loop Inv-loop2 μ-loop2
 unfolding atMost
 returns-2 c =
     let l = c .before .before .before in
     sym (all-stop (atMost _) _ _ (omega arith) (lt-leb _ _ (c .if2 .taken))) ∙ l .loop2 .inv .2
 
--- src/scan.rt:32:9
 add-i-2 : tie.Need-add-i-2 Inv-loop μ-loop Inv-loop2 μ-loop2
 add-i-2 c = search needs
 
--- src/scan.rt:28:5
 loop2-less : tie.Need-loop2-less Inv-loop μ-loop Inv-loop2 μ-loop2
 loop2-less c = search needs
 
--- src/scan.rt:28:5
 loop2-again : tie.Need-loop2-again Inv-loop μ-loop Inv-loop2 μ-loop2
 unfolding atMost
 loop2-again c =
     let l = c .before .before .before in
     (search needs, search needs, sym (all-more (atMost _) _ _ (omega arith) (le-leb _ _ (c .if2 .left))) ∙ l .loop2 .inv .2)
 
--- src/scan.rt:17:1
 returns-3 : tie.Need-returns-3 Inv-loop μ-loop Inv-loop2 μ-loop2
 returns-3 c = sym (all-done (atMost _) _ _ (omega arith)) ∙ c .before .loop2 .inv .2
 

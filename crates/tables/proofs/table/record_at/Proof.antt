@@ -1,36 +1,36 @@
+-- `record_at` meets its contract: the part from the record's start to its end. Assumes nothing.
 use borrow.Author.Needs.{needs}
+use mathlib.Core.Path.{_≡_, ap}
+use Prim.Native.Nat.{_+_, _*_, _-_}
+use native.Mathlib.Omega.{arith}
+use lib.ListN.{take, drop}
 use Rattle.tables.proofs.table.record_at.Statement.{statement}
 use Rattle.tables.proofs.table.record_at.Tie as tie
-use Rattle.tables.proofs.table.record_at.Reads as reads
-use Rattle.tables.proofs.table.record_at.Lts as lts
 
--- src/table.rt:15:14
 mul-at : tie.Need-mul-at
 mul-at c = search needs
 
--- src/table.rt:16:15
 add-end : tie.Need-add-end
 add-end c = search needs
 
--- src/table.rt:17:5
 mul-result : tie.Need-mul-result
 mul-result c = search needs
 
--- src/table.rt:17:5
 sub-result : tie.Need-sub-result
 sub-result c = search needs
 
--- src/table.rt:17:5
 part-result-start : tie.Need-part-result-start
 part-result-start c = search needs
 
--- src/table.rt:17:5
 part-result-end : tie.Need-part-result-end
 part-result-end c = search needs
 
--- src/table.rt:11:1
 returns : tie.Need-returns
-returns c = ?
+returns c =
+    let a = c .before .args in
+    let at = a .w * a .i in
+    let size : at + a .w - at ≡ a .w = omega arith in
+    ap (λ m. take m (drop at (a .s .now))) size
 
 pub record-at-spec : {M : Type 1} → statement M
 record-at-spec =

@@ -1,39 +1,39 @@
+-- `remove_records` meets its contract: the later records move down. Assumes nothing.
 use borrow.Author.Needs.{needs}
+use native.Mathlib.Omega.{arith}
+use Rattle.tables.proofs.Numbers.{rows-parts}
 use Rattle.tables.proofs.table.remove_records.Statement.{statement}
 use Rattle.tables.proofs.table.remove_records.Tie as tie
-use Rattle.tables.proofs.table.remove_records.Reads as reads
-use Rattle.tables.proofs.table.remove_records.Lts as lts
-use Rattle.tables.proofs.block.shift_down.Reads as shift-down-reads
 
--- src/table.rt:44:14
 mul-at : tie.Need-mul-at
-mul-at c = search needs
+mul-at c =
+    let a = c .before in
+    omega (arith, rows-parts (a .args .w) (a .args .i) (a .args .k) (a .args .n) (a .pre .1))
 
--- src/table.rt:45:15
 mul-gap : tie.Need-mul-gap
-mul-gap c = search needs
+mul-gap c =
+    let a = c .before in
+    omega (arith, rows-parts (a .args .w) (a .args .i) (a .args .k) (a .args .n) (a .pre .1))
 
--- src/table.rt:46:27
 add-later : tie.Need-add-later
 add-later c = search needs
 
--- src/table.rt:46:22
 sub-later : tie.Need-sub-later
 sub-later c = search needs
 
--- src/table.rt:46:17
 mul-later : tie.Need-mul-later
-mul-later c = search needs
+mul-later c =
+    let a = c .before in
+    omega (arith, rows-parts (a .args .w) (a .args .i) (a .args .k) (a .args .n) (a .pre .1))
 
--- src/table.rt:47:5
 shift-down-requires : tie.Need-shift-down-requires
-shift-down-requires c κs = search needs
+shift-down-requires c κs =
+    let a = c .before .before in
+    omega (arith, rows-parts (a .args .w) (a .args .i) (a .args .k) (a .args .n) (a .pre .1))
 
--- src/table.rt:40:1
 same-length : tie.Need-same-length
 same-length c = search needs
 
--- src/table.rt:40:1
 returns : tie.Need-returns
 returns c = search needs
 
