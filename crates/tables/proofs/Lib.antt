@@ -2,3 +2,7 @@ pub mod Numbers
 pub mod Lists
 pub mod Listed
 pub mod All
+pub mod Blocks
+pub mod Scans
+pub mod Records
+pub mod Rings

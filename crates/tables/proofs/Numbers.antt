@@ -1,7 +1,7 @@
 -- Laws of division rounded up. Assumes nothing.
-use mathlib.Core.Path.{_≡_, refl, sym, ap, _∙_}
+use mathlib.Core.Path.{_≡_, sym, ap, _∙_}
 use Prim.Native.Nat.{ℕ, zero, suc, _+_, _*_, _-_, _/_, _≤_, _<_}
-use native.Mathlib.Nat.{div-mul-le-self, lt-div-mul-add, le-div-iff-mul-le, div-lt-iff-lt-mul, div-zero, one-mul, mul-suc, mul-le-mul-left}
+use native.Mathlib.Nat.{div-mul-le-self, lt-div-mul-add, le-div-iff-mul-le, div-lt-iff-lt-mul, div-zero, one-mul, mul-suc, mul-add, mul-le-mul-left}
 use native.Mathlib.Omega.{arith}
 use Rattle.tables.specs.Lists.{ceilDiv}
 
@@ -35,3 +35,11 @@ ceil-below x a b h k = let e = ceil-covers a b h in div-lt-iff-lt-mul {k = b} {x
 -- the record at i lies before the end of n records
 pub row-fits : (w i n : ℕ) → i < n → w * i + w ≤ w * n
 row-fits w i n h = let k = mul-le-mul-left {m = suc i} {n = n} w h in let e = mul-suc w i in omega arith
+
+-- i records and those past them
+pub rows-split : (w i n : ℕ) → i ≤ n → w * i + w * (n - i) ≡ w * n
+rows-split w i n h = sym (mul-add w i (n - i)) ∙ ap (λ (k : ℕ). w * k) (let e : i + (n - i) ≡ n = omega arith in e)
+
+-- i records, k more, and those past them
+pub rows-parts : (w i k n : ℕ) → i + k ≤ n → w * i + w * k + w * (n - (i + k)) ≡ w * n
+rows-parts w i k n h = ap (λ (m : ℕ). m + w * (n - (i + k))) (sym (mul-add w i k)) ∙ rows-split w (i + k) n h
