@@ -1,0 +1,7 @@
+pub mod Small
+pub mod Outcomes
+pub mod Formats
+pub mod Shapes
+pub mod Bytes
+pub mod Rects
+pub mod CopyBytes
