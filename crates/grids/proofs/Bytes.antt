@@ -12,17 +12,7 @@ use Rattle.grids.specs.Formats.{blockEdge, blockBytes}
 use Rattle.grids.specs.Shapes.{isShape, slicesOf, levelExtent, levelWidth, levelHeight, levelDepth, levelBytes, bytesOf}
 use Rattle.grids.proofs.Small.{either, ceil-bound, sumFrom, sum-whole, sum-bound}
 use Rattle.grids.proofs.Formats.{block-edge-pos, block-bytes-bound}
-use Rattle.grids.proofs.Shapes.{ShapeBounds, shape-bounds, extent-below, depth-below, depth-flat, pow-pos}
-
--- products of a level's sizes, as the code makes them
-pub product2 : {a b : ℕ} → a ≤ 16384 → b ≤ 16384 → a * b ≤ 268435456
-product2 h k = mul-le-mul h k
-
-pub product3 : {a b c : ℕ} → a ≤ 16384 → b ≤ 16384 → c ≤ 2048 → a * b * c ≤ 549755813888
-product3 h k l = mul-le-mul (product2 h k) l
-
-pub product4 : {a b c d : ℕ} → a ≤ 16384 → b ≤ 16384 → c ≤ 2048 → d ≤ 16 → a * b * c * d ≤ 8796093022208
-product4 h k l m = mul-le-mul (product3 h k l) m
+use Rattle.grids.proofs.Shapes.{ShapeBounds, shape-bounds, extent-below, depth-below, depth-flat, width-bound, height-bound, depth-bound, pow-pos}
 
 -- the bytes of a level of at most w by h by d texels, in any format
 pub level-below : (s : VersionShape) (level w h d : ℕ) → levelWidth s level ≤ w → levelHeight s level ≤ h → levelDepth s level ≤ d → levelBytes s level ≤ w * h * d * 16
@@ -44,6 +34,15 @@ module _ (s : VersionShape) (z : ShapeBounds s) where
 
   pub level-bound : (level : ℕ) → levelBytes s level ≤ 8796093022208
   level-bound level = shrunk 1 16384 2048 level refl refl (omega arith) (omega arith) (omega arith) (pow-pos level)
+
+  -- the products on the way to a level's bytes, as the code makes them
+  pub area-bound : (level : ℕ) → ceilDiv (levelWidth s level) (blockEdge (s .format)) * ceilDiv (levelHeight s level) (blockEdge (s .format)) ≤ 268435456
+  area-bound level =
+      let e = block-edge-pos (s .format) in
+      mul-le-mul (ceil-bound (levelWidth s level) (blockEdge (s .format)) 16384 e (width-bound s z level)) (ceil-bound (levelHeight s level) (blockEdge (s .format)) 16384 e (height-bound s z level))
+
+  pub volume-bound : (level : ℕ) → ceilDiv (levelWidth s level) (blockEdge (s .format)) * ceilDiv (levelHeight s level) (blockEdge (s .format)) * levelDepth s level ≤ 549755813888
+  volume-bound level = mul-le-mul (area-bound level) (depth-bound s z level)
 
   -- fifteen levels of that size would be too many: the second is an eighth, and every later one at most a 64th
   second-bound : levelBytes s 1 ≤ 1099511627776

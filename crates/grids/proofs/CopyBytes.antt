@@ -29,11 +29,18 @@ module _ (s : VersionShape) (z : ShapeBounds s) (level : ℕ) (r : Region) where
   pub texels-bound : regionTexels (levelWidth s level) (levelHeight s level) r ≤ 268435456
   texels-bound = le-trans (region-bound (levelWidth s level) (levelHeight s level) r) (mul-le-mul (width-bound s z level) (height-bound s z level))
 
+  -- the product on the way to a copy's bytes, as the code makes it
+  pub all-depths-bound : regionTexels (levelWidth s level) (levelHeight s level) r * levelDepth s level ≤ 549755813888
+  all-depths-bound = mul-le-mul texels-bound (depth-bound s z level)
+
+  pub blocks-bound : regionTexels (levelWidth s level) (levelHeight s level) r * levelDepth s level * blockBytes (s .format) ≤ 8796093022208
+  blocks-bound = mul-le-mul all-depths-bound (block-bytes-bound (s .format))
+
   pub bounds-copy : copyBytes s level r ≤ 8796093022208
   unfolding copyBytes
   bounds-copy =
       le-trans (div-le-self (regionTexels (levelWidth s level) (levelHeight s level) r * levelDepth s level * blockBytes (s .format)) (blockEdge (s .format) * blockEdge (s .format)))
-      (mul-le-mul (mul-le-mul texels-bound (depth-bound s z level)) (block-bytes-bound (s .format)))
+      blocks-bound
 
 pub copy-bound : (s : VersionShape) (level : ℕ) (r : Region) → isShape s ≡ true → copyBytes s level r ≤ 17592186044416
 copy-bound s level r e = omega (arith, bounds-copy s (shape-bounds s e) level r)

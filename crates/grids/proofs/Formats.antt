@@ -1,6 +1,7 @@
 -- Bounds on a format's block edge and bytes, each by one test of the table.
-use Prim.Native.Nat.{ℕ, _≤_, _<_}
+use Prim.Native.Nat.{ℕ, _*_, _≤_, _<_}
 use mathlib.Core.Path.{refl}
+use native.Mathlib.Nat.{mul-le-mul}
 use lib.Dec.{leb}
 use borrow.Author.Tests.{leb-true}
 use Rattle.tables.specs.Lists.{all}
@@ -18,3 +19,10 @@ block-edge-bound f = leb-true (blockEdge f) 4 (entry (λ (n : ℕ). leb n 4) blo
 pub block-bytes-bound : (f : ℕ) → blockBytes f ≤ 16
 unfolding blockBytes all
 block-bytes-bound f = leb-true (blockBytes f) 16 (entry (λ (n : ℕ). leb n 16) bytesPerBlock f 0 refl refl)
+
+-- texels of a block
+pub block-texels-pos : (f : ℕ) → 0 < blockEdge f * blockEdge f
+block-texels-pos f = mul-le-mul {n₁ = 1} {m₁ = 1} (block-edge-pos f) (block-edge-pos f)
+
+pub block-texels-bound : (f : ℕ) → blockEdge f * blockEdge f ≤ 16
+block-texels-bound f = mul-le-mul (block-edge-bound f) (block-edge-bound f)

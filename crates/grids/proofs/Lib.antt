@@ -5,3 +5,4 @@ pub mod Shapes
 pub mod Bytes
 pub mod Rects
 pub mod CopyBytes
+pub mod Answers

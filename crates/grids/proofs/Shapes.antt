@@ -116,7 +116,19 @@ unfolding levelDepth
 depth-below s d m level mpos dpos h k =
     either (λ (n : ℕ). n ≤ m) (eqb (s .kind) 2) (levelExtent (s .depth) level) 1 (λ e. extent-below (s .depth) d m level mpos dpos h k) (λ e. mpos)
 
+pub slices-cube : (s : VersionShape) → s .kind ≡ 1 → slicesOf s ≡ 6
+unfolding slicesOf
+slices-cube s e = rw (eq-eqb (s .kind) 1 e)
+
+pub slices-other : (s : VersionShape) → (s .kind ≡ 1 → ⊥) → slicesOf s ≡ 1
+unfolding slicesOf
+slices-other s h = rw (ne-eqb (s .kind) 1 h)
+
 -- only a volume has depth
+pub depth-volume : (s : VersionShape) (level : ℕ) → s .kind ≡ 2 → levelDepth s level ≡ levelExtent (s .depth) level
+unfolding levelDepth
+depth-volume s level e = rw (eq-eqb (s .kind) 2 e)
+
 pub depth-flat : (s : VersionShape) (level : ℕ) → (s .kind ≡ 2 → ⊥) → levelDepth s level ≡ 1
 unfolding levelDepth
 depth-flat s level h = rw (ne-eqb (s .kind) 2 h)

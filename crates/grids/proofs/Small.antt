@@ -5,7 +5,7 @@ use mathlib.Core.Bool.{Bool, true, false, cond, _&&_, true≢false, false≢true
 use mathlib.Core.List.{List, [], _∷_}
 use native.Mathlib.Omega.{arith}
 use native.Mathlib.Nat.{div-lt-iff-lt-mul, div-one, mul-le-mul, mul-le-mul-left, sub-self}
-use lib.ListN.{getD}
+use lib.ListN.{length, getD}
 use Rattle.tables.specs.Lists.{all, ceilDiv, listed, total, after, tests}
 
 -- a property of either branch
@@ -45,6 +45,12 @@ entry p [] i d e h = h
 entry p (x ∷ xs) zero d e h = and-both (p x) (all p xs) e .0
 entry p (x ∷ xs) (suc i) d e h = entry p xs i d (and-both (p x) (all p xs) e .1) h
 
+-- within a table nothing stands for an entry
+pub default-free {ℓ} : {A : Type ℓ} (xs : List A) (i : ℕ) (d e : A) → i < length xs → getD xs i d ≡ getD xs i e
+default-free [] i d e h = absurd (let y : ⊥ = omega arith in y)
+default-free (x ∷ xs) zero d e h = refl
+default-free (x ∷ xs) (suc i) d e h = default-free xs i d e (omega arith)
+
 -- a whole number of parts of at least 1 is no larger than what is parted
 pub ceil-bound : (a b m : ℕ) → 0 < b → a ≤ m → ceilDiv a b ≤ m
 unfolding ceilDiv
@@ -76,6 +82,10 @@ sum-step f i n h =
 pub sum-done : (f : ℕ → ℕ) (i n : ℕ) → n ≤ i → sumFrom f i n ≡ 0
 unfolding sumFrom total listed
 sum-done f i n h = let e : n - i ≡ 0 = omega arith in ap (λ (m : ℕ). total f (listed (λ (j : ℕ). j) i m)) e
+
+-- what was summed up to the end is the whole
+pub sum-end : (f : ℕ → ℕ) (sum i n : ℕ) → n ≤ i → sum + sumFrom f i n ≡ sumFrom f 0 n → sum ≡ total f (listed (λ (k : ℕ). k) 0 n)
+sum-end f sum i n h e = omega (arith, sum-done f i n h, sum-whole f n)
 
 -- n terms of at most c each
 pub sum-bound : (f : ℕ → ℕ) (c a n : ℕ) → ((k : ℕ) → a ≤ k → f k ≤ c) → total f (listed (λ (k : ℕ). k) a n) ≤ n * c

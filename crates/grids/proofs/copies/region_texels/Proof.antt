@@ -1,41 +1,38 @@
+-- `grids::copies::region_texels` meets its contract. By the region; a cut is no longer than the level.
 use borrow.Author.Needs.{needs}
+use Prim.Native.Nat.{_*_}
+use mathlib.Core.Path.{sym, _∙_, ap}
+use native.Mathlib.Omega.{arith}
+use native.Mathlib.Nat.{mul-le-mul}
+use Rattle.grids.specs.Copies.{regionTexels}
+use Rattle.grids.proofs.CopyBytes.{cut-bound}
 use Rattle.grids.proofs.copies.region_texels.Statement.{statement}
 use Rattle.grids.proofs.copies.region_texels.Tie as tie
-use Rattle.grids.proofs.copies.region_texels.Reads as reads
-use Rattle.grids.proofs.copies.region_texels.Lts as lts
-use Rattle.grids.proofs.copies.cut_size.Reads as cut-size-reads
 
--- src/copies.rt:34:26
 enum-told : tie.Need-enum-told
-enum-told c = ?
+enum-told c = search needs
 
--- src/copies.rt:34:26
 mul-result : tie.Need-mul-result
-mul-result c = ?
+mul-result c = omega (arith, mul-le-mul (c .before .before .pre .0) (c .before .before .pre .1))
 
--- src/copies.rt:35:22
 enum-known-region : tie.Need-enum-known-region
-enum-known-region c = ?
+enum-known-region c = search needs
 
--- src/copies.rt:35:28
 cut-size-requires : tie.Need-cut-size-requires
-cut-size-requires c κs = ?
+cut-size-requires c κs = search needs
 
--- src/copies.rt:35:60
 cut-size-requires-2 : tie.Need-cut-size-requires-2
-cut-size-requires-2 c κs = ?
+cut-size-requires-2 c κs = search needs
 
--- src/copies.rt:35:28
 mul-result-2 : tie.Need-mul-result-2
-mul-result-2 c = ?
+mul-result-2 c = ?m2
 
--- src/copies.rt:29:1
 returns : tie.Need-returns
-returns c = ?
+unfolding regionTexels
+returns c = sym (ap (regionTexels (c .before .before .args .width) (c .before .before .args .height)) (c .enum-told .given .1))
 
--- src/copies.rt:29:1
 returns-2 : tie.Need-returns-2
-returns-2 c = ?
+returns-2 c = ?r2
 
 pub region-texels-spec : {M : Type 1} → statement M
 region-texels-spec =

@@ -1,24 +1,25 @@
+-- `grids::format::block_bytes` meets its contract. Past the table the bytes are 0.
 use borrow.Author.Needs.{needs}
+use mathlib.Core.Path.{_≡_, sym}
+use lib.ListN.{List·getD-eq-default}
+use Rattle.grids.specs.Formats.{bytesPerBlock, blockBytes}
+use Rattle.grids.proofs.Small.{default-free}
 use Rattle.grids.proofs.format.block_bytes.Statement.{statement}
 use Rattle.grids.proofs.format.block_bytes.Tie as tie
-use Rattle.grids.proofs.format.block_bytes.Reads as reads
-use Rattle.grids.proofs.format.block_bytes.Lts as lts
 
--- src/format.rt:25:9
 mul-result : tie.Need-mul-result
-mul-result c = ?
+mul-result c = search needs
 
--- src/format.rt:25:9
 array-read-result : tie.Need-array-read-result
-array-read-result c = ?
+array-read-result c = search needs
 
--- src/format.rt:21:1
 returns : tie.Need-returns
-returns c = ?
+unfolding blockBytes
+returns c = default-free bytesPerBlock (c .before .args .format) 0 0 (c .if1 .taken)
 
--- src/format.rt:21:1
 returns-2 : tie.Need-returns-2
-returns-2 c = ?
+unfolding blockBytes
+returns-2 c = sym (List·getD-eq-default bytesPerBlock 0 {n = c .before .args .format} (c .if1 .left))
 
 pub block-bytes-spec : {M : Type 1} → statement M
 block-bytes-spec = tie.close (tie.spec mul-result array-read-result returns returns-2)

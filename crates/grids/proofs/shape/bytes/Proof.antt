@@ -1,26 +1,26 @@
+-- `grids::shape::bytes` meets its contract. By the shape.
 use borrow.Author.Needs.{needs}
+use Prim.Native.Nat.{ℕ}
+use mathlib.Core.Path.{sym, _∙_, ap}
+use mathlib.Core.List.{[], _∷_}
+use Rattle.grids.specs.Outcomes.{accepted, ofBytes}
+use Rattle.grids.proofs.Answers.{bytes-refused, bytes-accepted}
 use Rattle.grids.proofs.shape.bytes.Statement.{statement}
 use Rattle.grids.proofs.shape.bytes.Tie as tie
-use Rattle.grids.proofs.shape.bytes.Reads as reads
-use Rattle.grids.proofs.shape.bytes.Lts as lts
-use Rattle.grids.proofs.shape.is_shape.Reads as is-shape-reads
-use Rattle.grids.proofs.shape.shape_bytes.Reads as shape-bytes-reads
 
--- src/shape.rt:137:8
 is-shape-requires : tie.Need-is-shape-requires
 is-shape-requires c κs = search needs
 
--- src/shape.rt:138:28
 shape-bytes-requires : tie.Need-shape-bytes-requires
-shape-bytes-requires c κs = search needs
+shape-bytes-requires c κs = sym (c .before .is-shape .ensures) ∙ c .if1 .taken
 
--- src/shape.rt:134:1
 returns : tie.Need-returns
-returns c = search needs
+unfolding ofBytes
+returns c = ap (λ (n : ℕ). accepted (n ∷ [])) (c .shape-bytes .ensures) ∙ sym (bytes-accepted (c .before .before .before .args .s) (sym (c .before .before .is-shape .ensures) ∙ c .before .if1 .taken))
 
--- src/shape.rt:134:1
 returns-2 : tie.Need-returns-2
-returns-2 c = search needs
+unfolding ofBytes
+returns-2 c = sym (bytes-refused (c .before .before .args .s) (sym (c .before .is-shape .ensures) ∙ c .if1 .left))
 
 pub bytes-spec : {M : Type 1} → statement M
 bytes-spec = tie.close (tie.spec is-shape-requires shape-bytes-requires returns returns-2)

@@ -1,12 +1,13 @@
-use borrow.Author.Needs.{needs}
+-- `grids::shape::is_shape` meets its contract. The tests of the definition, in its order.
+use mathlib.Core.Path.{refl}
+use Rattle.tables.specs.Lists.{after, tests}
+use Rattle.grids.specs.Shapes.{isShape}
 use Rattle.grids.proofs.shape.is_shape.Statement.{statement}
 use Rattle.grids.proofs.shape.is_shape.Tie as tie
-use Rattle.grids.proofs.shape.is_shape.Reads as reads
-use Rattle.grids.proofs.shape.is_shape.Lts as lts
 
--- src/shape.rt:34:1
 returns : tie.Need-returns
-returns c = ?
+unfolding isShape tests after
+returns c = refl
 
 pub is-shape-spec : {M : Type 1} → statement M
 is-shape-spec = tie.close (tie.spec returns)

@@ -1,57 +1,70 @@
+-- `grids::shape::level_bytes` meets its contract. Each product is the definition's, which a shape keeps below 2^44.
 use borrow.Author.Needs.{needs}
+use Prim.Native.Nat.{_*_}
+use mathlib.Core.Path.{_≡_, _∙_}
+use native.Mathlib.Omega.{arith}
+use lib.Dec.{lit≤}
+use Rattle.tables.specs.Lists.{ceilDiv}
+use Rattle.grids.specs.Formats.{blockEdge}
+use Rattle.grids.specs.Shapes.{levelWidth, levelHeight, levelDepth, levelBytes}
+use Rattle.grids.proofs.Formats.{block-edge-pos, block-edge-bound}
+use Rattle.grids.proofs.Shapes.{shape-bounds, extent-bound}
+use Rattle.grids.proofs.Bytes.{area-bound, volume-bound, level-bound}
 use Rattle.grids.proofs.shape.level_bytes.Statement.{statement}
 use Rattle.grids.proofs.shape.level_bytes.Tie as tie
-use Rattle.grids.proofs.shape.level_bytes.Reads as reads
-use Rattle.grids.proofs.shape.level_bytes.Lts as lts
-use Rattle.grids.proofs.format.block_bytes.Reads as block-bytes-reads
-use Rattle.grids.proofs.format.block_edge.Reads as block-edge-reads
-use Rattle.grids.proofs.shape.blocks.Reads as blocks-reads
-use Rattle.grids.proofs.shape.level_depth.Reads as level-depth-reads
-use Rattle.grids.proofs.shape.level_extent.Reads as level-extent-reads
 
--- src/shape.rt:107:9
+-- the products so far, in the definition's terms
+area : (c : tie.After-blocks3) →
+    c .before .before .blocks2 .result * c .blocks3 .result
+    ≡ ceilDiv (levelWidth (c .before .before .before .before .before .args .s) (c .before .before .before .before .before .args .level)) (blockEdge (c .before .before .before .before .before .args .s .format)) * ceilDiv (levelHeight (c .before .before .before .before .before .args .s) (c .before .before .before .before .before .args .level)) (blockEdge (c .before .before .before .before .before .args .s .format))
+unfolding levelWidth levelHeight
+area c =
+    let across = c .before .before .blocks2 .ensures ∙ λ i. ceilDiv (c .before .before .before .level-extent .ensures i) (c .before .before .before .before .block-edge .ensures i) in
+    let down = c .blocks3 .ensures ∙ λ i. ceilDiv (c .before .level-extent2 .ensures i) (c .before .before .before .before .block-edge .ensures i) in
+    λ i. across i * down i
+
+volume : (c : tie.After-level-depth) →
+    c .before .before .before .blocks2 .result * c .before .blocks3 .result * c .level-depth .result
+    ≡ ceilDiv (levelWidth (c .before .before .before .before .before .before .args .s) (c .before .before .before .before .before .before .args .level)) (blockEdge (c .before .before .before .before .before .before .args .s .format)) * ceilDiv (levelHeight (c .before .before .before .before .before .before .args .s) (c .before .before .before .before .before .before .args .level)) (blockEdge (c .before .before .before .before .before .before .args .s .format)) * levelDepth (c .before .before .before .before .before .before .args .s) (c .before .before .before .before .before .before .args .level)
+volume c = λ i. area (c .before) i * c .level-depth .ensures i
+
+bytes : (c : tie.After-block-bytes) →
+    c .before .before .before .before .blocks2 .result * c .before .before .blocks3 .result * c .before .level-depth .result * c .block-bytes .result ≡ levelBytes (c .before .before .before .before .before .before .before .args .s) (c .before .before .before .before .before .before .before .args .level)
+unfolding levelBytes
+bytes c = λ i. volume (c .before) i * c .block-bytes .ensures i
+
 block-edge-requires : tie.Need-block-edge-requires
-block-edge-requires c κs = ?
+block-edge-requires c κs = search needs
 
--- src/shape.rt:108:25
 level-extent-requires : tie.Need-level-extent-requires
-level-extent-requires c κs = ?
+level-extent-requires c κs = search needs
 
--- src/shape.rt:108:9
 blocks-requires : tie.Need-blocks-requires
-blocks-requires c κs = ?
+blocks-requires c κs = omega (arith, extent-bound (c .before .before .args .s .width) 16384 (c .before .before .args .level) (shape-bounds (c .before .before .args .s) (c .before .before .pre) .width) (lit≤ tt), block-edge-pos (c .before .before .args .s .format), block-edge-bound (c .before .before .args .s .format))
 
--- src/shape.rt:109:23
 level-extent-requires-2 : tie.Need-level-extent-requires-2
-level-extent-requires-2 c κs = ?
+level-extent-requires-2 c κs = search needs
 
--- src/shape.rt:109:9
 blocks-requires-2 : tie.Need-blocks-requires-2
-blocks-requires-2 c κs = ?
+blocks-requires-2 c κs = omega (arith, extent-bound (c .before .before .before .before .args .s .height) 16384 (c .before .before .before .before .args .level) (shape-bounds (c .before .before .before .before .args .s) (c .before .before .before .before .pre) .height) (lit≤ tt), block-edge-pos (c .before .before .before .before .args .s .format), block-edge-bound (c .before .before .before .before .args .s .format))
 
--- src/shape.rt:110:5
 mul-result : tie.Need-mul-result
-mul-result c = ?
+mul-result c = omega (arith, area c, area-bound (c .before .before .before .before .before .args .s) (shape-bounds (c .before .before .before .before .before .args .s) (c .before .before .before .before .before .pre)) (c .before .before .before .before .before .args .level))
 
--- src/shape.rt:110:21
 level-depth-requires : tie.Need-level-depth-requires
-level-depth-requires c κs = ?
+level-depth-requires c κs = search needs
 
--- src/shape.rt:110:5
 mul-result-2 : tie.Need-mul-result-2
-mul-result-2 c = ?
+mul-result-2 c = omega (arith, volume c, volume-bound (c .before .before .before .before .before .before .args .s) (shape-bounds (c .before .before .before .before .before .before .args .s) (c .before .before .before .before .before .before .pre)) (c .before .before .before .before .before .before .args .level))
 
--- src/shape.rt:110:45
 block-bytes-requires : tie.Need-block-bytes-requires
-block-bytes-requires c κs = ?
+block-bytes-requires c κs = search needs
 
--- src/shape.rt:110:5
 mul-result-3 : tie.Need-mul-result-3
-mul-result-3 c = ?
+mul-result-3 c = omega (arith, bytes c, level-bound (c .before .before .before .before .before .before .before .args .s) (shape-bounds (c .before .before .before .before .before .before .before .args .s) (c .before .before .before .before .before .before .before .pre)) (c .before .before .before .before .before .before .before .args .level))
 
--- src/shape.rt:103:1
 returns : tie.Need-returns
-returns c = ?
+returns c = bytes c
 
 pub level-bytes-spec : {M : Type 1} → statement M
 level-bytes-spec =

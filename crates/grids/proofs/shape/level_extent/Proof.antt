@@ -1,29 +1,28 @@
+-- `grids::shape::level_extent` meets its contract. A level past 63 has shifted out every bit of a base of 64.
 use borrow.Author.Needs.{needs}
+use Prim.Native.Nat.{ℕ, _/_, _^_, max}
+use mathlib.Core.Path.{sym, _∙_, ap}
+use native.Mathlib.Omega.{arith}
+use Rattle.grids.specs.Shapes.{levelExtent}
+use Rattle.grids.proofs.Shapes.{extent-past}
 use Rattle.grids.proofs.shape.level_extent.Statement.{statement}
 use Rattle.grids.proofs.shape.level_extent.Tie as tie
-use Rattle.grids.proofs.shape.level_extent.Reads as reads
-use Rattle.grids.proofs.shape.level_extent.Lts as lts
-use Rattle.grids.proofs.shape.at_least_one.Reads as at-least-one-reads
 
--- src/shape.rt:84:9
 returns : tie.Need-returns
-returns c = search needs
+returns c = sym (extent-past (c .before .args .base) 64 (c .before .args .level) (omega arith) (omega arith) (omega arith))
 
--- src/shape.rt:86:18
 at-least-one-requires : tie.Need-at-least-one-requires
 at-least-one-requires c κs = search needs
 
--- src/shape.rt:86:18
 shr-at-least-one : tie.Need-shr-at-least-one
 shr-at-least-one c = search needs
 
--- src/shape.rt:86:5
 at-least-one-requires-2 : tie.Need-at-least-one-requires-2
 at-least-one-requires-2 c κs = search needs
 
--- src/shape.rt:79:1
 returns-2 : tie.Need-returns-2
-returns-2 c = search needs
+unfolding levelExtent
+returns-2 c = c .at-least-one2 .ensures ∙ ap (λ (n : ℕ). max 1 (n / 2 ^ c .before .before .before .args .level)) (c .before .at-least-one .ensures)
 
 pub level-extent-spec : {M : Type 1} → statement M
 level-extent-spec =

@@ -1,16 +1,14 @@
-use borrow.Author.Needs.{needs}
+-- `grids::shape::slices` meets its contract. By kind.
+use mathlib.Core.Path.{sym}
+use Rattle.grids.proofs.Shapes.{slices-cube, slices-other}
 use Rattle.grids.proofs.shape.slices.Statement.{statement}
 use Rattle.grids.proofs.shape.slices.Tie as tie
-use Rattle.grids.proofs.shape.slices.Reads as reads
-use Rattle.grids.proofs.shape.slices.Lts as lts
 
--- src/shape.rt:65:1
 returns : tie.Need-returns
-returns c = ?
+returns c = sym (slices-cube (c .before .before .args .s) (c .if1 .taken))
 
--- src/shape.rt:65:1
 returns-2 : tie.Need-returns-2
-returns-2 c = ?
+returns-2 c = sym (slices-other (c .before .before .args .s) (c .if1 .left))
 
 pub slices-spec : {M : Type 1} → statement M
 slices-spec = tie.close (tie.spec returns returns-2)
