@@ -19,6 +19,9 @@ pub cut-bound : (extent start size : ℕ) → cutSize extent start size ≤ exte
 unfolding cutSize
 cut-bound extent start size = omega arith
 
+pub cut-within : {r n : ℕ} (extent start size : ℕ) → r ≡ cutSize extent start size → extent ≤ n → r ≤ n
+cut-within extent start size e h = omega (arith, cut-bound extent start size)
+
 -- a region has no more texels than its level
 pub region-bound : (width height : ℕ) (r : Region) → regionTexels width height r ≤ width * height
 unfolding regionTexels

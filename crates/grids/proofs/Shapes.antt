@@ -30,7 +30,7 @@ shape-bounds s e =
       levels-pos = leb-true _ _ (passed _ e 3);
       levels-bound = leb-true _ _ (passed _ e 4);
       kind = leb-true _ _ (passed _ e 5);
-      format = leb-true _ _ (passed _ e 6)
+      format = leb-true _ _ (passed _ e 6);
     }
 
 pub bounds-shape : (s : VersionShape) → ShapeBounds s → isShape s ≡ true
@@ -53,7 +53,7 @@ same-shape a b e =
       red = eqb-true (a .red) (b .red) (passed _ e 8) i;
       green = eqb-true (a .green) (b .green) (passed _ e 9) i;
       blue = eqb-true (a .blue) (b .blue) (passed _ e 10) i;
-      alpha = eqb-true (a .alpha) (b .alpha) (passed _ e 11) i
+      alpha = eqb-true (a .alpha) (b .alpha) (passed _ e 11) i;
     }
 
 itself : (n : ℕ) → eqb n n ≡ true

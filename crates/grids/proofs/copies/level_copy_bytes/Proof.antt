@@ -61,7 +61,7 @@ mul-result-3 : tie.Need-mul-result-3
 mul-result-3 c = omega (arith, block c .1)
 
 div-result : tie.Need-div-result
-div-result c = ?d
+div-result c = block c .0
 
 returns : tie.Need-returns
 unfolding copyBytes

@@ -1,47 +1,46 @@
+-- `grids::upload::upload_written_rect` meets its contract. By the format and the grid.
 use borrow.Author.Needs.{needs}
+use Prim.Native.Nat.{ℕ}
+use mathlib.Core.Path.{sym, _∙_, ap}
+use native.Mathlib.Omega.{arith}
+use Rattle.grids.specs.declared.rect.TexelRect.{TexelRect}
+use Rattle.grids.specs.Outcomes.{accepted, ofUpload}
+use Rattle.grids.specs.Rects.{rectOnGrid, rectFields, uploadOutcome}
+use Rattle.grids.proofs.Formats.{block-edge-pos}
+use Rattle.grids.proofs.Answers.{upload-refused, upload-on-grid, upload-off-grid}
 use Rattle.grids.proofs.upload.upload_written_rect.Statement.{statement}
 use Rattle.grids.proofs.upload.upload_written_rect.Tie as tie
-use Rattle.grids.proofs.upload.upload_written_rect.Reads as reads
-use Rattle.grids.proofs.upload.upload_written_rect.Lts as lts
-use Rattle.grids.proofs.format.block_edge.Reads as block-edge-reads
-use Rattle.grids.proofs.rect.level_rect.Reads as level-rect-reads
-use Rattle.grids.proofs.rect.rect_on_block_grid.Reads as rect-on-block-grid-reads
 
--- src/upload.rt:32:32
 enum-told : tie.Need-enum-told
-enum-told c = ?
+enum-told c = search needs
 
--- src/upload.rt:33:28
 enum-known-compressed : tie.Need-enum-known-compressed
-enum-known-compressed c = ?
+enum-known-compressed c = search needs
 
--- src/upload.rt:35:17
 returns : tie.Need-returns
-returns c = ?
+unfolding ofUpload
+returns c = sym (ap (uploadOutcome (c .before .before .before .before .args .rect) (c .before .before .before .before .args .width) (c .before .before .before .before .args .height)) (c .before .before .compressed .given .1) ∙ upload-refused _ _ _ _ (c .if1 .taken))
 
--- src/upload.rt:37:35
 block-edge-requires : tie.Need-block-edge-requires
-block-edge-requires c κs = ?
+block-edge-requires c κs = search needs
 
--- src/upload.rt:37:16
 rect-on-block-grid-requires : tie.Need-rect-on-block-grid-requires
-rect-on-block-grid-requires c κs = ?
+rect-on-block-grid-requires c κs = omega (arith, block-edge-pos (c .before .before .before .compressed .given .0 .0))
 
--- src/upload.rt:40:39
 level-rect-requires : tie.Need-level-rect-requires
-level-rect-requires c κs = ?
+level-rect-requires c κs = search needs
 
--- src/upload.rt:23:1
 returns-2 : tie.Need-returns-2
-returns-2 c = ?
+unfolding ofUpload uploadOutcome rectFields
+returns-2 c = sym (ap (uploadOutcome (c .before .before .args .rect) (c .before .before .args .width) (c .before .before .args .height)) (c .enum-told .given .1))
 
--- src/upload.rt:23:1
 returns-3 : tie.Need-returns-3
-returns-3 c = ?
+unfolding ofUpload rectFields
+returns-3 c = let grid = sym (c .before .rect-on-block-grid .ensures ∙ ap (λ (e : ℕ). rectOnGrid e (c .before .before .before .before .before .before .before .args .rect) (c .before .before .before .before .before .before .before .args .width) (c .before .before .before .before .before .before .before .args .height)) (c .before .before .block-edge .ensures)) ∙ c .if2 .taken in sym (ap (uploadOutcome (c .before .before .before .before .before .before .before .args .rect) (c .before .before .before .before .before .before .before .args .width) (c .before .before .before .before .before .before .before .args .height)) (c .before .before .before .before .before .compressed .given .1) ∙ upload-on-grid _ _ _ _ (c .before .before .before .if1 .left) grid)
 
--- src/upload.rt:23:1
 returns-4 : tie.Need-returns-4
-returns-4 c = ?
+unfolding ofUpload rectFields
+returns-4 c = let grid = sym (c .before .before .rect-on-block-grid .ensures ∙ ap (λ (e : ℕ). rectOnGrid e (c .before .before .before .before .before .before .before .before .args .rect) (c .before .before .before .before .before .before .before .before .args .width) (c .before .before .before .before .before .before .before .before .args .height)) (c .before .before .before .block-edge .ensures)) ∙ c .before .if2 .left in ap (λ (r : TexelRect). accepted (rectFields r)) (c .level-rect .ensures) ∙ sym (ap (uploadOutcome (c .before .before .before .before .before .before .before .before .args .rect) (c .before .before .before .before .before .before .before .before .args .width) (c .before .before .before .before .before .before .before .before .args .height)) (c .before .before .before .before .before .before .compressed .given .1) ∙ upload-off-grid _ _ _ _ (c .before .before .before .before .if1 .left) grid)
 
 pub upload-written-rect-spec : {M : Type 1} → statement M
 upload-written-rect-spec =
