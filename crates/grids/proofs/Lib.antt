@@ -1,3 +1,11 @@
+pub mod Small
+pub mod Outcomes
+pub mod Formats
+pub mod Shapes
+pub mod Bytes
+pub mod Rects
+pub mod CopyBytes
+pub mod Answers
 pub mod Axes
 pub mod Tiles
 pub mod Stamps

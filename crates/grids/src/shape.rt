@@ -1,7 +1,7 @@
 // The creation shape that a pooled version shares with the texture it serves.
 ghost use mathlib.Core.Path.{_≡_};
 ghost use mathlib.Core.Bool.{true};
-ghost use Prim.Native.Nat.{_≤_, _<_};
+ghost use Prim.Native.Nat.{_≤_, _<_, max};
 ghost use Rattle.tables.specs.Lists.{ceilDiv};
 ghost use Rattle.grids.specs.Outcomes.{ofBytes};
 ghost use Rattle.grids.specs.Shapes.{isShape, sameShape, slicesOf, levelExtent, levelDepth, levelBytes, bytesOf, bytesOutcome};
@@ -68,16 +68,22 @@ pub fn slices(s: VersionShape) -> u64
     if s.kind == 1 { 6 } else { 1 }
 }
 
+// No axis and no level has fewer texels than one.
+fn at_least_one(texels: u64) -> u64
+    ensures { λ r. ⌜ r ≡ max 1 texels ⌝ }
+{
+    if texels == 0 { 1 } else { texels }
+}
+
 // Extent of mip `level` along an axis whose level 0 has `base` texels.
 pub fn level_extent(base: u64, level: u64) -> u64
     ensures { λ r. ⌜ r ≡ levelExtent base level ⌝ }
 {
+    // A shift by 64 or more has no meaning, and would leave nothing of any base.
     if 63 < level {
         return 1;
     }
-    let first = if base == 0 { 1 } else { base };
-    let extent = first >> level;
-    if extent == 0 { 1 } else { extent }
+    at_least_one(at_least_one(base) >> level)
 }
 
 // Depth of a level: of a volume; 1 otherwise.

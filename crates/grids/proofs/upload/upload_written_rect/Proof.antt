@@ -1,0 +1,57 @@
+-- `grids::upload::upload_written_rect` meets its contract. By the format and the grid.
+use borrow.Author.Needs.{needs}
+use Prim.Native.Nat.{ℕ}
+use mathlib.Core.Path.{sym, _∙_, ap}
+use native.Mathlib.Omega.{arith}
+use Rattle.grids.specs.declared.rect.TexelRect.{TexelRect}
+use Rattle.grids.specs.Outcomes.{accepted, ofUpload}
+use Rattle.grids.specs.Rects.{rectOnGrid, rectFields, uploadOutcome}
+use Rattle.grids.proofs.Formats.{block-edge-pos}
+use Rattle.grids.proofs.Answers.{upload-refused, upload-on-grid, upload-off-grid}
+use Rattle.grids.proofs.upload.upload_written_rect.Statement.{statement}
+use Rattle.grids.proofs.upload.upload_written_rect.Tie as tie
+
+enum-told : tie.Need-enum-told
+enum-told c = search needs
+
+enum-known-compressed : tie.Need-enum-known-compressed
+enum-known-compressed c = search needs
+
+returns : tie.Need-returns
+unfolding ofUpload
+returns c = sym (ap (uploadOutcome (c .before .before .before .before .args .rect) (c .before .before .before .before .args .width) (c .before .before .before .before .args .height)) (c .before .before .compressed .given .1) ∙ upload-refused _ _ _ _ (c .if1 .taken))
+
+block-edge-requires : tie.Need-block-edge-requires
+block-edge-requires c κs = search needs
+
+rect-on-block-grid-requires : tie.Need-rect-on-block-grid-requires
+rect-on-block-grid-requires c κs = omega (arith, block-edge-pos (c .before .before .before .compressed .given .0 .0))
+
+level-rect-requires : tie.Need-level-rect-requires
+level-rect-requires c κs = search needs
+
+returns-2 : tie.Need-returns-2
+unfolding ofUpload uploadOutcome rectFields
+returns-2 c = sym (ap (uploadOutcome (c .before .before .args .rect) (c .before .before .args .width) (c .before .before .args .height)) (c .enum-told .given .1))
+
+returns-3 : tie.Need-returns-3
+unfolding ofUpload rectFields
+returns-3 c = let grid = sym (c .before .rect-on-block-grid .ensures ∙ ap (λ (e : ℕ). rectOnGrid e (c .before .before .before .before .before .before .before .args .rect) (c .before .before .before .before .before .before .before .args .width) (c .before .before .before .before .before .before .before .args .height)) (c .before .before .block-edge .ensures)) ∙ c .if2 .taken in sym (ap (uploadOutcome (c .before .before .before .before .before .before .before .args .rect) (c .before .before .before .before .before .before .before .args .width) (c .before .before .before .before .before .before .before .args .height)) (c .before .before .before .before .before .compressed .given .1) ∙ upload-on-grid _ _ _ _ (c .before .before .before .if1 .left) grid)
+
+returns-4 : tie.Need-returns-4
+unfolding ofUpload rectFields
+returns-4 c = let grid = sym (c .before .before .rect-on-block-grid .ensures ∙ ap (λ (e : ℕ). rectOnGrid e (c .before .before .before .before .before .before .before .before .args .rect) (c .before .before .before .before .before .before .before .before .args .width) (c .before .before .before .before .before .before .before .before .args .height)) (c .before .before .before .block-edge .ensures)) ∙ c .before .if2 .left in ap (λ (r : TexelRect). accepted (rectFields r)) (c .level-rect .ensures) ∙ sym (ap (uploadOutcome (c .before .before .before .before .before .before .before .before .args .rect) (c .before .before .before .before .before .before .before .before .args .width) (c .before .before .before .before .before .before .before .before .args .height)) (c .before .before .before .before .before .before .compressed .given .1) ∙ upload-off-grid _ _ _ _ (c .before .before .before .before .if1 .left) grid)
+
+pub upload-written-rect-spec : {M : Type 1} → statement M
+upload-written-rect-spec =
+    tie.close
+    (tie.spec
+    enum-told
+    enum-known-compressed
+    returns
+    block-edge-requires
+    rect-on-block-grid-requires
+    level-rect-requires
+    returns-2
+    returns-3
+    returns-4)
