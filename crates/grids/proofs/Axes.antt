@@ -13,7 +13,9 @@ use Rattle.tables.proofs.Numbers.{ceil-covers, ceil-least, ceil-pos, ceil-below
 use Rattle.tables.proofs.Lists.{passed}
 use Rattle.grids.specs.declared.axis.Axis.{Axis}
 use Rattle.grids.specs.declared.axis.Span.{Span}
-use Rattle.grids.specs.Axes.{tileEdge, axisOf, AxisOk, tilesOf, cutEnd, isCut, touched, spanStart, spanSize}
+use Rattle.grids.specs.declared.axis.Touched.{Touched}
+use Rattle.grids.specs.declared.axis.Touched.the-variants.{Tiles, NoTiles}
+use Rattle.grids.specs.Axes.{tileEdge, axisOf, AxisOk, tilesOf, cutEnd, isCut, touched, touchedTiles, SpanIn, spanStart, spanSize}
 
 -- ---- tile edges
 
@@ -145,11 +147,6 @@ module _ (a : Axis) (start size : ℕ) where
 
 -- ---- spans of whole tiles
 
--- a span of tiles along an axis
-pub record SpanIn (a : Axis) (s : Span) : Type 0 where
-  pub order : s .first ≤ s .last
-  pub inside : s .last < tilesOf a
-
 module _ (a : Axis) (s : Span) (wide : 0 < a .edge) where
   -- its texels hold each texel of its tiles
   pub span-holds : (x : ℕ) → x < a .extent → s .first ≤ x / a .edge → x / a .edge ≤ s .last
@@ -186,3 +183,42 @@ module _ (a : Axis) (s : Span) (wide : 0 < a .edge) where
 
     pub span-inside : spanStart a s + spanSize a s ≤ a .extent
     span-inside = omega (arith, span-end)
+
+-- what the numbers of a span stay below
+pub record SpanFits (a : Axis) (s : Span) : Type 0 where
+  pub low : s .first * a .edge < a .extent
+  pub high : (s .last + 1) * a .edge ≤ a .extent + a .edge
+  pub order : s .first * a .edge < (s .last + 1) * a .edge
+
+pub span-fits : (a : Axis) (s : Span) → AxisOk a → SpanIn a s → SpanFits a s
+span-fits a s ok h =
+    let m : s .first * a .edge ≤ s .last * a .edge = mul-le-mul-right (a .edge) (h .order) in
+    let l = span-tile a s (ok .wide) h in
+    let n : (s .last + 1) * a .edge ≡ s .last * a .edge + a .edge = ap (λ (k : ℕ). k * a .edge) (add-one (s .last)) ∙ suc-mul (s .last) (a .edge) in
+    record { low = omega arith; high = omega arith; order = omega (arith, ok .wide) }
+
+-- ---- the touched tiles by number
+
+pub record Found (a : Axis) (start size : ℕ) (s : Span) : Type 0 where
+  pub cut : isCut a start size ≡ true
+  pub first : s .first ≡ start / a .edge
+  pub last : s .last ≡ (cutEnd a start size - 1) / a .edge
+
+pub tiles-found : (a : Axis) (start size : ℕ) (s : Span) → touchedTiles a start size ≡ Tiles s → Found a start size s
+unfolding touchedTiles
+tiles-found a start size s e = go (isCut a start size) refl
+  where
+    go : (b : Bool) → isCut a start size ≡ b → Found a start size s
+    go true c =
+        let f : Tiles (record { first = start / a .edge; last = (cutEnd a start size - 1) / a .edge }) ≡ Tiles s = rw c at e in
+        let q : s ≡ record { first = start / a .edge; last = (cutEnd a start size - 1) / a .edge } = cc in
+        record { cut = c; first = ap (λ (u : Span). u .first) q; last = ap (λ (u : Span). u .last) q }
+    go false c = absurd (let f : NoTiles ≡ Tiles s = rw c at e in let z : _≡_ {A = ℕ} 0 1 = cc in let y : ⊥ = omega arith in y)
+
+pub tiles-none : (a : Axis) (start size : ℕ) → touchedTiles a start size ≡ NoTiles → isCut a start size ≡ false
+unfolding touchedTiles
+tiles-none a start size e = go (isCut a start size) refl
+  where
+    go : (b : Bool) → isCut a start size ≡ b → isCut a start size ≡ false
+    go true c = absurd (let f : Tiles (record { first = start / a .edge; last = (cutEnd a start size - 1) / a .edge }) ≡ NoTiles = rw c at e in let z : _≡_ {A = ℕ} 0 1 = cc in let y : ⊥ = omega arith in y)
+    go false c = c

@@ -14,10 +14,12 @@ use Rattle.grids.specs.declared.grid.Tiling.{Tiling}
 use Rattle.grids.specs.declared.rect.TexelRect.{TexelRect}
 use Rattle.grids.specs.declared.since.Dirty.{Dirty}
 use Rattle.grids.specs.declared.since.Dirty.the-variants.{Box, Clean}
-use Rattle.grids.specs.Axes.{oneTile, spanAround, spanStart, spanSize}
-use Rattle.grids.specs.Grids.{TilingOk, columnsOf, rowsOf, StampGrid, rowByRow, stampOf, Tile, dirtyTiles, boxOf, boxAround, boxSince}
-use Rattle.grids.proofs.Axes.{SpanIn, span-holds, span-size-pos, span-inside}
-use Rattle.grids.proofs.Tiles.{tile-place, length-rows, value-at}
+use Rattle.grids.specs.declared.dirty.DirtyTile.{DirtyTile}
+use Rattle.grids.specs.declared.dirty.DirtyTile.the-variants.{At, NoTile}
+use Rattle.grids.specs.Axes.{SpanIn, oneTile, spanAround, spanStart, spanSize}
+use Rattle.grids.specs.Grids.{TilingOk, columnsOf, rowsOf, stampCount, StampGrid, rowByRow, stampOf, Tile, dirtyTiles, boxOf, boxAround, boxSince, Stamped, IsDirtyTile}
+use Rattle.grids.proofs.Axes.{span-holds, span-size-pos, span-inside}
+use Rattle.grids.proofs.Tiles.{TileAt, tile-place, tile-at, length-rows, value-at}
 use Rattle.grids.proofs.Spans.{InSpan, around-base, around-each, around-in, one-in, one-holds}
 use Rattle.grids.proofs.Stamps.{InLevel, InRect, stampAt, texel-column, texel-row}
 
@@ -93,3 +95,17 @@ module _ (g : Tiling) (ok : TilingOk g) where
       rw (lt-leb (grid .newest) held (omega arith))
       (box-holds x y h (dirtyTiles (columnsOf g) (rowsOf g) held (grid .stamps))
       (λ P all. dirty-each (columnsOf g) (rowsOf g) held (grid .stamps) P all (x / g .across .edge) (y / g .down .edge) (texel-column g ok x y h) (texel-row g ok x y h) above))
+
+-- ---- the dirty tile
+
+module _ (g : Tiling) (held : ℕ) (page : List ℕ) (columns count : ℕ) (wide : columns ≡ columnsOf g) (many : count ≡ stampCount g) where
+  pub dirty-found : (k : ℕ) → k < count → held < getD page k 0 → IsDirtyTile g held page (At (k % columns) (k / columns))
+  unfolding IsDirtyTile stampOf stampCount
+  dirty-found k h above =
+      let t = tile-at (columnsOf g) (rowsOf g) k (rw many at h) in
+      rw wide (record { inside = (t .column, t .row); above = rw (t .place) at above })
+
+  pub dirty-none : ((i : ℕ) → i < count → getD page i 0 ≤ held) → IsDirtyTile g held page NoTile
+  unfolding IsDirtyTile stampOf stampCount
+  dirty-none all column row h k =
+      all (row * columnsOf g + column) (rw many (tile-place (columnsOf g) (rowsOf g) column row h k))

@@ -17,10 +17,10 @@ use Rattle.grids.specs.declared.grid.Tiling.{Tiling}
 use Rattle.grids.specs.declared.rect.TexelRect.{TexelRect}
 use Rattle.grids.specs.declared.since.Dirty.{Dirty}
 use Rattle.grids.specs.declared.since.Dirty.the-variants.{Box, Clean}
-use Rattle.grids.specs.Axes.{oneTile, spanAround, spanStart, spanSize}
+use Rattle.grids.specs.Axes.{SpanIn, oneTile, spanAround, spanStart, spanSize}
 use Rattle.grids.specs.Rects.{sideOnGrid, rectOnGrid}
 use Rattle.grids.specs.Grids.{TilingOk, columnsOf, rowsOf, StampGrid, Tile, dirtyTiles, boxOf, boxAround, boxSince}
-use Rattle.grids.proofs.Axes.{SpanIn, span-size-pos, span-inside, span-end}
+use Rattle.grids.proofs.Axes.{span-size-pos, span-inside, span-end}
 use Rattle.grids.proofs.Spans.{around-in, one-in}
 use Rattle.grids.proofs.Boxes.{TileIn, dirty-in}
 
@@ -68,13 +68,13 @@ module _ (a : Axis) (s : Span) (block : ℕ) (wide : 0 < a .edge) (h : SpanIn a 
 
 module _ (g : Tiling) (ok : TilingOk g) where
   -- the spans of tiles of the grid
-  columns-in : (t : Tile) (ts : List Tile) → All (TileIn (columnsOf g) (rowsOf g)) (t ∷ ts)
+  pub columns-in : (t : Tile) (ts : List Tile) → All (TileIn (columnsOf g) (rowsOf g)) (t ∷ ts)
       → SpanIn (g .across) (spanAround (oneTile (t .column)) (map (λ (u : Tile). u .column) ts))
   unfolding columnsOf
   columns-in t ts all =
       around-in (g .across) (oneTile (t .column)) _ (one-in (g .across) (t .column) (all-head all .across)) (all-map (λ (u : Tile). u .column) (λ u h. h .across) (all-tail all))
 
-  rows-in : (t : Tile) (ts : List Tile) → All (TileIn (columnsOf g) (rowsOf g)) (t ∷ ts)
+  pub rows-in : (t : Tile) (ts : List Tile) → All (TileIn (columnsOf g) (rowsOf g)) (t ∷ ts)
       → SpanIn (g .down) (spanAround (oneTile (t .row)) (map (λ (u : Tile). u .row) ts))
   unfolding rowsOf
   rows-in t ts all =

@@ -7,6 +7,7 @@ pub mod Rects
 pub mod CopyBytes
 pub mod Answers
 pub mod Axes
+pub mod Tilings
 pub mod Tiles
 pub mod Stamps
 pub mod Spans

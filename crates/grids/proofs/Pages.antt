@@ -4,6 +4,7 @@ use mathlib.Core.Bool.{Bool, true, false, _&&_, cond}
 use mathlib.Core.List.{List, _++_}
 use Prim.Native.Nat.{ℕ, suc, _+_, _-_, _*_, _/_, _%_, _≤_, _<_}
 use native.Mathlib.Nat.{mul-le-mul-right, mul-comm}
+use native.Mathlib.Numerals.{add-one}
 use native.Mathlib.Decide.{decLt}
 use native.Mathlib.Omega.{arith}
 use lib.ListN.{length, take, drop, getD, take-append-drop}
@@ -12,10 +13,12 @@ use Rattle.tables.specs.Lists.{over}
 use Rattle.tables.proofs.Lists.{and-both, length-over, getD-over-in, getD-over-past, over-self}
 use Rattle.grids.specs.declared.grid.Tiling.{Tiling}
 use Rattle.grids.specs.declared.rect.TexelRect.{TexelRect}
-use Rattle.grids.specs.Axes.{isCut, cutEnd, touched, tilesOf}
+use Rattle.grids.specs.declared.axis.Span.{Span}
+use Rattle.grids.specs.declared.axis.Touched.the-variants.{Tiles}
+use Rattle.grids.specs.Axes.{isCut, cutEnd, touched, touchedTiles, tilesOf}
 use Rattle.grids.specs.Grids.{TilingOk, columnsOf, rowsOf, stampCount, gridIn, stampOf, touches, isCutRect, stampedBy}
 use Rattle.grids.specs.Scans.{rowsStamped}
-use Rattle.grids.proofs.Axes.{touched-between, touched-from, touched-to, last-tile-in, first-last}
+use Rattle.grids.proofs.Axes.{touched-between, touched-from, touched-to, last-tile-in, first-last, Found, tiles-found}
 use Rattle.grids.proofs.Tiles.{TileAt, tile-place, tile-at, same-tiles}
 use Rattle.grids.proofs.Stamps.{length-stamped, stamped-tile, stamp-in, length-in, touches-cut}
 use Rattle.grids.proofs.Rows.{length-rows-stamped, rows-out, rows-in, rows-past}
@@ -47,6 +50,7 @@ module _ (g : Tiling) (ok : TilingOk g) (r : TexelRect) (n newest : ℕ) (page :
     where
       place : (column row : ℕ) → column < columnsOf g → row < rowsOf g → row * columnsOf g + column < columnsOf g * rowsOf g
       place = tile-place (columnsOf g) (rowsOf g)
+
       none : (column row : ℕ) (b : Bool) → touches g r column row ≡ b → touches g r column row ≡ false
       none column row true q = clash (sym (touches-cut g ok r column row q) ∙ e)
       none column row false q = q
@@ -55,10 +59,13 @@ module _ (g : Tiling) (ok : TilingOk g) (r : TexelRect) (n newest : ℕ) (page :
     -- the first and the last touched column and row
     abbrev left : ℕ
     left = r .x / g .across .edge
+
     abbrev right : ℕ
     right = (cutEnd (g .across) (r .x) (r .width) - 1) / g .across .edge
+
     abbrev top : ℕ
     top = r .y / g .down .edge
+
     abbrev bottom : ℕ
     bottom = (cutEnd (g .down) (r .y) (r .height) - 1) / g .down .edge
 
@@ -88,8 +95,10 @@ module _ (g : Tiling) (ok : TilingOk g) (r : TexelRect) (n newest : ℕ) (page :
     in-touched : (column row : ℕ) → top ≤ row → row < suc bottom → left ≤ column → column < left + (suc right - left) → touches g r column row ≡ true
     unfolding touches
     in-touched column row a b c d =
-        rw (touched-between (g .across) (r .x) (r .width) (ok .across .wide) column cx c (omega (arith, first-last (g .across) (r .x) (r .width) (ok .across .wide) cx)),
-        touched-between (g .down) (r .y) (r .height) (ok .down .wide) row cy a (omega arith))
+        rw (
+          touched-between (g .across) (r .x) (r .width) (ok .across .wide) column cx c (omega (arith, first-last (g .across) (r .x) (r .width) (ok .across .wide) cx)),
+          touched-between (g .down) (r .y) (r .height) (ok .down .wide) row cy a (omega arith),
+        )
 
     record Among (column row : ℕ) : Type 0 where
       from-row : top ≤ row
@@ -137,10 +146,58 @@ module _ (g : Tiling) (ok : TilingOk g) (r : TexelRect) (n newest : ℕ) (page :
       where
         count : length stamps ≡ stampCount g
         count = length-stamped g ok r n (gridIn g newest page)
+
         longer : length (over stamps page) ≡ length page
         longer = length-over stamps page (rw count room)
+
         go : (i : ℕ) → Dec (i < stampCount g) → getD (over stamps page) i 0 ≡ getD rowed i 0
         go i (yes q) = getD-over-in stamps page i 0 (rw count q) ∙ grid-at i q
         go i (no q) =
             getD-over-past stamps page i 0 (rw count (omega arith))
             ∙ sym (rows-past (columnsOf g) left (suc right - left) n columns-fit top (suc bottom - top) page room-rows i (rw rows-end (omega (arith, rows-room))))
+
+  -- ---- the same for spans that were found
+
+  module _ (cs rs : Span) (fc : touchedTiles (g .across) (r .x) (r .width) ≡ Tiles cs) (fr : touchedTiles (g .down) (r .y) (r .height) ≡ Tiles rs) where
+    column-span : Found (g .across) (r .x) (r .width) cs
+    column-span = tiles-found (g .across) (r .x) (r .width) cs fc
+
+    row-span : Found (g .down) (r .y) (r .height) rs
+    row-span = tiles-found (g .down) (r .y) (r .height) rs fr
+
+    pub record SpansFit : Type 0 where
+      pub columns : cs .first ≤ cs .last
+      pub inside : cs .last < columnsOf g
+      pub rows : rs .first ≤ rs .last
+      pub below : rs .last < rowsOf g
+      pub fits : (rs .last + 1) * columnsOf g ≤ stampCount g
+
+    pub spans-fit : SpansFit
+    unfolding columnsOf rowsOf
+    spans-fit =
+        let c = column-span in
+        let w = row-span in
+        record {
+          columns = rw (c .first, c .last) (first-last (g .across) (r .x) (r .width) (ok .across .wide) (c .cut));
+          inside = rw (c .last) (last-tile-in (g .across) (r .x) (r .width) (ok .across .wide) (c .cut));
+          rows = rw (w .first, w .last) (first-last (g .down) (r .y) (r .height) (ok .down .wide) (w .cut));
+          below = rw (w .last) (last-tile-in (g .down) (r .y) (r .height) (ok .down .wide) (w .cut));
+          fits = rw (w .last, add-one) (rows-room (c .cut) (w .cut));
+        }
+
+    pub page-spans : over stamps page
+        ≡ rowsStamped (columnsOf g) (cs .first) (cs .last + 1 - cs .first) n (rs .first) (rs .last + 1 - rs .first) page
+    page-spans =
+        let c = column-span in
+        let w = row-span in
+        page-stamped (c .cut) (w .cut)
+        ∙ sym (rw (c .first, c .last, w .first, w .last, add-one ((cutEnd (g .across) (r .x) (r .width) - 1) / g .across .edge), add-one ((cutEnd (g .down) (r .y) (r .height) - 1) / g .down .edge)))
+
+    pub newest-stamped : stampedBy g r n (gridIn g newest page) .newest ≡ n
+    unfolding stampedBy isCutRect
+    newest-stamped = rw (column-span .cut, row-span .cut)
+
+  -- and where the cut is empty
+  pub newest-kept : isCutRect g r ≡ false → stampedBy g r n (gridIn g newest page) .newest ≡ newest
+  unfolding stampedBy gridIn
+  newest-kept e = rw e

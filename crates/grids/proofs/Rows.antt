@@ -149,3 +149,22 @@ module _ (columns left width n : ℕ) (narrow : left + width ≤ columns) where
       rows-past (suc row) k (sets page (row * columns + left) (replicate width n)) (room-next row k page room) i (rw e h)
       ∙ run-out page (row * columns + left) width n (fits row k page room) i
       (λ lo hi. let m = row-step row (row + suc k) (omega arith) in let y : ⊥ = omega (arith, m) in y)
+
+-- ---- the loop over the rows
+
+-- the runs of the rows before `bottom` fit
+pub row-within : (columns left width row bottom : ℕ) → left + width ≤ columns → row < bottom → row * columns + left + width ≤ bottom * columns
+row-within columns left width row bottom narrow h = let m = mul-le-mul-right columns h in omega (arith, m, suc-mul row columns)
+
+module _ (columns left width n bottom : ℕ) (page : List ℕ) where
+  pub rows-next : (row : ℕ) → row < bottom
+      → rowsStamped columns left width n row (bottom - row) page
+      ≡ rowsStamped columns left width n (row + 1) (bottom - (row + 1)) (sets page (row * columns + left) (replicate width n))
+  unfolding rowsStamped
+  rows-next row h =
+      ap (λ (k : ℕ). rowsStamped columns left width n row k page) (let e : bottom - row ≡ suc (bottom - (row + 1)) = omega arith in e)
+      ∙ ap (λ (k : ℕ). rowsStamped columns left width n k (bottom - (row + 1)) (sets page (row * columns + left) (replicate width n))) (sym (add-one row))
+
+  pub rows-done : (row : ℕ) → bottom ≤ row → rowsStamped columns left width n row (bottom - row) page ≡ page
+  unfolding rowsStamped
+  rows-done row h = ap (λ (k : ℕ). rowsStamped columns left width n row k page) (let e : bottom - row ≡ 0 = omega arith in e)

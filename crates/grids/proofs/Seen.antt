@@ -8,22 +8,24 @@ use native.Mathlib.Omega.{arith}
 use lib.Dec.{ltb, leb}
 use lib.ListN.{length, getD, take, drop}
 use lib.Seq.{getD-take, getD-drop}
-use borrow.Author.Tests.{leb-true, le-ltb}
+use borrow.Author.Tests.{leb-true, le-ltb, le-leb, lt-leb}
 use Rattle.tables.specs.Lists.{listed, keep, all}
 use Rattle.tables.specs.Blocks.{atMost}
 use Rattle.tables.specs.All.{All, nil, cons}
 use Rattle.tables.proofs.Lists.{all-get}
 use Rattle.tables.proofs.Listed.{left, left-all, left-step, left-none, getD-listed}
-use Rattle.tables.proofs.All.{all-listed}
+use Rattle.tables.proofs.All.{all-listed, all-flatMap}
 use Rattle.grids.specs.declared.axis.Span.{Span}
 use Rattle.grids.specs.declared.grid.Tiling.{Tiling}
 use Rattle.grids.specs.declared.since.Dirty.{Dirty}
 use Rattle.grids.specs.declared.since.Dirty.the-variants.{Box, Clean}
 use Rattle.grids.specs.declared.since.Seen.{Seen}
-use Rattle.grids.specs.Axes.{oneTile, spanAround}
-use Rattle.grids.specs.Grids.{columnsOf, rowsOf, stampOf, Tile, dirtyTiles, boxOf, boxAround}
+use Rattle.grids.specs.Axes.{SpanIn, oneTile, spanAround}
+use Rattle.grids.specs.Grids.{TilingOk, columnsOf, rowsOf, stampCount, gridIn, rowByRow, stampOf, Tile, dirtyTiles, boxOf, boxAround, boxSince}
 use Rattle.grids.specs.Scans.{nothingSeen, joined, visited, allJoined, dirtyRow}
-use Rattle.grids.proofs.Tiles.{keep-rows}
+use Rattle.grids.proofs.Tiles.{tile-place, keep-rows}
+use Rattle.grids.proofs.Boxes.{TileIn, dirty-in}
+use Rattle.grids.proofs.Legal.{columns-in, rows-in}
 
 -- ---- what was seen is the box
 
@@ -135,3 +137,36 @@ module _ (columns rows held : ℕ) (stamps : List ℕ) where
   pub rows-done : (s : Seen) (i : ℕ) → rows ≤ i → allJoined s (rowsLeft columns rows held stamps i) ≡ s
   unfolding rowsLeft flatMap allJoined
   rows-done s i h = rw (left-none (λ (row : ℕ). row) rows i h)
+
+-- ---- what was seen lies in the grid
+
+pub record SeenIn (g : Tiling) (s : Seen) : Type 0 where
+  pub columns : SpanIn (g .across) (s .columns)
+  pub rows : SpanIn (g .down) (s .rows)
+
+pub seen-in : (g : Tiling) → TilingOk g → (ts : List Tile) → All (TileIn (columnsOf g) (rowsOf g)) ts → allJoined nothingSeen ts .any ≡ true → SeenIn g (allJoined nothingSeen ts)
+unfolding allJoined joined nothingSeen
+seen-in g ok [] all e = absurd (let z : _≡_ {A = ℕ} 0 1 = cc in let y : ⊥ = omega arith in y)
+seen-in g ok (t ∷ ts) all e = rw (joined-spans (oneTile (t .column)) (oneTile (t .row)) ts) (record { columns = columns-in g ok t ts all; rows = rows-in g ok t ts all })
+
+-- a page's dirty tiles are those of its grid
+pub dirty-page : (columns rows held : ℕ) (page : List ℕ) → dirtyTiles columns rows held (take (columns * rows) page) ≡ dirtyTiles columns rows held page
+unfolding dirtyTiles stampOf rowByRow
+dirty-page columns rows held page =
+    keep-same _ _ _
+    (all-flatMap {P = λ (row : ℕ). row < rows} _
+    (λ row h. all-listed (tile row) 0 columns
+    (λ j q. ap (ltb held) (getD-take (columns * rows) page (row * columns + (0 + j)) 0 (tile-place columns rows (0 + j) row (omega arith) h))))
+    (all-listed (λ (row : ℕ). row) 0 rows (λ j q. omega arith)))
+
+-- ---- the box that the scan gives
+
+module _ (g : Tiling) (held newest : ℕ) (page : List ℕ) where
+  pub since-clean : newest ≤ held → boxSince g held (gridIn g newest page) ≡ Clean
+  unfolding boxSince gridIn
+  since-clean h = rw (le-leb newest held h)
+
+  pub since-seen : held < newest → boxSince g held (gridIn g newest page) ≡ seenBox g (allJoined nothingSeen (dirtyTiles (columnsOf g) (rowsOf g) held page))
+  unfolding boxSince gridIn stampCount
+  since-seen h =
+      rw (lt-leb newest held h) (ap (boxAround g) (dirty-page (columnsOf g) (rowsOf g) held page) ∙ box-seen g (dirtyTiles (columnsOf g) (rowsOf g) held page))

@@ -7,8 +7,7 @@ use Rattle.tables.specs.All.{All, nil, cons}
 use Rattle.tables.proofs.All.{all-head, all-tail, all-mono}
 use Rattle.grids.specs.declared.axis.Axis.{Axis}
 use Rattle.grids.specs.declared.axis.Span.{Span}
-use Rattle.grids.specs.Axes.{tilesOf, oneTile, widened, spanAround}
-use Rattle.grids.proofs.Axes.{SpanIn}
+use Rattle.grids.specs.Axes.{tilesOf, SpanIn, oneTile, widened, spanAround}
 
 -- a tile of the span
 pub record InSpan (s : Span) (t : ℕ) : Type 0 where

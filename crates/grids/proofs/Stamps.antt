@@ -46,14 +46,18 @@ module _ (g : Tiling) (ok : TilingOk g) where
     pub touches-texel : (x y : ℕ) → InLevel g x y → InRect r x y → touches g r (x / g .across .edge) (y / g .down .edge) ≡ true
     unfolding touches
     touches-texel x y h k =
-        rw (touched-texel (g .across) (r .x) (r .width) (ok .across .wide) x (h .across) (k .left) (k .right),
-        touched-texel (g .down) (r .y) (r .height) (ok .down .wide) y (h .down) (k .top) (k .bottom))
+        rw (
+          touched-texel (g .across) (r .x) (r .width) (ok .across .wide) x (h .across) (k .left) (k .right),
+          touched-texel (g .down) (r .y) (r .height) (ok .down .wide) y (h .down) (k .top) (k .bottom),
+        )
 
     pub cut-rect-texel : (x y : ℕ) → InLevel g x y → InRect r x y → isCutRect g r ≡ true
     unfolding isCutRect
     cut-rect-texel x y h k =
-        rw (cut-texel (g .across) (r .x) (r .width) x (h .across) (k .left) (k .right),
-        cut-texel (g .down) (r .y) (r .height) y (h .down) (k .top) (k .bottom))
+        rw (
+          cut-texel (g .across) (r .x) (r .width) x (h .across) (k .left) (k .right),
+          cut-texel (g .down) (r .y) (r .height) y (h .down) (k .top) (k .bottom),
+        )
 
     -- a touched tile has a texel of the rectangle in the level
     pub record TouchedTexel (column row : ℕ) : Type 0 where

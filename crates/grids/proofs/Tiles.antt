@@ -22,14 +22,15 @@ pub record TileAt (columns rows i : ℕ) : Type 0 where
   pub row : i / columns < rows
   pub place : i ≡ i / columns * columns + i % columns
 
+-- a product above some number has no factor 0
+pub factor-pos : (a b i : ℕ) → i < a * b → 0 < a
+factor-pos zero b i h = absurd (not-suc-le-zero (rw (zero-mul b) at h))
+factor-pos (suc a) b i h = omega arith
+
 pub tile-at : (columns rows i : ℕ) → i < columns * rows → TileAt columns rows i
 tile-at columns rows i h =
-    let pos : 0 < columns = go columns h in
+    let pos : 0 < columns = factor-pos columns rows i h in
     record { column = mod-lt i pos; row = div-lt-iff-lt-mul pos .1 (rw (mul-comm columns rows) at h); place = sym (div-add-mod' i columns) }
-  where
-    go : (c : ℕ) → i < c * rows → 0 < c
-    go zero q = absurd (not-suc-le-zero (rw (zero-mul rows) at q))
-    go (suc c) q = omega arith
 
 -- ---- blocks of one length, one after the other
 

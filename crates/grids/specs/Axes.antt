@@ -46,6 +46,11 @@ touched a start size t =
 unfoldable pub touchedTiles : Axis → ℕ → ℕ → Touched
 touchedTiles a start size = cond (isCut a start size) (Tiles (record { first = start / a .edge; last = (cutEnd a start size - 1) / a .edge })) NoTiles
 
+-- a span of tiles along an axis
+pub record SpanIn (a : Axis) (s : Span) : Type 0 where
+  pub order : s .first ≤ s .last
+  pub inside : s .last < tilesOf a
+
 -- the span of one tile
 unfoldable pub oneTile : ℕ → Span
 oneTile t = record { first = t; last = t }

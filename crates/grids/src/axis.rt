@@ -1,7 +1,7 @@
 // One axis of a level, cut into tiles.
 ghost use mathlib.Core.Path.{_≡_};
 ghost use Prim.Native.Nat.{_≤_, _<_};
-ghost use Rattle.grids.specs.Axes.{tileEdge, axisOf, AxisOk, tilesOf, touchedTiles, widened, spanStart, spanSize};
+ghost use Rattle.grids.specs.Axes.{tileEdge, axisOf, AxisOk, tilesOf, touchedTiles, SpanIn, widened, spanStart, spanSize};
 
 // Texels along the axis, and texels along a tile's side.
 pub struct Axis {
@@ -61,7 +61,11 @@ pub fn touched_tiles(a: Axis, start: u64, size: u64) -> Touched
         return Touched::NoTiles;
     }
     let room = a.extent - start;
-    let last = if size < room { start + size - 1 } else { a.extent - 1 };
+    let last = if size < room {
+        start + size - 1
+    } else {
+        a.extent - 1
+    };
     Touched::Tiles(Span {
         first: start / a.edge,
         last: last / a.edge,
@@ -80,7 +84,7 @@ pub fn widen(s: Span, t: u64) -> Span
 
 // The first texel of whole tiles.
 pub fn span_start(a: Axis, s: Span) -> u64
-    requires { ⌜ AxisOk a × (s .last < tilesOf a) × (s .first ≤ s .last) ⌝ }
+    requires { ⌜ AxisOk a × SpanIn a s ⌝ }
     ensures { λ r. ⌜ r ≡ spanStart a s ⌝ }
 {
     s.first * a.edge
@@ -88,7 +92,7 @@ pub fn span_start(a: Axis, s: Span) -> u64
 
 // How many texels whole tiles have in the level.
 pub fn span_size(a: Axis, s: Span) -> u64
-    requires { ⌜ AxisOk a × (s .last < tilesOf a) × (s .first ≤ s .last) ⌝ }
+    requires { ⌜ AxisOk a × SpanIn a s ⌝ }
     ensures { λ r. ⌜ r ≡ spanSize a s ⌝ }
 {
     let start = s.first * a.edge;

@@ -2,7 +2,6 @@
 ghost use Prim.Native.Nat.{_≤_};
 ghost use lib.ListN.{length};
 ghost use Rattle.grids.specs.Grids.{TilingOk, stampCount, IsDirtyTile};
-
 use crate::axis::tiles;
 use crate::grid::Tiling;
 

@@ -3,7 +3,6 @@ ghost use mathlib.Core.Path.{_≡_};
 ghost use mathlib.Core.Bool.{true};
 ghost use Rattle.grids.specs.Shapes.{isShape};
 ghost use Rattle.grids.specs.Grids.{tilingOf, TilingOk, columnsOf, rowsOf, stampCount};
-
 use crate::axis::Axis;
 use crate::axis::axis_of;
 use crate::axis::tiles;

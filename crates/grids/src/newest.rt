@@ -4,7 +4,6 @@ ghost use Prim.Native.Nat.{_≤_, _<_};
 ghost use lib.Dec.{eqb};
 ghost use lib.ListN.{length};
 ghost use Rattle.grids.specs.Grids.{TilingOk, stampCount, largestStamp};
-
 use crate::grid::Tiling;
 use crate::grid::stamp_count;
 
@@ -14,7 +13,7 @@ pub fn largest_stamp(page: &[u64], g: Tiling) -> u64
     ensures { λ r. ⌜ r ≡ largestStamp g (now (page .entry)) ⌝ }
 {
     let count = stamp_count(g) as usize;
-    tables::scans::largest_of(&page[..count])
+    tables::largest_of(&page[..count])
 }
 
 // Whether `newest` is the largest stamp: none passes it, and one equals it, which is quicker to see than a maximum.
@@ -23,8 +22,8 @@ pub fn is_largest_stamp(page: &[u64], g: Tiling, newest: u64) -> bool
     ensures { λ r. ⌜ r ≡ eqb (largestStamp g (now (page .entry))) newest ⌝ }
 {
     let count = stamp_count(g) as usize;
-    if !tables::scans::within(&page[..count], newest) {
+    if !tables::within(&page[..count], newest) {
         return false;
     }
-    tables::scans::contains(&page[..count], newest)
+    tables::contains(&page[..count], newest)
 }

@@ -2,9 +2,9 @@
 ghost use mathlib.Core.Path.{_≡_};
 ghost use Prim.Native.Nat.{_*_, _≤_, _<_};
 ghost use lib.ListN.{length};
-ghost use Rattle.grids.specs.Grids.{TilingOk, stampCount, dirtyTiles, gridIn, boxSince};
+ghost use Rattle.grids.specs.Grids.{TilingOk, stampCount, dirtyTiles, gridIn, boxOf, boxSince};
+ghost use Rattle.grids.specs.Axes.{SpanIn};
 ghost use Rattle.grids.specs.Scans.{nothingSeen, joined, allJoined, dirtyRow, visited};
-
 use crate::axis::Span;
 use crate::axis::span_size;
 use crate::axis::span_start;
@@ -60,7 +60,7 @@ fn visit_row(seen: Seen, line: &[u64], held: u64, row: u64) -> Seen
     ensures { λ r. ⌜ r ≡ allJoined seen (dirtyRow (length (now (line .entry))) row held (now (line .entry))) ⌝ }
 {
     // Most rows are clean, and the scan for that goes by four.
-    if tables::scans::within(line, held) {
+    if tables::within(line, held) {
         return seen;
     }
     let mut all = seen;
@@ -92,6 +92,21 @@ fn visit_page(page: &[u64], columns: usize, rows: usize, held: u64) -> Seen
     seen
 }
 
+// Whole tiles in texels, cut to the level.
+fn box_of(g: Tiling, columns: Span, rows: Span) -> TexelRect
+    requires { ⌜ TilingOk g × SpanIn (g .across) columns × SpanIn (g .down) rows ⌝ }
+    ensures { λ r. ⌜ r ≡ boxOf g columns rows ⌝ }
+{
+    let across = g.across;
+    let down = g.down;
+    TexelRect {
+        x: span_start(across, columns),
+        y: span_start(down, rows),
+        width: span_size(across, columns),
+        height: span_size(down, rows),
+    }
+}
+
 // The smallest box of whole tiles around those stamped above `held`, cut to the level.
 pub fn written_since(page: &[u64], g: Tiling, newest: u64, held: u64) -> Dirty
     requires { ⌜ TilingOk g × (stampCount g ≤ length (now page)) ⌝ }
@@ -108,10 +123,5 @@ pub fn written_since(page: &[u64], g: Tiling, newest: u64, held: u64) -> Dirty
     }
     let columns = seen.columns;
     let rows = seen.rows;
-    Dirty::Box(TexelRect {
-        x: span_start(across, columns),
-        y: span_start(down, rows),
-        width: span_size(across, columns),
-        height: span_size(down, rows),
-    })
+    Dirty::Box(box_of(g, columns, rows))
 }

@@ -5,7 +5,6 @@ ghost use lib.ListN.{length};
 ghost use Rattle.tables.specs.Lists.{over};
 ghost use Rattle.grids.specs.Grids.{TilingOk, stampCount, gridIn, stampedBy};
 ghost use Rattle.grids.specs.Scans.{rowsStamped};
-
 use crate::axis::Touched;
 use crate::axis::tiles;
 use crate::axis::touched_tiles;
@@ -27,7 +26,7 @@ fn stamp_rows(
 {
     let mut row = top;
     while row < bottom {
-        tables::blocks::fill(page, row * columns + left, width, n);
+        tables::fill(page, row * columns + left, width, n);
         row += 1;
     }
 }

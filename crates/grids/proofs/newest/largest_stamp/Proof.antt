@@ -1,0 +1,27 @@
+-- The largest stamp of a grid. Assumes nothing.
+use mathlib.Core.Path.{_≡_, sym, ap, _∙_}
+use native.Mathlib.Omega.{arith}
+use lib.ListN.{take}
+use lib.Seq.{length-take-le}
+use borrow.Author.Needs.{needs}
+use Rattle.tables.specs.Blocks.{largest}
+use Rattle.grids.specs.Grids.{largestStamp}
+use Rattle.grids.proofs.newest.largest_stamp.Statement.{statement}
+use Rattle.grids.proofs.newest.largest_stamp.Tie as tie
+
+stamp-count-requires : tie.Need-stamp-count-requires
+stamp-count-requires c κs = c .before .pre .0
+
+slice-aggregate-largest-of : tie.Need-slice-aggregate-largest-of
+slice-aggregate-largest-of c = sym (length-take-le _ _ (omega (arith, c .before .stamp-count .ensures, c .before .before .before .pre .1)))
+
+largest-of-requires : tie.Need-largest-of-requires
+largest-of-requires c κs = search needs
+
+returns : tie.Need-returns
+unfolding largestStamp
+returns c = c .largest-of .ensures ∙ ap (λ n. largest (take n (c .before .before .before .before .args .page .now))) (c .before .before .stamp-count .ensures)
+
+pub largest-stamp-spec : {M : Type 1} → statement M
+largest-stamp-spec =
+    tie.close (tie.spec stamp-count-requires slice-aggregate-largest-of largest-of-requires returns)

@@ -1,0 +1,83 @@
+-- The box since a count. Assumes nothing.
+use mathlib.Core.Path.{_≡_, refl, sym, ap, ap₂, subst, _∙_}
+use mathlib.Core.Bool.{true, false}
+use Prim.Native.Nat.{ℕ, _*_, _≤_}
+use native.Mathlib.Omega.{arith}
+use borrow.Author.Needs.{needs}
+use borrow.Author.Tests.{not-true, not-false}
+use Rattle.grids.specs.declared.since.Dirty.the-variants.{Box}
+use Rattle.grids.specs.declared.since.Seen.{Seen}
+use Rattle.grids.specs.Axes.{tilesOf}
+use Rattle.grids.specs.Grids.{columnsOf, rowsOf, stampCount, gridIn, dirtyTiles, boxSince}
+use Rattle.grids.specs.Scans.{nothingSeen, allJoined}
+use Rattle.grids.proofs.Boxes.{dirty-in}
+use Rattle.grids.proofs.Seen.{seenBox, SeenIn, seen-in, since-clean, since-seen}
+use Rattle.grids.proofs.since.written_since.Statement.{statement}
+use Rattle.grids.proofs.since.written_since.Tie as tie
+
+returns : tie.Need-returns
+returns c = let a = c .before .before .args in sym (since-clean (a .g) (a .held) (a .newest) (a .page .now) (c .if1 .taken))
+
+tiles-requires : tie.Need-tiles-requires
+tiles-requires c κs = c .before .before .before .before .pre .0 .across
+
+tiles-requires-2 : tie.Need-tiles-requires-2
+tiles-requires-2 c κs = c .before .before .before .before .before .pre .0 .down
+
+visit-page-requires : tie.Need-visit-page-requires
+unfolding stampCount columnsOf rowsOf
+visit-page-requires c κs =
+    let s = c .before .before .before .before .before .before in
+    let m = c .before .tiles .ensures in
+    let n = c .tiles2 .ensures in
+    (rw (m, n) (s .pre .1), omega (arith, m, s .pre .0 .across .tiles), omega (arith, n, s .pre .0 .down .tiles))
+
+-- what the scan saw
+module _ (c : tie.After-visit-page) where
+  abbrev entry : tie.Start
+  entry = c .before .before .before .before .before .before .before
+
+  seen-is : c .visit-page .result ≡ allJoined nothingSeen (dirtyTiles (columnsOf (entry .args .g)) (rowsOf (entry .args .g)) (entry .args .held) (entry .args .page .now))
+  unfolding columnsOf rowsOf
+  seen-is =
+      c .visit-page .ensures
+      ∙ ap₂ (λ m n. allJoined nothingSeen (dirtyTiles m n (entry .args .held) (entry .args .page .now))) (c .before .before .tiles .ensures) (c .before .tiles2 .ensures)
+
+  box : boxSince (entry .args .g) (entry .args .held) (gridIn (entry .args .g) (entry .args .newest) (entry .args .page .now)) ≡ seenBox (entry .args .g) (c .visit-page .result)
+  box =
+      since-seen (entry .args .g) (entry .args .held) (entry .args .newest) (entry .args .page .now) (c .before .before .before .before .before .if1 .left)
+      ∙ ap (seenBox (entry .args .g)) (sym seen-is)
+
+  spans : c .visit-page .result .any ≡ true → SeenIn (entry .args .g) (c .visit-page .result)
+  spans e =
+      subst (SeenIn (entry .args .g)) (sym seen-is)
+      (seen-in (entry .args .g) (entry .pre .0) _ (dirty-in (columnsOf (entry .args .g)) (rowsOf (entry .args .g)) (entry .args .held) (entry .args .page .now))
+      (sym (ap (λ (s : Seen). s .any) seen-is) ∙ e))
+
+returns-2 : tie.Need-returns-2
+unfolding seenBox
+returns-2 c = sym (box (c .before .before) ∙ rw (not-true (c .before .before .visit-page .result .any) (c .if2 .taken)))
+
+box-of-requires : tie.Need-box-of-requires
+box-of-requires c κs =
+    let k = c .before .before .before .before in
+    let s = spans k (not-false _ (c .before .before .if2 .left)) in
+    (entry k .pre .0, s .columns, s .rows)
+
+returns-3 : tie.Need-returns-3
+unfolding seenBox
+returns-3 c =
+    let k = c .before .before .before .before .before in
+    ap Box (c .box-of .ensures) ∙ sym (box k ∙ rw (not-false (k .visit-page .result .any) (c .before .before .before .if2 .left)))
+
+pub written-since-spec : {M : Type 1} → statement M
+written-since-spec =
+    tie.close
+    (tie.spec
+    returns
+    tiles-requires
+    tiles-requires-2
+    visit-page-requires
+    returns-2
+    box-of-requires
+    returns-3)
