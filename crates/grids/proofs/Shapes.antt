@@ -1,7 +1,7 @@
 -- Laws of shapes: what a shape that passes refusal 2 is bounded by, when two shapes are the same, and the extents of levels.
-use Prim.Native.Nat.{ℕ, _+_, _*_, _/_, _^_, _≤_, _<_, max}
-use mathlib.Core.Path.{_≡_, refl, sym, _∙_, ap}
-use mathlib.Core.Bool.{true, false, cond}
+use Prim.Native.Nat.{ℕ, _*_, _/_, _^_, _≤_, _<_, max}
+use mathlib.Core.Path.{_≡_, refl, ap}
+use mathlib.Core.Bool.{true, false}
 use native.Mathlib.Omega.{arith}
 use native.Mathlib.Nat.{le-max-left, max-le, mul-le-mul, mul-le-mul-right, le-trans, pow-le-pow-right, div-le-of-le-mul, div-eq-of-lt}
 use lib.Dec.{eqb}
