@@ -1,4 +1,4 @@
--- `grids::format::block_bytes` meets its contract. Past the table the bytes are 0.
+-- `grids::format::block_bytes` meets its contract. Within the table by the entry, past it by the 0 that stands for the rest.
 use borrow.Author.Needs.{needs}
 use mathlib.Core.Path.{sym}
 use lib.ListN.{List·getD-eq-default}

@@ -1,4 +1,4 @@
--- `grids::format::block_edge` meets its contract. Past the table the edge is 1, which stands in the table's place.
+-- `grids::format::block_edge` meets its contract. Within the table by the entry, past it by the 1 that stands for the rest.
 use borrow.Author.Needs.{needs}
 use mathlib.Core.Path.{sym}
 use lib.ListN.{List·getD-eq-default}
