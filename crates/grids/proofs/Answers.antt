@@ -34,11 +34,13 @@ pub copy-refused : (s : VersionShape) (level : ℕ) (r : Region) → isShape s �
 unfolding copyOutcome
 copy-refused s level r e = rw e
 
-pub copy-past : (s : VersionShape) (level : ℕ) (r : Region) → isShape s ≡ true → s .levels ≤ level → copyOutcome s level r ≡ accepted (0 ∷ [])
+pub copy-past : (s : VersionShape) (level : ℕ) (r : Region) → isShape s ≡ true → s .levels ≤ level →
+    copyOutcome s level r ≡ accepted (0 ∷ [])
 unfolding copyOutcome
 copy-past s level r e h = rw (e, le-ltb level (s .levels) h)
 
-pub copy-accepted : (s : VersionShape) (level : ℕ) (r : Region) → isShape s ≡ true → level < s .levels → copyOutcome s level r ≡ accepted (copyBytes s level r ∷ [])
+pub copy-accepted : (s : VersionShape) (level : ℕ) (r : Region) → isShape s ≡ true → level < s .levels →
+    copyOutcome s level r ≡ accepted (copyBytes s level r ∷ [])
 unfolding copyOutcome
 copy-accepted s level r e h = rw (e, lt-ltb level (s .levels) h)
 

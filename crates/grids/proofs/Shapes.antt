@@ -36,7 +36,15 @@ shape-bounds s e =
 pub bounds-shape : (s : VersionShape) → ShapeBounds s → isShape s ≡ true
 unfolding isShape tests after
 bounds-shape s z =
-    rw (le-leb _ _ (z .width), le-leb _ _ (z .height), le-leb _ _ (z .depth), le-leb _ _ (z .levels-pos), le-leb _ _ (z .levels-bound), le-leb _ _ (z .kind), le-leb _ _ (z .format))
+    rw (
+      le-leb _ _ (z .width),
+      le-leb _ _ (z .height),
+      le-leb _ _ (z .depth),
+      le-leb _ _ (z .levels-pos),
+      le-leb _ _ (z .levels-bound),
+      le-leb _ _ (z .kind),
+      le-leb _ _ (z .format),
+    )
 
 pub same-shape : (a b : VersionShape) → sameShape a b ≡ true → a ≡ b
 unfolding sameShape

@@ -15,22 +15,30 @@ use Rattle.grids.proofs.copies.level_copy_bytes.Tie as tie
 
 -- the products so far, in the definition's terms
 texels : (c : tie.After-region-texels) →
-    c .region-texels .result ≡ texelsIn (c .before .before .before .before .args .s) (c .before .before .before .before .args .level) (c .before .before .before .before .args .region)
+    c .region-texels .result
+    ≡ texelsIn (c .before .before .before .before .args .s) (c .before .before .before .before .args .level) (c .before .before .before .before .args .region)
 unfolding levelWidth levelHeight
-texels c = c .region-texels .ensures ∙ λ i. regionTexels (c .before .before .level-extent .ensures i) (c .before .level-extent2 .ensures i) (c .before .before .before .before .args .region)
+texels c =
+    c .region-texels .ensures
+    ∙ λ i. regionTexels (c .before .before .level-extent .ensures i) (c .before .level-extent2 .ensures i) (c .before .before .before .before .args .region)
 
 all-depths : (c : tie.After-level-depth) →
     c .before .region-texels .result * c .level-depth .result
-    ≡ texelsIn (c .before .before .before .before .before .args .s) (c .before .before .before .before .before .args .level) (c .before .before .before .before .before .args .region) * levelDepth (c .before .before .before .before .before .args .s) (c .before .before .before .before .before .args .level)
+    ≡ texelsIn (c .before .before .before .before .before .args .s) (c .before .before .before .before .before .args .level) (c .before .before .before .before .before .args .region)
+    * levelDepth (c .before .before .before .before .before .args .s) (c .before .before .before .before .before .args .level)
 all-depths c = λ i. texels (c .before) i * c .level-depth .ensures i
 
 in-bytes : (c : tie.After-block-bytes) →
     c .before .before .region-texels .result * c .before .level-depth .result * c .block-bytes .result
-    ≡ texelsIn (c .before .before .before .before .before .before .args .s) (c .before .before .before .before .before .before .args .level) (c .before .before .before .before .before .before .args .region) * levelDepth (c .before .before .before .before .before .before .args .s) (c .before .before .before .before .before .before .args .level) * blockBytes (c .before .before .before .before .before .before .args .s .format)
+    ≡ texelsIn (c .before .before .before .before .before .before .args .s) (c .before .before .before .before .before .before .args .level) (c .before .before .before .before .before .before .args .region)
+    * levelDepth (c .before .before .before .before .before .before .args .s) (c .before .before .before .before .before .before .args .level)
+    * blockBytes (c .before .before .before .before .before .before .args .s .format)
 in-bytes c = λ i. all-depths (c .before) i * c .block-bytes .ensures i
 
 -- a block has 1 to 16 texels
-block : (c : tie.After-block-bytes) → (0 < c .before .before .before .before .before .block-edge .result * c .before .before .before .before .before .block-edge .result) × (c .before .before .before .before .before .block-edge .result * c .before .before .before .before .before .block-edge .result ≤ 16)
+block : (c : tie.After-block-bytes) →
+    (0 < c .before .before .before .before .before .block-edge .result * c .before .before .before .before .before .block-edge .result)
+    × (c .before .before .before .before .before .block-edge .result * c .before .before .before .before .before .block-edge .result ≤ 16)
 block c =
     let f = c .before .before .before .before .before .before .args .s .format in
     subst (λ (e : ℕ). (0 < e * e) × (e * e ≤ 16)) (sym (c .before .before .before .before .before .block-edge .ensures)) (block-texels-pos f, block-texels-bound f)

@@ -38,8 +38,8 @@ returns c =
 returns-2 : tie.Need-returns-2
 unfolding regionTexels
 returns-2 c =
-    let a = c .before .before .before .before .before .args in
-    (λ i. c .before .cut-size .ensures i * c .cut-size2 .ensures i) ∙ sym (ap (regionTexels (a .width) (a .height)) (c .before .before .before .region .given .1))
+    (λ i. c .before .cut-size .ensures i * c .cut-size2 .ensures i)
+    ∙ sym (ap (regionTexels (c .before .before .before .before .before .args .width) (c .before .before .before .before .before .args .height)) (c .before .before .before .region .given .1))
 
 pub region-texels-spec : {M : Type 1} → statement M
 region-texels-spec =

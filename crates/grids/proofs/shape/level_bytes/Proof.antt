@@ -14,7 +14,9 @@ use Rattle.grids.proofs.shape.level_bytes.Tie as tie
 
 -- the products so far, in the definition's terms
 area : (c : tie.After-blocks3) →
-    c .before .before .blocks2 .result * c .blocks3 .result ≡ across (c .before .before .before .before .before .args .s) (c .before .before .before .before .before .args .level) * down (c .before .before .before .before .before .args .s) (c .before .before .before .before .before .args .level)
+    c .before .before .blocks2 .result * c .blocks3 .result
+    ≡ across (c .before .before .before .before .before .args .s) (c .before .before .before .before .before .args .level)
+    * down (c .before .before .before .before .before .args .s) (c .before .before .before .before .before .args .level)
 unfolding levelWidth levelHeight
 area c =
     let edge = c .before .before .before .before .block-edge .ensures in
@@ -24,7 +26,9 @@ area c =
 
 volume : (c : tie.After-level-depth) →
     c .before .before .before .blocks2 .result * c .before .blocks3 .result * c .level-depth .result
-    ≡ across (c .before .before .before .before .before .before .args .s) (c .before .before .before .before .before .before .args .level) * down (c .before .before .before .before .before .before .args .s) (c .before .before .before .before .before .before .args .level) * levelDepth (c .before .before .before .before .before .before .args .s) (c .before .before .before .before .before .before .args .level)
+    ≡ across (c .before .before .before .before .before .before .args .s) (c .before .before .before .before .before .before .args .level)
+    * down (c .before .before .before .before .before .before .args .s) (c .before .before .before .before .before .before .args .level)
+    * levelDepth (c .before .before .before .before .before .before .args .s) (c .before .before .before .before .before .before .args .level)
 volume c = λ i. area (c .before) i * c .level-depth .ensures i
 
 bytes : (c : tie.After-block-bytes) →

@@ -14,7 +14,9 @@ use Rattle.grids.proofs.upload.upload_written_rect.Tie as tie
 
 -- the grid's test, at the format's block edge
 grid : (c : tie.After-rect-on-block-grid) →
-    c .rect-on-block-grid .result ≡ rectOnGrid (blockEdge (c .before .before .before .before .compressed .given .0 .0)) (c .before .before .before .before .before .before .args .rect) (c .before .before .before .before .before .before .args .width) (c .before .before .before .before .before .before .args .height)
+    c .rect-on-block-grid .result
+    ≡ rectOnGrid (blockEdge (c .before .before .before .before .compressed .given .0 .0)) (c .before .before .before .before .before .before .args .rect)
+    (c .before .before .before .before .before .before .args .width) (c .before .before .before .before .before .before .args .height)
 grid c =
     let a = c .before .before .before .before .before .before .args in
     c .rect-on-block-grid .ensures ∙ ap (λ (e : ℕ). rectOnGrid e (a .rect) (a .width) (a .height)) (c .before .block-edge .ensures)
