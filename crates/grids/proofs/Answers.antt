@@ -1,6 +1,6 @@
 -- The outcome of each public call, by the case that it is in.
 use Prim.Native.Nat.{ℕ, _≤_, _<_}
-use mathlib.Core.Path.{_≡_, refl}
+use mathlib.Core.Path.{_≡_}
 use mathlib.Core.Bool.{true, false, cond}
 use mathlib.Core.List.{[], _∷_}
 use borrow.Author.Tests.{lt-ltb, le-ltb, le-leb, lt-leb}
@@ -34,11 +34,13 @@ pub copy-refused : (s : VersionShape) (level : ℕ) (r : Region) → isShape s �
 unfolding copyOutcome
 copy-refused s level r e = rw e
 
-pub copy-past : (s : VersionShape) (level : ℕ) (r : Region) → isShape s ≡ true → s .levels ≤ level → copyOutcome s level r ≡ accepted (0 ∷ [])
+pub copy-past : (s : VersionShape) (level : ℕ) (r : Region) → isShape s ≡ true → s .levels ≤ level →
+    copyOutcome s level r ≡ accepted (0 ∷ [])
 unfolding copyOutcome
 copy-past s level r e h = rw (e, le-ltb level (s .levels) h)
 
-pub copy-accepted : (s : VersionShape) (level : ℕ) (r : Region) → isShape s ≡ true → level < s .levels → copyOutcome s level r ≡ accepted (copyBytes s level r ∷ [])
+pub copy-accepted : (s : VersionShape) (level : ℕ) (r : Region) → isShape s ≡ true → level < s .levels →
+    copyOutcome s level r ≡ accepted (copyBytes s level r ∷ [])
 unfolding copyOutcome
 copy-accepted s level r e h = rw (e, lt-ltb level (s .levels) h)
 

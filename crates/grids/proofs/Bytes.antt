@@ -1,21 +1,29 @@
 -- How large a level and a version are at most.
-use Prim.Native.Nat.{ℕ, zero, suc, _+_, _*_, _^_, _≤_, _<_}
-use mathlib.Core.Path.{_≡_, refl, sym, _∙_, ap}
-use mathlib.Core.Bool.{true, false, cond}
+use Prim.Native.Nat.{ℕ, zero, suc, _*_, _^_, _≤_}
+use mathlib.Core.Path.{_≡_, refl}
+use mathlib.Core.Bool.{true}
 use native.Mathlib.Omega.{arith}
 use native.Mathlib.Nat.{mul-le-mul, pow-le-pow-right}
 use lib.Dec.{eqb}
 use borrow.Author.Tests.{eqb-true}
 use Rattle.tables.specs.Lists.{ceilDiv, listed, total}
 use Rattle.grids.specs.declared.shape.VersionShape.{VersionShape}
-use Rattle.grids.specs.Formats.{blockEdge, blockBytes}
-use Rattle.grids.specs.Shapes.{isShape, slicesOf, levelExtent, levelWidth, levelHeight, levelDepth, levelBytes, bytesOf}
+use Rattle.grids.specs.Formats.{blockEdge}
+use Rattle.grids.specs.Shapes.{isShape, slicesOf, levelWidth, levelHeight, levelDepth, levelBytes, bytesOf}
 use Rattle.grids.proofs.Small.{either, ceil-bound, sumFrom, sum-whole, sum-bound}
 use Rattle.grids.proofs.Formats.{block-edge-pos, block-bytes-bound}
 use Rattle.grids.proofs.Shapes.{ShapeBounds, shape-bounds, extent-below, depth-below, depth-flat, width-bound, height-bound, depth-bound, pow-pos}
 
+-- blocks across and down a level
+abbrev pub across : VersionShape → ℕ → ℕ
+across s level = ceilDiv (levelWidth s level) (blockEdge (s .format))
+
+abbrev pub down : VersionShape → ℕ → ℕ
+down s level = ceilDiv (levelHeight s level) (blockEdge (s .format))
+
 -- the bytes of a level of at most w by h by d texels, in any format
-pub level-below : (s : VersionShape) (level w h d : ℕ) → levelWidth s level ≤ w → levelHeight s level ≤ h → levelDepth s level ≤ d → levelBytes s level ≤ w * h * d * 16
+pub level-below : (s : VersionShape) (level w h d : ℕ) → levelWidth s level ≤ w → levelHeight s level ≤ h → levelDepth s level ≤ d →
+    levelBytes s level ≤ w * h * d * 16
 unfolding levelBytes
 level-below s level w h d p q r =
     let e = block-edge-pos (s .format) in
@@ -25,7 +33,8 @@ level-below s level w h d p q r =
 
 module _ (s : VersionShape) (z : ShapeBounds s) where
   -- a level whose extents are the base's over d or less, for a d that divides the largest extents
-  shrunk : (d w e level : ℕ) → d * w ≡ 16384 → d * e ≡ 2048 → 1 ≤ w → 1 ≤ e → 1 ≤ d → d ≤ 2 ^ level → levelBytes s level ≤ w * w * e * 16
+  shrunk : (d w e level : ℕ) → d * w ≡ 16384 → d * e ≡ 2048 → 1 ≤ w → 1 ≤ e → 1 ≤ d → d ≤ 2 ^ level →
+      levelBytes s level ≤ w * w * e * 16
   unfolding levelWidth levelHeight
   shrunk d w e level p q wpos epos dpos k =
       level-below s level w w e (extent-below (s .width) d w level wpos dpos (omega (arith, z .width)) k)
@@ -36,12 +45,13 @@ module _ (s : VersionShape) (z : ShapeBounds s) where
   level-bound level = shrunk 1 16384 2048 level refl refl (omega arith) (omega arith) (omega arith) (pow-pos level)
 
   -- the products on the way to a level's bytes, as the code makes them
-  pub area-bound : (level : ℕ) → ceilDiv (levelWidth s level) (blockEdge (s .format)) * ceilDiv (levelHeight s level) (blockEdge (s .format)) ≤ 268435456
+  pub area-bound : (level : ℕ) → across s level * down s level ≤ 268435456
   area-bound level =
       let e = block-edge-pos (s .format) in
-      mul-le-mul (ceil-bound (levelWidth s level) (blockEdge (s .format)) 16384 e (width-bound s z level)) (ceil-bound (levelHeight s level) (blockEdge (s .format)) 16384 e (height-bound s z level))
+      mul-le-mul (ceil-bound (levelWidth s level) (blockEdge (s .format)) 16384 e (width-bound s z level))
+      (ceil-bound (levelHeight s level) (blockEdge (s .format)) 16384 e (height-bound s z level))
 
-  pub volume-bound : (level : ℕ) → ceilDiv (levelWidth s level) (blockEdge (s .format)) * ceilDiv (levelHeight s level) (blockEdge (s .format)) * levelDepth s level ≤ 549755813888
+  pub volume-bound : (level : ℕ) → across s level * down s level * levelDepth s level ≤ 549755813888
   volume-bound level = mul-le-mul (area-bound level) (depth-bound s z level)
 
   -- fifteen levels of that size would be too many: the second is an eighth, and every later one at most a 64th

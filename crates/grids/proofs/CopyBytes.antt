@@ -1,10 +1,9 @@
 -- What a copy moves at most, and what a copy of a whole level moves.
-use Prim.Native.Nat.{ℕ, _+_, _-_, _*_, _/_, _≤_, min}
-use mathlib.Core.Path.{_≡_, refl, sym, _∙_, ap}
+use Prim.Native.Nat.{ℕ, _*_, _≤_}
+use mathlib.Core.Path.{_≡_}
 use mathlib.Core.Bool.{true}
 use native.Mathlib.Omega.{arith}
 use native.Mathlib.Nat.{mul-le-mul, div-le-self, div-one, le-trans}
-use Rattle.tables.specs.Lists.{ceilDiv}
 use Rattle.grids.specs.declared.shape.VersionShape.{VersionShape}
 use Rattle.grids.specs.declared.rect.Region.{Region}
 use Rattle.grids.specs.declared.rect.Region.the-variants.{Whole, Part}
@@ -28,22 +27,26 @@ unfolding regionTexels
 region-bound width height Whole = omega arith
 region-bound width height (Part r) = mul-le-mul (cut-bound width (r .x) (r .width)) (cut-bound height (r .y) (r .height))
 
+-- the region's texels in the shape's level, at one depth
+abbrev pub texelsIn : VersionShape → ℕ → Region → ℕ
+texelsIn s level r = regionTexels (levelWidth s level) (levelHeight s level) r
+
 module _ (s : VersionShape) (z : ShapeBounds s) (level : ℕ) (r : Region) where
-  pub texels-bound : regionTexels (levelWidth s level) (levelHeight s level) r ≤ 268435456
+  pub texels-bound : texelsIn s level r ≤ 268435456
   texels-bound = le-trans (region-bound (levelWidth s level) (levelHeight s level) r) (mul-le-mul (width-bound s z level) (height-bound s z level))
 
-  -- the product on the way to a copy's bytes, as the code makes it
-  pub all-depths-bound : regionTexels (levelWidth s level) (levelHeight s level) r * levelDepth s level ≤ 549755813888
+  -- the products on the way to a copy's bytes, as the code makes them
+  pub all-depths-bound : texelsIn s level r * levelDepth s level ≤ 549755813888
   all-depths-bound = mul-le-mul texels-bound (depth-bound s z level)
 
-  pub blocks-bound : regionTexels (levelWidth s level) (levelHeight s level) r * levelDepth s level * blockBytes (s .format) ≤ 8796093022208
+  pub blocks-bound : texelsIn s level r * levelDepth s level * blockBytes (s .format) ≤ 8796093022208
   blocks-bound = mul-le-mul all-depths-bound (block-bytes-bound (s .format))
 
   pub bounds-copy : copyBytes s level r ≤ 8796093022208
   unfolding copyBytes
   bounds-copy =
-      le-trans (div-le-self (regionTexels (levelWidth s level) (levelHeight s level) r * levelDepth s level * blockBytes (s .format)) (blockEdge (s .format) * blockEdge (s .format)))
-      blocks-bound
+      let most = div-le-self (texelsIn s level r * levelDepth s level * blockBytes (s .format)) (blockEdge (s .format) * blockEdge (s .format)) in
+      le-trans most blocks-bound
 
 pub copy-bound : (s : VersionShape) (level : ℕ) (r : Region) → isShape s ≡ true → copyBytes s level r ≤ 17592186044416
 copy-bound s level r e = omega (arith, bounds-copy s (shape-bounds s e) level r)

@@ -2,8 +2,8 @@
 use Prim.Native.Nat.{ℕ}
 use mathlib.Core.Path.{_≡_, refl, ap}
 use mathlib.Core.Bool.{true, false}
-use native.Mathlib.Omega.{arith}
 use lib.ListN.{getD}
+use borrow.Author.Tests.{eqb-false}
 use Rattle.grids.specs.declared.shape.BytesAnswer.{BytesAnswer}
 use Rattle.grids.specs.declared.shape.BytesAnswer.the-variants.{Bytes, NoShape}
 use Rattle.grids.specs.declared.records.RecordsAnswer.{RecordsAnswer}
@@ -21,33 +21,21 @@ field k e = ap (λ (o : Outcome). getD (o .fields) k 0) e
 apart : (a b : Outcome) → (a .number ≡ b .number → ⊥) → a ≡ b → ⊥
 apart a b h e = h (ap (λ (o : Outcome). o .number) e)
 
-two : _≡_ {A = ℕ} 2 0 → ⊥
-two e = omega arith
-
-zero-two : _≡_ {A = ℕ} 0 2 → ⊥
-zero-two e = omega arith
-
-one-zero : _≡_ {A = ℕ} 1 0 → ⊥
-one-zero e = omega arith
-
-zero-one : _≡_ {A = ℕ} 0 1 → ⊥
-zero-one e = omega arith
-
 pub bytes-fixed : (a b : BytesAnswer) → ofBytes a ≡ ofBytes b → a ≡ b
 unfolding ofBytes
 bytes-fixed (Bytes m) (Bytes n) e = ap Bytes (field 0 e)
-bytes-fixed (Bytes m) NoShape e = absurd (apart _ _ zero-two e)
-bytes-fixed NoShape (Bytes n) e = absurd (apart _ _ two e)
+bytes-fixed (Bytes m) NoShape e = absurd (apart _ _ (eqb-false 0 2 refl) e)
+bytes-fixed NoShape (Bytes n) e = absurd (apart _ _ (eqb-false 2 0 refl) e)
 bytes-fixed NoShape NoShape e = refl
 
 pub records-fixed : (a b : RecordsAnswer) → ofRecords a ≡ ofRecords b → a ≡ b
 unfolding ofRecords
 records-fixed (Records true) (Records true) e = refl
-records-fixed (Records true) (Records false) e = absurd (one-zero (field 0 e))
-records-fixed (Records false) (Records true) e = absurd (zero-one (field 0 e))
+records-fixed (Records true) (Records false) e = absurd (eqb-false 1 0 refl (field 0 e))
+records-fixed (Records false) (Records true) e = absurd (eqb-false 0 1 refl (field 0 e))
 records-fixed (Records false) (Records false) e = refl
-records-fixed (Records a) Shapeless e = absurd (apart _ _ zero-two e)
-records-fixed Shapeless (Records b) e = absurd (apart _ _ two e)
+records-fixed (Records a) Shapeless e = absurd (apart _ _ (eqb-false 0 2 refl) e)
+records-fixed Shapeless (Records b) e = absurd (apart _ _ (eqb-false 2 0 refl) e)
 records-fixed Shapeless Shapeless e = refl
 
 rect-fixed : (a b : TexelRect) → a .x ≡ b .x → a .y ≡ b .y → a .width ≡ b .width → a .height ≡ b .height → a ≡ b
@@ -56,6 +44,6 @@ rect-fixed a b p q r t = λ i. record { x = p i; y = q i; width = r i; height = 
 pub upload-fixed : (a b : UploadAnswer) → ofUpload a ≡ ofUpload b → a ≡ b
 unfolding ofUpload
 upload-fixed (Written a) (Written b) e = ap Written (rect-fixed a b (field 0 e) (field 1 e) (field 2 e) (field 3 e))
-upload-fixed (Written a) NoFormat e = absurd (apart _ _ zero-two e)
-upload-fixed NoFormat (Written b) e = absurd (apart _ _ two e)
+upload-fixed (Written a) NoFormat e = absurd (apart _ _ (eqb-false 0 2 refl) e)
+upload-fixed NoFormat (Written b) e = absurd (apart _ _ (eqb-false 2 0 refl) e)
 upload-fixed NoFormat NoFormat e = refl

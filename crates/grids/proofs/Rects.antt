@@ -56,12 +56,14 @@ side-past block start size extent h k =
     rw (ne-eqb (size % block) 0 h, ne-eqb (start + size) extent (λ e. let y : ⊥ = omega arith in y)) (and-false (eqb (start % block) 0))
 
 -- a side of no whole number of blocks: it is on the grid just where it ends at the level's edge
-pub side-rest : (block start size extent : ℕ) → start % block ≡ 0 → (size % block ≡ 0 → ⊥) → start ≤ extent → sideOnGrid block start size extent ≡ eqb size (extent - start)
+pub side-rest : (block start size extent : ℕ) → start % block ≡ 0 → (size % block ≡ 0 → ⊥) → start ≤ extent →
+    sideOnGrid block start size extent ≡ eqb size (extent - start)
 unfolding sideOnGrid
 side-rest block start size extent p h k =
     rw (eq-eqb (start % block) 0 p, ne-eqb (size % block) 0 h) (eqb-same (start + size) extent size (extent - start) (λ e. omega arith) (λ e. omega arith))
 
-pub rect-of-sides : (block : ℕ) (r : TexelRect) (width height : ℕ) → sideOnGrid block (r .x) (r .width) width ≡ true → sideOnGrid block (r .y) (r .height) height ≡ true → rectOnGrid block r width height ≡ true
+pub rect-of-sides : (block : ℕ) (r : TexelRect) (width height : ℕ) → sideOnGrid block (r .x) (r .width) width ≡ true →
+    sideOnGrid block (r .y) (r .height) height ≡ true → rectOnGrid block r width height ≡ true
 unfolding rectOnGrid
 rect-of-sides block r width height p q = rw (p, q)
 
@@ -69,10 +71,12 @@ pub rect-of-one : (r : TexelRect) (width height : ℕ) → rectOnGrid 1 r width 
 rect-of-one r width height = rect-of-sides 1 r width height (side-of-one (r .x) (r .width) width) (side-of-one (r .y) (r .height) height)
 
 -- an upload of a rectangle on the grid writes just that, and any other the whole level
-pub written-on-grid : (r : TexelRect) (width height format : ℕ) → rectOnGrid (blockEdge format) r width height ≡ true → writtenRect r width height format ≡ r
+pub written-on-grid : (r : TexelRect) (width height format : ℕ) → rectOnGrid (blockEdge format) r width height ≡ true →
+    writtenRect r width height format ≡ r
 unfolding writtenRect
 written-on-grid r width height format e = rw e
 
-pub written-off-grid : (r : TexelRect) (width height format : ℕ) → rectOnGrid (blockEdge format) r width height ≡ false → writtenRect r width height format ≡ wholeLevel width height
+pub written-off-grid : (r : TexelRect) (width height format : ℕ) → rectOnGrid (blockEdge format) r width height ≡ false →
+    writtenRect r width height format ≡ wholeLevel width height
 unfolding writtenRect
 written-off-grid r width height format e = rw e

@@ -1,7 +1,7 @@
 -- Laws of shapes: what a shape that passes refusal 2 is bounded by, when two shapes are the same, and the extents of levels.
-use Prim.Native.Nat.{ℕ, _+_, _*_, _/_, _^_, _≤_, _<_, max}
-use mathlib.Core.Path.{_≡_, refl, sym, _∙_, ap}
-use mathlib.Core.Bool.{true, false, cond}
+use Prim.Native.Nat.{ℕ, _*_, _/_, _^_, _≤_, _<_, max}
+use mathlib.Core.Path.{_≡_, refl, ap}
+use mathlib.Core.Bool.{true, false}
 use native.Mathlib.Omega.{arith}
 use native.Mathlib.Nat.{le-max-left, max-le, mul-le-mul, mul-le-mul-right, le-trans, pow-le-pow-right, div-le-of-le-mul, div-eq-of-lt}
 use lib.Dec.{eqb}
@@ -36,7 +36,15 @@ shape-bounds s e =
 pub bounds-shape : (s : VersionShape) → ShapeBounds s → isShape s ≡ true
 unfolding isShape tests after
 bounds-shape s z =
-    rw (le-leb _ _ (z .width), le-leb _ _ (z .height), le-leb _ _ (z .depth), le-leb _ _ (z .levels-pos), le-leb _ _ (z .levels-bound), le-leb _ _ (z .kind), le-leb _ _ (z .format))
+    rw (
+      le-leb _ _ (z .width),
+      le-leb _ _ (z .height),
+      le-leb _ _ (z .depth),
+      le-leb _ _ (z .levels-pos),
+      le-leb _ _ (z .levels-bound),
+      le-leb _ _ (z .kind),
+      le-leb _ _ (z .format),
+    )
 
 pub same-shape : (a b : VersionShape) → sameShape a b ≡ true → a ≡ b
 unfolding sameShape

@@ -1,10 +1,10 @@
 -- Small facts of choices, tests, sums, quotients and products that the laws of this crate rest on.
 use Prim.Native.Nat.{ℕ, zero, suc, _+_, _-_, _*_, _/_, _≤_, _<_}
-use mathlib.Core.Path.{_≡_, refl, sym, _∙_, ap}
-use mathlib.Core.Bool.{Bool, true, false, cond, _&&_, true≢false, false≢true}
+use mathlib.Core.Path.{_≡_, refl, _∙_, ap}
+use mathlib.Core.Bool.{Bool, true, false, cond, _&&_, false≢true}
 use mathlib.Core.List.{List, [], _∷_}
 use native.Mathlib.Omega.{arith}
-use native.Mathlib.Nat.{div-lt-iff-lt-mul, div-one, mul-le-mul, mul-le-mul-left, sub-self}
+use native.Mathlib.Nat.{div-lt-iff-lt-mul, mul-le-mul}
 use lib.ListN.{length, getD}
 use Rattle.tables.specs.Lists.{all, ceilDiv, listed, total, after, tests}
 

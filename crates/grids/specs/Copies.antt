@@ -1,7 +1,7 @@
 -- Bytes of a copy (01, "Added: bytes of a copy").
 use Prim.Native.Nat.{ℕ, _+_, _-_, _*_, _/_, min}
 use mathlib.Core.Bool.{cond}
-use mathlib.Core.List.{List, [], _∷_}
+use mathlib.Core.List.{[], _∷_}
 use lib.Dec.{ltb}
 use Rattle.grids.specs.declared.shape.VersionShape.{VersionShape}
 use Rattle.grids.specs.declared.rect.Region.{Region}

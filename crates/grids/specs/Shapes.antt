@@ -1,7 +1,7 @@
 -- Shapes, their levels and their bytes (01, "Levels, tiles, shapes", and refusal 2 of "Outcomes").
 use Prim.Native.Nat.{ℕ, _*_, _/_, _%_, _^_, max}
 use mathlib.Core.Bool.{Bool, cond, not}
-use mathlib.Core.List.{List, [], _∷_}
+use mathlib.Core.List.{[], _∷_}
 use lib.Dec.{leb, eqb}
 use Rattle.tables.specs.Lists.{ceilDiv, listed, total, tests}
 use Rattle.grids.specs.declared.shape.VersionShape.{VersionShape}

@@ -3,6 +3,7 @@ use borrow.Author.Needs.{needs}
 use Prim.Native.Nat.{ℕ}
 use mathlib.Core.Path.{sym, _∙_, ap}
 use mathlib.Core.List.{[], _∷_}
+use native.Mathlib.Omega.{arith}
 use borrow.Author.Tests.{not-true, not-false}
 use Rattle.grids.specs.Outcomes.{accepted, ofBytes}
 use Rattle.grids.proofs.Answers.{copy-refused, copy-past, copy-accepted}
@@ -14,18 +15,26 @@ is-shape-requires c κs = search needs
 
 returns : tie.Need-returns
 unfolding ofBytes
-returns c = sym (copy-refused (c .before .before .args .s) (c .before .before .args .level) (c .before .before .args .region) (sym (c .before .is-shape .ensures) ∙ not-true _ (c .if1 .taken)))
+returns c =
+    let a = c .before .before .args in
+    sym (copy-refused (a .s) (a .level) (a .region) (sym (c .before .is-shape .ensures) ∙ not-true _ (c .if1 .taken)))
 
 returns-2 : tie.Need-returns-2
 unfolding ofBytes
-returns-2 c = sym (copy-past (c .before .before .before .before .args .s) (c .before .before .before .before .args .level) (c .before .before .before .before .args .region) (sym (c .before .before .before .is-shape .ensures) ∙ not-false _ (c .before .before .if1 .left)) (c .if2 .taken))
+returns-2 c =
+    let a = c .before .before .before .before .args in
+    let shape = sym (c .before .before .before .is-shape .ensures) ∙ not-false _ (c .before .before .if1 .left) in
+    sym (copy-past (a .s) (a .level) (a .region) shape (omega arith))
 
 level-copy-bytes-requires : tie.Need-level-copy-bytes-requires
 level-copy-bytes-requires c κs = sym (c .before .before .before .is-shape .ensures) ∙ not-false _ (c .before .before .if1 .left)
 
 returns-3 : tie.Need-returns-3
 unfolding ofBytes
-returns-3 c = ap (λ (n : ℕ). accepted (n ∷ [])) (c .level-copy-bytes .ensures) ∙ sym (copy-accepted (c .before .before .before .before .before .args .s) (c .before .before .before .before .before .args .level) (c .before .before .before .before .before .args .region) (sym (c .before .before .before .before .is-shape .ensures) ∙ not-false _ (c .before .before .before .if1 .left)) (c .before .if2 .left))
+returns-3 c =
+    let a = c .before .before .before .before .before .args in
+    let shape = sym (c .before .before .before .before .is-shape .ensures) ∙ not-false _ (c .before .before .before .if1 .left) in
+    ap (λ (n : ℕ). accepted (n ∷ [])) (c .level-copy-bytes .ensures) ∙ sym (copy-accepted (a .s) (a .level) (a .region) shape (c .before .if2 .left))
 
 pub copy-bytes-spec : {M : Type 1} → statement M
 copy-bytes-spec =

@@ -25,15 +25,21 @@ cut-size-requires-2 : tie.Need-cut-size-requires-2
 cut-size-requires-2 c κs = search needs
 
 mul-result-2 : tie.Need-mul-result-2
-mul-result-2 c = omega (arith, mul-le-mul (cut-within _ _ _ (c .before .cut-size .ensures) (c .before .before .before .before .before .pre .0)) (cut-within _ _ _ (c .cut-size2 .ensures) (c .before .before .before .before .before .pre .1)))
+mul-result-2 c =
+    let p = c .before .before .before .before .before .pre in
+    omega (arith, mul-le-mul (cut-within _ _ _ (c .before .cut-size .ensures) (p .0)) (cut-within _ _ _ (c .cut-size2 .ensures) (p .1)))
 
 returns : tie.Need-returns
 unfolding regionTexels
-returns c = sym (ap (regionTexels (c .before .before .args .width) (c .before .before .args .height)) (c .enum-told .given .1))
+returns c =
+    let a = c .before .before .args in
+    sym (ap (regionTexels (a .width) (a .height)) (c .enum-told .given .1))
 
 returns-2 : tie.Need-returns-2
 unfolding regionTexels
-returns-2 c = (λ i. c .before .cut-size .ensures i * c .cut-size2 .ensures i) ∙ sym (ap (regionTexels (c .before .before .before .before .before .args .width) (c .before .before .before .before .before .args .height)) (c .before .before .before .region .given .1))
+returns-2 c =
+    (λ i. c .before .cut-size .ensures i * c .cut-size2 .ensures i)
+    ∙ sym (ap (regionTexels (c .before .before .before .before .before .args .width) (c .before .before .before .before .before .args .height)) (c .before .before .before .region .given .1))
 
 pub region-texels-spec : {M : Type 1} → statement M
 region-texels-spec =

@@ -1,7 +1,6 @@
--- `grids::format::block_edge` meets its contract. Past the table the edge is 1, which stands in the table's place.
+-- `grids::format::block_edge` meets its contract. Within the table by the entry, past it by the 1 that stands for the rest.
 use borrow.Author.Needs.{needs}
-use mathlib.Core.Path.{_≡_, sym, _∙_}
-use native.Mathlib.Omega.{arith}
+use mathlib.Core.Path.{sym}
 use lib.ListN.{List·getD-eq-default}
 use Rattle.grids.specs.Formats.{blockEdges, blockEdge}
 use Rattle.grids.proofs.Small.{default-free}

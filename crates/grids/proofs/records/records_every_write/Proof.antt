@@ -14,11 +14,15 @@ is-shape-requires c κs = search needs
 
 returns : tie.Need-returns
 unfolding ofRecords
-returns c = sym (records-refused (c .before .before .args .s) (c .before .before .args .usage) (sym (c .before .is-shape .ensures) ∙ not-true _ (c .if1 .taken)))
+returns c =
+    let a = c .before .before .args in
+    sym (records-refused (a .s) (a .usage) (sym (c .before .is-shape .ensures) ∙ not-true _ (c .if1 .taken)))
 
 returns-2 : tie.Need-returns-2
 unfolding ofRecords recordsEveryWrite tests after
-returns-2 c = sym (records-accepted (c .before .before .before .before .before .args .s) (c .before .before .before .before .before .args .usage) (sym (c .before .before .before .before .is-shape .ensures) ∙ not-false _ (c .before .before .before .if1 .left)))
+returns-2 c =
+    let a = c .before .before .before .before .before .args in
+    sym (records-accepted (a .s) (a .usage) (sym (c .before .before .before .before .is-shape .ensures) ∙ not-false _ (c .before .before .before .if1 .left)))
 
 pub records-every-write-spec : {M : Type 1} → statement M
 records-every-write-spec = tie.close (tie.spec is-shape-requires returns returns-2)

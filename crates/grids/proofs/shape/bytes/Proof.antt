@@ -16,7 +16,9 @@ shape-bytes-requires c κs = sym (c .before .is-shape .ensures) ∙ c .if1 .take
 
 returns : tie.Need-returns
 unfolding ofBytes
-returns c = ap (λ (n : ℕ). accepted (n ∷ [])) (c .shape-bytes .ensures) ∙ sym (bytes-accepted (c .before .before .before .args .s) (sym (c .before .before .is-shape .ensures) ∙ c .before .if1 .taken))
+returns c =
+    ap (λ (n : ℕ). accepted (n ∷ [])) (c .shape-bytes .ensures)
+    ∙ sym (bytes-accepted (c .before .before .before .args .s) (sym (c .before .before .is-shape .ensures) ∙ c .before .if1 .taken))
 
 returns-2 : tie.Need-returns-2
 unfolding ofBytes

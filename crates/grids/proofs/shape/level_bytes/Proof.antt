@@ -5,31 +5,35 @@ use mathlib.Core.Path.{_≡_, _∙_}
 use native.Mathlib.Omega.{arith}
 use lib.Dec.{lit≤}
 use Rattle.tables.specs.Lists.{ceilDiv}
-use Rattle.grids.specs.Formats.{blockEdge}
 use Rattle.grids.specs.Shapes.{levelWidth, levelHeight, levelDepth, levelBytes}
 use Rattle.grids.proofs.Formats.{block-edge-pos, block-edge-bound}
 use Rattle.grids.proofs.Shapes.{shape-bounds, extent-bound}
-use Rattle.grids.proofs.Bytes.{area-bound, volume-bound, level-bound}
+use Rattle.grids.proofs.Bytes.{across, down, area-bound, volume-bound, level-bound}
 use Rattle.grids.proofs.shape.level_bytes.Statement.{statement}
 use Rattle.grids.proofs.shape.level_bytes.Tie as tie
 
 -- the products so far, in the definition's terms
 area : (c : tie.After-blocks3) →
     c .before .before .blocks2 .result * c .blocks3 .result
-    ≡ ceilDiv (levelWidth (c .before .before .before .before .before .args .s) (c .before .before .before .before .before .args .level)) (blockEdge (c .before .before .before .before .before .args .s .format)) * ceilDiv (levelHeight (c .before .before .before .before .before .args .s) (c .before .before .before .before .before .args .level)) (blockEdge (c .before .before .before .before .before .args .s .format))
+    ≡ across (c .before .before .before .before .before .args .s) (c .before .before .before .before .before .args .level)
+    * down (c .before .before .before .before .before .args .s) (c .before .before .before .before .before .args .level)
 unfolding levelWidth levelHeight
 area c =
-    let across = c .before .before .blocks2 .ensures ∙ λ i. ceilDiv (c .before .before .before .level-extent .ensures i) (c .before .before .before .before .block-edge .ensures i) in
-    let down = c .blocks3 .ensures ∙ λ i. ceilDiv (c .before .level-extent2 .ensures i) (c .before .before .before .before .block-edge .ensures i) in
-    λ i. across i * down i
+    let edge = c .before .before .before .before .block-edge .ensures in
+    let wide = c .before .before .blocks2 .ensures ∙ λ i. ceilDiv (c .before .before .before .level-extent .ensures i) (edge i) in
+    let high = c .blocks3 .ensures ∙ λ i. ceilDiv (c .before .level-extent2 .ensures i) (edge i) in
+    λ i. wide i * high i
 
 volume : (c : tie.After-level-depth) →
     c .before .before .before .blocks2 .result * c .before .blocks3 .result * c .level-depth .result
-    ≡ ceilDiv (levelWidth (c .before .before .before .before .before .before .args .s) (c .before .before .before .before .before .before .args .level)) (blockEdge (c .before .before .before .before .before .before .args .s .format)) * ceilDiv (levelHeight (c .before .before .before .before .before .before .args .s) (c .before .before .before .before .before .before .args .level)) (blockEdge (c .before .before .before .before .before .before .args .s .format)) * levelDepth (c .before .before .before .before .before .before .args .s) (c .before .before .before .before .before .before .args .level)
+    ≡ across (c .before .before .before .before .before .before .args .s) (c .before .before .before .before .before .before .args .level)
+    * down (c .before .before .before .before .before .before .args .s) (c .before .before .before .before .before .before .args .level)
+    * levelDepth (c .before .before .before .before .before .before .args .s) (c .before .before .before .before .before .before .args .level)
 volume c = λ i. area (c .before) i * c .level-depth .ensures i
 
 bytes : (c : tie.After-block-bytes) →
-    c .before .before .before .before .blocks2 .result * c .before .before .blocks3 .result * c .before .level-depth .result * c .block-bytes .result ≡ levelBytes (c .before .before .before .before .before .before .before .args .s) (c .before .before .before .before .before .before .before .args .level)
+    c .before .before .before .before .blocks2 .result * c .before .before .blocks3 .result * c .before .level-depth .result * c .block-bytes .result
+    ≡ levelBytes (c .before .before .before .before .before .before .before .args .s) (c .before .before .before .before .before .before .before .args .level)
 unfolding levelBytes
 bytes c = λ i. volume (c .before) i * c .block-bytes .ensures i
 
@@ -40,28 +44,43 @@ level-extent-requires : tie.Need-level-extent-requires
 level-extent-requires c κs = search needs
 
 blocks-requires : tie.Need-blocks-requires
-blocks-requires c κs = omega (arith, extent-bound (c .before .before .args .s .width) 16384 (c .before .before .args .level) (shape-bounds (c .before .before .args .s) (c .before .before .pre) .width) (lit≤ tt), block-edge-pos (c .before .before .args .s .format), block-edge-bound (c .before .before .args .s .format))
+blocks-requires c κs =
+    let a = c .before .before .args in
+    let z = shape-bounds (a .s) (c .before .before .pre) in
+    omega (arith, extent-bound (a .s .width) 16384 (a .level) (z .width) (lit≤ tt), block-edge-pos (a .s .format), block-edge-bound (a .s .format))
 
 level-extent-requires-2 : tie.Need-level-extent-requires-2
 level-extent-requires-2 c κs = search needs
 
 blocks-requires-2 : tie.Need-blocks-requires-2
-blocks-requires-2 c κs = omega (arith, extent-bound (c .before .before .before .before .args .s .height) 16384 (c .before .before .before .before .args .level) (shape-bounds (c .before .before .before .before .args .s) (c .before .before .before .before .pre) .height) (lit≤ tt), block-edge-pos (c .before .before .before .before .args .s .format), block-edge-bound (c .before .before .before .before .args .s .format))
+blocks-requires-2 c κs =
+    let a = c .before .before .before .before .args in
+    let z = shape-bounds (a .s) (c .before .before .before .before .pre) in
+    omega (arith, extent-bound (a .s .height) 16384 (a .level) (z .height) (lit≤ tt), block-edge-pos (a .s .format), block-edge-bound (a .s .format))
 
 mul-result : tie.Need-mul-result
-mul-result c = omega (arith, area c, area-bound (c .before .before .before .before .before .args .s) (shape-bounds (c .before .before .before .before .before .args .s) (c .before .before .before .before .before .pre)) (c .before .before .before .before .before .args .level))
+mul-result c =
+    let a = c .before .before .before .before .before .args in
+    let z = shape-bounds (a .s) (c .before .before .before .before .before .pre) in
+    omega (arith, area c, area-bound (a .s) z (a .level))
 
 level-depth-requires : tie.Need-level-depth-requires
 level-depth-requires c κs = search needs
 
 mul-result-2 : tie.Need-mul-result-2
-mul-result-2 c = omega (arith, volume c, volume-bound (c .before .before .before .before .before .before .args .s) (shape-bounds (c .before .before .before .before .before .before .args .s) (c .before .before .before .before .before .before .pre)) (c .before .before .before .before .before .before .args .level))
+mul-result-2 c =
+    let a = c .before .before .before .before .before .before .args in
+    let z = shape-bounds (a .s) (c .before .before .before .before .before .before .pre) in
+    omega (arith, volume c, volume-bound (a .s) z (a .level))
 
 block-bytes-requires : tie.Need-block-bytes-requires
 block-bytes-requires c κs = search needs
 
 mul-result-3 : tie.Need-mul-result-3
-mul-result-3 c = omega (arith, bytes c, level-bound (c .before .before .before .before .before .before .before .args .s) (shape-bounds (c .before .before .before .before .before .before .before .args .s) (c .before .before .before .before .before .before .before .pre)) (c .before .before .before .before .before .before .before .args .level))
+mul-result-3 c =
+    let a = c .before .before .before .before .before .before .before .args in
+    let z = shape-bounds (a .s) (c .before .before .before .before .before .before .before .pre) in
+    omega (arith, bytes c, level-bound (a .s) z (a .level))
 
 returns : tie.Need-returns
 returns c = bytes c

@@ -32,16 +32,24 @@ level-bytes-requires : tie.Need-level-bytes-requires Inv-loop μ-loop
 level-bytes-requires c κs = search needs
 
 add-sum : tie.Need-add-sum Inv-loop μ-loop
-add-sum c = omega (arith, sum-step (levelBytes (c .before .before .before .before .args .s)) (c .before .before .before .loop .level) (c .before .before .before .before .args .s .levels) (c .before .if1 .taken), sum-of-levels (c .before .before .before .before .args .s) (shape-bounds (c .before .before .before .before .args .s) (c .before .before .before .before .pre)))
+add-sum c =
+    let s = c .before .before .before .before .args .s in
+    let l = c .before .before .before .loop in
+    omega (arith, sum-step (levelBytes s) (l .level) (s .levels) (c .before .if1 .taken), sum-of-levels s (shape-bounds s (c .before .before .before .before .pre)))
 
 add-level : tie.Need-add-level Inv-loop μ-loop
-add-level c = omega (arith, c .before .if1 .taken, shape-bounds (c .before .before .before .before .args .s) (c .before .before .before .before .pre) .levels-bound)
+add-level c =
+    let z = shape-bounds (c .before .before .before .before .args .s) (c .before .before .before .before .pre) in
+    omega (arith, c .before .if1 .taken, z .levels-bound)
 
 loop-less : tie.Need-loop-less Inv-loop μ-loop
 loop-less c = omega arith
 
 loop-again : tie.Need-loop-again Inv-loop μ-loop
-loop-again c = (omega arith, omega (arith, sum-step (levelBytes (c .before .before .before .before .args .s)) (c .before .before .before .loop .level) (c .before .before .before .before .args .s .levels) (c .before .if1 .taken)))
+loop-again c =
+    let s = c .before .before .before .before .args .s in
+    let l = c .before .before .before .loop in
+    (omega arith, omega (arith, sum-step (levelBytes s) (l .level) (s .levels) (c .before .if1 .taken)))
 
 slices-requires : tie.Need-slices-requires Inv-loop μ-loop
 slices-requires c κs = search needs
