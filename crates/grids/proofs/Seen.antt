@@ -33,6 +33,14 @@ use Rattle.grids.proofs.Legal.{columns-in, rows-in}
 unfoldable pub seenBox : Tiling → Seen → Dirty
 seenBox g s = cond (s .any) (Box (boxOf g (s .columns) (s .rows))) Clean
 
+pub seen-none : (g : Tiling) (s : Seen) → s .any ≡ false → seenBox g s ≡ Clean
+unfolding seenBox
+seen-none g s e = rw e
+
+pub seen-some : (g : Tiling) (s : Seen) → s .any ≡ true → seenBox g s ≡ Box (boxOf g (s .columns) (s .rows))
+unfolding seenBox
+seen-some g s e = rw e
+
 joined-spans : (c r : Span) (ts : List Tile)
     → allJoined (record { any = true; columns = c; rows = r }) ts
     ≡ record { any = true; columns = spanAround c (map (λ (u : Tile). u .column) ts); rows = spanAround r (map (λ (u : Tile). u .row) ts) }

@@ -11,7 +11,7 @@ use Rattle.grids.specs.Axes.{tilesOf}
 use Rattle.grids.specs.Grids.{columnsOf, rowsOf, stampCount, gridIn, dirtyTiles, boxSince}
 use Rattle.grids.specs.Scans.{nothingSeen, allJoined}
 use Rattle.grids.proofs.Boxes.{dirty-in}
-use Rattle.grids.proofs.Seen.{seenBox, SeenIn, seen-in, since-clean, since-seen}
+use Rattle.grids.proofs.Seen.{seenBox, seen-none, seen-some, SeenIn, seen-in, since-clean, since-seen}
 use Rattle.grids.proofs.since.written_since.Statement.{statement}
 use Rattle.grids.proofs.since.written_since.Tie as tie
 
@@ -55,8 +55,7 @@ module _ (c : tie.After-visit-page) where
       (sym (ap (λ (s : Seen). s .any) seen-is) ∙ e))
 
 returns-2 : tie.Need-returns-2
-unfolding seenBox
-returns-2 c = sym (box (c .before .before) ∙ rw (not-true (c .before .before .visit-page .result .any) (c .if2 .taken)))
+returns-2 c = let k = c .before .before in sym (box k ∙ seen-none (entry k .args .g) (k .visit-page .result) (not-true _ (c .if2 .taken)))
 
 box-of-requires : tie.Need-box-of-requires
 box-of-requires c κs =
@@ -65,10 +64,9 @@ box-of-requires c κs =
     (entry k .pre .0, s .columns, s .rows)
 
 returns-3 : tie.Need-returns-3
-unfolding seenBox
 returns-3 c =
     let k = c .before .before .before .before .before in
-    ap Box (c .box-of .ensures) ∙ sym (box k ∙ rw (not-false (k .visit-page .result .any) (c .before .before .before .if2 .left)))
+    ap Box (c .box-of .ensures) ∙ sym (box k ∙ seen-some (entry k .args .g) (k .visit-page .result) (not-false _ (c .before .before .before .if2 .left)))
 
 pub written-since-spec : {M : Type 1} → statement M
 written-since-spec =
