@@ -6,7 +6,7 @@ use native.Mathlib.Numerals.{add-one}
 use native.Mathlib.Nat.{add-suc}
 use native.Mathlib.Omega.{arith}
 use lib.ListN.{length, take, drop, getD, set, replicate, length-append, length-drop, length-reverse, length-replicate, getD-replicate, take-append-drop, List·getD-append}
-use lib.Seq.{paste, paste-zero, paste-suc, length-paste, drop-paste, getD-drop, drop-cons, take-suc-set, set-append-left, take-set-lt, append-snoc, length-take-le, getD-take, sets, sets-eq, take-all, take-append-seam, drop-append-seam, drop-append-add, take-append-le, take-take, drop-at, drop-drop, set-at, take-at}
+use lib.Seq.{paste, paste-zero, paste-suc, length-paste, drop-paste, getD-drop, getD-append-add, drop-cons, take-suc-set, set-append-left, take-set-lt, append-snoc, length-take-le, getD-take, sets, sets-eq, take-all, take-append-seam, drop-append-seam, drop-append-add, take-append-le, take-take, drop-at, drop-drop, set-at, take-at}
 use Rattle.tables.specs.Lists.{over}
 use Rattle.tables.specs.Blocks.{moved, turned, rotated}
 
@@ -119,6 +119,32 @@ stored-at s a x y t e h =
     (ap (take (length a)) e ∙ take-append-seam a (y ++ t))
     (ap (λ (k : ℕ). drop (length a + k) s) h ∙ ap (drop (length a + length y)) e ∙ drop-append-add a (y ++ t) (length y) ∙ drop-append-seam y t)
     ∙ append-assoc a x t
+
+-- a list with some of its elements written anew, read before them, among them and past them
+module _ {ℓ} {A : Type ℓ} (s : List A) (at : ℕ) (vs : List A) (fits : at + length vs ≤ length s) where
+  pub getD-sets-before : (i : ℕ) (d : A) → i < at → getD (sets s at vs) i d ≡ getD s i d
+  getD-sets-before i d h =
+      let n = length-take-le at s (omega arith) in
+      ap (λ (l : List A). getD l i d) (sets-eq vs s at fits ∙ append-assoc (take at s) vs (drop (at + length vs) s))
+      ∙ List·getD-append (take at s) (vs ++ drop (at + length vs) s) d i (omega arith)
+      ∙ getD-take at s i d h
+
+  pub getD-sets-in : (j : ℕ) (d : A) → j < length vs → getD (sets s at vs) (at + j) d ≡ getD vs j d
+  getD-sets-in j d h =
+      let n : length (take at s) ≡ at = length-take-le at s (omega arith) in
+      ap₂ (λ (l : List A) (i : ℕ). getD l (i + j) d) (sets-eq vs s at fits ∙ append-assoc (take at s) vs (drop (at + length vs) s)) (sym n)
+      ∙ getD-append-add (take at s) (vs ++ drop (at + length vs) s) j d
+      ∙ List·getD-append vs (drop (at + length vs) s) d j h
+
+  pub getD-sets-past : (i : ℕ) (d : A) → at + length vs ≤ i → getD (sets s at vs) i d ≡ getD s i d
+  getD-sets-past i d h =
+      let n = length-take-le at s (omega arith) in
+      let front : length (take at s ++ vs) ≡ at + length vs = length-append (take at s) vs ∙ ap (λ (m : ℕ). m + length vs) n in
+      let e : i ≡ length (take at s ++ vs) + (i - (at + length vs)) = omega arith in
+      ap₂ (λ (l : List A) (m : ℕ). getD l m d) (sets-eq vs s at fits) e
+      ∙ getD-append-add (take at s ++ vs) (drop (at + length vs) s) (i - (at + length vs)) d
+      ∙ getD-drop (at + length vs) s (i - (at + length vs)) d
+      ∙ ap (λ (m : ℕ). getD s m d) (let q : at + length vs + (i - (at + length vs)) ≡ i = omega arith in q)
 
 module _ (s₀ : List ℕ) (at : ℕ) (src : List ℕ) (fits : at + length src ≤ length s₀) where
   -- a turn of the loop that copies

@@ -195,6 +195,32 @@ module _ {ℓ} {A : Type ℓ} (p : A → Bool) where
       go true e = ap (λ (l : List A). x ∷ l) e
       go false e = e
 
+  -- where it holds of every one, every one is kept
+  pub keep-all : (xs : List A) → all p xs ≡ true → keep p xs ≡ xs
+  unfolding keep all
+  keep-all [] e = refl
+  keep-all (x ∷ xs) e =
+      let q = and-both (p x) (all p xs) e in
+      ap₂ (λ (b : Bool) (l : List A). cond b (x ∷ l) l) (q .0) (keep-all xs (q .1))
+
+  pub all-keep : (xs : List A) → all p (keep p xs) ≡ true
+  unfolding keep all
+  all-keep [] = refl
+  all-keep (x ∷ xs) = go (p x) refl (all-keep xs)
+    where
+      go : (b : Bool) → p x ≡ b → all p (keep p xs) ≡ true → all p (cond b (x ∷ keep p xs) (keep p xs)) ≡ true
+      go true e r = ap₂ (λ (c d : Bool). c && d) e r
+      go false e r = r
+
+  pub length-keep : (xs : List A) → length (keep p xs) ≤ length xs
+  unfolding keep
+  length-keep [] = omega arith
+  length-keep (x ∷ xs) = go (p x) (length-keep xs)
+    where
+      go : (b : Bool) → length (keep p xs) ≤ length xs → length (cond b (x ∷ keep p xs) (keep p xs)) ≤ suc (length xs)
+      go true h = omega arith
+      go false h = omega arith
+
 module _ {ℓ} {A : Type ℓ} (f : A → ℕ) where
   pub total-append : (xs ys : List A) → total f (xs ++ ys) ≡ total f xs + total f ys
   unfolding total
@@ -264,3 +290,12 @@ after-all a (b ∷ bs) e (suc k) = after-all (a && b) bs e k
 pub passed : (bs : List Bool) → tests bs ≡ true → (k : ℕ) → getD bs k true ≡ true
 unfolding tests
 passed bs e k = after-all true bs e k
+
+-- a list passes where each of its tests does
+pub pass : (bs : List Bool) → ((k : ℕ) → k < length bs → getD bs k true ≡ true) → tests bs ≡ true
+unfolding tests after
+pass bs h = go true bs refl h
+  where
+    go : (a : Bool) (bs : List Bool) → a ≡ true → ((k : ℕ) → k < length bs → getD bs k true ≡ true) → after a bs ≡ true
+    go a [] e h = e
+    go a (b ∷ bs) e h = go (a && b) bs (ap₂ (λ (c d : Bool). c && d) e (h 0 (omega arith))) (λ k q. h (suc k) (omega arith))

@@ -119,12 +119,13 @@ module _ {ℓ} {A : Type ℓ} (w : ℕ) (wr : A → List ℕ) (cap head : ℕ) w
   length-laid [] i s = refl
   length-laid (x ∷ xs) i s = length-laid xs (suc i) (sets s (w * placeOf cap head i) (wr x)) ∙ length-sets s (w * placeOf cap head i) (wr x)
 
-module _ {ℓ} {A : Type ℓ} {w : ℕ} {rd : List ℕ → A} {wr : A → List ℕ} (C : Codec w rd wr) (cap head : ℕ) (h : head < cap) where
-  -- a record, read out of the part of s that holds it
-  pub ring-part : (s : List ℕ) (i : ℕ) → rd (take w (drop (w * placeOf cap head i) s)) ≡ along w rd cap head s i
-  unfolding along
-  ring-part s i = record-part C s (placeOf cap head i)
+-- a record, read out of the part of s that holds it
+pub ring-part {ℓ} : {A : Type ℓ} {w : ℕ} {rd : List ℕ → A} {wr : A → List ℕ} (C : Codec w rd wr) (cap head : ℕ) (s : List ℕ) (i : ℕ)
+    → rd (take w (drop (w * placeOf cap head i) s)) ≡ along w rd cap head s i
+unfolding along
+ring-part C cap head s i = record-part C s (placeOf cap head i)
 
+module _ {ℓ} {A : Type ℓ} {w : ℕ} {rd : List ℕ → A} {wr : A → List ℕ} (C : Codec w rd wr) (cap head : ℕ) (h : head < cap) where
   module _ (s : List ℕ) (fits : w * cap ≤ length s) where
     -- one pushed at the back: the others stay
     pub pushed : (n : ℕ) (x : A) → n < cap

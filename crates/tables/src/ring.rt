@@ -23,7 +23,7 @@ pub fn place(cap: usize, head: usize, i: usize) -> usize
 // The i-th record.
 pub fn ring_record(s: &[u64], w: usize, cap: usize, head: usize, i: usize) -> &[u64]
     requires { ⌜ (w * cap ≤ length (now s)) × (head < cap) × (i ≤ cap) ⌝ }
-    ensures { λ r. ⌜ now r ≡ take w (drop (w * placeOf cap head i) (now (s .entry))) ⌝ }
+    ensures { λ r. ⌜ (length (now r) ≡ w) × (now r ≡ take w (drop (w * placeOf cap head i) (now (s .entry)))) ⌝ }
 {
     let p = place(cap, head, i);
     record_at(s, w, p)

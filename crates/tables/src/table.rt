@@ -9,10 +9,10 @@ use crate::block::copy_in;
 use crate::block::shift_down;
 use crate::block::shift_up;
 
-// Record i.
+// Record i. Its length stands in the contract too, for the indexes of those who read it.
 pub fn record_at(s: &[u64], w: usize, i: usize) -> &[u64]
     requires { ⌜ w * i + w ≤ length (now s) ⌝ }
-    ensures { λ r. ⌜ now r ≡ take w (drop (w * i) (now (s .entry))) ⌝ }
+    ensures { λ r. ⌜ (length (now r) ≡ w) × (now r ≡ take w (drop (w * i) (now (s .entry)))) ⌝ }
 {
     let at = w * i;
     let end = at + w;

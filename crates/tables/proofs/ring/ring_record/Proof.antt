@@ -20,7 +20,7 @@ returns : tie.Need-returns
 returns c =
     let found = c .before in
     let a = found .before .before .args in
-    c .record-at .ensures ∙ ap (λ p. take (a .w) (drop (a .w * p) (a .s .now))) (found .place .ensures .1)
+    (c .record-at .ensures .0, c .record-at .ensures .1 ∙ ap (λ p. take (a .w) (drop (a .w * p) (a .s .now))) (found .place .ensures .1))
 
 pub ring-record-spec : {M : Type 1} → statement M
 ring-record-spec = tie.close (tie.spec place-requires record-at-requires returns)

@@ -1,9 +1,7 @@
 -- `insert_record` meets its contract: the later records move up, and the new one is copied in. Assumes nothing.
 use borrow.Author.Needs.{needs}
-use mathlib.Core.Path.{ap, _∙_}
+use mathlib.Core.Path.{_∙_}
 use native.Mathlib.Omega.{arith}
-use Prim.Native.Nat.{_*_}
-use lib.Seq.{sets}
 use Rattle.tables.proofs.Numbers.{rows-split}
 use Rattle.tables.proofs.table.insert_record.Statement.{statement}
 use Rattle.tables.proofs.table.insert_record.Tie as tie
@@ -38,8 +36,7 @@ returns : tie.Need-returns
 returns c =
     let copied = c .before .before in
     let shifted = copied .before .before .before .before in
-    let a = shifted .before .before .before .before .args in
-    copied .copy-in .ensures ∙ ap (λ l. sets l (a .w * a .i) (a .r .now)) (shifted .shift-up .ensures)
+    copied .copy-in .ensures ∙ rw (shifted .shift-up .ensures)
 
 pub insert-record-spec : {M : Type 1} → statement M
 insert-record-spec =

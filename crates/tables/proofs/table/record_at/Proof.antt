@@ -1,9 +1,10 @@
 -- `record_at` meets its contract: the part from the record's start to its end. Assumes nothing.
 use borrow.Author.Needs.{needs}
-use mathlib.Core.Path.{_≡_, ap}
-use Prim.Native.Nat.{_+_, _*_, _-_}
+use mathlib.Core.Path.{_≡_, ap, _∙_}
+use Prim.Native.Nat.{_+_, _*_, _-_, _≤_}
 use native.Mathlib.Omega.{arith}
-use lib.ListN.{take, drop}
+use lib.ListN.{length, take, drop, length-drop}
+use lib.Seq.{length-take-le}
 use Rattle.tables.proofs.table.record_at.Statement.{statement}
 use Rattle.tables.proofs.table.record_at.Tie as tie
 
@@ -30,7 +31,9 @@ returns c =
     let a = c .before .args in
     let at = a .w * a .i in
     let size : at + a .w - at ≡ a .w = omega arith in
-    ap (λ m. take m (drop at (a .s .now))) size
+    let part = ap (λ m. take m (drop at (a .s .now))) size in
+    let room : a .w ≤ length (drop at (a .s .now)) = rw length-drop (omega arith) in
+    (ap length part ∙ length-take-le (a .w) (drop at (a .s .now)) room, part)
 
 pub record-at-spec : {M : Type 1} → statement M
 record-at-spec =
