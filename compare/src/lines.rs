@@ -27,6 +27,15 @@ pub fn answer_stdin(mut answer: impl FnMut(&[u8], &mut Vec<u8>)) -> ExitCode {
     }
 }
 
+/// The same over bytes in memory, in place of standard input and output.
+pub fn answer_bytes(input: &[u8], mut answer: impl FnMut(&[u8], &mut Vec<u8>)) -> Vec<u8> {
+    let mut output = Vec::new();
+    match answer_all(input, &mut output, &mut answer) {
+        Ok(()) => output,
+        Err(_) => unreachable!("memory can be read and written"),
+    }
+}
+
 fn answer_all(
     mut from: impl Read,
     mut to: impl Write,

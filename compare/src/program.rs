@@ -62,16 +62,6 @@ impl Program {
         }
     }
 
-    /// Runs all lines of an input as the program does; for tests.
-    pub fn run_all(&mut self, input: &[u8]) -> Vec<u8> {
-        let mut out = Vec::new();
-        let lines = input.strip_suffix(b"\n").unwrap_or(input);
-        if !input.is_empty() {
-            lines.split(|&byte| byte == b'\n').for_each(|line| self.run(line, &mut out));
-        }
-        out
-    }
-
     fn call(&mut self, event: Event) -> Answer {
         if let Event::Open { working_set } = event {
             if self.pool.is_some() {
