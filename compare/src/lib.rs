@@ -11,6 +11,7 @@ pub mod limited;
 pub mod lines;
 pub mod program;
 pub mod questions;
+pub mod random;
 pub mod refusal;
 pub mod shape;
 pub mod standins;

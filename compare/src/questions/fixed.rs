@@ -1,9 +1,9 @@
 //! The fixed list: every edge that document 01 and the Rust have in these functions.
 
 use super::Questions;
-use super::random::Random;
 use super::rects;
 use super::seeded::add_random;
+use crate::random::Random;
 
 /// The fixed list, without budgets.
 pub fn fixed() -> Questions {

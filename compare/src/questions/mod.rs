@@ -3,7 +3,6 @@
 use std::collections::BTreeSet;
 
 mod fixed;
-mod random;
 mod rects;
 mod seeded;
 

@@ -2,7 +2,7 @@
 
 use super::Questions;
 use super::fixed::around;
-use super::random::Random;
+use crate::random::Random;
 
 const U32: u64 = u32::MAX as u64;
 

@@ -1,8 +1,8 @@
 //! Random questions from a seed, for the live comparison.
 
 use super::Questions;
-use super::random::Random;
 use super::rects::writes_into;
+use crate::random::Random;
 
 /// So many questions from a seed, without budgets.
 pub fn seeded(seed: u64, count: u64) -> Questions {
