@@ -20,10 +20,10 @@ const SHAPES: [&str; 8] = [
 
 /// A submission that mostly moves on with `now`.
 fn submission(random: &mut Random, now: u64) -> u64 {
-    match random.below(40) {
+    match random.below(100) {
         0 => random.below(500),
         1 => (1 << 48) + random.below(2),
-        2 => now.saturating_sub(random.below(10)),
+        2 | 3 => now.saturating_sub(random.below(10)),
         _ => now + random.below(3),
     }
 }
@@ -32,19 +32,14 @@ fn event(random: &mut Random, now: u64) -> String {
     let id = random.below(10);
     let seq = submission(random, now);
     match random.below(26) {
-        0..=5 => {
-            // Mostly one shape for each id, so that spares are made and taken.
-            let other = random.once_in(12);
-            let shape = SHAPES[if other { random.below(8) } else { id % 8 } as usize];
-            format!("take,{id},{shape},{},{seq}", u64::from(!random.once_in(5)))
+        0 | 1 => take(random, id, seq),
+        2..=5 => {
+            let (take, plan) = (take(random, id, seq), plan(random, id));
+            format!("{take}\n{plan}\nretire,{id},{},{seq}", random.next())
         }
-        6 | 7 => {
-            let held = if random.once_in(3) { "-".to_string() } else { random.below(9).to_string() };
-            let (slice, level) = (random.below(7), random.below(3));
-            format!("plan,{id},{held},{slice},{level},{}", random.below(2))
-        }
-        8..=11 => format!("retire,{id},{},{seq}", random.next()),
-        12..=14 => write(random, id),
+        6 | 7 => plan(random, id),
+        8 | 9 => format!("retire,{id},{},{seq}", random.next()),
+        10..=14 => write(random, id),
         15 => format!("regen,{id}"),
         16..=18 => format!("pop,{seq}"),
         19..=21 => {
@@ -58,6 +53,22 @@ fn event(random: &mut Random, now: u64) -> String {
         _ if random.once_in(4) => format!("forget,{id}"),
         _ => "pop,x".to_string(),
     }
+}
+
+fn take(random: &mut Random, id: u64, seq: u64) -> String {
+    // Mostly one shape for each id, so that spares are made and taken.
+    let other = random.once_in(12);
+    let shape = SHAPES[if other { random.below(8) } else { id % 8 } as usize];
+    format!("take,{id},{shape},{},{seq}", u64::from(!random.once_in(5)))
+}
+
+fn plan(random: &mut Random, id: u64) -> String {
+    let held = match random.below(3) {
+        0 => "-".to_string(),
+        _ => random.below(9).to_string(),
+    };
+    let (slice, level) = (random.below(7), random.below(3));
+    format!("plan,{id},{held},{slice},{level},{}", random.below(2))
 }
 
 fn write(random: &mut Random, id: u64) -> String {
@@ -99,7 +110,7 @@ fn event_program_sizes() {
 
 #[test]
 fn other_sizes() {
-    let small = Limits { textures: 3, versions: 7, pages: 0, answers: 3 };
+    let small = Limits { textures: 3, versions: 7, pages: 0, answers: 6 };
     let large = Limits { textures: 10, versions: 500, pages: 40, answers: 70 };
     for seed in 0..4 {
         run(small, 900_000, seed);
