@@ -106,7 +106,7 @@ fn changed_versions(source: &str, own: &Path) -> Result<String, String> {
     ];
     let mut text = source.to_string();
     for (old, new) in changes {
-        at_once(&text, old)?;
+        at_once(source, old)?;
         text = text.replacen(old, new, 1);
     }
     Ok(text)
@@ -139,7 +139,10 @@ fn at_once(source: &str, text: &str) -> Result<usize, String> {
 
 /// A line that makes the file a module.
 fn module(name: &str, file: &Path) -> String {
-    format!("#[path = {:?}]\npub mod {name};\n", file.display().to_string())
+    format!(
+        "#[path = {:?}]\npub mod {name};\n",
+        file.display().to_string()
+    )
 }
 
 fn variable(name: &str) -> Result<String, String> {

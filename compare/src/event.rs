@@ -2,58 +2,51 @@
 
 use crate::shape::RawShape;
 use crate::text::Fields;
-use crate::texture_versions::TexelRect;
+use crate::texture_versions::{TexelRect, UploadFootprint};
 
 /// A well-formed line.
 pub enum Event {
-    Open {
-        working_set: u64,
-    },
-    Take {
-        id: u64,
-        shape: RawShape,
-        records: bool,
-        seq: u64,
-    },
-    Plan {
-        id: u64,
-        held: Option<u64>,
-        slice: u32,
-        level: u32,
-        full_cover: bool,
-    },
-    Retire {
-        id: u64,
-        view: u64,
-        seq: u64,
-    },
-    Write {
-        id: u64,
-        slice: u32,
-        level: u32,
-        rect: TexelRect,
-    },
-    Regen {
-        id: u64,
-    },
-    Pop {
-        settled: u64,
-    },
-    Park {
-        failed: u64,
-        now: u64,
-    },
-    Note {
-        allocated: u64,
-    },
+    Open { working_set: u64 },
+    Take(Take),
+    Plan(Plan),
+    Other(Call),
+}
+
+/// A take line. Its shape is that of the plans that follow.
+pub struct Take {
+    pub id: u64,
+    pub shape: RawShape,
+    pub records: bool,
+    pub seq: u64,
+}
+
+/// A plan line.
+pub struct Plan {
+    pub id: u64,
+    pub held: Option<u64>,
+    pub upload: UploadFootprint,
+}
+
+/// The lines that need an open pool and nothing else.
+pub enum Call {
+    Retire { id: u64, view: u64, seq: u64 },
+    Write(Write),
+    Regen { id: u64 },
+    Pop { settled: u64 },
+    Park { failed: u64, now: u64 },
+    Note { allocated: u64 },
     Doomed,
     Drain,
-    Trim {
-        now: u64,
-    },
-    Forget {
-        id: u64,
-    },
+    Trim { now: u64 },
+    Forget { id: u64 },
+}
+
+/// A write line.
+pub struct Write {
+    pub id: u64,
+    pub slice: u32,
+    pub level: u32,
+    pub rect: TexelRect,
 }
 
 /// The event that a line names, or none if the line is not well formed.
@@ -61,33 +54,18 @@ pub fn parse(line: &[u8]) -> Option<Event> {
     let mut fields = Fields::new(line);
     let f = &mut fields;
     let event = match f.next_field()? {
-        b"open" => Event::Open { working_set: f.next_u64()? },
-        b"take" => take(f)?,
-        b"plan" => plan(f)?,
-        b"retire" => Event::Retire {
-            id: f.next_u64()?,
-            view: f.next_u64()?,
-            seq: f.next_u64()?,
+        b"open" => Event::Open {
+            working_set: f.next_u64()?,
         },
-        b"write" => write(f)?,
-        b"regen" => Event::Regen { id: f.next_u64()? },
-        b"pop" => Event::Pop { settled: f.next_u64()? },
-        b"park" => Event::Park {
-            failed: f.next_u64()?,
-            now: f.next_u64()?,
-        },
-        b"note" => Event::Note { allocated: f.next_u64()? },
-        b"doomed" => Event::Doomed,
-        b"drain" => Event::Drain,
-        b"trim" => Event::Trim { now: f.next_u64()? },
-        b"forget" => Event::Forget { id: f.next_u64()? },
-        _ => return None,
+        b"take" => Event::Take(take(f)?),
+        b"plan" => Event::Plan(plan(f)?),
+        word => Event::Other(call(word, f)?),
     };
     fields.finish(event)
 }
 
-fn take(f: &mut Fields) -> Option<Event> {
-    Some(Event::Take {
+fn take(f: &mut Fields) -> Option<Take> {
+    Some(Take {
         id: f.next_u64()?,
         shape: shape(f)?,
         records: f.next_flag()?,
@@ -95,18 +73,43 @@ fn take(f: &mut Fields) -> Option<Event> {
     })
 }
 
-fn plan(f: &mut Fields) -> Option<Event> {
-    Some(Event::Plan {
+fn plan(f: &mut Fields) -> Option<Plan> {
+    Some(Plan {
         id: f.next_u64()?,
         held: f.next_or_none()?,
-        slice: f.next_u32()?,
-        level: f.next_u32()?,
-        full_cover: f.next_flag()?,
+        upload: UploadFootprint::new(f.next_u32()?, f.next_u32()?, f.next_flag()?),
     })
 }
 
-fn write(f: &mut Fields) -> Option<Event> {
-    Some(Event::Write {
+fn call(word: &[u8], f: &mut Fields) -> Option<Call> {
+    Some(match word {
+        b"retire" => Call::Retire {
+            id: f.next_u64()?,
+            view: f.next_u64()?,
+            seq: f.next_u64()?,
+        },
+        b"write" => Call::Write(write(f)?),
+        b"regen" => Call::Regen { id: f.next_u64()? },
+        b"pop" => Call::Pop {
+            settled: f.next_u64()?,
+        },
+        b"park" => Call::Park {
+            failed: f.next_u64()?,
+            now: f.next_u64()?,
+        },
+        b"note" => Call::Note {
+            allocated: f.next_u64()?,
+        },
+        b"doomed" => Call::Doomed,
+        b"drain" => Call::Drain,
+        b"trim" => Call::Trim { now: f.next_u64()? },
+        b"forget" => Call::Forget { id: f.next_u64()? },
+        _ => return None,
+    })
+}
+
+fn write(f: &mut Fields) -> Option<Write> {
+    Some(Write {
         id: f.next_u64()?,
         slice: f.next_u32()?,
         level: f.next_u32()?,

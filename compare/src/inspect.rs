@@ -17,6 +17,16 @@ pub fn tile_edge(extent: u32, block: u32) -> u32 {
     super::tile_edge(extent, block)
 }
 
+/// How many tiles a grid has along an axis of `extent` texels in a format with blocks of 1 or 4.
+pub fn tiles(extent: u32, block: u32) -> u32 {
+    let format = if block == 1 {
+        PixelFormat::Texel1
+    } else {
+        PixelFormat::Block8
+    };
+    StampGrid::new(extent, 1, format.block_layout()).columns
+}
+
 /// One level's grid of stamps, on its own.
 pub struct Grid(StampGrid);
 
@@ -85,11 +95,7 @@ pub fn pages_needed(shape: &VersionShape) -> usize {
 
 /// Versions in the queue, among the spares and in the destroy queue: all but the one in the hand.
 pub fn versions<V>(pool: &TextureVersions<V>) -> usize {
-    let spares: usize = pool
-        .textures
-        .values()
-        .map(|state| state.spares.len())
-        .sum();
+    let spares: usize = pool.textures.values().map(|state| state.spares.len()).sum();
     pool.retiring.len() + spares + pool.doomed.len()
 }
 

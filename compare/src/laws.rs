@@ -41,7 +41,10 @@ fn state_fault<V>(
     if state.spares.is_empty() == pool.with_spares.contains(&id) {
         return Some("the set of textures with spares is not what its name says");
     }
-    let dues = pool.idle.iter().filter(|due| (due.1, due.2) == (id.raw(), state.epoch));
+    let dues = pool
+        .idle
+        .iter()
+        .filter(|due| (due.1, due.2) == (id.raw(), state.epoch));
     if dues.count() != 1 {
         return Some("a texture has not just one due number");
     }
@@ -53,7 +56,10 @@ fn state_fault<V>(
     if known.into_iter().any(|held| held > history.writes) {
         return Some("a spare holds more writes than its texture has");
     }
-    history.grids.iter().find_map(|grid| grid_fault(grid, history.writes))
+    history
+        .grids
+        .iter()
+        .find_map(|grid| grid_fault(grid, history.writes))
 }
 
 fn grid_fault(grid: &StampGrid, writes: u64) -> Option<&'static str> {
@@ -96,7 +102,11 @@ fn queues_fault<V>(pool: &TextureVersions<V>) -> Option<&'static str> {
     if pool.arrival_slot >= pool.doomed_arrivals.len() {
         return Some("the slot is not below 8");
     }
-    if pool.doomed_arrivals.iter().any(|arrivals| *arrivals > 4_096) {
+    if pool
+        .doomed_arrivals
+        .iter()
+        .any(|arrivals| *arrivals > 4_096)
+    {
         return Some("a drain's arrivals are past 4,096");
     }
     let submissions: Vec<u64> = pool.retiring.iter().map(|entry| entry.seq).collect();

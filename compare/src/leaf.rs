@@ -46,11 +46,8 @@ fn numbers(line: &[u8]) -> Option<Answer> {
     let f = &mut fields;
     let answer = match f.next_field()? {
         b"level_extent" => level_extent(f)?,
-        b"tile_edge" => vec![Some(u64::from(tile_edge(f)?.1))],
-        b"tiles" => {
-            let (extent, edge) = tile_edge(f)?;
-            vec![Some(u64::from(extent.div_ceil(edge)))]
-        }
+        b"tile_edge" => along_axis(f, inspect::tile_edge)?,
+        b"tiles" => along_axis(f, inspect::tiles)?,
         b"bytes" => of_shape(f, |shape| shape.bytes())?,
         b"slices" => of_shape(f, |shape| u64::from(shape.slices()))?,
         b"records" => records(f)?,
@@ -69,10 +66,10 @@ fn level_extent(f: &mut Fields) -> Option<Answer> {
     Some(vec![Some(u64::from(extent))])
 }
 
-/// An extent and its tile edge.
-fn tile_edge(f: &mut Fields) -> Option<(u32, u32)> {
+/// A number that follows from an extent and a block's edge.
+fn along_axis(f: &mut Fields, number: impl Fn(u32, u32) -> u32) -> Option<Answer> {
     let (extent, block) = (f.next_u32()?, f.next_u32()?);
-    matches!(block, 1 | 4).then(|| (extent, inspect::tile_edge(extent, block)))
+    matches!(block, 1 | 4).then(|| vec![Some(u64::from(number(extent, block)))])
 }
 
 fn of_shape(f: &mut Fields, number: impl Fn(&VersionShape) -> u64) -> Option<Answer> {

@@ -1,11 +1,11 @@
 //! Document 01's event program over the published pool.
 
-use crate::event::{self, Event};
+use crate::event::{self, Call, Event, Take};
 use crate::limited::{LimitedPool, Limits};
 use crate::refusal::Refusal;
 use crate::shape::RawShape;
 use crate::text::{push_field, push_number, push_optional};
-use crate::texture_versions::{PreserveCopy, UploadFootprint};
+use crate::texture_versions::PreserveCopy;
 
 /// The program between two lines.
 pub struct Program {
@@ -63,23 +63,25 @@ impl Program {
     }
 
     fn call(&mut self, event: Event) -> Answer {
-        if let Event::Open { working_set } = event {
-            if self.pool.is_some() {
-                return Answer::Question;
+        let answer = match (event, &mut self.pool) {
+            (Event::Open { working_set }, None) => {
+                self.pool = Some(LimitedPool::new(working_set, self.limits));
+                Ok(Answer::Done)
             }
-            self.pool = Some(LimitedPool::new(working_set, self.limits));
-            return Answer::Done;
-        }
-        let Some(pool) = self.pool.as_mut() else {
-            return Answer::Question;
+            (Event::Open { .. }, Some(_)) | (_, None) => Ok(Answer::Question),
+            (Event::Take(take), Some(pool)) => {
+                self.latest = Some(take.shape);
+                call_take(pool, &take)
+            }
+            (Event::Plan(plan), Some(pool)) => match &self.latest {
+                None => Ok(Answer::Question),
+                Some(shape) => pool
+                    .preserve_plan(plan.id, shape, plan.held, &plan.upload)
+                    .map(Answer::Copies),
+            },
+            (Event::Other(call), Some(pool)) => call_other(pool, call),
         };
-        if let Event::Take { shape, .. } = event {
-            self.latest = Some(shape);
-        }
-        match (&event, self.latest) {
-            (Event::Plan { .. }, None) => Answer::Question,
-            _ => call_pool(pool, event, self.latest).unwrap_or_else(Answer::Refused),
-        }
+        answer.unwrap_or_else(Answer::Refused)
     }
 }
 
@@ -92,38 +94,38 @@ impl Drop for Program {
     }
 }
 
-/// Calls the pool as the event says. A plan needs the latest take line's shape, which its caller has looked for.
-fn call_pool(
-    pool: &mut LimitedPool,
-    event: Event,
-    latest: Option<RawShape>,
-) -> Result<Answer, Refusal> {
-    match event {
-        Event::Open { .. } => unreachable!("open makes the pool"),
-        Event::Take { id, shape, records, seq } => {
-            let spare = pool.take_spare(id, &shape, records, seq)?;
-            Ok(Answer::Pair(spare.map(|s| s.0), spare.and_then(|s| s.1)))
-        }
-        Event::Plan { id, held, slice, level, full_cover } => {
-            let shape = latest.expect("a plan comes after a take line");
-            let upload = UploadFootprint::new(slice, level, full_cover);
-            pool.preserve_plan(id, &shape, held, &upload).map(Answer::Copies)
-        }
-        Event::Retire { id, view, seq } => pool.retire(id, view, seq).map(done),
-        Event::Write { id, slice, level, rect } => {
-            pool.note_write(id, slice, level, &rect).map(done)
-        }
-        Event::Regen { id } => pool.note_mip_regeneration(id).map(done),
-        Event::Pop { settled } => {
+fn call_take(pool: &mut LimitedPool, take: &Take) -> Result<Answer, Refusal> {
+    let spare = pool.take_spare(take.id, &take.shape, take.records, take.seq)?;
+    let view = spare.map(|(view, _)| view);
+    Ok(Answer::Pair(view, spare.and_then(|(_, held)| held)))
+}
+
+fn call_other(pool: &mut LimitedPool, call: Call) -> Result<Answer, Refusal> {
+    match call {
+        Call::Retire { id, view, seq } => pool.retire(id, view, seq).map(done),
+        Call::Write(write) => pool
+            .note_write(write.id, write.slice, write.level, &write.rect)
+            .map(done),
+        Call::Regen { id } => pool.note_mip_regeneration(id).map(done),
+        Call::Pop { settled } => {
             let popped = pool.pop_retired(settled)?;
-            Ok(Answer::Pair(popped.map(|p| p.0), popped.map(|p| p.1)))
+            Ok(Answer::Pair(
+                popped.map(|(id, _)| id),
+                popped.map(|(_, view)| view),
+            ))
         }
-        Event::Park { failed, now } => pool.park(failed, now).map(done),
-        Event::Note { allocated } => Ok(done(pool.note_allocated(allocated))),
-        Event::Doomed => pool.take_doomed().map(Answer::Views),
-        Event::Drain => pool.drain_versions().map(Answer::Views),
-        Event::Trim { now } => pool.trim(now).map(done),
-        Event::Forget { id } => Ok(done(pool.forget_texture(id))),
+        Call::Park { failed, now } => pool.park(failed, now).map(done),
+        Call::Note { allocated } => {
+            pool.note_allocated(allocated);
+            Ok(Answer::Done)
+        }
+        Call::Doomed => pool.take_doomed().map(Answer::Views),
+        Call::Drain => pool.drain_versions().map(Answer::Views),
+        Call::Trim { now } => pool.trim(now).map(done),
+        Call::Forget { id } => {
+            pool.forget_texture(id);
+            Ok(Answer::Done)
+        }
     }
 }
 

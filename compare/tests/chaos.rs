@@ -76,7 +76,9 @@ fn write(random: &mut Random, id: u64) -> String {
     let slice = if id == 6 { random.below(6) } else { 0 };
     let level = if outside { 3 } else { random.below(2) };
     let mut numbers = [0; 4];
-    numbers.iter_mut().for_each(|number| *number = random.coordinate(64));
+    numbers
+        .iter_mut()
+        .for_each(|number| *number = random.coordinate(64));
     let [x, y, width, height] = numbers;
     format!("write,{id},{slice},{level},{x},{y},{width},{height}")
 }
@@ -104,14 +106,28 @@ fn run(limits: Limits, working_set: u64, seed: u64) {
 #[test]
 fn event_program_sizes() {
     for seed in 0..6 {
-        run(Limits::default(), [0, 800_000, 100_000][seed as usize % 3], seed);
+        run(
+            Limits::default(),
+            [0, 800_000, 100_000][seed as usize % 3],
+            seed,
+        );
     }
 }
 
 #[test]
 fn other_sizes() {
-    let small = Limits { textures: 3, versions: 7, pages: 0, answers: 6 };
-    let large = Limits { textures: 10, versions: 500, pages: 40, answers: 70 };
+    let small = Limits {
+        textures: 3,
+        versions: 7,
+        pages: 0,
+        answers: 6,
+    };
+    let large = Limits {
+        textures: 10,
+        versions: 500,
+        pages: 40,
+        answers: 70,
+    };
     for seed in 0..4 {
         run(small, 900_000, seed);
         run(large, [0, 700_000][seed as usize % 2], seed);

@@ -11,7 +11,11 @@ fn answers(text: &str) -> String {
 fn check(pairs: &[(&str, &str)]) {
     for (question, answer) in pairs {
         // The line feed matters: a line that is empty and lacks it is none.
-        assert_eq!(answers(&format!("{question}\n")).trim_end(), *answer, "to {question}");
+        assert_eq!(
+            answers(&format!("{question}\n")).trim_end(),
+            *answer,
+            "to {question}"
+        );
     }
 }
 
@@ -24,7 +28,10 @@ fn edges_of_01() {
         ("tile_edge,513,4", "20"),
         ("bytes,5,5,5,1,2,0", "0,40"),
         ("bytes,5,5,5,1,2,1", "0,240"),
-        ("budget,0", "1073741824,18446744073709551615,18446744072635809791"),
+        (
+            "budget,0",
+            "1073741824,18446744073709551615,18446744072635809791",
+        ),
         ("budget,7", "0,3,3"),
     ]);
 }
@@ -114,7 +121,13 @@ fn grids() {
 
 #[test]
 fn malformed_lines() {
-    check(&[("", "?"), (",", "?"), ("budget", "?"), ("budget,1,", "?"), ("budget,-1", "?")]);
+    check(&[
+        ("", "?"),
+        (",", "?"),
+        ("budget", "?"),
+        ("budget,1,", "?"),
+        ("budget,-1", "?"),
+    ]);
     assert_eq!(answers("tiles,1,1\r\ntiles,1,1"), "?\n1\n");
 }
 
@@ -127,7 +140,12 @@ fn the_lists() {
     assert!(!fixed.text().contains("budget"));
     assert_eq!(fixed.text(), questions::fixed().text());
     let budgets = questions::budgets();
-    assert!(budgets.text().lines().all(|line| line.starts_with("budget,")));
+    assert!(
+        budgets
+            .text()
+            .lines()
+            .all(|line| line.starts_with("budget,"))
+    );
     assert!(answers(budgets.text()).lines().all(|answer| answer != "?"));
     let seeded = questions::seeded(7, 20_000);
     assert_eq!(answers(seeded.text()).lines().count(), 20_000);

@@ -60,7 +60,10 @@ fn submissions_end_at_2_to_the_48() {
 fn textures_full() {
     let mut program = opened(Limits::default());
     for id in 0..8 {
-        talk(&mut program, &[(&format!("take,{id},{FLAT},0,10"), "0,-,-")]);
+        talk(
+            &mut program,
+            &[(&format!("take,{id},{FLAT},0,10"), "0,-,-")],
+        );
     }
     talk(
         &mut program,
@@ -129,7 +132,10 @@ fn a_refused_take_leaves_the_spare() {
 
 #[test]
 fn versions_full_counts_queue_hand_spares_and_destroy_queue() {
-    let mut program = opened(Limits { versions: 4, ..Limits::default() });
+    let mut program = opened(Limits {
+        versions: 4,
+        ..Limits::default()
+    });
     talk(
         &mut program,
         &[
@@ -186,7 +192,10 @@ fn the_hand() {
 
 #[test]
 fn short_answers() {
-    let mut program = opened(Limits { answers: 2, ..Limits::default() });
+    let mut program = opened(Limits {
+        answers: 2,
+        ..Limits::default()
+    });
     talk(
         &mut program,
         &[
@@ -217,13 +226,19 @@ fn short_answers() {
 
 #[test]
 fn a_refused_batch_leaves_the_pace() {
-    let mut program = opened(Limits { answers: 169, ..wide() });
+    let mut program = opened(Limits {
+        answers: 169,
+        ..wide()
+    });
     for view in 0..678 {
         retire_and_park(&mut program, 8, view, 10, 10);
     }
     // Were the arrivals noted, nine calls would have put zeros in all eight places.
     (0..9).for_each(|_| talk(&mut program, &[("doomed", "11")]));
-    assert_eq!(inspect::next_batch(program.pool().expect("open").published()), 170);
+    assert_eq!(
+        inspect::next_batch(program.pool().expect("open").published()),
+        170
+    );
 }
 
 #[test]

@@ -31,7 +31,10 @@ const OUTPUT: &str = "1,0
 
 #[test]
 fn sample() {
-    assert_eq!(output(&mut program(Limits::default()), INPUT.as_bytes()), OUTPUT);
+    assert_eq!(
+        output(&mut program(Limits::default()), INPUT.as_bytes()),
+        OUTPUT
+    );
 }
 
 #[test]

@@ -2,7 +2,7 @@
 
 mod common;
 
-use common::{program, retire_and_park, talk, talk_anew, wide};
+use common::{program, retire_and_park, talk, talk_anew, two_textures};
 use compare::limited::Limits;
 use compare::program::Program;
 
@@ -11,17 +11,6 @@ fn small() -> Program {
     let mut program = program(Limits::default());
     talk(&mut program, &[("open,8000", "0")]);
     program
-}
-
-/// Starts textures 1 and 2, each version 16 bytes.
-fn two_textures(program: &mut Program) {
-    talk(
-        program,
-        &[
-            ("take,1,0,4,4,1,1,0,1,1", "0,-,-"),
-            ("take,2,0,4,4,1,1,0,1,1", "0,-,-"),
-        ],
-    );
 }
 
 #[test]
@@ -153,7 +142,10 @@ fn relief_counts_by_parking_number_and_gives_parked_first() {
         retire_and_park(&mut program, 1, 900, 1, 50);
         retire_and_park(&mut program, 1, 901, 1, 10);
         retire_and_park(&mut program, 2, 902, 1, 20);
-        talk(&mut program, &[(&format!("note,{allocated}"), "0"), ("doomed", doomed)]);
+        talk(
+            &mut program,
+            &[(&format!("note,{allocated}"), "0"), ("doomed", doomed)],
+        );
     }
 }
 
@@ -314,7 +306,10 @@ fn the_mark_is_released_below_resume_alone() {
         retire_and_park(&mut program, 1, 900 + at as u64, 1, 1);
         let view = 900 + at;
         if parked {
-            talk(&mut program, &[("take,1,0,4,4,1,1,0,1,1", &format!("0,{view},0"))]);
+            talk(
+                &mut program,
+                &[("take,1,0,4,4,1,1,0,1,1", &format!("0,{view},0"))],
+            );
         } else {
             talk(&mut program, &[("doomed", &format!("0,1 {view}"))]);
         }
@@ -328,7 +323,10 @@ fn an_untracked_version_has_no_bytes() {
     retire_and_park(&mut program, 9, 900, 1, 10);
     retire_and_park(&mut program, 1, 901, 1, 10);
     // 900 covers none of the excess of one byte.
-    talk(&mut program, &[("note,6001", "0"), ("doomed", "0,2 900 901")]);
+    talk(
+        &mut program,
+        &[("note,6001", "0"), ("doomed", "0,2 900 901")],
+    );
 }
 
 #[test]
@@ -359,7 +357,10 @@ fn parking_ends_at_the_cap() {
     two_textures(&mut program);
     // The cap is 32 bytes: two versions.
     (900..903).for_each(|view| retire_and_park(&mut program, view % 2 + 1, view, 1, 1));
-    talk(&mut program, &[("doomed", "0,1 902"), ("drain", "0,2 900 901")]);
+    talk(
+        &mut program,
+        &[("doomed", "0,1 902"), ("drain", "0,2 900 901")],
+    );
 }
 
 #[test]
@@ -389,69 +390,4 @@ fn full_cover_skips_the_named_level_alone() {
 fn whole_cube_but_the_last() -> String {
     let copies = (0..11).map(|at| format!(" {},{},-,-,-,-", at / 2, at % 2));
     format!("0,11{}", copies.collect::<String>())
-}
-
-/// Queues `count` versions of an untracked texture, of no bytes, in the destroy queue.
-fn doom(program: &mut Program, count: u64) {
-    (0..count).for_each(|view| retire_and_park(program, 9, view, 1, 1));
-}
-
-/// How many versions each of the next drains hands out.
-fn batches(program: &mut Program, drains: usize) -> Vec<usize> {
-    (0..drains)
-        .map(|_| common::output(program, b"doomed").lines().count() - 1)
-        .collect()
-}
-
-fn wide_opened(line: &str) -> Program {
-    let mut program = program(wide());
-    talk(&mut program, &[(line, "0")]);
-    program
-}
-
-#[test]
-fn a_burst_of_678_is_spread() {
-    let mut program = wide_opened("open,0");
-    doom(&mut program, 678);
-    assert_eq!(batches(&mut program, 8), [170, 149, 130, 114, 100, 15, 0, 0]);
-    // The burst stays in the rate for eight drains and has left it at the ninth.
-    doom(&mut program, 200);
-    assert_eq!(batches(&mut program, 3), [64, 64, 64]);
-}
-
-#[test]
-fn drain_clears_the_arrivals_and_the_count() {
-    let mut program = wide_opened("open,0");
-    doom(&mut program, 678);
-    assert_eq!(batches(&mut program, 1), [170]);
-    doom(&mut program, 100);
-    assert!(common::output(&mut program, b"drain").contains(",0,608\n"));
-    // A rate of 678 or 100 would show in the batch of 600: 75 + 75 without it.
-    doom(&mut program, 600);
-    assert_eq!(batches(&mut program, 1), [150]);
-}
-
-#[test]
-fn the_excess_goes_in_one_batch() {
-    // A line of 6,000 and a cap of 1,000.
-    let mut program = wide_opened("open,8000");
-    two_textures(&mut program);
-    doom(&mut program, 100);
-    (100..150).for_each(|view| retire_and_park(&mut program, 1, view, 1, 1));
-    // 41 of the 50 spares cover the 641 bytes, behind the 100 versions of none that wait before them.
-    talk(&mut program, &[("note,6641", "0")]);
-    assert_eq!(batches(&mut program, 2), [141, 0]);
-    doom(&mut program, 300);
-    assert_eq!(batches(&mut program, 1), [94]);
-}
-
-#[test]
-fn drain_leaves_the_excess() {
-    let mut program = wide_opened("open,8000");
-    talk(&mut program, &[("note,7000", "0"), ("drain", "0,0")]);
-    doom(&mut program, 300);
-    // All of them have no bytes, so none covers the excess and all go.
-    assert_eq!(batches(&mut program, 1), [300]);
-    doom(&mut program, 300);
-    assert_eq!(batches(&mut program, 1), [113]);
 }

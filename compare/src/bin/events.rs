@@ -43,7 +43,9 @@ fn options(mut words: impl Iterator<Item = String>) -> Result<(Limits, bool), St
             .parse()
             .ok()
             .filter(|size| (least..=most).contains(size))
-            .ok_or(format!("{word} {value}: not a number from {least} to {most}"))?;
+            .ok_or(format!(
+                "{word} {value}: not a number from {least} to {most}"
+            ))?;
     }
     Ok((limits, checks))
 }

@@ -52,7 +52,9 @@ pub fn around(number: u64) -> [u64; 3] {
 
 /// Extents at which something may change: powers of two, tile counts, odd ones.
 fn extents() -> Vec<u64> {
-    let mut extents = vec![0, 5, 6, 7, 20, 48, 100, 480, 514, 528, 544, 545, 640, 1000, 12_345];
+    let mut extents = vec![
+        0, 5, 6, 7, 20, 48, 100, 480, 514, 528, 544, 545, 640, 1000, 12_345,
+    ];
     (0..15).for_each(|power| extents.extend(around(1 << power)));
     extents.retain(|extent| *extent <= 16_384);
     extents.sort_unstable();
@@ -69,7 +71,9 @@ fn level_extents(q: &mut Questions) {
 fn tiles(q: &mut Questions) {
     let mut all = extents();
     (1..=24).for_each(|times| all.extend(around(32 * times)));
-    (32..=512).step_by(16).for_each(|times| all.extend(around(32 * times)));
+    (32..=512)
+        .step_by(16)
+        .for_each(|times| all.extend(around(32 * times)));
     all.extend((0..16_384).step_by(397));
     all.retain(|extent| *extent <= 16_384);
     all.sort_unstable();
@@ -133,7 +137,12 @@ fn shape_limits(q: &mut Questions) {
 }
 
 fn level_counts(q: &mut Questions) {
-    const SIZES: [[u64; 3]; 4] = [[5, 5, 1], [257, 3, 31], [100, 16_383, 2_047], [16_384, 1, 2_048]];
+    const SIZES: [[u64; 3]; 4] = [
+        [5, 5, 1],
+        [257, 3, 31],
+        [100, 16_383, 2_047],
+        [16_384, 1, 2_048],
+    ];
     for [width, height, depth] in SIZES {
         for levels in 0..=16 {
             for kind in 0..=2 {
@@ -152,7 +161,11 @@ fn recordings(q: &mut Questions) {
             }
         }
     }
-    for shape in [[2, 16_385, 64, 1, 1, 0], [2, 64, 64, 2_049, 1, 0], [2, 64, 64, 1, 16, 0]] {
+    for shape in [
+        [2, 16_385, 64, 1, 1, 0],
+        [2, 64, 64, 2_049, 1, 0],
+        [2, 64, 64, 1, 16, 0],
+    ] {
         (0..=1).for_each(|usage| q.ask("records", &[&shape[..], &[usage]].concat()));
     }
     q.ask("records", &[2, 64, 64, 1, 1, 0, u64::from(u32::MAX)]);

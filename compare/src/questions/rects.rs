@@ -58,7 +58,9 @@ pub fn uploads(q: &mut Questions) {
     for (at, case) in AXIS.iter().enumerate() {
         let [x, width, across] = *case;
         let [y, height, down] = AXIS[(at * 11 + 5) % 30];
-        q.line(&format!("upload,-,{x},{y},{width},{height},{across},{down}"));
+        q.line(&format!(
+            "upload,-,{x},{y},{width},{height},{across},{down}"
+        ));
     }
 }
 
@@ -93,8 +95,14 @@ fn tile_lines(q: &mut Questions) {
         for line in around(edge).into_iter().chain(around(extent)) {
             q.ask("grid", &[format, extent, extent, 0, 0, 0, line, 1]);
             q.ask("grid", &[format, extent, extent, 0, 0, line, 1, 1]);
-            q.ask("grid", &[format, extent, 1, 0, line.saturating_sub(1), 0, 2, 1]);
-            q.ask("grid", &[format, 1, extent, 0, 0, line.saturating_sub(1), 1, U32]);
+            q.ask(
+                "grid",
+                &[format, extent, 1, 0, line.saturating_sub(1), 0, 2, 1],
+            );
+            q.ask(
+                "grid",
+                &[format, 1, extent, 0, 0, line.saturating_sub(1), 1, U32],
+            );
         }
     }
 }
@@ -133,7 +141,10 @@ fn grid_at_every_held(q: &mut Questions, random: &mut Random, format: u64) {
         vec![0, random.within(1, writes)]
     };
     for held in held {
-        q.ask("grid", &[&[format, width, height, held], &rects[..]].concat());
+        q.ask(
+            "grid",
+            &[&[format, width, height, held], &rects[..]].concat(),
+        );
     }
 }
 

@@ -111,7 +111,11 @@ fn upload(q: &mut Questions, random: &mut Random) {
         let rest = numbers.map(|number| number.to_string()).join(",");
         q.line(&format!("upload,-,{rest}"));
     } else {
-        let format = if random.once_in(2) { random.within(5, 6) } else { format(random) };
+        let format = if random.once_in(2) {
+            random.within(5, 6)
+        } else {
+            format(random)
+        };
         q.ask("upload", &[&[format], &numbers[..]].concat());
     }
 }
@@ -121,14 +125,20 @@ fn grid(q: &mut Questions, random: &mut Random) {
     let writes = random.within(1, 8);
     let rects = writes_into(random, width, height, writes);
     let (format, held) = (random.below(9), random.below(writes + 1));
-    q.ask("grid", &[&[format, width, height, held], &rects[..]].concat());
+    q.ask(
+        "grid",
+        &[&[format, width, height, held], &rects[..]].concat(),
+    );
 }
 
 /// A good question with one byte changed, most often into a malformed one.
 fn damaged(q: &mut Questions, random: &mut Random) {
     let mut good = Questions::new();
     good.ask("tile_edge", &[random.length(), 4]);
-    good.ask("ongrid", &[5, 4, 8, random.below(40), random.below(40), 37, 33]);
+    good.ask(
+        "ongrid",
+        &[5, 4, 8, random.below(40), random.below(40), 37, 33],
+    );
     let lines: Vec<&str> = good.text().lines().collect();
     let mut line = lines[random.below(2) as usize].to_string();
     let at = random.below(line.len() as u64) as usize;

@@ -50,5 +50,23 @@ pub fn retire_and_park(program: &mut Program, id: u64, view: u64, seq: u64, park
     let retire = format!("retire,{id},{view},{seq}");
     let park = format!("park,0,{parked}");
     let popped = format!("0,{id},{view}");
-    talk(program, &[(&retire, "0"), ("pop,281474976710656", &popped), (&park, "0")]);
+    talk(
+        program,
+        &[
+            (&retire, "0"),
+            ("pop,281474976710656", &popped),
+            (&park, "0"),
+        ],
+    );
+}
+
+/// Starts textures 1 and 2, each version 16 bytes.
+pub fn two_textures(program: &mut Program) {
+    talk(
+        program,
+        &[
+            ("take,1,0,4,4,1,1,0,1,1", "0,-,-"),
+            ("take,2,0,4,4,1,1,0,1,1", "0,-,-"),
+        ],
+    );
 }
