@@ -1,0 +1,156 @@
+//! Leaf questions: one call of a small function each, answered by the published code.
+//!
+//! README.md has the grammar. A second program, in another language, answers the same questions, so the
+//! words and the order of fields are fixed.
+
+use crate::event::{rect, shape};
+use crate::format::mapping;
+use crate::refusal::Refusal;
+use crate::standins::mtl::{PixelFormat, TextureUsage};
+use crate::text::{Fields, push_field, push_number};
+use crate::texture_versions::inspect::{self, Grid};
+use crate::texture_versions::{
+    TexelRect, VersionBudget, VersionShape, records_every_write, upload_written_rect,
+};
+
+/// The deepest level that a shape can have.
+const LAST_LEVEL: u32 = 14;
+
+/// The largest extent of a level.
+const WIDEST: u32 = 16_384;
+
+/// An answer's fields: numbers, or "-" for no box.
+type Answer = Vec<Option<u64>>;
+
+/// Answers one question, with its line feed.
+pub fn answer(line: &[u8], out: &mut Vec<u8>) {
+    match numbers(line) {
+        None => out.push(b'?'),
+        Some(numbers) => {
+            for (at, number) in numbers.into_iter().enumerate() {
+                match (at, number) {
+                    (0, Some(number)) => push_number(out, number),
+                    (0, None) => out.push(b'-'),
+                    (_, Some(number)) => push_field(out, number),
+                    (_, None) => out.extend_from_slice(b",-"),
+                }
+            }
+        }
+    }
+    out.push(b'\n');
+}
+
+/// The answer's fields, or none if the question is malformed.
+fn numbers(line: &[u8]) -> Option<Answer> {
+    let mut fields = Fields::new(line);
+    let f = &mut fields;
+    let answer = match f.next_field()? {
+        b"level_extent" => level_extent(f)?,
+        b"tile_edge" => along_axis(f, inspect::tile_edge)?,
+        b"tiles" => along_axis(f, inspect::tiles)?,
+        b"bytes" => of_shape(f, |shape| shape.bytes())?,
+        b"slices" => of_shape(f, |shape| u64::from(shape.slices()))?,
+        b"records" => records(f)?,
+        b"upload" => upload(f)?,
+        b"ongrid" => on_grid(f)?,
+        b"grid" => grid(f)?,
+        b"budget" => budget(f)?,
+        _ => return None,
+    };
+    fields.finish(answer)
+}
+
+fn level_extent(f: &mut Fields) -> Option<Answer> {
+    let (base, level) = (f.next_u32()?, f.next_u32()?);
+    let extent = (level <= LAST_LEVEL).then(|| inspect::level_extent(base, level))?;
+    Some(vec![Some(u64::from(extent))])
+}
+
+/// A number that follows from an extent and a block's edge.
+fn along_axis(f: &mut Fields, number: impl Fn(u32, u32) -> u32) -> Option<Answer> {
+    let (extent, block) = (f.next_u32()?, f.next_u32()?);
+    matches!(block, 1 | 4).then(|| vec![Some(u64::from(number(extent, block)))])
+}
+
+fn of_shape(f: &mut Fields, number: impl Fn(&VersionShape) -> u64) -> Option<Answer> {
+    let desc = shape(f)?.desc();
+    Some(accepted_or_2(desc, |desc| {
+        vec![number(&VersionShape::of(&desc))]
+    }))
+}
+
+fn records(f: &mut Fields) -> Option<Answer> {
+    let desc = shape(f)?.desc();
+    let usage = TextureUsage::from_bits(f.next_u32()?);
+    Some(accepted_or_2(desc, |desc| {
+        vec![u64::from(records_every_write(&desc, usage))]
+    }))
+}
+
+fn upload(f: &mut Fields) -> Option<Answer> {
+    let format = f.next_or_none()?.map(PixelFormat::numbered);
+    let (rect, extent) = (rect(f)?, (f.next_u32()?, f.next_u32()?));
+    if format == Some(None) {
+        return Some(vec![Some(Refusal::BadShape.number())]);
+    }
+    let format = format.flatten().map(mapping::of_format);
+    let written = upload_written_rect(rect, extent, format.as_ref());
+    let mut answer = vec![Some(0)];
+    answer.extend(sides(&written));
+    Some(answer)
+}
+
+fn on_grid(f: &mut Fields) -> Option<Answer> {
+    let format = PixelFormat::numbered(f.next_u64()?);
+    let origin = (f.next_u32()?, f.next_u32()?);
+    let size = (f.next_u32()?, f.next_u32()?);
+    let extent = (f.next_u32()?, f.next_u32()?);
+    Some(accepted_or_2(format, |format| {
+        let mapping = mapping::of_format(format);
+        vec![u64::from(mapping.rect_on_block_grid(origin, size, extent))]
+    }))
+}
+
+fn grid(f: &mut Fields) -> Option<Answer> {
+    let format = PixelFormat::numbered(f.next_u64()?)?;
+    let (width, height) = (f.next_u32()?, f.next_u32()?);
+    let held = f.next_u64()?;
+    let lengths = 1..=WIDEST;
+    if !lengths.contains(&width) || !lengths.contains(&height) {
+        return None;
+    }
+    let mut grid = Grid::new(format, width, height);
+    let mut stamp = 0;
+    while stamp == 0 || !f.is_finished() {
+        stamp += 1;
+        grid.stamp(&rect(f)?, stamp);
+    }
+    let mut answer = vec![Some(grid.newest())];
+    match grid.written_since(held) {
+        None => answer.push(None),
+        Some(dirty) => answer.extend(sides(&dirty)),
+    }
+    Some(answer)
+}
+
+fn budget(f: &mut Fields) -> Option<Answer> {
+    let budget = VersionBudget::from_working_set(f.next_u64()?);
+    Some(vec![
+        Some(budget.spare_cap()),
+        Some(budget.pressure_above()),
+        Some(budget.resume_below()),
+    ])
+}
+
+/// 0 and the numbers of what there is, or the refusal 2 where there is nothing.
+fn accepted_or_2<T>(what: Option<T>, numbers: impl Fn(T) -> Vec<u64>) -> Answer {
+    match what {
+        None => vec![Some(Refusal::BadShape.number())],
+        Some(what) => [0].into_iter().chain(numbers(what)).map(Some).collect(),
+    }
+}
+
+/// Left, top, width and height.
+fn sides(rect: &TexelRect) -> [Option<u64>; 4] {
+    [rect.x(), rect.y(), rect.width(), rect.height()].map(|number| Some(u64::from(number)))
+}
