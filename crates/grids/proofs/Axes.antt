@@ -8,9 +8,9 @@ use native.Mathlib.Numerals.{add-one}
 use native.Mathlib.Omega.{arith}
 use lib.Dec.{ltb, eqb}
 use borrow.Author.Tests.{ltb-true, ltb-false, lt-ltb, le-ltb, eq-eqb}
-use Rattle.tables.specs.Lists.{ceilDiv, tests, after}
-use Rattle.tables.proofs.Numbers.{ceil-covers, ceil-least, ceil-pos, ceil-below}
-use Rattle.tables.proofs.Lists.{passed}
+use Rattle.blocks.specs.Lists.{ceilDiv, tests, after}
+use Rattle.blocks.proofs.Numbers.{ceil-covers, ceil-least, ceil-pos, ceil-below}
+use Rattle.blocks.proofs.Lists.{passed}
 use Rattle.grids.specs.declared.axis.Axis.{Axis}
 use Rattle.grids.specs.declared.axis.Span.{Span}
 use Rattle.grids.specs.declared.axis.Touched.{Touched}

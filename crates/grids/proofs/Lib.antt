@@ -1,14 +1,6 @@
-pub mod Small
-pub mod Outcomes
-pub mod Formats
-pub mod Shapes
-pub mod Bytes
-pub mod Rects
-pub mod CopyBytes
-pub mod Answers
 pub mod Axes
 pub mod Tilings
-pub mod Tiles
+pub mod RowByRow
 pub mod Stamps
 pub mod Spans
 pub mod Boxes

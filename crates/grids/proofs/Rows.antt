@@ -9,15 +9,15 @@ use native.Mathlib.Decide.{decLt, decLe}
 use native.Mathlib.Omega.{arith}
 use lib.ListN.{length, take, drop, getD, replicate, length-append, length-replicate, getD-replicate, List·getD-append}
 use lib.Seq.{sets, sets-eq, length-sets, getD-take, getD-drop, length-take-le, getD-append-add, ext-getD}
-use Rattle.tables.specs.Lists.{over}
-use Rattle.tables.proofs.Lists.{length-over, getD-over-in, getD-over-past}
+use Rattle.blocks.specs.Lists.{over}
+use Rattle.blocks.proofs.Lists.{length-over, getD-over-in, getD-over-past}
 use Rattle.grids.specs.declared.axis.Axis.{Axis}
 use Rattle.grids.specs.declared.grid.Tiling.{Tiling}
-use Rattle.grids.specs.declared.rect.TexelRect.{TexelRect}
+use Rattle.shapes.specs.declared.rect.TexelRect.{TexelRect}
 use Rattle.grids.specs.Axes.{isCut, cutEnd, touched, tilesOf}
 use Rattle.grids.specs.Grids.{TilingOk, columnsOf, rowsOf, stampCount, StampGrid, gridIn, stampOf, touches, isCutRect, stampedBy}
 use Rattle.grids.specs.Scans.{rowsStamped}
-use Rattle.grids.proofs.Tiles.{TileAt, tile-at}
+use Rattle.grids.proofs.RowByRow.{TileAt, tile-at}
 
 -- ---- a run of one number in a list
 

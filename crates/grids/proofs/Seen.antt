@@ -9,12 +9,12 @@ use lib.Dec.{ltb, leb}
 use lib.ListN.{length, getD, take, drop}
 use lib.Seq.{getD-take, getD-drop}
 use borrow.Author.Tests.{leb-true, le-ltb, le-leb, lt-leb}
-use Rattle.tables.specs.Lists.{listed, keep, all}
-use Rattle.tables.specs.Blocks.{atMost}
-use Rattle.tables.specs.All.{All, nil, cons}
-use Rattle.tables.proofs.Lists.{all-get}
-use Rattle.tables.proofs.Listed.{left, left-all, left-step, left-none, getD-listed}
-use Rattle.tables.proofs.All.{all-listed, all-flatMap}
+use Rattle.blocks.specs.Lists.{listed, keep, all}
+use Rattle.blocks.specs.Blocks.{atMost}
+use Rattle.blocks.specs.All.{All, nil, cons}
+use Rattle.blocks.proofs.Lists.{all-get}
+use Rattle.blocks.proofs.Listed.{left, left-all, left-step, left-none, getD-listed}
+use Rattle.blocks.proofs.All.{all-listed, all-flatMap}
 use Rattle.grids.specs.declared.axis.Span.{Span}
 use Rattle.grids.specs.declared.grid.Tiling.{Tiling}
 use Rattle.grids.specs.declared.since.Dirty.{Dirty}
@@ -23,7 +23,7 @@ use Rattle.grids.specs.declared.since.Seen.{Seen}
 use Rattle.grids.specs.Axes.{SpanIn, oneTile, spanAround}
 use Rattle.grids.specs.Grids.{TilingOk, columnsOf, rowsOf, stampCount, gridIn, rowByRow, stampOf, Tile, dirtyTiles, boxOf, boxAround, boxSince}
 use Rattle.grids.specs.Scans.{nothingSeen, joined, visited, allJoined, dirtyRow}
-use Rattle.grids.proofs.Tiles.{tile-place, keep-rows}
+use Rattle.grids.proofs.RowByRow.{tile-place, keep-rows}
 use Rattle.grids.proofs.Boxes.{TileIn, dirty-in}
 use Rattle.grids.proofs.Legal.{columns-in, rows-in}
 

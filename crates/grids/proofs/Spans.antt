@@ -3,8 +3,8 @@ use mathlib.Core.Path.{_≡_, refl}
 use mathlib.Core.List.{List, [], _∷_}
 use Prim.Native.Nat.{ℕ, _≤_, _<_, min, max}
 use native.Mathlib.Omega.{arith}
-use Rattle.tables.specs.All.{All, nil, cons}
-use Rattle.tables.proofs.All.{all-head, all-tail, all-mono}
+use Rattle.blocks.specs.All.{All, nil, cons}
+use Rattle.blocks.proofs.All.{all-head, all-tail, all-mono}
 use Rattle.grids.specs.declared.axis.Axis.{Axis}
 use Rattle.grids.specs.declared.axis.Span.{Span}
 use Rattle.grids.specs.Axes.{tilesOf, SpanIn, oneTile, widened, spanAround}

@@ -4,7 +4,7 @@ use Prim.Native.Nat.{ℕ, suc, _+_, _-_, _*_, _/_, _≤_, _<_, min, max}
 use mathlib.Core.Bool.{Bool, cond}
 use mathlib.Core.List.{List, [], _∷_}
 use lib.Dec.{ltb}
-use Rattle.tables.specs.Lists.{ceilDiv, tests}
+use Rattle.blocks.specs.Lists.{ceilDiv, tests}
 use Rattle.grids.specs.declared.axis.Axis.{Axis}
 use Rattle.grids.specs.declared.axis.Span.{Span}
 use Rattle.grids.specs.declared.axis.Touched.{Touched}

@@ -4,20 +4,20 @@ use mathlib.Core.Bool.{Bool, _&&_, cond}
 use mathlib.Core.List.{List, [], _∷_, map, flatMap}
 use lib.Dec.{leb, ltb}
 use lib.ListN.{getD, take, replicate}
-use Rattle.tables.specs.Lists.{listed, keep}
+use Rattle.blocks.specs.Lists.{listed, keep}
 use Rattle.grids.specs.declared.axis.Axis.{Axis}
 use Rattle.grids.specs.declared.axis.Span.{Span}
-use Rattle.grids.specs.declared.shape.VersionShape.{VersionShape}
-use Rattle.grids.specs.declared.rect.TexelRect.{TexelRect}
+use Rattle.shapes.specs.declared.shape.VersionShape.{VersionShape}
+use Rattle.shapes.specs.declared.rect.TexelRect.{TexelRect}
 use Rattle.grids.specs.declared.grid.Tiling.{Tiling}
 use Rattle.grids.specs.declared.since.Dirty.{Dirty}
 use Rattle.grids.specs.declared.since.Dirty.the-variants.{Box, Clean}
 use Rattle.grids.specs.declared.dirty.DirtyTile.{DirtyTile}
 use Rattle.grids.specs.declared.dirty.DirtyTile.the-variants.{At, NoTile}
-use Rattle.grids.specs.Formats.{blockEdge}
-use Rattle.grids.specs.Shapes.{levelWidth, levelHeight}
+use Rattle.shapes.specs.Formats.{blockEdge}
+use Rattle.shapes.specs.Shapes.{levelWidth, levelHeight}
 use Rattle.grids.specs.Axes.{axisOf, AxisOk, tilesOf, isCut, touched, oneTile, spanAround, spanStart, spanSize}
-use Rattle.tables.specs.Blocks.{largest}
+use Rattle.blocks.specs.Blocks.{largest}
 
 -- how a level of a shape is cut into tiles
 unfoldable pub tilingOf : VersionShape → ℕ → Tiling

@@ -6,7 +6,7 @@ use mathlib.Core.List.{List, [], _∷_}
 use lib.Dec.{ltb}
 use lib.ListN.{getD, replicate}
 use lib.Seq.{sets}
-use Rattle.tables.specs.Lists.{listed, keep}
+use Rattle.blocks.specs.Lists.{listed, keep}
 use Rattle.grids.specs.declared.since.Seen.{Seen}
 use Rattle.grids.specs.Axes.{oneTile, widened}
 use Rattle.grids.specs.Grids.{Tile}

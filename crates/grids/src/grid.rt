@@ -1,14 +1,14 @@
 // A level's tiles.
 ghost use mathlib.Core.Path.{_≡_};
 ghost use mathlib.Core.Bool.{true};
-ghost use Rattle.grids.specs.Shapes.{isShape};
+ghost use Rattle.shapes.specs.Shapes.{isShape};
 ghost use Rattle.grids.specs.Grids.{tilingOf, TilingOk, columnsOf, rowsOf, stampCount};
 use crate::axis::Axis;
 use crate::axis::axis_of;
 use crate::axis::tiles;
-use crate::format::block_edge;
-use crate::shape::VersionShape;
-use crate::shape::level_extent;
+use shapes::VersionShape;
+use shapes::block_edge;
+use shapes::level_extent;
 
 pub struct Tiling {
     pub across: Axis,

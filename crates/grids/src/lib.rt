@@ -1,13 +1,21 @@
-// Layer 1 of the texture version pool: shapes, levels and tiles, rectangles, and one subresource's stamp grid.
-pub mod axis;
-pub mod copies;
-pub mod dirty;
-pub mod format;
-pub mod grid;
-pub mod newest;
-pub mod records;
-pub mod rect;
-pub mod shape;
-pub mod since;
-pub mod stamp;
-pub mod upload;
+// Tiles and one subresource's stamp grid. With `shapes` the first layer of the texture version pool.
+mod axis;
+mod dirty;
+mod grid;
+mod newest;
+mod since;
+mod stamping;
+
+pub use axis::Axis;
+pub use axis::tile_edge;
+pub use axis::tiles;
+pub use dirty::DirtyTile;
+pub use dirty::dirty_tile;
+pub use grid::Tiling;
+pub use grid::level_tiling;
+pub use grid::stamp_count;
+pub use newest::is_largest_stamp;
+pub use newest::largest_stamp;
+pub use since::Dirty;
+pub use since::written_since;
+pub use stamping::stamp;

@@ -13,7 +13,7 @@ pub fn largest_stamp(page: &[u64], g: Tiling) -> u64
     ensures { λ r. ⌜ r ≡ largestStamp g (now (page .entry)) ⌝ }
 {
     let count = stamp_count(g) as usize;
-    tables::largest_of(&page[..count])
+    blocks::largest_of(&page[..count])
 }
 
 // Whether `newest` is the largest stamp: none passes it, and one equals it, which is quicker to see than a maximum.
@@ -22,8 +22,8 @@ pub fn is_largest_stamp(page: &[u64], g: Tiling, newest: u64) -> bool
     ensures { λ r. ⌜ r ≡ eqb (largestStamp g (now (page .entry))) newest ⌝ }
 {
     let count = stamp_count(g) as usize;
-    if !tables::within(&page[..count], newest) {
+    if !blocks::within(&page[..count], newest) {
         return false;
     }
-    tables::contains(&page[..count], newest)
+    blocks::contains(&page[..count], newest)
 }

@@ -11,7 +11,7 @@ use crate::axis::span_start;
 use crate::axis::tiles;
 use crate::axis::widen;
 use crate::grid::Tiling;
-use crate::rect::TexelRect;
+use shapes::TexelRect;
 
 // The box of what was written, or none.
 pub enum Dirty {
@@ -60,7 +60,7 @@ fn visit_row(seen: Seen, line: &[u64], held: u64, row: u64) -> Seen
     ensures { λ r. ⌜ r ≡ allJoined seen (dirtyRow (length (now (line .entry))) row held (now (line .entry))) ⌝ }
 {
     // Most rows are clean, and the scan for that goes by four.
-    if tables::within(line, held) {
+    if blocks::within(line, held) {
         return seen;
     }
     let mut all = seen;

@@ -1,8 +1,2 @@
-pub mod Numbers
-pub mod Lists
-pub mod Listed
-pub mod All
-pub mod Blocks
-pub mod Scans
 pub mod Records
 pub mod Rings

@@ -7,12 +7,12 @@ use native.Mathlib.Nat.{mul-suc, mul-zero, mul-one, add-comm, mul-add, zero-add}
 use native.Mathlib.Omega.{arith}
 use lib.ListN.{length, take, drop, getD, set, length-append, length-drop, length-set, take-append-drop}
 use lib.Seq.{sets, drop-at, drop-drop, drop-cons, set-split, set-getD, length-take-le, getD-set-same, getD-set-other}
-use Rattle.tables.specs.Lists.{listed, over, removed, inserted}
-use Rattle.tables.specs.Blocks.{moved, rotated}
+use Rattle.blocks.specs.Lists.{listed, over, removed, inserted}
+use Rattle.blocks.specs.Blocks.{moved, rotated}
 use Rattle.tables.specs.Records.{recordAt, table, flat}
-use Rattle.tables.proofs.Lists.{over-self, length-removed, length-inserted}
-use Rattle.tables.proofs.Listed.{length-listed, getD-listed, take-listed, drop-listed, listed-same, left, left-all, fills-none, fills-more}
-use Rattle.tables.proofs.Blocks.{moved-out, moved-in, stored-at, rotated-parts, length-rotated}
+use Rattle.blocks.proofs.Lists.{over-self, length-removed, length-inserted}
+use Rattle.blocks.proofs.Listed.{length-listed, getD-listed, take-listed, drop-listed, listed-same, left, left-all, fills-none, fills-more}
+use Rattle.blocks.proofs.Blocks.{moved-out, moved-in, stored-at, rotated-parts, length-rotated}
 
 -- What a type of record says of its reading and writing, once: all the laws below follow.
 pub record Codec {ℓ} {A : Type ℓ} (w : ℕ) (rd : List ℕ → A) (wr : A → List ℕ) : Type ℓ where

@@ -10,10 +10,10 @@ use native.Mathlib.Omega.{arith}
 use borrow.Author.Tests.{lt-ltb, le-ltb}
 use lib.ListN.{length, take, drop, getD, set}
 use lib.Seq.{sets, length-sets}
-use Rattle.tables.specs.Lists.{listed, over}
+use Rattle.blocks.specs.Lists.{listed, over}
 use Rattle.tables.specs.Records.{recordAt}
 use Rattle.tables.specs.Rings.{placeOf, along, ring, laid}
-use Rattle.tables.proofs.Listed.{length-listed, listed-more, drop-listed, take-listed, getD-listed, listed-same, left, left-all, fills-none, fills-more}
+use Rattle.blocks.proofs.Listed.{length-listed, listed-more, drop-listed, take-listed, getD-listed, listed-same, left, left-all, fills-none, fills-more}
 use Rattle.tables.proofs.Records.{Codec, record-part, read-same, read-other, rewritten}
 
 -- ---- places

@@ -1,5 +1,2 @@
-pub mod Lists
-pub mod All
-pub mod Blocks
 pub mod Records
 pub mod Rings

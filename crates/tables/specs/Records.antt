@@ -2,7 +2,7 @@
 use Prim.Native.Nat.{ℕ, _*_}
 use mathlib.Core.List.{List, [], _∷_, _++_}
 use lib.ListN.{drop}
-use Rattle.tables.specs.Lists.{listed}
+use Rattle.blocks.specs.Lists.{listed}
 
 -- record i of s
 unfoldable pub recordAt {ℓ} : {A : Type ℓ} → ℕ → (List ℕ → A) → List ℕ → ℕ → A

@@ -4,7 +4,7 @@ use mathlib.Core.Bool.{cond}
 use mathlib.Core.List.{List, [], _∷_}
 use lib.Dec.{ltb}
 use lib.Seq.{sets}
-use Rattle.tables.specs.Lists.{listed}
+use Rattle.blocks.specs.Lists.{listed}
 use Rattle.tables.specs.Records.{recordAt}
 
 -- the place of the i-th record

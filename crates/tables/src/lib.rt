@@ -1,22 +1,12 @@
-// Blocks of numbers, tables of fixed-width records and rings of records, each inside one lent slice.
-mod block;
+// Tables and rings of fixed-width records, each inside one lent slice. A record is a part of the slice, so that one function
+// serves every record type; what reads and writes a type's numbers is a `Codec` of the laws.
 mod ring;
-mod scan;
 mod table;
 
-pub use block::copy_in;
-pub use block::fill;
-pub use block::reverse;
-pub use block::rotate;
-pub use block::shift_down;
-pub use block::shift_up;
 pub use ring::place;
 pub use ring::ring_drop;
 pub use ring::ring_push;
 pub use ring::ring_record;
-pub use scan::contains;
-pub use scan::largest_of;
-pub use scan::within;
 pub use table::insert_record;
 pub use table::put_record;
 pub use table::record_at;

@@ -4,10 +4,10 @@ ghost use mathlib.Core.Path.{_≡_};
 ghost use Prim.Native.Nat.{_+_, _*_, _-_, _≤_};
 ghost use lib.ListN.{length, take, drop};
 ghost use lib.Seq.{sets};
-ghost use Rattle.tables.specs.Blocks.{moved};
-use crate::block::copy_in;
-use crate::block::shift_down;
-use crate::block::shift_up;
+ghost use Rattle.blocks.specs.Blocks.{moved};
+use blocks::copy_in;
+use blocks::shift_down;
+use blocks::shift_up;
 
 // Record i. Its length stands in the contract too, for the indexes of those who read it.
 pub fn record_at(s: &[u64], w: usize, i: usize) -> &[u64]

@@ -4,8 +4,8 @@ use mathlib.Core.Logic.{⊎-elim}
 use Prim.Native.Nat.{ℕ, _+_, _-_, _*_, _/_, _<_, _≤_, max}
 use native.Mathlib.Omega.{arith}
 use borrow.Author.Needs.{needs}
-use Rattle.tables.specs.Lists.{ceilDiv}
-use Rattle.tables.proofs.Numbers.{ceil-least}
+use Rattle.blocks.specs.Lists.{ceilDiv}
+use Rattle.blocks.proofs.Numbers.{ceil-least}
 use Rattle.grids.specs.Axes.{tileEdge}
 use Rattle.grids.proofs.axis.tile_edge.Statement.{statement}
 use Rattle.grids.proofs.axis.tile_edge.Tie as tie

@@ -2,7 +2,7 @@
 use mathlib.Core.Path.{_≡_, refl}
 use native.Mathlib.Omega.{arith}
 use borrow.Author.Needs.{needs}
-use Rattle.tables.specs.Lists.{ceilDiv}
+use Rattle.blocks.specs.Lists.{ceilDiv}
 use Rattle.grids.specs.Axes.{tilesOf}
 use Rattle.grids.proofs.axis.tiles.Statement.{statement}
 use Rattle.grids.proofs.axis.tiles.Tie as tie

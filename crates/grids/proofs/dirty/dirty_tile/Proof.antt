@@ -9,7 +9,7 @@ use borrow.Author.Needs.{needs}
 use Rattle.grids.specs.Axes.{tilesOf}
 use Rattle.grids.specs.Grids.{columnsOf, rowsOf, stampCount}
 use Rattle.grids.proofs.Boxes.{dirty-found, dirty-none}
-use Rattle.grids.proofs.Tiles.{factor-pos}
+use Rattle.grids.proofs.RowByRow.{factor-pos}
 use Rattle.grids.proofs.Tilings.{count-bound}
 use Rattle.grids.proofs.dirty.dirty_tile.Statement.{statement}
 use Rattle.grids.proofs.dirty.dirty_tile.Tie as tie

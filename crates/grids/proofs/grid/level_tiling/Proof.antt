@@ -2,10 +2,10 @@
 use mathlib.Core.Path.{_≡_}
 use native.Mathlib.Omega.{arith}
 use borrow.Author.Needs.{needs}
-use Rattle.grids.specs.Shapes.{levelWidth, levelHeight}
+use Rattle.shapes.specs.Shapes.{levelWidth, levelHeight}
 use Rattle.grids.specs.Grids.{tilingOf}
-use Rattle.grids.proofs.Formats.{block-edge-pos, block-edge-bound}
-use Rattle.grids.proofs.Shapes.{shape-bounds, extent-bound}
+use Rattle.shapes.proofs.Formats.{block-edge-pos, block-edge-bound}
+use Rattle.shapes.proofs.Shapes.{shape-bounds, extent-bound}
 use Rattle.grids.proofs.grid.level_tiling.Statement.{statement}
 use Rattle.grids.proofs.grid.level_tiling.Tie as tie
 

@@ -7,7 +7,7 @@ use lib.ListN.{length, take}
 use lib.Seq.{length-take-le}
 use borrow.Author.Needs.{needs}
 use borrow.Author.Tests.{not-true, not-false}
-use Rattle.tables.proofs.Scans.{largest-test}
+use Rattle.blocks.proofs.Scans.{largest-test}
 use Rattle.grids.specs.Grids.{stampCount, largestStamp}
 use Rattle.grids.proofs.newest.is_largest_stamp.Statement.{statement}
 use Rattle.grids.proofs.newest.is_largest_stamp.Tie as tie

@@ -4,7 +4,7 @@ use native.Mathlib.Omega.{arith}
 use lib.ListN.{take}
 use lib.Seq.{length-take-le}
 use borrow.Author.Needs.{needs}
-use Rattle.tables.specs.Blocks.{largest}
+use Rattle.blocks.specs.Blocks.{largest}
 use Rattle.grids.specs.Grids.{largestStamp}
 use Rattle.grids.proofs.newest.largest_stamp.Statement.{statement}
 use Rattle.grids.proofs.newest.largest_stamp.Tie as tie

@@ -4,7 +4,7 @@ use mathlib.Core.Path.{ap, _∙_}
 use native.Mathlib.Omega.{arith}
 use Prim.Native.Nat.{_*_}
 use lib.ListN.{take, drop}
-use Rattle.tables.proofs.Numbers.{row-fits}
+use Rattle.blocks.proofs.Numbers.{row-fits}
 use Rattle.tables.proofs.ring.ring_record.Statement.{statement}
 use Rattle.tables.proofs.ring.ring_record.Tie as tie
 

@@ -2,7 +2,7 @@
 use borrow.Author.Needs.{needs}
 use mathlib.Core.Path.{_∙_}
 use native.Mathlib.Omega.{arith}
-use Rattle.tables.proofs.Numbers.{rows-split}
+use Rattle.blocks.proofs.Numbers.{rows-split}
 use Rattle.tables.proofs.table.insert_record.Statement.{statement}
 use Rattle.tables.proofs.table.insert_record.Tie as tie
 

@@ -1,7 +1,7 @@
 -- `remove_records` meets its contract: the later records move down. Assumes nothing.
 use borrow.Author.Needs.{needs}
 use native.Mathlib.Omega.{arith}
-use Rattle.tables.proofs.Numbers.{rows-parts}
+use Rattle.blocks.proofs.Numbers.{rows-parts}
 use Rattle.tables.proofs.table.remove_records.Statement.{statement}
 use Rattle.tables.proofs.table.remove_records.Tie as tie
 

@@ -1,0 +1,25 @@
+-- `grids::format::block_bytes` meets its contract. Within the table by the entry, past it by the 0 that stands for the rest.
+use borrow.Author.Needs.{needs}
+use mathlib.Core.Path.{sym}
+use lib.ListN.{List·getD-eq-default}
+use Rattle.shapes.specs.Formats.{bytesPerBlock, blockBytes}
+use Rattle.shapes.proofs.Small.{default-free}
+use Rattle.shapes.proofs.format.block_bytes.Statement.{statement}
+use Rattle.shapes.proofs.format.block_bytes.Tie as tie
+
+mul-result : tie.Need-mul-result
+mul-result c = search needs
+
+array-read-result : tie.Need-array-read-result
+array-read-result c = search needs
+
+returns : tie.Need-returns
+unfolding blockBytes
+returns c = default-free bytesPerBlock (c .before .args .format) 0 0 (c .if1 .taken)
+
+returns-2 : tie.Need-returns-2
+unfolding blockBytes
+returns-2 c = sym (List·getD-eq-default bytesPerBlock 0 {n = c .before .args .format} (c .if1 .left))
+
+pub block-bytes-spec : {M : Type 1} → statement M
+block-bytes-spec = tie.close (tie.spec mul-result array-read-result returns returns-2)

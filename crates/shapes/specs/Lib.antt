@@ -1,0 +1,5 @@
+pub mod Outcomes
+pub mod Formats
+pub mod Shapes
+pub mod Rects
+pub mod Copies
