@@ -11,9 +11,9 @@ use lib.ListN.{length, take, drop, getD, replicate, length-append, length-replic
 use lib.Seq.{sets, sets-eq, length-sets, getD-take, getD-drop, length-take-le, getD-append-add, ext-getD}
 use Rattle.blocks.specs.Lists.{over}
 use Rattle.blocks.proofs.Lists.{length-over, getD-over-in, getD-over-past}
-use Rattle.grids.specs.declared.axis.Axis.{Axis}
-use Rattle.shapes.specs.declared.rect.TexelRect.{TexelRect}
-use Rattle.grids.specs.Axes.{isCut, cutEnd, touched, tilesOf}
+use Rattle.tiles.specs.declared.axis.Axis.{Axis}
+use Rattle.rects.specs.declared.rect.TexelRect.{TexelRect}
+use Rattle.tiles.specs.Axes.{isCut, cutEnd, touched, tilesOf}
 use Rattle.grids.specs.Grids.{Tiling, TilingOk, columnsOf, rowsOf, stampCount, StampGrid, gridIn, stampOf, touches, isCutRect, stampedBy}
 use Rattle.grids.specs.Scans.{rowsStamped}
 use Rattle.grids.proofs.RowByRow.{TileAt, tile-at}

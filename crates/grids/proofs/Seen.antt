@@ -15,11 +15,11 @@ use Rattle.blocks.specs.All.{All, nil, cons}
 use Rattle.blocks.proofs.Lists.{all-get}
 use Rattle.blocks.proofs.Listed.{left, left-all, left-step, left-none, getD-listed}
 use Rattle.blocks.proofs.All.{all-listed, all-flatMap}
-use Rattle.grids.specs.declared.axis.Span.{Span}
+use Rattle.tiles.specs.declared.axis.Span.{Span}
 use Rattle.grids.specs.declared.since.Dirty.{Dirty}
 use Rattle.grids.specs.declared.since.Dirty.the-variants.{Box, Clean}
 use Rattle.grids.specs.declared.since.Seen.{Seen}
-use Rattle.grids.specs.Axes.{SpanIn, oneTile, widened, spanAround}
+use Rattle.tiles.specs.Axes.{SpanIn, oneTile, widened, spanAround}
 use Rattle.grids.specs.Grids.{Tiling, TilingOk, columnsOf, rowsOf, stampCount, gridIn, rowByRow, stampOf, Tile, dirtyTiles, boxOf, boxAround, boxSince}
 use Rattle.grids.specs.Scans.{nothingSeen, joined, visited, allJoined, dirtyRow}
 use Rattle.grids.proofs.RowByRow.{tile-place, keep-rows}

@@ -6,7 +6,7 @@ use native.Mathlib.Nat.{mul-le-mul}
 use lib.ListN.{length, getD}
 use borrow.Author.Count.{below-more}
 use borrow.Author.Needs.{needs}
-use Rattle.grids.specs.Axes.{tilesOf}
+use Rattle.tiles.specs.Axes.{tilesOf}
 use Rattle.grids.specs.Grids.{Tiling, tiled, columnsOf, rowsOf, stampCount}
 use Rattle.grids.proofs.Boxes.{dirty-found, dirty-none}
 use Rattle.grids.proofs.RowByRow.{factor-pos}

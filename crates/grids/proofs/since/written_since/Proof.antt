@@ -7,7 +7,7 @@ use borrow.Author.Needs.{needs}
 use borrow.Author.Tests.{not-true, not-false}
 use Rattle.grids.specs.declared.since.Dirty.the-variants.{Box}
 use Rattle.grids.specs.declared.since.Seen.{Seen}
-use Rattle.grids.specs.Axes.{tilesOf}
+use Rattle.tiles.specs.Axes.{tilesOf}
 use Rattle.grids.specs.Grids.{Tiling, tiled, columnsOf, rowsOf, stampCount, gridIn, dirtyTiles, boxSince}
 use Rattle.grids.specs.Scans.{nothingSeen, allJoined}
 use Rattle.grids.proofs.Boxes.{dirty-in}
