@@ -1,19 +1,16 @@
 -- Laws of one axis: tiles, what a run of texels touches, and spans of whole tiles. Assumes nothing.
-use mathlib.Core.Path.{_≡_, refl, sym, ap, _∙_}
-use mathlib.Core.Bool.{Bool, true, false, _&&_, _||_, cond}
-use mathlib.Core.List.{List, [], _∷_}
+use mathlib.Core.Path.{_≡_, refl, ap, _∙_}
+use mathlib.Core.Bool.{Bool, true, false}
 use Prim.Native.Nat.{ℕ, suc, _+_, _-_, _*_, _/_, _%_, _≤_, _<_, min, max}
-use native.Mathlib.Nat.{mul-mod-left, mul-le-mul-right, div-mul-le-self, lt-div-mul-add, lt-of-mul-lt-mul-left, mul-comm, suc-mul, div-eq-of-lt-le, div-lt-iff-lt-mul, le-div-iff-mul-le}
+use native.Mathlib.Nat.{mul-mod-left, mul-le-mul-right, div-mul-le-self, lt-div-mul-add, suc-mul, div-eq-of-lt-le, div-lt-iff-lt-mul, le-div-iff-mul-le}
 use native.Mathlib.Numerals.{add-one}
 use native.Mathlib.Omega.{arith}
-use lib.Dec.{ltb, eqb}
-use borrow.Author.Tests.{ltb-true, ltb-false, lt-ltb, le-ltb, eq-eqb}
+use borrow.Author.Tests.{ltb-true, ltb-false, lt-ltb}
 use Rattle.blocks.specs.Lists.{ceilDiv, tests, after}
 use Rattle.blocks.proofs.Numbers.{ceil-covers, ceil-least, ceil-below, ceil-at-most}
 use Rattle.blocks.proofs.Lists.{passed}
 use Rattle.tiles.specs.declared.axis.Axis.{Axis}
 use Rattle.tiles.specs.declared.axis.Span.{Span}
-use Rattle.tiles.specs.declared.axis.Touched.{Touched}
 use Rattle.tiles.specs.declared.axis.Touched.the-variants.{Tiles, NoTiles}
 use Rattle.tiles.specs.Axes.{tileEdge, axisOf, AxisOk, tilesOf, cutEnd, isCut, touched, touchedTiles, SpanIn, spanStart, spanSize}
 

@@ -1,10 +1,9 @@
 -- Laws of the smallest span around some tiles. Assumes nothing.
-use mathlib.Core.Path.{_≡_, refl}
 use mathlib.Core.List.{List, [], _∷_}
-use Prim.Native.Nat.{ℕ, _≤_, _<_, min, max}
+use Prim.Native.Nat.{ℕ, _≤_, _<_}
 use native.Mathlib.Omega.{arith}
 use Rattle.blocks.specs.All.{All, nil, cons}
-use Rattle.blocks.proofs.All.{all-head, all-tail, all-mono}
+use Rattle.blocks.proofs.All.{all-head, all-tail}
 use Rattle.tiles.specs.declared.axis.Axis.{Axis}
 use Rattle.tiles.specs.declared.axis.Span.{Span}
 use Rattle.tiles.specs.Axes.{tilesOf, SpanIn, oneTile, widened, spanAround}

@@ -1,5 +1,4 @@
 -- An axis with its tile edge. Assumes nothing.
-use mathlib.Core.Path.{_≡_}
 use borrow.Author.Needs.{needs}
 use Rattle.tiles.specs.Axes.{axisOf}
 use Rattle.tiles.proofs.axis.axis_of.Statement.{statement}

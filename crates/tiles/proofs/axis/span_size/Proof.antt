@@ -1,9 +1,8 @@
 -- The texels of whole tiles in the level. Assumes nothing.
-use mathlib.Core.Path.{_≡_, refl, ap}
-use Prim.Native.Nat.{ℕ, suc, _+_, _-_, _*_, min}
+use mathlib.Core.Path.{_≡_, ap}
+use Prim.Native.Nat.{ℕ, suc, _+_, _*_}
 use native.Mathlib.Numerals.{add-one}
 use native.Mathlib.Omega.{arith}
-use borrow.Author.Needs.{needs}
 use Rattle.tiles.specs.Axes.{spanStart, spanSize}
 use Rattle.tiles.proofs.Axes.{SpanFits, span-fits}
 use Rattle.tiles.proofs.axis.span_size.Statement.{statement}

@@ -1,5 +1,5 @@
 -- The first texel of whole tiles. Assumes nothing.
-use mathlib.Core.Path.{_≡_, refl}
+use mathlib.Core.Path.{refl}
 use native.Mathlib.Omega.{arith}
 use Rattle.tiles.specs.Axes.{spanStart}
 use Rattle.tiles.proofs.Axes.{span-fits}

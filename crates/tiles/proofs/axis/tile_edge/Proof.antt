@@ -1,5 +1,4 @@
 -- The tile edge, from the share of the extent and the block edge. Assumes nothing.
-use mathlib.Core.Path.{_≡_}
 use native.Mathlib.Omega.{arith}
 use borrow.Author.Needs.{needs}
 use Rattle.blocks.specs.Lists.{ceilDiv}

@@ -1,6 +1,5 @@
 -- Tiles along an axis. Assumes nothing.
-use mathlib.Core.Path.{_≡_, refl}
-use native.Mathlib.Omega.{arith}
+use mathlib.Core.Path.{refl}
 use borrow.Author.Needs.{needs}
 use Rattle.blocks.specs.Lists.{ceilDiv}
 use Rattle.tiles.specs.Axes.{tilesOf}
