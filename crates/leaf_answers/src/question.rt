@@ -1,0 +1,44 @@
+// Which question a line asks.
+ghost use Prim.Native.Nat.{_≤_};
+ghost use lib.ListN.{length};
+use crate::answer::Answer;
+use crate::fields::field_end;
+use crate::fields::is_word;
+use crate::rect_questions::on_grid;
+use crate::rect_questions::upload;
+use crate::shape_questions::level_extent;
+use crate::shape_questions::shape_bytes;
+use crate::shape_questions::shape_records;
+use crate::shape_questions::shape_slices;
+
+// The answer to a line without its line feed: a word and fields, all parted by commas.
+pub fn answer_of(line: &[u8]) -> Answer
+    requires { ⌜ length (now line) ≤ 65536 ⌝ }
+{
+    let end = field_end(line, 0);
+    // Every question has a number, so a word alone is malformed.
+    if end == line.len() {
+        return Answer::Malformed;
+    }
+    let fields = &line[end + 1..];
+    let word = &line[..end];
+    if is_word(word, b"level_extent") {
+        return level_extent(fields);
+    }
+    if is_word(word, b"bytes") {
+        return shape_bytes(fields);
+    }
+    if is_word(word, b"slices") {
+        return shape_slices(fields);
+    }
+    if is_word(word, b"records") {
+        return shape_records(fields);
+    }
+    if is_word(word, b"upload") {
+        return upload(fields);
+    }
+    if is_word(word, b"ongrid") {
+        return on_grid(fields);
+    }
+    Answer::Malformed
+}
