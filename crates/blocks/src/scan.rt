@@ -1,9 +1,10 @@
 // Scans of a list of numbers, four a turn where the list is long: a number past the bound, a number looked for, the largest.
 ghost use mathlib.Core.Path.{_≡_};
-ghost use Prim.Native.Nat.{_+_, _≤_, max};
+ghost use Prim.Native.Nat.{_+_, _≤_};
 ghost use lib.ListN.{length, take, drop};
 ghost use Rattle.blocks.specs.Lists.{all};
 ghost use Rattle.blocks.specs.Blocks.{atMost, member, largest};
+use crate::number::larger;
 
 // The four numbers from i on are at most b.
 fn four_within(s: &[u64], i: usize, b: u64) -> bool
@@ -61,16 +62,6 @@ pub fn contains(s: &[u64], b: u64) -> bool
         i += 1;
     }
     false
-}
-
-// The larger of two numbers.
-fn larger(a: u64, b: u64) -> u64
-    ensures { λ r. ⌜ r ≡ max a b ⌝ }
-{
-    if a < b {
-        return b;
-    }
-    a
 }
 
 // The largest number of s; 0 where s is empty. To test that a known number is the largest, `within` and `contains` are quicker.

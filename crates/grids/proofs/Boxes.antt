@@ -10,14 +10,13 @@ use borrow.Author.Tests.{ltb-true, lt-ltb, lt-leb}
 use Rattle.blocks.specs.Lists.{keep}
 use Rattle.blocks.specs.All.{All, nil, cons}
 use Rattle.blocks.proofs.All.{all-head, all-tail, all-map, all-mono, all-kept, all-keep, all-flatMap, all-listed, kept-at}
-use Rattle.grids.specs.declared.grid.Tiling.{Tiling}
 use Rattle.shapes.specs.declared.rect.TexelRect.{TexelRect}
 use Rattle.grids.specs.declared.since.Dirty.{Dirty}
 use Rattle.grids.specs.declared.since.Dirty.the-variants.{Box, Clean}
 use Rattle.grids.specs.declared.dirty.DirtyTile.{DirtyTile}
 use Rattle.grids.specs.declared.dirty.DirtyTile.the-variants.{At, NoTile}
 use Rattle.grids.specs.Axes.{SpanIn, oneTile, spanAround, spanStart, spanSize}
-use Rattle.grids.specs.Grids.{TilingOk, columnsOf, rowsOf, stampCount, StampGrid, rowByRow, stampOf, Tile, dirtyTiles, boxOf, boxAround, boxSince, Stamped, IsDirtyTile}
+use Rattle.grids.specs.Grids.{Tiling, TilingOk, columnsOf, rowsOf, stampCount, StampGrid, rowByRow, stampOf, Tile, dirtyTiles, boxOf, boxAround, boxSince, Stamped, IsDirtyTile}
 use Rattle.grids.proofs.Axes.{span-holds, span-size-pos, span-inside}
 use Rattle.grids.proofs.RowByRow.{TileAt, tile-place, tile-at, length-rows, value-at}
 use Rattle.grids.proofs.Spans.{InSpan, around-base, around-each, around-in, one-in, one-holds}

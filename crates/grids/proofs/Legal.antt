@@ -13,13 +13,12 @@ use Rattle.blocks.specs.All.{All, nil, cons}
 use Rattle.blocks.proofs.All.{all-head, all-tail, all-map}
 use Rattle.grids.specs.declared.axis.Axis.{Axis}
 use Rattle.grids.specs.declared.axis.Span.{Span}
-use Rattle.grids.specs.declared.grid.Tiling.{Tiling}
 use Rattle.shapes.specs.declared.rect.TexelRect.{TexelRect}
 use Rattle.grids.specs.declared.since.Dirty.{Dirty}
 use Rattle.grids.specs.declared.since.Dirty.the-variants.{Box, Clean}
 use Rattle.grids.specs.Axes.{SpanIn, oneTile, spanAround, spanStart, spanSize}
 use Rattle.shapes.specs.Rects.{sideOnGrid, rectOnGrid}
-use Rattle.grids.specs.Grids.{TilingOk, columnsOf, rowsOf, StampGrid, Tile, dirtyTiles, boxOf, boxAround, boxSince}
+use Rattle.grids.specs.Grids.{Tiling, TilingOk, columnsOf, rowsOf, StampGrid, Tile, dirtyTiles, boxOf, boxAround, boxSince}
 use Rattle.grids.proofs.Axes.{span-size-pos, span-inside, span-end}
 use Rattle.grids.proofs.Spans.{around-in, one-in}
 use Rattle.grids.proofs.Boxes.{TileIn, dirty-in}

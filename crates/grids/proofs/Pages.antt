@@ -11,13 +11,12 @@ use lib.ListN.{length, take, drop, getD, take-append-drop}
 use lib.Seq.{ext-getD, length-take-le, getD-take}
 use Rattle.blocks.specs.Lists.{over}
 use Rattle.blocks.proofs.Lists.{and-both, length-over, getD-over-in, getD-over-past, over-self}
-use Rattle.grids.specs.declared.grid.Tiling.{Tiling}
 use Rattle.shapes.specs.declared.rect.TexelRect.{TexelRect}
 use Rattle.grids.specs.declared.axis.Span.{Span}
 use Rattle.grids.specs.declared.axis.Touched.the-variants.{Tiles}
 use Rattle.grids.specs.Axes.{isCut, cutEnd, touched, touchedTiles, tilesOf}
-use Rattle.grids.specs.Grids.{TilingOk, columnsOf, rowsOf, stampCount, gridIn, stampOf, touches, isCutRect, stampedBy}
-use Rattle.grids.specs.Scans.{rowsStamped}
+use Rattle.grids.specs.Grids.{Tiling, TilingOk, columnsOf, rowsOf, stampCount, gridIn, stampOf, touches, isCutRect, stampedBy}
+use Rattle.grids.specs.Scans.{rowsStamped, tilesStamped, StampRoom}
 use Rattle.grids.proofs.Axes.{touched-between, touched-from, touched-to, last-tile-in, first-last, Found, tiles-found}
 use Rattle.grids.proofs.RowByRow.{TileAt, tile-place, tile-at, same-tiles}
 use Rattle.grids.proofs.Stamps.{length-stamped, stamped-tile, stamp-in, length-in, touches-cut}
@@ -165,28 +164,24 @@ module _ (g : Tiling) (ok : TilingOk g) (r : TexelRect) (n newest : ℕ) (page :
     row-span : Found (g .down) (r .y) (r .height) rs
     row-span = tiles-found (g .down) (r .y) (r .height) rs fr
 
-    pub record SpansFit : Type 0 where
-      pub columns : cs .first ≤ cs .last
-      pub inside : cs .last < columnsOf g
-      pub rows : rs .first ≤ rs .last
-      pub below : rs .last < rowsOf g
-      pub fits : (rs .last + 1) * columnsOf g ≤ stampCount g
-
-    pub spans-fit : SpansFit
-    unfolding columnsOf rowsOf
-    spans-fit =
+    pub stamp-room : StampRoom (columnsOf g) cs rs (length page)
+    unfolding columnsOf
+    stamp-room =
         let c = column-span in
         let w = row-span in
+        let last : rs .last < tilesOf (g .down) = rw (w .last) (last-tile-in (g .down) (r .y) (r .height) (ok .down .wide) (w .cut)) in
+        let most : (rs .last + 1) * tilesOf (g .across) ≤ stampCount g = rw (w .last, add-one) (rows-room (c .cut) (w .cut)) in
         record {
-          columns = rw (c .first, c .last) (first-last (g .across) (r .x) (r .width) (ok .across .wide) (c .cut));
-          inside = rw (c .last) (last-tile-in (g .across) (r .x) (r .width) (ok .across .wide) (c .cut));
-          rows = rw (w .first, w .last) (first-last (g .down) (r .y) (r .height) (ok .down .wide) (w .cut));
-          below = rw (w .last) (last-tile-in (g .down) (r .y) (r .height) (ok .down .wide) (w .cut));
-          fits = rw (w .last, add-one) (rows-room (c .cut) (w .cut));
+          wide = rw (c .first, c .last) (first-last (g .across) (r .x) (r .width) (ok .across .wide) (c .cut));
+          right = rw (c .last) (last-tile-in (g .across) (r .x) (r .width) (ok .across .wide) (c .cut));
+          narrow = ok .across .tiles;
+          high = rw (w .first, w .last) (first-last (g .down) (r .y) (r .height) (ok .down .wide) (w .cut));
+          low = omega (arith, last, ok .down .tiles);
+          room = omega (arith, most, room);
         }
 
-    pub page-spans : over stamps page
-        ≡ rowsStamped (columnsOf g) (cs .first) (cs .last + 1 - cs .first) n (rs .first) (rs .last + 1 - rs .first) page
+    pub page-spans : over stamps page ≡ tilesStamped (columnsOf g) cs rs n page
+    unfolding tilesStamped
     page-spans =
         let c = column-span in
         let w = row-span in

@@ -12,10 +12,9 @@ use lib.Seq.{sets, sets-eq, length-sets, getD-take, getD-drop, length-take-le, g
 use Rattle.blocks.specs.Lists.{over}
 use Rattle.blocks.proofs.Lists.{length-over, getD-over-in, getD-over-past}
 use Rattle.grids.specs.declared.axis.Axis.{Axis}
-use Rattle.grids.specs.declared.grid.Tiling.{Tiling}
 use Rattle.shapes.specs.declared.rect.TexelRect.{TexelRect}
 use Rattle.grids.specs.Axes.{isCut, cutEnd, touched, tilesOf}
-use Rattle.grids.specs.Grids.{TilingOk, columnsOf, rowsOf, stampCount, StampGrid, gridIn, stampOf, touches, isCutRect, stampedBy}
+use Rattle.grids.specs.Grids.{Tiling, TilingOk, columnsOf, rowsOf, stampCount, StampGrid, gridIn, stampOf, touches, isCutRect, stampedBy}
 use Rattle.grids.specs.Scans.{rowsStamped}
 use Rattle.grids.proofs.RowByRow.{TileAt, tile-at}
 

@@ -16,12 +16,11 @@ use Rattle.blocks.proofs.Lists.{all-get}
 use Rattle.blocks.proofs.Listed.{left, left-all, left-step, left-none, getD-listed}
 use Rattle.blocks.proofs.All.{all-listed, all-flatMap}
 use Rattle.grids.specs.declared.axis.Span.{Span}
-use Rattle.grids.specs.declared.grid.Tiling.{Tiling}
 use Rattle.grids.specs.declared.since.Dirty.{Dirty}
 use Rattle.grids.specs.declared.since.Dirty.the-variants.{Box, Clean}
 use Rattle.grids.specs.declared.since.Seen.{Seen}
-use Rattle.grids.specs.Axes.{SpanIn, oneTile, spanAround}
-use Rattle.grids.specs.Grids.{TilingOk, columnsOf, rowsOf, stampCount, gridIn, rowByRow, stampOf, Tile, dirtyTiles, boxOf, boxAround, boxSince}
+use Rattle.grids.specs.Axes.{SpanIn, oneTile, widened, spanAround}
+use Rattle.grids.specs.Grids.{Tiling, TilingOk, columnsOf, rowsOf, stampCount, gridIn, rowByRow, stampOf, Tile, dirtyTiles, boxOf, boxAround, boxSince}
 use Rattle.grids.specs.Scans.{nothingSeen, joined, visited, allJoined, dirtyRow}
 use Rattle.grids.proofs.RowByRow.{tile-place, keep-rows}
 use Rattle.grids.proofs.Boxes.{TileIn, dirty-in}
@@ -29,27 +28,35 @@ use Rattle.grids.proofs.Legal.{columns-in, rows-in}
 
 -- ---- what was seen is the box
 
--- the box of what was seen
+-- the spans and the box of what was seen
+abbrev pub seenColumns : Seen → Span
+seenColumns s = record { first = s .left; last = s .right }
+
+abbrev pub seenRows : Seen → Span
+seenRows s = record { first = s .top; last = s .bottom }
+
 unfoldable pub seenBox : Tiling → Seen → Dirty
-seenBox g s = cond (s .any) (Box (boxOf g (s .columns) (s .rows))) Clean
+seenBox g s = cond (s .any) (Box (boxOf g (seenColumns s) (seenRows s))) Clean
 
 pub seen-none : (g : Tiling) (s : Seen) → s .any ≡ false → seenBox g s ≡ Clean
 unfolding seenBox
 seen-none g s e = rw e
 
-pub seen-some : (g : Tiling) (s : Seen) → s .any ≡ true → seenBox g s ≡ Box (boxOf g (s .columns) (s .rows))
+pub seen-some : (g : Tiling) (s : Seen) → s .any ≡ true → seenBox g s ≡ Box (boxOf g (seenColumns s) (seenRows s))
 unfolding seenBox
 seen-some g s e = rw e
 
-joined-spans : (c r : Span) (ts : List Tile)
-    → allJoined (record { any = true; columns = c; rows = r }) ts
-    ≡ record { any = true; columns = spanAround c (map (λ (u : Tile). u .column) ts); rows = spanAround r (map (λ (u : Tile). u .row) ts) }
-unfolding allJoined joined spanAround
+-- two spans as what was seen
+abbrev seen : Span → Span → Seen
+seen c r = record { any = true; left = c .first; right = c .last; top = r .first; bottom = r .last }
+
+joined-spans : (c r : Span) (ts : List Tile) → allJoined (seen c r) ts ≡ seen (spanAround c (map (λ (u : Tile). u .column) ts)) (spanAround r (map (λ (u : Tile). u .row) ts))
+unfolding allJoined joined spanAround widened
 joined-spans c r [] = refl
-joined-spans c r (t ∷ ts) = joined-spans _ _ ts
+joined-spans c r (t ∷ ts) = joined-spans (widened c (t .column)) (widened r (t .row)) ts
 
 pub box-seen : (g : Tiling) (ts : List Tile) → boxAround g ts ≡ seenBox g (allJoined nothingSeen ts)
-unfolding boxAround seenBox allJoined joined nothingSeen
+unfolding boxAround seenBox allJoined joined nothingSeen oneTile
 box-seen g [] = refl
 box-seen g (t ∷ ts) = sym (ap (seenBox g) (joined-spans (oneTile (t .column)) (oneTile (t .row)) ts))
 
@@ -149,11 +156,11 @@ module _ (columns rows held : ℕ) (stamps : List ℕ) where
 -- ---- what was seen lies in the grid
 
 pub record SeenIn (g : Tiling) (s : Seen) : Type 0 where
-  pub columns : SpanIn (g .across) (s .columns)
-  pub rows : SpanIn (g .down) (s .rows)
+  pub columns : SpanIn (g .across) (seenColumns s)
+  pub rows : SpanIn (g .down) (seenRows s)
 
 pub seen-in : (g : Tiling) → TilingOk g → (ts : List Tile) → All (TileIn (columnsOf g) (rowsOf g)) ts → allJoined nothingSeen ts .any ≡ true → SeenIn g (allJoined nothingSeen ts)
-unfolding allJoined joined nothingSeen
+unfolding allJoined joined nothingSeen oneTile
 seen-in g ok [] all e = absurd (let z : _≡_ {A = ℕ} 0 1 = cc in let y : ⊥ = omega arith in y)
 seen-in g ok (t ∷ ts) all e = rw (joined-spans (oneTile (t .column)) (oneTile (t .row)) ts) (record { columns = columns-in g ok t ts all; rows = rows-in g ok t ts all })
 

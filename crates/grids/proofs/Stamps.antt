@@ -7,11 +7,10 @@ use native.Mathlib.Omega.{arith}
 use lib.ListN.{length, getD, take, replicate, length-replicate, getD-replicate}
 use lib.Seq.{getD-take, length-take-le}
 use Rattle.blocks.proofs.Lists.{and-both}
-use Rattle.grids.specs.declared.grid.Tiling.{Tiling}
 use Rattle.shapes.specs.declared.rect.TexelRect.{TexelRect}
 use Rattle.shapes.specs.declared.shape.VersionShape.{VersionShape}
 use Rattle.grids.specs.Axes.{tilesOf, isCut, touched}
-use Rattle.grids.specs.Grids.{TilingOk, columnsOf, rowsOf, stampCount, StampGrid, newGrid, gridIn, rowByRow, stampOf, touches, isCutRect, stampedBy}
+use Rattle.grids.specs.Grids.{Tiling, TilingOk, columnsOf, rowsOf, stampCount, StampGrid, newGrid, gridIn, rowByRow, stampOf, touches, isCutRect, stampedBy}
 use Rattle.grids.proofs.Axes.{Touches, touches-of, touched-texel, touched-has, cut-texel, tile-in}
 use Rattle.grids.proofs.RowByRow.{tile-place, tile-at, length-rows, value-at}
 

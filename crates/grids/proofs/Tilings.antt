@@ -5,12 +5,11 @@ use Prim.Native.Nat.{ℕ, _*_, _%_, _≤_, _<_}
 use native.Mathlib.Nat.{mul-le-mul}
 use native.Mathlib.Omega.{arith}
 use Rattle.blocks.proofs.Numbers.{ceil-pos}
-use Rattle.grids.specs.declared.grid.Tiling.{Tiling}
 use Rattle.shapes.specs.declared.shape.VersionShape.{VersionShape}
 use Rattle.shapes.specs.Formats.{blockEdge}
 use Rattle.shapes.specs.Shapes.{isShape, levelWidth, levelHeight}
 use Rattle.grids.specs.Axes.{tileEdge, axisOf, AxisOk, tilesOf}
-use Rattle.grids.specs.Grids.{tilingOf, TilingOk, columnsOf, rowsOf, stampCount}
+use Rattle.grids.specs.Grids.{Tiling, tilingOf, TilingOk, columnsOf, rowsOf, stampCount}
 use Rattle.shapes.proofs.Formats.{block-edge-pos, block-edge-bound}
 use Rattle.shapes.proofs.Shapes.{shape-bounds, width-pos, height-pos, width-bound, height-bound}
 use Rattle.grids.proofs.Axes.{axis-ok, edge-multiple}

@@ -9,7 +9,6 @@ use Rattle.grids.specs.declared.axis.Axis.{Axis}
 use Rattle.grids.specs.declared.axis.Span.{Span}
 use Rattle.shapes.specs.declared.shape.VersionShape.{VersionShape}
 use Rattle.shapes.specs.declared.rect.TexelRect.{TexelRect}
-use Rattle.grids.specs.declared.grid.Tiling.{Tiling}
 use Rattle.grids.specs.declared.since.Dirty.{Dirty}
 use Rattle.grids.specs.declared.since.Dirty.the-variants.{Box, Clean}
 use Rattle.grids.specs.declared.dirty.DirtyTile.{DirtyTile}
@@ -19,12 +18,17 @@ use Rattle.shapes.specs.Shapes.{levelWidth, levelHeight}
 use Rattle.grids.specs.Axes.{axisOf, AxisOk, tilesOf, isCut, touched, oneTile, spanAround, spanStart, spanSize}
 use Rattle.blocks.specs.Blocks.{largest}
 
+-- a level cut into tiles along two axes
+pub record Tiling : Type 0 where
+  pub across : Axis
+  pub down : Axis
+
+abbrev pub tiled : Axis → Axis → Tiling
+tiled across down = record { across = across; down = down }
+
 -- how a level of a shape is cut into tiles
 unfoldable pub tilingOf : VersionShape → ℕ → Tiling
-tilingOf s level = record {
-  across = axisOf (levelWidth s level) (blockEdge (s .format));
-  down = axisOf (levelHeight s level) (blockEdge (s .format));
-}
+tilingOf s level = tiled (axisOf (levelWidth s level) (blockEdge (s .format))) (axisOf (levelHeight s level) (blockEdge (s .format)))
 
 unfoldable pub columnsOf : Tiling → ℕ
 columnsOf g = tilesOf (g .across)

@@ -1,7 +1,7 @@
 // One axis of a level, cut into tiles.
 ghost use mathlib.Core.Path.{_≡_};
 ghost use Prim.Native.Nat.{_≤_, _<_};
-ghost use Rattle.grids.specs.Axes.{tileEdge, axisOf, AxisOk, tilesOf, touchedTiles, SpanIn, widened, spanStart, spanSize};
+ghost use Rattle.grids.specs.Axes.{tileEdge, axisOf, AxisOk, tilesOf, touchedTiles, SpanIn, spanStart, spanSize};
 
 // Texels along the axis, and texels along a tile's side.
 pub struct Axis {
@@ -26,8 +26,7 @@ pub fn tile_edge(extent: u64, block: u64) -> u64
     requires { ⌜ (extent ≤ 16384) × (0 < block) × (block ≤ 16) ⌝ }
     ensures { λ r. ⌜ r ≡ tileEdge extent block ⌝ }
 {
-    let share = (extent + 31) / 32;
-    let least = if share < 16 { 16 } else { share };
+    let least = blocks::larger(16, (extent + 31) / 32);
     (least + (block - 1)) / block * block
 }
 
@@ -70,16 +69,6 @@ pub fn touched_tiles(a: Axis, start: u64, size: u64) -> Touched
         first: start / a.edge,
         last: last / a.edge,
     })
-}
-
-// The smallest span around a span and a tile.
-pub fn widen(s: Span, t: u64) -> Span
-    ensures { λ r. ⌜ r ≡ widened s t ⌝ }
-{
-    Span {
-        first: if t < s.first { t } else { s.first },
-        last: if s.last < t { t } else { s.last },
-    }
 }
 
 // The first texel of whole tiles.

@@ -1,9 +1,10 @@
 // Some tile written since a count, on one page.
 ghost use Prim.Native.Nat.{_≤_};
 ghost use lib.ListN.{length};
-ghost use Rattle.grids.specs.Grids.{TilingOk, stampCount, IsDirtyTile};
+ghost use Rattle.grids.specs.Axes.{AxisOk};
+ghost use Rattle.grids.specs.Grids.{tiled, stampCount, IsDirtyTile};
+use crate::axis::Axis;
 use crate::axis::tiles;
-use crate::grid::Tiling;
 
 pub enum DirtyTile {
     At { column: u64, row: u64 },
@@ -11,12 +12,10 @@ pub enum DirtyTile {
 }
 
 // Some tile stamped above `held`, or none if there is none. Which one is left open.
-pub fn dirty_tile(page: &[u64], g: Tiling, held: u64) -> DirtyTile
-    requires { ⌜ TilingOk g × (stampCount g ≤ length (now page)) ⌝ }
-    ensures { λ r. ⌜ IsDirtyTile g held (now (page .entry)) r ⌝ }
+pub fn dirty_tile(page: &[u64], across: Axis, down: Axis, held: u64) -> DirtyTile
+    requires { ⌜ AxisOk across × AxisOk down × (stampCount (tiled across down) ≤ length (now page)) ⌝ }
+    ensures { λ r. ⌜ IsDirtyTile (tiled across down) held (now (page .entry)) r ⌝ }
 {
-    let across = g.across;
-    let down = g.down;
     let columns = tiles(across) as usize;
     let count = columns * (tiles(down) as usize);
     let mut k = 0;

@@ -1,8 +1,9 @@
-// A level's tiles.
+// A level's two axes.
 ghost use mathlib.Core.Path.{_≡_};
 ghost use mathlib.Core.Bool.{true};
 ghost use Rattle.shapes.specs.Shapes.{isShape};
-ghost use Rattle.grids.specs.Grids.{tilingOf, TilingOk, columnsOf, rowsOf, stampCount};
+ghost use Rattle.grids.specs.Axes.{AxisOk};
+ghost use Rattle.grids.specs.Grids.{tiled, tilingOf, stampCount};
 use crate::axis::Axis;
 use crate::axis::axis_of;
 use crate::axis::tiles;
@@ -10,29 +11,26 @@ use shapes::VersionShape;
 use shapes::block_edge;
 use shapes::level_extent;
 
-pub struct Tiling {
-    pub across: Axis,
-    pub down: Axis,
+// A level's columns.
+pub fn across_axis(s: VersionShape, level: u64) -> Axis
+    requires { ⌜ isShape s ≡ true ⌝ }
+    ensures { λ r. ⌜ r ≡ tilingOf s level .across ⌝ }
+{
+    axis_of(level_extent(s.width, level), block_edge(s.format))
 }
 
-// How a level of a shape is cut into tiles.
-pub fn level_tiling(s: VersionShape, level: u64) -> Tiling
+// A level's rows.
+pub fn down_axis(s: VersionShape, level: u64) -> Axis
     requires { ⌜ isShape s ≡ true ⌝ }
-    ensures { λ r. ⌜ r ≡ tilingOf s level ⌝ }
+    ensures { λ r. ⌜ r ≡ tilingOf s level .down ⌝ }
 {
-    let block = block_edge(s.format);
-    Tiling {
-        across: axis_of(level_extent(s.width, level), block),
-        down: axis_of(level_extent(s.height, level), block),
-    }
+    axis_of(level_extent(s.height, level), block_edge(s.format))
 }
 
 // How many stamps a grid has.
-pub fn stamp_count(g: Tiling) -> u64
-    requires { ⌜ TilingOk g ⌝ }
-    ensures { λ r. ⌜ r ≡ stampCount g ⌝ }
+pub fn stamp_count(across: Axis, down: Axis) -> u64
+    requires { ⌜ AxisOk across × AxisOk down ⌝ }
+    ensures { λ r. ⌜ r ≡ stampCount (tiled across down) ⌝ }
 {
-    let across = g.across;
-    let down = g.down;
     tiles(across) * tiles(down)
 }

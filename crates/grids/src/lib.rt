@@ -7,12 +7,13 @@ mod since;
 mod stamping;
 
 pub use axis::Axis;
+pub use axis::axis_of;
 pub use axis::tile_edge;
 pub use axis::tiles;
 pub use dirty::DirtyTile;
 pub use dirty::dirty_tile;
-pub use grid::Tiling;
-pub use grid::level_tiling;
+pub use grid::across_axis;
+pub use grid::down_axis;
 pub use grid::stamp_count;
 pub use newest::is_largest_stamp;
 pub use newest::largest_stamp;

@@ -2,15 +2,14 @@
 ghost use mathlib.Core.Path.{_≡_};
 ghost use Prim.Native.Nat.{_*_, _≤_, _<_};
 ghost use lib.ListN.{length};
-ghost use Rattle.grids.specs.Grids.{TilingOk, stampCount, dirtyTiles, gridIn, boxOf, boxSince};
-ghost use Rattle.grids.specs.Axes.{SpanIn};
-ghost use Rattle.grids.specs.Scans.{nothingSeen, joined, allJoined, dirtyRow, visited};
+ghost use Rattle.grids.specs.Axes.{AxisOk, SpanIn};
+ghost use Rattle.grids.specs.Grids.{tiled, stampCount, dirtyTiles, gridIn, boxOf, boxSince};
+ghost use Rattle.grids.specs.Scans.{nothingSeen, visited, allJoined, dirtyRow};
+use crate::axis::Axis;
 use crate::axis::Span;
 use crate::axis::span_size;
 use crate::axis::span_start;
 use crate::axis::tiles;
-use crate::axis::widen;
-use crate::grid::Tiling;
 use shapes::TexelRect;
 
 // The box of what was written, or none.
@@ -19,11 +18,13 @@ pub enum Dirty {
     Clean,
 }
 
-// The spans of the dirty tiles seen so far, if any was.
+// The first and last columns and rows of the dirty tiles seen so far, if any was.
 pub struct Seen {
     pub any: bool,
-    pub columns: Span,
-    pub rows: Span,
+    pub left: u64,
+    pub right: u64,
+    pub top: u64,
+    pub bottom: u64,
 }
 
 // One tile more, if its stamp is above `held`.
@@ -34,24 +35,20 @@ fn visit(seen: Seen, stamp: u64, held: u64, column: u64, row: u64) -> Seen
         return seen;
     }
     if seen.any {
-        let columns = seen.columns;
-        let rows = seen.rows;
         return Seen {
             any: true,
-            columns: widen(columns, column),
-            rows: widen(rows, row),
+            left: blocks::smaller(seen.left, column),
+            right: blocks::larger(seen.right, column),
+            top: blocks::smaller(seen.top, row),
+            bottom: blocks::larger(seen.bottom, row),
         };
     }
     Seen {
         any: true,
-        columns: Span {
-            first: column,
-            last: column,
-        },
-        rows: Span {
-            first: row,
-            last: row,
-        },
+        left: column,
+        right: column,
+        top: row,
+        bottom: row,
     }
 }
 
@@ -79,8 +76,10 @@ fn visit_page(page: &[u64], columns: usize, rows: usize, held: u64) -> Seen
 {
     let mut seen = Seen {
         any: false,
-        columns: Span { first: 0, last: 0 },
-        rows: Span { first: 0, last: 0 },
+        left: 0,
+        right: 0,
+        top: 0,
+        bottom: 0,
     };
     let mut row = 0;
     while row < rows {
@@ -93,12 +92,10 @@ fn visit_page(page: &[u64], columns: usize, rows: usize, held: u64) -> Seen
 }
 
 // Whole tiles in texels, cut to the level.
-fn box_of(g: Tiling, columns: Span, rows: Span) -> TexelRect
-    requires { ⌜ TilingOk g × SpanIn (g .across) columns × SpanIn (g .down) rows ⌝ }
-    ensures { λ r. ⌜ r ≡ boxOf g columns rows ⌝ }
+fn box_of(across: Axis, down: Axis, columns: Span, rows: Span) -> TexelRect
+    requires { ⌜ AxisOk across × AxisOk down × SpanIn across columns × SpanIn down rows ⌝ }
+    ensures { λ r. ⌜ r ≡ boxOf (tiled across down) columns rows ⌝ }
 {
-    let across = g.across;
-    let down = g.down;
     TexelRect {
         x: span_start(across, columns),
         y: span_start(down, rows),
@@ -108,20 +105,24 @@ fn box_of(g: Tiling, columns: Span, rows: Span) -> TexelRect
 }
 
 // The smallest box of whole tiles around those stamped above `held`, cut to the level.
-pub fn written_since(page: &[u64], g: Tiling, newest: u64, held: u64) -> Dirty
-    requires { ⌜ TilingOk g × (stampCount g ≤ length (now page)) ⌝ }
-    ensures { λ r. ⌜ r ≡ boxSince g held (gridIn g newest (now (page .entry))) ⌝ }
+pub fn written_since(page: &[u64], across: Axis, down: Axis, newest: u64, held: u64) -> Dirty
+    requires { ⌜ AxisOk across × AxisOk down × (stampCount (tiled across down) ≤ length (now page)) ⌝ }
+    ensures { λ r. ⌜ r ≡ boxSince (tiled across down) held (gridIn (tiled across down) newest (now (page .entry))) ⌝ }
 {
     if newest <= held {
         return Dirty::Clean;
     }
-    let across = g.across;
-    let down = g.down;
     let seen = visit_page(page, tiles(across) as usize, tiles(down) as usize, held);
     if !seen.any {
         return Dirty::Clean;
     }
-    let columns = seen.columns;
-    let rows = seen.rows;
-    Dirty::Box(box_of(g, columns, rows))
+    let columns = Span {
+        first: seen.left,
+        last: seen.right,
+    };
+    let rows = Span {
+        first: seen.top,
+        last: seen.bottom,
+    };
+    Dirty::Box(box_of(across, down, columns, rows))
 }

@@ -3,12 +3,14 @@ ghost use mathlib.Core.Path.{_≡_};
 ghost use Prim.Native.Nat.{_+_, _-_, _*_, _≤_, _<_};
 ghost use lib.ListN.{length};
 ghost use Rattle.blocks.specs.Lists.{over};
-ghost use Rattle.grids.specs.Grids.{TilingOk, stampCount, gridIn, stampedBy};
-ghost use Rattle.grids.specs.Scans.{rowsStamped};
+ghost use Rattle.grids.specs.Axes.{AxisOk};
+ghost use Rattle.grids.specs.Grids.{tiled, stampCount, gridIn, stampedBy};
+ghost use Rattle.grids.specs.Scans.{rowsStamped, StampRoom, tilesStamped};
+use crate::axis::Axis;
+use crate::axis::Span;
 use crate::axis::Touched;
 use crate::axis::tiles;
 use crate::axis::touched_tiles;
-use crate::grid::Tiling;
 use shapes::TexelRect;
 
 // `width` stamps from column `left` on set to `n`, in the rows from `top` up to `bottom`.
@@ -31,28 +33,41 @@ fn stamp_rows(
     }
 }
 
-// Stamps every tile that the rectangle, cut to the level, touches. The answer is the grid's newest stamp.
-pub fn stamp(page: &mut [u64], g: Tiling, rect: TexelRect, n: u64, newest: u64) -> u64
-    requires { ⌜ TilingOk g × (stampCount g ≤ length (now page)) ⌝ }
-    ensures { λ r. ⌜ (r ≡ (stampedBy g rect n (gridIn g newest (now (page .entry)))) .newest)
-        × (now (page .exit) ≡ over ((stampedBy g rect n (gridIn g newest (now (page .entry)))) .stamps) (now (page .entry))) ⌝ }
+// The tiles of both spans, in a grid of that many columns, set to `n`.
+fn stamp_tiles(page: &mut [u64], columns: usize, across: Span, down: Span, n: u64)
+    requires { ⌜ StampRoom columns across down (length (now page)) ⌝ }
+    ensures { λ _. ⌜ now (page .exit) ≡ tilesStamped columns across down n (now (page .entry)) ⌝ }
 {
-    let across = g.across;
-    let down = g.down;
+    stamp_rows(
+        page,
+        columns,
+        across.first as usize,
+        (across.last + 1 - across.first) as usize,
+        down.first as usize,
+        (down.last + 1) as usize,
+        n,
+    );
+}
+
+// Stamps every tile that the rectangle, cut to the level, touches. The answer is the grid's newest stamp.
+pub fn stamp(
+    page: &mut [u64],
+    across: Axis,
+    down: Axis,
+    rect: TexelRect,
+    n: u64,
+    newest: u64,
+) -> u64
+    requires { ⌜ AxisOk across × AxisOk down × (stampCount (tiled across down) ≤ length (now page)) ⌝ }
+    ensures { λ r. ⌜ (r ≡ (stampedBy (tiled across down) rect n (gridIn (tiled across down) newest (now (page .entry)))) .newest)
+        × (now (page .exit) ≡ over ((stampedBy (tiled across down) rect n (gridIn (tiled across down) newest (now (page .entry)))) .stamps) (now (page .entry))) ⌝ }
+{
     let Touched::Tiles(columns) = touched_tiles(across, rect.x, rect.width) else {
         return newest;
     };
     let Touched::Tiles(rows) = touched_tiles(down, rect.y, rect.height) else {
         return newest;
     };
-    stamp_rows(
-        page,
-        tiles(across) as usize,
-        columns.first as usize,
-        (columns.last + 1 - columns.first) as usize,
-        rows.first as usize,
-        (rows.last + 1) as usize,
-        n,
-    );
+    stamp_tiles(page, tiles(across) as usize, columns, rows, n);
     n
 }

@@ -1,5 +1,5 @@
 -- Some dirty tile, or none if none is. Assumes nothing.
-use mathlib.Core.Path.{_≡_, refl, sym, ap, _∙_}
+use mathlib.Core.Path.{_≡_, ap₂}
 use Prim.Native.Nat.{ℕ, _-_, _*_, _≤_, _<_}
 use native.Mathlib.Omega.{arith}
 use native.Mathlib.Nat.{mul-le-mul}
@@ -7,7 +7,7 @@ use lib.ListN.{length, getD}
 use borrow.Author.Count.{below-more}
 use borrow.Author.Needs.{needs}
 use Rattle.grids.specs.Axes.{tilesOf}
-use Rattle.grids.specs.Grids.{columnsOf, rowsOf, stampCount}
+use Rattle.grids.specs.Grids.{Tiling, tiled, columnsOf, rowsOf, stampCount}
 use Rattle.grids.proofs.Boxes.{dirty-found, dirty-none}
 use Rattle.grids.proofs.RowByRow.{factor-pos}
 use Rattle.grids.proofs.Tilings.{count-bound}
@@ -21,23 +21,32 @@ abbrev μ-loop : tie.MeasureT-loop
 μ-loop page held columns count k₀ k = count - k
 
 tiles-requires : tie.Need-tiles-requires Inv-loop μ-loop
-tiles-requires c κs = c .before .before .before .pre .0 .across
+tiles-requires c κs = c .before .pre .0
 
 tiles-requires-2 : tie.Need-tiles-requires-2 Inv-loop μ-loop
-tiles-requires-2 c κs = c .before .before .before .before .pre .0 .down
+tiles-requires-2 c κs = c .before .before .pre .1
 
--- columns and stamps as the definitions count them
+-- the grid, and its columns and stamps as the definitions count them
 module _ (c : tie.After-tiles2 Inv-loop μ-loop) where
-  wide : c .before .tiles .result ≡ columnsOf (c .before .before .before .before .before .args .g)
+  abbrev entry : tie.Start Inv-loop μ-loop
+  entry = c .before .before .before
+
+  abbrev grid : Tiling
+  grid = tiled (entry .args .across) (entry .args .down)
+
+  wide : c .before .tiles .result ≡ columnsOf grid
   unfolding columnsOf
   wide = c .before .tiles .ensures
 
-  many : c .before .tiles .result * c .tiles2 .result ≡ stampCount (c .before .before .before .before .before .args .g)
+  many : c .before .tiles .result * c .tiles2 .result ≡ stampCount grid
   unfolding stampCount columnsOf rowsOf
-  many = rw (c .before .tiles .ensures, c .tiles2 .ensures)
+  many = ap₂ (λ m n. m * n) (c .before .tiles .ensures) (c .tiles2 .ensures)
+
+  bound : stampCount grid ≤ 1024
+  bound = count-bound grid (record { across = entry .pre .0; down = entry .pre .1 })
 
 mul-count : tie.Need-mul-count Inv-loop μ-loop
-mul-count c = let s = c .before .before .before .before .before in omega (arith, many c, count-bound (s .args .g) (s .pre .0))
+mul-count c = omega (arith, many c, bound c)
 
 loop-holds : tie.Need-loop-holds Inv-loop μ-loop
 loop-holds c = (search needs, λ i h. absurd (let y : ⊥ = omega arith in y))
@@ -45,32 +54,29 @@ loop-holds c = (search needs, λ i h. absurd (let y : ⊥ = omega arith in y))
 mul-if1 : tie.Need-mul-if1 Inv-loop μ-loop
 mul-if1 c =
     let t = c .before .before in
-    let s = t .before .before .before .before .before in
-    omega (arith, many t, count-bound (s .args .g) (s .pre .0), c .loop-test .taken)
+    omega (arith, many t, bound t, c .loop-test .taken)
 
 shared-slice-read-if1 : tie.Need-shared-slice-read-if1 Inv-loop μ-loop
 shared-slice-read-if1 c =
     let t = c .before .before .before in
-    omega (arith, many t, c .before .loop-test .taken, t .before .before .before .before .before .pre .1)
+    omega (arith, many t, c .before .loop-test .taken, entry t .pre .2)
 
-rem-t15 : tie.Need-rem-t15 Inv-loop μ-loop
-rem-t15 c = let t = c .before .before .before .before in omega (arith, factor-pos (t .before .tiles .result) (t .tiles2 .result) _ (c .before .before .loop-test .taken))
+rem-t14 : tie.Need-rem-t14 Inv-loop μ-loop
+rem-t14 c = let t = c .before .before .before .before in omega (arith, factor-pos (t .before .tiles .result) (t .tiles2 .result) _ (c .before .before .loop-test .taken))
 
-div-t17 : tie.Need-div-t17 Inv-loop μ-loop
-div-t17 c = let t = c .before .before .before .before in omega (arith, factor-pos (t .before .tiles .result) (t .tiles2 .result) _ (c .before .before .loop-test .taken))
+div-t16 : tie.Need-div-t16 Inv-loop μ-loop
+div-t16 c = let t = c .before .before .before .before in omega (arith, factor-pos (t .before .tiles .result) (t .tiles2 .result) _ (c .before .before .loop-test .taken))
 
 returns : tie.Need-returns Inv-loop μ-loop
 returns c =
     let l = c .before .before .before in
     let t = l .before in
-    let s = t .before .before .before .before .before in
-    dirty-found (s .args .g) (s .args .held) (s .args .page .now) _ _ (wide t) (many t) (l .loop .k) (c .before .before .loop-test .taken) (c .if1 .taken)
+    dirty-found (grid t) (entry t .args .held) (entry t .args .page .now) _ _ (wide t) (many t) (l .loop .k) (c .before .before .loop-test .taken) (c .if1 .taken)
 
 add-k : tie.Need-add-k Inv-loop μ-loop
 add-k c =
     let t = c .before .before .before .before in
-    let s = t .before .before .before .before .before in
-    omega (arith, many t, count-bound (s .args .g) (s .pre .0), c .before .before .loop-test .taken)
+    omega (arith, many t, bound t, c .before .before .loop-test .taken)
 
 loop-less : tie.Need-loop-less Inv-loop μ-loop
 loop-less c = search needs
@@ -82,8 +88,7 @@ returns-2 : tie.Need-returns-2 Inv-loop μ-loop
 returns-2 c =
     let l = c .before in
     let t = l .before in
-    let s = t .before .before .before .before .before in
-    dirty-none (s .args .g) (s .args .held) (s .args .page .now) _ _ (wide t) (many t) (λ i h. l .loop .inv .1 i (omega arith))
+    dirty-none (grid t) (entry t .args .held) (entry t .args .page .now) _ _ (wide t) (many t) (λ i h. l .loop .inv .1 i (omega arith))
 
 pub dirty-tile-spec : {M : Type 1} → statement M
 dirty-tile-spec =
@@ -97,8 +102,8 @@ dirty-tile-spec =
     loop-holds
     mul-if1
     shared-slice-read-if1
-    rem-t15
-    div-t17
+    rem-t14
+    div-t16
     returns
     add-k
     loop-less

@@ -1,24 +1,23 @@
 -- How many stamps a grid has. Assumes nothing.
 use mathlib.Core.Path.{_≡_}
-use Prim.Native.Nat.{ℕ, _*_, _≤_}
+use Prim.Native.Nat.{_≤_}
 use native.Mathlib.Omega.{arith}
 use native.Mathlib.Nat.{mul-le-mul}
-use Rattle.grids.specs.Axes.{tilesOf}
 use Rattle.grids.specs.Grids.{columnsOf, rowsOf, stampCount}
 use Rattle.grids.proofs.grid.stamp_count.Statement.{statement}
 use Rattle.grids.proofs.grid.stamp_count.Tie as tie
 
 tiles-requires : tie.Need-tiles-requires
-tiles-requires c κs = c .before .before .pre .across
+tiles-requires c κs = c .pre .0
 
 tiles-requires-2 : tie.Need-tiles-requires-2
-tiles-requires-2 c κs = c .before .before .before .pre .down
+tiles-requires-2 c κs = c .before .pre .1
 
 mul-result : tie.Need-mul-result
 mul-result c =
-    let s = c .before .before .before .before in
-    let a : c .before .tiles .result ≤ 32 = omega (arith, c .before .tiles .ensures, s .pre .across .tiles) in
-    let b : c .tiles2 .result ≤ 32 = omega (arith, c .tiles2 .ensures, s .pre .down .tiles) in
+    let s = c .before .before in
+    let a : c .before .tiles .result ≤ 32 = omega (arith, c .before .tiles .ensures, s .pre .0 .tiles) in
+    let b : c .tiles2 .result ≤ 32 = omega (arith, c .tiles2 .ensures, s .pre .1 .tiles) in
     omega (arith, mul-le-mul a b)
 
 returns : tie.Need-returns

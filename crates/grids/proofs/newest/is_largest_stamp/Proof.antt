@@ -8,15 +8,15 @@ use lib.Seq.{length-take-le}
 use borrow.Author.Needs.{needs}
 use borrow.Author.Tests.{not-true, not-false}
 use Rattle.blocks.proofs.Scans.{largest-test}
-use Rattle.grids.specs.Grids.{stampCount, largestStamp}
+use Rattle.grids.specs.Grids.{tiled, stampCount, largestStamp}
 use Rattle.grids.proofs.newest.is_largest_stamp.Statement.{statement}
 use Rattle.grids.proofs.newest.is_largest_stamp.Tie as tie
 
 stamp-count-requires : tie.Need-stamp-count-requires
-stamp-count-requires c κs = c .before .pre .0
+stamp-count-requires c κs = let s = c .before in (s .pre .0, s .pre .1)
 
 slice-aggregate-within : tie.Need-slice-aggregate-within
-slice-aggregate-within c = sym (length-take-le _ _ (omega (arith, c .before .stamp-count .ensures, c .before .before .before .pre .1)))
+slice-aggregate-within c = sym (length-take-le _ _ (omega (arith, c .before .stamp-count .ensures, c .before .before .before .pre .2)))
 
 within-requires : tie.Need-within-requires
 within-requires c κs = search needs
@@ -27,12 +27,12 @@ returns c =
     let s = c .before .before .before .before .before in
     let n = c .before .before .before .stamp-count .ensures in
     let w = rw n at (c .before .within .ensures) in
-    let l = length-take-le (stampCount (s .args .g)) (s .args .page .now) (s .pre .1) in
-    sym (largest-test (s .args .newest) (take (stampCount (s .args .g)) (s .args .page .now)) (omega (arith, l, s .pre .2)) ∙ rw (sym w ∙ not-true _ (c .if1 .taken)))
+    let l = length-take-le (stampCount (tiled (s .args .across) (s .args .down))) (s .args .page .now) (s .pre .2) in
+    sym (largest-test (s .args .newest) (take (stampCount (tiled (s .args .across) (s .args .down))) (s .args .page .now)) (omega (arith, l, s .pre .3)) ∙ rw (sym w ∙ not-true _ (c .if1 .taken)))
 
 slice-aggregate-contains : tie.Need-slice-aggregate-contains
 slice-aggregate-contains c =
-    sym (length-take-le _ _ (omega (arith, c .before .before .before .before .stamp-count .ensures, c .before .before .before .before .before .before .pre .1)))
+    sym (length-take-le _ _ (omega (arith, c .before .before .before .before .stamp-count .ensures, c .before .before .before .before .before .before .pre .2)))
 
 contains-requires : tie.Need-contains-requires
 contains-requires c κs = search needs
@@ -44,8 +44,8 @@ returns-2 c =
     let n = c .before .before .before .before .before .stamp-count .ensures in
     let w = rw n at (c .before .before .before .within .ensures) in
     let m = rw n at (c .contains .ensures) in
-    let l = length-take-le (stampCount (s .args .g)) (s .args .page .now) (s .pre .1) in
-    m ∙ sym (largest-test (s .args .newest) (take (stampCount (s .args .g)) (s .args .page .now)) (omega (arith, l, s .pre .2)) ∙ rw (sym w ∙ not-false _ (c .before .before .if1 .left)))
+    let l = length-take-le (stampCount (tiled (s .args .across) (s .args .down))) (s .args .page .now) (s .pre .2) in
+    m ∙ sym (largest-test (s .args .newest) (take (stampCount (tiled (s .args .across) (s .args .down))) (s .args .page .now)) (omega (arith, l, s .pre .3)) ∙ rw (sym w ∙ not-false _ (c .before .before .if1 .left)))
 
 pub is-largest-stamp-spec : {M : Type 1} → statement M
 is-largest-stamp-spec =

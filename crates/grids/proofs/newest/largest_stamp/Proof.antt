@@ -10,10 +10,10 @@ use Rattle.grids.proofs.newest.largest_stamp.Statement.{statement}
 use Rattle.grids.proofs.newest.largest_stamp.Tie as tie
 
 stamp-count-requires : tie.Need-stamp-count-requires
-stamp-count-requires c κs = c .before .pre .0
+stamp-count-requires c κs = let s = c .before in (s .pre .0, s .pre .1)
 
 slice-aggregate-largest-of : tie.Need-slice-aggregate-largest-of
-slice-aggregate-largest-of c = sym (length-take-le _ _ (omega (arith, c .before .stamp-count .ensures, c .before .before .before .pre .1)))
+slice-aggregate-largest-of c = sym (length-take-le _ _ (omega (arith, c .before .stamp-count .ensures, c .before .before .before .pre .2)))
 
 largest-of-requires : tie.Need-largest-of-requires
 largest-of-requires c κs = search needs

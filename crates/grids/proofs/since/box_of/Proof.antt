@@ -1,20 +1,21 @@
 -- Whole tiles in texels. Assumes nothing.
 use mathlib.Core.Path.{_≡_}
+use borrow.Author.Needs.{needs}
 use Rattle.grids.specs.Grids.{boxOf}
 use Rattle.grids.proofs.since.box_of.Statement.{statement}
 use Rattle.grids.proofs.since.box_of.Tie as tie
 
 span-start-requires : tie.Need-span-start-requires
-span-start-requires c κs = let s = c .before .before in (s .pre .0 .across, s .pre .1)
+span-start-requires c κs = (c .pre .0, c .pre .2)
 
 span-start-requires-2 : tie.Need-span-start-requires-2
-span-start-requires-2 c κs = let s = c .before .before .before in (s .pre .0 .down, s .pre .2)
+span-start-requires-2 c κs = let s = c .before in (s .pre .1, s .pre .3)
 
 span-size-requires : tie.Need-span-size-requires
-span-size-requires c κs = let s = c .before .before .before .before in (s .pre .0 .across, s .pre .1)
+span-size-requires c κs = let s = c .before .before in (s .pre .0, s .pre .2)
 
 span-size-requires-2 : tie.Need-span-size-requires-2
-span-size-requires-2 c κs = let s = c .before .before .before .before .before in (s .pre .0 .down, s .pre .2)
+span-size-requires-2 c κs = let s = c .before .before .before in (s .pre .1, s .pre .3)
 
 returns : tie.Need-returns
 unfolding boxOf

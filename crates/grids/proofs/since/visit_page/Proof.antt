@@ -6,7 +6,6 @@ use native.Mathlib.Omega.{arith}
 use lib.ListN.{length, take, drop, length-drop}
 use lib.Seq.{length-take-le}
 use borrow.Author.Needs.{needs}
-use Rattle.grids.specs.Axes.{oneTile}
 use Rattle.grids.specs.Grids.{dirtyTiles}
 use Rattle.grids.specs.Scans.{nothingSeen, allJoined, dirtyRow}
 use Rattle.grids.proofs.Rows.{row-within}
@@ -22,7 +21,7 @@ abbrev μ-loop : tie.MeasureT-loop
 μ-loop page columns rows held seen₀ row₀ seen row = rows - row
 
 loop-holds : tie.Need-loop-holds Inv-loop μ-loop
-unfolding nothingSeen oneTile
+unfolding nothingSeen
 loop-holds c =
     let a = c .before .args in
     (search needs, ap (allJoined nothingSeen) (rows-all (a .columns) (a .rows) (a .held) (a .page .now)))

@@ -1,23 +1,27 @@
 -- A write's stamps on its page. Assumes nothing.
-use mathlib.Core.Path.{_≡_, refl, sym, ap, ap₂, _∙_}
+use mathlib.Core.Path.{_≡_, sym, ap, _∙_}
 use mathlib.Core.Bool.{false, _&&_, and-false}
-use mathlib.Core.List.{List}
-use Prim.Native.Nat.{ℕ, _+_, _-_, _*_, _≤_}
-use native.Mathlib.Omega.{arith}
-use native.Mathlib.Nat.{mul-le-mul}
 use borrow.Author.Needs.{needs}
+use lib.ListN.{length}
 use Rattle.grids.specs.declared.axis.Span.{Span}
 use Rattle.grids.specs.declared.axis.Touched.the-variants.{Tiles}
-use Rattle.grids.specs.Axes.{tilesOf, isCut, touchedTiles}
-use Rattle.grids.specs.Grids.{columnsOf, rowsOf, stampCount, isCutRect}
-use Rattle.grids.specs.Scans.{rowsStamped}
+use Rattle.grids.specs.Axes.{isCut, touchedTiles}
+use Rattle.grids.specs.Grids.{Tiling, tiled, TilingOk, columnsOf, isCutRect}
+use Rattle.grids.specs.Scans.{StampRoom, tilesStamped}
 use Rattle.grids.proofs.Axes.{tiles-none}
-use Rattle.grids.proofs.Pages.{page-kept, newest-kept, SpansFit, spans-fit, page-spans, newest-stamped}
+use Rattle.grids.proofs.Pages.{page-kept, newest-kept, stamp-room, page-spans, newest-stamped}
 use Rattle.grids.proofs.stamping.stamp.Statement.{statement}
 use Rattle.grids.proofs.stamping.stamp.Tie as tie
 
+-- the level's grid
+abbrev grid : tie.Start → Tiling
+grid s = tiled (s .args .across) (s .args .down)
+
+abbrev grid-ok : (s : tie.Start) → TilingOk (grid s)
+grid-ok s = record { across = s .pre .0; down = s .pre .1 }
+
 touched-tiles-requires : tie.Need-touched-tiles-requires
-touched-tiles-requires c κs = c .before .before .before .pre .0 .across
+touched-tiles-requires c κs = c .before .pre .0
 
 enum-known-columns : tie.Need-enum-known-columns
 enum-known-columns c = search needs
@@ -29,16 +33,16 @@ enum-told c = search needs
 returns : tie.Need-returns
 unfolding isCutRect
 returns c =
-    let s = c .before .before .before .before .before .before in
+    let s = c .before .before .before .before in
     let a = s .args in
-    let e = tiles-none (a .g .across) (a .rect .x) (a .rect .width) (sym (c .before .before .touched-tiles .ensures) ∙ c .enum-told .given .1) in
-    let f : isCut (a .g .across) (a .rect .x) (a .rect .width) && isCut (a .g .down) (a .rect .y) (a .rect .height) ≡ false = rw e in (
-      sym (newest-kept (a .g) (s .pre .0) (a .rect) (a .n) (a .newest) (a .page .now) (s .pre .1) f),
-      sym (page-kept (a .g) (s .pre .0) (a .rect) (a .n) (a .newest) (a .page .now) (s .pre .1) f),
+    let e = tiles-none (a .across) (a .rect .x) (a .rect .width) (sym (c .before .before .touched-tiles .ensures) ∙ c .enum-told .given .1) in
+    let f : isCut (a .across) (a .rect .x) (a .rect .width) && isCut (a .down) (a .rect .y) (a .rect .height) ≡ false = rw e in (
+      sym (newest-kept (grid s) (grid-ok s) (a .rect) (a .n) (a .newest) (a .page .now) (s .pre .2) f),
+      sym (page-kept (grid s) (grid-ok s) (a .rect) (a .n) (a .newest) (a .page .now) (s .pre .2) f),
     )
 
 touched-tiles-requires-2 : tie.Need-touched-tiles-requires-2
-touched-tiles-requires-2 c κs = c .before .before .before .before .before .before .before .pre .0 .down
+touched-tiles-requires-2 c κs = c .before .before .before .before .before .pre .1
 
 enum-known-rows : tie.Need-enum-known-rows
 enum-known-rows c = search needs
@@ -50,22 +54,22 @@ enum-told-2 c = search needs
 returns-2 : tie.Need-returns-2
 unfolding isCutRect
 returns-2 c =
-    let s = c .before .before .before .before .before .before .before .before .before .before in
+    let s = c .before .before .before .before .before .before .before .before in
     let a = s .args in
-    let e = tiles-none (a .g .down) (a .rect .y) (a .rect .height) (sym (c .before .before .touched-tiles2 .ensures) ∙ c .enum-told2 .given .1) in
-    let f : isCut (a .g .across) (a .rect .x) (a .rect .width) && isCut (a .g .down) (a .rect .y) (a .rect .height) ≡ false =
-    ap (λ b. isCut (a .g .across) (a .rect .x) (a .rect .width) && b) e ∙ and-false (isCut (a .g .across) (a .rect .x) (a .rect .width)) in (
-      sym (newest-kept (a .g) (s .pre .0) (a .rect) (a .n) (a .newest) (a .page .now) (s .pre .1) f),
-      sym (page-kept (a .g) (s .pre .0) (a .rect) (a .n) (a .newest) (a .page .now) (s .pre .1) f),
+    let e = tiles-none (a .down) (a .rect .y) (a .rect .height) (sym (c .before .before .touched-tiles2 .ensures) ∙ c .enum-told2 .given .1) in
+    let f : isCut (a .across) (a .rect .x) (a .rect .width) && isCut (a .down) (a .rect .y) (a .rect .height) ≡ false =
+    ap (λ b. isCut (a .across) (a .rect .x) (a .rect .width) && b) e ∙ and-false (isCut (a .across) (a .rect .x) (a .rect .width)) in (
+      sym (newest-kept (grid s) (grid-ok s) (a .rect) (a .n) (a .newest) (a .page .now) (s .pre .2) f),
+      sym (page-kept (grid s) (grid-ok s) (a .rect) (a .n) (a .newest) (a .page .now) (s .pre .2) f),
     )
 
 tiles-requires : tie.Need-tiles-requires
-tiles-requires c κs = c .before .before .before .before .before .before .before .before .before .before .before .before .pre .0 .across
+tiles-requires c κs = c .before .before .before .before .before .before .before .before .before .before .pre .0
 
 -- where both spans were found
 module _ (c : tie.After-known-told2) where
   abbrev entry : tie.Start
-  entry = c .before .before .before .before .before .before .before .before .before .before .before
+  entry = c .before .before .before .before .before .before .before .before .before
 
   abbrev columns : Span
   columns = c .before .before .before .before .before .columns .given .0 .0
@@ -73,62 +77,37 @@ module _ (c : tie.After-known-told2) where
   abbrev rows : Span
   rows = c .before .rows .given .0 .0
 
-  columns-found : touchedTiles (entry .args .g .across) (entry .args .rect .x) (entry .args .rect .width) ≡ Tiles columns
+  columns-found : touchedTiles (entry .args .across) (entry .args .rect .x) (entry .args .rect .width) ≡ Tiles columns
   columns-found = sym (c .before .before .before .before .before .before .before .touched-tiles .ensures) ∙ c .before .before .before .before .before .columns .given .1
 
-  rows-found : touchedTiles (entry .args .g .down) (entry .args .rect .y) (entry .args .rect .height) ≡ Tiles rows
+  rows-found : touchedTiles (entry .args .down) (entry .args .rect .y) (entry .args .rect .height) ≡ Tiles rows
   rows-found = sym (c .before .before .before .touched-tiles2 .ensures) ∙ c .before .rows .given .1
 
-  fits : SpansFit (entry .args .g) (entry .pre .0) (entry .args .rect) (entry .args .n) (entry .args .newest) (entry .args .page .now) (entry .pre .1) columns rows columns-found rows-found
-  fits = spans-fit (entry .args .g) (entry .pre .0) (entry .args .rect) (entry .args .n) (entry .args .newest) (entry .args .page .now) (entry .pre .1) columns rows columns-found rows-found
-
-  -- what the numbers stay below
-  across-bound : columnsOf (entry .args .g) ≤ 32
-  unfolding columnsOf
-  across-bound = entry .pre .0 .across .tiles
-
-  down-bound : rowsOf (entry .args .g) ≤ 32
-  unfolding rowsOf
-  down-bound = entry .pre .0 .down .tiles
-
-add-stamp-rows : tie.Need-add-stamp-rows
-add-stamp-rows c = let k = c .before .before .before in omega (arith, fits k .inside, across-bound k)
-
-sub-stamp-rows : tie.Need-sub-stamp-rows
-sub-stamp-rows c = let k = c .before .before .before .before in omega (arith, fits k .columns)
-
-add-stamp-rows-2 : tie.Need-add-stamp-rows-2
-add-stamp-rows-2 c = let k = c .before .before .before .before .before in omega (arith, fits k .below, down-bound k)
+  room : StampRoom (columnsOf (grid entry)) columns rows (length (entry .args .page .now))
+  room =
+      stamp-room (grid entry) (grid-ok entry) (entry .args .rect) (entry .args .n) (entry .args .newest) (entry .args .page .now) (entry .pre .2) columns rows columns-found
+      rows-found
 
 -- the tiles call counts the columns
-tiles-is : (c : tie.After-tiles) → c .tiles .result ≡ columnsOf (entry (c .before .before) .args .g)
+tiles-is : (c : tie.After-tiles) → c .tiles .result ≡ columnsOf (grid (entry (c .before .before)))
 unfolding columnsOf
 tiles-is c = c .tiles .ensures
 
-stamp-rows-requires : tie.Need-stamp-rows-requires
-stamp-rows-requires c κs =
-    let k = c .before .before .before .before .before in
-    let e = tiles-is (c .before .before .before) in (
-      omega (arith, e, fits k .columns, fits k .inside),
-      rw e (omega (arith, fits k .fits, entry k .pre .1)),
-      omega (arith, e, across-bound k),
-      omega (arith, fits k .below, down-bound k),
-      omega (arith, fits k .rows),
-    )
+stamp-tiles-requires : tie.Need-stamp-tiles-requires
+stamp-tiles-requires c κs = let k = c .before .before in rw (tiles-is c) (room k)
 
 same-length : tie.Need-same-length
 same-length c = search needs
 
 returns-3 : tie.Need-returns-3
 returns-3 c =
-    let k = c .before .before .before .before .before .before .before .before in
+    let k = c .before .before .before .before .before in
     let s = entry k in
-    let a = s .args in
-    let e = tiles-is (c .before .before .before .before .before .before) in (
-      sym (newest-stamped (a .g) (s .pre .0) (a .rect) (a .n) (a .newest) (a .page .now) (s .pre .1) (columns k) (rows k) (columns-found k) (rows-found k)),
-      c .before .before .stamp-rows .ensures
-          ∙ ap (λ m. rowsStamped m (columns k .first) (columns k .last + 1 - columns k .first) (a .n) (rows k .first) (rows k .last + 1 - rows k .first) (a .page .now)) e
-          ∙ sym (page-spans (a .g) (s .pre .0) (a .rect) (a .n) (a .newest) (a .page .now) (s .pre .1) (columns k) (rows k) (columns-found k) (rows-found k)),
+    let a = s .args in (
+      sym (newest-stamped (grid s) (grid-ok s) (a .rect) (a .n) (a .newest) (a .page .now) (s .pre .2) (columns k) (rows k) (columns-found k) (rows-found k)),
+      c .before .before .stamp-tiles .ensures
+          ∙ ap (λ m. tilesStamped m (columns k) (rows k) (a .n) (a .page .now)) (tiles-is (c .before .before .before))
+          ∙ sym (page-spans (grid s) (grid-ok s) (a .rect) (a .n) (a .newest) (a .page .now) (s .pre .2) (columns k) (rows k) (columns-found k) (rows-found k)),
     )
 
 pub stamp-spec : {M : Type 1} → statement M
@@ -144,9 +123,6 @@ stamp-spec =
     enum-told-2
     returns-2
     tiles-requires
-    add-stamp-rows
-    sub-stamp-rows
-    add-stamp-rows-2
-    stamp-rows-requires
+    stamp-tiles-requires
     same-length
     returns-3)
