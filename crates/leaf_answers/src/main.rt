@@ -1,14 +1,16 @@
+// Answers questions on the leaf functions of `shapes` and `grids`, a line each, as the program `leaf` of compare/ does
+// over the published Rust; compare/README.md has the questions. Budgets are not answered.
 mod answer;
+mod axis_questions;
 mod fields;
+mod grid_questions;
+mod lines;
 mod question;
 mod rect_questions;
 mod shape_questions;
 
-use answer::put_line;
-use question::answer_of;
-
 fn main() {
-    let mut out = io::buffer();
-    let k = put_line(&mut out, 0, answer_of(b"level_extent,17,1"));
-    io::write_all(1, &out[..k]);
+    let mut buf = io::large_buffer();
+    let mut out = io::large_buffer();
+    lines::answer_all(&mut buf, &mut out);
 }

@@ -2,8 +2,11 @@
 ghost use Prim.Native.Nat.{_≤_};
 ghost use lib.ListN.{length};
 use crate::answer::Answer;
+use crate::axis_questions::tile_edge;
+use crate::axis_questions::tiles;
 use crate::fields::field_end;
 use crate::fields::is_word;
+use crate::grid_questions::grid;
 use crate::rect_questions::on_grid;
 use crate::rect_questions::upload;
 use crate::shape_questions::level_extent;
@@ -21,9 +24,15 @@ pub fn answer_of(line: &[u8]) -> Answer
         return Answer::Malformed;
     }
     let fields = &line[end + 1..];
-    let word = &line[..end];
+    let word = &line[0..end];
     if is_word(word, b"level_extent") {
         return level_extent(fields);
+    }
+    if is_word(word, b"tile_edge") {
+        return tile_edge(fields);
+    }
+    if is_word(word, b"tiles") {
+        return tiles(fields);
     }
     if is_word(word, b"bytes") {
         return shape_bytes(fields);
@@ -39,6 +48,9 @@ pub fn answer_of(line: &[u8]) -> Answer
     }
     if is_word(word, b"ongrid") {
         return on_grid(fields);
+    }
+    if is_word(word, b"grid") {
+        return grid(fields);
     }
     Answer::Malformed
 }

@@ -50,7 +50,7 @@ pub fn upload(fields: &[u8]) -> Answer
     requires { ⌜ length (now fields) ≤ 65536 ⌝ }
 {
     let end = field_end(fields, 0);
-    let Source::Known(source) = source_of(&fields[..end]) else {
+    let Source::Known(source) = source_of(&fields[0..end]) else {
         return Answer::Malformed;
     };
     let n = read_numbers(fields, end + 1, 6);
@@ -62,6 +62,10 @@ pub fn upload(fields: &[u8]) -> Answer
         UploadAnswer::Written(rect) => Answer::Box(0, rect),
         UploadAnswer::NoFormat => Answer::Refused,
     }
+}
+
+fn is_on_grid(format: u64, rect: TexelRect, width: u64, height: u64) -> bool {
+    shapes::rect_on_block_grid(shapes::block_edge(format), rect, width, height)
 }
 
 // FORMAT,X,Y,WIDTH,HEIGHT,EXTENT_W,EXTENT_H
@@ -81,6 +85,5 @@ pub fn on_grid(fields: &[u8]) -> Answer
     if 8 < format {
         return Answer::Refused;
     }
-    let edge = shapes::block_edge(format);
-    yes_or_no(shapes::rect_on_block_grid(edge, rect_of(v), v[4], v[5]))
+    yes_or_no(is_on_grid(format, rect_of(v), v[4], v[5]))
 }

@@ -38,8 +38,9 @@ pub fn level_extent(fields: &[u8]) -> Answer
     requires { ⌜ length (now fields) ≤ 65536 ⌝ }
 {
     let n = read_numbers(fields, 0, 2);
-    if is_all(fields, n, 2) & is_u32(n.values[0]) & (n.values[1] <= 14) {
-        Answer::Number(shapes::level_extent(n.values[0], n.values[1]))
+    let v = n.values;
+    if is_all(fields, n, 2) & is_u32(v[0]) & (v[1] <= 14) {
+        Answer::Number(shapes::level_extent(v[0], v[1]))
     } else {
         Answer::Malformed
     }
@@ -50,10 +51,11 @@ pub fn shape_bytes(fields: &[u8]) -> Answer
     requires { ⌜ length (now fields) ≤ 65536 ⌝ }
 {
     let n = read_numbers(fields, 0, 6);
-    if !(is_all(fields, n, 6) & are_shape_fields(n.values)) {
+    let v = n.values;
+    if !(is_all(fields, n, 6) & are_shape_fields(v)) {
         return Answer::Malformed;
     }
-    match shapes::bytes(shape_of(n.values)) {
+    match shapes::bytes(shape_of(v)) {
         BytesAnswer::Bytes(bytes) => Answer::Accepted(bytes),
         BytesAnswer::NoShape => Answer::Refused,
     }
@@ -64,10 +66,11 @@ pub fn shape_slices(fields: &[u8]) -> Answer
     requires { ⌜ length (now fields) ≤ 65536 ⌝ }
 {
     let n = read_numbers(fields, 0, 6);
-    if !(is_all(fields, n, 6) & are_shape_fields(n.values)) {
+    let v = n.values;
+    if !(is_all(fields, n, 6) & are_shape_fields(v)) {
         return Answer::Malformed;
     }
-    let shape = shape_of(n.values);
+    let shape = shape_of(v);
     if shapes::is_shape(shape) {
         Answer::Accepted(shapes::slices(shape))
     } else {
@@ -80,10 +83,11 @@ pub fn shape_records(fields: &[u8]) -> Answer
     requires { ⌜ length (now fields) ≤ 65536 ⌝ }
 {
     let n = read_numbers(fields, 0, 7);
-    if !(is_all(fields, n, 7) & are_shape_fields(n.values) & is_u32(n.values[6])) {
+    let v = n.values;
+    if !(is_all(fields, n, 7) & are_shape_fields(v) & is_u32(v[6])) {
         return Answer::Malformed;
     }
-    match shapes::records_every_write(shape_of(n.values), n.values[6]) {
+    match shapes::records_every_write(shape_of(v), v[6]) {
         RecordsAnswer::Records(records) => yes_or_no(records),
         RecordsAnswer::Shapeless => Answer::Refused,
     }

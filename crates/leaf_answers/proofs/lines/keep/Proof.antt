@@ -1,0 +1,83 @@
+use borrow.Author.Needs.{needs}
+use Rattle.leaf_answers.proofs.lines.keep.Statement.{statement}
+use Rattle.leaf_answers.proofs.lines.keep.Tie as tie
+use Rattle.leaf_answers.proofs.lines.keep.Reads as reads
+use Rattle.leaf_answers.proofs.lines.keep.Lts as lts
+
+abbrev Inv-loop : tie.InvT-loop
+Inv-loop buf₀ from to i₀ buf i = ?
+
+abbrev μ-loop : tie.MeasureT-loop
+μ-loop buf₀ from to i₀ buf i = ?
+
+-- src/lines.rt:113:5
+loop-holds : tie.Need-loop-holds Inv-loop μ-loop
+loop-holds c = search needs
+
+-- src/lines.rt:113:15
+sub-loop : tie.Need-sub-loop Inv-loop μ-loop
+sub-loop c = search needs
+
+-- src/lines.rt:114:22
+add-buf : tie.Need-add-buf Inv-loop μ-loop
+add-buf c = search needs
+
+-- src/lines.rt:114:18
+slice-read-buf : tie.Need-slice-read-buf Inv-loop μ-loop
+slice-read-buf c = search needs
+
+-- src/lines.rt:114:9
+slice-write-buf : tie.Need-slice-write-buf Inv-loop μ-loop
+slice-write-buf c = search needs
+
+-- src/lines.rt:115:9
+add-i : tie.Need-add-i Inv-loop μ-loop
+add-i c = search needs
+
+-- src/lines.rt:113:5
+loop-less : tie.Need-loop-less Inv-loop μ-loop
+loop-less c = search needs
+
+-- src/lines.rt:113:5
+loop-again : tie.Need-loop-again Inv-loop μ-loop
+loop-again c = search needs
+
+-- src/lines.rt:119:9
+slice-write-buf-2 : tie.Need-slice-write-buf-2 Inv-loop μ-loop
+slice-write-buf-2 c = search needs
+
+-- src/lines.rt:120:9
+same-length : tie.Need-same-length Inv-loop μ-loop
+same-length c = search needs
+
+-- src/lines.rt:120:9
+returns : tie.Need-returns Inv-loop μ-loop
+returns c = search needs
+
+-- src/lines.rt:108:1
+same-length-2 : tie.Need-same-length-2 Inv-loop μ-loop
+same-length-2 c = search needs
+
+-- src/lines.rt:108:1
+returns-2 : tie.Need-returns-2 Inv-loop μ-loop
+returns-2 c = search needs
+
+pub keep-spec : {M : Type 1} → statement M
+keep-spec =
+    tie.close
+    (tie.spec
+    Inv-loop
+    μ-loop
+    loop-holds
+    sub-loop
+    add-buf
+    slice-read-buf
+    slice-write-buf
+    add-i
+    loop-less
+    loop-again
+    slice-write-buf-2
+    same-length
+    returns
+    same-length-2
+    returns-2)
