@@ -14,26 +14,10 @@ use crate::shape_questions::shape_bytes;
 use crate::shape_questions::shape_records;
 use crate::shape_questions::shape_slices;
 
-// The answer to a line without its line feed: a word and fields, all parted by commas.
-pub fn answer_of(line: &[u8]) -> Answer
-    requires { ⌜ length (now line) ≤ 65536 ⌝ }
+// Questions on shapes and on single rectangles. Every other word is no question.
+fn shape_answer(word: &[u8], fields: &[u8]) -> Answer
+    requires { ⌜ length (now fields) ≤ 65536 ⌝ }
 {
-    let end = field_end(line, 0);
-    // Every question has a number, so a word alone is malformed.
-    if end == line.len() {
-        return Answer::Malformed;
-    }
-    let fields = &line[end + 1..];
-    let word = &line[0..end];
-    if is_word(word, b"level_extent") {
-        return level_extent(fields);
-    }
-    if is_word(word, b"tile_edge") {
-        return tile_edge(fields);
-    }
-    if is_word(word, b"tiles") {
-        return tiles(fields);
-    }
     if is_word(word, b"bytes") {
         return shape_bytes(fields);
     }
@@ -49,8 +33,36 @@ pub fn answer_of(line: &[u8]) -> Answer
     if is_word(word, b"ongrid") {
         return on_grid(fields);
     }
+    Answer::Malformed
+}
+
+// Questions on levels and grids, and the others.
+fn field_answer(word: &[u8], fields: &[u8]) -> Answer
+    requires { ⌜ length (now fields) ≤ 65536 ⌝ }
+{
+    if is_word(word, b"level_extent") {
+        return level_extent(fields);
+    }
+    if is_word(word, b"tile_edge") {
+        return tile_edge(fields);
+    }
+    if is_word(word, b"tiles") {
+        return tiles(fields);
+    }
     if is_word(word, b"grid") {
         return grid(fields);
     }
-    Answer::Malformed
+    shape_answer(word, fields)
+}
+
+// The answer to a line without its line feed: a word and fields, all parted by commas.
+pub fn answer_of(line: &[u8]) -> Answer
+    requires { ⌜ length (now line) ≤ 65536 ⌝ }
+{
+    let end = field_end(line, 0);
+    // Every question has a field, so a word alone is malformed.
+    if end == line.len() {
+        return Answer::Malformed;
+    }
+    field_answer(&line[0..end], &line[end + 1..])
 }

@@ -1,3 +1,7 @@
+use native.Mathlib.Omega.{arith}
+use Rattle.blocks.specs.Lists.{ceilDiv}
+use Rattle.blocks.proofs.Numbers.{ceil-least}
+use Rattle.grids.specs.Axes.{tileEdge}
 use borrow.Author.Needs.{needs}
 use Rattle.leaf_answers.proofs.axis_questions.long_edge.Statement.{statement}
 use Rattle.leaf_answers.proofs.axis_questions.long_edge.Tie as tie
@@ -27,11 +31,13 @@ div-result c = search needs
 
 -- src/axis_questions.rt:17:5
 mul-result : tie.Need-mul-result
-mul-result c = search needs
+unfolding ceilDiv
+mul-result c = omega (arith, c .larger .ensures, ceil-least (c .larger .result) (c .before .args .block) (c .before .pre .1))
 
 -- src/axis_questions.rt:12:1
 returns : tie.Need-returns
-returns c = search needs
+unfolding tileEdge ceilDiv
+returns c = rw (c .larger .ensures)
 
 pub long-edge-spec : {M : Type 1} → statement M
 long-edge-spec =

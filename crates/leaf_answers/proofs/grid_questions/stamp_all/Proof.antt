@@ -1,3 +1,6 @@
+use mathlib.Core.Path.{_≡_}
+use lib.ListN.{length}
+use Prim.Native.Nat.{_≤_, _+_, _-_}
 use borrow.Author.Needs.{needs}
 use Rattle.leaf_answers.proofs.grid_questions.stamp_all.Statement.{statement}
 use Rattle.leaf_answers.proofs.grid_questions.stamp_all.Tie as tie
@@ -9,10 +12,10 @@ use Rattle.leaf_answers.proofs.rect_questions.are_rect_fields.Reads as 
 use Rattle.leaf_answers.proofs.rect_questions.rect_of.Reads as rect-of-reads
 
 abbrev Inv-loop : tie.InvT-loop
-Inv-loop page₀ across down fields at next₀ newest₀ stamp₀ page next newest stamp = ?
+Inv-loop page₀ across down fields at next₀ newest₀ stamp₀ page next newest stamp = (next ≤ length fields + 1) × (stamp ≤ next) × (length page ≡ length page₀)
 
 abbrev μ-loop : tie.MeasureT-loop
-μ-loop page₀ across down fields at next₀ newest₀ stamp₀ page next newest stamp = ?
+μ-loop page₀ across down fields at next₀ newest₀ stamp₀ page next newest stamp = length fields + 1 - next
 
 -- src/grid_questions.rt:24:9
 returns : tie.Need-returns Inv-loop μ-loop

@@ -1,3 +1,6 @@
+use mathlib.Core.Path.{_≡_}
+use lib.ListN.{length}
+use Prim.Native.Nat.{_≤_, _-_}
 use borrow.Author.Needs.{needs}
 use Rattle.leaf_answers.proofs.lines.keep.Statement.{statement}
 use Rattle.leaf_answers.proofs.lines.keep.Tie as tie
@@ -5,10 +8,10 @@ use Rattle.leaf_answers.proofs.lines.keep.Reads as reads
 use Rattle.leaf_answers.proofs.lines.keep.Lts as lts
 
 abbrev Inv-loop : tie.InvT-loop
-Inv-loop buf₀ from to i₀ buf i = ?
+Inv-loop buf₀ from to i₀ buf i = (i ≤ to - from) × (length buf ≡ length buf₀)
 
 abbrev μ-loop : tie.MeasureT-loop
-μ-loop buf₀ from to i₀ buf i = ?
+μ-loop buf₀ from to i₀ buf i = to - from - i
 
 -- src/lines.rt:113:5
 loop-holds : tie.Need-loop-holds Inv-loop μ-loop

@@ -1,3 +1,5 @@
+use native.Mathlib.Omega.{arith}
+use Rattle.shapes.proofs.Formats.{block-edge-pos}
 use borrow.Author.Needs.{needs}
 use Rattle.leaf_answers.proofs.rect_questions.is_on_grid.Statement.{statement}
 use Rattle.leaf_answers.proofs.rect_questions.is_on_grid.Tie as tie
@@ -12,7 +14,7 @@ block-edge-requires c κs = search needs
 
 -- src/rect_questions.rt:68:5
 rect-on-block-grid-requires : tie.Need-rect-on-block-grid-requires
-rect-on-block-grid-requires c κs = search needs
+rect-on-block-grid-requires c κs = omega (arith, c .block-edge .ensures, block-edge-pos (c .before .args .format))
 
 -- src/rect_questions.rt:67:1
 returns : tie.Need-returns
