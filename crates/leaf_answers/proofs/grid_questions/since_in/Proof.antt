@@ -34,8 +34,7 @@ since-requires c κs =
     let p = c .before .before .before .before .pre in
     let b = c .before .before .block-edge in
     let pos : 0 < b .result = omega (arith, b .ensures, block-edge-pos (a .format)) in
-    let most : b .result ≤ 16 = omega (arith, b .ensures, block-edge-bound (a .format)) in
-    (
+    let most : b .result ≤ 16 = omega (arith, b .ensures, block-edge-bound (a .format)) in (
       (
         rw (c .before .axis-of .ensures) (axis-ok (a .width) (b .result) pos (p .0 .0) most),
         rw (c .axis-of2 .ensures) (axis-ok (a .height) (b .result) pos (p .0 .1) most),
