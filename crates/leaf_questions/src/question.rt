@@ -1,0 +1,68 @@
+// Which question a line asks.
+ghost use Prim.Native.Nat.{_≤_};
+ghost use lib.ListN.{length};
+use crate::axis::tile_edge;
+use crate::axis::tiles;
+use crate::grid::grid;
+use crate::rect::on_grid;
+use crate::rect::upload;
+use crate::shape::level_extent;
+use crate::shape::shape_bytes;
+use crate::shape::shape_records;
+use crate::shape::shape_slices;
+use leaf_text::Answer;
+use leaf_text::field_end;
+use leaf_text::is_word;
+
+// Questions on shapes and on single rectangles. Every other word is no question.
+fn shape_answer(word: &[u8], fields: &[u8]) -> Answer
+    requires { ⌜ length (now fields) ≤ 65536 ⌝ }
+{
+    if is_word(word, b"bytes") {
+        return shape_bytes(fields);
+    }
+    if is_word(word, b"slices") {
+        return shape_slices(fields);
+    }
+    if is_word(word, b"records") {
+        return shape_records(fields);
+    }
+    if is_word(word, b"upload") {
+        return upload(fields);
+    }
+    if is_word(word, b"ongrid") {
+        return on_grid(fields);
+    }
+    Answer::Malformed
+}
+
+// Questions on levels and grids, and the others.
+fn field_answer(word: &[u8], fields: &[u8]) -> Answer
+    requires { ⌜ length (now fields) ≤ 65536 ⌝ }
+{
+    if is_word(word, b"level_extent") {
+        return level_extent(fields);
+    }
+    if is_word(word, b"tile_edge") {
+        return tile_edge(fields);
+    }
+    if is_word(word, b"tiles") {
+        return tiles(fields);
+    }
+    if is_word(word, b"grid") {
+        return grid(fields);
+    }
+    shape_answer(word, fields)
+}
+
+// The answer to a line without its line feed: a word and fields, all parted by commas.
+pub fn answer_of(line: &[u8]) -> Answer
+    requires { ⌜ length (now line) ≤ 65536 ⌝ }
+{
+    let end = field_end(line, 0);
+    // Every question has a field, so a word alone is malformed.
+    if end == line.len() {
+        return Answer::Malformed;
+    }
+    field_answer(&line[0..end], &line[end + 1..])
+}
