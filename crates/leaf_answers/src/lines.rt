@@ -5,8 +5,8 @@
 // difference from the Rust's program: that takes lines of any length.
 ghost use Prim.Native.Nat.{_+_, _≤_, _<_};
 ghost use lib.ListN.{length};
-use crate::answer::put_line;
 use crate::question::answer_of;
+use leaf_text::put_line;
 use libc::STDIN_FILENO;
 use libc::STDOUT_FILENO;
 

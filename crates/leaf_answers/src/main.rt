@@ -1,13 +1,7 @@
 // Answers questions on the leaf functions of `shapes` and `grids`, a line each, as the program `leaf` of compare/ does
 // over the published Rust; compare/README.md has the questions. Budgets are not answered.
-mod answer;
-mod axis_questions;
-mod fields;
-mod grid_questions;
 mod lines;
 mod question;
-mod rect_questions;
-mod shape_questions;
 
 fn main() {
     let mut buf = io::large_buffer();

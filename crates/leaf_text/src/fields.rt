@@ -1,6 +1,7 @@
 // Numbers and fields of a line. Fields are parted by commas and may be empty.
 ghost use Prim.Native.Nat.{_+_, _≤_, _<_};
 ghost use lib.ListN.{length};
+use shapes::TexelRect;
 
 pub enum Number {
     Value(u64),
@@ -128,4 +129,14 @@ pub fn are_u32(n: [u64; 8]) -> bool {
         & (n[5] <= 4294967295)
         & (n[6] <= 4294967295)
         & (n[7] <= 4294967295)
+}
+
+// X,Y,WIDTH,HEIGHT
+pub fn rect_of(n: [u64; 8]) -> TexelRect {
+    TexelRect {
+        x: n[0],
+        y: n[1],
+        width: n[2],
+        height: n[3],
+    }
 }

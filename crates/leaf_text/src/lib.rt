@@ -13,3 +13,4 @@ pub use fields::is_word;
 pub use fields::number_of;
 pub use fields::read_all;
 pub use fields::read_numbers;
+pub use fields::rect_of;

@@ -6,7 +6,7 @@ use Rattle.leaf_answers.proofs.lines.answer_lines.Statement.{statement}
 use Rattle.leaf_answers.proofs.lines.answer_lines.Tie as tie
 use Rattle.leaf_answers.proofs.lines.answer_lines.Reads as reads
 use Rattle.leaf_answers.proofs.lines.answer_lines.Lts as lts
-use Rattle.leaf_answers.proofs.answer.put_line.Reads as put-line-reads
+use Rattle.leaf_text.proofs.put_line.Reads as put-line-reads
 use Rattle.leaf_answers.proofs.lines.line_end.Reads as line-end-reads
 use Rattle.leaf_answers.proofs.lines.room.Reads as room-reads
 use Rattle.leaf_answers.proofs.question.answer_of.Reads as answer-of-reads

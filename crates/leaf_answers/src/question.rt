@@ -1,15 +1,15 @@
 // Which question a line asks.
 ghost use Prim.Native.Nat.{_≤_};
 ghost use lib.ListN.{length};
-use crate::axis::tile_edge;
-use crate::axis::tiles;
-use crate::grid::grid;
-use crate::rect::on_grid;
-use crate::rect::upload;
-use crate::shape::level_extent;
-use crate::shape::shape_bytes;
-use crate::shape::shape_records;
-use crate::shape::shape_slices;
+use leaf_grids::grid_since;
+use leaf_grids::tile_edge;
+use leaf_grids::tiles;
+use leaf_shapes::level_extent;
+use leaf_shapes::on_grid;
+use leaf_shapes::shape_bytes;
+use leaf_shapes::shape_records;
+use leaf_shapes::shape_slices;
+use leaf_shapes::upload;
 use leaf_text::Answer;
 use leaf_text::field_end;
 use leaf_text::is_word;
@@ -50,7 +50,7 @@ fn field_answer(word: &[u8], fields: &[u8]) -> Answer
         return tiles(fields);
     }
     if is_word(word, b"grid") {
-        return grid(fields);
+        return grid_since(fields);
     }
     shape_answer(word, fields)
 }

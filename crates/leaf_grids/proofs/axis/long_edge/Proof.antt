@@ -3,10 +3,10 @@ use Rattle.blocks.specs.Lists.{ceilDiv}
 use Rattle.blocks.proofs.Numbers.{ceil-least}
 use Rattle.grids.specs.Axes.{tileEdge}
 use borrow.Author.Needs.{needs}
-use Rattle.leaf_questions.proofs.axis.long_edge.Statement.{statement}
-use Rattle.leaf_questions.proofs.axis.long_edge.Tie as tie
-use Rattle.leaf_questions.proofs.axis.long_edge.Reads as reads
-use Rattle.leaf_questions.proofs.axis.long_edge.Lts as lts
+use Rattle.leaf_grids.proofs.axis.long_edge.Statement.{statement}
+use Rattle.leaf_grids.proofs.axis.long_edge.Tie as tie
+use Rattle.leaf_grids.proofs.axis.long_edge.Reads as reads
+use Rattle.leaf_grids.proofs.axis.long_edge.Lts as lts
 use Rattle.blocks.proofs.larger.Reads as larger-reads
 
 -- src/axis.rt:16:37

@@ -3,13 +3,13 @@ ghost use Prim.Native.Nat.{_+_, _≤_};
 ghost use lib.ListN.{length};
 ghost use Rattle.grids.specs.Axes.{AxisOk};
 ghost use Rattle.grids.specs.Grids.{tiled, stampCount};
-use crate::rect::rect_of;
 use grids::Axis;
 use grids::Dirty;
 use leaf_text::Answer;
 use leaf_text::Rest;
 use leaf_text::are_u32;
 use leaf_text::read_numbers;
+use leaf_text::rect_of;
 
 enum Stamped {
     Newest(u64),
@@ -74,7 +74,7 @@ fn since_in(format: u64, width: u64, height: u64, held: u64, fields: &[u8], at: 
 }
 
 // FORMAT,WIDTH,HEIGHT,HELD,X,Y,W,H[,X,Y,W,H ..]
-pub fn grid(fields: &[u8]) -> Answer
+pub fn grid_since(fields: &[u8]) -> Answer
     requires { ⌜ length (now fields) ≤ 65536 ⌝ }
 {
     let n = read_numbers(fields, 0, 4);

@@ -6,13 +6,13 @@ use Rattle.blocks.proofs.Numbers.{ceil-least}
 use Rattle.grids.specs.Axes.{tileEdge, axisOf, tilesOf}
 use Rattle.grids.proofs.Axes.{axis-ok, edge-least, edge-bound}
 use borrow.Author.Needs.{needs}
-use Rattle.leaf_questions.proofs.axis.tiles_of.Statement.{statement}
-use Rattle.leaf_questions.proofs.axis.tiles_of.Tie as tie
-use Rattle.leaf_questions.proofs.axis.tiles_of.Reads as reads
-use Rattle.leaf_questions.proofs.axis.tiles_of.Lts as lts
+use Rattle.leaf_grids.proofs.axis.tiles_of.Statement.{statement}
+use Rattle.leaf_grids.proofs.axis.tiles_of.Tie as tie
+use Rattle.leaf_grids.proofs.axis.tiles_of.Reads as reads
+use Rattle.leaf_grids.proofs.axis.tiles_of.Lts as lts
 use Rattle.grids.proofs.axis_of.Reads as axis-of-reads
 use Rattle.grids.proofs.tiles.Reads as tiles-reads
-use Rattle.leaf_questions.proofs.axis.long_edge.Reads as long-edge-reads
+use Rattle.leaf_grids.proofs.axis.long_edge.Reads as long-edge-reads
 
 -- src/axis.rt:36:29
 -- the edge of a long axis is positive and fits

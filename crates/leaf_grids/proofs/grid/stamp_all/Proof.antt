@@ -2,14 +2,14 @@ use mathlib.Core.Path.{_≡_}
 use lib.ListN.{length}
 use Prim.Native.Nat.{_≤_, _+_, _-_}
 use borrow.Author.Needs.{needs}
-use Rattle.leaf_questions.proofs.grid.stamp_all.Statement.{statement}
-use Rattle.leaf_questions.proofs.grid.stamp_all.Tie as tie
-use Rattle.leaf_questions.proofs.grid.stamp_all.Reads as reads
-use Rattle.leaf_questions.proofs.grid.stamp_all.Lts as lts
+use Rattle.leaf_grids.proofs.grid.stamp_all.Statement.{statement}
+use Rattle.leaf_grids.proofs.grid.stamp_all.Tie as tie
+use Rattle.leaf_grids.proofs.grid.stamp_all.Reads as reads
+use Rattle.leaf_grids.proofs.grid.stamp_all.Lts as lts
 use Rattle.grids.proofs.stamp.Reads as stamp-reads
 use Rattle.leaf_text.proofs.read_numbers.Reads as read-numbers-reads
 use Rattle.leaf_text.proofs.are_u32.Reads as are-u32-reads
-use Rattle.leaf_questions.proofs.rect.rect_of.Reads as rect-of-reads
+use Rattle.leaf_text.proofs.rect_of.Reads as rect-of-reads
 
 abbrev Inv-loop : tie.InvT-loop
 Inv-loop page₀ across down fields at next₀ newest₀ stamp₀ page next newest stamp = (next ≤ length fields + 1) × (stamp ≤ next) × (length page ≡ length page₀)

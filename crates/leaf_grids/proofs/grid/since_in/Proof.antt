@@ -3,12 +3,12 @@ use native.Mathlib.Omega.{arith}
 use Rattle.shapes.proofs.Formats.{block-edge-pos, block-edge-bound}
 use Rattle.grids.proofs.Axes.{axis-ok}
 use borrow.Author.Needs.{needs}
-use Rattle.leaf_questions.proofs.grid.since_in.Statement.{statement}
-use Rattle.leaf_questions.proofs.grid.since_in.Tie as tie
-use Rattle.leaf_questions.proofs.grid.since_in.Reads as reads
-use Rattle.leaf_questions.proofs.grid.since_in.Lts as lts
+use Rattle.leaf_grids.proofs.grid.since_in.Statement.{statement}
+use Rattle.leaf_grids.proofs.grid.since_in.Tie as tie
+use Rattle.leaf_grids.proofs.grid.since_in.Reads as reads
+use Rattle.leaf_grids.proofs.grid.since_in.Lts as lts
 use Rattle.grids.proofs.axis_of.Reads as axis-of-reads
-use Rattle.leaf_questions.proofs.grid.since.Reads as since-reads
+use Rattle.leaf_grids.proofs.grid.since.Reads as since-reads
 use Rattle.shapes.proofs.block_edge.Reads as block-edge-reads
 
 -- src/grid.rt:65:9

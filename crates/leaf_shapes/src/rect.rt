@@ -12,6 +12,7 @@ use leaf_text::is_word;
 use leaf_text::number_of;
 use leaf_text::read_all;
 use leaf_text::read_numbers;
+use leaf_text::rect_of;
 use shapes::Compressed;
 use shapes::TexelRect;
 use shapes::UploadAnswer;
@@ -20,16 +21,6 @@ use shapes::UploadAnswer;
 enum Source {
     Known(Compressed),
     Unreadable,
-}
-
-// X,Y,WIDTH,HEIGHT
-pub fn rect_of(n: [u64; 8]) -> TexelRect {
-    TexelRect {
-        x: n[0],
-        y: n[1],
-        width: n[2],
-        height: n[3],
-    }
 }
 
 // A format's number, or a dash for an upload by texel.

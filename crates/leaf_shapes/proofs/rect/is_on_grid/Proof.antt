@@ -1,10 +1,10 @@
 use native.Mathlib.Omega.{arith}
 use Rattle.shapes.proofs.Formats.{block-edge-pos}
 use borrow.Author.Needs.{needs}
-use Rattle.leaf_questions.proofs.rect.is_on_grid.Statement.{statement}
-use Rattle.leaf_questions.proofs.rect.is_on_grid.Tie as tie
-use Rattle.leaf_questions.proofs.rect.is_on_grid.Reads as reads
-use Rattle.leaf_questions.proofs.rect.is_on_grid.Lts as lts
+use Rattle.leaf_shapes.proofs.rect.is_on_grid.Statement.{statement}
+use Rattle.leaf_shapes.proofs.rect.is_on_grid.Tie as tie
+use Rattle.leaf_shapes.proofs.rect.is_on_grid.Reads as reads
+use Rattle.leaf_shapes.proofs.rect.is_on_grid.Lts as lts
 use Rattle.shapes.proofs.block_edge.Reads as block-edge-reads
 use Rattle.shapes.proofs.rect_on_block_grid.Reads as rect-on-block-grid-reads
 

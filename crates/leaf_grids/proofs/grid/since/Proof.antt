@@ -2,12 +2,12 @@ use native.Mathlib.Omega.{arith}
 use Rattle.grids.specs.Grids.{tiled}
 use Rattle.grids.proofs.Tilings.{count-bound}
 use borrow.Author.Needs.{needs}
-use Rattle.leaf_questions.proofs.grid.since.Statement.{statement}
-use Rattle.leaf_questions.proofs.grid.since.Tie as tie
-use Rattle.leaf_questions.proofs.grid.since.Reads as reads
-use Rattle.leaf_questions.proofs.grid.since.Lts as lts
+use Rattle.leaf_grids.proofs.grid.since.Statement.{statement}
+use Rattle.leaf_grids.proofs.grid.since.Tie as tie
+use Rattle.leaf_grids.proofs.grid.since.Reads as reads
+use Rattle.leaf_grids.proofs.grid.since.Lts as lts
 use Rattle.grids.proofs.written_since.Reads as written-since-reads
-use Rattle.leaf_questions.proofs.grid.stamp_all.Reads as stamp-all-reads
+use Rattle.leaf_grids.proofs.grid.stamp_all.Reads as stamp-all-reads
 
 -- src/grid.rt:51:45
 slice-aggregate-stamp-all : tie.Need-slice-aggregate-stamp-all
