@@ -1,7 +1,7 @@
 // Standard input to standard output, line by line. Answers go out after each block that was read, so a program may ask
 // line by line and wait. A read or a write that fails ends it.
 //
-// The buffer of input holds a line and its line feed. A longer line is answered as a malformed one, which is the one
+// The buffer of input holds lines of up to 65,535 bytes. A longer one is answered as a malformed one, which is the one
 // difference from the Rust's program: that takes lines of any length.
 ghost use Prim.Native.Nat.{_+_, _≤_, _<_};
 ghost use lib.ListN.{length};

@@ -1,15 +1,10 @@
+-- Blocks of input until it ends. The measure is the number of turns that are left; less than a buffer is held. Assumes nothing.
+use Prim.Native.Nat.{_<_}
 use mathlib.Core.Path.{_≡_}
 use lib.ListN.{length}
-use Prim.Native.Nat.{_<_}
 use borrow.Author.Needs.{needs}
 use Rattle.leaf_answers.proofs.lines.answer_all.Statement.{statement}
 use Rattle.leaf_answers.proofs.lines.answer_all.Tie as tie
-use Rattle.leaf_answers.proofs.lines.answer_all.Reads as reads
-use Rattle.leaf_answers.proofs.lines.answer_all.Lts as lts
-use Rattle.leaf_answers.proofs.lines.answer_block.Reads as answer-block-reads
-use Rattle.leaf_answers.proofs.lines.answer_last.Reads as answer-last-reads
-use Rattle.leaf_answers.proofs.lines.keep.Reads as keep-reads
-use Rattle.leaf_answers.proofs.lines.read_more.Reads as read-more-reads
 
 abbrev Inv-loop : tie.InvT-loop
 Inv-loop buf₀ out₀ held₀ turns₀ buf out held turns = (held < length buf₀) × (length buf ≡ length buf₀) × (length out ≡ length out₀)
@@ -17,95 +12,72 @@ Inv-loop buf₀ out₀ held₀ turns₀ buf out held turns = (held < length buf�
 abbrev μ-loop : tie.MeasureT-loop
 μ-loop buf₀ out₀ held₀ turns₀ buf out held turns = turns
 
--- src/lines.rt:131:5
 loop-holds : tie.Need-loop-holds Inv-loop μ-loop
 loop-holds c = search needs
 
--- src/lines.rt:132:13
 read-more-requires : tie.Need-read-more-requires Inv-loop μ-loop
 read-more-requires c κs = search needs
 
--- src/lines.rt:134:25
 sub-answer-last : tie.Need-sub-answer-last Inv-loop μ-loop
 sub-answer-last c = search needs
 
--- src/lines.rt:134:25
 part-answer-last-start : tie.Need-part-answer-last-start Inv-loop μ-loop
 part-answer-last-start c = search needs
 
--- src/lines.rt:134:25
 part-answer-last-end : tie.Need-part-answer-last-end Inv-loop μ-loop
 part-answer-last-end c = search needs
 
--- src/lines.rt:134:13
 answer-last-requires : tie.Need-answer-last-requires Inv-loop μ-loop
 answer-last-requires c κs = search needs
 
--- src/lines.rt:135:13
 same-length : tie.Need-same-length Inv-loop μ-loop
 same-length c = search needs
 
--- src/lines.rt:135:13
 same-length-2 : tie.Need-same-length-2 Inv-loop μ-loop
 same-length-2 c = search needs
 
--- src/lines.rt:135:13
 returns : tie.Need-returns Inv-loop μ-loop
 returns c = search needs
 
--- src/lines.rt:137:33
 sub-answer-block : tie.Need-sub-answer-block Inv-loop μ-loop
 sub-answer-block c = search needs
 
--- src/lines.rt:137:33
 part-answer-block-start : tie.Need-part-answer-block-start Inv-loop μ-loop
 part-answer-block-start c = search needs
 
--- src/lines.rt:137:33
 part-answer-block-end : tie.Need-part-answer-block-end Inv-loop μ-loop
 part-answer-block-end c = search needs
 
--- src/lines.rt:137:13
 answer-block-requires : tie.Need-answer-block-requires Inv-loop μ-loop
 answer-block-requires c κs = search needs
 
--- src/lines.rt:139:13
 same-length-3 : tie.Need-same-length-3 Inv-loop μ-loop
 same-length-3 c = search needs
 
--- src/lines.rt:139:13
 same-length-4 : tie.Need-same-length-4 Inv-loop μ-loop
 same-length-4 c = search needs
 
--- src/lines.rt:139:13
 returns-2 : tie.Need-returns-2 Inv-loop μ-loop
 returns-2 c = search needs
 
--- src/lines.rt:141:9
 keep-requires : tie.Need-keep-requires Inv-loop μ-loop
 keep-requires c κs = search needs
 
--- src/lines.rt:142:9
 sub-turns : tie.Need-sub-turns Inv-loop μ-loop
 sub-turns c = search needs
 
--- src/lines.rt:131:5
 loop-less : tie.Need-loop-less Inv-loop μ-loop
 loop-less c = search needs
 
--- src/lines.rt:131:5
 loop-again : tie.Need-loop-again Inv-loop μ-loop
 loop-again c = search needs
 
--- src/lines.rt:125:1
 same-length-5 : tie.Need-same-length-5 Inv-loop μ-loop
 same-length-5 c = search needs
 
--- src/lines.rt:125:1
 same-length-6 : tie.Need-same-length-6 Inv-loop μ-loop
 same-length-6 c = search needs
 
--- src/lines.rt:125:1
 returns-3 : tie.Need-returns-3 Inv-loop μ-loop
 returns-3 c = search needs
 

@@ -1,15 +1,10 @@
+-- The lines of a block, each from the end of the last on. The measure is what is left of the block. Assumes nothing.
+use Prim.Native.Nat.{_≤_, _-_}
 use mathlib.Core.Path.{_≡_}
 use lib.ListN.{length}
-use Prim.Native.Nat.{_≤_, _-_}
 use borrow.Author.Needs.{needs}
 use Rattle.leaf_answers.proofs.lines.answer_lines.Statement.{statement}
 use Rattle.leaf_answers.proofs.lines.answer_lines.Tie as tie
-use Rattle.leaf_answers.proofs.lines.answer_lines.Reads as reads
-use Rattle.leaf_answers.proofs.lines.answer_lines.Lts as lts
-use Rattle.leaf_text.proofs.put_line.Reads as put-line-reads
-use Rattle.leaf_answers.proofs.lines.line_end.Reads as line-end-reads
-use Rattle.leaf_answers.proofs.lines.room.Reads as room-reads
-use Rattle.leaf_answers.proofs.question.answer_of.Reads as answer-of-reads
 
 abbrev Inv-loop : tie.InvT-loop
 Inv-loop input out₀ from₀ filled₀ end₀ out from filled end = (from ≤ end) × (end ≤ length input) × (filled ≤ length out₀) × (length out ≡ length out₀)
@@ -17,71 +12,54 @@ Inv-loop input out₀ from₀ filled₀ end₀ out from filled end = (from ≤ e
 abbrev μ-loop : tie.MeasureT-loop
 μ-loop input out₀ from₀ filled₀ end₀ out from filled end = length input - end
 
--- src/lines.rt:52:9
 line-end-requires : tie.Need-line-end-requires Inv-loop μ-loop
 line-end-requires c κs = search needs
 
--- src/lines.rt:53:5
 loop-holds : tie.Need-loop-holds Inv-loop μ-loop
 loop-holds c = search needs
 
--- src/lines.rt:54:13
 room-requires : tie.Need-room-requires Inv-loop μ-loop
 room-requires c κs = search needs
 
--- src/lines.rt:55:12
 sub-if1 : tie.Need-sub-if1 Inv-loop μ-loop
 sub-if1 c = search needs
 
--- src/lines.rt:56:13
 same-length : tie.Need-same-length Inv-loop μ-loop
 same-length c = search needs
 
--- src/lines.rt:56:13
 returns : tie.Need-returns Inv-loop μ-loop
 returns c = search needs
 
--- src/lines.rt:62:46
 sub-answer-of : tie.Need-sub-answer-of Inv-loop μ-loop
 sub-answer-of c = search needs
 
--- src/lines.rt:62:46
 part-answer-of-start : tie.Need-part-answer-of-start Inv-loop μ-loop
 part-answer-of-start c = search needs
 
--- src/lines.rt:62:46
 part-answer-of-end : tie.Need-part-answer-of-end Inv-loop μ-loop
 part-answer-of-end c = search needs
 
--- src/lines.rt:62:36
 answer-of-requires : tie.Need-answer-of-requires Inv-loop μ-loop
 answer-of-requires c κs = search needs
 
--- src/lines.rt:62:9
 put-line-requires : tie.Need-put-line-requires Inv-loop μ-loop
 put-line-requires c κs = search needs
 
--- src/lines.rt:63:16
 add-from : tie.Need-add-from Inv-loop μ-loop
 add-from c = search needs
 
--- src/lines.rt:64:9
 line-end-requires-2 : tie.Need-line-end-requires-2 Inv-loop μ-loop
 line-end-requires-2 c κs = search needs
 
--- src/lines.rt:53:5
 loop-less : tie.Need-loop-less Inv-loop μ-loop
 loop-less c = search needs
 
--- src/lines.rt:53:5
 loop-again : tie.Need-loop-again Inv-loop μ-loop
 loop-again c = search needs
 
--- src/lines.rt:46:1
 same-length-2 : tie.Need-same-length-2 Inv-loop μ-loop
 same-length-2 c = search needs
 
--- src/lines.rt:46:1
 returns-2 : tie.Need-returns-2 Inv-loop μ-loop
 returns-2 c = search needs
 

@@ -1,11 +1,10 @@
+-- Bytes moved to the front, in ascending order. Fewer than the buffer has are held in the end. Assumes nothing.
+use Prim.Native.Nat.{_≤_, _-_}
 use mathlib.Core.Path.{_≡_}
 use lib.ListN.{length}
-use Prim.Native.Nat.{_≤_, _-_}
 use borrow.Author.Needs.{needs}
 use Rattle.leaf_answers.proofs.lines.keep.Statement.{statement}
 use Rattle.leaf_answers.proofs.lines.keep.Tie as tie
-use Rattle.leaf_answers.proofs.lines.keep.Reads as reads
-use Rattle.leaf_answers.proofs.lines.keep.Lts as lts
 
 abbrev Inv-loop : tie.InvT-loop
 Inv-loop buf₀ from to i₀ buf i = (i ≤ to - from) × (length buf ≡ length buf₀)
@@ -13,55 +12,42 @@ Inv-loop buf₀ from to i₀ buf i = (i ≤ to - from) × (length buf ≡ length
 abbrev μ-loop : tie.MeasureT-loop
 μ-loop buf₀ from to i₀ buf i = to - from - i
 
--- src/lines.rt:113:5
 loop-holds : tie.Need-loop-holds Inv-loop μ-loop
 loop-holds c = search needs
 
--- src/lines.rt:113:15
 sub-loop : tie.Need-sub-loop Inv-loop μ-loop
 sub-loop c = search needs
 
--- src/lines.rt:114:22
 add-buf : tie.Need-add-buf Inv-loop μ-loop
 add-buf c = search needs
 
--- src/lines.rt:114:18
 slice-read-buf : tie.Need-slice-read-buf Inv-loop μ-loop
 slice-read-buf c = search needs
 
--- src/lines.rt:114:9
 slice-write-buf : tie.Need-slice-write-buf Inv-loop μ-loop
 slice-write-buf c = search needs
 
--- src/lines.rt:115:9
 add-i : tie.Need-add-i Inv-loop μ-loop
 add-i c = search needs
 
--- src/lines.rt:113:5
 loop-less : tie.Need-loop-less Inv-loop μ-loop
 loop-less c = search needs
 
--- src/lines.rt:113:5
 loop-again : tie.Need-loop-again Inv-loop μ-loop
 loop-again c = search needs
 
--- src/lines.rt:119:9
 slice-write-buf-2 : tie.Need-slice-write-buf-2 Inv-loop μ-loop
 slice-write-buf-2 c = search needs
 
--- src/lines.rt:120:9
 same-length : tie.Need-same-length Inv-loop μ-loop
 same-length c = search needs
 
--- src/lines.rt:120:9
 returns : tie.Need-returns Inv-loop μ-loop
 returns c = search needs
 
--- src/lines.rt:108:1
 same-length-2 : tie.Need-same-length-2 Inv-loop μ-loop
 same-length-2 c = search needs
 
--- src/lines.rt:108:1
 returns-2 : tie.Need-returns-2 Inv-loop μ-loop
 returns-2 c = search needs
 

@@ -1,20 +1,15 @@
-use native.Mathlib.Omega.{arith}
+-- Tiles along an axis: by the library, or for a long one by its edge, which is positive and fits. Assumes nothing.
 use Prim.Native.Nat.{_≤_, _<_}
 use mathlib.Core.Path.{ap, _∙_}
+use native.Mathlib.Omega.{arith}
+use borrow.Author.Needs.{needs}
 use Rattle.blocks.specs.Lists.{ceilDiv}
 use Rattle.blocks.proofs.Numbers.{ceil-least}
 use Rattle.grids.specs.Axes.{tileEdge, axisOf, tilesOf}
 use Rattle.grids.proofs.Axes.{axis-ok, edge-least, edge-bound}
-use borrow.Author.Needs.{needs}
 use Rattle.leaf_grids.proofs.axis.tiles_of.Statement.{statement}
 use Rattle.leaf_grids.proofs.axis.tiles_of.Tie as tie
-use Rattle.leaf_grids.proofs.axis.tiles_of.Reads as reads
-use Rattle.leaf_grids.proofs.axis.tiles_of.Lts as lts
-use Rattle.grids.proofs.axis_of.Reads as axis-of-reads
-use Rattle.grids.proofs.tiles.Reads as tiles-reads
-use Rattle.leaf_grids.proofs.axis.long_edge.Reads as long-edge-reads
 
--- src/axis.rt:36:29
 -- the edge of a long axis is positive and fits
 least : (c : tie.After-long-edge) → 0 < tileEdge (c .before .before .args .extent) (c .before .before .args .block)
 least c =
@@ -29,34 +24,27 @@ most c =
 axis-of-requires : tie.Need-axis-of-requires
 axis-of-requires c κs = search needs
 
--- src/axis.rt:36:9
 tiles-requires : tie.Need-tiles-requires
 tiles-requires c κs =
     let a = c .before .before .args in
     let p = c .before .before .pre in
     rw (c .axis-of .ensures) (axis-ok (a .extent) (a .block) (p .1) (c .before .if1 .taken) (p .2))
 
--- src/axis.rt:36:9
 returns : tie.Need-returns
 returns c = c .tiles .ensures ∙ ap tilesOf (c .before .axis-of .ensures)
 
--- src/axis.rt:38:9
 long-edge-requires : tie.Need-long-edge-requires
 long-edge-requires c κs = search needs
 
--- src/axis.rt:39:16
 sub-result : tie.Need-sub-result
 sub-result c = omega (arith, c .long-edge .ensures, least c)
 
--- src/axis.rt:39:6
 add-result : tie.Need-add-result
 add-result c = omega (arith, c .long-edge .ensures, least c, most c)
 
--- src/axis.rt:39:5
 div-result : tie.Need-div-result
 div-result c = omega (arith, c .long-edge .ensures, least c)
 
--- src/axis.rt:31:1
 returns-2 : tie.Need-returns-2
 unfolding tilesOf axisOf ceilDiv
 returns-2 c = rw (c .long-edge .ensures)

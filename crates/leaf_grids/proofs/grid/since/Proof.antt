@@ -1,42 +1,32 @@
+-- A grid of good axes has at most 1,024 stamps, as many as the page. Assumes nothing.
 use native.Mathlib.Omega.{arith}
+use borrow.Author.Needs.{needs}
 use Rattle.grids.specs.Grids.{tiled}
 use Rattle.grids.proofs.Tilings.{count-bound}
-use borrow.Author.Needs.{needs}
 use Rattle.leaf_grids.proofs.grid.since.Statement.{statement}
 use Rattle.leaf_grids.proofs.grid.since.Tie as tie
-use Rattle.leaf_grids.proofs.grid.since.Reads as reads
-use Rattle.leaf_grids.proofs.grid.since.Lts as lts
-use Rattle.grids.proofs.written_since.Reads as written-since-reads
-use Rattle.leaf_grids.proofs.grid.stamp_all.Reads as stamp-all-reads
 
--- src/grid.rt:51:45
 slice-aggregate-stamp-all : tie.Need-slice-aggregate-stamp-all
 slice-aggregate-stamp-all c = search needs
 
--- src/grid.rt:51:35
 stamp-all-requires : tie.Need-stamp-all-requires
 stamp-all-requires c κs =
     let a = c .before .before .args in
     let p = c .before .before .pre in
     ((p .0 .0, p .0 .1, omega (arith, count-bound (tiled (a .across) (a .down)) (record { across = p .0 .0; down = p .0 .1 }))), p .1)
 
--- src/grid.rt:51:25
 enum-known-newest : tie.Need-enum-known-newest
 enum-known-newest c = search needs
 
--- src/grid.rt:52:9
 enum-told : tie.Need-enum-told
 enum-told c = search needs
 
--- src/grid.rt:52:9
 returns : tie.Need-returns
 returns c = search needs
 
--- src/grid.rt:54:32
 slice-aggregate-written-since : tie.Need-slice-aggregate-written-since
 slice-aggregate-written-since c = search needs
 
--- src/grid.rt:54:11
 written-since-requires : tie.Need-written-since-requires
 written-since-requires c κs =
     let b = c .before .before .before .before .before .before .before .before in
@@ -45,19 +35,15 @@ written-since-requires c κs =
     let k = c .before .before .before .before .before .stamp-all .kept .0 in
     (p .0 .0, p .0 .1, omega (arith, k, count-bound (tiled (a .across) (a .down)) (record { across = p .0 .0; down = p .0 .1 })))
 
--- src/grid.rt:55:20
 enum-known-rect : tie.Need-enum-known-rect
 enum-known-rect c = search needs
 
--- src/grid.rt:56:25
 enum-told-2 : tie.Need-enum-told-2
 enum-told-2 c = search needs
 
--- src/grid.rt:46:1
 returns-2 : tie.Need-returns-2
 returns-2 c = search needs
 
--- src/grid.rt:46:1
 returns-3 : tie.Need-returns-3
 returns-3 c = search needs
 

@@ -1,33 +1,25 @@
+-- The axes of a level of a format: its block edge is 1 to 4, so both are good. Assumes nothing.
 use Prim.Native.Nat.{_≤_, _<_}
 use native.Mathlib.Omega.{arith}
+use borrow.Author.Needs.{needs}
 use Rattle.shapes.proofs.Formats.{block-edge-pos, block-edge-bound}
 use Rattle.grids.proofs.Axes.{axis-ok}
-use borrow.Author.Needs.{needs}
 use Rattle.leaf_grids.proofs.grid.since_in.Statement.{statement}
 use Rattle.leaf_grids.proofs.grid.since_in.Tie as tie
-use Rattle.leaf_grids.proofs.grid.since_in.Reads as reads
-use Rattle.leaf_grids.proofs.grid.since_in.Lts as lts
-use Rattle.grids.proofs.axis_of.Reads as axis-of-reads
-use Rattle.leaf_grids.proofs.grid.since.Reads as since-reads
-use Rattle.shapes.proofs.block_edge.Reads as block-edge-reads
 
--- src/grid.rt:65:9
 block-edge-requires : tie.Need-block-edge-requires
 block-edge-requires c κs = search needs
 
--- src/grid.rt:67:9
 axis-of-requires : tie.Need-axis-of-requires
 axis-of-requires c κs =
     let f = c .before .before .args .format in
     omega (arith, c .block-edge .ensures, block-edge-pos f, block-edge-bound f)
 
--- src/grid.rt:68:9
 axis-of-requires-2 : tie.Need-axis-of-requires-2
 axis-of-requires-2 c κs =
     let f = c .before .before .before .args .format in
     omega (arith, c .before .block-edge .ensures, block-edge-pos f, block-edge-bound f)
 
--- src/grid.rt:66:5
 since-requires : tie.Need-since-requires
 since-requires c κs =
     let a = c .before .before .before .before .args in
@@ -42,7 +34,6 @@ since-requires c κs =
       p .1,
     )
 
--- src/grid.rt:61:1
 returns : tie.Need-returns
 returns c = search needs
 

@@ -1,9 +1,8 @@
+-- The digits of a number, counted up to 20. Assumes nothing.
 use Prim.Native.Nat.{_≤_, _-_}
 use borrow.Author.Needs.{needs}
 use Rattle.leaf_text.proofs.answer.digit_count.Statement.{statement}
 use Rattle.leaf_text.proofs.answer.digit_count.Tie as tie
-use Rattle.leaf_text.proofs.answer.digit_count.Reads as reads
-use Rattle.leaf_text.proofs.answer.digit_count.Lts as lts
 
 abbrev Inv-loop : tie.InvT-loop
 Inv-loop value rest₀ count₀ rest count = count ≤ 20
@@ -11,27 +10,21 @@ Inv-loop value rest₀ count₀ rest count = count ≤ 20
 abbrev μ-loop : tie.MeasureT-loop
 μ-loop value rest₀ count₀ rest count = 20 - count
 
--- src/answer.rt:41:5
 loop-holds : tie.Need-loop-holds Inv-loop μ-loop
 loop-holds c = search needs
 
--- src/answer.rt:43:13
 returns : tie.Need-returns Inv-loop μ-loop
 returns c = search needs
 
--- src/answer.rt:46:9
 add-count : tie.Need-add-count Inv-loop μ-loop
 add-count c = search needs
 
--- src/answer.rt:41:5
 loop-less : tie.Need-loop-less Inv-loop μ-loop
 loop-less c = search needs
 
--- src/answer.rt:41:5
 loop-again : tie.Need-loop-again Inv-loop μ-loop
 loop-again c = search needs
 
--- src/answer.rt:36:1
 returns-2 : tie.Need-returns-2 Inv-loop μ-loop
 returns-2 c = search needs
 

@@ -1,12 +1,10 @@
+-- Digits put from the last to the first, within the number's own bytes. Assumes nothing.
+use Prim.Native.Nat.{_≤_, _+_}
 use mathlib.Core.Path.{_≡_}
 use lib.ListN.{length}
-use Prim.Native.Nat.{_≤_, _+_}
 use borrow.Author.Needs.{needs}
 use Rattle.leaf_text.proofs.answer.put_number.Statement.{statement}
 use Rattle.leaf_text.proofs.answer.put_number.Tie as tie
-use Rattle.leaf_text.proofs.answer.put_number.Reads as reads
-use Rattle.leaf_text.proofs.answer.put_number.Lts as lts
-use Rattle.leaf_text.proofs.answer.digit_count.Reads as digit-count-reads
 
 abbrev Inv-loop : tie.InvT-loop
 Inv-loop out₀ at value end i₀ rest₀ out i rest = (i ≤ end) × (end ≤ at + 20) × (length out ≡ length out₀)
@@ -14,47 +12,36 @@ Inv-loop out₀ at value end i₀ rest₀ out i rest = (i ≤ end) × (end ≤ a
 abbrev μ-loop : tie.MeasureT-loop
 μ-loop out₀ at value end i₀ rest₀ out i rest = i
 
--- src/answer.rt:56:20
 digit-count-requires : tie.Need-digit-count-requires Inv-loop μ-loop
 digit-count-requires c κs = search needs
 
--- src/answer.rt:56:15
 add-end : tie.Need-add-end Inv-loop μ-loop
 add-end c = search needs
 
--- src/answer.rt:59:5
 loop-holds : tie.Need-loop-holds Inv-loop μ-loop
 loop-holds c = search needs
 
--- src/answer.rt:60:9
 sub-i : tie.Need-sub-i Inv-loop μ-loop
 sub-i c = search needs
 
--- src/answer.rt:61:23
 cast-out : tie.Need-cast-out Inv-loop μ-loop
 cast-out c = search needs
 
--- src/answer.rt:61:18
 add-out : tie.Need-add-out Inv-loop μ-loop
 add-out c = search needs
 
--- src/answer.rt:61:9
 slice-write-out : tie.Need-slice-write-out Inv-loop μ-loop
 slice-write-out c = search needs
 
--- src/answer.rt:59:5
 loop-less : tie.Need-loop-less Inv-loop μ-loop
 loop-less c = search needs
 
--- src/answer.rt:59:5
 loop-again : tie.Need-loop-again Inv-loop μ-loop
 loop-again c = search needs
 
--- src/answer.rt:52:1
 same-length : tie.Need-same-length Inv-loop μ-loop
 same-length c = search needs
 
--- src/answer.rt:52:1
 returns : tie.Need-returns Inv-loop μ-loop
 returns c = search needs
 

@@ -1,11 +1,9 @@
-use lib.ListN.{length}
+-- A number read digit by digit. Each step is tested before it is taken, so none wraps. Assumes nothing.
 use Prim.Native.Nat.{_≤_, _-_}
+use lib.ListN.{length}
 use borrow.Author.Needs.{needs}
 use Rattle.leaf_text.proofs.fields.number_of.Statement.{statement}
 use Rattle.leaf_text.proofs.fields.number_of.Tie as tie
-use Rattle.leaf_text.proofs.fields.number_of.Reads as reads
-use Rattle.leaf_text.proofs.fields.number_of.Lts as lts
-use Rattle.leaf_text.proofs.fields.wide.Reads as wide-reads
 
 abbrev Inv-loop : tie.InvT-loop
 Inv-loop field value₀ i₀ value i = i ≤ length field
@@ -13,63 +11,48 @@ Inv-loop field value₀ i₀ value i = i ≤ length field
 abbrev μ-loop : tie.MeasureT-loop
 μ-loop field value₀ i₀ value i = length field - i
 
--- src/fields.rt:29:9
 returns : tie.Need-returns Inv-loop μ-loop
 returns c = search needs
 
--- src/fields.rt:32:9
 returns-2 : tie.Need-returns-2 Inv-loop μ-loop
 returns-2 c = search needs
 
--- src/fields.rt:36:5
 loop-holds : tie.Need-loop-holds Inv-loop μ-loop
 loop-holds c = search needs
 
--- src/fields.rt:37:25
 shared-slice-read-wide : tie.Need-shared-slice-read-wide Inv-loop μ-loop
 shared-slice-read-wide c = search needs
 
--- src/fields.rt:37:13
 wide-requires : tie.Need-wide-requires Inv-loop μ-loop
 wide-requires c κs = search needs
 
--- src/fields.rt:39:13
 returns-3 : tie.Need-returns-3 Inv-loop μ-loop
 returns-3 c = search needs
 
--- src/fields.rt:42:13
 returns-4 : tie.Need-returns-4 Inv-loop μ-loop
 returns-4 c = search needs
 
--- src/fields.rt:45:13
 sub-if5 : tie.Need-sub-if5 Inv-loop μ-loop
 sub-if5 c = search needs
 
--- src/fields.rt:46:13
 returns-5 : tie.Need-returns-5 Inv-loop μ-loop
 returns-5 c = search needs
 
--- src/fields.rt:48:17
 mul-value : tie.Need-mul-value Inv-loop μ-loop
 mul-value c = search needs
 
--- src/fields.rt:48:17
 add-value : tie.Need-add-value Inv-loop μ-loop
 add-value c = search needs
 
--- src/fields.rt:49:9
 add-i : tie.Need-add-i Inv-loop μ-loop
 add-i c = search needs
 
--- src/fields.rt:36:5
 loop-less : tie.Need-loop-less Inv-loop μ-loop
 loop-less c = search needs
 
--- src/fields.rt:36:5
 loop-again : tie.Need-loop-again Inv-loop μ-loop
 loop-again c = search needs
 
--- src/fields.rt:27:1
 returns-6 : tie.Need-returns-6 Inv-loop μ-loop
 returns-6 c = search needs
 
