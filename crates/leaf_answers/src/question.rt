@@ -5,36 +5,10 @@ use leaf_grids::grid_since;
 use leaf_grids::tile_edge;
 use leaf_grids::tiles;
 use leaf_shapes::level_extent;
-use leaf_shapes::on_grid;
-use leaf_shapes::shape_bytes;
-use leaf_shapes::shape_records;
-use leaf_shapes::shape_slices;
-use leaf_shapes::upload;
+use leaf_shapes::shape_answer;
 use leaf_text::Answer;
 use leaf_text::field_end;
 use leaf_text::is_word;
-
-// Questions on shapes and on single rectangles. Every other word is no question.
-fn shape_answer(word: &[u8], fields: &[u8]) -> Answer
-    requires { ⌜ length (now fields) ≤ 65536 ⌝ }
-{
-    if is_word(word, b"bytes") {
-        return shape_bytes(fields);
-    }
-    if is_word(word, b"slices") {
-        return shape_slices(fields);
-    }
-    if is_word(word, b"records") {
-        return shape_records(fields);
-    }
-    if is_word(word, b"upload") {
-        return upload(fields);
-    }
-    if is_word(word, b"ongrid") {
-        return on_grid(fields);
-    }
-    Answer::Malformed
-}
 
 // Questions on levels and grids, and the others.
 fn field_answer(word: &[u8], fields: &[u8]) -> Answer

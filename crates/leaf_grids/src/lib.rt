@@ -1,5 +1,5 @@
-// Leaf questions on tiles and stamp grids, answered by the crate `grids`. Each function takes the fields behind the
-// question's word; compare/README.md has the questions.
+// Leaf questions on tiles and stamp grids, answered by the crate `grids`. `fields` are those behind a question's word;
+// compare/README.md has the questions.
 mod axis;
 mod grid;
 

@@ -1,11 +1,8 @@
-// Leaf questions on shapes and single rectangles, answered by the crate `shapes`. Each function takes the fields behind
-// the question's word; compare/README.md has the questions.
+// Leaf questions on shapes and single rectangles, answered by the crate `shapes`. `fields` are those behind a question's
+// word; compare/README.md has the questions.
+mod question;
 mod rect;
 mod shape;
 
-pub use rect::on_grid;
-pub use rect::upload;
+pub use question::shape_answer;
 pub use shape::level_extent;
-pub use shape::shape_bytes;
-pub use shape::shape_records;
-pub use shape::shape_slices;
