@@ -299,3 +299,28 @@ pass bs h = go true bs refl h
     go : (a : Bool) (bs : List Bool) → a ≡ true → ((k : ℕ) → k < length bs → getD bs k true ≡ true) → after a bs ≡ true
     go a [] e h = e
     go a (b ∷ bs) e h = go (a && b) bs (ap₂ (λ (c d : Bool). c && d) e (h 0 (omega arith))) (λ k q. h (suc k) (omega arith))
+
+-- ---- choices and tables
+
+-- a property of either branch
+pub either {ℓ} : {A : Type ℓ} (P : A → Type 0) (b : Bool) (x y : A) → (b ≡ true → P x) → (b ≡ false → P y) → P (cond b x y)
+either P true x y f g = f refl
+either P false x y f g = g refl
+
+-- a test that does not pass fails
+pub not-passed : (b : Bool) → (b ≡ true → ⊥) → b ≡ false
+not-passed true h = absurd (h refl)
+not-passed false h = refl
+
+-- a property of a table's entries and of what stands for those past its end is one of every entry
+pub entry {ℓ} : {A : Type ℓ} (p : A → Bool) (xs : List A) (i : ℕ) (d : A) → all p xs ≡ true → p d ≡ true → p (getD xs i d) ≡ true
+unfolding all
+entry p [] i d e h = h
+entry p (x ∷ xs) zero d e h = and-both (p x) (all p xs) e .0
+entry p (x ∷ xs) (suc i) d e h = entry p xs i d (and-both (p x) (all p xs) e .1) h
+
+-- within a table nothing stands for an entry
+pub default-free {ℓ} : {A : Type ℓ} (xs : List A) (i : ℕ) (d e : A) → i < length xs → getD xs i d ≡ getD xs i e
+default-free [] i d e h = absurd (let y : ⊥ = omega arith in y)
+default-free (x ∷ xs) zero d e h = refl
+default-free (x ∷ xs) (suc i) d e h = default-free xs i d e (omega arith)

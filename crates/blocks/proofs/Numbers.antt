@@ -1,7 +1,7 @@
 -- Laws of division rounded up. Assumes nothing.
 use mathlib.Core.Path.{_≡_, sym, ap, _∙_}
 use Prim.Native.Nat.{ℕ, zero, suc, _+_, _*_, _-_, _/_, _≤_, _<_}
-use native.Mathlib.Nat.{div-mul-le-self, lt-div-mul-add, le-div-iff-mul-le, div-lt-iff-lt-mul, div-zero, one-mul, mul-suc, mul-add, mul-le-mul-left}
+use native.Mathlib.Nat.{suc-mul, div-mul-le-self, lt-div-mul-add, le-div-iff-mul-le, div-lt-iff-lt-mul, div-zero, one-mul, mul-suc, mul-add, mul-le-mul-left}
 use native.Mathlib.Omega.{arith}
 use Rattle.blocks.specs.Lists.{ceilDiv}
 
@@ -29,6 +29,22 @@ ceil-mono a c (suc b) h =
 -- the part that x lies in is one of those that cover a
 pub ceil-below : (x a b : ℕ) → 0 < b → x < a → x / b < ceilDiv a b
 ceil-below x a b h k = let e = ceil-covers a b h in div-lt-iff-lt-mul {k = b} {x = x} {y = ceilDiv a b} h .1 (omega arith)
+
+-- n parts that cover it are enough
+pub ceil-at-most : (a b n : ℕ) → 0 < b → a ≤ n * b → ceilDiv a b ≤ n
+unfolding ceilDiv
+ceil-at-most a b n pos h =
+    let q : (a + (b - 1)) / b < suc n = div-lt-iff-lt-mul {k = b} {x = a + (b - 1)} {y = suc n} pos .1 (omega (arith, suc-mul n b)) in
+    omega arith
+
+-- no more parts than what is parted
+pub ceil-bound : (a b m : ℕ) → 0 < b → a ≤ m → ceilDiv a b ≤ m
+ceil-bound a b m pos h = ceil-at-most a b m pos (omega (arith, mul-le-mul-left {m = 1} {n = b} m pos))
+
+-- parts of one
+pub ceil-one : (a : ℕ) → ceilDiv a 1 ≡ a
+unfolding ceilDiv
+ceil-one a = omega arith
 
 -- ---- products, for offsets of records of w numbers
 

@@ -1,7 +1,7 @@
 -- Lists and numbers: what every layer's definitions are made of.
 use Prim.Native.Nat.{ℕ, zero, suc, _+_, _-_, _/_}
 use mathlib.Core.List.{List, [], _∷_, _++_}
-use mathlib.Core.Bool.{Bool, true, false, _&&_, cond}
+use mathlib.Core.Bool.{Bool, true, _&&_, cond}
 use lib.Dec.{ltb}
 use lib.ListN.{length, take, drop}
 

@@ -1,25 +1,21 @@
 -- Laws of the box since a count: every tile stamped later lies in it, and it is a legal rectangle. Assumes nothing.
-use mathlib.Core.Path.{_≡_, refl, sym, ap, _∙_}
-use mathlib.Core.Bool.{Bool, true, false, _&&_, cond}
+use mathlib.Core.Path.{_≡_}
 use mathlib.Core.List.{List, [], _∷_, map}
 use Prim.Native.Nat.{ℕ, _+_, _*_, _/_, _%_, _≤_, _<_}
 use native.Mathlib.Omega.{arith}
-use lib.Dec.{leb, ltb}
+use lib.Dec.{ltb}
 use lib.ListN.{length, getD}
 use borrow.Author.Tests.{ltb-true, lt-ltb, lt-leb}
-use Rattle.blocks.specs.Lists.{keep}
 use Rattle.blocks.specs.All.{All, nil, cons}
-use Rattle.blocks.proofs.All.{all-head, all-tail, all-map, all-mono, all-kept, all-keep, all-flatMap, all-listed, kept-at}
-use Rattle.shapes.specs.declared.rect.TexelRect.{TexelRect}
+use Rattle.blocks.proofs.All.{all-head, all-tail, all-kept, all-keep, all-flatMap, all-listed, kept-at}
 use Rattle.grids.specs.declared.since.Dirty.{Dirty}
 use Rattle.grids.specs.declared.since.Dirty.the-variants.{Box, Clean}
-use Rattle.grids.specs.declared.dirty.DirtyTile.{DirtyTile}
 use Rattle.grids.specs.declared.dirty.DirtyTile.the-variants.{At, NoTile}
-use Rattle.grids.specs.Axes.{SpanIn, oneTile, spanAround, spanStart, spanSize}
-use Rattle.grids.specs.Grids.{Tiling, TilingOk, columnsOf, rowsOf, stampCount, StampGrid, rowByRow, stampOf, Tile, dirtyTiles, boxOf, boxAround, boxSince, Stamped, IsDirtyTile}
-use Rattle.grids.proofs.Axes.{span-holds, span-size-pos, span-inside}
-use Rattle.grids.proofs.RowByRow.{TileAt, tile-place, tile-at, length-rows, value-at}
-use Rattle.grids.proofs.Spans.{InSpan, around-base, around-each, around-in, one-in, one-holds}
+use Rattle.tiles.specs.Axes.{oneTile, spanAround}
+use Rattle.grids.specs.Grids.{Tiling, TilingOk, columnsOf, rowsOf, stampCount, StampGrid, rowByRow, stampOf, Tile, dirtyTiles, boxOf, boxAround, boxSince, IsDirtyTile}
+use Rattle.tiles.proofs.Axes.{span-holds}
+use Rattle.grids.proofs.RowByRow.{tile-place, tile-at, length-rows, value-at}
+use Rattle.tiles.proofs.Spans.{InSpan, around-base, around-each, one-holds}
 use Rattle.grids.proofs.Stamps.{InLevel, InRect, stampAt, texel-column, texel-row}
 
 -- ---- dirty tiles

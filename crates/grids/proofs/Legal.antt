@@ -1,7 +1,7 @@
 -- A box is a legal rectangle: some texels of the level, on the block grid of every format whose block edge divides the tile edges.
 -- Assumes nothing.
 use mathlib.Core.Path.{_≡_, refl, sym, ap, subst, _∙_}
-use mathlib.Core.Bool.{Bool, true, false, _&&_, _||_, cond, or-true}
+use mathlib.Core.Bool.{Bool, true, false, _||_, or-true}
 use mathlib.Core.List.{List, [], _∷_, map}
 use Prim.Native.Nat.{ℕ, suc, _+_, _-_, _*_, _/_, _%_, _≤_, _<_, min}
 use native.Mathlib.Nat.{mul-mod-left, mul-assoc, add-mul, div-add-mod', add-zero}
@@ -9,18 +9,17 @@ use native.Mathlib.Decide.{decLe}
 use native.Mathlib.Omega.{arith}
 use lib.Dec.{eqb, leb}
 use borrow.Author.Tests.{eq-eqb}
-use Rattle.blocks.specs.All.{All, nil, cons}
+use Rattle.blocks.specs.All.{All}
 use Rattle.blocks.proofs.All.{all-head, all-tail, all-map}
-use Rattle.grids.specs.declared.axis.Axis.{Axis}
-use Rattle.grids.specs.declared.axis.Span.{Span}
-use Rattle.shapes.specs.declared.rect.TexelRect.{TexelRect}
-use Rattle.grids.specs.declared.since.Dirty.{Dirty}
-use Rattle.grids.specs.declared.since.Dirty.the-variants.{Box, Clean}
-use Rattle.grids.specs.Axes.{SpanIn, oneTile, spanAround, spanStart, spanSize}
-use Rattle.shapes.specs.Rects.{sideOnGrid, rectOnGrid}
+use Rattle.tiles.specs.declared.axis.Axis.{Axis}
+use Rattle.tiles.specs.declared.axis.Span.{Span}
+use Rattle.rects.specs.declared.rect.TexelRect.{TexelRect}
+use Rattle.grids.specs.declared.since.Dirty.the-variants.{Box}
+use Rattle.tiles.specs.Axes.{SpanIn, oneTile, spanAround, spanStart, spanSize}
+use Rattle.rects.specs.Rects.{sideOnGrid, rectOnGrid}
 use Rattle.grids.specs.Grids.{Tiling, TilingOk, columnsOf, rowsOf, StampGrid, Tile, dirtyTiles, boxOf, boxAround, boxSince}
-use Rattle.grids.proofs.Axes.{span-size-pos, span-inside, span-end}
-use Rattle.grids.proofs.Spans.{around-in, one-in}
+use Rattle.tiles.proofs.Axes.{span-size-pos, span-inside, span-end}
+use Rattle.tiles.proofs.Spans.{around-in, one-in}
 use Rattle.grids.proofs.Boxes.{TileIn, dirty-in}
 
 -- some texels of the level

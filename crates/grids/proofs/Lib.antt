@@ -1,8 +1,6 @@
-pub mod Axes
 pub mod Tilings
 pub mod RowByRow
 pub mod Stamps
-pub mod Spans
 pub mod Boxes
 pub mod Legal
 pub mod Seen

@@ -1,7 +1,7 @@
 -- A page after a write, and the page that a write leaves alone. Assumes nothing.
 use mathlib.Core.Path.{_≡_, refl, sym, ap, _∙_}
-use mathlib.Core.Bool.{Bool, true, false, _&&_, cond}
-use mathlib.Core.List.{List, _++_}
+use mathlib.Core.Bool.{Bool, true, false, cond}
+use mathlib.Core.List.{List}
 use Prim.Native.Nat.{ℕ, suc, _+_, _-_, _*_, _/_, _%_, _≤_, _<_}
 use native.Mathlib.Nat.{mul-le-mul-right, mul-comm}
 use native.Mathlib.Numerals.{add-one}
@@ -11,15 +11,15 @@ use lib.ListN.{length, take, drop, getD, take-append-drop}
 use lib.Seq.{ext-getD, length-take-le, getD-take}
 use Rattle.blocks.specs.Lists.{over}
 use Rattle.blocks.proofs.Lists.{and-both, length-over, getD-over-in, getD-over-past, over-self}
-use Rattle.shapes.specs.declared.rect.TexelRect.{TexelRect}
-use Rattle.grids.specs.declared.axis.Span.{Span}
-use Rattle.grids.specs.declared.axis.Touched.the-variants.{Tiles}
-use Rattle.grids.specs.Axes.{isCut, cutEnd, touched, touchedTiles, tilesOf}
+use Rattle.rects.specs.declared.rect.TexelRect.{TexelRect}
+use Rattle.tiles.specs.declared.axis.Span.{Span}
+use Rattle.tiles.specs.declared.axis.Touched.the-variants.{Tiles}
+use Rattle.tiles.specs.Axes.{isCut, cutEnd, touched, touchedTiles, tilesOf}
 use Rattle.grids.specs.Grids.{Tiling, TilingOk, columnsOf, rowsOf, stampCount, gridIn, stampOf, touches, isCutRect, stampedBy}
 use Rattle.grids.specs.Scans.{rowsStamped, tilesStamped, StampRoom}
-use Rattle.grids.proofs.Axes.{touched-between, touched-from, touched-to, last-tile-in, first-last, Found, tiles-found}
-use Rattle.grids.proofs.RowByRow.{TileAt, tile-place, tile-at, same-tiles}
-use Rattle.grids.proofs.Stamps.{length-stamped, stamped-tile, stamp-in, length-in, touches-cut}
+use Rattle.tiles.proofs.Axes.{touched-between, touched-from, touched-to, last-tile-in, first-last, Found, tiles-found}
+use Rattle.grids.proofs.RowByRow.{tile-place, tile-at, same-tiles}
+use Rattle.grids.proofs.Stamps.{length-stamped, stamped-tile, stamp-in, touches-cut}
 use Rattle.grids.proofs.Rows.{length-rows-stamped, rows-out, rows-in, rows-past}
 
 clash : {A : Type 0} → true ≡ false → A

@@ -1,74 +1,37 @@
 -- Rows stamped one after the other are the tiles that a rectangle touches. Assumes nothing.
-use mathlib.Core.Path.{_≡_, refl, sym, ap, ap₂, _∙_}
-use mathlib.Core.Bool.{Bool, true, false, cond}
-use mathlib.Core.List.{List, [], _∷_, _++_, append-assoc}
-use Prim.Native.Nat.{ℕ, zero, suc, _+_, _-_, _*_, _/_, _%_, _≤_, _<_}
-use native.Mathlib.Nat.{mul-le-mul-right, suc-mul, add-suc, add-zero, mul-comm}
+use mathlib.Core.Path.{_≡_, refl, sym, ap, _∙_}
+use mathlib.Core.List.{List}
+use Prim.Native.Nat.{ℕ, zero, suc, _+_, _-_, _*_, _≤_, _<_}
+use native.Mathlib.Nat.{mul-le-mul-right, suc-mul}
 use native.Mathlib.Numerals.{add-one}
 use native.Mathlib.Decide.{decLt, decLe}
 use native.Mathlib.Omega.{arith}
-use lib.ListN.{length, take, drop, getD, replicate, length-append, length-replicate, getD-replicate, List·getD-append}
-use lib.Seq.{sets, sets-eq, length-sets, getD-take, getD-drop, length-take-le, getD-append-add, ext-getD}
-use Rattle.blocks.specs.Lists.{over}
-use Rattle.blocks.proofs.Lists.{length-over, getD-over-in, getD-over-past}
-use Rattle.grids.specs.declared.axis.Axis.{Axis}
-use Rattle.shapes.specs.declared.rect.TexelRect.{TexelRect}
-use Rattle.grids.specs.Axes.{isCut, cutEnd, touched, tilesOf}
-use Rattle.grids.specs.Grids.{Tiling, TilingOk, columnsOf, rowsOf, stampCount, StampGrid, gridIn, stampOf, touches, isCutRect, stampedBy}
+use lib.ListN.{length, getD, replicate, length-replicate, getD-replicate}
+use lib.Seq.{sets, length-sets}
+use Rattle.blocks.proofs.Blocks.{getD-sets-before, getD-sets-in, getD-sets-past}
 use Rattle.grids.specs.Scans.{rowsStamped}
-use Rattle.grids.proofs.RowByRow.{TileAt, tile-at}
 
 -- ---- a run of one number in a list
 
 module _ (l : List ℕ) (at w x : ℕ) (fits : at + w ≤ length l) where
-  filled : sets l at (replicate w x) ≡ take at l ++ (replicate w x ++ drop (at + w) l)
-  filled =
-      let n = length-replicate w x in
-      sets-eq (replicate w x) l at (omega arith) ∙ ap (λ (m : ℕ). take at l ++ replicate w x ++ drop (at + m) l) n
-      ∙ append-assoc (take at l) (replicate w x) (drop (at + w) l)
-
-  read-before : (k : ℕ) → k < at → getD (sets l at (replicate w x)) k 0 ≡ getD l k 0
-  read-before k h =
-      let n = length-take-le at l (omega arith) in
-      ap (λ (r : List ℕ). getD r k 0) filled ∙ List·getD-append (take at l) _ 0 k (omega arith) ∙ getD-take at l k 0 h
-
-  read-in : (j : ℕ) → j < w → getD (sets l at (replicate w x)) (at + j) 0 ≡ x
-  read-in j h =
-      let n : length (take at l) ≡ at = length-take-le at l (omega arith) in
-      let m = length-replicate w x in
-      ap (λ (r : List ℕ). getD r (at + j) 0) filled
-      ∙ ap (λ (i : ℕ). getD (take at l ++ (replicate w x ++ drop (at + w) l)) (i + j) 0) (sym n)
-      ∙ getD-append-add (take at l) (replicate w x ++ drop (at + w) l) j 0
-      ∙ List·getD-append (replicate w x) (drop (at + w) l) 0 j (omega arith)
-      ∙ getD-replicate w j x 0 h
-
-  read-past : (j : ℕ) → getD (sets l at (replicate w x)) (at + w + j) 0 ≡ getD l (at + w + j) 0
-  read-past j =
-      let n : length (take at l ++ replicate w x) ≡ at + w =
-      length-append (take at l) (replicate w x) ∙ ap₂ (λ (a b : ℕ). a + b) (length-take-le at l (omega arith)) (length-replicate w x) in
-      ap (λ (r : List ℕ). getD r (at + w + j) 0) (filled ∙ sym (append-assoc (take at l) (replicate w x) (drop (at + w) l)))
-      ∙ ap (λ (i : ℕ). getD (take at l ++ replicate w x ++ drop (at + w) l) (i + j) 0) (sym n)
-      ∙ getD-append-add (take at l ++ replicate w x) (drop (at + w) l) j 0
-      ∙ getD-drop (at + w) l j 0
+  run-fits : at + length (replicate w x) ≤ length l
+  run-fits = rw length-replicate fits
 
   -- at an index of the run, and at any other
   pub run-in : (k : ℕ) → at ≤ k → k < at + w → getD (sets l at (replicate w x)) k 0 ≡ x
   run-in k lo hi =
       let e : at + (k - at) ≡ k = omega arith in
-      ap (λ (i : ℕ). getD (sets l at (replicate w x)) i 0) (sym e) ∙ read-in (k - at) (omega arith)
+      let h : k - at < w = omega arith in
+      ap (λ (i : ℕ). getD (sets l at (replicate w x)) i 0) (sym e)
+      ∙ getD-sets-in l at (replicate w x) run-fits (k - at) 0 (rw length-replicate h) ∙ getD-replicate w (k - at) x 0 h
 
   pub run-out : (k : ℕ) → (at ≤ k → k < at + w → ⊥) → getD (sets l at (replicate w x)) k 0 ≡ getD l k 0
-  run-out k miss = go (decLt k at)
+  run-out k miss = go (decLt k at) (decLt k (at + w))
     where
-      go : Dec (k < at) → getD (sets l at (replicate w x)) k 0 ≡ getD l k 0
-      go (yes q) = read-before k q
-      go (no q) = past (decLt k (at + w))
-        where
-          past : Dec (k < at + w) → getD (sets l at (replicate w x)) k 0 ≡ getD l k 0
-          past (yes p) = absurd (miss (omega arith) p)
-          past (no p) =
-              let e : at + w + (k - (at + w)) ≡ k = omega arith in
-              ap (λ (i : ℕ). getD (sets l at (replicate w x)) i 0) (sym e) ∙ read-past (k - (at + w)) ∙ ap (λ (i : ℕ). getD l i 0) e
+      go : Dec (k < at) → Dec (k < at + w) → getD (sets l at (replicate w x)) k 0 ≡ getD l k 0
+      go (yes q) d = getD-sets-before l at (replicate w x) run-fits k 0 q
+      go (no q) (yes p) = absurd (miss (omega arith) p)
+      go (no q) (no p) = getD-sets-past l at (replicate w x) run-fits k 0 (rw length-replicate (omega arith))
 
 -- ---- some rows of such runs
 

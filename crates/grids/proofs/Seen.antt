@@ -2,28 +2,27 @@
 use mathlib.Core.Path.{_≡_, refl, sym, ap, ap₂, _∙_}
 use mathlib.Core.Bool.{Bool, true, false, cond}
 use mathlib.Core.List.{List, [], _∷_, _++_, map, flatMap}
-use Prim.Native.Nat.{ℕ, zero, suc, _+_, _-_, _*_, _≤_, _<_}
-use native.Mathlib.Nat.{zero-add}
+use Prim.Native.Nat.{ℕ, _+_, _*_, _≤_, _<_}
 use native.Mathlib.Omega.{arith}
-use lib.Dec.{ltb, leb}
+use lib.Dec.{ltb}
 use lib.ListN.{length, getD, take, drop}
 use lib.Seq.{getD-take, getD-drop}
 use borrow.Author.Tests.{leb-true, le-ltb, le-leb, lt-leb}
-use Rattle.blocks.specs.Lists.{listed, keep, all}
+use Rattle.blocks.specs.Lists.{keep, all}
 use Rattle.blocks.specs.Blocks.{atMost}
-use Rattle.blocks.specs.All.{All, nil, cons}
+use Rattle.blocks.specs.All.{All, cons}
 use Rattle.blocks.proofs.Lists.{all-get}
-use Rattle.blocks.proofs.Listed.{left, left-all, left-step, left-none, getD-listed}
+use Rattle.blocks.proofs.Listed.{left, left-all, left-step, left-none}
 use Rattle.blocks.proofs.All.{all-listed, all-flatMap}
-use Rattle.grids.specs.declared.axis.Span.{Span}
+use Rattle.tiles.specs.declared.axis.Span.{Span}
 use Rattle.grids.specs.declared.since.Dirty.{Dirty}
 use Rattle.grids.specs.declared.since.Dirty.the-variants.{Box, Clean}
 use Rattle.grids.specs.declared.since.Seen.{Seen}
-use Rattle.grids.specs.Axes.{SpanIn, oneTile, widened, spanAround}
+use Rattle.tiles.specs.Axes.{SpanIn, oneTile, widened, spanAround}
 use Rattle.grids.specs.Grids.{Tiling, TilingOk, columnsOf, rowsOf, stampCount, gridIn, rowByRow, stampOf, Tile, dirtyTiles, boxOf, boxAround, boxSince}
 use Rattle.grids.specs.Scans.{nothingSeen, joined, visited, allJoined, dirtyRow}
 use Rattle.grids.proofs.RowByRow.{tile-place, keep-rows}
-use Rattle.grids.proofs.Boxes.{TileIn, dirty-in}
+use Rattle.grids.proofs.Boxes.{TileIn}
 use Rattle.grids.proofs.Legal.{columns-in, rows-in}
 
 -- ---- what was seen is the box

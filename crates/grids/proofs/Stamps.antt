@@ -1,18 +1,17 @@
 -- Laws of stamping: what a write stamps, tile by tile and texel by texel. Assumes nothing.
-use mathlib.Core.Path.{_≡_, refl, sym, ap, _∙_}
-use mathlib.Core.Bool.{Bool, true, false, _&&_, cond}
+use mathlib.Core.Path.{_≡_, refl, sym, _∙_}
+use mathlib.Core.Bool.{Bool, true, false, cond}
 use mathlib.Core.List.{List}
 use Prim.Native.Nat.{ℕ, _+_, _*_, _/_, _≤_, _<_}
 use native.Mathlib.Omega.{arith}
-use lib.ListN.{length, getD, take, replicate, length-replicate, getD-replicate}
+use lib.ListN.{length, length-replicate}
 use lib.Seq.{getD-take, length-take-le}
 use Rattle.blocks.proofs.Lists.{and-both}
-use Rattle.shapes.specs.declared.rect.TexelRect.{TexelRect}
-use Rattle.shapes.specs.declared.shape.VersionShape.{VersionShape}
-use Rattle.grids.specs.Axes.{tilesOf, isCut, touched}
-use Rattle.grids.specs.Grids.{Tiling, TilingOk, columnsOf, rowsOf, stampCount, StampGrid, newGrid, gridIn, rowByRow, stampOf, touches, isCutRect, stampedBy}
-use Rattle.grids.proofs.Axes.{Touches, touches-of, touched-texel, touched-has, cut-texel, tile-in}
-use Rattle.grids.proofs.RowByRow.{tile-place, tile-at, length-rows, value-at}
+use Rattle.rects.specs.declared.rect.TexelRect.{TexelRect}
+use Rattle.tiles.specs.Axes.{touched}
+use Rattle.grids.specs.Grids.{Tiling, TilingOk, columnsOf, rowsOf, stampCount, StampGrid, newGrid, gridIn, stampOf, touches, isCutRect, stampedBy}
+use Rattle.tiles.proofs.Axes.{touched-texel, touched-has, cut-texel, tile-in}
+use Rattle.grids.proofs.RowByRow.{tile-place, length-rows, value-at}
 
 -- a texel of the level
 pub record InLevel (g : Tiling) (x y : ℕ) : Type 0 where

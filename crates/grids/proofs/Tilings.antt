@@ -1,18 +1,18 @@
 -- A shape's levels have tilings of at most 32 by 32 tiles. Assumes nothing.
 use mathlib.Core.Path.{_≡_}
 use mathlib.Core.Bool.{true}
-use Prim.Native.Nat.{ℕ, _*_, _%_, _≤_, _<_}
+use Prim.Native.Nat.{ℕ, _%_, _≤_, _<_}
 use native.Mathlib.Nat.{mul-le-mul}
 use native.Mathlib.Omega.{arith}
 use Rattle.blocks.proofs.Numbers.{ceil-pos}
 use Rattle.shapes.specs.declared.shape.VersionShape.{VersionShape}
 use Rattle.shapes.specs.Formats.{blockEdge}
 use Rattle.shapes.specs.Shapes.{isShape, levelWidth, levelHeight}
-use Rattle.grids.specs.Axes.{tileEdge, axisOf, AxisOk, tilesOf}
+use Rattle.tiles.specs.Axes.{tileEdge, axisOf, tilesOf}
 use Rattle.grids.specs.Grids.{Tiling, tilingOf, TilingOk, columnsOf, rowsOf, stampCount}
 use Rattle.shapes.proofs.Formats.{block-edge-pos, block-edge-bound}
 use Rattle.shapes.proofs.Shapes.{shape-bounds, width-pos, height-pos, width-bound, height-bound}
-use Rattle.grids.proofs.Axes.{axis-ok, edge-multiple}
+use Rattle.tiles.proofs.Axes.{axis-ok, edge-multiple}
 
 -- at most 1,024 stamps
 pub count-bound : (g : Tiling) → TilingOk g → stampCount g ≤ 1024

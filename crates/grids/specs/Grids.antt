@@ -5,17 +5,17 @@ use mathlib.Core.List.{List, [], _∷_, map, flatMap}
 use lib.Dec.{leb, ltb}
 use lib.ListN.{getD, take, replicate}
 use Rattle.blocks.specs.Lists.{listed, keep}
-use Rattle.grids.specs.declared.axis.Axis.{Axis}
-use Rattle.grids.specs.declared.axis.Span.{Span}
+use Rattle.tiles.specs.declared.axis.Axis.{Axis}
+use Rattle.tiles.specs.declared.axis.Span.{Span}
 use Rattle.shapes.specs.declared.shape.VersionShape.{VersionShape}
-use Rattle.shapes.specs.declared.rect.TexelRect.{TexelRect}
+use Rattle.rects.specs.declared.rect.TexelRect.{TexelRect}
 use Rattle.grids.specs.declared.since.Dirty.{Dirty}
 use Rattle.grids.specs.declared.since.Dirty.the-variants.{Box, Clean}
 use Rattle.grids.specs.declared.dirty.DirtyTile.{DirtyTile}
 use Rattle.grids.specs.declared.dirty.DirtyTile.the-variants.{At, NoTile}
 use Rattle.shapes.specs.Formats.{blockEdge}
 use Rattle.shapes.specs.Shapes.{levelWidth, levelHeight}
-use Rattle.grids.specs.Axes.{axisOf, AxisOk, tilesOf, isCut, touched, oneTile, spanAround, spanStart, spanSize}
+use Rattle.tiles.specs.Axes.{axisOf, AxisOk, tilesOf, isCut, touched, oneTile, spanAround, spanStart, spanSize}
 use Rattle.blocks.specs.Blocks.{largest}
 
 -- a level cut into tiles along two axes

@@ -1,3 +1,2 @@
-pub mod Axes
 pub mod Grids
 pub mod Scans

@@ -7,7 +7,7 @@ use lib.Dec.{ltb}
 use lib.ListN.{getD, replicate}
 use lib.Seq.{sets}
 use Rattle.blocks.specs.Lists.{listed, keep}
-use Rattle.grids.specs.declared.axis.Span.{Span}
+use Rattle.tiles.specs.declared.axis.Span.{Span}
 use Rattle.grids.specs.declared.since.Seen.{Seen}
 use Rattle.grids.specs.Grids.{Tile}
 

@@ -1,10 +1,10 @@
 // Some tile written since a count, on one page.
 ghost use Prim.Native.Nat.{_≤_};
 ghost use lib.ListN.{length};
-ghost use Rattle.grids.specs.Axes.{AxisOk};
+ghost use Rattle.tiles.specs.Axes.{AxisOk};
 ghost use Rattle.grids.specs.Grids.{tiled, stampCount, IsDirtyTile};
-use crate::axis::Axis;
-use crate::axis::tiles;
+use tiles::Axis;
+use tiles::tiles;
 
 pub enum DirtyTile {
     At { column: u64, row: u64 },

@@ -2,14 +2,14 @@
 ghost use mathlib.Core.Path.{_≡_};
 ghost use mathlib.Core.Bool.{true};
 ghost use Rattle.shapes.specs.Shapes.{isShape};
-ghost use Rattle.grids.specs.Axes.{AxisOk};
+ghost use Rattle.tiles.specs.Axes.{AxisOk};
 ghost use Rattle.grids.specs.Grids.{tiled, tilingOf, stampCount};
-use crate::axis::Axis;
-use crate::axis::axis_of;
-use crate::axis::tiles;
 use shapes::VersionShape;
 use shapes::block_edge;
 use shapes::level_extent;
+use tiles::Axis;
+use tiles::axis_of;
+use tiles::tiles;
 
 // A level's columns.
 pub fn across_axis(s: VersionShape, level: u64) -> Axis

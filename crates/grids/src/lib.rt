@@ -1,15 +1,11 @@
-// Tiles and one subresource's stamp grid. With `shapes` the first layer of the texture version pool.
-mod axis;
+// One subresource's stamp grid: a page of stamps, a stamp for each tile. The functions are the pool's own and say what they
+// require; a page is a part of the lent store.
 mod dirty;
 mod grid;
 mod newest;
 mod since;
 mod stamping;
 
-pub use axis::Axis;
-pub use axis::axis_of;
-pub use axis::tile_edge;
-pub use axis::tiles;
 pub use dirty::DirtyTile;
 pub use dirty::dirty_tile;
 pub use grid::across_axis;

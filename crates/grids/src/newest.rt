@@ -3,10 +3,10 @@ ghost use mathlib.Core.Path.{_≡_};
 ghost use Prim.Native.Nat.{_≤_, _<_};
 ghost use lib.Dec.{eqb};
 ghost use lib.ListN.{length};
-ghost use Rattle.grids.specs.Axes.{AxisOk};
+ghost use Rattle.tiles.specs.Axes.{AxisOk};
 ghost use Rattle.grids.specs.Grids.{tiled, stampCount, largestStamp};
-use crate::axis::Axis;
 use crate::grid::stamp_count;
+use tiles::Axis;
 
 // The largest stamp of the grid.
 pub fn largest_stamp(page: &[u64], across: Axis, down: Axis) -> u64

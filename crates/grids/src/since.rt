@@ -2,15 +2,15 @@
 ghost use mathlib.Core.Path.{_≡_};
 ghost use Prim.Native.Nat.{_*_, _≤_, _<_};
 ghost use lib.ListN.{length};
-ghost use Rattle.grids.specs.Axes.{AxisOk, SpanIn};
+ghost use Rattle.tiles.specs.Axes.{AxisOk, SpanIn};
 ghost use Rattle.grids.specs.Grids.{tiled, stampCount, dirtyTiles, gridIn, boxOf, boxSince};
 ghost use Rattle.grids.specs.Scans.{nothingSeen, visited, allJoined, dirtyRow};
-use crate::axis::Axis;
-use crate::axis::Span;
-use crate::axis::span_size;
-use crate::axis::span_start;
-use crate::axis::tiles;
-use shapes::TexelRect;
+use rects::TexelRect;
+use tiles::Axis;
+use tiles::Span;
+use tiles::span_size;
+use tiles::span_start;
+use tiles::tiles;
 
 // The box of what was written, or none.
 pub enum Dirty {

@@ -3,15 +3,15 @@ ghost use mathlib.Core.Path.{_≡_};
 ghost use Prim.Native.Nat.{_+_, _-_, _*_, _≤_, _<_};
 ghost use lib.ListN.{length};
 ghost use Rattle.blocks.specs.Lists.{over};
-ghost use Rattle.grids.specs.Axes.{AxisOk};
+ghost use Rattle.tiles.specs.Axes.{AxisOk};
 ghost use Rattle.grids.specs.Grids.{tiled, stampCount, gridIn, stampedBy};
 ghost use Rattle.grids.specs.Scans.{rowsStamped, StampRoom, tilesStamped};
-use crate::axis::Axis;
-use crate::axis::Span;
-use crate::axis::Touched;
-use crate::axis::tiles;
-use crate::axis::touched_tiles;
-use shapes::TexelRect;
+use rects::TexelRect;
+use tiles::Axis;
+use tiles::Span;
+use tiles::Touched;
+use tiles::tiles;
+use tiles::touched_tiles;
 
 // `width` stamps from column `left` on set to `n`, in the rows from `top` up to `bottom`.
 fn stamp_rows(

@@ -1,5 +1,5 @@
-// Answers questions on the leaf functions of `shapes` and `grids`, a line each, as the program `leaf` of compare/ does
-// over the published Rust; compare/README.md has the questions. Budgets are not answered.
+// Answers questions on the leaf functions of layer 1, a line each, as the program `leaf` of compare/ does over the
+// published Rust; compare/README.md has the questions. Budgets are not answered.
 mod lines;
 mod question;
 

@@ -1,9 +1,9 @@
 // Which question a line asks.
 ghost use Prim.Native.Nat.{_≤_};
 ghost use lib.ListN.{length};
+use leaf_grids::edge_along;
 use leaf_grids::grid_since;
-use leaf_grids::tile_edge;
-use leaf_grids::tiles;
+use leaf_grids::tiles_along;
 use leaf_shapes::level_extent;
 use leaf_shapes::shape_answer;
 use leaf_text::Answer;
@@ -18,10 +18,10 @@ fn field_answer(word: &[u8], fields: &[u8]) -> Answer
         return level_extent(fields);
     }
     if is_word(word, b"tile_edge") {
-        return tile_edge(fields);
+        return edge_along(fields);
     }
     if is_word(word, b"tiles") {
-        return tiles(fields);
+        return tiles_along(fields);
     }
     if is_word(word, b"grid") {
         return grid_since(fields);

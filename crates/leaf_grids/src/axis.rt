@@ -1,14 +1,14 @@
-// Questions on the tiles along an axis. The Rust's functions take any 32-bit extent, those of `grids` only extents that a
-// level can have, so longer axes are answered here, by the same rule.
+// Questions on the tiles along an axis. The Rust's functions take any 32-bit extent, those of `tiles` only extents that
+// a level can have, so longer axes are answered here, by the same rule.
 ghost use mathlib.Core.Path.{_≡_};
 ghost use Prim.Native.Nat.{_≤_, _<_};
 ghost use lib.ListN.{length};
-ghost use Rattle.grids.specs.Axes.{tileEdge, axisOf, tilesOf};
+ghost use Rattle.tiles.specs.Axes.{tileEdge, axisOf, tilesOf};
 use leaf_text::Answer;
 use leaf_text::Rest;
 use leaf_text::read_all;
 
-// The side of a tile, as `grids::tile_edge` has it.
+// The side of a tile, as `tiles::tile_edge` has it.
 fn long_edge(extent: u64, block: u64) -> u64
     requires { ⌜ (extent ≤ 4294967295) × (0 < block) × (block ≤ 16) ⌝ }
     ensures { λ r. ⌜ r ≡ tileEdge extent block ⌝ }
@@ -22,7 +22,7 @@ fn edge_of(extent: u64, block: u64) -> u64
     ensures { λ r. ⌜ r ≡ tileEdge extent block ⌝ }
 {
     if extent <= 16384 {
-        grids::tile_edge(extent, block)
+        tiles::tile_edge(extent, block)
     } else {
         long_edge(extent, block)
     }
@@ -33,14 +33,14 @@ fn tiles_of(extent: u64, block: u64) -> u64
     ensures { λ r. ⌜ r ≡ tilesOf (axisOf extent block) ⌝ }
 {
     if extent <= 16384 {
-        return grids::tiles(grids::axis_of(extent, block));
+        return tiles::tiles(tiles::axis_of(extent, block));
     }
     let edge = long_edge(extent, block);
     (extent + (edge - 1)) / edge
 }
 
 // EXTENT,BLOCK
-pub fn tile_edge(fields: &[u8]) -> Answer
+pub fn edge_along(fields: &[u8]) -> Answer
     requires { ⌜ length (now fields) ≤ 65536 ⌝ }
 {
     let n = read_all(fields, 0, 2);
@@ -60,7 +60,7 @@ pub fn tile_edge(fields: &[u8]) -> Answer
 }
 
 // EXTENT,BLOCK
-pub fn tiles(fields: &[u8]) -> Answer
+pub fn tiles_along(fields: &[u8]) -> Answer
     requires { ⌜ length (now fields) ≤ 65536 ⌝ }
 {
     let n = read_all(fields, 0, 2);

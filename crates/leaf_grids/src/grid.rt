@@ -1,15 +1,15 @@
 // The question on a stamp grid.
 ghost use Prim.Native.Nat.{_+_, _≤_};
 ghost use lib.ListN.{length};
-ghost use Rattle.grids.specs.Axes.{AxisOk};
+ghost use Rattle.tiles.specs.Axes.{AxisOk};
 ghost use Rattle.grids.specs.Grids.{tiled, stampCount};
-use grids::Axis;
 use grids::Dirty;
 use leaf_text::Answer;
 use leaf_text::Rest;
 use leaf_text::are_u32;
 use leaf_text::read_numbers;
 use leaf_text::rect_of;
+use tiles::Axis;
 
 enum Stamped {
     Newest(u64),
@@ -65,8 +65,8 @@ fn since_in(format: u64, width: u64, height: u64, held: u64, fields: &[u8], at: 
 {
     let block = shapes::block_edge(format);
     since(
-        grids::axis_of(width, block),
-        grids::axis_of(height, block),
+        tiles::axis_of(width, block),
+        tiles::axis_of(height, block),
         held,
         fields,
         at,

@@ -1,5 +1,5 @@
-// Leaf questions on shapes and single rectangles, answered by the crate `shapes`. `fields` are those behind a question's
-// word; compare/README.md has the questions.
+// Leaf questions on shapes and single rectangles, answered by the crates `shapes` and `rects`. `fields` are those behind
+// a question's word; compare/README.md has the questions.
 mod question;
 mod rect;
 mod shape;

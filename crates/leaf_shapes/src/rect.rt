@@ -13,9 +13,9 @@ use leaf_text::number_of;
 use leaf_text::read_all;
 use leaf_text::read_numbers;
 use leaf_text::rect_of;
-use shapes::Compressed;
-use shapes::TexelRect;
-use shapes::UploadAnswer;
+use rects::Compressed;
+use rects::TexelRect;
+use rects::UploadAnswer;
 
 // An upload's first field.
 enum Source {
@@ -47,14 +47,14 @@ pub fn upload(fields: &[u8]) -> Answer
     if !((n.count == 6) & are_u32(v)) {
         return Answer::Malformed;
     }
-    match shapes::upload_written_rect(rect_of(v), v[4], v[5], source) {
+    match rects::upload_written_rect(rect_of(v), v[4], v[5], source) {
         UploadAnswer::Written(rect) => Answer::Numbers(0, Rest::Box(rect)),
         UploadAnswer::NoFormat => Answer::Numbers(REFUSED, Rest::End),
     }
 }
 
 fn is_on_grid(format: u64, rect: TexelRect, width: u64, height: u64) -> bool {
-    shapes::rect_on_block_grid(shapes::block_edge(format), rect, width, height)
+    rects::rect_on_block_grid(shapes::block_edge(format), rect, width, height)
 }
 
 // FORMAT,X,Y,WIDTH,HEIGHT,EXTENT_W,EXTENT_H

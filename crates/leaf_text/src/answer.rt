@@ -2,7 +2,7 @@
 ghost use mathlib.Core.Path.{_≡_};
 ghost use Prim.Native.Nat.{_+_, _≤_};
 ghost use lib.ListN.{length};
-use shapes::TexelRect;
+use rects::TexelRect;
 
 // What follows an answer's first number.
 pub enum Rest {

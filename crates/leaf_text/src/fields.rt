@@ -1,7 +1,7 @@
 // Numbers and fields of a line. Fields are parted by commas and may be empty.
 ghost use Prim.Native.Nat.{_+_, _≤_, _<_};
 ghost use lib.ListN.{length};
-use shapes::TexelRect;
+use rects::TexelRect;
 
 pub enum Number {
     Value(u64),

@@ -6,7 +6,7 @@ use lib.Dec.{leb}
 use borrow.Author.Tests.{leb-true}
 use Rattle.blocks.specs.Lists.{all}
 use Rattle.shapes.specs.Formats.{blockEdges, bytesPerBlock, blockEdge, blockBytes}
-use Rattle.shapes.proofs.Small.{entry}
+use Rattle.blocks.proofs.Lists.{entry}
 
 pub block-edge-pos : (f : ℕ) → 0 < blockEdge f
 unfolding blockEdge all

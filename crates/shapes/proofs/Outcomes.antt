@@ -8,17 +8,14 @@ use Rattle.shapes.specs.declared.shape.BytesAnswer.{BytesAnswer}
 use Rattle.shapes.specs.declared.shape.BytesAnswer.the-variants.{Bytes, NoShape}
 use Rattle.shapes.specs.declared.records.RecordsAnswer.{RecordsAnswer}
 use Rattle.shapes.specs.declared.records.RecordsAnswer.the-variants.{Records, Shapeless}
-use Rattle.shapes.specs.declared.rect.TexelRect.{TexelRect}
-use Rattle.shapes.specs.declared.upload.UploadAnswer.{UploadAnswer}
-use Rattle.shapes.specs.declared.upload.UploadAnswer.the-variants.{Written, NoFormat}
-use Rattle.shapes.specs.Outcomes.{Outcome, ofBytes, ofRecords, ofUpload}
+use Rattle.shapes.specs.Outcomes.{Outcome, ofBytes, ofRecords}
 
 -- equal outcomes agree in each field
-field : {a b : Outcome} (k : ℕ) → a ≡ b → getD (a .fields) k 0 ≡ getD (b .fields) k 0
+pub field : {a b : Outcome} (k : ℕ) → a ≡ b → getD (a .fields) k 0 ≡ getD (b .fields) k 0
 field k e = ap (λ (o : Outcome). getD (o .fields) k 0) e
 
 -- outcomes of two numbers are not equal
-apart : (a b : Outcome) → (a .number ≡ b .number → ⊥) → a ≡ b → ⊥
+pub apart : (a b : Outcome) → (a .number ≡ b .number → ⊥) → a ≡ b → ⊥
 apart a b h e = h (ap (λ (o : Outcome). o .number) e)
 
 pub bytes-fixed : (a b : BytesAnswer) → ofBytes a ≡ ofBytes b → a ≡ b
@@ -37,13 +34,3 @@ records-fixed (Records false) (Records false) e = refl
 records-fixed (Records a) Shapeless e = absurd (apart _ _ (eqb-false 0 2 refl) e)
 records-fixed Shapeless (Records b) e = absurd (apart _ _ (eqb-false 2 0 refl) e)
 records-fixed Shapeless Shapeless e = refl
-
-rect-fixed : (a b : TexelRect) → a .x ≡ b .x → a .y ≡ b .y → a .width ≡ b .width → a .height ≡ b .height → a ≡ b
-rect-fixed a b p q r t = λ i. record { x = p i; y = q i; width = r i; height = t i }
-
-pub upload-fixed : (a b : UploadAnswer) → ofUpload a ≡ ofUpload b → a ≡ b
-unfolding ofUpload
-upload-fixed (Written a) (Written b) e = ap Written (rect-fixed a b (field 0 e) (field 1 e) (field 2 e) (field 3 e))
-upload-fixed (Written a) NoFormat e = absurd (apart _ _ (eqb-false 0 2 refl) e)
-upload-fixed NoFormat (Written b) e = absurd (apart _ _ (eqb-false 2 0 refl) e)
-upload-fixed NoFormat NoFormat e = refl

@@ -10,9 +10,16 @@ use Rattle.blocks.specs.Lists.{ceilDiv, listed, total}
 use Rattle.shapes.specs.declared.shape.VersionShape.{VersionShape}
 use Rattle.shapes.specs.Formats.{blockEdge}
 use Rattle.shapes.specs.Shapes.{isShape, slicesOf, levelWidth, levelHeight, levelDepth, levelBytes, bytesOf}
-use Rattle.shapes.proofs.Small.{either, ceil-bound, sumFrom, sum-whole, sum-bound}
+use Rattle.blocks.proofs.Lists.{either}
+use Rattle.blocks.proofs.Numbers.{ceil-bound}
 use Rattle.shapes.proofs.Formats.{block-edge-pos, block-bytes-bound}
 use Rattle.shapes.proofs.Shapes.{ShapeBounds, shape-bounds, extent-below, depth-below, depth-flat, width-bound, height-bound, depth-bound, pow-pos}
+
+-- n terms of at most c each
+sum-bound : (f : ℕ → ℕ) (c a n : ℕ) → ((k : ℕ) → a ≤ k → f k ≤ c) → total f (listed (λ (k : ℕ). k) a n) ≤ n * c
+unfolding total listed
+sum-bound f c a zero h = omega arith
+sum-bound f c a (suc n) h = omega (arith, h a (omega arith), sum-bound f c (suc a) n (λ k g. h k (omega arith)))
 
 -- blocks across and down a level
 abbrev pub across : VersionShape → ℕ → ℕ
@@ -69,8 +76,8 @@ module _ (s : VersionShape) (z : ShapeBounds s) where
   levels-of (suc (suc n)) h = omega (arith, level-bound 0, second-bound, sum-bound (levelBytes s) 137438953472 2 n later-bound)
 
   -- the sum over the levels, as the code makes it
-  pub sum-of-levels : sumFrom (levelBytes s) 0 (s .levels) ≤ 17592186044416
-  sum-of-levels = rw sum-whole (levels-of (s .levels) (z .levels-bound))
+  pub sum-of-levels : total (levelBytes s) (listed (λ (k : ℕ). k) 0 (s .levels)) ≤ 17592186044416
+  sum-of-levels = levels-of (s .levels) (z .levels-bound)
 
   -- a cube has no depth, so its six slices are no more than a volume
   cube-level : s .kind ≡ 1 → (level : ℕ) → levelBytes s level ≤ 4294967296

@@ -9,7 +9,7 @@ use borrow.Author.Tests.{leb-true, eqb-true, le-leb, eq-eqb, ne-eqb}
 use Rattle.blocks.specs.Lists.{after, tests}
 use Rattle.shapes.specs.declared.shape.VersionShape.{VersionShape}
 use Rattle.shapes.specs.Shapes.{isShape, sameShape, slicesOf, levelExtent, levelWidth, levelHeight, levelDepth}
-use Rattle.shapes.proofs.Small.{either, not-passed, passed}
+use Rattle.blocks.proofs.Lists.{either, not-passed, passed}
 
 pub record ShapeBounds (s : VersionShape) : Type 0 where
   pub width : s .width ≤ 16384

@@ -1,5 +1,3 @@
 pub mod Outcomes
 pub mod Formats
 pub mod Shapes
-pub mod Rects
-pub mod Copies

@@ -6,8 +6,6 @@ use Rattle.shapes.specs.declared.shape.BytesAnswer.{BytesAnswer}
 use Rattle.shapes.specs.declared.shape.BytesAnswer.the-variants.{Bytes, NoShape}
 use Rattle.shapes.specs.declared.records.RecordsAnswer.{RecordsAnswer}
 use Rattle.shapes.specs.declared.records.RecordsAnswer.the-variants.{Records, Shapeless}
-use Rattle.shapes.specs.declared.upload.UploadAnswer.{UploadAnswer}
-use Rattle.shapes.specs.declared.upload.UploadAnswer.the-variants.{Written, NoFormat}
 
 -- the number, and the answer's fields where it is 0
 pub record Outcome : Type 0 where
@@ -28,7 +26,3 @@ ofBytes NoShape = refused 2
 unfoldable pub ofRecords : RecordsAnswer → Outcome
 ofRecords (Records b) = accepted (cond b 1 0 ∷ [])
 ofRecords Shapeless = refused 2
-
-unfoldable pub ofUpload : UploadAnswer → Outcome
-ofUpload (Written r) = accepted (r .x ∷ r .y ∷ r .width ∷ r .height ∷ [])
-ofUpload NoFormat = refused 2

@@ -2,11 +2,9 @@
 use mathlib.Core.Path.{_≡_, ap₂}
 use Prim.Native.Nat.{ℕ, _-_, _*_, _≤_, _<_}
 use native.Mathlib.Omega.{arith}
-use native.Mathlib.Nat.{mul-le-mul}
-use lib.ListN.{length, getD}
+use lib.ListN.{getD}
 use borrow.Author.Count.{below-more}
 use borrow.Author.Needs.{needs}
-use Rattle.grids.specs.Axes.{tilesOf}
 use Rattle.grids.specs.Grids.{Tiling, tiled, columnsOf, rowsOf, stampCount}
 use Rattle.grids.proofs.Boxes.{dirty-found, dirty-none}
 use Rattle.grids.proofs.RowByRow.{factor-pos}

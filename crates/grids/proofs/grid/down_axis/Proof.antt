@@ -1,5 +1,4 @@
 -- A level's axis down. Assumes nothing.
-use mathlib.Core.Path.{_≡_}
 use native.Mathlib.Omega.{arith}
 use borrow.Author.Needs.{needs}
 use Rattle.shapes.specs.Shapes.{levelHeight}

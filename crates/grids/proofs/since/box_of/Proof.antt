@@ -1,6 +1,4 @@
 -- Whole tiles in texels. Assumes nothing.
-use mathlib.Core.Path.{_≡_}
-use borrow.Author.Needs.{needs}
 use Rattle.grids.specs.Grids.{boxOf}
 use Rattle.grids.proofs.since.box_of.Statement.{statement}
 use Rattle.grids.proofs.since.box_of.Tie as tie

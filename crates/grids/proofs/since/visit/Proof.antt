@@ -1,5 +1,5 @@
 -- One tile more. Assumes nothing.
-use mathlib.Core.Path.{_≡_}
+use native.Mathlib.Omega.{arith}
 use borrow.Author.Needs.{needs}
 use borrow.Author.Tests.{lt-ltb, le-ltb}
 use Rattle.grids.specs.Scans.{visited, joined}
@@ -8,7 +8,7 @@ use Rattle.grids.proofs.since.visit.Tie as tie
 
 returns : tie.Need-returns
 unfolding visited
-returns c = let a = c .before .args in rw (le-ltb (a .held) (a .stamp) (c .if1 .taken))
+returns c = let a = c .before .args in rw (le-ltb (a .held) (a .stamp) (omega arith))
 
 smaller-requires : tie.Need-smaller-requires
 smaller-requires c κs = search needs

@@ -1,13 +1,10 @@
 -- The box since a count. Assumes nothing.
-use mathlib.Core.Path.{_≡_, refl, sym, ap, ap₂, subst, _∙_}
-use mathlib.Core.Bool.{true, false}
-use Prim.Native.Nat.{ℕ, _*_, _≤_}
+use mathlib.Core.Path.{_≡_, sym, ap, ap₂, subst, _∙_}
+use mathlib.Core.Bool.{true}
 use native.Mathlib.Omega.{arith}
-use borrow.Author.Needs.{needs}
 use borrow.Author.Tests.{not-true, not-false}
 use Rattle.grids.specs.declared.since.Dirty.the-variants.{Box}
 use Rattle.grids.specs.declared.since.Seen.{Seen}
-use Rattle.grids.specs.Axes.{tilesOf}
 use Rattle.grids.specs.Grids.{Tiling, tiled, columnsOf, rowsOf, stampCount, gridIn, dirtyTiles, boxSince}
 use Rattle.grids.specs.Scans.{nothingSeen, allJoined}
 use Rattle.grids.proofs.Boxes.{dirty-in}

@@ -3,12 +3,12 @@ use mathlib.Core.Path.{_≡_, sym, ap, _∙_}
 use mathlib.Core.Bool.{false, _&&_, and-false}
 use borrow.Author.Needs.{needs}
 use lib.ListN.{length}
-use Rattle.grids.specs.declared.axis.Span.{Span}
-use Rattle.grids.specs.declared.axis.Touched.the-variants.{Tiles}
-use Rattle.grids.specs.Axes.{isCut, touchedTiles}
+use Rattle.tiles.specs.declared.axis.Span.{Span}
+use Rattle.tiles.specs.declared.axis.Touched.the-variants.{Tiles}
+use Rattle.tiles.specs.Axes.{isCut, touchedTiles}
 use Rattle.grids.specs.Grids.{Tiling, tiled, TilingOk, columnsOf, isCutRect}
 use Rattle.grids.specs.Scans.{StampRoom, tilesStamped}
-use Rattle.grids.proofs.Axes.{tiles-none}
+use Rattle.tiles.proofs.Axes.{tiles-none}
 use Rattle.grids.proofs.Pages.{page-kept, newest-kept, stamp-room, page-spans, newest-stamped}
 use Rattle.grids.proofs.stamping.stamp.Statement.{statement}
 use Rattle.grids.proofs.stamping.stamp.Tie as tie

@@ -1,9 +1,9 @@
--- The tile edge of a long axis, as `grids` proves that of a level's. Assumes nothing.
+-- The tile edge of a long axis, as `tiles` proves that of a level's. Assumes nothing.
 use native.Mathlib.Omega.{arith}
 use borrow.Author.Needs.{needs}
 use Rattle.blocks.specs.Lists.{ceilDiv}
 use Rattle.blocks.proofs.Numbers.{ceil-least}
-use Rattle.grids.specs.Axes.{tileEdge}
+use Rattle.tiles.specs.Axes.{tileEdge}
 use Rattle.leaf_grids.proofs.axis.long_edge.Statement.{statement}
 use Rattle.leaf_grids.proofs.axis.long_edge.Tie as tie
 

@@ -5,8 +5,8 @@ use native.Mathlib.Omega.{arith}
 use borrow.Author.Needs.{needs}
 use Rattle.blocks.specs.Lists.{ceilDiv}
 use Rattle.blocks.proofs.Numbers.{ceil-least}
-use Rattle.grids.specs.Axes.{tileEdge, axisOf, tilesOf}
-use Rattle.grids.proofs.Axes.{axis-ok, edge-least, edge-bound}
+use Rattle.tiles.specs.Axes.{tileEdge, axisOf, tilesOf}
+use Rattle.tiles.proofs.Axes.{axis-ok, edge-least, edge-bound}
 use Rattle.leaf_grids.proofs.axis.tiles_of.Statement.{statement}
 use Rattle.leaf_grids.proofs.axis.tiles_of.Tie as tie
 

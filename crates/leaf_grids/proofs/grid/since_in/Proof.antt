@@ -3,7 +3,7 @@ use Prim.Native.Nat.{_≤_, _<_}
 use native.Mathlib.Omega.{arith}
 use borrow.Author.Needs.{needs}
 use Rattle.shapes.proofs.Formats.{block-edge-pos, block-edge-bound}
-use Rattle.grids.proofs.Axes.{axis-ok}
+use Rattle.tiles.proofs.Axes.{axis-ok}
 use Rattle.leaf_grids.proofs.grid.since_in.Statement.{statement}
 use Rattle.leaf_grids.proofs.grid.since_in.Tie as tie
 

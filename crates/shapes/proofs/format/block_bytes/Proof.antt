@@ -1,9 +1,9 @@
--- `grids::format::block_bytes` meets its contract. Within the table by the entry, past it by the 0 that stands for the rest.
+-- `shapes::format::block_bytes` meets its contract. Within the table by the entry, past it by the 0 that stands for the rest.
 use borrow.Author.Needs.{needs}
 use mathlib.Core.Path.{sym}
 use lib.ListN.{List·getD-eq-default}
 use Rattle.shapes.specs.Formats.{bytesPerBlock, blockBytes}
-use Rattle.shapes.proofs.Small.{default-free}
+use Rattle.blocks.proofs.Lists.{default-free}
 use Rattle.shapes.proofs.format.block_bytes.Statement.{statement}
 use Rattle.shapes.proofs.format.block_bytes.Tie as tie
 

@@ -1,4 +1,4 @@
--- `grids::records::records_every_write` meets its contract. By the shape; the tests are the definition's, in its order.
+-- `shapes::records::records_every_write` meets its contract. By the shape; the tests are the definition's, in its order.
 use borrow.Author.Needs.{needs}
 use mathlib.Core.Path.{sym, _∙_}
 use borrow.Author.Tests.{not-true, not-false}

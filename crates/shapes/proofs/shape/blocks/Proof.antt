@@ -1,4 +1,4 @@
--- `grids::shape::blocks` meets its contract. By its definition.
+-- `shapes::shape::blocks` meets its contract. By its definition.
 use borrow.Author.Needs.{needs}
 use mathlib.Core.Path.{refl}
 use Rattle.blocks.specs.Lists.{ceilDiv}

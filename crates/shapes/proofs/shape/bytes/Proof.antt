@@ -1,4 +1,4 @@
--- `grids::shape::bytes` meets its contract. By the shape.
+-- `shapes::shape::bytes` meets its contract. By the shape.
 use borrow.Author.Needs.{needs}
 use Prim.Native.Nat.{ℕ}
 use mathlib.Core.Path.{sym, _∙_, ap}

@@ -1,4 +1,4 @@
--- `grids::shape::level_bytes` meets its contract. Each product is the definition's, which a shape keeps below 2^44.
+-- `shapes::shape::level_bytes` meets its contract. Each product is the definition's, which a shape keeps below 2^44.
 use borrow.Author.Needs.{needs}
 use Prim.Native.Nat.{_*_}
 use mathlib.Core.Path.{_≡_, _∙_}

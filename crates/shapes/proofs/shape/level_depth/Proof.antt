@@ -1,4 +1,4 @@
--- `grids::shape::level_depth` meets its contract. By kind.
+-- `shapes::shape::level_depth` meets its contract. By kind.
 use borrow.Author.Needs.{needs}
 use mathlib.Core.Path.{sym, _∙_}
 use Rattle.shapes.proofs.Shapes.{depth-volume, depth-flat}

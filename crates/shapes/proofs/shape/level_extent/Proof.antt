@@ -1,4 +1,4 @@
--- `grids::shape::level_extent` meets its contract. A level past 63 has shifted out every bit of a base of 64.
+-- `shapes::shape::level_extent` meets its contract. A level past 63 has shifted out every bit of a base of 64.
 use borrow.Author.Needs.{needs}
 use Prim.Native.Nat.{ℕ, _/_, _^_, max}
 use mathlib.Core.Path.{sym, _∙_, ap}

@@ -1,4 +1,4 @@
--- `grids::shape::same_shape` meets its contract. The tests of the definition, in its order.
+-- `shapes::shape::same_shape` meets its contract. The tests of the definition, in its order.
 use mathlib.Core.Path.{refl}
 use Rattle.blocks.specs.Lists.{after, tests}
 use Rattle.shapes.specs.Shapes.{sameShape}

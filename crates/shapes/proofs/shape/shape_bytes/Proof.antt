@@ -1,17 +1,27 @@
--- `grids::shape::shape_bytes` meets its contract. The sum so far and the levels that are left make the whole, which a shape keeps at 2^44 or less.
+-- `shapes::shape::shape_bytes` meets its contract. The sum so far and the levels that are left make the whole, which a shape keeps at 2^44 or less.
 use borrow.Author.Needs.{needs}
-use Prim.Native.Nat.{_+_, _-_, _*_, _≤_}
-use mathlib.Core.Path.{_≡_}
+use Prim.Native.Nat.{ℕ, _+_, _-_, _*_, _≤_}
+use mathlib.Core.Path.{_≡_, ap}
 use native.Mathlib.Omega.{arith}
+use Rattle.shapes.specs.declared.shape.VersionShape.{VersionShape}
 use Rattle.shapes.specs.Shapes.{levelBytes, bytesOf}
-use Rattle.shapes.proofs.Small.{sumFrom, sum-step, sum-end}
+use Rattle.blocks.specs.Lists.{total, listed}
+use Rattle.blocks.proofs.Listed.{left, left-all, total-more, total-done}
 use Rattle.shapes.proofs.Shapes.{shape-bounds}
 use Rattle.shapes.proofs.ShapeBytes.{sum-of-levels, bytes-bound}
 use Rattle.shapes.proofs.shape.shape_bytes.Statement.{statement}
 use Rattle.shapes.proofs.shape.shape_bytes.Tie as tie
 
+-- the bytes of the levels that are left
+abbrev still : VersionShape → ℕ → ℕ
+still s level = total (levelBytes s) (left (λ (k : ℕ). k) (s .levels) level)
+
+-- and of all of them
+abbrev all-levels : VersionShape → ℕ
+all-levels s = total (levelBytes s) (listed (λ (k : ℕ). k) 0 (s .levels))
+
 abbrev Inv-loop : tie.InvT-loop
-Inv-loop s sum₀ level₀ sum level = (level ≤ s .levels) × (sum + sumFrom (levelBytes s) level (s .levels) ≡ sumFrom (levelBytes s) 0 (s .levels))
+Inv-loop s sum₀ level₀ sum level = (level ≤ s .levels) × (sum + still s level ≡ all-levels s)
 
 abbrev μ-loop : tie.MeasureT-loop
 μ-loop s sum₀ level₀ sum level = s .levels - level
@@ -22,11 +32,14 @@ whole : (c : tie.After-slices Inv-loop μ-loop) →
 unfolding bytesOf
 whole c =
     let s = c .before .before .before .before .args .s in
-    let sum = sum-end (levelBytes s) (c .before .before .before .loop .sum) (c .before .before .before .loop .level) (s .levels) (c .before .if1 .left) (c .before .before .before .loop .inv .1) in
+    let l = c .before .before .before .loop in
+    let sum : l .sum ≡ all-levels s = omega (arith, total-done (λ (k : ℕ). k) (s .levels) (levelBytes s) (l .level) (c .before .if1 .left), l .inv .1) in
     λ i. sum i * c .slices .ensures i
 
 loop-holds : tie.Need-loop-holds Inv-loop μ-loop
-loop-holds c = (omega arith, omega arith)
+loop-holds c =
+    let s = c .args .s in
+    (omega arith, omega (arith, ap (total (levelBytes s)) (left-all (λ (k : ℕ). k) (s .levels))))
 
 level-bytes-requires : tie.Need-level-bytes-requires Inv-loop μ-loop
 level-bytes-requires c κs = search needs
@@ -35,7 +48,7 @@ add-sum : tie.Need-add-sum Inv-loop μ-loop
 add-sum c =
     let s = c .before .before .before .before .args .s in
     let l = c .before .before .before .loop in
-    omega (arith, sum-step (levelBytes s) (l .level) (s .levels) (c .before .if1 .taken), sum-of-levels s (shape-bounds s (c .before .before .before .before .pre)))
+    omega (arith, total-more (λ (k : ℕ). k) (s .levels) (levelBytes s) (l .level) (c .before .if1 .taken), sum-of-levels s (shape-bounds s (c .before .before .before .before .pre)))
 
 add-level : tie.Need-add-level Inv-loop μ-loop
 add-level c =
@@ -49,7 +62,7 @@ loop-again : tie.Need-loop-again Inv-loop μ-loop
 loop-again c =
     let s = c .before .before .before .before .args .s in
     let l = c .before .before .before .loop in
-    (omega arith, omega (arith, sum-step (levelBytes s) (l .level) (s .levels) (c .before .if1 .taken)))
+    (omega arith, omega (arith, total-more (λ (k : ℕ). k) (s .levels) (levelBytes s) (l .level) (c .before .if1 .taken)))
 
 slices-requires : tie.Need-slices-requires Inv-loop μ-loop
 slices-requires c κs = search needs

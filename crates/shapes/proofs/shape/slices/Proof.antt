@@ -1,4 +1,4 @@
--- `grids::shape::slices` meets its contract. By kind.
+-- `shapes::shape::slices` meets its contract. By kind.
 use mathlib.Core.Path.{sym}
 use Rattle.shapes.proofs.Shapes.{slices-cube, slices-other}
 use Rattle.shapes.proofs.shape.slices.Statement.{statement}

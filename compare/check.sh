@@ -1,0 +1,19 @@
+#!/usr/bin/env bash
+# The gate's share of the comparison with the Rust: the oracle's own tests, then the leaf questions on fixed seeds.
+# Without the Rust's source it says so and ends with 0: the stored answers are checked by rt ci all the same.
+set -u
+cd -- "$(dirname -- "${BASH_SOURCE[0]}")" || exit 1
+
+source_folder=${YEGUDO_SOURCE:-../../shared/docs/src}
+if [ ! -d "$source_folder" ]; then
+    printf "The Rust's source is not at hand (%s is no folder): only the stored answers were checked.\n" "$source_folder"
+    exit 0
+fi
+
+log=$(mktemp) || exit 1
+trap 'rm -f -- "$log"' EXIT
+cargo test --release --offline -q >"$log" 2>&1 || {
+    cat -- "$log"
+    exit 1
+}
+COUNT=${COUNT:-5000} ./leaf_live.sh ../target/bin/leaf_answers

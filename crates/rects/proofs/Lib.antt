@@ -1,0 +1,3 @@
+pub mod Rects
+pub mod CopyBytes
+pub mod Outcomes

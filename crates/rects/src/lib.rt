@@ -1,0 +1,15 @@
+// Rectangles of texels: the block grid's rule, what an upload writes, and the bytes of a copy.
+//
+// `upload_written_rect` and `copy_bytes` have no `requires` and answer or refuse every input.
+mod copies;
+mod rect;
+mod upload;
+
+pub use copies::copy_bytes;
+pub use rect::Region;
+pub use rect::TexelRect;
+pub use rect::level_rect;
+pub use rect::rect_on_block_grid;
+pub use upload::Compressed;
+pub use upload::UploadAnswer;
+pub use upload::upload_written_rect;
