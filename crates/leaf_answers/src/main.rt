@@ -1,0 +1,10 @@
+// Answers questions on the leaf functions of layer 1, a line each, as the program `leaf` of compare/ does over the
+// published Rust; compare/README.md has the questions. Budgets are not answered.
+mod lines;
+mod question;
+
+fn main() {
+    let mut buf = io::large_buffer();
+    let mut out = io::large_buffer();
+    lines::answer_all(&mut buf, &mut out);
+}

@@ -1,0 +1,42 @@
+// Which question a line asks.
+ghost use Prim.Native.Nat.{_≤_};
+ghost use lib.ListN.{length};
+use leaf_grids::edge_along;
+use leaf_grids::grid_since;
+use leaf_grids::tiles_along;
+use leaf_shapes::level_extent;
+use leaf_shapes::shape_answer;
+use leaf_text::Answer;
+use leaf_text::field_end;
+use leaf_text::is_word;
+
+// Questions on levels and grids, and the others.
+fn field_answer(word: &[u8], fields: &[u8]) -> Answer
+    requires { ⌜ length (now fields) ≤ 65536 ⌝ }
+{
+    if is_word(word, b"level_extent") {
+        return level_extent(fields);
+    }
+    if is_word(word, b"tile_edge") {
+        return edge_along(fields);
+    }
+    if is_word(word, b"tiles") {
+        return tiles_along(fields);
+    }
+    if is_word(word, b"grid") {
+        return grid_since(fields);
+    }
+    shape_answer(word, fields)
+}
+
+// The answer to a line without its line feed: a word and fields, all parted by commas.
+pub fn answer_of(line: &[u8]) -> Answer
+    requires { ⌜ length (now line) ≤ 65536 ⌝ }
+{
+    let end = field_end(line, 0);
+    // Every question has a field, so a word alone is malformed.
+    if end == line.len() {
+        return Answer::Malformed;
+    }
+    field_answer(&line[0..end], &line[end + 1..])
+}
