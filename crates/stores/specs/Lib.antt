@@ -1,0 +1,17 @@
+pub mod Budget
+pub mod Model
+pub mod Updates
+pub mod Histories
+pub mod TakeSpare
+pub mod PreservePlan
+pub mod Retire
+pub mod NoteWrite
+pub mod PopRetired
+pub mod Park
+pub mod NoteAllocated
+pub mod TakeDoomed
+pub mod DrainVersions
+pub mod Trim
+pub mod ForgetTexture
+pub mod Open
+pub mod Formed
