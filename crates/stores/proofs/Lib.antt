@@ -1,0 +1,4 @@
+pub mod Budgets
+pub mod Lists
+pub mod States
+pub mod GridsFormed
