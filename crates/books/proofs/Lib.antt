@@ -1,2 +1,4 @@
 pub mod Laws
 pub mod Good
+pub mod Inv
+pub mod Marks
