@@ -4,3 +4,6 @@ pub mod Inv
 pub mod Marks
 pub mod Renames
 pub mod Retires
+pub mod Mapped
+pub mod Natural
+pub mod NaturalOut
