@@ -50,13 +50,18 @@ rect-holds slice level r t e =
     let o = and-left (isOf slice level t) _ e in
     let q = and-right (isOf slice level t) _ e in
     let qx = and-left (leb (r .x) (t .x) && ltb (t .x) (r .x + r .width)) _ q in
-    let qy = and-right (leb (r .x) (t .x) && ltb (t .x) (r .x + r .width)) _ q in
-    (eqb-true _ _ (and-left (eqb (t .slice) slice) _ o), (eqb-true _ _ (and-right (eqb (t .slice) slice) _ o), record {
-      left = leb-true _ _ (and-left (leb (r .x) (t .x)) _ qx);
-      right = ltb-true _ _ (and-right (leb (r .x) (t .x)) _ qx);
-      top = leb-true _ _ (and-left (leb (r .y) (t .y)) _ qy);
-      bottom = ltb-true _ _ (and-right (leb (r .y) (t .y)) _ qy);
-    }))
+    let qy = and-right (leb (r .x) (t .x) && ltb (t .x) (r .x + r .width)) _ q in (
+      eqb-true _ _ (and-left (eqb (t .slice) slice) _ o),
+      (
+        eqb-true _ _ (and-right (eqb (t .slice) slice) _ o),
+        record {
+          left = leb-true _ _ (and-left (leb (r .x) (t .x)) _ qx);
+          right = ltb-true _ _ (and-right (leb (r .x) (t .x)) _ qx);
+          top = leb-true _ _ (and-left (leb (r .y) (t .y)) _ qy);
+          bottom = ltb-true _ _ (and-right (leb (r .y) (t .y)) _ qy);
+        },
+      ),
+    )
 
 rect-true : (slice level : ℕ) (r : TexelRect) (t : Texel) → t .slice ≡ slice → t .level ≡ level → InRect r (t .x) (t .y) → inRect slice level r t ≡ true
 unfolding inRect
@@ -109,18 +114,24 @@ pub write-good : (s : VersionShape) (h : WriteHistory) (ok : HistoryOk s h) (sli
     → b .shape ≡ s → (n : ℕ) (held : Held) (nums : Numbers) → Good s h b held nums → Good s (stampWrite s slice level r h) (bookWrite n slice level r b) held nums
 unfolding bookWrite stampWrite
 write-good s h ok slice level p q r b es n Unknown nums g = tt
-write-good s h ok slice level p q r b es n (Known m) nums g = (up (g .0), λ t i left st.
-    let wb = write-below s h ok slice level p q r (t .slice) (t .level) (t .x) (t .y) m (i .level) (i .x) (i .y) (g .0) st in
-    let out = not-written (b .shape) slice level r t (wb .1) in
-    rw out (g .1 t i (still-left b slice level r t (subst (λ (z : VersionShape). Inside z t) (sym es) i) out left) (wb .0)))
+write-good s h ok slice level p q r b es n (Known m) nums g = (
+  up (g .0),
+  λ t i left st.
+      let wb = write-below s h ok slice level p q r (t .slice) (t .level) (t .x) (t .y) m (i .level) (i .x) (i .y) (g .0) st in
+      let out = not-written (b .shape) slice level r t (wb .1) in
+      rw out (g .1 t i (still-left b slice level r t (subst (λ (z : VersionShape). Inside z t) (sym es) i) out left) (wb .0)),
+)
 
 pub regenerate-good : (s : VersionShape) (h : WriteHistory) (ok : HistoryOk s h) (b : Book) (n : ℕ) (held : Held) (nums : Numbers)
     → Good s h b held nums → Good s (stampRegeneration s h) (bookRegeneration n b) held nums
 unfolding bookRegeneration stampRegeneration
 regenerate-good s h ok b n Unknown nums g = tt
-regenerate-good s h ok b n (Known m) nums g = (up (g .0), λ t i left st.
-    let rb = regenerate-below s h ok (t .slice) (t .level) (t .x) (t .y) m (i .slice) (i .level) (i .x) (i .y) (g .0) st in
-    rw (le-ltb 0 (t .level) (omega (arith, rb .1))) (g .1 t i left (rb .0)))
+regenerate-good s h ok b n (Known m) nums g = (
+  up (g .0),
+  λ t i left st.
+      let rb = regenerate-below s h ok (t .slice) (t .level) (t .x) (t .y) m (i .slice) (i .level) (i .x) (i .y) (g .0) st in
+      rw (le-ltb 0 (t .level) (omega (arith, rb .1))) (g .1 t i left (rb .0)),
+)
 
 -- ---- plans
 

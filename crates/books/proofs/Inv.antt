@@ -123,19 +123,25 @@ Fewer {A} vs ws = (P : A → Type 0) → All P ws → All P vs
 
 pub fewer-spares : (o : Option Book) (n : ℕ) (rest : List (Retiring Retired)) (t : VersionState Retired) (vs : List (Spare Retired)) → Fewer vs (t .spares)
     → StateOk o n rest t → StateOk o n rest (withSpares vs t)
-fewer-spares o n rest t vs f (e, x) = (e, exists-mono _ _ o (λ b k. record {
-  shape = k .shape;
-  birth = k .birth;
-  history = given-mono _ _ (t .history) (λ h g. record { ok = g .ok; spares = f _ (g .spares); waits = g .waits }) (k .history);
-}) x)
+fewer-spares o n rest t vs f (e, x) = (
+  e,
+  exists-mono _ _ o (λ b k. record {
+    shape = k .shape;
+    birth = k .birth;
+    history = given-mono _ _ (t .history) (λ h g. record { ok = g .ok; spares = f _ (g .spares); waits = g .waits }) (k .history);
+  }) x,
+)
 
 pub fewer-waiting : (o : Option Book) (n : ℕ) (rest rest′ : List (Retiring Retired)) (t : VersionState Retired) → Fewer rest′ rest
     → StateOk o n rest t → StateOk o n rest′ t
-fewer-waiting o n rest rest′ t f (e, x) = (e, exists-mono _ _ o (λ b k. record {
-  shape = k .shape;
-  birth = k .birth;
-  history = given-mono _ _ (t .history) (λ h g. record { ok = g .ok; spares = g .spares; waits = f _ (g .waits) }) (k .history);
-}) x)
+fewer-waiting o n rest rest′ t f (e, x) = (
+  e,
+  exists-mono _ _ o (λ b k. record {
+    shape = k .shape;
+    birth = k .birth;
+    history = given-mono _ _ (t .history) (λ h g. record { ok = g .ok; spares = g .spares; waits = f _ (g .waits) }) (k .history);
+  }) x,
+)
 
 module _ (p : Pool Retired) (books : Books) (i : Inv p books idle) where
   -- calls that alter no texture, no queue and no hand
@@ -233,6 +239,7 @@ module _ (p : Pool Retired) (books : Books) (i : Inv p books idle) where
         where
           turn : (P : Retiring Retired → Type 0) → All P ((v ∷ vs) ++ []) → All P (vs ++ (v ∷ []))
           turn P (cons a rest) = all-both (all-left vs [] rest) (cons a nil)
+
       hand : (h : Option (Retiring Retired)) → p .hand ≡ h → Keeps books (guard (isHeld h) 9 (popFront p n (p .retiring)))
       hand (some v) e = guarded-by true 9 (λ q. absurd (true≢false q))
       hand none e = guarded _ _ (queue e (p .retiring) refl)

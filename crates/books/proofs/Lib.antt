@@ -7,3 +7,5 @@ pub mod Retires
 pub mod Mapped
 pub mod Natural
 pub mod NaturalOut
+pub mod Demand3
+pub mod End

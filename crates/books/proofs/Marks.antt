@@ -146,17 +146,21 @@ module _ (p : Pool Retired) (books : Books) (i : Inv p books idle) where
     where
       f : VersionState Retired → VersionState Retired
       f t = withHistory (written slice level r (t .shape) (t .history)) t
+
       go : (o : Option Book) → books id ≡ o → Inv (withTextures (change id f (p .textures)) p) (changeBook (bookWrite n slice level r) id books) idle
       go none e = rw (change-none (bookWrite n slice level r) id books e) (bookless p books i id e f (λ t. refl))
       go (some b) e =
           rw (change-some (bookWrite n slice level r) id books b e)
           (rebook p books i id (bookWrite n slice level r b) (write-agrees n slice level r b (agree-at id b e)) b e (withTextures (change id f (p .textures)) p) idle f
           (λ t. Unit {0}) (all-const _ (λ t. tt)) refl (λ t q. refl)
-          (λ t q u x. (x .0, record {
-            shape = x .1 .shape;
-            birth = x .1 .birth;
-            history = written-ok n slice level r b (t .shape) (x .1 .shape) (t .id) (t .epoch) (t .spares) (waiting p) (t .history) (x .1 .history);
-          })) (λ t q x. x) (i .waits) tt)
+          (λ t q u x. (
+            x .0,
+            record {
+              shape = x .1 .shape;
+              birth = x .1 .birth;
+              history = written-ok n slice level r b (t .shape) (x .1 .shape) (t .id) (t .epoch) (t .spares) (waiting p) (t .history) (x .1 .history);
+            },
+          )) (λ t q x. x) (i .waits) tt)
 
   pub regenerate-inv : (n id : ℕ) → Marks (bookRegeneration n) id books (noteMipRegeneration p id)
   unfolding noteMipRegeneration bookRegeneration
@@ -164,17 +168,21 @@ module _ (p : Pool Retired) (books : Books) (i : Inv p books idle) where
     where
       f : VersionState Retired → VersionState Retired
       f t = withHistory (regenerated (t .shape) (t .history)) t
+
       go : (o : Option Book) → books id ≡ o → Inv (withTextures (change id f (p .textures)) p) (changeBook (bookRegeneration n) id books) idle
       go none e = rw (change-none (bookRegeneration n) id books e) (bookless p books i id e f (λ t. refl))
       go (some b) e =
           rw (change-some (bookRegeneration n) id books b e)
           (rebook p books i id (bookRegeneration n b) (regenerate-agrees n b (agree-at id b e)) b e (withTextures (change id f (p .textures)) p) idle f
           (λ t. Unit {0}) (all-const _ (λ t. tt)) refl (λ t q. refl)
-          (λ t q u x. (x .0, record {
-            shape = x .1 .shape;
-            birth = x .1 .birth;
-            history = regenerated-ok n b (t .shape) (t .id) (t .epoch) (t .spares) (waiting p) (t .history) (x .1 .history);
-          })) (λ t q x. x) (i .waits) tt)
+          (λ t q u x. (
+            x .0,
+            record {
+              shape = x .1 .shape;
+              birth = x .1 .birth;
+              history = regenerated-ok n b (t .shape) (t .id) (t .epoch) (t .spares) (waiting p) (t .history) (x .1 .history);
+            },
+          )) (λ t q x. x) (i .waits) tt)
 
 -- ---- parking
 
@@ -218,22 +226,26 @@ module _ (p : Pool Retired) (books : Books) (i : Inv p books idle) (failed now :
       where
         gone : (u : VersionState Retired) → StateOk (books (u .id)) (p .trackings) (waiting p) u → StateOk (books (u .id)) (p .trackings) (p .retiring ++ []) u
         gone u x = fewer-waiting (books (u .id)) (p .trackings) (waiting p) (p .retiring ++ []) u (λ P a. all-both (all-left (p .retiring) (handed (p .hand)) a) nil) x
+
         same : (u : VersionState Retired) → u .id ≡ v .id → (u .id ≡ v .id → u ≡ t) × StateOk (books (u .id)) (p .trackings) (waiting p) u
             → StateOk (books (u .id)) (p .trackings) (p .retiring ++ []) (withSpares (u .spares ++ (asSpare failed now (lostVersion failed v) ∷ [])) u)
-        same u q (only, (e, x)) = (e, exists-mono _ _ (books (u .id)) (λ b k. record {
-          shape = k .shape;
-          birth = k .birth;
-          history = given-mono _ _ (u .history) (λ h g. record {
-            ok = g .ok;
-            spares = all-both (g .spares)
-                (cons
-                (park-good (u .shape) h b v failed now (v-ok .1)
-                (of-hand (λ w. w .id ≡ u .id → w .epoch ≡ u .epoch → GoodWaiting (u .shape) h b w) (g .waits) (sym q)
-                (sym (ap (λ (w : VersionState Retired). w .epoch) (only q) ∙ ep))))
-                nil);
-            waits = all-both (all-left (p .retiring) (handed (p .hand)) (g .waits)) nil;
-          }) (k .history);
-        }) x)
+        same u q (only, (e, x)) = (
+          e,
+          exists-mono _ _ (books (u .id)) (λ b k. record {
+            shape = k .shape;
+            birth = k .birth;
+            history = given-mono _ _ (u .history) (λ h g. record {
+              ok = g .ok;
+              spares = all-both (g .spares)
+                  (cons
+                  (park-good (u .shape) h b v failed now (v-ok .1)
+                  (of-hand (λ w. w .id ≡ u .id → w .epoch ≡ u .epoch → GoodWaiting (u .shape) h b w) (g .waits) (sym q)
+                  (sym (ap (λ (w : VersionState Retired). w .epoch) (only q) ∙ ep))))
+                  nil);
+              waits = all-both (all-left (p .retiring) (handed (p .hand)) (g .waits)) nil;
+            }) (k .history);
+          }) x,
+        )
 
   pub park-inv : Keeps books (park (withRetiring (p .retiring) (lostHand failed (p .hand)) p) failed now)
   unfolding park
@@ -241,11 +253,13 @@ module _ (p : Pool Retired) (books : Books) (i : Inv p books idle) (failed now :
     where
       p0 : Pool Retired
       p0 = withRetiring (p .retiring) none p
+
       found : (v : Retiring Retired) → p .hand ≡ some v → (o : Option (VersionState Retired)) → find (v .id) (p .textures) ≡ o
           → Inv (parkFound p0 failed now (lostVersion failed v) o) books idle
       found v e o f =
           park-cases (λ (q : Pool Retired). Inv q books idle) p0 failed now (lostVersion failed v) o
           (λ ds. same-parts p0 books hand-empty _ refl refl refl refl) (λ t g ep bytes. park-here v e t (f ∙ g) ep bytes)
+
       go : (h : Option (Retiring Retired)) → p .hand ≡ h → Keeps books (parkHand (withRetiring (p .retiring) (lostHand failed h) p) failed now (lostHand failed h))
       go none e = nay
       go (some v) e = ok (found v e (find (v .id) (p .textures)) refl)

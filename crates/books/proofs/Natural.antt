@@ -112,6 +112,7 @@ module _ {W X : Type 0} (f : W → X) where
             (guard-eq _ _ 12 refl
             (alike refl
             (λ i. withTrackings (suc (p .trackings)) (withTextures (map-insert (newState id sh records (suc (p .trackings)) seq) (p .textures) i) (mapPool f p))))))
+
         same : (t : VersionState W) → Carried spareOf (takeTracked p id seq t) (takeTracked (mapPool f p) id seq (mapState f t))
         same t =
             alike (newest-map (t .spares))
@@ -120,6 +121,7 @@ module _ {W X : Type 0} (f : W → X) where
             (map-change id (λ (u : VersionState X). withRename seq (withSpares (others (u .spares)) u)) (λ (u : VersionState W). withRename seq (withSpares (others (u .spares)) u))
             (λ u i. withRename seq (withSpares (others-map (u .spares) i) (mapState f u))) (p .textures) i)
             (mapPool f p)))
+
         renewed : (t : VersionState W) → Carried spareOf (takeRenewed p id sh records seq t) (takeRenewed (mapPool f p) id sh records seq (mapState f t))
         renewed t =
             guard-eq _ _ 6 (full-map sh records (pagesUsed t))
@@ -130,6 +132,7 @@ module _ {W X : Type 0} (f : W → X) where
             (map-change id (λ (u : VersionState X). newState id sh records (suc (p .trackings)) seq) (λ (u : VersionState W). newState id sh records (suc (p .trackings)) seq) (λ u. refl)
             (p .textures) i)
             ((ap (λ ds. doomSpares ds (mapPool f p)) (as-doomed (bytesOf (t .shape)) (t .spares)) ∙ spares-map (asDoomed (bytesOf (t .shape)) (t .spares)) p) i)))))
+
         go : (o : Option (VersionState W)) → Carried spareOf (takeFound p id sh records seq o) (takeFound (mapPool f p) id sh records seq (Option·map (mapState f) o))
         go none = new
         go (some t) = cond-eq spareOf (sameShape (t .shape) sh) _ _ _ _ (same t) (renewed t)
@@ -143,6 +146,7 @@ module _ {W X : Type 0} (f : W → X) where
       where
         with-history : (ho : Option WriteHistory) → Carried (λ (cs : List PreserveCopy). cs) (planWith p sh ho held u buffer) (planWith (mapPool f p) sh ho held u buffer)
         with-history ho = guard-eq _ _ 11 refl (guard-eq _ _ 12 refl (alike refl refl))
+
         go : (o : Option (VersionState W))
             → Carried (λ (cs : List PreserveCopy). cs) (planFound p sh held u buffer o) (planFound (mapPool f p) sh held u buffer (Option·map (mapState f) o))
         go none = with-history none
@@ -237,6 +241,7 @@ module _ {W X : Type 0} (f : W → X) where
       where
         p0 : Pool W
         p0 = withRetiring (p .retiring) none p
+
         found : (v : Retiring W) (o : Option (VersionState W))
             → parkFound (mapPool f p0) failed now (mapRetiring f v) (Option·map (mapState f) o) ≡ mapPool f (parkFound p0 failed now v o)
         found v none = doom-map (record { view = v .view; bytes = v .bytes } ∷ []) p0
@@ -251,6 +256,7 @@ module _ {W X : Type 0} (f : W → X) where
             (λ u i. withSpares (sym (map-both (mapSpare f) (u .spares) (asSpare failed now v ∷ [])) i) (mapState f u)) (p .textures) i)
             (mapPool f p0))))
             (doom-map (record { view = v .view; bytes = v .bytes } ∷ []) p0)
+
         hand : (h : Option (Retiring W)) → Carried (λ (a : Unit {0}). a) (parkHand p failed now h) (parkHand (mapPool f p) failed now (Option·map (mapRetiring f) h))
         hand none = alike-no
         hand (some v) = alike refl (ap (parkFound (mapPool f p0) failed now (mapRetiring f v)) (map-find (v .id) (p .textures)) ∙ found v (find (v .id) (p .textures)))

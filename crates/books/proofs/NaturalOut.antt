@@ -132,6 +132,7 @@ module _ {W X : Type 0} (f : W → X) where
       where
         doomedViews : List W
         doomedViews = map (λ (d : Doomed W). d .view) (p .doomed)
+
         spareViews : List W
         spareViews = flatMap (λ (t : VersionState W). map (λ (s : Spare W). s .view) (t .spares)) (p .textures)
 

@@ -66,6 +66,7 @@ started books id sh ag = go (books id) refl
       agree = new-agrees sh n;
       others = λ j ne. put-other id (newBook sh n) books j ne;
     }
+
     go : (o : Option Book) → books id ≡ o → Started books (startBook id sh o books) id sh
     go none e = anew 0
     go (some b) e =
@@ -91,12 +92,15 @@ module _ (p : Pool Retired) (books : Books) (i : Inv p books idle) (id : ℕ) (s
 
     -- no version that waits was retired under it
     begun-ok : StateOk (books′ id) (suc (p .trackings)) (waiting p) (newState id sh records (suc (p .trackings)) seq)
-    begun-ok = rw (st .here) (omega arith, record {
-      shape = st .shape;
-      birth = omega arith;
-      history = begun-history _
-          (record { ok = new-ok sh shaped; spares = nil; waits = all-mono (λ v f e1 e2. absurd (late (v .epoch) (p .trackings) (f .0) e2)) (i .waits) });
-    })
+    begun-ok = rw (st .here) (
+      omega arith,
+      record {
+        shape = st .shape;
+        birth = omega arith;
+        history = begun-history _
+            (record { ok = new-ok sh shaped; spares = nil; waits = all-mono (λ v f e1 e2. absurd (late (v .epoch) (p .trackings) (f .0) e2)) (i .waits) });
+      },
+    )
       where
         late : (a n : ℕ) → a ≤ n → a ≡ suc n → ⊥
         late a n h e = omega arith
@@ -116,6 +120,7 @@ module _ (p : Pool Retired) (books : Books) (i : Inv p books idle) (id : ℕ) (s
         every : (j : ℕ) (c : Bool) → eqb j id ≡ c → Agrees (books′ j)
         every j true e = subst (λ (o : Option Book). Agrees o) (sym (ap books′ (eqb-true _ _ e) ∙ st .here)) (st .agree)
         every j false e = subst (λ (o : Option Book). Agrees o) (sym (st .others j (eqb-false _ _ e))) (i .agrees j)
+
         history : (t : VersionState Retired) → t ≡ newState id sh records (suc (p .trackings)) seq
             → Given (λ h. HistoryOk (t .shape) h × Good (t .shape) h (st .book) Unknown (λ t. none)) (t .history)
         history t e =
@@ -163,11 +168,14 @@ module _ (p : Pool Retired) (books : Books) (i : Inv p books idle) (id : ℕ) (s
     where
       g : VersionState Retired → VersionState Retired
       g u = withRename seq (withSpares (others (u .spares)) u)
+
       state : StateOk (books (t .id)) (p .trackings) (waiting p) t
       state = find-all (λ u. StateOk (books (u .id)) (p .trackings) (waiting p) u) id t (p .textures) (i .states) ef
+
       at-book : (u : VersionState Retired) (b : Book) → u .id ≡ id → books id ≡ some b → StateOk (books (u .id)) (p .trackings) (waiting p) u
           → StateOk (some b) (p .trackings) (waiting p) u
       at-book u b q e x = subst (λ (o : Option Book). StateOk o (p .trackings) (waiting p) u) (ap books q ∙ e) x
+
       go : (n : ℕ) (o : Option Book) → books id ≡ o
           → Inv (withParked n (withTextures (change id g (p .textures)) p)) (startBook id sh o books) (taken id sh (heldOf (newest (t .spares))) (numbersOf (newest (t .spares))))
       go n none e = absurd (subst (λ (o : Option Book). StateOk o (p .trackings) (waiting p) t) (ap books (found-id id t (p .textures) ef) ∙ e) state .1)
@@ -179,10 +187,16 @@ module _ (p : Pool Retired) (books : Books) (i : Inv p books idle) (id : ℕ) (s
             states = all-changed id g (λ u q x. fewer-spares (books (u .id)) (p .trackings) (waiting p) u (others (u .spares)) (λ P a. all-others a) x) (λ u q x. x) (i .states);
             waits = i .waits;
             agrees = i .agrees;
-            phase = rw e (bsh, all-changed id g
-                (λ u q x k. given-mono _ _ (u .history) (λ h gd. (gd .ok, rw (ap (λ (w : VersionState Retired). w .spares) (sym (x .0 q)))
-                (newest-good (u .shape) h b (u .spares) (gd .spares)))) (at-book u b q e (x .1) .1 .history))
-                (λ u q x k. absurd (q k)) (all-pairs (find-only id t (p .textures) (i .ids) ef) (i .states)));
+            phase = rw e (
+              bsh,
+              all-changed id g
+                  (λ u q x k. given-mono _ _ (u .history) (λ h gd. (
+                    gd .ok,
+                    rw (ap (λ (w : VersionState Retired). w .spares) (sym (x .0 q)))
+                        (newest-good (u .shape) h b (u .spares) (gd .spares)),
+                  )) (at-book u b q e (x .1) .1 .history))
+                  (λ u q x k. absurd (q k)) (all-pairs (find-only id t (p .textures) (i .ids) ef) (i .states)),
+            );
           })
 
 pub take-inv : (p : Pool Retired) (books : Books) → Inv p books idle → (id : ℕ) (sh : VersionShape) (records : Bool) (seq : ℕ) → Takes id sh books (takeSpare p id sh records seq)
@@ -218,6 +232,7 @@ plan-inv p books id sh held new i u buffer = guarded _ _ (go (find id (p .textur
           (λ t ins left nc. rename-good sh b ho held u new g t (subst (λ (s : VersionShape). Inside s t) es ins) left
           (uncovered sh ho held u (t .slice) (t .level) nc) (agree-live b (subst (λ (o : Option Book). Agrees o) e (i .agrees id)) t ins left));
     })))
+
     go : (o : Option (VersionState Retired)) → find id (p .textures) ≡ o → (ob : Option Book) → books id ≡ ob
         → OutOk (λ cs q. Inv q books (planned id (skipped u cs) (copied cs (liveOf (books id)) new))) (planFound p sh held u buffer o)
     go o f none e = absurd (rw e at (i .phase))
@@ -226,6 +241,7 @@ plan-inv p books id sh held new i u buffer = guarded _ _ (go (find id (p .textur
       where
         is-taken : TakenOk id held new (p .textures) sh b
         is-taken = rw e at (i .phase)
+
         tracked : sameShape (t .shape) sh ≡ true → Given (λ h. HistoryOk sh h × Good sh h b held new) (t .history)
         tracked q =
             let k =

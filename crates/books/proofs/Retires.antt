@@ -50,8 +50,11 @@ module _ (p : Pool Retired) (books : Books) (id : ℕ) (u : ℕ → ℕ → Bool
 
   -- the version that was live is good: it holds the plain book's numbers
   was-live : (s : VersionShape) (h : WriteHistory) → b .shape ≡ s → Good s h (renamed seq u new b) (Known (h .writes)) (b .live)
-  was-live s h es = (omega arith, λ t ins left st.
-      agree-live b agreed t (subst (λ (s : VersionShape). Inside s t) (sym es) ins) (or-false (u (t .slice) (t .level)) (b .left (t .slice) (t .level)) left .1))
+  was-live s h es = (
+    omega arith,
+    λ t ins left st.
+        agree-live b agreed t (subst (λ (s : VersionShape). Inside s t) (sym es) ins) (or-false (u (t .slice) (t .level)) (b .left (t .slice) (t .level)) left .1),
+  )
 
   stopped : Inv p books idle
   stopped = record { ids = i .ids; states = i .states; waits = i .waits; agrees = i .agrees; phase = tt }
@@ -68,15 +71,18 @@ module _ (p : Pool Retired) (books : Books) (id : ℕ) (u : ℕ → ℕ → Bool
 
     others : last .id ≡ id → (t : VersionState Retired) → (t .id ≡ id → ⊥) → StateOk (books (t .id)) (p .trackings) (waiting p) t
         → StateOk (books (t .id)) (p .trackings) (waiting left) t
-    others vid t ne (e, x) = (e, exists-mono _ _ (books (t .id)) (λ c k. record {
-      shape = k .shape;
-      birth = k .birth;
-      history = given-mono _ _ (t .history) (λ h g. record {
-        ok = g .ok;
-        spares = g .spares;
-        waits = longer (λ v. v .id ≡ t .id → v .epoch ≡ t .epoch → GoodWaiting (t .shape) h c v) (λ f. absurd (ne (sym f ∙ vid))) (g .waits);
-      }) (k .history);
-    }) x)
+    others vid t ne (e, x) = (
+      e,
+      exists-mono _ _ (books (t .id)) (λ c k. record {
+        shape = k .shape;
+        birth = k .birth;
+        history = given-mono _ _ (t .history) (λ h g. record {
+          ok = g .ok;
+          spares = g .spares;
+          waits = longer (λ v. v .id ≡ t .id → v .epoch ≡ t .epoch → GoodWaiting (t .shape) h c v) (λ f. absurd (ne (sym f ∙ vid))) (g .waits);
+        }) (k .history);
+      }) x,
+    )
 
     finish : (Q : VersionState Retired → Type 0) → All Q (p .textures) → last .id ≡ id → WaitOk (p .trackings) last
         → ((t : VersionState Retired) → t .id ≡ id → Q t → b .shape ≡ t .shape → (h : WriteHistory) → t .history ≡ some h → last .epoch ≡ t .epoch
@@ -102,8 +108,11 @@ module _ (p : Pool Retired) (books : Books) (id : ℕ) (u : ℕ → ℕ → Bool
   retired-inv : (o : Option (VersionState Retired)) (eo : find id (p .textures) ≡ o) → Inv (left o eo) (put id (renamed seq u new b) books) idle
   retired-inv none eo = finish none eo (λ t. t .id ≡ id → ⊥) (find-none id (p .textures) eo) refl (omega arith, omega arith) (λ t e ne es h f c. absurd (ne e))
   retired-inv (some t0) eo =
-      finish (some t0) eo (λ t. t .id ≡ id → t ≡ t0) (find-only id t0 (p .textures) (i .ids) eo) refl (state .0, subst (λ (o : Option Book). StateOk o (p .trackings) (waiting p) t0)
-      (ap books (found-id id t0 (p .textures) eo) ∙ eb) state .1 .birth)
+      finish (some t0) eo (λ t. t .id ≡ id → t ≡ t0) (find-only id t0 (p .textures) (i .ids) eo) refl (
+        state .0,
+        subst (λ (o : Option Book). StateOk o (p .trackings) (waiting p) t0)
+            (ap books (found-id id t0 (p .textures) eo) ∙ eb) state .1 .birth,
+      )
       (λ t e only es h f c. rw (ap (λ (w : VersionState Retired). writesOf (w .history)) (sym (only e)) ∙ ap writesOf f) (was-live (t .shape) h es))
     where
       state : StateOk (books (t0 .id)) (p .trackings) (waiting p) t0
