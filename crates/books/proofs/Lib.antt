@@ -9,3 +9,4 @@ pub mod Natural
 pub mod NaturalOut
 pub mod Demand3
 pub mod End
+pub mod Sample

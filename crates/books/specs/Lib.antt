@@ -4,3 +4,4 @@ pub mod VersionBook
 pub mod Carry
 pub mod Lists
 pub mod Demand3
+pub mod Sample
