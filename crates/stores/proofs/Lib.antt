@@ -2,3 +2,6 @@ pub mod Budgets
 pub mod Lists
 pub mod States
 pub mod GridsFormed
+pub mod Moves
+pub mod Relief
+pub mod Queues
