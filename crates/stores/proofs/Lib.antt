@@ -5,3 +5,5 @@ pub mod GridsFormed
 pub mod Moves
 pub mod Relief
 pub mod Queues
+pub mod Renames
+pub mod Closure
