@@ -1,5 +1,5 @@
 -- Every accepted call leaves a formed pool, and a pool just opened is formed. Assumes nothing.
-use mathlib.Core.Path.{_≡_, refl}
+use mathlib.Core.Path.{refl}
 use mathlib.Core.List.{[], _∷_}
 use native.Mathlib.Omega.{arith}
 use lib.Dec.{leb}
@@ -7,7 +7,6 @@ use borrow.Author.Tests.{leb-true}
 use Rattle.blocks.specs.Lists.{total}
 use Rattle.blocks.specs.All.{nil}
 use Rattle.blocks.proofs.Lists.{passed}
-use Rattle.stores.specs.Model.{Places}
 use Rattle.stores.specs.Open.{arePlaces}
 use Rattle.stores.specs.Formed.{end}
 use Rattle.stores.specs.Closed.{EveryCallKeepsFormed, OpenedIsFormed}

@@ -6,12 +6,12 @@ use mathlib.Core.Bool.{Bool, true, false, _||_}
 use mathlib.Core.Option.{Option, none, some}
 use mathlib.Core.List.{List, [], _∷_, _++_, map}
 use native.Mathlib.Omega.{arith}
-use native.Mathlib.Nat.{mod-lt, mul-zero, mul-suc, mul-one, mul-add}
+use native.Mathlib.Nat.{mod-lt, mul-zero, mul-one, mul-add}
 use lib.ListN.{length, length-append, length-map, length-set}
 use lib.Dec.{leb, ltb, eqb}
 use borrow.Author.Tests.{ltb-false, leb-false}
 use Rattle.blocks.specs.Lists.{total}
-use Rattle.blocks.specs.All.{All, nil, cons}
+use Rattle.blocks.specs.All.{nil, cons}
 use Rattle.blocks.proofs.Lists.{either, total-append}
 use Rattle.blocks.proofs.All.{all-head, all-tail, all-both, all-drop, all-map}
 use Rattle.shapes.specs.declared.shape.VersionShape.{VersionShape}
@@ -294,9 +294,9 @@ module _ {W : Type 0} where
     found-parked le v held (some t) e =
         let s = find-all StateFormed (v .id) t (p .textures) (f .textures) e in
         either Formed (eqb (t .epoch) (v .epoch)) (parkTracked (withRetiring (p .retiring) none p) failed now v t) (parkLost (withRetiring (p .retiring) none p) v)
-        (λ same. either Formed (p .pacing .pressed || ltb (p .budget .cap) (p .parked + bytesOf (t .shape))) _ _
+        (λ same. either Formed _ _ _
         (λ full. hand-doomed p f v held _ (record { bytes = bytes-bound (t .shape) (s .shape) }))
-        (λ room. hand-parked p f v held failed now le t e (ltb-false _ _ (or-false (p .pacing .pressed) (ltb (p .budget .cap) (p .parked + bytesOf (t .shape))) room))))
+        (λ room. hand-parked p f v held failed now le t e (ltb-false _ _ (or-false (p .pacing .pressed) _ room))))
         (λ other. hand-doomed p f v held _ (record { bytes = hand-formed p f v held .bytes }))
 
     hand-out : now ≤ limit → (hand : Option (Retiring W)) → p .hand ≡ hand → OutFormed (parkHand p failed now hand)

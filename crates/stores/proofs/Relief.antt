@@ -1,12 +1,12 @@
 -- The calls that queue spares for destruction leave a formed pool: note_allocated, trim, forget_texture. Assumes nothing.
-use Prim.Native.Nat.{ℕ, _+_, _-_, _*_, _≤_, _<_}
+use Prim.Native.Nat.{ℕ, _+_, _-_, _≤_, _<_}
 use mathlib.Core.Path.{_≡_, refl}
 use mathlib.Core.Bool.{Bool, true, false, cond, _&&_, not}
 use mathlib.Core.List.{List, [], _∷_, map, flatMap}
 use native.Mathlib.Omega.{arith}
 use native.Mathlib.Nat.{mul-zero}
 use lib.ListN.{length, length-append, length-map}
-use lib.Dec.{ltb, eqb}
+use lib.Dec.{eqb}
 use borrow.Author.Tests.{ltb-false, not-false}
 use Rattle.blocks.specs.Lists.{keep, total}
 use Rattle.blocks.specs.All.{All, nil}
@@ -22,7 +22,7 @@ use Rattle.stores.specs.Formed.{DoomedFormed, StateFormed, Formed}
 use Rattle.stores.specs.Closed.{OutFormed, formed}
 use Rattle.stores.proofs.Lists.{total-keep, total-kept, total-map}
 use Rattle.stores.proofs.States.{ascending-map, ascending-keep}
-use Rattle.stores.proofs.Moves.{guarded, spareCount, as-doomed-bytes, as-doomed-length, as-doomed-formed, spares-doomed, lessened, given, given-bytes, given-count, given-formed, lessened-formed, oldest-doomed}
+use Rattle.stores.proofs.Moves.{guarded, spareCount, as-doomed-bytes, as-doomed-length, as-doomed-formed, spares-doomed, given, given-bytes, given-count, given-formed, lessened-formed, oldest-doomed}
 
 module _ {W : Type 0} where
   -- ---- note_allocated
@@ -62,17 +62,17 @@ module _ {W : Type 0} where
     looked-same : {B : Type 0} (f : VersionState W → B) → ((t : VersionState W) (d : ℕ) → f (withDue d t) ≡ f t) → (t : VersionState W)
         → f (lookedAt now t) ≡ f t
     looked-same f e t =
-        either (λ (u : VersionState W). f u ≡ f t) (aged now (t .due)) (withDue (cond (aged now (t .rename)) now (t .rename)) t) t (λ q. e t _) (λ q. refl)
+        either (λ (u : VersionState W). f u ≡ f t) (aged now (t .due)) _ _ (λ q. e t _) (λ q. refl)
 
     looked-formed : now ≤ limit → (t : VersionState W) → StateFormed t → StateFormed (lookedAt now t)
     looked-formed le t f =
-        either StateFormed (aged now (t .due)) (withDue (cond (aged now (t .rename)) now (t .rename)) t) t
+        either StateFormed (aged now (t .due)) _ _
         (λ q. record {
           shape = f .shape;
           epoch = f .epoch;
           birth = f .birth;
           rename = f .rename;
-          due = either (λ (d : ℕ). d ≤ limit) (aged now (t .rename)) now (t .rename) (λ e. le) (λ e. f .rename);
+          due = either (λ (d : ℕ). d ≤ limit) (aged now (t .rename)) _ _ (λ e. le) (λ e. f .rename);
           history = f .history;
           spares = f .spares;
         })

@@ -5,7 +5,7 @@ use mathlib.Core.Bool.{Bool, true, false, cond, _&&_}
 use mathlib.Core.Option.{Option, none, some}
 use mathlib.Core.List.{List, [], _∷_}
 use native.Mathlib.Omega.{arith}
-use native.Mathlib.Nat.{mul-zero, mul-suc, zero-add}
+use native.Mathlib.Nat.{mul-zero, mul-suc}
 use lib.ListN.{length, length-append}
 use lib.Dec.{ltb}
 use borrow.Author.Tests.{ltb-false, leb-false, not-false}
@@ -20,7 +20,7 @@ use Rattle.stores.specs.declared.held.Held.{Held}
 use Rattle.stores.specs.Model.{WriteHistory, Spare, Doomed, VersionState, Pool, UploadFootprint, find, limit, pagesOf, hasHistory, pagesUsed, spareBytes}
 use Rattle.stores.specs.Updates.{withHistory, withSpares, withRename, withTextures, withParked, change, asDoomed}
 use Rattle.stores.specs.Histories.{newHistory, inShape, written, regenerated, spent}
-use Rattle.stores.specs.TakeSpare.{takeSpare, takeFound, takeNew, takeTracked, takeRenewed, newState, historyFull, newest, others, takenBytes}
+use Rattle.stores.specs.TakeSpare.{takeSpare, takeFound, takeNew, takeTracked, takeRenewed, newState, newest, others, takenBytes}
 use Rattle.stores.specs.PreservePlan.{preservePlan, planFound}
 use Rattle.stores.specs.NoteWrite.{noteWrite, noteMipRegeneration, historyIn, writeSpent}
 use Rattle.stores.specs.Formed.{Given, HistoryFormed, SpareFormed, StateFormed, Formed}
