@@ -199,8 +199,8 @@ module _ {W : Type 0} where
     pub retire-formed : (id : ℕ) (view : W) (seq : ℕ) → OutFormed (retire p id view seq)
     unfolding retire
     retire-formed id view seq =
-        guarded _ _ (λ a. guarded _ _ (λ b. guarded _ _ (λ c. formed (queued id seq (ltb-false _ _ a) (leb-false _ _ b)
-        (retired id view seq (find id (p .textures))) (retired-formed id view seq (ltb-false _ _ a) (find id (p .textures)) refl)))))
+        guarded _ _ (λ a. guarded _ _ (λ b. guarded _ _ (λ c. formed (queued id seq (omega (arith, ltb-false)) (omega (arith, leb-false))
+        (retired id view seq (find id (p .textures))) (retired-formed id view seq (omega (arith, ltb-false)) (find id (p .textures)) refl)))))
 
   -- ---- park
 

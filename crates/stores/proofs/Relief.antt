@@ -1,7 +1,7 @@
 -- The calls that queue spares for destruction leave a formed pool: note_allocated, trim, forget_texture. Assumes nothing.
 use Prim.Native.Nat.{ℕ, _+_, _-_, _≤_, _<_}
 use mathlib.Core.Path.{_≡_, refl}
-use mathlib.Core.Bool.{Bool, true, false, cond, _&&_, not}
+use mathlib.Core.Bool.{Bool, true, false, cond, not}
 use mathlib.Core.List.{List, [], _∷_, map, flatMap}
 use native.Mathlib.Omega.{arith}
 use native.Mathlib.Nat.{mul-zero}
@@ -64,19 +64,21 @@ module _ {W : Type 0} where
     looked-same f e t =
         either (λ (u : VersionState W). f u ≡ f t) (aged now (t .due)) _ _ (λ q. e t _) (λ q. refl)
 
+    due-formed : (t : VersionState W) → StateFormed t → (d : ℕ) → d ≤ limit → StateFormed (withDue d t)
+    due-formed t f d le = record {
+      shape = f .shape;
+      epoch = f .epoch;
+      birth = f .birth;
+      rename = f .rename;
+      due = le;
+      history = f .history;
+      spares = f .spares;
+    }
+
     looked-formed : now ≤ limit → (t : VersionState W) → StateFormed t → StateFormed (lookedAt now t)
     looked-formed le t f =
         either StateFormed (aged now (t .due)) _ _
-        (λ q. record {
-          shape = f .shape;
-          epoch = f .epoch;
-          birth = f .birth;
-          rename = f .rename;
-          due = either (λ (d : ℕ). d ≤ limit) (aged now (t .rename)) _ _ (λ e. le) (λ e. f .rename);
-          history = f .history;
-          spares = f .spares;
-        })
-        (λ q. f)
+        (λ q. due-formed t f _ (either (λ (d : ℕ). d ≤ limit) (aged now (t .rename)) _ _ (λ e. omega arith) (λ e. f .rename))) (λ q. f)
 
     none-counted : (ss : List (Spare W)) → isEmpty ss ≡ true → length ss ≡ 0
     none-counted [] e = refl
@@ -85,8 +87,8 @@ module _ {W : Type 0} where
     -- what is dropped has no spares
     idle-count : (t : VersionState W) → not (idle now t) ≡ false → spareCount t ≡ 0
     idle-count t e =
-        let both = and-both (aged now (t .due)) (aged now (t .rename) && isEmpty (t .spares)) (not-false _ e) in
-        none-counted (t .spares) (and-both (aged now (t .rename)) (isEmpty (t .spares)) (both .1) .1)
+        let both = and-both (aged now (t .due)) _ (not-false (idle now t) e) in
+        none-counted (t .spares) (and-both (aged now (t .rename)) _ (both .1) .1)
 
     idle-bytes : (t : VersionState W) → not (idle now t) ≡ false → spareBytes t ≡ 0
     idle-bytes t e = rw (idle-count t e) (mul-zero (bytesOf (t .shape)))
