@@ -294,9 +294,9 @@ module _ {W : Type 0} where
     found-parked le v held (some t) e =
         let s = find-all StateFormed (v .id) t (p .textures) (f .textures) e in
         either Formed (eqb (t .epoch) (v .epoch)) (parkTracked (withRetiring (p .retiring) none p) failed now v t) (parkLost (withRetiring (p .retiring) none p) v)
-        (λ same. either Formed _ _ _
+        (λ same. either Formed (p .pacing .pressed || ltb (p .budget .cap) _) _ _
         (λ full. hand-doomed p f v held _ (record { bytes = bytes-bound (t .shape) (s .shape) }))
-        (λ room. hand-parked p f v held failed now le t e (ltb-false _ _ (or-false (p .pacing .pressed) _ room))))
+        (λ room. hand-parked p f v held failed now le t e (omega (arith, ltb-false (p .budget .cap) _ (or-false (p .pacing .pressed) _ room)))))
         (λ other. hand-doomed p f v held _ (record { bytes = hand-formed p f v held .bytes }))
 
     hand-out : now ≤ limit → (hand : Option (Retiring W)) → p .hand ≡ hand → OutFormed (parkHand p failed now hand)
