@@ -1,6 +1,6 @@
 -- The budget of a working set, case by case. Assumes nothing.
 use Prim.Native.Nat.{ℕ, _*_, _/_, _<_, min}
-use mathlib.Core.Path.{_≡_, refl, sym}
+use mathlib.Core.Path.{_≡_}
 use native.Mathlib.Omega.{arith}
 use borrow.Author.Tests.{eq-eqb, ne-eqb}
 use Rattle.stores.specs.declared.budget.VersionBudget.{VersionBudget}

@@ -8,9 +8,9 @@ use mathlib.Core.List.{List, [], _∷_}
 use native.Mathlib.Omega.{arith}
 use native.Mathlib.Nat.{add-zero, zero-add, add-suc, suc-add, mul-comm, mul-add-div-right, div-eq-of-lt, mul-add-mod-self-right, mod-eq-of-lt}
 use native.Mathlib.Decide.{ℕ-discrete}
-use lib.ListN.{length, getD, set, replicate, length-set}
+use lib.ListN.{length, getD, replicate, length-set}
 use lib.Seq.{getD-set-same, getD-set-other}
-use lib.Dec.{leb, ltb, eqb}
+use lib.Dec.{ltb, eqb}
 use borrow.Author.Tests.{ltb-true, leb-false}
 use Rattle.blocks.specs.Blocks.{largest}
 use Rattle.blocks.proofs.Lists.{either, and-both}
@@ -27,7 +27,7 @@ use Rattle.grids.proofs.Tilings.{tiling-ok}
 use Rattle.grids.proofs.RowByRow.{tile-at, tile-place, same-tiles, length-rows, value-at}
 use Rattle.grids.proofs.Stamps.{InLevel, InRect, texel-column, texel-row, touches-texel, touches-cut, length-stamped, stamped-tile, new-length}
 use Rattle.stores.specs.Model.{WriteHistory, limit, pagesOf, hasHistory}
-use Rattle.stores.specs.Histories.{inShape, gridPlace, gridAt, newHistory, stampWrite, regenerateFrom, stampRegeneration, written, regenerated, spent}
+use Rattle.stores.specs.Histories.{inShape, gridAt, newHistory, stampWrite, regenerateFrom, stampRegeneration, written, regenerated, spent}
 use Rattle.stores.specs.Formed.{Given, GridFormed, HistoryFormed}
 
 -- ---- grids

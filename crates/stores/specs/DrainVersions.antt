@@ -1,6 +1,6 @@
 -- drain_versions: hand out the queue, then the destroy queue, then the spares; the hand stays as it is.
 use Prim.Native.Nat.{ℕ}
-use mathlib.Core.List.{List, [], _∷_, _++_, map, flatMap}
+use mathlib.Core.List.{List, [], _++_, map, flatMap}
 use lib.Dec.{ltb}
 use lib.ListN.{length, replicate}
 use Rattle.stores.specs.Model.{Spare, Retiring, Doomed, VersionState, Pool, Out, accepted, guard}

@@ -1,7 +1,7 @@
 -- forget_texture: stop tracking a released texture, queueing its spares for destruction.
 use Prim.Native.Nat.{ℕ}
 use mathlib.Core.Bool.{cond, not}
-use mathlib.Core.List.{List, [], _∷_, flatMap}
+use mathlib.Core.List.{[], flatMap}
 use lib.Dec.{eqb}
 use Rattle.blocks.specs.Lists.{keep}
 use Rattle.shapes.specs.Shapes.{bytesOf}

@@ -1,5 +1,5 @@
 -- What it takes to form a pool (01, "Outcomes"), one line for each of 01's conditions.
-use Prim.Native.Nat.{ℕ, suc, _+_, _*_, _≤_, _<_}
+use Prim.Native.Nat.{ℕ, suc, _*_, _≤_, _<_}
 use mathlib.Core.Path.{_≡_}
 use mathlib.Core.Bool.{true}
 use mathlib.Core.Option.{Option, none, some}
@@ -13,7 +13,7 @@ use Rattle.shapes.specs.Shapes.{isShape, slicesOf}
 use Rattle.grids.specs.Grids.{Tiling, tilingOf, stampCount, StampGrid}
 use Rattle.stores.specs.declared.held.Held.{Held}
 use Rattle.stores.specs.declared.held.Held.the-variants.{Known, Unknown}
-use Rattle.stores.specs.Model.{WriteHistory, Spare, Retiring, Doomed, VersionState, Places, PacingBook, Pool, limit, pagesUsed, spareBytes, doomedBytes, versionsUsed}
+use Rattle.stores.specs.Model.{WriteHistory, Spare, Retiring, Doomed, VersionState, Pool, limit, pagesUsed, spareBytes, doomedBytes, versionsUsed}
 use Rattle.stores.specs.Histories.{gridAt}
 
 -- of what an option holds, if anything

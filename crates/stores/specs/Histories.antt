@@ -1,6 +1,6 @@
 -- A texture's write history: new, after a write, after a mip regeneration (01, "Tracking and plans" and "The stamp grid").
 use Prim.Native.Nat.{ℕ, suc, _+_, _*_, _%_}
-use mathlib.Core.Bool.{Bool, true, false, cond, _&&_}
+use mathlib.Core.Bool.{Bool, false, cond, _&&_}
 use mathlib.Core.Option.{Option, none, some}
 use mathlib.Core.List.{List, [], _∷_, flatMap}
 use lib.Dec.{ltb, leb, eqb}

@@ -15,3 +15,4 @@ pub mod Trim
 pub mod ForgetTexture
 pub mod Open
 pub mod Formed
+pub mod Closed

@@ -1,9 +1,9 @@
 -- The pool as the Rust has it, with lists for its maps and queues. W is the type of a version's views, which the pool only carries
 -- (the source's TextureVersions<V>).
-use Prim.Native.Nat.{ℕ, suc, _+_, _*_}
+use Prim.Native.Nat.{ℕ, _+_, _*_}
 use mathlib.Core.Bool.{Bool, true, false, cond}
 use mathlib.Core.Option.{Option, none, some}
-use mathlib.Core.List.{List, [], _∷_, map}
+use mathlib.Core.List.{List, [], _∷_}
 use lib.Dec.{eqb}
 use lib.ListN.{length}
 use Rattle.blocks.specs.Lists.{total}

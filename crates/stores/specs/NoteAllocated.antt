@@ -7,7 +7,7 @@ use lib.ListN.{take, drop}
 use Rattle.shapes.specs.Shapes.{bytesOf}
 use Rattle.stores.specs.declared.budget.VersionBudget.{VersionBudget}
 use Rattle.stores.specs.Budget.{resumeBelow}
-use Rattle.stores.specs.Model.{Spare, Doomed, VersionState, Pool, Out, accepted}
+use Rattle.stores.specs.Model.{Spare, VersionState, Pool, Out, accepted}
 use Rattle.stores.specs.Updates.{withSpares, withTextures, withPacing, asDoomed, doomSpares}
 
 -- it presses above the line and releases below `resume_below`

@@ -2,10 +2,9 @@
 use Prim.Native.Nat.{ℕ, _+_}
 use mathlib.Core.Bool.{Bool, cond, _&&_, _||_, not}
 use mathlib.Core.Option.{Option, none, some}
-use mathlib.Core.List.{List, [], _∷_, _++_}
+use mathlib.Core.List.{[], _∷_, _++_}
 use lib.Dec.{leb, ltb, eqb}
 use Rattle.shapes.specs.Shapes.{bytesOf}
-use Rattle.stores.specs.declared.held.Held.{Held}
 use Rattle.stores.specs.declared.held.Held.the-variants.{Known, Unknown}
 use Rattle.stores.specs.Model.{Spare, Retiring, VersionState, Pool, Out, refused, accepted, guard, find, limit}
 use Rattle.stores.specs.Updates.{withSpares, withTextures, withRetiring, withParked, change, doom}

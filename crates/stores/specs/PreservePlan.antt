@@ -9,7 +9,6 @@ use Rattle.blocks.specs.Lists.{listed, tests}
 use Rattle.shapes.specs.declared.shape.VersionShape.{VersionShape}
 use Rattle.shapes.specs.Shapes.{isShape, sameShape, slicesOf, levelWidth, levelHeight}
 use Rattle.rects.specs.declared.rect.TexelRect.{TexelRect}
-use Rattle.rects.specs.declared.rect.Region.{Region}
 use Rattle.rects.specs.declared.rect.Region.the-variants.{Whole, Part}
 use Rattle.rects.specs.Rects.{wholeLevel}
 use Rattle.grids.specs.declared.since.Dirty.{Dirty}
@@ -17,7 +16,7 @@ use Rattle.grids.specs.declared.since.Dirty.the-variants.{Box, Clean}
 use Rattle.grids.specs.Grids.{tilingOf, boxSince}
 use Rattle.stores.specs.declared.held.Held.{Held}
 use Rattle.stores.specs.declared.held.Held.the-variants.{Known, Unknown}
-use Rattle.stores.specs.Model.{WriteHistory, VersionState, Pool, Out, refused, accepted, guard, find, PreserveCopy, UploadFootprint}
+use Rattle.stores.specs.Model.{WriteHistory, VersionState, Pool, Out, accepted, guard, find, PreserveCopy, UploadFootprint}
 use Rattle.stores.specs.Histories.{inShape, gridAt, spent}
 
 abbrev pub sameRect : TexelRect → TexelRect → Bool
