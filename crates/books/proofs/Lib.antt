@@ -1,0 +1,13 @@
+pub mod Laws
+pub mod Good
+pub mod Inv
+pub mod Marks
+pub mod Renames
+pub mod Retires
+pub mod Mapped
+pub mod Natural
+pub mod NaturalOut
+pub mod Demand3
+pub mod End
+pub mod Carried
+pub mod Sample

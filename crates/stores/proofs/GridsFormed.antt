@@ -1,0 +1,263 @@
+-- Grids and histories stay formed: new, after a write and after a regeneration. Above all the largest stamp of a stamped grid is its newest.
+-- Assumes nothing.
+use Prim.Native.Nat.{ℕ, zero, suc, _+_, _*_, _/_, _%_, _≤_, _<_}
+use mathlib.Core.Path.{_≡_, refl, sym, _∙_, ap}
+use mathlib.Core.Bool.{Bool, true, false, cond, _&&_}
+use mathlib.Core.Option.{Option, none, some}
+use mathlib.Core.List.{List, [], _∷_}
+use native.Mathlib.Omega.{arith}
+use native.Mathlib.Nat.{add-zero, zero-add, add-suc, suc-add, mul-comm, mul-add-div-right, div-eq-of-lt, mul-add-mod-self-right, mod-eq-of-lt}
+use native.Mathlib.Decide.{ℕ-discrete}
+use lib.ListN.{length, getD, replicate, length-set}
+use lib.Seq.{getD-set-same, getD-set-other}
+use lib.Dec.{ltb, eqb}
+use borrow.Author.Tests.{ltb-true, leb-false}
+use Rattle.blocks.specs.Blocks.{largest}
+use Rattle.blocks.proofs.Lists.{either, and-both}
+use Rattle.blocks.proofs.Scans.{largest-bound}
+use Rattle.shapes.specs.declared.shape.VersionShape.{VersionShape}
+use Rattle.shapes.specs.Shapes.{isShape, slicesOf, levelWidth, levelHeight}
+use Rattle.rects.specs.declared.rect.TexelRect.{TexelRect}
+use Rattle.rects.specs.Rects.{wholeLevel}
+use Rattle.tiles.specs.declared.axis.Axis.{Axis}
+use Rattle.tiles.specs.Axes.{isCut, cutEnd}
+use Rattle.tiles.proofs.Axes.{cut-some}
+use Rattle.grids.specs.Grids.{Tiling, TilingOk, tilingOf, columnsOf, rowsOf, stampCount, stampOf, StampGrid, newGrid, rowByRow, touches, isCutRect, stampedBy}
+use Rattle.grids.proofs.Tilings.{tiling-ok}
+use Rattle.grids.proofs.RowByRow.{tile-at, tile-place, same-tiles, length-rows, value-at}
+use Rattle.grids.proofs.Stamps.{InLevel, InRect, texel-column, texel-row, touches-texel, touches-cut, length-stamped, stamped-tile, new-length}
+use Rattle.stores.specs.Model.{WriteHistory, limit, pagesOf, hasHistory}
+use Rattle.stores.specs.Histories.{inShape, gridAt, newHistory, stampWrite, regenerateFrom, stampRegeneration, written, regenerated, spent}
+use Rattle.stores.specs.Formed.{Given, GridFormed, HistoryFormed}
+
+-- ---- grids
+
+largest-zeros : (n : ℕ) → largest (replicate n 0) ≡ 0
+unfolding largest
+largest-zeros zero = refl
+largest-zeros (suc n) = let e = largest-zeros n in omega arith
+
+largest-within : (b : ℕ) (s : List ℕ) → ((i : ℕ) → i < length s → getD s i 0 ≤ b) → largest s ≤ b
+unfolding largest
+largest-within b [] f = omega arith
+largest-within b (x ∷ xs) f = let h = f 0 (omega arith) in let k = largest-within b xs (λ i l. f (suc i) (omega arith)) in omega arith
+
+pub new-grid-formed : (g : Tiling) → GridFormed g 0 (newGrid g)
+unfolding newGrid
+new-grid-formed g = record { size = new-length g; newest = largest-zeros (stampCount g); below = omega arith }
+
+-- a cut that is not empty starts in the level
+cut-start : (a : Axis) (start size : ℕ) → isCut a start size ≡ true → (start < a .extent) × (start < start + size)
+unfolding cutEnd
+cut-start a start size e = let h = cut-some a start size e in (omega arith, omega arith)
+
+module _ (g : Tiling) (ok : TilingOk g) (r : TexelRect) (w n : ℕ) (lt : w < n) (grid : StampGrid) (f : GridFormed g w grid) where
+  old-stamp : (i : ℕ) → getD (grid .stamps) i 0 < n
+  old-stamp i = omega (arith, largest-bound (grid .stamps) i, f .newest, f .below)
+
+  tile-most : (column row : ℕ) → column < columnsOf g → row < rowsOf g → stampOf (columnsOf g) (stampedBy g r n grid .stamps) column row ≤ n
+  unfolding stampOf
+  tile-most column row h k =
+      rw (stamped-tile g ok r n grid column row h k)
+      (either (λ (m : ℕ). m ≤ n) (touches g r column row) n (getD (grid .stamps) (row * columnsOf g + column) 0) (λ e. omega arith)
+      (λ e. let l = old-stamp (row * columnsOf g + column) in omega arith))
+
+  -- no stamp passes the write's number
+  stamps-most : largest (stampedBy g r n grid .stamps) ≤ n
+  unfolding stampCount stampOf
+  stamps-most =
+      largest-within n (stampedBy g r n grid .stamps)
+      (λ i h. let t = tile-at (columnsOf g) (rowsOf g) i (rw (length-stamped g ok r n grid) at h) in
+      rw (t .place) (tile-most (i % columnsOf g) (i / columnsOf g) (t .column) (t .row)))
+
+  -- the tile of the cut's first texel has it
+  stamps-reach : isCutRect g r ≡ true → n ≤ largest (stampedBy g r n grid .stamps)
+  unfolding isCutRect stampOf
+  stamps-reach e =
+      let c = and-both (isCut (g .across) (r .x) (r .width)) (isCut (g .down) (r .y) (r .height)) e in
+      let p = cut-start (g .across) (r .x) (r .width) (c .0) in
+      let q = cut-start (g .down) (r .y) (r .height) (c .1) in
+      let inside : InLevel g (r .x) (r .y) = record { across = p .0; down = q .0 } in
+      let within : InRect r (r .x) (r .y) = record { left = omega arith; right = p .1; top = omega arith; bottom = q .1 } in
+      let column : ℕ = r .x / g .across .edge in
+      let row : ℕ = r .y / g .down .edge in
+      let here : getD (stampedBy g r n grid .stamps) (row * columnsOf g + column) 0 ≡ n =
+      stamped-tile g ok r n grid column row (texel-column g ok (r .x) (r .y) inside) (texel-row g ok (r .x) (r .y) inside)
+      ∙ ap (λ (b : Bool). cond b n (getD (grid .stamps) (row * columnsOf g + column) 0)) (touches-texel g ok r (r .x) (r .y) inside within) in
+      let top = largest-bound (stampedBy g r n grid .stamps) (row * columnsOf g + column) in
+      omega arith
+
+  clash : {A : Type 0} → true ≡ false → A
+  clash q = absurd (let z : _≡_ {A = ℕ} 0 1 = cc in let y : ⊥ = omega arith in y)
+
+  -- an empty cut leaves every stamp
+  stamps-kept : isCutRect g r ≡ false → stampedBy g r n grid .stamps ≡ grid .stamps
+  unfolding stampCount stampOf
+  stamps-kept e =
+      same-tiles (columnsOf g) (rowsOf g) (stampedBy g r n grid .stamps) (grid .stamps) (length-stamped g ok r n grid) (f .size)
+      (λ column row h k. stamped-tile g ok r n grid column row h k
+      ∙ ap (λ (b : Bool). cond b n (getD (grid .stamps) (row * columnsOf g + column) 0)) (untouched column row (touches g r column row) refl))
+    where
+      untouched : (column row : ℕ) (b : Bool) → touches g r column row ≡ b → touches g r column row ≡ false
+      untouched column row true q = clash (sym (touches-cut g ok r column row q) ∙ e)
+      untouched column row false q = q
+
+  newest-stamped : (b : Bool) → isCutRect g r ≡ b → stampedBy g r n grid .newest ≡ cond b n (grid .newest)
+  unfolding stampedBy
+  newest-stamped b e = rw e
+
+  pub stamped-formed : GridFormed g n (stampedBy g r n grid)
+  stamped-formed = go (isCutRect g r) refl
+    where
+      go : (b : Bool) → isCutRect g r ≡ b → GridFormed g n (stampedBy g r n grid)
+      go true e =
+          let q = newest-stamped true e in
+          record { size = length-stamped g ok r n grid; newest = omega (arith, stamps-most, stamps-reach e); below = omega arith }
+      go false e =
+          let q = newest-stamped false e in
+          record {
+            size = length-stamped g ok r n grid;
+            newest = ap largest (stamps-kept e) ∙ f .newest ∙ sym q;
+            below = omega (arith, f .below);
+          }
+
+-- a grid whose count was raised by a write elsewhere
+pub still-formed : {g : Tiling} {w : ℕ} {grid : StampGrid} → GridFormed g w grid → GridFormed g (suc w) grid
+still-formed f = record { size = f .size; newest = f .newest; below = omega (arith, f .below) }
+
+-- ---- places of grids
+
+place-slice : (slice level n : ℕ) → level < n → (slice * n + level) / n ≡ slice
+place-slice slice level n h = mul-add-div-right (omega arith) slice level ∙ ap (λ (q : ℕ). slice + q) (div-eq-of-lt h) ∙ add-zero slice
+
+place-level : (slice level n : ℕ) → level < n → (slice * n + level) % n ≡ level
+place-level slice level n h = mul-add-mod-self-right slice n level ∙ mod-eq-of-lt h
+
+abbrev noGrid : StampGrid
+noGrid = record { newest = 0; stamps = [] }
+
+module _ (s : VersionShape) where
+  new-size : length (newHistory s .grids) ≡ slicesOf s * s .levels
+  unfolding newHistory rowByRow
+  new-size = length-rows (s .levels) (slicesOf s) (λ (level slice : ℕ). newGrid (tilingOf s level)) ∙ mul-comm (s .levels) (slicesOf s)
+
+  new-grid : (slice level : ℕ) → slice < slicesOf s → level < s .levels → gridAt s (newHistory s) slice level ≡ newGrid (tilingOf s level)
+  unfolding newHistory gridAt rowByRow
+  new-grid slice level p q = value-at (s .levels) (slicesOf s) (λ (level slice : ℕ). newGrid (tilingOf s level)) level slice noGrid q p
+
+  pub new-formed : HistoryFormed s (newHistory s)
+  unfolding newHistory
+  new-formed = record {
+    writes = omega arith;
+    size = new-size;
+    grids = λ slice level p q. rw (new-grid slice level p q) (new-grid-formed (tilingOf s level));
+  }
+
+-- ---- a grid after a regeneration
+
+regenerated-at : (s : VersionShape) (n k : ℕ) (gs : List StampGrid) (i : ℕ) → i < length gs
+    → getD (regenerateFrom s n k gs) i noGrid
+    ≡ cond (eqb ((k + i) % s .levels) 0) (getD gs i noGrid)
+    (stampedBy (tilingOf s ((k + i) % s .levels)) (wholeLevel (levelWidth s ((k + i) % s .levels)) (levelHeight s ((k + i) % s .levels))) n (getD gs i noGrid))
+unfolding regenerateFrom
+regenerated-at s n k [] i h = absurd (let y : ⊥ = omega arith in y)
+regenerated-at s n k (g ∷ gs) zero h = rw (add-zero k)
+regenerated-at s n k (g ∷ gs) (suc i) h = regenerated-at s n (suc k) gs i (omega arith) ∙ rw (suc-add k i, add-suc k i)
+
+regenerated-length : (s : VersionShape) (n k : ℕ) (gs : List StampGrid) → length (regenerateFrom s n k gs) ≡ length gs
+unfolding regenerateFrom
+regenerated-length s n k [] = refl
+regenerated-length s n k (g ∷ gs) = ap suc (regenerated-length s n (suc k) gs)
+
+module _ (s : VersionShape) (shaped : isShape s ≡ true) (h : WriteHistory) (f : HistoryFormed s h) (free : h .writes < limit) where
+  place-in : (slice level : ℕ) → slice < slicesOf s → level < s .levels → slice * s .levels + level < length (h .grids)
+  place-in slice level p q = omega (arith, f .size, tile-place (s .levels) (slicesOf s) level slice q p, mul-comm (s .levels) (slicesOf s))
+
+  module _ (slice level : ℕ) (inSlice : slice < slicesOf s) (inLevel : level < s .levels) (r : TexelRect) where
+    write-same : gridAt s (stampWrite s slice level r h) slice level ≡ stampedBy (tilingOf s level) r (suc (h .writes)) (gridAt s h slice level)
+    unfolding gridAt stampWrite
+    write-same = getD-set-same (h .grids) (slice * s .levels + level) _ noGrid (place-in slice level inSlice inLevel)
+
+    write-other : (c d : ℕ) → d < s .levels → ((c ≡ slice) → (d ≡ level) → ⊥) → gridAt s (stampWrite s slice level r h) c d ≡ gridAt s h c d
+    unfolding gridAt stampWrite
+    write-other c d l ne =
+        getD-set-other (h .grids) (slice * s .levels + level) (c * s .levels + d) _ noGrid
+        (λ e. ne (sym (place-slice c d (s .levels) l) ∙ ap (λ (z : ℕ). z / s .levels) e ∙ place-slice slice level (s .levels) inLevel)
+        (sym (place-level c d (s .levels) l) ∙ ap (λ (z : ℕ). z % s .levels) e ∙ place-level slice level (s .levels) inLevel))
+
+    abbrev wrote : WriteHistory
+    wrote = stampWrite s slice level r h
+
+    write-size : length (wrote .grids) ≡ slicesOf s * s .levels
+    unfolding stampWrite
+    write-size = length-set (h .grids) (slice * s .levels + level) _ ∙ f .size
+
+    pub write-formed : HistoryFormed s wrote
+    unfolding stampWrite
+    write-formed = record { writes = free; size = write-size; grids = λ c d p q. each c d p q (ℕ-discrete c slice) (ℕ-discrete d level) }
+      where
+        other : (c d : ℕ) → c < slicesOf s → d < s .levels → ((c ≡ slice) → (d ≡ level) → ⊥) → GridFormed (tilingOf s d) (suc (h .writes)) (gridAt s wrote c d)
+        other c d p q ne = rw (write-other c d q ne) (still-formed (f .grids c d p q))
+
+        each : (c d : ℕ) → c < slicesOf s → d < s .levels → Dec (c ≡ slice) → Dec (d ≡ level) → GridFormed (tilingOf s d) (suc (h .writes)) (gridAt s wrote c d)
+        each c d p q (yes e) (yes z) =
+            rw (e, z, write-same)
+            (stamped-formed (tilingOf s level) (tiling-ok s shaped level) r (h .writes) (suc (h .writes)) (omega arith) (gridAt s h slice level) (f .grids slice level inSlice inLevel))
+        each c d p q (no e) z = other c d p q (λ x y. e x)
+        each c d p q (yes e) (no z) = other c d p q (λ x y. z y)
+
+  abbrev whole : ℕ → TexelRect
+  whole level = wholeLevel (levelWidth s level) (levelHeight s level)
+
+  abbrev remade : WriteHistory
+  remade = stampRegeneration s h
+
+  remade-size : length (remade .grids) ≡ slicesOf s * s .levels
+  unfolding stampRegeneration
+  remade-size = regenerated-length s (suc (h .writes)) 0 (h .grids) ∙ f .size
+
+  remade-grid : (slice level : ℕ) → slice < slicesOf s → level < s .levels
+      → gridAt s remade slice level ≡ cond (eqb level 0) (gridAt s h slice level) (stampedBy (tilingOf s level) (whole level) (suc (h .writes)) (gridAt s h slice level))
+  unfolding gridAt stampRegeneration
+  remade-grid slice level p q =
+      regenerated-at s (suc (h .writes)) 0 (h .grids) (slice * s .levels + level) (place-in slice level p q)
+      ∙ rw (zero-add (slice * s .levels + level), place-level slice level (s .levels) q)
+
+  pub regeneration-formed : HistoryFormed s remade
+  unfolding stampRegeneration
+  regeneration-formed = record {
+    writes = free;
+    size = remade-size;
+    grids = λ c d p q. rw (remade-grid c d p q)
+        (either (GridFormed (tilingOf s d) (suc (h .writes))) (eqb d 0) (gridAt s h c d) (stampedBy (tilingOf s d) (whole d) (suc (h .writes)) (gridAt s h c d))
+        (λ e. still-formed (f .grids c d p q))
+        (λ e. stamped-formed (tilingOf s d) (tiling-ok s shaped d) (whole d) (h .writes) (suc (h .writes)) (omega arith) (gridAt s h c d) (f .grids c d p q)));
+  }
+
+-- ---- what a call makes of a state's history, and the pages that it keeps
+
+module _ (s : VersionShape) (shaped : isShape s ≡ true) where
+  pub written-formed : (slice level : ℕ) (r : TexelRect) (o : Option WriteHistory) → (inShape s slice level && spent o) ≡ false
+      → Given (HistoryFormed s) o → Given (HistoryFormed s) (written slice level r s o)
+  written-formed slice level r none e f = tt
+  written-formed slice level r (some h) e f =
+      either (Given (HistoryFormed s)) (inShape s slice level) (some (stampWrite s slice level r h)) none
+      (λ q. let k = and-both (ltb slice (slicesOf s)) (ltb level (s .levels)) q in
+      write-formed s shaped h f (leb-false _ _ (rw q at e)) slice level (ltb-true _ _ (k .0)) (ltb-true _ _ (k .1)) r)
+      (λ q. tt)
+
+  pub regenerated-formed : (o : Option WriteHistory) → spent o ≡ false → Given (HistoryFormed s) o → Given (HistoryFormed s) (regenerated s o)
+  regenerated-formed none e f = tt
+  regenerated-formed (some h) e f = regeneration-formed s shaped h f (leb-false _ _ e)
+
+module _ (s : VersionShape) where
+  pub written-pages : (slice level : ℕ) (r : TexelRect) (o : Option WriteHistory)
+      → cond (hasHistory (written slice level r s o)) (pagesOf s) 0 ≤ cond (hasHistory o) (pagesOf s) 0
+  written-pages slice level r none = omega arith
+  written-pages slice level r (some h) =
+      either (λ (o : Option WriteHistory). cond (hasHistory o) (pagesOf s) 0 ≤ pagesOf s) (inShape s slice level) (some (stampWrite s slice level r h)) none
+      (λ q. omega arith) (λ q. omega arith)
+
+  pub regenerated-pages : (o : Option WriteHistory) → cond (hasHistory (regenerated s o)) (pagesOf s) 0 ≤ cond (hasHistory o) (pagesOf s) 0
+  regenerated-pages none = omega arith
+  regenerated-pages (some h) = omega arith

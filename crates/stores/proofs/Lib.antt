@@ -1,0 +1,12 @@
+pub mod Budgets
+pub mod Lists
+pub mod States
+pub mod GridsFormed
+pub mod Moves
+pub mod Relief
+pub mod Queues
+pub mod Renames
+pub mod Closure
+pub mod Histories
+pub mod Plans
+pub mod Parking
