@@ -1,6 +1,7 @@
 -- note_write, note_mip_regeneration, records_writes, and the dirty-tile query.
 use Prim.Native.Nat.{ℕ}
-use mathlib.Core.Bool.{Bool, true, false, _&&_}
+use mathlib.Core.Path.{_≡_}
+use mathlib.Core.Bool.{Bool, false, cond, _&&_}
 use mathlib.Core.Option.{Option, none, some}
 use Rattle.shapes.specs.declared.shape.VersionShape.{VersionShape}
 use Rattle.rects.specs.declared.rect.TexelRect.{TexelRect}
@@ -10,7 +11,12 @@ use Rattle.grids.specs.Grids.{tilingOf, IsDirtyTile}
 use Rattle.stores.specs.Model.{WriteHistory, VersionState, Pool, Out, accepted, guard, find, hasHistory}
 use Rattle.stores.specs.Updates.{withHistory, withTextures, change}
 use Rattle.stores.specs.Histories.{inShape, gridAt, written, regenerated, spent}
-use mathlib.Core.Path.{_≡_}
+
+-- the dirty-tile query: some tile stamped above held, none if there is none; and none where texture, history or subresource is absent
+abbrev pub DirtyTileIn : VersionShape → Option WriteHistory → ℕ → ℕ → ℕ → DirtyTile → Type 0
+DirtyTileIn s none slice level held r = r ≡ NoTile
+DirtyTileIn s (some h) slice level held r =
+    cond (inShape s slice level) (IsDirtyTile (tilingOf s level) held (gridAt s h slice level .stamps) r) (r ≡ NoTile)
 
 module _ {W : Type 0} where
   abbrev pub historyIn : Option (VersionState W) → Option WriteHistory
@@ -37,18 +43,9 @@ module _ {W : Type 0} where
   unfoldable pub recordsWrites : Pool W → ℕ → Bool
   recordsWrites p id = hasHistory (historyIn (find id (p .textures)))
 
-  -- some tile stamped above held; none where texture, history or subresource is absent
-  abbrev pub DirtyTileIn : Option (VersionState W) → ℕ → ℕ → ℕ → DirtyTile → Type 0
-  DirtyTileIn none slice level held r = r ≡ NoTile
-  DirtyTileIn (some t) slice level held r = InHistory (t .shape) (t .history)
-    where
-      InHistory : VersionShape → Option WriteHistory → Type 0
-      InHistory s none = r ≡ NoTile
-      InHistory s (some h) = InLevel (inShape s slice level)
-        where
-          InLevel : Bool → Type 0
-          InLevel true = IsDirtyTile (tilingOf s level) held (gridAt s h slice level .stamps) r
-          InLevel false = r ≡ NoTile
+  abbrev pub DirtyTileFound : Option (VersionState W) → ℕ → ℕ → ℕ → DirtyTile → Type 0
+  DirtyTileFound none slice level held r = r ≡ NoTile
+  DirtyTileFound (some t) slice level held r = DirtyTileIn (t .shape) (t .history) slice level held r
 
   unfoldable pub IsDirtyTileOf : Pool W → ℕ → ℕ → ℕ → ℕ → DirtyTile → Type 0
-  IsDirtyTileOf p id slice level held r = DirtyTileIn (find id (p .textures)) slice level held r
+  IsDirtyTileOf p id slice level held r = DirtyTileFound (find id (p .textures)) slice level held r
