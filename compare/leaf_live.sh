@@ -3,8 +3,9 @@
 #
 #   compare/leaf_live.sh PROGRAM [SEED ...]
 #
-# PROGRAM reads questions on standard input and answers each with a line. Without seeds the fixed list and a
-# fixed set of seeds are asked. COUNT in the environment says how many questions a seed has (20000).
+# PROGRAM reads questions on standard input and answers each with a line. Without seeds the fixed list,
+# that of budgets and a fixed set of seeds are asked. COUNT in the environment says how many questions a seed has
+# (20000).
 # Ends with 0 if all answers are equal, or if the Rust's source is not at hand; else with another number.
 set -u
 
@@ -19,9 +20,9 @@ program=$(realpath -e -- "$1" 2>/dev/null) || fail "$1: there is no such program
 shift
 count=${COUNT:-20000}
 seeds=("$@")
-lists=()
+fixed=no
 if [ $# -eq 0 ]; then
-    lists=(fixed)
+    fixed=yes
     seeds=(1 2 3 4 5 6 7 8)
 fi
 
@@ -72,9 +73,10 @@ first_difference() {
     printf '  other:    %s\n' "$(sed -n "${at}p" "$work/other")" >&2
 }
 
-for list in "${lists[@]+"${lists[@]}"}"; do
-    compare_list "$list list"
-done
+if [ "$fixed" = yes ]; then
+    compare_list 'fixed list'
+    compare_list 'list of budgets' budget
+fi
 for seed in "${seeds[@]+"${seeds[@]}"}"; do
     compare_list "seed $seed" seed "$seed" "$count"
 done

@@ -1,5 +1,5 @@
-// Answers questions on the leaf functions of layer 1, a line each, as the program `leaf` of compare/ does over the
-// published Rust; compare/README.md has the questions. Budgets are not answered.
+// Answers questions on the leaf functions of layer 1 and on budgets, a line each, as the program `leaf` of compare/ does
+// over the published Rust; compare/README.md has the questions.
 mod lines;
 mod question;
 

@@ -1,6 +1,7 @@
 // Which question a line asks.
 ghost use Prim.Native.Nat.{_≤_};
 ghost use lib.ListN.{length};
+use leaf_budget::budget_of;
 use leaf_grids::edge_along;
 use leaf_grids::grid_since;
 use leaf_grids::tiles_along;
@@ -10,7 +11,7 @@ use leaf_text::Answer;
 use leaf_text::field_end;
 use leaf_text::is_word;
 
-// Questions on levels and grids, and the others.
+// Questions on levels, grids and budgets, and the others.
 fn field_answer(word: &[u8], fields: &[u8]) -> Answer
     requires { ⌜ length (now fields) ≤ 65536 ⌝ }
 {
@@ -25,6 +26,9 @@ fn field_answer(word: &[u8], fields: &[u8]) -> Answer
     }
     if is_word(word, b"grid") {
         return grid_since(fields);
+    }
+    if is_word(word, b"budget") {
+        return budget_of(fields);
     }
     shape_answer(word, fields)
 }

@@ -8,6 +8,7 @@ use rects::TexelRect;
 pub enum Rest {
     End,
     Number(u64),
+    Pair(u64, u64),
     // Left, top, width and height.
     Box(TexelRect),
     // A dash for no box.
@@ -74,6 +75,14 @@ fn put_field(out: &mut [u8], at: usize, value: u64) -> usize
     put_number(out, next, value)
 }
 
+fn put_pair(out: &mut [u8], at: usize, first: u64, second: u64) -> usize
+    requires { ⌜ at + 42 ≤ length (now out) ⌝ }
+    ensures { λ r. ⌜ r ≤ at + 42 ⌝ }
+{
+    let next = put_field(out, at, first);
+    put_field(out, next, second)
+}
+
 fn put_rect(out: &mut [u8], at: usize, rect: TexelRect) -> usize
     requires { ⌜ at + 84 ≤ length (now out) ⌝ }
     ensures { λ r. ⌜ r ≤ at + 84 ⌝ }
@@ -91,6 +100,7 @@ fn put_rest(out: &mut [u8], at: usize, rest: Rest) -> usize
     match rest {
         Rest::End => at,
         Rest::Number(n) => put_field(out, at, n),
+        Rest::Pair(n, m) => put_pair(out, at, n, m),
         Rest::Box(rect) => put_rect(out, at, rect),
         Rest::NoBox => put_text(out, at, b",-"),
     }
