@@ -28,7 +28,7 @@ use Rattle.books.specs.VersionBook.{Numbers, Retired, Book, liveOf, copi
 use Rattle.books.specs.Carry.{mapRetiring, mapSpare, mapPool}
 use Rattle.books.specs.Lists.{Between, writeCall, regenCall, popCall, parkCall, noteCall, doomedCall, drainCall, trimCall, forgetCall, Call, takeCall, planCall, retireCall, between, Phase, idle, taken, planned}
 use Rattle.books.specs.Lists.{Allowed, State, afterTake, afterPlan, afterRetire, renameIn, justPool, marking, stepBetween, step, Renames, start}
-use Rattle.books.specs.Demand3.{Agrees, Reply, done, copiesPlanned, viewsHanded, answered, spareReply, poppedReply, viewsReply, performBetween, perform, call, viewOf, replied, Here, Throughout, Demand3}
+use Rattle.books.specs.Demand3.{Agrees, Reply, done, copiesPlanned, viewsHanded, answered, spareReply, poppedReply, viewsReply, performBetween, perform, call, viewOf, replied, Throughout, Demand3}
 use Rattle.books.proofs.Inv.{Inv, InvOf, OutOk, ok, just-pool, note-inv, doomed-inv, drain-inv, trim-inv, forget-inv, pop-inv}
 use Rattle.books.proofs.Marks.{Marks, write-inv, regenerate-inv, park-inv}
 use Rattle.books.proofs.Renames.{Takes, take-inv, plan-inv}

@@ -6,29 +6,26 @@ use mathlib.Core.Bool.{Bool, true, false, cond, _&&_}
 use mathlib.Core.Option.{Option, none, some}
 use mathlib.Core.List.{List, [], _∷_}
 use native.Mathlib.Omega.{arith}
-use native.Mathlib.Nat.{add-zero, zero-add, add-suc, suc-add, mul-comm, mul-add-div-right, div-eq-of-lt, mul-add-mod-self-right, mod-eq-of-lt}
-use native.Mathlib.Decide.{ℕ-discrete}
-use lib.ListN.{length, getD, replicate, length-set}
-use lib.Seq.{getD-set-same, getD-set-other}
-use lib.Dec.{ltb, eqb}
+use lib.ListN.{length, getD, replicate}
+use lib.Dec.{ltb}
 use borrow.Author.Tests.{ltb-true, leb-false}
 use Rattle.blocks.specs.Blocks.{largest}
 use Rattle.blocks.proofs.Lists.{either, and-both}
 use Rattle.blocks.proofs.Scans.{largest-bound}
 use Rattle.shapes.specs.declared.shape.VersionShape.{VersionShape}
-use Rattle.shapes.specs.Shapes.{isShape, slicesOf, levelWidth, levelHeight}
+use Rattle.shapes.specs.Shapes.{isShape, slicesOf}
 use Rattle.rects.specs.declared.rect.TexelRect.{TexelRect}
-use Rattle.rects.specs.Rects.{wholeLevel}
 use Rattle.tiles.specs.declared.axis.Axis.{Axis}
 use Rattle.tiles.specs.Axes.{isCut, cutEnd}
 use Rattle.tiles.proofs.Axes.{cut-some}
-use Rattle.grids.specs.Grids.{Tiling, TilingOk, tilingOf, columnsOf, rowsOf, stampCount, stampOf, StampGrid, newGrid, rowByRow, touches, isCutRect, stampedBy}
+use Rattle.grids.specs.Grids.{Tiling, TilingOk, tilingOf, columnsOf, rowsOf, stampCount, stampOf, StampGrid, newGrid, touches, isCutRect, stampedBy}
 use Rattle.grids.proofs.Tilings.{tiling-ok}
-use Rattle.grids.proofs.RowByRow.{tile-at, tile-place, same-tiles, length-rows, value-at}
+use Rattle.grids.proofs.RowByRow.{tile-at, same-tiles}
 use Rattle.grids.proofs.Stamps.{InLevel, InRect, texel-column, texel-row, touches-texel, touches-cut, length-stamped, stamped-tile, new-length}
 use Rattle.stores.specs.Model.{WriteHistory, limit, pagesOf, hasHistory}
-use Rattle.stores.specs.Histories.{inShape, gridAt, newHistory, stampWrite, regenerateFrom, stampRegeneration, written, regenerated, spent}
+use Rattle.stores.specs.Histories.{inShape, gridAt, newHistory, stampWrite, stampRegeneration, written, regenerated, spent}
 use Rattle.stores.specs.Formed.{Given, GridFormed, HistoryFormed}
+use Rattle.stores.proofs.GridPlaces.{new-size, new-grid, write-size, write-each, regenerated-size, regenerate-each}
 
 -- ---- grids
 
@@ -125,113 +122,34 @@ module _ (g : Tiling) (ok : TilingOk g) (r : TexelRect) (w n : ℕ) (lt : w < n)
 pub still-formed : {g : Tiling} {w : ℕ} {grid : StampGrid} → GridFormed g w grid → GridFormed g (suc w) grid
 still-formed f = record { size = f .size; newest = f .newest; below = omega (arith, f .below) }
 
--- ---- places of grids
+-- ---- histories
 
-place-slice : (slice level n : ℕ) → level < n → (slice * n + level) / n ≡ slice
-place-slice slice level n h = mul-add-div-right (omega arith) slice level ∙ ap (λ (q : ℕ). slice + q) (div-eq-of-lt h) ∙ add-zero slice
-
-place-level : (slice level n : ℕ) → level < n → (slice * n + level) % n ≡ level
-place-level slice level n h = mul-add-mod-self-right slice n level ∙ mod-eq-of-lt h
-
-abbrev noGrid : StampGrid
-noGrid = record { newest = 0; stamps = [] }
-
-module _ (s : VersionShape) where
-  new-size : length (newHistory s .grids) ≡ slicesOf s * s .levels
-  unfolding newHistory rowByRow
-  new-size = length-rows (s .levels) (slicesOf s) (λ (level slice : ℕ). newGrid (tilingOf s level)) ∙ mul-comm (s .levels) (slicesOf s)
-
-  new-grid : (slice level : ℕ) → slice < slicesOf s → level < s .levels → gridAt s (newHistory s) slice level ≡ newGrid (tilingOf s level)
-  unfolding newHistory gridAt rowByRow
-  new-grid slice level p q = value-at (s .levels) (slicesOf s) (λ (level slice : ℕ). newGrid (tilingOf s level)) level slice noGrid q p
-
-  pub new-formed : HistoryFormed s (newHistory s)
-  unfolding newHistory
-  new-formed = record {
-    writes = omega arith;
-    size = new-size;
-    grids = λ slice level p q. rw (new-grid slice level p q) (new-grid-formed (tilingOf s level));
-  }
-
--- ---- a grid after a regeneration
-
-regenerated-at : (s : VersionShape) (n k : ℕ) (gs : List StampGrid) (i : ℕ) → i < length gs
-    → getD (regenerateFrom s n k gs) i noGrid
-    ≡ cond (eqb ((k + i) % s .levels) 0) (getD gs i noGrid)
-    (stampedBy (tilingOf s ((k + i) % s .levels)) (wholeLevel (levelWidth s ((k + i) % s .levels)) (levelHeight s ((k + i) % s .levels))) n (getD gs i noGrid))
-unfolding regenerateFrom
-regenerated-at s n k [] i h = absurd (let y : ⊥ = omega arith in y)
-regenerated-at s n k (g ∷ gs) zero h = rw (add-zero k)
-regenerated-at s n k (g ∷ gs) (suc i) h = regenerated-at s n (suc k) gs i (omega arith) ∙ rw (suc-add k i, add-suc k i)
-
-regenerated-length : (s : VersionShape) (n k : ℕ) (gs : List StampGrid) → length (regenerateFrom s n k gs) ≡ length gs
-unfolding regenerateFrom
-regenerated-length s n k [] = refl
-regenerated-length s n k (g ∷ gs) = ap suc (regenerated-length s n (suc k) gs)
+pub new-formed : (s : VersionShape) → HistoryFormed s (newHistory s)
+unfolding newHistory
+new-formed s = record {
+  writes = omega arith;
+  size = new-size s;
+  grids = λ slice level p q. rw (new-grid s slice level p q) (new-grid-formed (tilingOf s level));
+}
 
 module _ (s : VersionShape) (shaped : isShape s ≡ true) (h : WriteHistory) (f : HistoryFormed s h) (free : h .writes < limit) where
-  place-in : (slice level : ℕ) → slice < slicesOf s → level < s .levels → slice * s .levels + level < length (h .grids)
-  place-in slice level p q = omega (arith, f .size, tile-place (s .levels) (slicesOf s) level slice q p, mul-comm (s .levels) (slicesOf s))
-
   module _ (slice level : ℕ) (inSlice : slice < slicesOf s) (inLevel : level < s .levels) (r : TexelRect) where
-    write-same : gridAt s (stampWrite s slice level r h) slice level ≡ stampedBy (tilingOf s level) r (suc (h .writes)) (gridAt s h slice level)
-    unfolding gridAt stampWrite
-    write-same = getD-set-same (h .grids) (slice * s .levels + level) _ noGrid (place-in slice level inSlice inLevel)
-
-    write-other : (c d : ℕ) → d < s .levels → ((c ≡ slice) → (d ≡ level) → ⊥) → gridAt s (stampWrite s slice level r h) c d ≡ gridAt s h c d
-    unfolding gridAt stampWrite
-    write-other c d l ne =
-        getD-set-other (h .grids) (slice * s .levels + level) (c * s .levels + d) _ noGrid
-        (λ e. ne (sym (place-slice c d (s .levels) l) ∙ ap (λ (z : ℕ). z / s .levels) e ∙ place-slice slice level (s .levels) inLevel)
-        (sym (place-level c d (s .levels) l) ∙ ap (λ (z : ℕ). z % s .levels) e ∙ place-level slice level (s .levels) inLevel))
-
-    abbrev wrote : WriteHistory
-    wrote = stampWrite s slice level r h
-
-    write-size : length (wrote .grids) ≡ slicesOf s * s .levels
+    pub write-formed : HistoryFormed s (stampWrite s slice level r h)
     unfolding stampWrite
-    write-size = length-set (h .grids) (slice * s .levels + level) _ ∙ f .size
+    write-formed = record {
+      writes = free;
+      size = write-size s h (f .size) slice level inSlice inLevel r;
+      grids = write-each s h (f .size) slice level inSlice inLevel r (λ b. GridFormed (tilingOf s b) (suc (h .writes))) (λ a b p q. still-formed (f .grids a b p q))
+          (stamped-formed (tilingOf s level) (tiling-ok s shaped level) r (h .writes) (suc (h .writes)) (omega arith) (gridAt s h slice level) (f .grids slice level inSlice inLevel));
+    }
 
-    pub write-formed : HistoryFormed s wrote
-    unfolding stampWrite
-    write-formed = record { writes = free; size = write-size; grids = λ c d p q. each c d p q (ℕ-discrete c slice) (ℕ-discrete d level) }
-      where
-        other : (c d : ℕ) → c < slicesOf s → d < s .levels → ((c ≡ slice) → (d ≡ level) → ⊥) → GridFormed (tilingOf s d) (suc (h .writes)) (gridAt s wrote c d)
-        other c d p q ne = rw (write-other c d q ne) (still-formed (f .grids c d p q))
-
-        each : (c d : ℕ) → c < slicesOf s → d < s .levels → Dec (c ≡ slice) → Dec (d ≡ level) → GridFormed (tilingOf s d) (suc (h .writes)) (gridAt s wrote c d)
-        each c d p q (yes e) (yes z) =
-            rw (e, z, write-same)
-            (stamped-formed (tilingOf s level) (tiling-ok s shaped level) r (h .writes) (suc (h .writes)) (omega arith) (gridAt s h slice level) (f .grids slice level inSlice inLevel))
-        each c d p q (no e) z = other c d p q (λ x y. e x)
-        each c d p q (yes e) (no z) = other c d p q (λ x y. z y)
-
-  abbrev whole : ℕ → TexelRect
-  whole level = wholeLevel (levelWidth s level) (levelHeight s level)
-
-  abbrev remade : WriteHistory
-  remade = stampRegeneration s h
-
-  remade-size : length (remade .grids) ≡ slicesOf s * s .levels
-  unfolding stampRegeneration
-  remade-size = regenerated-length s (suc (h .writes)) 0 (h .grids) ∙ f .size
-
-  remade-grid : (slice level : ℕ) → slice < slicesOf s → level < s .levels
-      → gridAt s remade slice level ≡ cond (eqb level 0) (gridAt s h slice level) (stampedBy (tilingOf s level) (whole level) (suc (h .writes)) (gridAt s h slice level))
-  unfolding gridAt stampRegeneration
-  remade-grid slice level p q =
-      regenerated-at s (suc (h .writes)) 0 (h .grids) (slice * s .levels + level) (place-in slice level p q)
-      ∙ rw (zero-add (slice * s .levels + level), place-level slice level (s .levels) q)
-
-  pub regeneration-formed : HistoryFormed s remade
+  pub regeneration-formed : HistoryFormed s (stampRegeneration s h)
   unfolding stampRegeneration
   regeneration-formed = record {
     writes = free;
-    size = remade-size;
-    grids = λ c d p q. rw (remade-grid c d p q)
-        (either (GridFormed (tilingOf s d) (suc (h .writes))) (eqb d 0) (gridAt s h c d) (stampedBy (tilingOf s d) (whole d) (suc (h .writes)) (gridAt s h c d))
-        (λ e. still-formed (f .grids c d p q))
-        (λ e. stamped-formed (tilingOf s d) (tiling-ok s shaped d) (whole d) (h .writes) (suc (h .writes)) (omega arith) (gridAt s h c d) (f .grids c d p q)));
+    size = regenerated-size s h (f .size);
+    grids = λ a b p q. regenerate-each s h (f .size) (λ b. GridFormed (tilingOf s b) (suc (h .writes))) a b p q (still-formed (f .grids a b p q))
+        (stamped-formed (tilingOf s b) (tiling-ok s shaped b) _ (h .writes) (suc (h .writes)) (omega arith) (gridAt s h a b) (f .grids a b p q));
   }
 
 -- ---- what a call makes of a state's history, and the pages that it keeps

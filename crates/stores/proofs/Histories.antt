@@ -1,27 +1,24 @@
 -- What a write and a regeneration do to the stamp of a texel's tile. The rules of plans rest on these laws.
-use Prim.Native.Nat.{ℕ, zero, suc, _+_, _*_, _/_, _%_, _≤_, _<_}
-use mathlib.Core.Path.{_≡_, refl, sym, _∙_, ap}
+use Prim.Native.Nat.{ℕ, zero, suc, _*_, _/_, _≤_, _<_}
+use mathlib.Core.Path.{_≡_, refl}
 use mathlib.Core.Bool.{Bool, true, false, cond}
-use mathlib.Core.List.{List, [], _∷_}
 use native.Mathlib.Omega.{arith}
-use native.Mathlib.Nat.{add-zero, zero-add, add-suc, suc-add, le-of-suc-le-suc, not-suc-le-zero, mul-add-div-right, div-eq-of-lt, mul-add-mod-self-right, mod-eq-of-lt, mul-comm}
 use native.Mathlib.Decide.{ℕ-discrete}
 use lib.Dec.{eqb}
 use borrow.Author.Tests.{eqb-true}
-use lib.ListN.{length, getD, length-set, length-replicate}
-use lib.Seq.{getD-set-same, getD-set-other}
+use lib.ListN.{length, getD}
 use Rattle.blocks.proofs.Lists.{either}
 use Rattle.shapes.specs.declared.shape.VersionShape.{VersionShape}
 use Rattle.shapes.specs.Shapes.{isShape, slicesOf, levelWidth, levelHeight}
 use Rattle.rects.specs.declared.rect.TexelRect.{TexelRect}
 use Rattle.rects.specs.Rects.{wholeLevel}
 use Rattle.tiles.specs.Axes.{axisOf}
-use Rattle.grids.specs.Grids.{Tiling, TilingOk, StampGrid, tilingOf, columnsOf, stampCount, stampOf, newGrid, rowByRow, touches, isCutRect, stampedBy}
+use Rattle.grids.specs.Grids.{Tiling, TilingOk, StampGrid, tilingOf, stampCount, stampOf, newGrid, touches, isCutRect, stampedBy}
 use Rattle.grids.proofs.Tilings.{tiling-ok}
-use Rattle.grids.proofs.RowByRow.{tile-place, length-rows, value-at}
 use Rattle.grids.proofs.Stamps.{InLevel, InRect, stampAt, touches-cut, length-stamped, stamped-texel, stamp-below, new-length}
 use Rattle.stores.specs.Model.{WriteHistory}
-use Rattle.stores.specs.Histories.{gridAt, gridPlace, newHistory, stampWrite, regenerateFrom, stampRegeneration}
+use Rattle.stores.proofs.GridPlaces.{new-size, new-grid, write-size, written-grid, unwritten-grid, write-each, regenerated-size, regenerated-grid, regenerate-each}
+use Rattle.stores.specs.Histories.{gridAt, newHistory, stampWrite, stampRegeneration}
 
 -- the stamp of the tile that a texel lies in
 unfoldable pub stampIn : VersionShape → WriteHistory → ℕ → ℕ → ℕ → ℕ → ℕ
@@ -68,65 +65,22 @@ new-grid-ok g = record { size = new-length g; below = λ x y i. zeros (stampCoun
     zeros (suc n) zero = omega arith
     zeros (suc n) (suc i) = zeros n i
 
--- ---- places: slice by slice, level by level
-
-place-slice : (slice level n : ℕ) → level < n → (slice * n + level) / n ≡ slice
-place-slice slice level n h = mul-add-div-right (omega arith) slice level ∙ ap (λ (q : ℕ). slice + q) (div-eq-of-lt h) ∙ add-zero slice
-
-place-level : (slice level n : ℕ) → level < n → (slice * n + level) % n ≡ level
-place-level slice level n h = mul-add-mod-self-right slice n level ∙ mod-eq-of-lt h
-
--- the grid at a place after a regeneration
-regenerated-at : (s : VersionShape) (n k : ℕ) (gs : List StampGrid) (i : ℕ) → i < length gs
-    → getD (regenerateFrom s n k gs) i (record { newest = 0; stamps = [] })
-    ≡ cond (eqb ((k + i) % s .levels) 0) (getD gs i (record { newest = 0; stamps = [] }))
-    (stampedBy (tilingOf s ((k + i) % s .levels)) (wholeLevel (levelWidth s ((k + i) % s .levels)) (levelHeight s ((k + i) % s .levels))) n
-    (getD gs i (record { newest = 0; stamps = [] })))
-unfolding regenerateFrom
-regenerated-at s n k [] i h = absurd (not-suc-le-zero h)
-regenerated-at s n k (g ∷ gs) zero h = rw (add-zero k)
-regenerated-at s n k (g ∷ gs) (suc i) h = regenerated-at s n (suc k) gs i (le-of-suc-le-suc h) ∙ rw (suc-add k i, add-suc k i)
-
-length-regenerated : (s : VersionShape) (n k : ℕ) (gs : List StampGrid) → length (regenerateFrom s n k gs) ≡ length gs
-unfolding regenerateFrom
-length-regenerated s n k [] = refl
-length-regenerated s n k (g ∷ gs) = ap suc (length-regenerated s n (suc k) gs)
+-- a grid whose texture's count was raised by a write elsewhere
+still : {g : Tiling} {w : ℕ} {grid : StampGrid} → GridOk g w grid → GridOk g (suc w) grid
+still k = record { size = k .size; below = k .below; newest = omega (arith, k .newest) }
 
 module _ (s : VersionShape) (h : WriteHistory) (ok : HistoryOk s h) where
-  place-in : (slice level : ℕ) → slice < slicesOf s → level < s .levels → gridPlace s slice level < length (h .grids)
-  place-in slice level p q = rw (ok .size) (omega (arith, tile-place (s .levels) (slicesOf s) level slice q p, mul-comm (s .levels) (slicesOf s)))
-
   -- ---- a write
 
   module _ (slice level : ℕ) (p : slice < slicesOf s) (q : level < s .levels) (r : TexelRect) where
-    written-grid : gridAt s (stampWrite s slice level r h) slice level ≡ stampedBy (tilingOf s level) r (suc (h .writes)) (gridAt s h slice level)
-    unfolding gridAt stampWrite
-    written-grid = getD-set-same (h .grids) (gridPlace s slice level) _ _ (place-in slice level p q)
-
-    unwritten-grid : (a b : ℕ) → b < s .levels → (a ≡ slice → b ≡ level → ⊥) → gridAt s (stampWrite s slice level r h) a b ≡ gridAt s h a b
-    unfolding gridAt stampWrite
-    unwritten-grid a b l ne =
-        getD-set-other (h .grids) (gridPlace s slice level) (gridPlace s a b) _ _
-        (λ e. ne (sym (place-slice a b (s .levels) l) ∙ ap (λ (z : ℕ). z / s .levels) e ∙ place-slice slice level (s .levels) q)
-        (sym (place-level a b (s .levels) l) ∙ ap (λ (z : ℕ). z % s .levels) e ∙ place-level slice level (s .levels) q))
-
     pub write-ok : HistoryOk s (stampWrite s slice level r h)
     unfolding stampWrite
     write-ok = record {
       shape = ok .shape;
-      size = length-set (h .grids) (gridPlace s slice level) _ ∙ ok .size;
-      grids = λ a b c d. each a b c d (ℕ-discrete a slice) (ℕ-discrete b level);
+      size = write-size s h (ok .size) slice level p q r;
+      grids = write-each s h (ok .size) slice level p q r (λ b. GridOk (tilingOf s b) (suc (h .writes))) (λ a b c d. still (ok .grids a b c d))
+          (stamped-ok (tilingOf s level) (tiling-ok s (ok .shape) level) r (h .writes) (suc (h .writes)) (gridAt s h slice level) (omega arith) (ok .grids slice level p q));
     }
-      where
-        other : (a b : ℕ) → a < slicesOf s → b < s .levels → (a ≡ slice → b ≡ level → ⊥) → GridOk (tilingOf s b) (suc (h .writes)) (gridAt s (stampWrite s slice level r h) a b)
-        other a b c d ne = let k = ok .grids a b c d in rw (unwritten-grid a b d ne) (record { size = k .size; below = k .below; newest = omega (arith, k .newest) })
-
-        each : (a b : ℕ) → a < slicesOf s → b < s .levels → Dec (a ≡ slice) → Dec (b ≡ level) → GridOk (tilingOf s b) (suc (h .writes)) (gridAt s (stampWrite s slice level r h) a b)
-        each a b c d (yes e) (yes f) =
-            rw (e, f, written-grid)
-            (stamped-ok (tilingOf s level) (tiling-ok s (ok .shape) level) r (h .writes) (suc (h .writes)) (gridAt s h slice level) (omega arith) (ok .grids slice level p q))
-        each a b c d (no e) x = other a b c d (λ y z. e y)
-        each a b c d (yes e) (no f) = other a b c d (λ y z. f z)
 
     -- a texel whose tile is not stamped above held was not written, and its tile was not above held before
     pub write-below : (a b x y held : ℕ) → b < s .levels → x < levelWidth s b → y < levelHeight s b → held ≤ h .writes → stampIn s (stampWrite s slice level r h) a b x y ≤ held
@@ -135,44 +89,33 @@ module _ (s : VersionShape) (h : WriteHistory) (ok : HistoryOk s h) where
     write-below a b x y held l i j m le = go (ℕ-discrete a slice) (ℕ-discrete b level)
       where
         other : (a ≡ slice → b ≡ level → ⊥) → (stampIn s h a b x y ≤ held) × (a ≡ slice → b ≡ level → InRect r x y → ⊥)
-        other ne = (rw (unwritten-grid a b l ne) at le, λ e f k. ne e f)
+        other ne = (rw (unwritten-grid s h (ok .size) slice level p q r a b l ne) at le, λ e f k. ne e f)
 
         go : Dec (a ≡ slice) → Dec (b ≡ level) → (stampIn s h a b x y ≤ held) × (a ≡ slice → b ≡ level → InRect r x y → ⊥)
         go (no e) d = other (λ y z. e y)
         go (yes e) (no f) = other (λ y z. f z)
         go (yes e) (yes f) =
-            let st : stampAt (tilingOf s level) (stampedBy (tilingOf s level) r (suc (h .writes)) (gridAt s h slice level) .stamps) x y ≤ held = rw (e, f, written-grid) at le in
+            let st : stampAt (tilingOf s level) (stampedBy (tilingOf s level) r (suc (h .writes)) (gridAt s h slice level) .stamps) x y ≤ held = rw (e, f, written-grid s h (ok .size) slice level p q r) at le in
             let within : InLevel (tilingOf s level) x y = rw f at (in-level s b x y i j) in
             let sb = stamp-below (tilingOf s level) (tiling-ok s (ok .shape) level) r (suc (h .writes)) (gridAt s h slice level) x y held within (omega arith) st in
             (rw (e, f) (sb .0), λ e′ f′ k. sb .1 k)
 
   -- ---- a regeneration
 
-  regenerated-grid : (slice level : ℕ) → slice < slicesOf s → level < s .levels
-      → gridAt s (stampRegeneration s h) slice level
-      ≡ cond (eqb level 0) (gridAt s h slice level) (stampedBy (tilingOf s level) (wholeLevel (levelWidth s level) (levelHeight s level)) (suc (h .writes)) (gridAt s h slice level))
-  unfolding gridAt stampRegeneration
-  regenerated-grid slice level p q =
-      regenerated-at s (suc (h .writes)) 0 (h .grids) (gridPlace s slice level) (place-in slice level p q)
-      ∙ rw (zero-add (gridPlace s slice level), place-level slice level (s .levels) q)
-
   pub regenerate-ok : HistoryOk s (stampRegeneration s h)
   unfolding stampRegeneration
-  regenerate-ok = record { shape = ok .shape; size = length-regenerated s (suc (h .writes)) 0 (h .grids) ∙ ok .size; grids = each }
-    where
-      each : (a b : ℕ) → a < slicesOf s → b < s .levels → GridOk (tilingOf s b) (suc (h .writes)) (gridAt s (stampRegeneration s h) a b)
-      each a b p q =
-          let k = ok .grids a b p q in
-          rw (regenerated-grid a b p q)
-          (either (GridOk (tilingOf s b) (suc (h .writes))) (eqb b 0) _ _
-          (λ e. record { size = k .size; below = k .below; newest = omega (arith, k .newest) })
-          (λ e. stamped-ok (tilingOf s b) (tiling-ok s (ok .shape) b) _ (h .writes) (suc (h .writes)) (gridAt s h a b) (omega arith) k))
+  regenerate-ok = record {
+    shape = ok .shape;
+    size = regenerated-size s h (ok .size);
+    grids = λ a b p q. regenerate-each s h (ok .size) (λ b. GridOk (tilingOf s b) (suc (h .writes))) a b p q (still (ok .grids a b p q))
+        (stamped-ok (tilingOf s b) (tiling-ok s (ok .shape) b) _ (h .writes) (suc (h .writes)) (gridAt s h a b) (omega arith) (ok .grids a b p q));
+  }
 
   -- a texel whose tile is not stamped above held lies in level 0, and its tile was not above held before
   pub regenerate-below : (a b x y held : ℕ) → a < slicesOf s → b < s .levels → x < levelWidth s b → y < levelHeight s b → held ≤ h .writes
       → stampIn s (stampRegeneration s h) a b x y ≤ held → (stampIn s h a b x y ≤ held) × (b ≡ 0)
   unfolding stampIn wholeLevel
-  regenerate-below a b x y held p q i j m le = go (eqb b 0) refl (rw (regenerated-grid a b p q) at le)
+  regenerate-below a b x y held p q i j m le = go (eqb b 0) refl (rw (regenerated-grid s h (ok .size) a b p q) at le)
     where
       go : (c : Bool) → eqb b 0 ≡ c
           → stampAt (tilingOf s b) (cond (eqb b 0) (gridAt s h a b) (stampedBy (tilingOf s b) (wholeLevel (levelWidth s b) (levelHeight s b)) (suc (h .writes)) (gridAt s h a b)) .stamps) x y ≤ held
@@ -186,12 +129,5 @@ module _ (s : VersionShape) (h : WriteHistory) (ok : HistoryOk s h) where
 -- ---- a new history
 
 pub new-ok : (s : VersionShape) → isShape s ≡ true → HistoryOk s (newHistory s)
-unfolding newHistory gridAt rowByRow
-new-ok s shaped = record {
-  shape = shaped;
-  size = length-rows (s .levels) (slicesOf s) grid ∙ mul-comm (s .levels) (slicesOf s);
-  grids = λ a b p q. rw (value-at (s .levels) (slicesOf s) grid b a (record { newest = 0; stamps = [] }) q p) (new-grid-ok (tilingOf s b));
-}
-  where
-    grid : ℕ → ℕ → StampGrid
-    grid level slice = newGrid (tilingOf s level)
+unfolding newHistory
+new-ok s shaped = record { shape = shaped; size = new-size s; grids = λ a b p q. rw (new-grid s a b p q) (new-grid-ok (tilingOf s b)) }

@@ -1,6 +1,7 @@
 pub mod Budgets
 pub mod Lists
 pub mod States
+pub mod GridPlaces
 pub mod GridsFormed
 pub mod Moves
 pub mod Relief

@@ -1,9 +1,9 @@
 -- What a plan copies: every texel whose tile is stamped above the held writes, unless its level is covered; all where nothing is known.
 use Prim.Native.Nat.{ℕ, zero, suc, _+_, _≤_, _<_}
-use mathlib.Core.Path.{_≡_, refl, sym, _∙_, ap}
-use mathlib.Core.Bool.{Bool, true, false, cond, _&&_}
+use mathlib.Core.Path.{_≡_, refl, sym}
+use mathlib.Core.Bool.{true, false, cond, _&&_}
 use mathlib.Core.Option.{Option, none, some}
-use mathlib.Core.List.{List, [], _∷_, flatMap}
+use mathlib.Core.List.{List, [], flatMap}
 use native.Mathlib.Omega.{arith}
 use native.Mathlib.Nat.{add-zero, zero-add, add-suc, suc-add, le-of-suc-le-suc, not-suc-le-zero}
 use native.Mathlib.Decide.{decLe}
@@ -15,7 +15,6 @@ use Rattle.blocks.proofs.Lists.{either, and-both}
 use Rattle.blocks.proofs.All.{all-head, all-both, all-left, all-right, all-mono}
 use Rattle.shapes.specs.declared.shape.VersionShape.{VersionShape}
 use Rattle.shapes.specs.Shapes.{slicesOf, levelWidth, levelHeight}
-use Rattle.rects.specs.declared.rect.TexelRect.{TexelRect}
 use Rattle.rects.specs.declared.rect.Region.{Region}
 use Rattle.rects.specs.declared.rect.Region.the-variants.{Whole, Part}
 use Rattle.rects.specs.Rects.{wholeLevel}
@@ -23,7 +22,7 @@ use Rattle.grids.specs.declared.since.Dirty.{Dirty}
 use Rattle.grids.specs.declared.since.Dirty.the-variants.{Box, Clean}
 use Rattle.grids.specs.Grids.{tilingOf, boxSince}
 use Rattle.grids.proofs.Tilings.{tiling-ok}
-use Rattle.grids.proofs.Stamps.{InRect, stampAt}
+use Rattle.grids.proofs.Stamps.{InRect}
 use Rattle.grids.proofs.Boxes.{InDirty, box-since}
 use Rattle.stores.specs.declared.held.Held.{Held}
 use Rattle.stores.specs.declared.held.Held.the-variants.{Known, Unknown}
