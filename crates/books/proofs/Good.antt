@@ -1,7 +1,7 @@
 -- A version's numbers against the plain book: what a write, a regeneration and a plan do to them.
 use Prim.Native.Nat.{ℕ, suc, _+_, _≤_, _<_}
-use mathlib.Core.Path.{_≡_, refl, sym, _∙_, ap, subst}
-use mathlib.Core.Bool.{Bool, true, false, cond, not, _&&_}
+use mathlib.Core.Path.{_≡_, refl, sym, ap, subst}
+use mathlib.Core.Bool.{Bool, true, false, not, _&&_}
 use mathlib.Core.Option.{Option, none, some}
 use mathlib.Core.List.{List, [], _∷_}
 use native.Mathlib.Omega.{arith}
@@ -24,7 +24,7 @@ use Rattle.stores.specs.Histories.{inShape, stampWrite, stampRegeneration}
 use Rattle.stores.specs.PreservePlan.{covers, copies}
 use Rattle.stores.proofs.Histories.{HistoryOk, stampIn, write-below, regenerate-below}
 use Rattle.stores.proofs.Plans.{InRegion, InCopy, Uncopied, missed-uncopied, covers-named, none-covered}
-use Rattle.books.specs.Texels.{Texel, Inside, isOf, inRect, inWrite, inRegeneration, isWhole}
+use Rattle.books.specs.Texels.{Texel, Inside, isOf, inRect, inWrite, isWhole}
 use Rattle.books.specs.VersionBook.{Numbers, Book, writesWhole, bookWrite, bookRegeneration, inRegion, inCopy, copied, notCopied, skipped}
 use Rattle.books.proofs.Laws.{and-left, and-right, and-true, clash, given-mono}
 

@@ -1,5 +1,5 @@
 -- The invariant under writes, regenerations and parking.
-use Prim.Native.Nat.{ℕ, suc, _+_, _≤_, _<_}
+use Prim.Native.Nat.{ℕ, _≤_, _<_}
 use mathlib.Core.Path.{_≡_, refl, sym, _∙_, ap, subst}
 use mathlib.Core.Bool.{Bool, true, false, cond, not, _&&_}
 use mathlib.Core.Option.{Option, none, some}
@@ -14,7 +14,7 @@ use Rattle.shapes.specs.declared.shape.VersionShape.{VersionShape}
 use Rattle.shapes.specs.Shapes.{slicesOf}
 use Rattle.rects.specs.declared.rect.TexelRect.{TexelRect}
 use Rattle.stores.specs.declared.held.Held.the-variants.{Known}
-use Rattle.stores.specs.Model.{WriteHistory, Spare, Retiring, Doomed, VersionState, Pool, Out, find}
+use Rattle.stores.specs.Model.{WriteHistory, Spare, Retiring, VersionState, Pool, Out, find}
 use Rattle.stores.specs.Formed.{Given}
 use Rattle.stores.specs.Updates.{withHistory, withSpares, withTextures, withRetiring, withParked, change}
 use Rattle.stores.specs.Histories.{inShape, stampWrite, written, regenerated}
@@ -22,7 +22,7 @@ use Rattle.stores.specs.NoteWrite.{noteWrite, noteMipRegeneration}
 use Rattle.stores.specs.Park.{park, asSpare, parkFound, parkHand}
 use Rattle.stores.proofs.Lists.{all-pairs}
 use Rattle.stores.proofs.States.{ascending-change, find-only}
-use Rattle.stores.proofs.Histories.{HistoryOk, write-ok, regenerate-ok}
+use Rattle.stores.proofs.Histories.{write-ok, regenerate-ok}
 use Rattle.stores.proofs.Parking.{park-cases}
 use Rattle.books.specs.Texels.{Texel, Inside, inWrite, inRegeneration}
 use Rattle.books.specs.VersionBook.{Retired, Book, Books, put, changeBook, writesWhole, bookWrite, bookRegeneration, lostVersion, lostHand}
@@ -209,9 +209,6 @@ module _ (p : Pool Retired) (books : Books) (i : Inv p books idle) (failed now :
 
     v-ok : WaitOk (p .trackings) v
     v-ok = of-hand (WaitOk (p .trackings)) (i .waits)
-
-    abbrev asParked : Spare Retired
-    asParked = asSpare failed now (lostVersion failed v)
 
     park-here : (bytes : ℕ)
         → Inv (withParked bytes (withTextures (change (v .id) (λ (u : VersionState Retired). withSpares (u .spares ++ (asSpare failed now (lostVersion failed v) ∷ [])) u) (p .textures))

@@ -1,18 +1,17 @@
 -- Every call only carries views: on a pool with other views it answers alike and leaves the pool with those views.
-use Prim.Native.Nat.{ℕ, suc, _+_, _-_, _%_, min, max}
-use mathlib.Core.Path.{_≡_, refl, sym, _∙_, ap, ap₂}
-use mathlib.Core.Bool.{Bool, true, false, cond, not, _&&_, _||_}
+use Prim.Native.Nat.{ℕ, suc, _+_, _-_}
+use mathlib.Core.Path.{_≡_, refl, sym, _∙_, ap}
+use mathlib.Core.Bool.{Bool, true, false, cond, _&&_, _||_}
 use mathlib.Core.Option.{Option, none, some, Option·map}
-use mathlib.Core.List.{List, [], _∷_, _++_, map, flatMap}
-use lib.ListN.{length, take, drop, length-map, replicate}
+use mathlib.Core.List.{List, [], _∷_, _++_, map}
+use lib.ListN.{length, length-map}
 use lib.Dec.{leb, ltb, eqb}
-use Rattle.blocks.specs.Lists.{ceilDiv, keep, total}
 use Rattle.shapes.specs.declared.shape.VersionShape.{VersionShape}
 use Rattle.shapes.specs.Shapes.{sameShape, bytesOf}
 use Rattle.rects.specs.declared.rect.TexelRect.{TexelRect}
 use Rattle.stores.specs.declared.held.Held.{Held}
 use Rattle.stores.specs.Model.{WriteHistory, Spare, Retiring, Doomed, VersionState, Pool, Out, refused, accepted, guard, find, handCount, versionsUsed, pagesOf, pagesUsed, doomedBytes, PreserveCopy, UploadFootprint}
-use Rattle.stores.specs.Updates.{withHistory, withSpares, withBirth, withRename, withTextures, withRetiring, withTrackings, withParked, withDoomed, withPacing, change, insert, doom, asDoomed, doomSpares}
+use Rattle.stores.specs.Updates.{withHistory, withSpares, withBirth, withRename, withTextures, withRetiring, withTrackings, withParked, withDoomed, change, insert, doom, asDoomed, doomSpares}
 use Rattle.stores.specs.Histories.{written, regenerated, spent}
 use Rattle.stores.specs.TakeSpare.{newState, historyFull, newest, others, takenBytes, takeNew, takeRenewed, takeTracked, takeFound, takeSpare}
 use Rattle.stores.specs.PreservePlan.{planWith, planFound, preservePlan}

@@ -1,10 +1,10 @@
 -- The same of the calls that hand versions out or queue them for destruction.
 use Prim.Native.Nat.{ℕ, suc, _+_, _-_, _%_, min, max}
 use mathlib.Core.Path.{_≡_, refl, _∙_, ap, ap₂, sym}
-use mathlib.Core.Bool.{Bool, true, false, cond, not, _&&_}
+use mathlib.Core.Bool.{cond, not, _&&_}
 use mathlib.Core.List.{List, [], _∷_, _++_, map, flatMap}
 use lib.ListN.{length, take, drop, length-map, replicate}
-use lib.Dec.{leb, ltb, eqb}
+use lib.Dec.{ltb, eqb}
 use Rattle.blocks.specs.Lists.{ceilDiv, keep, total}
 use Rattle.shapes.specs.Shapes.{bytesOf}
 use Rattle.stores.specs.Model.{Spare, Retiring, Doomed, VersionState, Pool, doomedBytes}

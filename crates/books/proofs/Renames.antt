@@ -30,7 +30,7 @@ use Rattle.books.specs.Lists.{idle, taken, planned}
 use Rattle.books.specs.Demand3.{Agrees}
 use Rattle.books.proofs.Laws.{given-mono, all-newest, all-others, all-changed, found-id}
 use Rattle.books.proofs.Good.{Good, rename-good, uncovered}
-use Rattle.books.proofs.Inv.{waiting, GoodSpare, StateOk, TakenOk, Inv, OutOk, nay, ok, guarded, guarded-by, fewer-spares}
+use Rattle.books.proofs.Inv.{waiting, GoodSpare, StateOk, TakenOk, Inv, OutOk, ok, guarded, guarded-by, fewer-spares}
 use Rattle.books.proofs.Marks.{put-same, put-other}
 
 passed-not : (b : Bool) → not b ≡ false → b ≡ true

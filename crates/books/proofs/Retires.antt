@@ -3,7 +3,7 @@ use Prim.Native.Nat.{ℕ}
 use mathlib.Core.Path.{_≡_, refl, sym, _∙_, ap, subst}
 use mathlib.Core.Bool.{Bool, true, false, _||_, true≢false}
 use mathlib.Core.Option.{Option, none, some}
-use mathlib.Core.List.{List, [], _∷_, _++_}
+use mathlib.Core.List.{[], _∷_, _++_}
 use native.Mathlib.Omega.{arith}
 use Rattle.blocks.specs.All.{All, nil, cons}
 use Rattle.blocks.proofs.All.{all-mono, all-left, all-right, all-both}
@@ -15,13 +15,13 @@ use Rattle.stores.specs.Formed.{Given}
 use Rattle.stores.specs.Updates.{withBirth, withTextures, withRetiring, change}
 use Rattle.stores.specs.Retire.{retire, retired}
 use Rattle.stores.proofs.States.{find-all, find-none, find-only}
-use Rattle.books.specs.Texels.{Texel, Inside}
+use Rattle.books.specs.Texels.{Inside}
 use Rattle.books.specs.VersionBook.{Numbers, Retired, Book, Books, put, changeBook, renamed, carriedBy}
 use Rattle.books.specs.Lists.{idle, planned, renameIn}
 use Rattle.books.specs.Demand3.{Agrees}
 use Rattle.books.proofs.Laws.{given-mono, exists-mono, found-id}
 use Rattle.books.proofs.Good.{Good}
-use Rattle.books.proofs.Inv.{handed, waiting, GoodWaiting, VersionsOk, StateOk, WaitOk, Inv, OutOk, nay, ok, guarded}
+use Rattle.books.proofs.Inv.{handed, waiting, GoodWaiting, VersionsOk, StateOk, WaitOk, Inv, OutOk, ok, guarded}
 use Rattle.books.proofs.Marks.{rebook, change-some}
 use Rattle.books.proofs.Renames.{agree-live}
 
@@ -30,9 +30,6 @@ or-false true c e = absurd (true≢false e)
 or-false false c e = (refl, e)
 
 module _ (p : Pool Retired) (books : Books) (id : ℕ) (u : ℕ → ℕ → Bool) (new : Numbers) (i : Inv p books (planned id u new)) (view seq : ℕ) (b : Book) (eb : books id ≡ some b) where
-  abbrev after : Book
-  after = renamed seq u new b
-
   agreed : Agrees (some b)
   agreed = subst (λ (o : Option Book). Agrees o) eb (i .agrees id)
 

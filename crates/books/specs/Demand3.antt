@@ -20,7 +20,7 @@ use Rattle.stores.specs.Trim.{trim}
 use Rattle.stores.specs.ForgetTexture.{forgetTexture}
 use Rattle.stores.specs.Open.{opened}
 use Rattle.books.specs.Texels.{Texel, Inside}
-use Rattle.books.specs.VersionBook.{Retired, Book, Books, carriedBy}
+use Rattle.books.specs.VersionBook.{Retired, Book, carriedBy}
 use Rattle.books.specs.Carry.{mapPool}
 use Rattle.books.specs.Lists.{Between, writeCall, regenCall, popCall, parkCall, noteCall, doomedCall, drainCall, trimCall, forgetCall, Call, takeCall, planCall, retireCall, between, State, readyBetween, step, Renames, start}
 

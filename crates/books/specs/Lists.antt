@@ -2,7 +2,7 @@
 use Prim.Native.Nat.{ℕ, suc}
 use mathlib.Core.Path.{_≡_}
 use mathlib.Core.Bool.{Bool}
-use mathlib.Core.Option.{Option, none, some}
+use mathlib.Core.Option.{Option, none}
 use mathlib.Core.List.{List, [], _∷_}
 use Rattle.shapes.specs.declared.shape.VersionShape.{VersionShape}
 use Rattle.rects.specs.declared.rect.TexelRect.{TexelRect}
@@ -21,7 +21,7 @@ use Rattle.stores.specs.DrainVersions.{drainVersions}
 use Rattle.stores.specs.Trim.{trim}
 use Rattle.stores.specs.ForgetTexture.{forgetTexture}
 use Rattle.stores.specs.Open.{opened}
-use Rattle.books.specs.VersionBook.{Numbers, Retired, Book, Books, put, changeBook, startBook, bookWrite, bookRegeneration, heldOf, numbersOf, liveOf, copied, skipped, renamed, carriedBy, lostHand}
+use Rattle.books.specs.VersionBook.{Numbers, Retired, Book, Books, changeBook, startBook, bookWrite, bookRegeneration, heldOf, numbersOf, liveOf, copied, skipped, renamed, carriedBy, lostHand}
 
 -- ---- calls, named as in the event lines, each with its arguments; a last number is the room of the answer's buffer
 

@@ -1,19 +1,17 @@
 -- 01's sample of the event program as a list of calls, with its answers; and 01's starred edges ("Edges").
-use Prim.Native.Nat.{ℕ, _+_, _-_, _^_}
+use Prim.Native.Nat.{ℕ, _-_, _^_}
 use mathlib.Core.Path.{_≡_}
 use mathlib.Core.Bool.{true, false}
-use mathlib.Core.Option.{Option, none, some}
+use mathlib.Core.Option.{none, some}
 use mathlib.Core.List.{List, [], _∷_, map, flatMap}
 use lib.ListN.{length, replicate}
 use Rattle.shapes.specs.declared.shape.VersionShape.{VersionShape}
 use Rattle.shapes.specs.Shapes.{bytesOf}
 use Rattle.rects.specs.declared.rect.Region.the-variants.{Whole, Part}
 use Rattle.tiles.specs.Axes.{tileEdge}
-use Rattle.stores.specs.declared.held.Held.{Held}
 use Rattle.stores.specs.declared.held.Held.the-variants.{Known, Unknown}
-use Rattle.stores.specs.declared.budget.VersionBudget.{VersionBudget}
 use Rattle.stores.specs.Budget.{budgetOf}
-use Rattle.stores.specs.Model.{Spare, Retiring, Doomed, VersionState, Places, Pool, Out, refused, accepted, UploadFootprint}
+use Rattle.stores.specs.Model.{Spare, Retiring, VersionState, Places, Pool, Out, refused, accepted, UploadFootprint}
 use Rattle.stores.specs.Updates.{withDoomed, withTextures}
 use Rattle.stores.specs.Park.{asSpare}
 use Rattle.stores.specs.Trim.{trim}

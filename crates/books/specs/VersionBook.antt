@@ -7,7 +7,7 @@ use Prim.Native.Nat.{ℕ}
 use mathlib.Core.Bool.{Bool, true, false, cond, not, _&&_, _||_}
 use mathlib.Core.Option.{Option, none, some}
 use mathlib.Core.List.{List, [], _∷_}
-use lib.Dec.{ltb, leb, eqb}
+use lib.Dec.{leb, eqb}
 use Rattle.shapes.specs.declared.shape.VersionShape.{VersionShape}
 use Rattle.shapes.specs.Shapes.{sameShape}
 use Rattle.rects.specs.declared.rect.TexelRect.{TexelRect}
@@ -142,7 +142,7 @@ renamed seq skip new b = record {
 abbrev pub carriedBy : Books → ℕ → ℕ → Retired
 carriedBy books id view = record { view = view; numbers = liveOf (books id); before = beforeOf (books id) }
 
--- ---- parking
+-- ---- parking: a retired version waits in the queue, is popped into the hand (where one version at most stands) and is parked from there
 
 -- "A parked version becomes all unknown if `failed` is not 0 and at least the submission of its texture's retirement before its own"
 abbrev pub lost : ℕ → Retired → Retired

@@ -8,7 +8,7 @@ use native.Mathlib.Nat.{add-zero, zero-add, add-suc, suc-add, le-of-suc-le-suc, 
 use native.Mathlib.Decide.{ℕ-discrete}
 use lib.Dec.{eqb}
 use borrow.Author.Tests.{eqb-true}
-use lib.ListN.{length, getD, length-set, length-replicate}
+use lib.ListN.{length, getD, replicate, length-set}
 use lib.Seq.{getD-set-same, getD-set-other}
 use Rattle.blocks.proofs.Lists.{either}
 use Rattle.shapes.specs.declared.shape.VersionShape.{VersionShape}
@@ -16,7 +16,7 @@ use Rattle.shapes.specs.Shapes.{isShape, slicesOf, levelWidth, levelHeight}
 use Rattle.rects.specs.declared.rect.TexelRect.{TexelRect}
 use Rattle.rects.specs.Rects.{wholeLevel}
 use Rattle.tiles.specs.Axes.{axisOf}
-use Rattle.grids.specs.Grids.{Tiling, TilingOk, StampGrid, tilingOf, columnsOf, stampCount, stampOf, newGrid, rowByRow, touches, isCutRect, stampedBy}
+use Rattle.grids.specs.Grids.{Tiling, TilingOk, StampGrid, tilingOf, stampCount, stampOf, newGrid, rowByRow, touches, isCutRect, stampedBy}
 use Rattle.grids.proofs.Tilings.{tiling-ok}
 use Rattle.grids.proofs.RowByRow.{tile-place, length-rows, value-at}
 use Rattle.grids.proofs.Stamps.{InLevel, InRect, stampAt, touches-cut, length-stamped, stamped-texel, stamp-below, new-length}
@@ -63,7 +63,7 @@ pub new-grid-ok : (g : Tiling) → GridOk g 0 (newGrid g)
 unfolding newGrid stampAt stampOf
 new-grid-ok g = record { size = new-length g; below = λ x y i. zeros (stampCount g) _; newest = omega arith }
   where
-    zeros : (n i : ℕ) → getD (lib.ListN.replicate n 0) i 0 ≤ 0
+    zeros : (n i : ℕ) → getD (replicate n 0) i 0 ≤ 0
     zeros zero i = omega arith
     zeros (suc n) zero = omega arith
     zeros (suc n) (suc i) = zeros n i

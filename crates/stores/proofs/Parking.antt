@@ -9,9 +9,8 @@ use lib.Dec.{eqb, ltb}
 use borrow.Author.Tests.{eqb-true, ne-eqb, le-leb, lt-leb}
 use Rattle.blocks.proofs.Lists.{either}
 use Rattle.shapes.specs.Shapes.{bytesOf}
-use Rattle.stores.specs.declared.held.Held.{Held}
 use Rattle.stores.specs.declared.held.Held.the-variants.{Known, Unknown}
-use Rattle.stores.specs.Model.{WriteHistory, Spare, Retiring, Doomed, VersionState, Pool, writesOf}
+use Rattle.stores.specs.Model.{WriteHistory, Retiring, Doomed, VersionState, Pool, writesOf}
 use Rattle.stores.specs.Updates.{withSpares, withTextures, withParked, change, doom}
 use Rattle.stores.specs.Retire.{retired}
 use Rattle.stores.specs.Park.{asSpare, parkTracked, parkFound}

@@ -1,21 +1,20 @@
 -- What a plan copies: every texel whose tile is stamped above the held writes, unless its level is covered; all where nothing is known.
 use Prim.Native.Nat.{ℕ, zero, suc, _+_, _≤_, _<_}
-use mathlib.Core.Path.{_≡_, refl, sym, _∙_, ap}
-use mathlib.Core.Bool.{Bool, true, false, cond, _&&_}
+use mathlib.Core.Path.{_≡_, refl, sym}
+use mathlib.Core.Bool.{true, false, cond, _&&_}
 use mathlib.Core.Option.{Option, none, some}
-use mathlib.Core.List.{List, [], _∷_, flatMap}
+use mathlib.Core.List.{List, [], flatMap}
 use native.Mathlib.Omega.{arith}
 use native.Mathlib.Nat.{add-zero, zero-add, add-suc, suc-add, le-of-suc-le-suc, not-suc-le-zero}
 use native.Mathlib.Decide.{decLe}
 use lib.Dec.{eqb}
-use borrow.Author.Tests.{eqb-true}
+use borrow.Author.Tests.{eqb-true, le-leb}
 use Rattle.blocks.specs.Lists.{listed}
 use Rattle.blocks.specs.All.{All, nil, cons}
 use Rattle.blocks.proofs.Lists.{either, and-both}
 use Rattle.blocks.proofs.All.{all-head, all-both, all-left, all-right, all-mono}
 use Rattle.shapes.specs.declared.shape.VersionShape.{VersionShape}
 use Rattle.shapes.specs.Shapes.{slicesOf, levelWidth, levelHeight}
-use Rattle.rects.specs.declared.rect.TexelRect.{TexelRect}
 use Rattle.rects.specs.declared.rect.Region.{Region}
 use Rattle.rects.specs.declared.rect.Region.the-variants.{Whole, Part}
 use Rattle.rects.specs.Rects.{wholeLevel}
@@ -23,7 +22,7 @@ use Rattle.grids.specs.declared.since.Dirty.{Dirty}
 use Rattle.grids.specs.declared.since.Dirty.the-variants.{Box, Clean}
 use Rattle.grids.specs.Grids.{tilingOf, boxSince}
 use Rattle.grids.proofs.Tilings.{tiling-ok}
-use Rattle.grids.proofs.Stamps.{InRect, stampAt}
+use Rattle.grids.proofs.Stamps.{InRect}
 use Rattle.grids.proofs.Boxes.{InDirty, box-since}
 use Rattle.stores.specs.declared.held.Held.{Held}
 use Rattle.stores.specs.declared.held.Held.the-variants.{Known, Unknown}
@@ -136,3 +135,8 @@ none-covered s h held u =
     (λ a. all-listed _ _ 0 (s .levels)
     (λ b. either (All (λ (c : PreserveCopy). covers u (c .slice) (c .level) ≡ false)) (covers u a b) [] (copyOf s h held a b) (λ e. nil)
     (λ e. all-mono (λ c k. rw (k .0, k .1) e) (copy-place s h held a b))))
+
+-- a subresource with no stamp above the held writes is not copied
+pub clean-uncopied : (s : VersionShape) (h : WriteHistory) (n slice level : ℕ) → gridAt s h slice level .newest ≤ n → copyOf s (some h) (Known n) slice level ≡ []
+unfolding copyOf boxCopy boxSince
+clean-uncopied s h n slice level le = rw (le-leb (gridAt s h slice level .newest) n le)
