@@ -41,6 +41,8 @@ shams = {
     'stores/ignores_failed': (first + write(0, 0) + settle(5) + rename('(Known 0)', 901, 11), (50, 50), 'none', 0),
     'stores/birth_strict': (rename('Unknown', 900, 5) + rename('Unknown', 901, 6) + write(0, 0) + settle(0) + settle(5) + rename('(Known 0)', 902, 11), (50, 50), 'none', 0),
     'stores/box_left_out_without_full_cover': (first, (0, 0), 'none', 0),
+    'books/regeneration_covers_level_0': (first + ['between (regenCall 7)'] + settle(0) + rename('(Known 0)', 901, 11), (0, 0), 'some 0', 1),
+    'books/copies_bring_nothing': (first, (0, 0), 'none', 0),
     'books/covered_level_not_left_out': (rename('Unknown', 900, 10, 'fullCover'), (0, 0), 'none', 0),
     'books/partial_write_ends_it': (rename('Unknown', 900, 10, 'fullCover') + write(0, 0), (50, 50), 'none', 0),
 }
@@ -110,7 +112,7 @@ use {own}declared.held.Held.the-variants.{{Known, Unknown}}
 use {own}Model.{{UploadFootprint}}
 use {own}Texels.{{Texel}}
 use {own}VersionBook.{{Book}}
-use {own}Lists.{{writeCall, popCall, parkCall, forgetCall, Call, takeCall, planCall, retireCall, between}}
+use {own}Lists.{{writeCall, regenCall, popCall, parkCall, forgetCall, Call, takeCall, planCall, retireCall, between}}
 use {own}Sample.{{lent, noCover}}
 {uses}
 abbrev fullCover : UploadFootprint
