@@ -27,7 +27,7 @@ use Rattle.stores.specs.Open.{opened}
 use Rattle.books.specs.VersionBook.{Numbers, Retired, Book, liveOf, copied, skipped, carriedBy, lostHand}
 use Rattle.books.specs.Carry.{mapRetiring, mapSpare, mapPool}
 use Rattle.books.specs.Lists.{Between, writeCall, regenCall, popCall, parkCall, noteCall, doomedCall, drainCall, trimCall, forgetCall, Call, takeCall, planCall, retireCall, between, Phase, idle, taken, planned}
-use Rattle.books.specs.Lists.{Allowed, State, afterTake, afterPlan, afterRetire, renameIn, justPool, marking, stepBetween, step, Renames, start}
+use Rattle.books.specs.Lists.{Allowed, State, afterTake, afterPlan, afterRetire, renameIn, justPool, marking, stepBetween, step, run, Renames, start}
 use Rattle.books.specs.Demand3.{Agrees, Reply, done, copiesPlanned, viewsHanded, answered, spareReply, poppedReply, viewsReply, performBetween, perform, call, viewOf, replied, Throughout, Demand3}
 use Rattle.books.proofs.Inv.{Inv, InvOf, OutOk, ok, just-pool, note-inv, doomed-inv, drain-inv, trim-inv, forget-inv, pop-inv}
 use Rattle.books.proofs.Marks.{Marks, write-inv, regenerate-inv, park-inv}
@@ -220,3 +220,13 @@ throughout s p (c ∷ cs) e i k =
 pub demand3 : Demand3
 unfolding Demand3 start
 demand3 places working cs k = throughout (start places working) (opened places working) cs refl (start-inv places working) k
+
+-- so after any list the books of every id agree
+agree-run : (s : State) (p : Pool ℕ) (cs : List Call) → Throughout s p cs → (id : ℕ) → Agrees (run s cs .books id)
+unfolding run
+agree-run s p [] t id = t .agrees id
+agree-run s p (c ∷ cs) t id = agree-run (step s c) (call p c .1) cs (t .2) id
+
+pub agree-after : (places : Places) (working : ℕ) (cs : List Call) → Renames (start places working) cs → (id : ℕ) → Agrees (run (start places working) cs .books id)
+unfolding Demand3
+agree-after places working cs k id = agree-run (start places working) (opened places working) cs (demand3 places working cs k) id

@@ -9,5 +9,4 @@ pub mod Natural
 pub mod NaturalOut
 pub mod Demand3
 pub mod End
-pub mod Carried
 pub mod Sample

@@ -210,9 +210,6 @@ module _ (p : Pool Retired) (books : Books) (i : Inv p books idle) (failed now :
     v-ok : WaitOk (p .trackings) v
     v-ok = of-hand (WaitOk (p .trackings)) (i .waits)
 
-    abbrev asParked : Spare Retired
-    asParked = asSpare failed now (lostVersion failed v)
-
     park-here : (bytes : ℕ)
         → Inv (withParked bytes (withTextures (change (v .id) (λ (u : VersionState Retired). withSpares (u .spares ++ (asSpare failed now (lostVersion failed v) ∷ [])) u) (p .textures))
         (withRetiring (p .retiring) none p))) books idle

@@ -30,9 +30,6 @@ or-false true c e = absurd (true≢false e)
 or-false false c e = (refl, e)
 
 module _ (p : Pool Retired) (books : Books) (id : ℕ) (u : ℕ → ℕ → Bool) (new : Numbers) (i : Inv p books (planned id u new)) (view seq : ℕ) (b : Book) (eb : books id ≡ some b) where
-  abbrev after : Book
-  after = renamed seq u new b
-
   agreed : Agrees (some b)
   agreed = subst (λ (o : Option Book). Agrees o) eb (i .agrees id)
 

@@ -142,7 +142,7 @@ renamed seq skip new b = record {
 abbrev pub carriedBy : Books → ℕ → ℕ → Retired
 carriedBy books id view = record { view = view; numbers = liveOf (books id); before = beforeOf (books id) }
 
--- ---- parking
+-- ---- parking: a retired version waits in the queue, is popped into the hand (where one version at most stands) and is parked from there
 
 -- "A parked version becomes all unknown if `failed` is not 0 and at least the submission of its texture's retirement before its own"
 abbrev pub lost : ℕ → Retired → Retired

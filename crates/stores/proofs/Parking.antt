@@ -1,6 +1,6 @@
 -- What a retired version holds, and when it is parked. The rules of spares rest on these laws.
 use Prim.Native.Nat.{ℕ, _+_, _≤_, _<_}
-use mathlib.Core.Path.{_≡_, refl}
+use mathlib.Core.Path.{_≡_, refl, ap}
 use mathlib.Core.Bool.{Bool, true, false, cond, _||_, not, _&&_}
 use mathlib.Core.Option.{Option, none, some}
 use mathlib.Core.List.{List, [], _∷_, _++_}
@@ -10,15 +10,15 @@ use borrow.Author.Tests.{eqb-true, ne-eqb, le-leb, lt-leb}
 use Rattle.blocks.proofs.Lists.{either}
 use Rattle.shapes.specs.Shapes.{bytesOf}
 use Rattle.stores.specs.declared.held.Held.the-variants.{Known, Unknown}
-use Rattle.stores.specs.Model.{Retiring, Doomed, VersionState, Pool, writesOf}
+use Rattle.stores.specs.Model.{WriteHistory, Retiring, Doomed, VersionState, Pool, writesOf}
 use Rattle.stores.specs.Updates.{withSpares, withTextures, withParked, change, doom}
 use Rattle.stores.specs.Retire.{retired}
 use Rattle.stores.specs.Park.{asSpare, parkTracked, parkFound}
 
 module _ {W : Type 0} where
   -- a version retires with the writes counted so far, under the tracking and the birth of its texture
-  pub retired-held : (id : ℕ) (view : W) (seq : ℕ) (t : VersionState W) → retired id view seq (some t) .held ≡ writesOf (t .history)
-  retired-held id view seq t = refl
+  pub retired-held : (id : ℕ) (view : W) (seq : ℕ) (t : VersionState W) (h : WriteHistory) → t .history ≡ some h → retired id view seq (some t) .held ≡ h .writes
+  retired-held id view seq t h e = ap writesOf e
 
   pub retired-birth : (id : ℕ) (view : W) (seq : ℕ) (t : VersionState W) → retired id view seq (some t) .birth ≡ t .birth
   retired-birth id view seq t = refl

@@ -8,7 +8,7 @@ use native.Mathlib.Omega.{arith}
 use native.Mathlib.Nat.{add-zero, zero-add, add-suc, suc-add, le-of-suc-le-suc, not-suc-le-zero}
 use native.Mathlib.Decide.{decLe}
 use lib.Dec.{eqb}
-use borrow.Author.Tests.{eqb-true}
+use borrow.Author.Tests.{eqb-true, le-leb}
 use Rattle.blocks.specs.Lists.{listed}
 use Rattle.blocks.specs.All.{All, nil, cons}
 use Rattle.blocks.proofs.Lists.{either, and-both}
@@ -135,3 +135,8 @@ none-covered s h held u =
     (λ a. all-listed _ _ 0 (s .levels)
     (λ b. either (All (λ (c : PreserveCopy). covers u (c .slice) (c .level) ≡ false)) (covers u a b) [] (copyOf s h held a b) (λ e. nil)
     (λ e. all-mono (λ c k. rw (k .0, k .1) e) (copy-place s h held a b))))
+
+-- a subresource with no stamp above the held writes is not copied
+pub clean-uncopied : (s : VersionShape) (h : WriteHistory) (n slice level : ℕ) → gridAt s h slice level .newest ≤ n → copyOf s (some h) (Known n) slice level ≡ []
+unfolding copyOf boxCopy boxSince
+clean-uncopied s h n slice level le = rw (le-leb (gridAt s h slice level .newest) n le)

@@ -1,0 +1,165 @@
+#!/usr/bin/env python3
+"""For each edit of a rule or of a book that demand 3 rests on: a list of calls, keeping to renames, after which the live number of a texel that
+is not left out differs from the plain book's. So the edited definitions do not merely break a proof's text: the claim is false of them.
+
+Each edit is applied to a copy of the definitions of the crates stores and books, below target/counterexamples, and the counterexample is a computed
+theorem there. Run from anywhere, after 'rt check books'; 'run.py CRATE/EDIT ..' tries some of them. Exit status 0 if every edit is refuted.
+'run.py control' tries the same theorems over the definitions as they are, where each has to be refused."""
+import os
+import re
+import shutil
+import subprocess
+import sys
+
+root = os.path.dirname(os.path.dirname(os.path.abspath(__file__)))
+out = root + '/target/counterexamples'
+lower = ['blocks', 'shapes', 'rects', 'tiles', 'grids']
+
+SHAPE = '(shapeOf 2 64 64 1 1 0)'
+
+
+def write(x, y, w=1, h=1):
+    return ['between (writeCall 7 0 0 (record { x = %d; y = %d; width = %d; height = %d }))' % (x, y, w, h)]
+
+
+def rename(held, view, seq, cover='noCover'):
+    return ['takeCall 7 %s true %d' % (SHAPE, seq), 'planCall 7 %s %s %s 90' % (SHAPE, held, cover), 'retireCall 7 %d %d' % (view, seq)]
+
+
+def settle(failed):
+    return ['between (popCall 10)', 'between (parkCall %d 11)' % failed]
+
+
+forget = ['between (forgetCall 7)']
+first = rename('Unknown', 900, 10)
+# edit: (calls, texel, the live version's number there, the plain book's)
+cases = {
+    'stores/copies_no_box': (first + write(0, 0) + settle(0) + rename('(Known 0)', 901, 11), (0, 0), 'some 0', 1),
+    'stores/stamps_first_write_only': (first + write(0, 0) + write(40, 40) + settle(0) + rename('(Known 0)', 901, 11), (40, 40), 'some 0', 2),
+    'stores/retires_one_write_ahead': (first + write(0, 0) + settle(0) + rename('(Known 1)', 901, 11), (0, 0), 'some 0', 1),
+    'stores/older_tracking_parks': (first + write(0, 0) + forget + rename('Unknown', 901, 10) + settle(0) + rename('(Known 0)', 902, 11), (0, 0), 'some 0', 1),
+    'stores/ignores_failed': (first + write(0, 0) + settle(5) + rename('(Known 0)', 901, 11), (50, 50), 'none', 0),
+    'stores/birth_strict': (rename('Unknown', 900, 5) + rename('Unknown', 901, 6) + write(0, 0) + settle(0) + settle(5) + rename('(Known 0)', 902, 11), (50, 50), 'none', 0),
+    'stores/box_left_out_without_full_cover': (first, (0, 0), 'none', 0),
+    'books/regeneration_covers_level_0': (first + ['between (regenCall 7)'] + settle(0) + rename('(Known 0)', 901, 11), (0, 0), 'some 0', 1),
+    'books/copies_bring_nothing': (first, (0, 0), 'none', 0),
+    'books/covered_level_not_left_out': (rename('Unknown', 900, 10, 'fullCover'), (0, 0), 'none', 0),
+    'books/partial_write_ends_it': (rename('Unknown', 900, 10, 'fullCover') + write(0, 0), (50, 50), 'none', 0),
+}
+
+
+def allowed(calls):
+    """The proof that the list keeps to renames: what Allowed asks of each call."""
+    if not calls:
+        return 'tt'
+    ask = {'takeCall': 'tt', 'between': 'tt', 'planCall': '(refl, refl, refl)', 'retireCall': 'refl'}[calls[0].split()[0]]
+    return '(%s, %s)' % (ask, allowed(calls[1:]))
+
+
+def unfoldable(crate, skip=()):
+    """(module, name) of each definition of a crate's specs that opens only where it is asked to."""
+    found = []
+    for f in sorted(os.listdir('%s/crates/%s/specs' % (root, crate))):
+        if f.endswith('.antt') and f[:-5] not in skip:
+            for name in re.findall(r'^ *unfoldable pub (\S+)', open('%s/crates/%s/specs/%s' % (root, crate, f)).read(), re.M):
+                found.append((f[:-5], name))
+    return found
+
+
+def refute(sham, edited=True):
+    crate, edit = sham.split('/')
+    calls, (x, y), live, plain = cases[sham]
+    name = 'sham_' + edit
+    d = '%s/%s' % (out, name)
+    shutil.rmtree(d, ignore_errors=True)
+    os.makedirs(d + '/specs')
+    os.makedirs(d + '/proofs')
+    own = 'Rattle.%s.specs.' % name
+
+    def here(text):
+        for c in ('stores', 'books'):
+            text = text.replace('Rattle.%s.specs.' % c, own).replace('Rattle.%s.specs.' % c, own)
+        return text
+
+    where, old, new = re.match(r'file: (.*)\nold: (.*)\nnew: (.*)\n', open('%s/crates/%s/must-fail/%s.edit' % (root, crate, edit)).read()).groups()
+    mods = ''
+    for c in ('stores', 'books'):
+        for f in sorted(os.listdir('%s/crates/%s/specs' % (root, c))):
+            text = open('%s/crates/%s/specs/%s' % (root, c, f)).read()
+            if f == 'Lib.antt':
+                mods += text
+                continue
+            if edited and c == crate and where == 'specs/' + f:
+                assert text.count(old) == 1, sham
+                text = text.replace(old, new)
+            open('%s/specs/%s' % (d, f), 'w').write(here(text))
+    open(d + '/specs/Lib.antt', 'w').write(mods)
+    # the declared types alone: the functions and their contracts are not what is tried here
+    shutil.copytree(root + '/crates/stores/src', d + '/src')
+    budget = open(d + '/src/budget.rt').read()
+    open(d + '/src/budget.rt', 'w').write('pub struct VersionBudget' + budget.split('pub struct VersionBudget')[1].split('impl VersionBudget')[0])
+    names = [('%s.specs.%s' % ('Rattle·' + c, m), n) for c in lower for m, n in unfoldable(c, ('Outcomes',))]
+    names += [(own + m, n) for c in ('stores', 'books') for m, n in unfoldable(c, ('Formed', 'Closed', 'Demand3'))]
+    uses = ''.join('use %s.{%s}\n' % (m, ', '.join(n for k, n in names if k == m)) for m in dict.fromkeys(m for m, n in names))
+    unfolding = 'unfolding %s' % ' '.join(n for m, n in names)
+    open(d + '/proofs/Lib.antt', 'w').write('pub mod Sham\n')
+    open(d + '/proofs/Sham.antt', 'w').write(f'''use Prim.Native.Nat.{{ℕ}}
+use mathlib.Core.Path.{{_≡_, refl}}
+use mathlib.Core.Bool.{{true, false, cond}}
+use mathlib.Core.Option.{{Option, none, some}}
+use mathlib.Core.List.{{List, [], _∷_, flatMap}}
+use {own}declared.held.Held.the-variants.{{Known, Unknown}}
+use {own}Model.{{UploadFootprint}}
+use {own}Texels.{{Texel}}
+use {own}VersionBook.{{Book}}
+use {own}Lists.{{writeCall, regenCall, popCall, parkCall, forgetCall, Call, takeCall, planCall, retireCall, between}}
+use {own}Sample.{{lent, noCover}}
+{uses}
+abbrev fullCover : UploadFootprint
+fullCover = record {{ slice = 0; level = 0; cover = true }}
+
+abbrev liveAt : Option Book → Texel → Option ℕ
+liveAt none t = none
+liveAt (some b) t = b .live t
+
+-- none where the texel's level is left out
+abbrev plainAt : Option Book → Texel → Option ℕ
+plainAt none t = none
+plainAt (some b) t = cond (b .left (t .slice) (t .level)) none (some (b .plain t))
+
+abbrev there : Texel
+there = record {{ slice = 0; level = 0; x = {x}; y = {y}; z = 0 }}
+
+abbrev list : List Call
+list = {' ∷ '.join(calls)} ∷ []
+
+-- the list keeps to renames
+renames : Renames (start lent 0) list
+{unfolding} flatMap
+renames = {allowed(calls)}
+
+-- and the live number differs from the plain book's, at a texel that is not left out
+differs : (liveAt (run (start lent 0) list .books 7) there ≡ {live}) × (plainAt (run (start lent 0) list .books 7) there ≡ some {plain})
+{unfolding} flatMap
+differs = (refl, refl)
+''')
+    words = ['rt', 'check', d, '-L', 'dependency=%s/target/rlib' % root]
+    for c in lower:
+        words += ['--extern', '%s=%s/target/rlib/%s.rlib' % (c, root, c)]
+    r = subprocess.run(words, capture_output=True, text=True, cwd=out)
+    open('%s/%s.out' % (out, name), 'w').write(r.stdout + r.stderr)
+    return 'logic=proved' in r.stdout + r.stderr
+
+
+if __name__ == '__main__':
+    os.makedirs(out, exist_ok=True)
+    bad = 0
+    control = sys.argv[1:] == ['control']
+    for sham in cases if control else sys.argv[1:] or cases:
+        false = refute(sham, not control)
+        bad += false == control
+        if control:
+            print('%s, not edited: %s' % (sham, 'REFUTED' if false else 'not refuted, as it must be'), flush=True)
+        else:
+            print('%s: %s' % (sham, 'the claim is false of it' if false else 'NOT REFUTED, see target/counterexamples/sham_%s.out' % sham.split('/')[1]), flush=True)
+    sys.exit(1 if bad else 0)
