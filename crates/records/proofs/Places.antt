@@ -58,31 +58,40 @@ module _ (id : ℕ) where
       go (yes h) r = let e = below-more t ts h in rw e (r (omega arith))
       go (no h) r = let e = below-stop t ts (omega arith) in rw e (omega arith)
 
-  -- what is learned of the place by one id: it is past an id that is below, and not past one that is not
-  module _ (ts : List TextureRecord) (i : ℕ) (d : TextureRecord) (within : i < length ts) where
-    pub past : ascending idOf ts ≡ true → getD ts i d .id < id → i < below id ts
-    past up h = go (decLt i (below id ts))
-      where
-        same : i ≡ below id ts → id ≤ getD ts i d .id
-        same e = let f = below-at ts d (omega arith) in rw (← e) at f
+  -- what one id says of the place: it is not past an id that is not below
+  pub not-past : (ts : List TextureRecord) (i : ℕ) (d : TextureRecord) → id ≤ getD ts i d .id → below id ts ≤ i
+  not-past ts i d h = go (decLt i (below id ts))
+    where
+      go : Dec (i < below id ts) → below id ts ≤ i
+      go (yes q) = let a = below-before ts i d q in omega arith
+      go (no q) = omega arith
 
+  module _ (ts : List TextureRecord) (i : ℕ) (d : TextureRecord) (within : i < length ts) (up : ascending idOf ts ≡ true) where
+    reached : getD ts i d .id ≤ id → i ≤ below id ts
+    reached h = go (decLt (below id ts) i)
+      where
+        go : Dec (below id ts < i) → i ≤ below id ts
+        go (yes k) =
+            let a = below-at ts d (omega arith) in
+            let b = ascending-get idOf ts (below id ts) i d up k within in
+            omega arith
+        go (no k) = omega arith
+
+    -- it is past an id that is below
+    pub past : getD ts i d .id < id → i < below id ts
+    past h = go (decLt i (below id ts))
+      where
         go : Dec (i < below id ts) → i < below id ts
         go (yes q) = q
-        go (no q) = absurd (apart (decLt (below id ts) i))
-          where
-            apart : Dec (below id ts < i) → ⊥
-            apart (yes k) =
-                let a = below-at ts d (omega arith) in
-                let b = ascending-get idOf ts (below id ts) i d up k within in
-                omega arith
-            apart (no k) = let a = same (omega arith) in omega arith
+        go (no q) =
+            let e : below id ts ≡ i = omega (arith, reached (omega arith)) in
+            let f = below-at ts d (omega arith) in
+            let g : id ≤ getD ts i d .id = rw e at f in
+            omega arith
 
-    pub not-past : id ≤ getD ts i d .id → below id ts ≤ i
-    not-past h = go (decLt i (below id ts))
-      where
-        go : Dec (i < below id ts) → below id ts ≤ i
-        go (yes q) = let a = below-before ts i d q in omega arith
-        go (no q) = omega arith
+    -- a texture that is there is at the place of its id
+    pub below-found : getD ts i d .id ≡ id → below id ts ≡ i
+    below-found e = omega (arith, reached (omega arith), not-past ts i d (omega arith))
 
 -- an id is the first number of its record
 pub id-at : (n i : ℕ) (s : List ℕ) → i < n → getD (textures n s) i (readTexture []) .id ≡ getD s (19 * i) 0
@@ -93,14 +102,11 @@ id-at n i s h =
 
 -- the search's two turns
 module _ (n i id : ℕ) (s : List ℕ) (h : i < n) where
-  within-table : i < length (textures n s)
-  within-table = omega (arith, length-table 19 readTexture n s)
-
   pub search-past : ascending idOf (textures n s) ≡ true → getD s (19 * i) 0 < id → i < below id (textures n s)
-  search-past up q = past id (textures n s) i (readTexture []) within-table up (omega (arith, id-at n i s h))
+  search-past up q = past id (textures n s) i (readTexture []) (omega (arith, length-table 19 readTexture n s)) up (omega (arith, id-at n i s h))
 
   pub search-before : id ≤ getD s (19 * i) 0 → below id (textures n s) ≤ i
-  search-before q = not-past id (textures n s) i (readTexture []) within-table (omega (arith, id-at n i s h))
+  search-before q = not-past id (textures n s) i (readTexture []) (omega (arith, id-at n i s h))
 
 pub search-end : (n id : ℕ) (s : List ℕ) → below id (textures n s) ≤ n
 search-end n id s = omega (arith, below-length id (textures n s), length-table 19 readTexture n s)
