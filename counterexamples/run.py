@@ -66,9 +66,9 @@ def unfoldable(crate, skip=()):
     return found
 
 
-def refute(sham, edited=True):
-    crate, edit = sham.split('/')
-    calls, (x, y), live, plain = cases[sham]
+def refute(case, edited=True):
+    crate, edit = case.split('/')
+    calls, (x, y), live, plain = cases[case]
     name = 'sham_' + edit
     d = '%s/%s' % (out, name)
     shutil.rmtree(d, ignore_errors=True)
@@ -90,7 +90,7 @@ def refute(sham, edited=True):
                 mods += text
                 continue
             if edited and c == crate and where == 'specs/' + f:
-                assert text.count(old) == 1, sham
+                assert text.count(old) == 1, case
                 text = text.replace(old, new)
             open('%s/specs/%s' % (d, f), 'w').write(here(text))
     open(d + '/specs/Lib.antt', 'w').write(mods)
@@ -155,11 +155,11 @@ if __name__ == '__main__':
     os.makedirs(out, exist_ok=True)
     bad = 0
     control = sys.argv[1:] == ['control']
-    for sham in cases if control else sys.argv[1:] or cases:
-        false = refute(sham, not control)
+    for case in cases if control else sys.argv[1:] or cases:
+        false = refute(case, not control)
         bad += false == control
         if control:
-            print('%s, not edited: %s' % (sham, 'REFUTED' if false else 'not refuted, as it must be'), flush=True)
+            print('%s, not edited: %s' % (case, 'REFUTED' if false else 'not refuted, as it must be'), flush=True)
         else:
-            print('%s: %s' % (sham, 'the claim is false of it' if false else 'NOT REFUTED, see target/counterexamples/sham_%s.out' % sham.split('/')[1]), flush=True)
+            print('%s: %s' % (case, 'the claim is false of it' if false else 'NOT REFUTED, see target/counterexamples/sham_%s.out' % case.split('/')[1]), flush=True)
     sys.exit(1 if bad else 0)
