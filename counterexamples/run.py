@@ -13,7 +13,7 @@ import sys
 
 root = os.path.dirname(os.path.dirname(os.path.abspath(__file__)))
 out = root + '/target/counterexamples'
-lower = ['blocks', 'shapes', 'rects', 'tiles', 'grids']
+crates = ['blocks', 'shapes', 'rects', 'tiles', 'grids', 'stores', 'books']
 
 SHAPE = '(shapeOf 2 64 64 1 1 0)'
 
@@ -41,6 +41,7 @@ cases = {
     'stores/ignores_failed': (first + write(0, 0) + settle(5) + rename('(Known 0)', 901, 11), (50, 50), 'none', 0),
     'stores/birth_strict': (rename('Unknown', 900, 5) + rename('Unknown', 901, 6) + write(0, 0) + settle(0) + settle(5) + rename('(Known 0)', 902, 11), (50, 50), 'none', 0),
     'stores/box_left_out_without_full_cover': (first, (0, 0), 'none', 0),
+    'tiles/box_misses_last_column': (first + write(20, 5, 10, 10) + settle(0) + rename('(Known 0)', 901, 11), (20, 5), 'some 0', 1),
     'books/regeneration_covers_level_0': (first + ['between (regenCall 7)'] + settle(0) + rename('(Known 0)', 901, 11), (0, 0), 'some 0', 1),
     'books/copies_bring_nothing': (first, (0, 0), 'none', 0),
     'books/covered_level_not_left_out': (rename('Unknown', 900, 10, 'fullCover'), (0, 0), 'none', 0),
@@ -66,24 +67,43 @@ def unfoldable(crate, skip=()):
     return found
 
 
+def declare(folder, copied):
+    """The declared types of the copied crates alone: the functions and their contracts are not what is tried here."""
+    os.makedirs(folder)
+    mods = ''
+    for c in copied:
+        for f in sorted(os.listdir('%s/crates/%s/src' % (root, c))):
+            text = open('%s/crates/%s/src/%s' % (root, c, f)).read()
+            types = re.findall(r'^pub (?:struct|enum) .*?^}\n', text, re.M | re.S)
+            if types:
+                uses = [u for u in re.findall(r'^use \w+::([A-Z]\w+);$', text, re.M) if any(u in t for t in types)]
+                lines = [re.search(r'^use \w+::%s;$' % u, text, re.M).group(0) for u in uses]
+                open('%s/%s' % (folder, f), 'w').write('\n'.join(lines + types))
+                mods += 'pub mod %s;\n' % f[:-3]
+    open(folder + '/lib.rt', 'w').write(mods)
+
+
 def refute(case, edited=True):
     crate, edit = case.split('/')
     calls, (x, y), live, plain = cases[case]
-    name = 'sham_' + edit
+    name = 'edited_' + edit
     d = '%s/%s' % (out, name)
     shutil.rmtree(d, ignore_errors=True)
     os.makedirs(d + '/specs')
     os.makedirs(d + '/proofs')
     own = 'Rattle.%s.specs.' % name
+    # the edited crate and all above it are copied into one crate; those below are taken as they were proved
+    copied = crates[min(crates.index(crate), crates.index('stores')):]
+    lower = crates[:crates.index(copied[0])]
 
     def here(text):
-        for c in ('stores', 'books'):
+        for c in copied:
             text = text.replace('Rattle.%s.specs.' % c, own).replace('Rattle.%s.specs.' % c, own)
         return text
 
     where, old, new = re.match(r'file: (.*)\nold: (.*)\nnew: (.*)\n', open('%s/crates/%s/must-fail/%s.edit' % (root, crate, edit)).read()).groups()
     mods = ''
-    for c in ('stores', 'books'):
+    for c in copied:
         for f in sorted(os.listdir('%s/crates/%s/specs' % (root, c))):
             text = open('%s/crates/%s/specs/%s' % (root, c, f)).read()
             if f == 'Lib.antt':
@@ -94,16 +114,13 @@ def refute(case, edited=True):
                 text = text.replace(old, new)
             open('%s/specs/%s' % (d, f), 'w').write(here(text))
     open(d + '/specs/Lib.antt', 'w').write(mods)
-    # the declared types alone: the functions and their contracts are not what is tried here
-    shutil.copytree(root + '/crates/stores/src', d + '/src')
-    budget = open(d + '/src/budget.rt').read()
-    open(d + '/src/budget.rt', 'w').write('pub struct VersionBudget' + budget.split('pub struct VersionBudget')[1].split('impl VersionBudget')[0])
+    declare(d + '/src', copied)
     names = [('%s.specs.%s' % ('Rattle·' + c, m), n) for c in lower for m, n in unfoldable(c, ('Outcomes',))]
-    names += [(own + m, n) for c in ('stores', 'books') for m, n in unfoldable(c, ('Formed', 'Closed', 'Demand3'))]
+    names += [(own + m, n) for c in copied for m, n in unfoldable(c, ('Formed', 'Closed', 'Demand3'))]
     uses = ''.join('use %s.{%s}\n' % (m, ', '.join(n for k, n in names if k == m)) for m in dict.fromkeys(m for m, n in names))
     unfolding = 'unfolding %s' % ' '.join(n for m, n in names)
-    open(d + '/proofs/Lib.antt', 'w').write('pub mod Sham\n')
-    open(d + '/proofs/Sham.antt', 'w').write(f'''use Prim.Native.Nat.{{ℕ}}
+    open(d + '/proofs/Lib.antt', 'w').write('pub mod Counterexample\n')
+    open(d + '/proofs/Counterexample.antt', 'w').write(f'''use Prim.Native.Nat.{{ℕ}}
 use mathlib.Core.Path.{{_≡_, refl}}
 use mathlib.Core.Bool.{{true, false, cond}}
 use mathlib.Core.Option.{{Option, none, some}}
@@ -161,5 +178,5 @@ if __name__ == '__main__':
         if control:
             print('%s, not edited: %s' % (case, 'REFUTED' if false else 'not refuted, as it must be'), flush=True)
         else:
-            print('%s: %s' % (case, 'the claim is false of it' if false else 'NOT REFUTED, see target/counterexamples/sham_%s.out' % case.split('/')[1]), flush=True)
+            print('%s: %s' % (case, 'the claim is false of it' if false else 'NOT REFUTED, see target/counterexamples/edited_%s.out' % case.split('/')[1]), flush=True)
     sys.exit(1 if bad else 0)

@@ -32,6 +32,20 @@ impl VersionBudget {
         }
     }
 
+    // Most bytes of spares that the pool parks.
+    pub fn spare_cap(self) -> u64
+        ensures { λ r. ⌜ r ≡ self .cap ⌝ }
+    {
+        self.cap
+    }
+
+    // Allocated bytes above which the pool gives its spares back.
+    pub fn pressure_above(self) -> u64
+        ensures { λ r. ⌜ r ≡ self .line ⌝ }
+    {
+        self.line
+    }
+
     // Allocated bytes that the process has to fall below before parking resumes.
     pub fn resume_below(self) -> u64
         ensures { λ r. ⌜ r ≡ resumeBelow self ⌝ }
