@@ -1,6 +1,6 @@
 #!/usr/bin/env bash
 # The gate's share of the comparison with the Rust: the oracle's own tests, then the leaf questions on fixed seeds.
-# Without the Rust's source it says so and ends with 0: the stored answers are checked by rt ci all the same.
+# Without the Rust's source, or without cargo, it says so and ends with 0: the stored answers are checked by rt ci all the same.
 #
 #   compare/check.sh          builds what is missing, tests and compares
 #   compare/check.sh build    builds only
@@ -10,6 +10,10 @@ cd -- "$(dirname -- "${BASH_SOURCE[0]}")" || exit 1
 source_folder=${YEGUDO_SOURCE:-../../shared/docs/src}
 if [ ! -d "$source_folder" ]; then
     printf "The Rust's source is not at hand (%s is no folder): only the stored answers were checked.\n" "$source_folder"
+    exit 0
+fi
+if ! command -v cargo >/dev/null; then
+    echo 'cargo is not at hand: only the stored answers were checked.'
     exit 0
 fi
 if [ "${1:-}" = build ]; then
