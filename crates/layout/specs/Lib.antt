@@ -1,0 +1,5 @@
+pub mod Lent
+pub mod Reading
+pub mod Writing
+pub mod IsPool
+pub mod Calls
