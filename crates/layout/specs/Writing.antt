@@ -11,7 +11,7 @@ use Rattle.tables.specs.Rings.{placeOf, laid}
 use Rattle.shapes.specs.declared.shape.VersionShape.{VersionShape}
 use Rattle.shapes.specs.Shapes.{sameShape}
 use Rattle.grids.specs.Grids.{StampGrid}
-use Rattle.stores.specs.Model.{WriteHistory, Spare, Retiring, Doomed, VersionState, Pool, pagesUsed, handCount}
+use Rattle.stores.specs.Model.{WriteHistory, Spare, Retiring, Doomed, VersionState, Pool, hasHistory, pagesUsed, handCount}
 use Rattle.stores.specs.PopRetired.{isHeld}
 use Rattle.records.specs.declared.recorded.Recorded.{Recorded}
 use Rattle.records.specs.declared.recorded.Recorded.the-variants.{Writes, NoHistory}
@@ -77,12 +77,14 @@ newestOf t = map (λ (g : StampGrid). g .newest) (gridsOf (t .history))
 unfoldable pub newestAfter : Pool ℕ → Lent → List ℕ
 newestAfter p l = over (flatMap newestOf (p .textures)) (l .newest)
 
--- ---- pages: a texture of the same id and shape has its history still, and its pages keep what stands past the stamps; a fresh page is all 0
+-- ---- pages: a texture of the same id and shape that had a history has it still, and its pages keep what stands past the stamps; a fresh page is
+-- all 0
 
--- the first page of the texture with that id and shape
+-- the first page of the texture with that id, shape and a history
 unfoldable pub firstPage : ℕ → VersionShape → ℕ → List (VersionState ℕ) → Option ℕ
 firstPage id shape page [] = none
-firstPage id shape page (t ∷ ts) = cond (eqb (t .id) id && sameShape (t .shape) shape) (some page) (firstPage id shape (page + pagesUsed t) ts)
+firstPage id shape page (t ∷ ts) =
+    cond (eqb (t .id) id && sameShape (t .shape) shape && hasHistory (t .history)) (some page) (firstPage id shape (page + pagesUsed t) ts)
 
 unfoldable pub pageBefore : Lent → Option ℕ → ℕ → List ℕ
 pageBefore l none k = replicate 1024 0
