@@ -1,0 +1,34 @@
+-- What it takes for lent memory to form a pool, as facts by name: what a call on a pool may use. Assumes nothing.
+use mathlib.Core.Path.{_≡_}
+use mathlib.Core.Bool.{true}
+use Prim.Native.Nat.{_+_, _*_, _≤_, _<_}
+use lib.ListN.{length}
+use Rattle.blocks.specs.Lists.{total}
+use Rattle.stores.specs.Open.{arePlaces}
+use Rattle.stores.specs.Formed.{Formed}
+use Rattle.records.specs.declared.texture.TextureRecord.{TextureRecord}
+use Rattle.layout.specs.Lent.{Lent, versionPlaces}
+use Rattle.layout.specs.Reading.{trackedRecords, recordPages, handPlaces, modelOf}
+
+pub record Fits (l : Lent) : Type 0 where
+  -- the slices are as long as whole places, as many as may be lent
+  pub places : arePlaces (modelOf l .places) ≡ true
+  pub textures : 19 * modelOf l .places .textures ≡ length (l .textures)
+  pub retiring : 7 * versionPlaces l ≡ length (l .retiring)
+  pub doomed : 2 * versionPlaces l ≡ length (l .doomed)
+  pub spares : 3 * versionPlaces l ≡ length (l .spares)
+  pub stamps : 1024 * length (l .newest) ≡ length (l .stamps)
+  pub least : 1 ≤ versionPlaces l
+  pub most : versionPlaces l ≤ 4096
+  pub newest : length (l .newest) ≤ 4096
+  -- the counts fit their places
+  pub tracked : l .pool .tracked ≤ modelOf l .places .textures
+  pub head : l .pool .head < versionPlaces l
+  pub first : l .pool .first < versionPlaces l
+  pub versions : l .pool .queued + handPlaces (l .pool .popped) + l .pool .kept + l .pool .doomed ≤ versionPlaces l
+  pub pages : l .pool .pages ≤ length (l .newest)
+  -- the records claim just the spares and pages that are counted
+  pub kept : total (λ (t : TextureRecord). t .spares) (trackedRecords l) ≡ l .pool .kept
+  pub claimed : total recordPages (trackedRecords l) ≡ l .pool .pages
+  -- 01's conditions
+  pub formed : Formed (modelOf l)

@@ -1,0 +1,333 @@
+-- Lent memory that passes the test has every one of the facts. Assumes nothing.
+use mathlib.Core.Path.{_≡_, refl, sym, ap, ap₂, _∙_, subst}
+use mathlib.Core.Bool.{Bool, true, false}
+use mathlib.Core.Option.{Option, none, some}
+use mathlib.Core.List.{List, [], _∷_}
+use Prim.Native.Nat.{ℕ, suc, _+_, _*_, _%_, _≤_, _<_}
+use native.Mathlib.Nat.{zero-add, mul-comm, mul-add-mod-self-right, mod-eq-of-lt}
+use native.Mathlib.Omega.{arith}
+use borrow.Author.Tests.{ltb-true, leb-true, eqb-true}
+use lib.Dec.{leb, eqb}
+use lib.ListN.{length, take, drop, getD, length-drop}
+use lib.Seq.{length-take-le}
+use Rattle.blocks.specs.Lists.{listed, all, total}
+use Rattle.blocks.specs.All.{All, nil, cons}
+use Rattle.blocks.specs.Blocks.{largest}
+use Rattle.blocks.proofs.Lists.{passed, and-both, all-get}
+use Rattle.blocks.proofs.Listed.{length-listed, getD-listed}
+use Rattle.tables.proofs.Records.{length-table}
+use Rattle.shapes.specs.declared.shape.VersionShape.{VersionShape}
+use Rattle.shapes.specs.Shapes.{isShape, slicesOf}
+use Rattle.grids.specs.Grids.{Tiling, tilingOf, stampCount, StampGrid, gridIn}
+use Rattle.grids.proofs.Tilings.{tiling-ok, count-bound}
+use Rattle.grids.proofs.RowByRow.{tile-place}
+use Rattle.stores.specs.declared.held.Held.{Held}
+use Rattle.stores.specs.declared.held.Held.the-variants.{Known, Unknown}
+use Rattle.stores.specs.Model.{Spare, Retiring, Doomed, VersionState, Places, pagesOf, pagesUsed, handCount, versionsUsed}
+use Rattle.stores.specs.Histories.{gridAt, gridPlace}
+use Rattle.stores.specs.Open.{arePlaces}
+use Rattle.stores.specs.Formed.{Given, HeldFormed, GridFormed, HistoryFormed, SpareFormed, RetiringFormed, DoomedFormed, StateFormed, Formed}
+use Rattle.records.specs.declared.recorded.Recorded.{Recorded}
+use Rattle.records.specs.declared.recorded.Recorded.the-variants.{Writes, NoHistory}
+use Rattle.records.specs.declared.texture.TextureRecord.{TextureRecord}
+use Rattle.records.specs.Texture.{readTexture}
+use Rattle.layout.specs.Lent.{Lent, versionPlaces}
+use Rattle.layout.specs.Reading.{trackedRecords, pageAt, gridRead, historyRead, recordPages, recordedPages, spareRead, stateRead, statesRead, retiringRead, handPlaces, handRead, doomedRead, modelOf}
+use Rattle.layout.specs.IsPool.{sizesFit, countsFit, runsFit, isGrid, isHistory, isHeldCount, isSpare, isState, isRetiring, isHand, isDoomed, isArrival, isFormed, isPool}
+use Rattle.layout.proofs.FitsTests.{all-holds, ascending-holds}
+use Rattle.layout.proofs.Fits.{Fits}
+
+-- ---- what is read has the sizes that the counts say
+
+module _ (l : Lent) where
+  pub length-states : (first page : ℕ) (ts : List TextureRecord) → length (statesRead l first page ts) ≡ length ts
+  unfolding statesRead
+  length-states first page [] = refl
+  length-states first page (t ∷ ts) = ap suc (length-states (first + t .spares) (page + recordPages t) ts)
+
+  pub total-spares : (first page : ℕ) (ts : List TextureRecord)
+      → total (λ (t : VersionState ℕ). length (t .spares)) (statesRead l first page ts) ≡ total (λ (t : TextureRecord). t .spares) ts
+  unfolding statesRead stateRead total
+  total-spares first page [] = refl
+  total-spares first page (t ∷ ts) =
+      ap₂ (λ (a b : ℕ). a + b) (length-listed (spareRead l) first (t .spares)) (total-spares (first + t .spares) (page + recordPages t) ts)
+
+  pub pages-read : (first page : ℕ) (t : TextureRecord) → pagesUsed (stateRead l first page t) ≡ recordPages t
+  unfolding stateRead
+  pages-read first page t = go (t .history)
+    where
+      go : (h : Recorded)
+          → pagesUsed (record { id = t .id; shape = t .shape; epoch = t .epoch; history = historyRead l (t .shape) page h; birth = t .birth; rename = t .rename; due = t .due; spares = listed (spareRead l) first (t .spares) })
+          ≡ recordedPages h (t .shape)
+      go NoHistory = refl
+      go (Writes n) = refl
+
+  pub total-pages : (first page : ℕ) (ts : List TextureRecord) → total pagesUsed (statesRead l first page ts) ≡ total recordPages ts
+  unfolding statesRead total
+  total-pages first page [] = refl
+  total-pages first page (t ∷ ts) =
+      ap₂ (λ (a b : ℕ). a + b) (pages-read first page t) (total-pages (first + t .spares) (page + recordPages t) ts)
+
+-- ---- 01's conditions of each part
+
+grid-formed : (g : Tiling) (writes newest : ℕ) (page : List ℕ) → stampCount g ≤ length page → isGrid writes (gridIn g newest page) ≡ true
+    → GridFormed g writes (gridIn g newest page)
+unfolding isGrid gridIn
+grid-formed g writes newest page h e =
+    let q = and-both (eqb (largest (take (stampCount g) page)) newest) (leb newest writes) e in
+    record {
+      size = length-take-le (stampCount g) page h;
+      newest = eqb-true _ _ (q .0);
+      below = leb-true _ _ (q .1);
+    }
+
+module _ (l : Lent) (paged : 1024 * length (l .newest) ≡ length (l .stamps)) (s : VersionShape) (shaped : isShape s ≡ true)
+    (page : ℕ) (room : page + pagesOf s ≤ length (l .newest)) where
+  pub length-page : (k : ℕ) → k < pagesOf s → length (pageAt (l .stamps) (page + k)) ≡ 1024
+  length-page k h = length-take-le 1024 (drop (1024 * (page + k)) (l .stamps)) (omega (arith, length-drop (1024 * (page + k)) (l .stamps)))
+
+  -- the grid of a subresource is that of its page
+  pub grid-place : (writes slice level : ℕ) → slice < slicesOf s → level < s .levels
+      → (gridPlace s slice level < pagesOf s)
+      × (gridAt s (record { writes = writes; grids = listed (gridRead l s page) 0 (pagesOf s) }) slice level ≡ gridRead l s page (gridPlace s slice level))
+  unfolding gridAt pagesOf
+  grid-place writes slice level p q =
+      let h : gridPlace s slice level < slicesOf s * s .levels =
+      omega (arith, tile-place (s .levels) (slicesOf s) level slice q p, mul-comm (s .levels) (slicesOf s)) in
+      (h, getD-listed (gridRead l s page) 0 (slicesOf s * s .levels) (gridPlace s slice level) _ h ∙ ap (gridRead l s page) (zero-add (gridPlace s slice level)))
+
+  page-formed : (n k : ℕ) → k < pagesOf s → isGrid n (gridRead l s page k) ≡ true → GridFormed (tilingOf s (k % s .levels)) n (gridRead l s page k)
+  unfolding gridRead
+  page-formed n k h e =
+      let c = count-bound (tilingOf s (k % s .levels)) (tiling-ok s shaped (k % s .levels)) in
+      grid-formed (tilingOf s (k % s .levels)) n (getD (l .newest) (page + k) 0) (pageAt (l .stamps) (page + k)) (omega (arith, c, length-page k h)) e
+
+  place-level : (slice level : ℕ) → level < s .levels → gridPlace s slice level % s .levels ≡ level
+  place-level slice level h = mul-add-mod-self-right slice (s .levels) level ∙ mod-eq-of-lt h
+
+  length-grids : length (listed (gridRead l s page) 0 (pagesOf s)) ≡ slicesOf s * s .levels
+  unfolding pagesOf
+  length-grids = length-listed (gridRead l s page) 0 (slicesOf s * s .levels)
+
+  history-formed : (h : Recorded) → isHistory (historyRead l s page h) ≡ true → Given (HistoryFormed s) (historyRead l s page h)
+  unfolding isHistory
+  history-formed NoHistory e = tt
+  history-formed (Writes n) e =
+      let q = and-both (leb n 281474976710656) (all (isGrid n) (listed (gridRead l s page) 0 (pagesOf s))) e in
+      record { writes = leb-true _ _ (q .0); size = length-grids; grids = λ slice level a b. go slice level a b (q .1) }
+    where
+      go : (slice level : ℕ) → slice < slicesOf s → level < s .levels → all (isGrid n) (listed (gridRead l s page) 0 (pagesOf s)) ≡ true
+          → GridFormed (tilingOf s level) n (gridAt s (record { writes = n; grids = listed (gridRead l s page) 0 (pagesOf s) }) slice level)
+      go slice level a b e =
+          let k = gridPlace s slice level in
+          let w = grid-place n slice level a b in
+          let d : StampGrid = record { newest = 0; stamps = [] } in
+          let f : getD (listed (gridRead l s page) 0 (pagesOf s)) k d ≡ gridRead l s page k =
+          getD-listed (gridRead l s page) 0 (pagesOf s) k d (w .0) ∙ ap (gridRead l s page) (zero-add k) in
+          let g = all-get (isGrid n) (listed (gridRead l s page) 0 (pagesOf s)) k d e (omega (arith, w .0, length-listed (gridRead l s page) 0 (pagesOf s))) in
+          subst (λ (m : ℕ). GridFormed (tilingOf s m) n (gridAt s (record { writes = n; grids = listed (gridRead l s page) 0 (pagesOf s) }) slice level)) (place-level slice level b)
+          (subst (λ (x : StampGrid). GridFormed (tilingOf s (k % s .levels)) n x) (sym (w .1))
+          (page-formed n k (w .0) (ap (isGrid n) (sym f) ∙ g)))
+
+spare-formed : (s : Spare ℕ) → isSpare s ≡ true → SpareFormed s
+unfolding isSpare
+spare-formed s e =
+    let q = and-both (isHeldCount (s .held)) (leb (s .parked) 281474976710656) e in record { held = go (s .held) (q .0); parked = leb-true _ _ (q .1) }
+  where
+    go : (h : Held) → isHeldCount h ≡ true → HeldFormed h
+    go (Known n) e = leb-true _ _ e
+    go Unknown e = tt
+
+retiring-formed : (v : Retiring ℕ) → isRetiring v ≡ true → RetiringFormed v
+unfolding isRetiring
+retiring-formed v e = record {
+  seq = leb-true _ _ (passed _ e 0);
+  epoch = leb-true _ _ (passed _ e 1);
+  birth = leb-true _ _ (passed _ e 2);
+  held = leb-true _ _ (passed _ e 3);
+  bytes = leb-true _ _ (passed _ e 4);
+}
+
+hand-formed : (o : Option (Retiring ℕ)) → isHand o ≡ true → Given RetiringFormed o
+hand-formed none e = tt
+hand-formed (some v) e = retiring-formed v e
+
+doomed-formed : (d : Doomed ℕ) → isDoomed d ≡ true → DoomedFormed d
+unfolding isDoomed
+doomed-formed d e = record { bytes = leb-true _ _ e }
+
+arrival-formed : (n : ℕ) → isArrival n ≡ true → n ≤ 4096
+unfolding isArrival
+arrival-formed n e = leb-true _ _ e
+
+module _ (l : Lent) (paged : 1024 * length (l .newest) ≡ length (l .stamps)) where
+  state-formed : (first page : ℕ) (t : TextureRecord) → page + recordPages t ≤ length (l .newest) → isState (stateRead l first page t) ≡ true
+      → StateFormed (stateRead l first page t)
+  unfolding isState stateRead
+  state-formed first page t room e = record {
+    shape = passed _ e 0;
+    epoch = leb-true _ _ (passed _ e 1);
+    birth = leb-true _ _ (passed _ e 2);
+    rename = leb-true _ _ (passed _ e 3);
+    due = leb-true _ _ (passed _ e 4);
+    history = go (t .history) room (passed _ e 5);
+    spares = all-holds isSpare spare-formed (listed (spareRead l) first (t .spares)) (passed _ e 6);
+  }
+    where
+      go : (h : Recorded) → page + recordedPages h (t .shape) ≤ length (l .newest) → isHistory (historyRead l (t .shape) page h) ≡ true
+          → Given (HistoryFormed (t .shape)) (historyRead l (t .shape) page h)
+      go NoHistory room f = tt
+      go (Writes n) room f = history-formed l paged (t .shape) (passed _ e 0) page room (Writes n) f
+
+  states-formed : (first page : ℕ) (ts : List TextureRecord) → page + total recordPages ts ≤ length (l .newest) → all isState (statesRead l first page ts) ≡ true
+      → All StateFormed (statesRead l first page ts)
+  unfolding statesRead total all
+  states-formed first page [] room e = nil
+  states-formed first page (t ∷ ts) room e =
+      let rest = statesRead l (first + t .spares) (page + recordPages t) ts in
+      let q = and-both (isState (stateRead l first page t)) (all isState rest) e in
+      cons (state-formed first page t (omega arith) (q .0)) (states-formed (first + t .spares) (page + recordPages t) ts (omega arith) (q .1))
+
+-- the counts of what is read
+module _ (l : Lent) where
+  hand-read : (b : Bool) → handCount (handRead l b) ≡ handPlaces b
+  hand-read true = refl
+  hand-read false = refl
+
+  pub versions-read : versionsUsed (modelOf l) ≡ l .pool .queued + handPlaces (l .pool .popped) + total (λ (t : TextureRecord). t .spares) (trackedRecords l) + l .pool .doomed
+  unfolding modelOf
+  versions-read =
+      ap₂ (λ (a b : ℕ). a + b)
+      (ap₂ (λ (a b : ℕ). a + b)
+      (ap₂ (λ (a b : ℕ). a + b) (length-listed (retiringRead l) (handPlaces (l .pool .popped)) (l .pool .queued)) (hand-read (l .pool .popped)))
+      (total-spares l 0 0 (trackedRecords l)))
+      (length-listed (doomedRead l) 0 (l .pool .doomed))
+
+  pub textures-read : length (modelOf l .textures) ≡ l .pool .tracked
+  unfolding modelOf
+  textures-read = length-states l 0 0 (trackedRecords l) ∙ length-table 19 readTexture (l .pool .tracked) (l .textures)
+
+  pub pages-used : total pagesUsed (modelOf l .textures) ≡ total recordPages (trackedRecords l)
+  unfolding modelOf
+  pages-used = total-pages l 0 0 (trackedRecords l)
+
+  pub version-places : modelOf l .places .versions ≡ versionPlaces l
+  unfolding modelOf
+  version-places = refl
+
+  pub page-places : modelOf l .places .pages ≡ length (l .newest)
+  unfolding modelOf
+  page-places = refl
+
+-- the places that may be lent
+pub record Enough (n : Places) : Type 0 where
+  pub texture : 1 ≤ n .textures
+  pub textures : n .textures ≤ 4096
+  pub version : 1 ≤ n .versions
+  pub versions : n .versions ≤ 4096
+  pub pages : n .pages ≤ 4096
+
+pub enough : (n : Places) → arePlaces n ≡ true → Enough n
+unfolding arePlaces
+enough n e = record {
+  texture = leb-true _ _ (passed _ e 0);
+  textures = leb-true _ _ (passed _ e 1);
+  version = leb-true _ _ (passed _ e 2);
+  versions = leb-true _ _ (passed _ e 3);
+  pages = leb-true _ _ (passed _ e 4);
+}
+
+-- ---- the whole
+
+module _ (l : Lent) (e : isPool l ≡ true) where
+  sized : sizesFit l ≡ true
+  unfolding isPool
+  sized = passed _ e 0
+
+  counted : countsFit l ≡ true
+  unfolding isPool
+  counted = passed _ e 1
+
+  claiming : runsFit l ≡ true
+  unfolding isPool
+  claiming = passed _ e 2
+
+  forming : isFormed (modelOf l) ≡ true
+  unfolding isPool
+  forming = passed _ e 3
+
+  are-places : arePlaces (modelOf l .places) ≡ true
+  unfolding sizesFit
+  are-places = passed _ sized 0
+
+  paged : 1024 * length (l .newest) ≡ length (l .stamps)
+  unfolding sizesFit
+  paged = sym (eqb-true _ _ (passed _ sized 5))
+
+  pages-claimed : total recordPages (trackedRecords l) ≡ l .pool .pages
+  unfolding runsFit
+  pages-claimed = eqb-true _ _ (passed _ claiming 1)
+
+  spares-claimed : total (λ (t : TextureRecord). t .spares) (trackedRecords l) ≡ l .pool .kept
+  unfolding runsFit
+  spares-claimed = eqb-true _ _ (passed _ claiming 0)
+
+  pages-counted : l .pool .pages ≤ length (l .newest)
+  unfolding countsFit
+  pages-counted = leb-true _ _ (passed _ counted 4)
+
+  versions-counted : l .pool .queued + handPlaces (l .pool .popped) + l .pool .kept + l .pool .doomed ≤ versionPlaces l
+  unfolding countsFit
+  versions-counted = leb-true _ _ (passed _ counted 3)
+
+  tracked-counted : l .pool .tracked ≤ modelOf l .places .textures
+  unfolding countsFit
+  tracked-counted = leb-true _ _ (passed _ counted 0)
+
+  textures-formed : All StateFormed (modelOf l .textures)
+  unfolding isFormed modelOf
+  textures-formed = states-formed l paged 0 0 (trackedRecords l) (omega (arith, pages-claimed, pages-counted)) (passed _ forming 1)
+
+  model-formed : Formed (modelOf l)
+  unfolding isFormed
+  model-formed = record {
+    ids = ascending-holds (modelOf l .textures) (passed _ forming 0);
+    textures = textures-formed;
+    retiring = all-holds isRetiring retiring-formed (modelOf l .retiring) (passed _ forming 2);
+    hand = hand-formed (modelOf l .hand) (passed _ forming 3);
+    doomed = all-holds isDoomed doomed-formed (modelOf l .doomed) (passed _ forming 4);
+    trackings = leb-true _ _ (passed _ forming 5);
+    places = omega (arith, textures-read l, tracked-counted);
+    versions = omega (arith, versions-read l, versions-counted, spares-claimed, version-places l);
+    pages = omega (arith, pages-used l, pages-claimed, pages-counted, page-places l);
+    parked = eqb-true _ _ (passed _ forming 6);
+    dooming = eqb-true _ _ (passed _ forming 7);
+    cap = leb-true _ _ (passed _ forming 8);
+    slot = ltb-true _ _ (passed _ forming 9);
+    eight = eqb-true _ _ (passed _ forming 10);
+    arrivals = all-holds isArrival arrival-formed (modelOf l .pacing .arrivals) (passed _ forming 11);
+    since = leb-true _ _ (passed _ forming 12);
+    most = enough (modelOf l .places) are-places .versions;
+  }
+
+  pub pool-fits : Fits l
+  unfolding sizesFit countsFit
+  pool-fits = record {
+    places = are-places;
+    textures = sym (eqb-true _ _ (passed _ sized 1));
+    retiring = sym (eqb-true _ _ (passed _ sized 2));
+    doomed = sym (eqb-true _ _ (passed _ sized 3));
+    spares = sym (eqb-true _ _ (passed _ sized 4));
+    stamps = paged;
+    least = omega (arith, enough (modelOf l .places) are-places .version, version-places l);
+    most = omega (arith, enough (modelOf l .places) are-places .versions, version-places l);
+    newest = omega (arith, enough (modelOf l .places) are-places .pages, page-places l);
+    tracked = tracked-counted;
+    head = ltb-true _ _ (passed _ counted 1);
+    first = ltb-true _ _ (passed _ counted 2);
+    versions = versions-counted;
+    pages = pages-counted;
+    kept = spares-claimed;
+    claimed = pages-claimed;
+    formed = model-formed;
+  }

@@ -1,0 +1,3 @@
+pub mod FitsTests
+pub mod Fits
+pub mod FromPool
