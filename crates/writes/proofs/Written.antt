@@ -1,0 +1,126 @@
+-- Laws of grids written over pages: one after the other, and read past those that are written. Assumes nothing.
+use mathlib.Core.Path.{_≡_, refl, sym, ap, ap₂, _∙_}
+use mathlib.Core.Bool.{Bool, true, false, cond}
+use mathlib.Core.List.{List, [], _∷_, _++_, map, map-append, append-nil, append-assoc}
+use Prim.Native.Nat.{ℕ, zero, suc, _+_, _*_, _-_, _%_, _≤_, _<_}
+use native.Mathlib.Nat.{add-zero, zero-add, add-assoc}
+use native.Mathlib.Numerals.{add-one}
+use native.Mathlib.Omega.{arith}
+use borrow.Author.Tests.{ne-eqb, eq-eqb}
+use lib.Dec.{eqb}
+use lib.ListN.{length, take, drop, getD, set, take-append-drop, length-append, length-drop, length-map}
+use lib.Seq.{sets, sets-eq, length-sets, length-take-le, drop-set-lt, drop-drop, getD-drop, set-getD, take-add}
+use Rattle.blocks.specs.Lists.{listed, over}
+use Rattle.blocks.specs.All.{All, nil, cons}
+use Rattle.blocks.proofs.Lists.{length-over, over-self, either}
+use Rattle.blocks.proofs.Listed.{length-listed, listed-more}
+use Rattle.shapes.specs.declared.shape.VersionShape.{VersionShape}
+use Rattle.shapes.specs.Shapes.{isShape, levelWidth, levelHeight}
+use Rattle.rects.specs.declared.rect.TexelRect.{TexelRect}
+use Rattle.rects.specs.Rects.{wholeLevel}
+use Rattle.grids.specs.Grids.{Tiling, StampGrid, gridIn, tilingOf, stampCount, stampedBy}
+use Rattle.grids.proofs.Tilings.{tiling-ok, count-bound}
+use Rattle.grids.proofs.Stamps.{length-stamped}
+use Rattle.stores.specs.Histories.{regenerateFrom}
+use Rattle.layout.specs.Reading.{pageAt}
+use Rattle.layout.specs.Writing.{pagesFrom}
+use Rattle.writes.specs.Written.{gridOn, newestStamp, newestWritten, pagesWritten, remadeGrid, remadeGrids}
+
+-- ---- a run of numbers stored
+
+module _ {ℓ} {A : Type ℓ} where
+  -- two runs, one behind the other
+  pub sets-append : (s : List A) (at : ℕ) (xs ys : List A) → sets s at (xs ++ ys) ≡ sets (sets s at xs) (at + length xs) ys
+  sets-append s at [] ys = ap (λ (k : ℕ). sets s k ys) (sym (add-zero at))
+  sets-append s at (x ∷ xs) ys =
+      sets-append (set s at x) (suc at) xs ys ∙ ap (λ (k : ℕ). sets (sets (set s at x) (suc at) xs) k ys) (let e : suc at + length xs ≡ at + suc (length xs) = omega arith in e)
+
+  -- what stands past the run stays
+  pub drop-sets : (n : ℕ) (s : List A) (at : ℕ) (xs : List A) → at + length xs ≤ n → drop n (sets s at xs) ≡ drop n s
+  drop-sets n s at [] h = refl
+  drop-sets n s at (x ∷ xs) h = drop-sets n (set s at x) (suc at) xs (omega arith) ∙ drop-set-lt n s at x (omega arith)
+
+  -- a run stored where it stood
+  pub sets-self : (s : List A) (at n : ℕ) → at + n ≤ length s → sets s at (take n (drop at s)) ≡ s
+  sets-self s at n h =
+      let e : length (take n (drop at s)) ≡ n = length-take-le n (drop at s) (omega (arith, length-drop at s)) in
+      sets-eq (take n (drop at s)) s at (omega arith)
+      ∙ ap (λ (k : ℕ). (take at s ++ take n (drop at s)) ++ drop (at + k) s) e
+      ∙ ap₂ (λ (a b : List A). a ++ b) (sym (take-add at n s)) refl
+      ∙ take-append-drop (at + n) s
+
+-- ---- the stamps of grids on their pages
+
+-- no grid is larger than a page
+abbrev pub Small : List StampGrid → Type 0
+Small gs = All (λ (g : StampGrid). length (g .stamps) ≤ 1024) gs
+
+pub length-pages : (before : ℕ → List ℕ) (k : ℕ) (gs : List StampGrid) → ((j : ℕ) → j < length gs → length (before (k + j)) ≡ 1024) → Small gs
+    → length (pagesFrom before k gs) ≡ 1024 * length gs
+unfolding pagesFrom
+length-pages before k [] paged nil = refl
+length-pages before k (g ∷ gs) paged (cons h hs) =
+    let a : length (before k) ≡ 1024 = ap (λ (j : ℕ). length (before j)) (sym (add-zero k)) ∙ paged 0 (omega arith) in
+    let b = length-over (g .stamps) (before k) (omega arith) in
+    let c = length-pages before (suc k) gs (λ j q. ap (λ (i : ℕ). length (before i)) (let e : suc k + j ≡ k + suc j = omega arith in e) ∙ paged (suc j) (omega arith)) hs in
+    omega (arith, a, b, c, length-append (over (g .stamps) (before k)) (pagesFrom before (suc k) gs))
+
+pub pages-append : (before : ℕ → List ℕ) (k : ℕ) (gs hs : List StampGrid)
+    → pagesFrom before k (gs ++ hs) ≡ pagesFrom before k gs ++ pagesFrom before (k + length gs) hs
+unfolding pagesFrom
+pages-append before k [] hs = ap (λ (j : ℕ). pagesFrom before j hs) (sym (add-zero k))
+pages-append before k (g ∷ gs) hs =
+    ap (λ (xs : List ℕ). over (g .stamps) (before k) ++ xs)
+    (pages-append before (suc k) gs hs ∙ ap (λ (j : ℕ). pagesFrom before (suc k) gs ++ pagesFrom before j hs) (let e : suc k + length gs ≡ k + suc (length gs) = omega arith in e))
+    ∙ sym (append-assoc (over (g .stamps) (before k)) (pagesFrom before (suc k) gs) (pagesFrom before (k + suc (length gs)) hs))
+
+pub length-page : (stamps : List ℕ) (p : ℕ) → 1024 * p + 1024 ≤ length stamps → length (pageAt stamps p) ≡ 1024
+length-page stamps p h = length-take-le 1024 (drop (1024 * p) stamps) (omega (arith, length-drop (1024 * p) stamps))
+
+-- ---- one page stamped
+
+module _ (s : VersionShape) (shaped : isShape s ≡ true) where
+  -- a level's grid fits its page, stamped or not
+  pub small-stamped : (level : ℕ) (r : TexelRect) (n : ℕ) (g : StampGrid) → length (stampedBy (tilingOf s level) r n g .stamps) ≤ 1024
+  small-stamped level r n g =
+      let ok = tiling-ok s shaped level in omega (arith, length-stamped (tilingOf s level) ok r n g, count-bound (tilingOf s level) ok)
+
+  pub small-grid : (level : ℕ) (newest stamps : List ℕ) (p : ℕ) → 1024 * p + 1024 ≤ length stamps → length (gridOn s level newest stamps p .stamps) ≤ 1024
+  unfolding gridOn gridIn
+  small-grid level newest stamps p h =
+      let c = count-bound (tilingOf s level) (tiling-ok s shaped level) in
+      let e = length-take-le (stampCount (tilingOf s level)) (pageAt stamps p) (omega (arith, c, length-page stamps p h)) in
+      omega (arith, c, e)
+
+  -- the page is lent as the part from `at` up to `end`, and put back
+  module _ (level : ℕ) (r : TexelRect) (n : ℕ) (newest stamps : List ℕ) (p : ℕ) (room : 1024 * p + 1024 ≤ length stamps) where
+    abbrev pub stampedPart : ℕ → Tiling → StampGrid
+    stampedPart m g = stampedBy g r n (gridIn g (getD newest p 0) (take m (drop (1024 * p) stamps)))
+
+    same-part : (m : ℕ) (g : Tiling) → m ≡ 1024 → g ≡ tilingOf s level → stampedPart m g ≡ stampedBy (tilingOf s level) r n (gridOn s level newest stamps p)
+    unfolding gridOn
+    same-part m g e f = ap₂ stampedPart e f
+
+    pub newest-back : (m : ℕ) (g : Tiling) (latest : ℕ) → m ≡ 1024 → g ≡ tilingOf s level → latest ≡ stampedPart m g .newest
+        → set newest p latest ≡ newestWritten newest p (stampedBy (tilingOf s level) r n (gridOn s level newest stamps p) ∷ [])
+    unfolding newestWritten
+    newest-back m g latest e f h = ap (set newest p) (h ∙ ap newestStamp (same-part m g e f))
+
+    pub page-back : (m : ℕ) (g : Tiling) (part : List ℕ) → m ≡ 1024 → g ≡ tilingOf s level
+        → part ≡ over (stampedPart m g .stamps) (take m (drop (1024 * p) stamps))
+        → take (1024 * p) stamps ++ (part ++ drop m (drop (1024 * p) stamps))
+        ≡ pagesWritten stamps p (stampedBy (tilingOf s level) r n (gridOn s level newest stamps p) ∷ [])
+    unfolding pagesWritten pagesFrom
+    page-back m g part e f h =
+        let new = stampedBy (tilingOf s level) r n (gridOn s level newest stamps p) in
+        let at = 1024 * p in
+        let page = over (new .stamps) (pageAt stamps p) in
+        let k : part ≡ page = h ∙ ap₂ (λ (x : StampGrid) (i : ℕ). over (x .stamps) (take i (drop at stamps))) (same-part m g e f) e in
+        let w : length page ≡ 1024 =
+        length-over (new .stamps) (pageAt stamps p) (omega (arith, length-page stamps p room, small-stamped level r n (gridOn s level newest stamps p))) ∙ length-page stamps p room in
+        ap₂ (λ (y : List ℕ) (i : ℕ). take at stamps ++ (y ++ drop i (drop at stamps))) k e
+        ∙ ap (λ (y : List ℕ). take at stamps ++ (page ++ y)) (drop-drop 1024 at stamps ∙ ap (λ (i : ℕ). drop (at + i) stamps) (sym w))
+        ∙ sym (append-assoc (take at stamps) page (drop (at + length page) stamps))
+        ∙ sym (sets-eq page stamps at (omega (arith, w)))
+        ∙ ap (λ (y : List ℕ). sets stamps at y) (sym (append-nil page))
+        ∙ ap (λ (i : ℕ). sets stamps at (over (new .stamps) (pageAt stamps i) ++ [])) (sym (add-zero p))

@@ -1,0 +1,24 @@
+use borrow.Author.Needs.{needs}
+use Rattle.writes.proofs.pages.next_level.Statement.{statement}
+use Rattle.writes.proofs.pages.next_level.Tie as tie
+use Rattle.writes.proofs.pages.next_level.Reads as reads
+use Rattle.writes.proofs.pages.next_level.Lts as lts
+
+-- src/pages.rt:72:8
+add-if1 : tie.Need-add-if1
+add-if1 c = search needs
+
+-- src/pages.rt:72:29
+add-result : tie.Need-add-result
+add-result c = search needs
+
+-- src/pages.rt:68:1
+returns : tie.Need-returns
+returns c = ?h
+
+-- src/pages.rt:68:1
+returns-2 : tie.Need-returns-2
+returns-2 c = ?h
+
+pub next-level-spec : {M : Type 1} → statement M
+next-level-spec = tie.close (tie.spec add-if1 add-result returns returns-2)
