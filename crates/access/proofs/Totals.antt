@@ -48,12 +48,12 @@ module _ {ℓ} {A : Type ℓ} (w : ℕ) (rd : List ℕ → A) (f : A → ℕ) (s
   sum-start n = zero-add (total f (left (recordAt w rd s) n 0)) ∙ ap (total f) (table-left w rd n s)
 
   module _ (n i sum : ℕ) (inv : sum + total f (left (recordAt w rd s) n i) ≡ total f (table w rd n s)) where
-    -- the next one fits what fits them all
-    pub sum-fits : i < n → sum + f (recordAt w rd s i) ≤ total f (table w rd n s)
-    sum-fits h = omega (arith, total-more (recordAt w rd s) n f i h)
+    -- with the next one it stays within the sum of all
+    pub sum-fits : (x : ℕ) → x ≡ f (recordAt w rd s i) → i < n → sum + x ≤ total f (table w rd n s)
+    sum-fits x e h = omega (arith, total-more (recordAt w rd s) n f i h)
 
-    pub sum-more : i < n → sum + f (recordAt w rd s i) + total f (left (recordAt w rd s) n (i + 1)) ≡ total f (table w rd n s)
-    sum-more h = omega (arith, total-more (recordAt w rd s) n f i h)
+    pub sum-more : (x : ℕ) → x ≡ f (recordAt w rd s i) → i < n → sum + x + total f (left (recordAt w rd s) n (i + 1)) ≡ total f (table w rd n s)
+    sum-more x e h = omega (arith, total-more (recordAt w rd s) n f i h)
 
     pub sum-done : n ≤ i → sum ≡ total f (table w rd n s)
     sum-done h = omega (arith, total-done (recordAt w rd s) n f i h)

@@ -1,6 +1,5 @@
 -- `pages_at` meets its contract. By the history and the kind. Assumes nothing.
 use borrow.Author.Needs.{needs}
-use mathlib.Core.Path.{sym}
 use native.Mathlib.Omega.{arith}
 use Rattle.access.proofs.Fields.{pages-none, pages-six, pages-one}
 use Rattle.access.proofs.runs.pages_at.Statement.{statement}
@@ -19,7 +18,7 @@ shared-slice-read-if1 : tie.Need-shared-slice-read-if1
 shared-slice-read-if1 c = search needs
 
 returns : tie.Need-returns
-returns c = sym (pages-none (c .before .before .args .s .now) (c .before .before .args .i) (c .if1 .taken))
+returns c = pages-none (c .before .before .args .s .now) (c .before .before .args .i) (c .if1 .taken)
 
 mul-levels : tie.Need-mul-levels
 mul-levels c = search needs
@@ -53,12 +52,12 @@ mul-result c =
 returns-2 : tie.Need-returns-2
 returns-2 c =
     let a = c .before .before .before .before .before .args in
-    sym (pages-six (a .s .now) (a .i) (c .before .before .before .if1 .left) (c .if2 .taken))
+    pages-six (a .s .now) (a .i) (c .before .before .before .if1 .left) (c .if2 .taken)
 
 returns-3 : tie.Need-returns-3
 returns-3 c =
     let a = c .before .before .before .before .before .args in
-    sym (pages-one (a .s .now) (a .i) (c .before .before .before .if1 .left) (c .if2 .left))
+    pages-one (a .s .now) (a .i) (c .before .before .before .if1 .left) (c .if2 .left)
 
 pub pages-at-spec : {M : Type 1} → statement M
 pages-at-spec =

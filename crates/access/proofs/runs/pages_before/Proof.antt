@@ -1,7 +1,7 @@
 -- `pages_before` meets its contract: the sum so far and that of the records left are the sum of all. Assumes nothing.
 use borrow.Author.Needs.{needs}
-use mathlib.Core.Path.{_≡_, ap, _∙_}
-use Prim.Native.Nat.{ℕ, _+_, _-_, _≤_}
+use mathlib.Core.Path.{_≡_}
+use Prim.Native.Nat.{_+_, _-_, _≤_}
 use native.Mathlib.Omega.{arith}
 use Rattle.blocks.specs.Lists.{total}
 use Rattle.blocks.proofs.Listed.{left}
@@ -32,7 +32,7 @@ add-sum c =
     let b = c .before .before in
     let e = b .before .before in
     let a = e .args in
-    omega (arith, e .pre .1, c .pages-at .ensures, sum-fits 19 readTexture recordPages (a .s .now) (a .i) (b .loop .j) (b .loop .sum) (b .loop .inv .1) (c .before .loop-test .taken))
+    omega (arith, e .pre .1, sum-fits 19 readTexture recordPages (a .s .now) (a .i) (b .loop .j) (b .loop .sum) (b .loop .inv .1) _ (c .pages-at .ensures) (c .before .loop-test .taken))
 
 add-j : tie.Need-add-j Inv-loop μ-loop
 add-j c = search needs
@@ -43,11 +43,8 @@ loop-less c = search needs
 loop-again : tie.Need-loop-again Inv-loop μ-loop
 loop-again c =
     let b = c .before .before in
-    let a = b .before .before .args in (
-      omega arith,
-      ap (λ (k : ℕ). b .loop .sum + k + total recordPages (left (recordAt 19 readTexture (a .s .now)) (a .i) (b .loop .j + 1))) (c .pages-at .ensures)
-          ∙ sum-more 19 readTexture recordPages (a .s .now) (a .i) (b .loop .j) (b .loop .sum) (b .loop .inv .1) (c .before .loop-test .taken),
-    )
+    let a = b .before .before .args in
+    (omega arith, sum-more 19 readTexture recordPages (a .s .now) (a .i) (b .loop .j) (b .loop .sum) (b .loop .inv .1) _ (c .pages-at .ensures) (c .before .loop-test .taken))
 
 returns : tie.Need-returns Inv-loop μ-loop
 returns c =

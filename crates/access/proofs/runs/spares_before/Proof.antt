@@ -1,16 +1,20 @@
 -- `spares_before` meets its contract: the sum so far and that of the records left are the sum of all. Assumes nothing.
 use borrow.Author.Needs.{needs}
-use mathlib.Core.Path.{_≡_, sym, ap, _∙_}
+use mathlib.Core.Path.{_≡_}
 use Prim.Native.Nat.{ℕ, _+_, _-_, _≤_}
 use native.Mathlib.Omega.{arith}
 use Rattle.blocks.specs.Lists.{total}
 use Rattle.blocks.proofs.Listed.{left}
 use Rattle.tables.specs.Records.{recordAt, table}
+use Rattle.records.specs.declared.texture.TextureRecord.{TextureRecord}
 use Rattle.records.specs.Texture.{readTexture}
 use Rattle.access.proofs.Totals.{sum-start, sum-fits, sum-more, sum-done}
-use Rattle.access.proofs.Fields.{sparesOf, spares-number}
+use Rattle.access.proofs.Fields.{spares-number}
 use Rattle.access.proofs.runs.spares_before.Statement.{statement}
 use Rattle.access.proofs.runs.spares_before.Tie as tie
+
+abbrev sparesOf : TextureRecord → ℕ
+sparesOf t = t .spares
 
 abbrev Inv-loop : tie.InvT-loop
 Inv-loop s i sum₀ j₀ sum j = (j ≤ i) × (sum + total sparesOf (left (recordAt 19 readTexture s) i j) ≡ total sparesOf (table 19 readTexture i s))
@@ -36,8 +40,10 @@ shared-slice-read-sum c = search needs
 add-sum-2 : tie.Need-add-sum-2 Inv-loop μ-loop
 add-sum-2 c =
     let b = c .before .before in
-    let a = b .before .args in
-    omega (arith, b .before .pre .1, spares-number (a .s .now) (b .loop .j), sum-fits 19 readTexture sparesOf (a .s .now) (a .i) (b .loop .j) (b .loop .sum) (b .loop .inv .1) (c .before .loop-test .taken))
+    let e = b .before in
+    let t = e .args .s .now in
+    let j = b .loop .j in
+    omega (arith, e .pre .1, sum-fits 19 readTexture sparesOf t (e .args .i) j (b .loop .sum) (b .loop .inv .1) _ (spares-number t j) (c .before .loop-test .taken))
 
 add-j : tie.Need-add-j Inv-loop μ-loop
 add-j c = search needs
@@ -48,11 +54,10 @@ loop-less c = search needs
 loop-again : tie.Need-loop-again Inv-loop μ-loop
 loop-again c =
     let b = c .before .before in
-    let a = b .before .args in (
-      omega arith,
-      ap (λ (k : ℕ). b .loop .sum + k + total sparesOf (left (recordAt 19 readTexture (a .s .now)) (a .i) (b .loop .j + 1))) (sym (spares-number (a .s .now) (b .loop .j)))
-          ∙ sum-more 19 readTexture sparesOf (a .s .now) (a .i) (b .loop .j) (b .loop .sum) (b .loop .inv .1) (c .before .loop-test .taken),
-    )
+    let a = b .before .args in
+    let t = a .s .now in
+    let j = b .loop .j in
+    (omega arith, sum-more 19 readTexture sparesOf t (a .i) j (b .loop .sum) (b .loop .inv .1) _ (spares-number t j) (c .before .loop-test .taken))
 
 returns : tie.Need-returns Inv-loop μ-loop
 returns c =

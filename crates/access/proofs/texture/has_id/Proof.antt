@@ -1,6 +1,6 @@
 -- `has_id` meets its contract: an id is the first number of its record. Assumes nothing.
 use borrow.Author.Needs.{needs}
-use Rattle.access.proofs.Fields.{no-record, id-number}
+use Rattle.access.proofs.Ids.{no-record, by-number}
 use Rattle.access.proofs.texture.has_id.Statement.{statement}
 use Rattle.access.proofs.texture.has_id.Tie as tie
 
@@ -20,7 +20,7 @@ returns-2 : tie.Need-returns-2
 returns-2 c =
     let tested = c .before in
     let a = tested .before .args in
-    id-number (a .s .now) (a .n) (a .i) (a .id) (tested .if1 .left)
+    by-number (a .s .now) (a .n) (a .i) (a .id) (tested .if1 .left)
 
 pub has-id-spec : {M : Type 1} → statement M
 has-id-spec =
