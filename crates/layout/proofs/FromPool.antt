@@ -81,11 +81,11 @@ grid-formed g writes newest page h e =
       below = leb-true _ _ (q .1);
     }
 
+pub length-page : (l : Lent) → 1024 * length (l .newest) ≡ length (l .stamps) → (page : ℕ) → page < length (l .newest) → length (pageAt (l .stamps) page) ≡ 1024
+length-page l paged page h = length-take-le 1024 (drop (1024 * page) (l .stamps)) (omega (arith, length-drop (1024 * page) (l .stamps)))
+
 module _ (l : Lent) (paged : 1024 * length (l .newest) ≡ length (l .stamps)) (s : VersionShape) (shaped : isShape s ≡ true)
     (page : ℕ) (room : page + pagesOf s ≤ length (l .newest)) where
-  pub length-page : (k : ℕ) → k < pagesOf s → length (pageAt (l .stamps) (page + k)) ≡ 1024
-  length-page k h = length-take-le 1024 (drop (1024 * (page + k)) (l .stamps)) (omega (arith, length-drop (1024 * (page + k)) (l .stamps)))
-
   -- the grid of a subresource is that of its page
   pub grid-place : (writes slice level : ℕ) → slice < slicesOf s → level < s .levels
       → (gridPlace s slice level < pagesOf s)
@@ -100,7 +100,7 @@ module _ (l : Lent) (paged : 1024 * length (l .newest) ≡ length (l .stamps)) (
   unfolding gridRead
   page-formed n k h e =
       let c = count-bound (tilingOf s (k % s .levels)) (tiling-ok s shaped (k % s .levels)) in
-      grid-formed (tilingOf s (k % s .levels)) n (getD (l .newest) (page + k) 0) (pageAt (l .stamps) (page + k)) (omega (arith, c, length-page k h)) e
+      grid-formed (tilingOf s (k % s .levels)) n (getD (l .newest) (page + k) 0) (pageAt (l .stamps) (page + k)) (omega (arith, c, length-page l paged (page + k) (omega arith))) e
 
   place-level : (slice level : ℕ) → level < s .levels → gridPlace s slice level % s .levels ≡ level
   place-level slice level h = mul-add-mod-self-right slice (s .levels) level ∙ mod-eq-of-lt h

@@ -1,48 +1,33 @@
 -- Lent memory of which all the facts hold passes the test. Assumes nothing.
-use mathlib.Core.Path.{_≡_, refl, sym, ap, ap₂, _∙_}
+use mathlib.Core.Path.{_≡_, refl, sym, ap₂}
 use mathlib.Core.Bool.{Bool, true, _&&_}
 use mathlib.Core.Option.{Option, none, some}
-use mathlib.Core.List.{List, [], _∷_}
-use Prim.Native.Nat.{ℕ, _*_, _/_, _%_, _≤_, _<_}
-use native.Mathlib.Nat.{mul-comm}
-use native.Mathlib.Omega.{arith}
+use Prim.Native.Nat.{ℕ, _≤_}
 use borrow.Author.Tests.{lt-ltb, le-leb, eq-eqb}
-use lib.ListN.{length, getD}
 use Rattle.blocks.specs.All.{nil, cons}
 use Rattle.blocks.proofs.Lists.{all-from}
 use Rattle.shapes.specs.declared.shape.VersionShape.{VersionShape}
 use Rattle.grids.specs.Grids.{Tiling, StampGrid}
-use Rattle.shapes.specs.Shapes.{slicesOf}
-use Rattle.grids.proofs.RowByRow.{tile-at}
 use Rattle.stores.specs.declared.held.Held.{Held}
 use Rattle.stores.specs.declared.held.Held.the-variants.{Known, Unknown}
 use Rattle.stores.specs.Model.{WriteHistory, Spare, Retiring, Doomed, VersionState, Pool}
-use Rattle.stores.specs.Histories.{gridAt}
 use Rattle.stores.specs.Formed.{Given, HeldFormed, GridFormed, HistoryFormed, SpareFormed, RetiringFormed, DoomedFormed, StateFormed, Formed}
 use Rattle.layout.specs.Lent.{Lent}
 use Rattle.layout.specs.Reading.{modelOf}
 use Rattle.layout.specs.IsPool.{sizesFit, countsFit, runsFit, isGrid, isHistory, isHeldCount, isSpare, isState, isRetiring, isHand, isDoomed, isArrival, isFormed, isPool}
 use Rattle.layout.proofs.FitsTests.{all-passes, ascending-passes, every}
+use Rattle.layout.proofs.FitsGrids.{noGrid, grid-of}
 use Rattle.layout.proofs.Fits.{Fits}
 
 grid-passes : {g : Tiling} {writes : ℕ} {grid : StampGrid} → GridFormed g writes grid → isGrid writes grid ≡ true
 unfolding isGrid
 grid-passes f = ap₂ (λ (a b : Bool). a && b) (eq-eqb _ _ (f .newest)) (le-leb _ _ (f .below))
 
-module _ (s : VersionShape) where
-  -- each grid is that of its slice and level
-  grids-pass : (h : WriteHistory) → HistoryFormed s h → (i : ℕ) → i < length (h .grids) → isGrid (h .writes) (getD (h .grids) i (record { newest = 0; stamps = [] })) ≡ true
-  unfolding gridAt
-  grids-pass h f i k =
-      let a = tile-at (s .levels) (slicesOf s) i (omega (arith, f .size, mul-comm (s .levels) (slicesOf s))) in
-      ap (λ (j : ℕ). isGrid (h .writes) (getD (h .grids) j (record { newest = 0; stamps = [] }))) (a .place)
-      ∙ grid-passes (f .grids (i / s .levels) (i % s .levels) (a .row) (a .column))
-
-  history-passes : (o : Option WriteHistory) → Given (HistoryFormed s) o → isHistory o ≡ true
-  unfolding isHistory
-  history-passes none f = refl
-  history-passes (some h) f =
-      ap₂ (λ (a b : Bool). a && b) (le-leb _ _ (f .writes)) (all-from (isGrid (h .writes)) (h .grids) (record { newest = 0; stamps = [] }) (grids-pass h f))
+history-passes : (s : VersionShape) (o : Option WriteHistory) → Given (HistoryFormed s) o → isHistory o ≡ true
+unfolding isHistory
+history-passes s none f = refl
+history-passes s (some h) f =
+    ap₂ (λ (a b : Bool). a && b) (le-leb _ _ (f .writes)) (all-from (isGrid (h .writes)) (h .grids) noGrid (λ i k. grid-passes (grid-of s h f i k)))
 
 held-passes : (h : Held) → HeldFormed h → isHeldCount h ≡ true
 held-passes (Known n) f = le-leb _ _ f
