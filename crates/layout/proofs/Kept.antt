@@ -24,8 +24,7 @@ use Rattle.records.specs.Find.{idOf}
 use Rattle.layout.specs.Lent.{Lent}
 use Rattle.layout.specs.Reading.{trackedRecords, pageAt, gridRead, historyRead, recordedPages, stateRead, modelOf}
 use Rattle.layout.specs.Writing.{gridsOf, firstPage, pageBefore, pagesFrom, pagesAfter, newestOf}
-use Rattle.layout.specs.IsPool.{stateId}
-use Rattle.layout.proofs.Runs.{firstSpare, firstPageOf, pages-state, stateOf, tracked-records, tracked-model, model-at, take-states, pages-states}
+use Rattle.layout.proofs.Runs.{firstSpare, firstPageOf, pages-state, stateOf, tracked-records, tracked-model, model-at, id-model, take-states, pages-states}
 
 -- ---- the first page of a texture
 
@@ -139,10 +138,8 @@ module _ (l : Lent) where
   module _ (up : ascending idOf (trackedRecords l) ≡ true) (d : VersionState ℕ) where
     -- no other texture has its id
     pub apart : (i j : ℕ) → j < i → i < l .pool .tracked → getD (modelOf l .textures) j d .id < getD (modelOf l .textures) i d .id
-    unfolding stateOf stateRead
     apart i j h k =
-        let e : (m : ℕ) → m < l .pool .tracked → getD (modelOf l .textures) m d .id ≡ getD (trackedRecords l) m (readTexture []) .id = λ m q. ap stateId (model-at l m d q) in
-        omega (arith, e i k, e j (omega arith), ascending-get idOf (trackedRecords l) j i (readTexture []) up h (omega (arith, tracked-records l)))
+        omega (arith, id-model l i d k, id-model l j d (omega arith), ascending-get idOf (trackedRecords l) j i (readTexture []) up h (omega (arith, tracked-records l)))
 
     found-at : (i : ℕ) → i < l .pool .tracked → (id : ℕ) (shape : VersionShape) → Here id shape (getD (modelOf l .textures) i d) ≡ true
         → firstPage id shape 0 (modelOf l .textures) ≡ some (firstPageOf l i)
