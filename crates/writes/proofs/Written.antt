@@ -1,5 +1,5 @@
 -- Laws of grids written over pages: one after the other, and read past those that are written. Assumes nothing.
-use mathlib.Core.Path.{_≡_, refl, sym, ap, ap₂, _∙_}
+use mathlib.Core.Path.{_≡_, refl, sym, ap, ap₂, _∙_, subst}
 use mathlib.Core.Bool.{Bool, true, false, cond}
 use mathlib.Core.List.{List, [], _∷_, _++_, map, map-append, append-nil, append-assoc}
 use Prim.Native.Nat.{ℕ, zero, suc, _+_, _*_, _-_, _%_, _≤_, _<_}
@@ -13,12 +13,15 @@ use lib.Seq.{sets, sets-eq, length-sets, length-take-le, drop-set-lt, drop-drop,
 use Rattle.blocks.specs.Lists.{listed, over}
 use Rattle.blocks.specs.All.{All, nil, cons}
 use Rattle.blocks.proofs.Lists.{length-over, over-self, either}
+use Rattle.blocks.proofs.Blocks.{getD-sets-past}
 use Rattle.blocks.proofs.Listed.{length-listed, listed-more}
 use Rattle.shapes.specs.declared.shape.VersionShape.{VersionShape}
 use Rattle.shapes.specs.Shapes.{isShape, levelWidth, levelHeight}
 use Rattle.rects.specs.declared.rect.TexelRect.{TexelRect}
 use Rattle.rects.specs.Rects.{wholeLevel}
-use Rattle.grids.specs.Grids.{Tiling, StampGrid, gridIn, tilingOf, stampCount, stampedBy}
+use Rattle.tiles.specs.declared.axis.Axis.{Axis}
+use Rattle.tiles.specs.Axes.{AxisOk}
+use Rattle.grids.specs.Grids.{Tiling, tiled, StampGrid, gridIn, tilingOf, stampCount, stampedBy}
 use Rattle.grids.proofs.Tilings.{tiling-ok, count-bound}
 use Rattle.grids.proofs.Stamps.{length-stamped}
 use Rattle.stores.specs.Histories.{regenerateFrom}
@@ -124,3 +127,70 @@ module _ (s : VersionShape) (shaped : isShape s ≡ true) where
         ∙ sym (sets-eq page stamps at (omega (arith, w)))
         ∙ ap (λ (y : List ℕ). sets stamps at y) (sym (append-nil page))
         ∙ ap (λ (i : ℕ). sets stamps at (over (new .stamps) (pageAt stamps i) ++ [])) (sym (add-zero p))
+
+    -- what a page lent on has to be
+    pub part-fits : (m : ℕ) (across down : Axis) → m ≡ 1024 → across ≡ tilingOf s level .across → down ≡ tilingOf s level .down
+        → AxisOk across × AxisOk down × (stampCount (tiled across down) ≤ length (take m (drop (1024 * p) stamps)))
+    part-fits m across down e f g =
+        let ok = tiling-ok s shaped level in (
+          subst AxisOk (sym f) (ok .across),
+          subst AxisOk (sym g) (ok .down),
+          subst (λ (i : ℕ). stampCount (tiled across down) ≤ length (take i (drop (1024 * p) stamps))) (sym e)
+              (subst (λ (t : Tiling). stampCount t ≤ length (pageAt stamps p)) (sym (ap₂ tiled f g))
+              (omega (arith, count-bound (tilingOf s level) ok, length-page stamps p room))),
+        )
+
+-- ---- grids behind grids
+
+-- what stands on the page behind those written is as it was
+pub newest-past : (newest : List ℕ) (p k : ℕ) (gs : List StampGrid) → length gs ≡ k → p + k ≤ length newest
+    → getD (newestWritten newest p gs) (p + k) 0 ≡ getD newest (p + k) 0
+unfolding newestWritten
+newest-past newest p k gs e h = getD-sets-past newest p (map newestStamp gs) (omega (arith, e, length-map gs newestStamp)) (p + k) 0 (omega (arith, e, length-map gs newestStamp))
+
+pub newest-more : (newest : List ℕ) (p k : ℕ) (gs : List StampGrid) (g : StampGrid) → length gs ≡ k
+    → newestWritten (newestWritten newest p gs) (p + k) (g ∷ []) ≡ newestWritten newest p (gs ++ (g ∷ []))
+unfolding newestWritten
+newest-more newest p k gs g e =
+    ap (λ (i : ℕ). sets (sets newest p (map newestStamp gs)) (p + i) (g .newest ∷ [])) (sym (length-map gs newestStamp ∙ e))
+    ∙ sym (sets-append newest p (map newestStamp gs) (g .newest ∷ []))
+    ∙ ap (λ (xs : List ℕ). sets newest p xs) (sym (map-append newestStamp gs (g ∷ [])))
+
+module _ (stamps : List ℕ) (p k : ℕ) (gs : List StampGrid) (count : length gs ≡ k) (small : Small gs) (room : 1024 * (p + k) ≤ length stamps) where
+  abbrev pagesOver : List ℕ
+  pagesOver = pagesFrom (λ (j : ℕ). pageAt stamps (p + j)) 0 gs
+
+  pub length-over-pages : length pagesOver ≡ 1024 * k
+  length-over-pages =
+      length-pages (λ (j : ℕ). pageAt stamps (p + j)) 0 gs (λ j q. length-page stamps (p + (0 + j)) (omega (arith, count))) small ∙ ap (λ (i : ℕ). 1024 * i) count
+
+  pub page-past : pageAt (pagesWritten stamps p gs) (p + k) ≡ pageAt stamps (p + k)
+  unfolding pagesWritten
+  page-past = ap (take 1024) (drop-sets (1024 * (p + k)) stamps (1024 * p) pagesOver (omega (arith, length-over-pages)))
+
+  pub pages-more : (g : StampGrid) → pagesWritten (pagesWritten stamps p gs) (p + k) (g ∷ []) ≡ pagesWritten stamps p (gs ++ (g ∷ []))
+  unfolding pagesWritten pagesFrom
+  pages-more g =
+      let w = sets stamps (1024 * p) pagesOver in
+      let page = over (g .stamps) (pageAt stamps (p + k)) in
+      ap (λ (y : List ℕ). sets w (1024 * (p + k)) (over (g .stamps) y ++ [])) (ap (pageAt w) (add-zero (p + k)) ∙ page-past)
+      ∙ ap (λ (i : ℕ). sets w i (page ++ [])) (let e : 1024 * (p + k) ≡ 1024 * p + length pagesOver = omega (arith, length-over-pages) in e)
+      ∙ sym (sets-append stamps (1024 * p) pagesOver (page ++ []))
+      ∙ ap (λ (i : ℕ). sets stamps (1024 * p) (pagesOver ++ (over (g .stamps) (pageAt stamps (p + i)) ++ []))) (sym count)
+      ∙ ap (λ (y : List ℕ). sets stamps (1024 * p) y) (sym (pages-append (λ (j : ℕ). pageAt stamps (p + j)) 0 gs (g ∷ []) ∙ ap (λ (i : ℕ). pagesOver ++ pagesFrom (λ (j : ℕ). pageAt stamps (p + j)) i (g ∷ [])) (zero-add (length gs))))
+
+-- ---- a grid written where it stands
+
+module _ (s : VersionShape) (level : ℕ) (newest stamps : List ℕ) (p : ℕ) where
+  pub newest-stands : newest ≡ newestWritten newest p (gridOn s level newest stamps p ∷ [])
+  unfolding newestWritten gridOn gridIn
+  newest-stands = sym (set-getD newest p 0)
+
+  pub page-stands : 1024 * p + 1024 ≤ length stamps → stamps ≡ pagesWritten stamps p (gridOn s level newest stamps p ∷ [])
+  unfolding pagesWritten pagesFrom gridOn gridIn
+  page-stands h =
+      let c = stampCount (tilingOf s level) in
+      let page = pageAt stamps p in
+      sym (ap (λ (i : ℕ). sets stamps (1024 * p) (over (take c page) (pageAt stamps i) ++ [])) (add-zero p)
+      ∙ ap (λ (y : List ℕ). sets stamps (1024 * p) y) (append-nil (over (take c page) page) ∙ over-self (take c page) page (drop c page) (sym (take-append-drop c page)))
+      ∙ sets-self stamps (1024 * p) 1024 h)

@@ -61,7 +61,15 @@ fn regenerate_page(
     }
     let width = level_extent(shape.width, level);
     let height = level_extent(shape.height, level);
-    stamp_page(newest, stamps, p, shape, level, level_rect(width, height), n);
+    stamp_page(
+        newest,
+        stamps,
+        p,
+        shape,
+        level,
+        level_rect(width, height),
+        n,
+    );
 }
 
 // The level of the page behind one of this level: the first again behind the last.
@@ -96,13 +104,7 @@ pub fn regenerate_pages(
 }
 
 // Of the `used` pages, the n from `page` on taken out: the later ones move down.
-pub fn remove_pages(
-    newest: &mut [u64],
-    stamps: &mut [u64],
-    used: usize,
-    page: usize,
-    n: usize,
-)
+pub fn remove_pages(newest: &mut [u64], stamps: &mut [u64], used: usize, page: usize, n: usize)
     requires { ⌜ (page + n ≤ used) × (used ≤ length (now newest)) × (1024 * used ≤ length (now stamps)) ⌝ }
     ensures { λ _. ⌜
         (now (newest .exit) ≡ moved (now (newest .entry)) page (page + n) (used - (page + n)))

@@ -1,4 +1,6 @@
+-- `next_level` meets its contract. Assumes nothing.
 use borrow.Author.Needs.{needs}
+use Rattle.writes.proofs.Regenerated.{level-next, level-wraps}
 use Rattle.writes.proofs.pages.next_level.Statement.{statement}
 use Rattle.writes.proofs.pages.next_level.Tie as tie
 use Rattle.writes.proofs.pages.next_level.Reads as reads
@@ -14,11 +16,11 @@ add-result c = search needs
 
 -- src/pages.rt:68:1
 returns : tie.Need-returns
-returns c = ?h
+returns c = level-next _ _ (c .if1 .taken)
 
 -- src/pages.rt:68:1
 returns-2 : tie.Need-returns-2
-returns-2 c = ?h
+returns-2 c = level-wraps (c .before .args .level) (c .before .args .levels) (c .before .pre) (c .if1 .left)
 
 pub next-level-spec : {M : Type 1} → statement M
 next-level-spec = tie.close (tie.spec add-if1 add-result returns returns-2)

@@ -1,4 +1,14 @@
+-- `regenerate_page` meets its contract: level 0 stays, any other is stamped whole. Assumes nothing.
+use mathlib.Core.Path.{_≡_, sym, ap, _∙_}
+use mathlib.Core.List.{[], _∷_}
+use Prim.Native.Nat.{_+_, _*_, _≤_}
+use native.Mathlib.Omega.{arith}
+use lib.ListN.{length}
 use borrow.Author.Needs.{needs}
+use Rattle.grids.specs.Grids.{StampGrid}
+use Rattle.writes.specs.Written.{gridOn, newestWritten, pagesWritten}
+use Rattle.writes.proofs.Written.{newest-stands, page-stands}
+use Rattle.writes.proofs.Regenerated.{remade-first, remade-later}
 use Rattle.writes.proofs.pages.regenerate_page.Statement.{statement}
 use Rattle.writes.proofs.pages.regenerate_page.Tie as tie
 use Rattle.writes.proofs.pages.regenerate_page.Reads as reads
@@ -9,7 +19,15 @@ use Rattle.writes.proofs.pages.stamp_page.Reads as stamp-page-reads
 
 -- src/pages.rt:60:9
 returns : tie.Need-returns
-returns c = ?h
+returns c =
+    let s = c .before .before .before in
+    let a = s .args in
+    let g = gridOn (a .shape) (a .level) (a .newest .now) (a .stamps .now) (a .p) in
+    let e = sym (remade-first (a .shape) (a .n) (a .level) g (c .if1 .taken)) in (
+      newest-stands (a .shape) (a .level) (a .newest .now) (a .stamps .now) (a .p) ∙ ap (λ (x : StampGrid). newestWritten (a .newest .now) (a .p) (x ∷ [])) e,
+      page-stands (a .shape) (a .level) (a .newest .now) (a .stamps .now) (a .p) (omega (arith, s .pre))
+          ∙ ap (λ (x : StampGrid). pagesWritten (a .stamps .now) (a .p) (x ∷ [])) e,
+    )
 
 -- src/pages.rt:62:9
 level-extent-requires : tie.Need-level-extent-requires
@@ -37,7 +55,17 @@ same-length-2 c = search needs
 
 -- src/pages.rt:46:1
 returns-2 : tie.Need-returns-2
-returns-2 c = ?h
+returns-2 c =
+    let b = c .before .before .before .before in
+    let s = b .before .before .before .before .before .before .before .before .before in
+    let a = s .args in
+    let g = gridOn (a .shape) (a .level) (a .newest .now) (a .stamps .now) (a .p) in
+    let w = b .before .before .before .before in
+    let e = remade-later (a .shape) (a .n) (a .level) (w .before .level-extent .result) (w .level-extent2 .result) (b .before .level-rect .result) g
+    (w .before .before .if1 .left) (w .before .level-extent .ensures) (w .level-extent2 .ensures) (b .before .level-rect .ensures) in (
+      b .stamp-page .ensures .0 ∙ ap (λ (x : StampGrid). newestWritten (a .newest .now) (a .p) (x ∷ [])) e,
+      b .stamp-page .ensures .1 ∙ ap (λ (x : StampGrid). pagesWritten (a .stamps .now) (a .p) (x ∷ [])) e,
+    )
 
 pub regenerate-page-spec : {M : Type 1} → statement M
 regenerate-page-spec =

@@ -1,14 +1,11 @@
 -- `stamp_page` meets its contract: the page is lent on as a part and put back. Assumes nothing.
-use mathlib.Core.Path.{_≡_, refl, sym, ap, ap₂, _∙_}
-use Prim.Native.Nat.{_+_, _*_, _-_}
+use mathlib.Core.Path.{_≡_, ap₂}
+use Prim.Native.Nat.{_+_, _*_, _-_, _≤_}
 use native.Mathlib.Omega.{arith}
-use lib.ListN.{length, take, drop, length-drop}
-use lib.Seq.{length-take-le}
+use lib.ListN.{length}
 use borrow.Author.Needs.{needs}
-use Rattle.tiles.specs.Axes.{AxisOk}
-use Rattle.grids.specs.Grids.{Tiling, tiled, tilingOf, stampCount}
-use Rattle.grids.proofs.Tilings.{tiling-ok, count-bound}
-use Rattle.writes.proofs.Written.{newest-back, page-back}
+use Rattle.grids.specs.Grids.{tiled, tilingOf}
+use Rattle.writes.proofs.Written.{part-fits, newest-back, page-back}
 use Rattle.writes.proofs.pages.stamp_page.Statement.{statement}
 use Rattle.writes.proofs.pages.stamp_page.Tie as tie
 use Rattle.writes.proofs.pages.stamp_page.Reads as reads
@@ -59,7 +56,10 @@ slice-read-stamp c = search needs
 
 -- src/pages.rt:41:9
 stamp-requires : tie.Need-stamp-requires
-stamp-requires c κs = ?h
+stamp-requires c κs =
+    let b = c .before .before in
+    let a = b .before .before .before .before .args in
+    part-fits (a .shape) (b .before .before .before .before .pre .0) (a .level) (a .rect) (a .n) (a .newest .now) (a .stamps .now) (a .p) (omega (arith, b .before .before .before .before .pre)) (1024 * a .p + 1024 - 1024 * a .p) (b .before .across-axis .result) (b .down-axis .result) (omega arith) (b .before .across-axis .ensures) (b .down-axis .ensures)
 
 -- src/pages.rt:42:5
 mul-newest : tie.Need-mul-newest
@@ -79,7 +79,17 @@ same-length-2 c = search needs
 
 -- src/pages.rt:23:1
 returns : tie.Need-returns
-returns c = ?h
+returns c =
+    let b = c .before .before in
+    let s = b .before .before .before .before .before .before .before in
+    let a = s .args in
+    let e : 1024 * a .p + 1024 - 1024 * a .p ≡ 1024 = omega arith in
+    let g : tiled (b .before .before .before .before .across-axis .result) (b .before .before .before .down-axis .result) ≡ tilingOf (a .shape) (a .level) =
+    ap₂ tiled (b .before .before .before .before .across-axis .ensures) (b .before .before .before .down-axis .ensures) in
+    let room : 1024 * a .p + 1024 ≤ length (a .stamps .now) = omega (arith, s .pre) in (
+      newest-back (a .shape) (s .pre .0) (a .level) (a .rect) (a .n) (a .newest .now) (a .stamps .now) (a .p) room _ _ _ e g (b .stamp .ensures .0),
+      page-back (a .shape) (s .pre .0) (a .level) (a .rect) (a .n) (a .newest .now) (a .stamps .now) (a .p) room _ _ _ e g (b .stamp .ensures .1),
+    )
 
 pub stamp-page-spec : {M : Type 1} → statement M
 stamp-page-spec =
