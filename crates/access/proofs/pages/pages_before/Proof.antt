@@ -33,7 +33,8 @@ add-sum c =
     let e = b .before .before in
     let t = e .args .textures .now in
     let j = b .loop .j in
-    omega (arith, e .pre .1, sum-fits 19 readTexture recordPages t (e .args .i) j (b .loop .sum) (b .loop .inv .1) _ (c .pages-at .ensures) (c .before .loop-test .taken))
+    let fits = sum-fits 19 readTexture recordPages t (e .args .i) j (b .loop .sum) (b .loop .inv .1) _ (c .pages-at .ensures) (c .before .loop-test .taken) in
+    omega (arith, e .pre .1, fits)
 
 add-j : tie.Need-add-j Inv-loop μ-loop
 add-j c = search needs
