@@ -17,14 +17,16 @@ use Rattle.layout.specs.Calls.{copyNumbers, viewNumbers, regionNumbers}
 use Rattle.books.specs.LentLists.{readCopy}
 
 -- records that are read as they were written, whatever else is read
-module _ {A : Type 0} (w : ℕ) (rd : List ℕ → A) (wr : A → List ℕ) (long : (a : A) → length (wr a) ≡ w) (read : (a : A) (l : List ℕ) → rd (wr a ++ l) ≡ a) where
+module _ {A : Type 0} (w : ℕ) (rd : List ℕ → A) (wr : A → List ℕ) (long : (a : A) → length (wr a) ≡ w)
+    (read : (a : A) (l : List ℕ) → rd (wr a ++ l) ≡ a) where
   record-flat : (xs : List A) (rest : List ℕ) (k : ℕ) (d : A) → k < length xs → recordAt w rd (flat wr xs ++ rest) k ≡ getD xs k d
   unfolding recordAt flat
   record-flat [] rest k d h = absurd (let y : ⊥ = omega arith in y)
   record-flat (x ∷ xs) rest zero d h =
       ap₂ (λ (n : ℕ) (l : List ℕ). rd (drop n l)) (mul-zero w) (append-assoc (wr x) (flat wr xs) rest) ∙ read x (flat wr xs ++ rest)
   record-flat (x ∷ xs) rest (suc k) d h =
-      ap₂ (λ (n : ℕ) (l : List ℕ). rd (drop n l)) (mul-suc w k ∙ add-comm (w * k) w ∙ ap (λ (n : ℕ). n + w * k) (sym (long x))) (append-assoc (wr x) (flat wr xs) rest)
+      ap₂ (λ (n : ℕ) (l : List ℕ). rd (drop n l)) (mul-suc w k ∙ add-comm (w * k) w ∙ ap (λ (n : ℕ). n + w * k) (sym (long x)))
+      (append-assoc (wr x) (flat wr xs) rest)
       ∙ ap rd (drop-append-add (wr x) (flat wr xs ++ rest) (w * k))
       ∙ record-flat xs rest k d (omega arith)
 
@@ -33,7 +35,8 @@ module _ {A : Type 0} (w : ℕ) (rd : List ℕ → A) (wr : A → List ℕ) (lon
   table-over [] buffer = refl
   table-over (x ∷ xs) buffer =
       let rest = drop (length (flat wr (x ∷ xs))) buffer in
-      listed-same (recordAt w rd (flat wr (x ∷ xs) ++ rest)) (λ k. getD (x ∷ xs) k x) (length (x ∷ xs)) 0 0 (λ j q. record-flat (x ∷ xs) rest (0 + j) x (omega arith))
+      listed-same (recordAt w rd (flat wr (x ∷ xs) ++ rest)) (λ k. getD (x ∷ xs) k x) (length (x ∷ xs)) 0 0
+      (λ j q. record-flat (x ∷ xs) rest (0 + j) x (omega arith))
       ∙ listed-getD x (x ∷ xs)
 
 long-copy : (c : PreserveCopy) → length (copyNumbers c) ≡ 7

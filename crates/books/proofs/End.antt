@@ -43,7 +43,8 @@ call-formed p k (between c) = between-formed p k c
 module _ {S C : Type 0} (standsFor : C → Call) (calls : S → C → Reply × S) (Represents : S → Pool ℕ → Type 0)
     (simulates : (σ : S) (p : Pool ℕ) (c : C) → Formed p → Represents σ p
     → (calls σ c .0 ≡ call p (standsFor c) .0) × Represents (calls σ c .1) (call p (standsFor c) .1)) where
-  along : (s : State) (p : Pool ℕ) (σ : S) (cs : List C) → Formed p → Represents σ p → Throughout s p (map standsFor cs) → ThroughoutOf standsFor calls s σ cs
+  along : (s : State) (p : Pool ℕ) (σ : S) (cs : List C) → Formed p → Represents σ p → Throughout s p (map standsFor cs)
+      → ThroughoutOf standsFor calls s σ cs
   along s p σ [] k r t = t .agrees
   along s p σ (c ∷ cs) k r t = (
     t .0 .agrees,

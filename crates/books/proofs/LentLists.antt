@@ -51,7 +51,8 @@ carried id n = n
 abbrev Simulates : Reply × Lent → Reply × Pool ℕ → Type 0
 Simulates x y = (x .0 ≡ y .0) × Represents (x .1) (y .1)
 
-module _ (l : Lent) (p : Pool ℕ) (represents : Represents l p) {A : Type 0} (rule : Pool ℕ → Out ℕ A) (kept : OutFormed (rule p)) (same : SamePlaces p (rule p)) where
+module _ (l : Lent) (p : Pool ℕ) (represents : Represents l p) {A : Type 0} (rule : Pool ℕ → Out ℕ A) (kept : OutFormed (rule p))
+    (same : SamePlaces p (rule p)) where
   asked-model : {B : Type 0} (f : A → B) → asked f l rule ≡ writtenBack f l (rule p)
   unfolding asked
   asked-model f = rw (fits-pool l (represents .0), represents .1)
@@ -70,14 +71,21 @@ module _ (l : Lent) (p : Pool ℕ) (represents : Represents l p) {A : Type 0} (r
       go (refused n) k s = (refl, represents)
       go (accepted a q) (formed k) s = (e a, after-represents q k s)
 
+  -- one that answers nothing but its outcome
+  does : {B : Type 0} (f : A → B) → Simulates (said (λ b. done) (asked f l rule)) (answered number carried (λ a. done) p (rule p))
+  does f = says f (λ b. done) (λ a. done) (λ a. refl)
+
 -- a call that fills a buffer
 fills : (l : Lent) (p : Pool ℕ) (represents : Represents l p) {A : Type 0} (rule : Pool ℕ → Out ℕ (List A)) → OutFormed (rule p) → SamePlaces p (rule p)
-    → (wr : A → List ℕ) (buffer : List ℕ) (g : ℕ → List ℕ → Reply) (r : List A → Reply) → ((xs : List A) → g (length xs) (over (flat wr xs) buffer) ≡ r xs)
+    → (wr : A → List ℕ) (buffer : List ℕ) (g : ℕ → List ℕ → Reply) (r : List A → Reply)
+    → ((xs : List A) → g (length xs) (over (flat wr xs) buffer) ≡ r xs)
     → Simulates (filled g (inBuffer wr buffer (asked (λ a. a) l rule))) (answered number carried r p (rule p))
 fills l p represents {A} rule kept same wr buffer g r e =
-    subst (λ x. Simulates (filled g (inBuffer wr buffer x)) (answered number carried r p (rule p))) (sym (asked-model l p represents rule kept same (λ a. a))) (go (rule p) kept same)
+    subst (λ x. Simulates (filled g (inBuffer wr buffer x)) (answered number carried r p (rule p)))
+    (sym (asked-model l p represents rule kept same (λ a. a))) (go (rule p) kept same)
   where
-    go : (o : Out ℕ (List A)) → OutFormed o → SamePlaces p o → Simulates (filled g (inBuffer wr buffer (writtenBack (λ a. a) l o))) (answered number carried r p o)
+    go : (o : Out ℕ (List A)) → OutFormed o → SamePlaces p o
+        → Simulates (filled g (inBuffer wr buffer (writtenBack (λ a. a) l o))) (answered number carried r p o)
     go (refused n) k s = (refl, represents)
     go (accepted xs q) (formed k) s = (e xs, after-represents l p represents rule kept same q k s)
 
@@ -97,30 +105,32 @@ views-reply buffer vs = ap viewsHanded (views-read vs buffer ∙ sym (map-id vs)
 simulates : (l : Lent) (p : Pool ℕ) (c : LentCall) → Formed p → Represents l p → Simulates (lentCall l c) (call p (roomOf c))
 unfolding lentCall perform performBetween takeSpareCall retireCall noteWriteCall noteMipRegenerationCall popRetiredCall parkCall noteAllocatedCall trimCall forgetTextureCall preservePlanCall takeDoomedCall drainVersionsCall
 simulates l p (lentTake id shape records seq) k r =
-    says l p r (λ q. takeSpare q id shape records seq) (closed p k .take-spare id shape records seq) (take-spare-places p id shape records seq) takenOf takenReply _ taken-reply
+    says l p r (λ q. takeSpare q id shape records seq) (closed p k .take-spare id shape records seq) (take-spare-places p id shape records seq)
+    takenOf takenReply _ taken-reply
 simulates l p (lentPlan id shape held u buffer) k r =
     fills l p r (λ q. preservePlan q id shape held u (length buffer / 7)) (closed p k .preserve-plan id shape held u (length buffer / 7))
     (preserve-plan-places p id shape held u (length buffer / 7)) copyNumbers buffer copiesReply _ (λ cs. ap copiesPlanned (copies-read cs buffer))
 simulates l p (lentRetire id view seq) k r =
-    says l p r (λ q. retire q id view seq) (closed p k .retires id view seq) (retire-places p id view seq) (λ a. a) (λ a. done) _ (λ a. refl)
+    does l p r (λ q. retire q id view seq) (closed p k .retires id view seq) (retire-places p id view seq) (λ a. a)
 simulates l p (lentWrite id slice level rect) k r =
-    says l p r (λ q. noteWrite q id slice level rect) (closed p k .note-write id slice level rect) (note-write-places p id slice level rect) (λ a. a) (λ a. done) _ (λ a. refl)
+    does l p r (λ q. noteWrite q id slice level rect) (closed p k .note-write id slice level rect) (note-write-places p id slice level rect) (λ a. a)
 simulates l p (lentRegen id) k r =
-    says l p r (λ q. noteMipRegeneration q id) (closed p k .note-mip-regeneration id) (note-mip-regeneration-places p id) (λ a. a) (λ a. done) _ (λ a. refl)
+    does l p r (λ q. noteMipRegeneration q id) (closed p k .note-mip-regeneration id) (note-mip-regeneration-places p id) (λ a. a)
 simulates l p (lentPop settled) k r =
     says l p r (λ q. popRetired q settled) (closed p k .pop-retired settled) (pop-retired-places p settled) poppedOf poppedReply _ popped-reply
 simulates l p (lentPark failed now) k r =
-    says l p r (λ q. park q failed now) (closed p k .parks failed now) (park-places p failed now) (λ a. a) (λ a. done) _ (λ a. refl)
+    does l p r (λ q. park q failed now) (closed p k .parks failed now) (park-places p failed now) (λ a. a)
 simulates l p (lentNote allocated) k r =
-    says l p r (λ q. noteAllocated q allocated) (closed p k .note-allocated allocated) (note-allocated-places p allocated) (λ a. a) (λ a. done) _ (λ a. refl)
+    does l p r (λ q. noteAllocated q allocated) (closed p k .note-allocated allocated) (note-allocated-places p allocated) (λ a. a)
 simulates l p (lentDoomed buffer) k r =
-    fills l p r (λ q. takeDoomed q (length buffer)) (closed p k .take-doomed (length buffer)) (take-doomed-places p (length buffer)) viewNumbers buffer viewsReply _ (views-reply buffer)
+    fills l p r (λ q. takeDoomed q (length buffer)) (closed p k .take-doomed (length buffer)) (take-doomed-places p (length buffer))
+    viewNumbers buffer viewsReply _ (views-reply buffer)
 simulates l p (lentDrain buffer) k r =
-    fills l p r (λ q. drainVersions q (length buffer)) (closed p k .drain-versions (length buffer)) (drain-versions-places p (length buffer)) viewNumbers buffer viewsReply _
-    (views-reply buffer)
-simulates l p (lentTrim now) k r = says l p r (λ q. trim q now) (closed p k .trims now) (trim-places p now) (λ a. a) (λ a. done) _ (λ a. refl)
+    fills l p r (λ q. drainVersions q (length buffer)) (closed p k .drain-versions (length buffer)) (drain-versions-places p (length buffer))
+    viewNumbers buffer viewsReply _ (views-reply buffer)
+simulates l p (lentTrim now) k r = does l p r (λ q. trim q now) (closed p k .trims now) (trim-places p now) (λ a. a)
 simulates l p (lentForget id) k r =
-    says l p r (λ q. forgetTexture q id) (closed p k .forget-texture id) (forget-texture-places p id) (λ a. a) (λ a. done) _ (λ a. refl)
+    does l p r (λ q. forgetTexture q id) (closed p k .forget-texture id) (forget-texture-places p id) (λ a. a)
 
 -- ---- every list of them
 

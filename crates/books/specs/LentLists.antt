@@ -120,7 +120,8 @@ abbrev pub ThroughoutLent : Lent → ℕ → List LentCall → Type 0
 ThroughoutLent l working cs = ThroughoutOf roomOf lentCall (start (modelOf l .places) working) l cs
 
 abbrev pub Demand3From : Lent → ℕ → Type 0
-Demand3From l working = sizesFit l ≡ true → (cs : List LentCall) → Renames (start (modelOf l .places) working) (map roomOf cs) → ThroughoutLent l working cs
+Demand3From l working =
+    sizesFit l ≡ true → (cs : List LentCall) → Renames (start (modelOf l .places) working) (map roomOf cs) → ThroughoutLent l working cs
 
 unfoldable pub Demand3Lent : Type 0
 Demand3Lent = (working : ℕ) (textures retiring doomed spares newest stamps : List ℕ)
