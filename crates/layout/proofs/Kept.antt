@@ -4,14 +4,14 @@ use mathlib.Core.Bool.{Bool, true, false, cond, _&&_}
 use mathlib.Core.Option.{Option, none, some}
 use mathlib.Core.List.{List, [], _∷_, _++_, map, flatMap}
 use Prim.Native.Nat.{ℕ, zero, suc, _+_, _*_, _%_, _<_}
-use native.Mathlib.Nat.{add-zero, zero-add, add-assoc, mul-add, mul-zero}
+use native.Mathlib.Nat.{add-zero, zero-add, add-assoc, mul-zero}
 use native.Mathlib.Omega.{arith}
 use borrow.Author.Tests.{eqb-true, ne-eqb, eq-eqb}
 use lib.Dec.{eqb}
-use lib.ListN.{length, take, drop, getD, take-append-drop, length-drop}
-use lib.Seq.{take-add, drop-drop, getD-take, getD-drop, take-take}
+use lib.ListN.{length, take, drop, getD, take-append-drop}
+use lib.Seq.{take-add, drop-drop}
 use Rattle.blocks.specs.Lists.{listed, total, ascending}
-use Rattle.blocks.proofs.Lists.{over-self, and-both, ascending-get, total-append}
+use Rattle.blocks.proofs.Lists.{over-self, and-both, ascending-get}
 use Rattle.shapes.specs.declared.shape.VersionShape.{VersionShape}
 use Rattle.shapes.specs.Shapes.{sameShape}
 use Rattle.shapes.proofs.Shapes.{same-self}
@@ -24,6 +24,7 @@ use Rattle.records.specs.Find.{idOf}
 use Rattle.layout.specs.Lent.{Lent}
 use Rattle.layout.specs.Reading.{trackedRecords, pageAt, gridRead, historyRead, recordedPages, stateRead, modelOf}
 use Rattle.layout.specs.Writing.{gridsOf, firstPage, pageBefore, pagesFrom, pagesAfter, newestOf}
+use Rattle.layout.proofs.Parts.{flat-mapped, total-mapped, Stands, stands-whole, stands-take, stands-drop}
 use Rattle.layout.proofs.Runs.{firstSpare, firstPageOf, pages-state, stateOf, tracked-records, tracked-model, model-at, id-model, take-states, pages-states}
 
 -- ---- the first page of a texture
@@ -53,47 +54,6 @@ module _ (id : ℕ) (shape : VersionShape) where
   no-page (x ∷ xs) page d apart =
       ap (λ (b : Bool). cond b (some page) (firstPage id shape (page + pagesUsed x) xs)) (apart 0 (omega arith))
       ∙ no-page xs (page + pagesUsed x) d (λ j q. apart (suc j) (omega arith))
-
--- ---- runs of a list that stand one behind the other
-
-length-take-some {ℓ} : {A : Type ℓ} (i : ℕ) (xs : List A) (j : ℕ) → j < length (take i xs) → (j < i) × (j < length xs)
-length-take-some zero xs j h = absurd (let y : ⊥ = omega arith in y)
-length-take-some (suc i) [] j h = absurd (let y : ⊥ = omega arith in y)
-length-take-some (suc i) (x ∷ xs) zero h = (omega arith, omega arith)
-length-take-some (suc i) (x ∷ xs) (suc j) h = let k = length-take-some i xs j (omega arith) in (omega (arith, k .0), omega (arith, k .1))
-
-module _ {A : Type 0} (f : A → List ℕ) (w : A → ℕ) (c : ℕ) (s : List ℕ) (d : A) where
-  -- from c * at on, each has its run of c * w numbers
-  abbrev pub Stands : ℕ → List A → Type 0
-  Stands at xs = (j : ℕ) → j < length xs → f (getD xs j d) ≡ take (c * w (getD xs j d)) (drop (c * (at + total w (take j xs))) s)
-
-  pub stands-whole : (at : ℕ) (xs : List A) → Stands at xs → flatMap f xs ≡ take (c * total w xs) (drop (c * at) s)
-  unfolding flatMap total
-  stands-whole at [] h = sym (ap (λ (k : ℕ). take k (drop (c * at) s)) (mul-zero c))
-  stands-whole at (x ∷ xs) h =
-      ap₂ (λ (a b : List ℕ). a ++ b)
-      (h 0 (omega arith) ∙ ap (λ (k : ℕ). take (c * w x) (drop (c * k) s)) (add-zero at))
-      (stands-whole (at + w x) xs
-      (λ j q. h (suc j) (omega arith) ∙ ap (λ (k : ℕ). take (c * w (getD xs j d)) (drop (c * k) s)) (sym (add-assoc at (w x) (total w (take j xs)))))
-      ∙ ap (take (c * total w xs)) (ap (λ (k : ℕ). drop k s) (mul-add c at (w x)) ∙ sym (drop-drop (c * w x) (c * at) s)))
-      ∙ sym (take-add (c * w x) (c * total w xs) (drop (c * at) s))
-      ∙ ap (λ (k : ℕ). take k (drop (c * at) s)) (sym (mul-add c (w x) (total w xs)))
-
-  pub stands-take : (at i : ℕ) (xs : List A) → Stands at xs → Stands at (take i xs)
-  stands-take at i xs h j q =
-      let k = length-take-some i xs j q in
-      ap f (getD-take i xs j d (k .0))
-      ∙ h j (k .1)
-      ∙ ap₂ (λ (x : A) (ys : List A). take (c * w x) (drop (c * (at + total w ys)) s)) (sym (getD-take i xs j d (k .0))) (sym (take-take j i xs (omega (arith, k .0))))
-
-  pub stands-drop : (at i : ℕ) (xs : List A) → Stands at xs → Stands (at + total w (take i xs)) (drop i xs)
-  stands-drop at i xs h j q =
-      let e : at + total w (take (i + j) xs) ≡ at + total w (take i xs) + total w (take j (drop i xs)) =
-      ap (λ (n : ℕ). at + n) (ap (total w) (take-add i j xs) ∙ total-append w (take i xs) (take j (drop i xs)))
-      ∙ sym (add-assoc at (total w (take i xs)) (total w (take j (drop i xs)))) in
-      ap f (getD-drop i xs j d)
-      ∙ h (i + j) (omega (arith, q, length-drop i xs))
-      ∙ ap₂ (λ (x : A) (n : ℕ). take (c * w x) (drop (c * n) s)) (sym (getD-drop i xs j d)) e
 
 -- ---- a texture's pages
 
@@ -197,28 +157,18 @@ pagedOf t = record { id = t .id; shape = t .shape; history = t .history }
 abbrev pagesIn : Lent → Paged → List ℕ
 pagesIn l t = pagesFrom (pageBefore l (firstPage (t .id) (t .shape) 0 (modelOf l .textures))) 0 (gridsOf (t .history))
 
-pub flat-mapped : {A B C : Type 0} (g : B → List C) (f : A → B) (xs : List A) → flatMap (λ (x : A). g (f x)) xs ≡ flatMap g (map f xs)
-unfolding flatMap
-flat-mapped g f [] = refl
-flat-mapped {C = C} g f (x ∷ xs) = ap (λ (ys : List C). g (f x) ++ ys) (flat-mapped g f xs)
-
 pub pages-paged : (l : Lent) (ts us : List (VersionState ℕ)) → map pagedOf ts ≡ map pagedOf us → flatMap (pagesAfter l) ts ≡ flatMap (pagesAfter l) us
 unfolding pagesAfter
-pages-paged l ts us e = flat-mapped (pagesIn l) pagedOf ts ∙ ap (flatMap (pagesIn l)) e ∙ sym (flat-mapped (pagesIn l) pagedOf us)
+pages-paged l ts us e = flat-mapped pagedOf (pagesIn l) ts ∙ ap (flatMap (pagesIn l)) e ∙ sym (flat-mapped pagedOf (pagesIn l) us)
 
 abbrev newestIn : Paged → List ℕ
 newestIn t = map (λ (g : StampGrid). g .newest) (gridsOf (t .history))
 
 pub newest-paged : (ts us : List (VersionState ℕ)) → map pagedOf ts ≡ map pagedOf us → flatMap newestOf ts ≡ flatMap newestOf us
-newest-paged ts us e = flat-mapped newestIn pagedOf ts ∙ ap (flatMap newestIn) e ∙ sym (flat-mapped newestIn pagedOf us)
-
-total-mapped : {A B : Type 0} (g : B → ℕ) (f : A → B) (xs : List A) → total (λ (x : A). g (f x)) xs ≡ total g (map f xs)
-unfolding total
-total-mapped g f [] = refl
-total-mapped g f (x ∷ xs) = ap (λ (n : ℕ). g (f x) + n) (total-mapped g f xs)
+newest-paged ts us e = flat-mapped pagedOf newestIn ts ∙ ap (flatMap newestIn) e ∙ sym (flat-mapped pagedOf newestIn us)
 
 abbrev usedIn : Paged → ℕ
 usedIn t = cond (hasHistory (t .history)) (pagesOf (t .shape)) 0
 
 pub used-paged : (ts us : List (VersionState ℕ)) → map pagedOf ts ≡ map pagedOf us → total pagesUsed ts ≡ total pagesUsed us
-used-paged ts us e = total-mapped usedIn pagedOf ts ∙ ap (total usedIn) e ∙ sym (total-mapped usedIn pagedOf us)
+used-paged ts us e = total-mapped pagedOf usedIn ts ∙ ap (total usedIn) e ∙ sym (total-mapped pagedOf usedIn us)
