@@ -22,8 +22,8 @@ use Rattle.grids.specs.Grids.{StampGrid, gridIn, tilingOf, stampedBy}
 use Rattle.stores.specs.Histories.{regenerateFrom}
 use Rattle.layout.specs.Reading.{pageAt}
 use Rattle.layout.specs.Writing.{pagesFrom}
-use Rattle.writes.specs.Written.{gridOn, newestWritten, pagesWritten, remadeGrid, remadeGrids}
-use Rattle.writes.proofs.Written.{Small, small-stamped, small-grid, newest-past, newest-more, page-past, pages-more, newest-stands, page-stands}
+use Rattle.histories.specs.Written.{gridOn, newestWritten, pagesWritten, remadeGrid, remadeGrids}
+use Rattle.histories.proofs.Written.{Small, small-stamped, small-grid, newest-past, newest-more, page-past, pages-more, newest-stands, page-stands}
 
 -- ---- one grid
 

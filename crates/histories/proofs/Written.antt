@@ -27,7 +27,7 @@ use Rattle.grids.proofs.Stamps.{length-stamped}
 use Rattle.stores.specs.Histories.{regenerateFrom}
 use Rattle.layout.specs.Reading.{pageAt}
 use Rattle.layout.specs.Writing.{pagesFrom}
-use Rattle.writes.specs.Written.{gridOn, newestStamp, newestWritten, pagesWritten, remadeGrid, remadeGrids}
+use Rattle.histories.specs.Written.{gridOn, newestStamp, newestWritten, pagesWritten, remadeGrid, remadeGrids}
 
 -- ---- a run of numbers stored
 

@@ -8,7 +8,7 @@ ghost use Rattle.blocks.specs.Blocks.{moved};
 ghost use Rattle.shapes.specs.Shapes.{isShape};
 ghost use Rattle.grids.specs.Grids.{tilingOf, stampedBy};
 ghost use Rattle.stores.specs.Model.{pagesOf};
-ghost use Rattle.writes.specs.Written.{gridOn, newestWritten, pagesWritten, remadeGrid, remadeGrids};
+ghost use Rattle.histories.specs.Written.{gridOn, newestWritten, pagesWritten, remadeGrid, remadeGrids};
 use blocks::shift_down;
 use grids::across_axis;
 use grids::down_axis;

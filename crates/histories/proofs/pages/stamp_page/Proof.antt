@@ -5,11 +5,11 @@ use native.Mathlib.Omega.{arith}
 use lib.ListN.{length}
 use borrow.Author.Needs.{needs}
 use Rattle.grids.specs.Grids.{tiled, tilingOf}
-use Rattle.writes.proofs.Written.{part-fits, newest-back, page-back}
-use Rattle.writes.proofs.pages.stamp_page.Statement.{statement}
-use Rattle.writes.proofs.pages.stamp_page.Tie as tie
-use Rattle.writes.proofs.pages.stamp_page.Reads as reads
-use Rattle.writes.proofs.pages.stamp_page.Lts as lts
+use Rattle.histories.proofs.Written.{part-fits, newest-back, page-back}
+use Rattle.histories.proofs.pages.stamp_page.Statement.{statement}
+use Rattle.histories.proofs.pages.stamp_page.Tie as tie
+use Rattle.histories.proofs.pages.stamp_page.Reads as reads
+use Rattle.histories.proofs.pages.stamp_page.Lts as lts
 use Rattle.grids.proofs.across_axis.Reads as across-axis-reads
 use Rattle.grids.proofs.down_axis.Reads as down-axis-reads
 use Rattle.grids.proofs.stamp.Reads as stamp-reads

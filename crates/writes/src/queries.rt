@@ -1,0 +1,100 @@
+// The questions that a texture's history answers. They alter nothing.
+ghost use mathlib.Core.Path.{_≡_};
+ghost use mathlib.Core.Bool.{true};
+ghost use Prim.Native.Nat.{_*_, _≤_};
+ghost use lib.ListN.{length};
+ghost use Rattle.grids.specs.Grids.{tilingOf, IsDirtyTile};
+ghost use Rattle.stores.specs.Histories.{inShape};
+ghost use Rattle.stores.specs.NoteWrite.{recordsWrites, IsDirtyTileOf};
+ghost use Rattle.layout.specs.Lent.{lent};
+ghost use Rattle.layout.specs.Reading.{pageAt, modelOf};
+ghost use Rattle.layout.specs.IsPool.{isPool};
+ghost use Rattle.writes.specs.History.{textureAt, pagesEnd, HistoryAt, pageOf};
+use access::texture_at;
+use crate::history::history_at;
+use crate::history::in_shape;
+use crate::history::page_of;
+use grids::DirtyTile;
+use grids::across_axis;
+use grids::down_axis;
+use layout::PacingBook;
+use layout::Pool;
+use records::Recorded;
+use records::find_texture;
+
+// Whether the texture keeps a write history, so that its writes are to be reported.
+pub fn records_writes(
+    pool: Pool,
+    book: PacingBook,
+    textures: &[u64],
+    retiring: &[u64],
+    doomed: &[u64],
+    spares: &[u64],
+    newest: &[u64],
+    stamps: &[u64],
+    id: u64,
+) -> bool
+    requires { ⌜ isPool (lent pool book (now textures) (now retiring) (now doomed) (now spares) (now newest) (now stamps)) ≡ true ⌝ }
+    ensures { λ r. ⌜ r ≡ recordsWrites (modelOf (lent pool book (now (textures .entry)) (now (retiring .entry)) (now (doomed .entry)) (now (spares .entry)) (now (newest .entry)) (now (stamps .entry)))) id ⌝ }
+{
+    let tracked = pool.tracked;
+    let i = find_texture(textures, tracked, id);
+    let history = history_at(textures, tracked, i, id);
+    match history {
+        Recorded::Writes(_) => true,
+        Recorded::NoHistory => false,
+    }
+}
+
+// Some tile of a subresource of texture i, on its page.
+fn dirty_subresource(
+    textures: &[u64],
+    stamps: &[u64],
+    i: usize,
+    slice: u64,
+    level: u64,
+    held: u64,
+) -> DirtyTile
+    requires { ⌜ HistoryAt (now textures) i × (1024 * pagesEnd (now textures) i ≤ length (now stamps)) × (inShape (textureAt (now textures) i .shape) slice level ≡ true) ⌝ }
+    ensures { λ r. ⌜ IsDirtyTile (tilingOf (textureAt (now (textures .entry)) i .shape) level) held (pageAt (now (stamps .entry)) (pageOf (now (textures .entry)) i slice level)) r ⌝ }
+{
+    let t = texture_at(textures, i);
+    let shape = t.shape;
+    let a = 1024 * page_of(textures, i, shape.levels, slice, level);
+    let e = a + 1024;
+    let across = across_axis(shape, level);
+    let down = down_axis(shape, level);
+    grids::dirty_tile(&stamps[a..e], across, down, held)
+}
+
+// Some tile of a subresource stamped above `held`, or none if there is none. Which one is left open.
+// None where the texture is not tracked, has no history or lacks the subresource.
+pub fn dirty_tile(
+    pool: Pool,
+    book: PacingBook,
+    textures: &[u64],
+    retiring: &[u64],
+    doomed: &[u64],
+    spares: &[u64],
+    newest: &[u64],
+    stamps: &[u64],
+    id: u64,
+    slice: u64,
+    level: u64,
+    held: u64,
+) -> DirtyTile
+    requires { ⌜ isPool (lent pool book (now textures) (now retiring) (now doomed) (now spares) (now newest) (now stamps)) ≡ true ⌝ }
+    ensures { λ r. ⌜ IsDirtyTileOf (modelOf (lent pool book (now (textures .entry)) (now (retiring .entry)) (now (doomed .entry)) (now (spares .entry)) (now (newest .entry)) (now (stamps .entry)))) id slice level held r ⌝ }
+{
+    let tracked = pool.tracked;
+    let i = find_texture(textures, tracked, id);
+    let history = history_at(textures, tracked, i, id);
+    let Recorded::Writes(_) = history else {
+        return DirtyTile::NoTile;
+    };
+    let t = texture_at(textures, i);
+    if !in_shape(t.shape, slice, level) {
+        return DirtyTile::NoTile;
+    }
+    dirty_subresource(textures, stamps, i, slice, level, held)
+}
