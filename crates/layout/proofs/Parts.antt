@@ -3,13 +3,13 @@ use mathlib.Core.Path.{_≡_, refl, sym, ap, ap₂, _∙_}
 use mathlib.Core.List.{List, [], _∷_, _++_, map, flatMap, map-append, append-assoc}
 use Prim.Native.Nat.{ℕ, zero, suc, _+_, _*_, _-_, _≤_, _<_}
 use native.Mathlib.Numerals.{add-one}
-use native.Mathlib.Nat.{add-zero, add-assoc, mul-add, mul-zero}
+use native.Mathlib.Nat.{add-zero, zero-add, suc-add, add-assoc, mul-add, mul-zero}
 use native.Mathlib.Omega.{arith}
-use lib.ListN.{length, take, drop, getD, set, length-append, length-drop, take-append-drop}
-use lib.Seq.{sets, sets-eq, set-split, take-add, take-take, take-append-le, take-append-add, drop-at, drop-drop, drop-append-le, drop-append-add, getD-take, getD-drop, length-take-le}
+use lib.ListN.{length, take, drop, getD, set, replicate, length-replicate, length-append, length-drop, take-append-drop}
+use lib.Seq.{sets, sets-eq, set-split, take-add, take-take, take-append-le, take-append-add, take-at, take-all, drop-at, drop-drop, drop-append-le, drop-append-add, getD-take, getD-drop, length-take-le}
 use Rattle.blocks.specs.Lists.{over, total, removed, inserted}
 use Rattle.blocks.specs.Blocks.{moved}
-use Rattle.blocks.proofs.Lists.{total-append}
+use Rattle.blocks.proofs.Lists.{over-self, over-over, length-over, take-over, total-append}
 
 -- ---- under a map
 
@@ -220,3 +220,48 @@ moved-self s at n =
     ∙ ap (λ (l : List ℕ). take at s ++ (take n (drop at s) ++ l)) (sym (drop-drop n at s))
     ∙ ap (λ (l : List ℕ). take at s ++ l) (take-append-drop n (drop at s))
     ∙ take-append-drop at s
+
+drop-within : (x s : List ℕ) (a : ℕ) → a ≤ length x → drop a (over x s) ≡ drop a x ++ drop (length x) s
+unfolding over
+drop-within x s a q = drop-append-le a x (drop (length x) s) q
+
+-- in two moves: the block taken out, and then y put in
+pub repacked-twice : (s y : List ℕ) (a n r : ℕ) → a + n + r ≤ length s → a + length y + r ≤ length s
+    → sets (moved (moved s a (a + n) r) (a + length y) a r) a y ≡ sets (moved s (a + length y) (a + n) r) a y
+repacked-twice s y a n r h room =
+    let b = take r (drop (a + n) s) in
+    let x = take a s ++ b in
+    let la : length (take a s) ≡ a = length-take-le a s (omega arith) in
+    let lb : length b ≡ r = length-take-le r (drop (a + n) s) (omega (arith, length-drop (a + n) s)) in
+    let lx : length x ≡ a + r = length-append (take a s) b ∙ ap₂ (λ (i j : ℕ). i + j) la lb in
+    let one : moved s a (a + n) r ≡ over x s =
+    ap (λ (k : ℕ). moved s k (a + n) r) (sym (add-zero a)) ∙ repacked s [] a (a + n) r (omega arith) h (omega arith) in
+    let long : length (over x s) ≡ length s = length-over x s (omega arith) in
+    let front : take a (over x s) ≡ take a s = take-over x s a (omega arith) ∙ take-at (take a s) b a la in
+    let back : take r (drop a (over x s)) ≡ b =
+    take-drop-over x s a r (omega arith) ∙ ap (take r) (drop-at (take a s) b a la) ∙ take-all r b (omega arith) in
+    ap (λ (q : List ℕ). sets (moved q (a + length y) a r) a y) one
+    ∙ repacked (over x s) y a a r (omega arith) (omega arith) (omega arith)
+    ∙ ap₂ (λ (p q : List ℕ). over (p ++ (y ++ q)) (over x s)) front back
+    ∙ over-over x (take a s ++ (y ++ b)) s (omega (arith, lx, la, lb, length-append (take a s) (y ++ b), length-append y b))
+    ∙ sym (repacked s y a (a + n) r (omega arith) h room)
+  where
+    -- within what is laid over
+    take-drop-over : (x s : List ℕ) (a r : ℕ) → a + r ≤ length x → take r (drop a (over x s)) ≡ take r (drop a x)
+    take-drop-over x s a r q =
+        ap (take r) (drop-within x s a (omega arith)) ∙ take-append-le r (drop a x) (drop (length x) s) (omega (arith, length-drop a x))
+
+-- ---- runs of one number
+
+pub length-zeros : (n : ℕ) → length (replicate {A = ℕ} n 0) ≡ n
+length-zeros n = length-replicate n 0
+
+pub replicate-add {ℓ} : {A : Type ℓ} (a b : ℕ) (x : A) → replicate (a + b) x ≡ replicate a x ++ replicate b x
+replicate-add zero b x = ap (λ (n : ℕ). replicate n x) (zero-add b)
+replicate-add {A = A} (suc a) b x = ap (λ (n : ℕ). replicate n x) (suc-add a b) ∙ ap (λ (l : List A). x ∷ l) (replicate-add a b x)
+
+-- the same number laid over a longer run
+pub over-replicate {ℓ} : {A : Type ℓ} (n m : ℕ) (x : A) → n ≤ m → over (replicate n x) (replicate m x) ≡ replicate m x
+over-replicate n m x h =
+    over-self (replicate n x) (replicate m x) (replicate (m - n) x)
+    (ap (λ (k : ℕ). replicate k x) (let e : m ≡ n + (m - n) = omega arith in e) ∙ replicate-add n (m - n) x)
