@@ -82,7 +82,7 @@ module _ (l : Lent) where
       ∙ pages-read s page 0 (pagesOf s)
       ∙ ap (λ (m : ℕ). take (1024 * pagesOf s) (drop (1024 * m) (l .stamps))) (add-zero page)
 
-  pages-of : (i : ℕ) (found : Option ℕ) → (hasHistory (stateOf l i .history) ≡ true → found ≡ some (firstPageOf l i))
+  pub pages-of : (i : ℕ) (found : Option ℕ) → (hasHistory (stateOf l i .history) ≡ true → found ≡ some (firstPageOf l i))
       → pagesFrom (pageBefore l found) 0 (gridsOf (stateOf l i .history)) ≡ take (1024 * pagesUsed (stateOf l i)) (drop (1024 * firstPageOf l i) (l .stamps))
   unfolding stateOf stateRead
   pages-of i found e =
