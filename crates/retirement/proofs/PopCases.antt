@@ -3,13 +3,18 @@ use mathlib.Core.Path.{_≡_, refl, sym, ap, ap₂, _∙_}
 use mathlib.Core.Bool.{Bool, true, false, cond}
 use mathlib.Core.Option.{Option, none, some}
 use mathlib.Core.List.{List, [], _∷_}
-use Prim.Native.Nat.{ℕ, zero, suc, _+_, _-_, _≤_, _<_}
+use Prim.Native.Nat.{ℕ, suc, _-_, _*_, _/_, _≤_, _<_}
 use native.Mathlib.Omega.{arith}
 use borrow.Author.Tests.{lt-ltb, le-ltb, le-leb, lt-leb}
 use lib.Dec.{leb, ltb}
+use lib.ListN.{length}
 use Rattle.blocks.specs.Lists.{listed}
 use Rattle.blocks.proofs.Listed.{length-listed}
-use Rattle.stores.specs.Model.{Retiring, Pool, Out, refused, accepted, guard, limit}
+use Rattle.tables.specs.Rings.{along}
+use Rattle.records.specs.declared.retiring.RetiringRecord.{RetiringRecord}
+use Rattle.records.specs.Retiring.{readRetiring}
+use Rattle.records.specs.Views.{retiringOf}
+use Rattle.stores.specs.Model.{Retiring, Pool, accepted, guard, limit}
 use Rattle.stores.specs.Updates.{withRetiring}
 use Rattle.stores.specs.PopRetired.{popFront, isHeld, popRetired}
 use Rattle.layout.specs.Lent.{Lent, lent, versionPlaces}
@@ -25,6 +30,11 @@ use Rattle.layout.proofs.Rings.{head-stays, first-stays, retiring-popped}
 use Rattle.layout.proofs.Same.{held-same, doomed-model}
 use Rattle.layout.proofs.Stays.{put-together, nothing-changed, book-stays, textures-stay, spares-stay, newest-stay, stamps-stay, doomed-stay, ring-fits}
 use Rattle.retirement.specs.Counts.{frontPopped}
+
+-- the ring is in its slice, and its head in the ring
+pub ring-room : (l : Lent) → Fits l → (7 * (length (l .retiring) / 7) ≤ length (l .retiring)) × (l .pool .head < length (l .retiring) / 7) × (0 < length (l .retiring) / 7)
+unfolding versionPlaces
+ring-room l f = (omega (arith, f .retiring), f .head, f .least)
 
 -- an empty hand is no longer than a full one
 hand-full : {b : Bool} → b ≡ false → handPlaces b ≤ 1
@@ -78,7 +88,7 @@ module _ (l : Lent) (e : isPool l ≡ true) (settled : ℕ) where
         unfolding listed
         front = queue (suc (l .pool .queued - 1)) (omega arith)
 
-        pub pop-unsettled : settled < retiringRead l 0 .seq → (answer none, l) ≡ popRetiredCall l settled
+        pop-unsettled : settled < retiringRead l 0 .seq → (answer none, l) ≡ popRetiredCall l settled
         pop-unsettled k =
             nothing (free ∙ ap (popFront (modelOf l) settled) front
             ∙ ap
@@ -111,17 +121,33 @@ module _ (l : Lent) (e : isPool l ≡ true) (settled : ℕ) where
         }
 
         -- the front is settled: it is in the hand
-        pub pop-front : retiringRead l 0 .seq ≤ settled
+        pop-front : retiringRead l 0 .seq ≤ settled
             → (answer (some (record { id = retiringRead l 0 .id; view = retiringRead l 0 .view })), lent (frontPopped (l .pool)) (l .book) (l .textures) (l .retiring) (l .doomed) (l .spares) (l .newest) (l .stamps))
             ≡ popRetiredCall l settled
         unfolding popRetiredCall
         pop-front k =
             let r : popRetired (modelOf l) settled ≡ accepted (some (retiringRead l 0)) popped =
-                free ∙ ap (popFront (modelOf l) settled) front
-                ∙ ap (λ (b : Bool). cond b (accepted (some (retiringRead l 0)) popped) (accepted none (modelOf l))) (le-leb (retiringRead l 0 .seq) settled k) in
+            free ∙ ap (popFront (modelOf l) settled) front
+            ∙ ap (λ (b : Bool). cond b (accepted (some (retiringRead l 0)) popped) (accepted none (modelOf l))) (le-leb (retiringRead l 0 .seq) settled k) in
             sym (asked-accepted poppedOf l (λ (p : Pool ℕ). popRetired p settled) e (some (retiringRead l 0)) popped r
             ∙ ap (λ (l′ : Lent). (answer (some (record { id = retiringRead l 0 .id; view = retiringRead l 0 .view })), l′))
             (sym (put-together popped l (frontPopped (l .pool)) (l .book) (l .textures) (l .retiring) (l .doomed) (l .spares) (l .newest) (l .stamps) counts
             (book-stays l fits popped refl) (textures-stay l fits popped refl)
             (sym (retiring-popped l popped (fits .head) (omega (arith, fits .retiring)) (ring-fits l fits) (retiringRead l 0) q front refl))
             (doomed-stay l fits popped refl) (spares-stay l fits popped refl) (newest-stay l fits popped refl) (stamps-stay l fits popped refl))))
+
+        -- the same by the record that the code reads
+        module _ (x : RetiringRecord) (read : x ≡ along 7 readRetiring (length (l .retiring) / 7) (l .pool .head) (l .retiring) 0) where
+          as-read : retiringOf x ≡ retiringRead l 0
+          unfolding retiringRead versionPlaces
+          as-read = ap retiringOf read
+
+          pub unsettled-front : settled < x .seq → (answer none, l) ≡ popRetiredCall l settled
+          unsettled-front k = pop-unsettled (omega (arith, ap (λ (v : Retiring ℕ). v .seq) as-read))
+
+          pub settled-front : x .seq ≤ settled
+              → (answer (some (record { id = x .id; view = x .view })), lent (frontPopped (l .pool)) (l .book) (l .textures) (l .retiring) (l .doomed) (l .spares) (l .newest) (l .stamps))
+              ≡ popRetiredCall l settled
+          settled-front k =
+              ap (λ (v : Retiring ℕ). (answer (some (record { id = v .id; view = v .view })), lent (frontPopped (l .pool)) (l .book) (l .textures) (l .retiring) (l .doomed) (l .spares) (l .newest) (l .stamps))) as-read
+              ∙ pop-front (omega (arith, ap (λ (v : Retiring ℕ). v .seq) as-read))
