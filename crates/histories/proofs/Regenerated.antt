@@ -1,5 +1,5 @@
 -- Laws of a mip regeneration, page by page. Assumes nothing.
-use mathlib.Core.Path.{_≡_, refl, sym, ap, ap₂, _∙_}
+use mathlib.Core.Path.{_≡_, refl, sym, ap, ap₂, _∙_, subst}
 use mathlib.Core.Bool.{Bool, true, false, cond}
 use mathlib.Core.List.{List, [], _∷_, _++_}
 use Prim.Native.Nat.{ℕ, zero, suc, _+_, _*_, _%_, _≤_, _<_}
@@ -12,7 +12,7 @@ use lib.ListN.{length, getD}
 use Rattle.blocks.specs.Lists.{listed}
 use Rattle.blocks.proofs.Lists.{either}
 use Rattle.blocks.proofs.All.{all-listed}
-use Rattle.blocks.proofs.Listed.{length-listed, listed-more}
+use Rattle.blocks.proofs.Listed.{length-listed, getD-listed, listed-more}
 use Rattle.shapes.specs.declared.shape.VersionShape.{VersionShape}
 use Rattle.shapes.specs.Shapes.{isShape, levelExtent, levelWidth, levelHeight}
 use Rattle.shapes.proofs.Shapes.{shape-bounds}
@@ -75,23 +75,30 @@ module _ (s : VersionShape) (shaped : isShape s ≡ true) (n : ℕ) (newest stam
   unfolding remadeGrids listed newestWritten pagesWritten pagesFrom
   remade-none = (refl, refl)
 
+  pub length-remade : (k : ℕ) → length (remadeGrids s n newest stamps page k) ≡ k
+  unfolding remadeGrids
+  length-remade k = length-listed remadeAt 0 k
+
+  -- a grid that is made anew fits its page
+  small-at : (j : ℕ) → 1024 * (page + j) + 1024 ≤ length stamps → length (remadeAt j .stamps) ≤ 1024
+  unfolding remadeGrid
+  small-at j room =
+      let level = j % s .levels in
+      let g = gridOn s level newest stamps (page + j) in
+      either (λ (x : StampGrid). length (x .stamps) ≤ 1024) (eqb level 0) g (stampedBy (tilingOf s level) (wholeLevel (levelWidth s level) (levelHeight s level)) n g)
+      (λ e. small-grid s shaped level newest stamps (page + j) room)
+      (λ e. small-stamped s shaped level (wholeLevel (levelWidth s level) (levelHeight s level)) n g)
+
+  pub small-remade : (k : ℕ) → 1024 * (page + k) ≤ length stamps → (j : ℕ) → j < k
+      → length (getD (remadeGrids s n newest stamps page k) j (record { newest = 0; stamps = [] }) .stamps) ≤ 1024
+  unfolding remadeGrids
+  small-remade k room j h =
+      subst (λ (g : StampGrid). length (g .stamps) ≤ 1024) (sym (getD-listed remadeAt 0 k j (record { newest = 0; stamps = [] }) h ∙ ap remadeAt (zero-add j))) (small-at j (omega arith))
+
   module _ (k : ℕ) (room : 1024 * (page + k) + 1024 ≤ length stamps) (counted : page + k < length newest) where
-    grids-count : length (remadeGrids s n newest stamps page k) ≡ k
-    unfolding remadeGrids
-    grids-count = length-listed remadeAt 0 k
-
-    small-remade : (j : ℕ) → j < k → length (remadeAt j .stamps) ≤ 1024
-    unfolding remadeGrid
-    small-remade j h =
-        let level = j % s .levels in
-        let g = gridOn s level newest stamps (page + j) in
-        either (λ (x : StampGrid). length (x .stamps) ≤ 1024) (eqb level 0) g (stampedBy (tilingOf s level) (wholeLevel (levelWidth s level) (levelHeight s level)) n g)
-        (λ e. small-grid s shaped level newest stamps (page + j) (omega arith))
-        (λ e. small-stamped s shaped level (wholeLevel (levelWidth s level) (levelHeight s level)) n g)
-
     grids-small : Small (remadeGrids s n newest stamps page k)
     unfolding remadeGrids
-    grids-small = all-listed remadeAt 0 k (λ j q. small-remade (0 + j) (omega arith))
+    grids-small = all-listed remadeAt 0 k (λ j q. small-at (0 + j) (omega arith))
 
     grids-next : remadeGrids s n newest stamps page k ++ (remadeAt k ∷ []) ≡ remadeGrids s n newest stamps page (k + 1)
     unfolding remadeGrids
@@ -105,20 +112,20 @@ module _ (s : VersionShape) (shaped : isShape s ≡ true) (n : ℕ) (newest stam
       unfolding gridOn
       same-grid =
           ap₂ (λ (x : ℕ) (y : List ℕ). remadeGrid s n level (gridIn (tilingOf s level) x y))
-          (ap (λ (xs : List ℕ). getD xs (page + k) 0) e ∙ newest-past newest page k (remadeGrids s n newest stamps page k) grids-count (omega arith))
-          (ap (λ (xs : List ℕ). pageAt xs (page + k)) f ∙ page-past stamps page k (remadeGrids s n newest stamps page k) grids-count grids-small (omega arith))
+          (ap (λ (xs : List ℕ). getD xs (page + k) 0) e ∙ newest-past newest page k (remadeGrids s n newest stamps page k) (length-remade k) (omega arith))
+          (ap (λ (xs : List ℕ). pageAt xs (page + k)) f ∙ page-past stamps page k (remadeGrids s n newest stamps page k) (length-remade k) grids-small (omega arith))
           ∙ ap (λ (i : ℕ). remadeGrid s n i (gridIn (tilingOf s i) (getD newest (page + k) 0) (pageAt stamps (page + k)))) at
 
       pub newest-remade : newestWritten newest₁ (page + k) (remadeGrid s n level (gridOn s level newest₁ stamps₁ (page + k)) ∷ [])
           ≡ newestWritten newest page (remadeGrids s n newest stamps page (k + 1))
       newest-remade =
           ap₂ (λ (xs : List ℕ) (g : StampGrid). newestWritten xs (page + k) (g ∷ [])) e same-grid
-          ∙ newest-more newest page k (remadeGrids s n newest stamps page k) (remadeAt k) grids-count
+          ∙ newest-more newest page k (remadeGrids s n newest stamps page k) (remadeAt k) (length-remade k)
           ∙ ap (newestWritten newest page) grids-next
 
       pub pages-remade : pagesWritten stamps₁ (page + k) (remadeGrid s n level (gridOn s level newest₁ stamps₁ (page + k)) ∷ [])
           ≡ pagesWritten stamps page (remadeGrids s n newest stamps page (k + 1))
       pages-remade =
           ap₂ (λ (xs : List ℕ) (g : StampGrid). pagesWritten xs (page + k) (g ∷ [])) f same-grid
-          ∙ pages-more stamps page k (remadeGrids s n newest stamps page k) grids-count grids-small (omega arith) (remadeAt k)
+          ∙ pages-more stamps page k (remadeGrids s n newest stamps page k) (length-remade k) grids-small (omega arith) (remadeAt k)
           ∙ ap (pagesWritten stamps page) grids-next

@@ -80,6 +80,25 @@ pages-append before k (g ∷ gs) hs =
 pub length-page : (stamps : List ℕ) (p : ℕ) → 1024 * p + 1024 ≤ length stamps → length (pageAt stamps p) ≡ 1024
 length-page stamps p h = length-take-le 1024 (drop (1024 * p) stamps) (omega (arith, length-drop (1024 * p) stamps))
 
+-- ---- one grid written
+
+pub one-newest : (newest : List ℕ) (p : ℕ) (g : StampGrid) → newestWritten newest p (g ∷ []) ≡ set newest p (g .newest)
+unfolding newestWritten
+one-newest newest p g = refl
+
+pub one-page : (stamps : List ℕ) (p : ℕ) (g : StampGrid) → 1024 * p + 1024 ≤ length stamps → length (g .stamps) ≤ 1024
+    → pagesWritten stamps p (g ∷ []) ≡ take (1024 * p) stamps ++ (over (g .stamps) (pageAt stamps p) ++ drop (1024 * p + 1024) stamps)
+unfolding pagesWritten pagesFrom
+one-page stamps p g room small =
+    let at = 1024 * p in
+    let page = over (g .stamps) (pageAt stamps p) in
+    let w : length page ≡ 1024 = length-over (g .stamps) (pageAt stamps p) (omega (arith, length-page stamps p room)) ∙ length-page stamps p room in
+    ap (λ (i : ℕ). sets stamps at (over (g .stamps) (pageAt stamps i) ++ [])) (add-zero p)
+    ∙ ap (λ (y : List ℕ). sets stamps at y) (append-nil page)
+    ∙ sets-eq page stamps at (omega (arith, w))
+    ∙ append-assoc (take at stamps) page (drop (at + length page) stamps)
+    ∙ ap (λ (i : ℕ). take at stamps ++ (page ++ drop (at + i) stamps)) w
+
 -- ---- one page stamped
 
 module _ (s : VersionShape) (shaped : isShape s ≡ true) where
@@ -113,20 +132,14 @@ module _ (s : VersionShape) (shaped : isShape s ≡ true) where
         → part ≡ over (stampedPart m g .stamps) (take m (drop (1024 * p) stamps))
         → take (1024 * p) stamps ++ (part ++ drop m (drop (1024 * p) stamps))
         ≡ pagesWritten stamps p (stampedBy (tilingOf s level) r n (gridOn s level newest stamps p) ∷ [])
-    unfolding pagesWritten pagesFrom
     page-back m g part e f h =
         let new = stampedBy (tilingOf s level) r n (gridOn s level newest stamps p) in
         let at = 1024 * p in
         let page = over (new .stamps) (pageAt stamps p) in
         let k : part ≡ page = h ∙ ap₂ (λ (x : StampGrid) (i : ℕ). over (x .stamps) (take i (drop at stamps))) (same-part m g e f) e in
-        let w : length page ≡ 1024 =
-        length-over (new .stamps) (pageAt stamps p) (omega (arith, length-page stamps p room, small-stamped level r n (gridOn s level newest stamps p))) ∙ length-page stamps p room in
         ap₂ (λ (y : List ℕ) (i : ℕ). take at stamps ++ (y ++ drop i (drop at stamps))) k e
-        ∙ ap (λ (y : List ℕ). take at stamps ++ (page ++ y)) (drop-drop 1024 at stamps ∙ ap (λ (i : ℕ). drop (at + i) stamps) (sym w))
-        ∙ sym (append-assoc (take at stamps) page (drop (at + length page) stamps))
-        ∙ sym (sets-eq page stamps at (omega (arith, w)))
-        ∙ ap (λ (y : List ℕ). sets stamps at y) (sym (append-nil page))
-        ∙ ap (λ (i : ℕ). sets stamps at (over (new .stamps) (pageAt stamps i) ++ [])) (sym (add-zero p))
+        ∙ ap (λ (y : List ℕ). take at stamps ++ (page ++ y)) (drop-drop 1024 at stamps)
+        ∙ sym (one-page stamps p new room (small-stamped level r n (gridOn s level newest stamps p)))
 
     -- what a page lent on has to be
     pub part-fits : (m : ℕ) (across down : Axis) → m ≡ 1024 → across ≡ tilingOf s level .across → down ≡ tilingOf s level .down

@@ -1,0 +1,4 @@
+pub mod AtPlace
+pub mod Left
+pub mod WriteCases
+pub mod RegenerationCases

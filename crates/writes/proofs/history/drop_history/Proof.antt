@@ -1,39 +1,46 @@
+-- `drop_history` meets its contract. Assumes nothing.
+use mathlib.Core.Path.{ap, ap₂, _∙_}
+use Prim.Native.Nat.{ℕ, _+_, _*_, _-_}
+use native.Mathlib.Omega.{arith}
 use borrow.Author.Needs.{needs}
+use Rattle.blocks.specs.Blocks.{moved}
+use Rattle.writes.specs.History.{pagesUpTo, pagesHere}
 use Rattle.writes.proofs.history.drop_history.Statement.{statement}
 use Rattle.writes.proofs.history.drop_history.Tie as tie
-use Rattle.writes.proofs.history.drop_history.Reads as reads
-use Rattle.writes.proofs.history.drop_history.Lts as lts
-use Rattle.access.proofs.pages_at.Reads as pages-at-reads
-use Rattle.access.proofs.pages_before.Reads as pages-before-reads
-use Rattle.histories.proofs.remove_pages.Reads as remove-pages-reads
 
--- src/history.rt:131:9
 pages-before-requires : tie.Need-pages-before-requires
-pages-before-requires c κs = ?h
+unfolding pagesUpTo pagesHere
+pages-before-requires c κs = let s = c .before .before .before in (omega (arith, s .pre .0 .there), omega (arith, s .pre .0 .pages))
 
--- src/history.rt:132:9
 pages-at-requires : tie.Need-pages-at-requires
-pages-at-requires c κs = ?h
+unfolding pagesUpTo pagesHere
+pages-at-requires c κs = let s = c .before .before .before .before in (s .pre .0 .there, omega (arith, s .pre .0 .pages))
 
--- src/history.rt:133:5
 remove-pages-requires : tie.Need-remove-pages-requires
-remove-pages-requires c κs = ?h
+unfolding pagesUpTo pagesHere
+remove-pages-requires c κs = let s = c .before .before .before .before .before .before .before in (omega (arith, s .pre .1, c .before .before .before .pages-before .ensures, c .before .before .pages-at .ensures), s .pre .2, s .pre .3)
 
--- src/history.rt:134:5
 sub-result : tie.Need-sub-result
-sub-result c = ?h
+unfolding pagesUpTo pagesHere
+sub-result c = omega (arith, c .before .before .before .before .before .before .before .before .before .before .before .before .pre .1, c .before .before .before .before .before .before .before .pages-at .ensures)
 
--- src/history.rt:119:1
 same-length : tie.Need-same-length
 same-length c = search needs
 
--- src/history.rt:119:1
 same-length-2 : tie.Need-same-length-2
 same-length-2 c = search needs
 
--- src/history.rt:119:1
 returns : tie.Need-returns
-returns c = ?h
+unfolding pagesUpTo pagesHere
+returns c =
+    let b = c .before .before .before .before in
+    let a = b .before .before .before .before .before .before .before .before .args in
+    let page = b .before .before .before .before .pages-before .ensures in
+    let pages = b .before .before .before .pages-at .ensures in (
+      ap (λ (n : ℕ). a .used - n) pages,
+      b .remove-pages .ensures .0 ∙ ap₂ (λ (p n : ℕ). moved (a .newest .now) p (p + n) (a .used - (p + n))) page pages,
+      b .remove-pages .ensures .1 ∙ ap₂ (λ (p n : ℕ). moved (a .stamps .now) (1024 * p) (1024 * p + 1024 * n) (1024 * (a .used - (p + n)))) page pages,
+    )
 
 pub drop-history-spec : {M : Type 1} → statement M
 drop-history-spec =

@@ -1,26 +1,37 @@
+-- `history_at` meets its contract. Assumes nothing.
+use mathlib.Core.Path.{sym, ap, _∙_}
+use mathlib.Core.Bool.{Bool, cond}
+use native.Mathlib.Omega.{arith}
+use borrow.Author.Tests.{not-true, not-false}
 use borrow.Author.Needs.{needs}
+use Rattle.records.specs.declared.recorded.Recorded.the-variants.{NoHistory}
+use Rattle.records.specs.declared.texture.TextureRecord.{TextureRecord}
+use Rattle.access.proofs.Ids.{found}
+use Rattle.writes.specs.History.{textureAt, recordedAt}
 use Rattle.writes.proofs.history.history_at.Statement.{statement}
 use Rattle.writes.proofs.history.history_at.Tie as tie
-use Rattle.writes.proofs.history.history_at.Reads as reads
-use Rattle.writes.proofs.history.history_at.Lts as lts
-use Rattle.access.proofs.has_id.Reads as has-id-reads
-use Rattle.access.proofs.texture_at.Reads as texture-at-reads
 
--- src/history.rt:33:9
 has-id-requires : tie.Need-has-id-requires
 has-id-requires c κs = search needs
 
--- src/history.rt:34:9
 returns : tie.Need-returns
-returns c = ?h
+unfolding recordedAt
+returns c =
+    let a = c .before .before .before .args in
+    sym (ap (λ (b : Bool). cond b (textureAt (a .textures .now) (a .i) .history) NoHistory) (sym (c .before .has-id .ensures) ∙ not-true _ (c .if1 .taken)))
 
--- src/history.rt:36:9
 texture-at-requires : tie.Need-texture-at-requires
-texture-at-requires c κs = ?h
+texture-at-requires c κs =
+    let a = c .before .before .before .args in
+    let q = found (a .textures .now) (a .tracked) (a .i) (a .id) (sym (c .before .has-id .ensures) ∙ not-false _ (c .if1 .left)) in
+    omega (arith, q .0, c .before .before .before .pre)
 
--- src/history.rt:29:1
 returns-2 : tie.Need-returns-2
-returns-2 c = ?h
+unfolding recordedAt
+returns-2 c =
+    let a = c .before .before .before .before .args in
+    ap (λ (t : TextureRecord). t .history) (c .texture-at .ensures)
+    ∙ sym (ap (λ (b : Bool). cond b (textureAt (a .textures .now) (a .i) .history) NoHistory) (sym (c .before .before .has-id .ensures) ∙ not-false _ (c .before .if1 .left)))
 
 pub history-at-spec : {M : Type 1} → statement M
 history-at-spec = tie.close (tie.spec has-id-requires returns texture-at-requires returns-2)

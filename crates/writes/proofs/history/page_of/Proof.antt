@@ -1,29 +1,30 @@
+-- `page_of` meets its contract. Assumes nothing.
+use mathlib.Core.Path.{ap}
+use Prim.Native.Nat.{ℕ, _+_, _*_}
+use native.Mathlib.Omega.{arith}
 use borrow.Author.Needs.{needs}
+use Rattle.writes.specs.History.{pagesUpTo}
 use Rattle.writes.proofs.history.page_of.Statement.{statement}
 use Rattle.writes.proofs.history.page_of.Tie as tie
-use Rattle.writes.proofs.history.page_of.Reads as reads
-use Rattle.writes.proofs.history.page_of.Lts as lts
-use Rattle.access.proofs.pages_before.Reads as pages-before-reads
 
--- src/history.rt:73:9
 pages-before-requires : tie.Need-pages-before-requires
-pages-before-requires c κs = ?h
+unfolding pagesUpTo
+pages-before-requires c κs = let s = c .before in (s .pre .0, omega (arith, s .pre .1))
 
--- src/history.rt:74:13
 mul-result : tie.Need-mul-result
 mul-result c = search needs
 
--- src/history.rt:74:13
 add-result : tie.Need-add-result
 add-result c = search needs
 
--- src/history.rt:74:5
 add-result-2 : tie.Need-add-result-2
-add-result-2 c = ?h
+unfolding pagesUpTo
+add-result-2 c = let s = c .before .before in omega (arith, s .pre .1, c .pages-before .ensures)
 
--- src/history.rt:69:1
 returns : tie.Need-returns
-returns c = ?h
+unfolding pagesUpTo
+returns c =
+    let a = c .before .before .args in ap (λ (k : ℕ). k + (a .slice * a .levels + a .level)) (c .pages-before .ensures)
 
 pub page-of-spec : {M : Type 1} → statement M
 page-of-spec =

@@ -1,40 +1,54 @@
+-- `regenerate_history` meets its contract. Assumes nothing.
+use mathlib.Core.Path.{_≡_, ap, ap₂, _∙_}
+use Prim.Native.Nat.{ℕ}
+use native.Mathlib.Omega.{arith}
 use borrow.Author.Needs.{needs}
+use Rattle.shapes.specs.Shapes.{isShape}
+use Rattle.records.specs.declared.texture.TextureRecord.{TextureRecord}
+use Rattle.histories.specs.Written.{newestWritten, pagesWritten, remadeGrids}
+use Rattle.writes.specs.History.{textureAt, pagesUpTo, pagesHere}
 use Rattle.writes.proofs.history.regenerate_history.Statement.{statement}
 use Rattle.writes.proofs.history.regenerate_history.Tie as tie
-use Rattle.writes.proofs.history.regenerate_history.Reads as reads
-use Rattle.writes.proofs.history.regenerate_history.Lts as lts
-use Rattle.access.proofs.pages_at.Reads as pages-at-reads
-use Rattle.access.proofs.pages_before.Reads as pages-before-reads
-use Rattle.access.proofs.texture_at.Reads as texture-at-reads
-use Rattle.histories.proofs.regenerate_pages.Reads as regenerate-pages-reads
 
--- src/history.rt:112:9
 texture-at-requires : tie.Need-texture-at-requires
 texture-at-requires c κs = search needs
 
--- src/history.rt:113:9
 pages-before-requires : tie.Need-pages-before-requires
-pages-before-requires c κs = ?h
+unfolding pagesUpTo pagesHere
+pages-before-requires c κs = let s = c .before .before .before .before in (omega (arith, s .pre .0 .there), omega (arith, s .pre .0 .pages))
 
--- src/history.rt:114:9
 pages-at-requires : tie.Need-pages-at-requires
-pages-at-requires c κs = ?h
+unfolding pagesUpTo pagesHere
+pages-at-requires c κs = let s = c .before .before .before .before .before in (s .pre .0 .there, omega (arith, s .pre .0 .pages))
 
--- src/history.rt:115:5
 regenerate-pages-requires : tie.Need-regenerate-pages-requires
-regenerate-pages-requires c κs = ?h
+unfolding pagesUpTo pagesHere
+regenerate-pages-requires c κs =
+    let s = c .before .before .before .before .before .before .before .before in (
+      ap (λ (t : TextureRecord). isShape (t .shape)) (c .before .before .before .before .texture-at .ensures) ∙ s .pre .0 .shape,
+      omega (arith, s .pre .1, c .before .before .before .pages-before .ensures, c .before .before .pages-at .ensures),
+      s .pre .2,
+    )
 
--- src/history.rt:100:1
 same-length : tie.Need-same-length
 same-length c = search needs
 
--- src/history.rt:100:1
 same-length-2 : tie.Need-same-length-2
 same-length-2 c = search needs
 
--- src/history.rt:100:1
 returns : tie.Need-returns
-returns c = ?h
+unfolding pagesUpTo pagesHere
+returns c =
+    let b = c .before .before .before .before in
+    let a = b .before .before .before .before .before .before .before .before .before .args in
+    let w = b .before .before .before in
+    let same : remadeGrids (w .before .before .texture-at .result .shape) (a .n) (a .newest .now) (a .stamps .now) (w .before .pages-before .result) (w .pages-at .result)
+    ≡ remadeGrids (textureAt (a .textures .now) (a .i) .shape) (a .n) (a .newest .now) (a .stamps .now) (pagesUpTo (a .textures .now) (a .i)) (pagesHere (a .textures .now) (a .i)) =
+    ap (λ (t : TextureRecord). remadeGrids (t .shape) (a .n) (a .newest .now) (a .stamps .now) (w .before .pages-before .result) (w .pages-at .result)) (w .before .before .texture-at .ensures)
+    ∙ ap₂ (λ (p k : ℕ). remadeGrids (textureAt (a .textures .now) (a .i) .shape) (a .n) (a .newest .now) (a .stamps .now) p k) (w .before .pages-before .ensures) (w .pages-at .ensures) in (
+      b .regenerate-pages .ensures .0 ∙ ap₂ (newestWritten (a .newest .now)) (w .before .pages-before .ensures) same,
+      b .regenerate-pages .ensures .1 ∙ ap₂ (pagesWritten (a .stamps .now)) (w .before .pages-before .ensures) same,
+    )
 
 pub regenerate-history-spec : {M : Type 1} → statement M
 regenerate-history-spec =

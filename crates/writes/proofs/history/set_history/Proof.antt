@@ -1,26 +1,28 @@
+-- `set_history` meets its contract. Assumes nothing.
+use mathlib.Core.Path.{ap, _∙_}
+use Prim.Native.Nat.{_*_}
+use lib.Seq.{sets}
 use borrow.Author.Needs.{needs}
+use Rattle.records.specs.declared.texture.TextureRecord.{TextureRecord}
+use Rattle.records.specs.Texture.{writeTexture}
+use Rattle.writes.specs.History.{recordedAs}
 use Rattle.writes.proofs.history.set_history.Statement.{statement}
 use Rattle.writes.proofs.history.set_history.Tie as tie
-use Rattle.writes.proofs.history.set_history.Reads as reads
-use Rattle.writes.proofs.history.set_history.Lts as lts
-use Rattle.access.proofs.put_texture.Reads as put-texture-reads
-use Rattle.access.proofs.texture_at.Reads as texture-at-reads
 
--- src/history.rt:53:9
 texture-at-requires : tie.Need-texture-at-requires
 texture-at-requires c κs = search needs
 
--- src/history.rt:65:5
 put-texture-requires : tie.Need-put-texture-requires
 put-texture-requires c κs = search needs
 
--- src/history.rt:49:1
 same-length : tie.Need-same-length
 same-length c = search needs
 
--- src/history.rt:49:1
 returns : tie.Need-returns
-returns c = ?h
+returns c =
+    let b = c .before .before in
+    let a = b .before .before .before .before .before .before .args in
+    b .put-texture .ensures ∙ ap (λ (t : TextureRecord). sets (a .textures .now) (19 * a .i) (writeTexture (recordedAs (a .history) t))) (b .before .before .before .texture-at .ensures)
 
 pub set-history-spec : {M : Type 1} → statement M
 set-history-spec =

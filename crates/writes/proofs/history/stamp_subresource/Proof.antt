@@ -1,35 +1,56 @@
+-- `stamp_subresource` meets its contract. Assumes nothing.
+use mathlib.Core.Path.{ap, ap₂, _∙_}
+use mathlib.Core.List.{[], _∷_}
+use Prim.Native.Nat.{ℕ, _+_}
+use native.Mathlib.Omega.{arith}
 use borrow.Author.Needs.{needs}
+use Rattle.shapes.specs.Shapes.{isShape}
+use Rattle.grids.specs.Grids.{StampGrid, tilingOf, stampedBy}
+use Rattle.stores.specs.Histories.{gridPlace}
+use Rattle.records.specs.declared.texture.TextureRecord.{TextureRecord}
+use Rattle.histories.specs.Written.{gridOn, newestWritten, pagesWritten}
+use Rattle.writes.specs.History.{pagesUpTo, pageOf, stampedOn}
+use Rattle.writes.proofs.AtPlace.{page-small, page-below}
 use Rattle.writes.proofs.history.stamp_subresource.Statement.{statement}
 use Rattle.writes.proofs.history.stamp_subresource.Tie as tie
-use Rattle.writes.proofs.history.stamp_subresource.Reads as reads
-use Rattle.writes.proofs.history.stamp_subresource.Lts as lts
-use Rattle.access.proofs.texture_at.Reads as texture-at-reads
-use Rattle.histories.proofs.stamp_page.Reads as stamp-page-reads
-use Rattle.writes.proofs.history.page_of.Reads as page-of-reads
 
--- src/history.rt:93:9
 texture-at-requires : tie.Need-texture-at-requires
 texture-at-requires c κs = search needs
 
--- src/history.rt:95:9
 page-of-requires : tie.Need-page-of-requires
-page-of-requires c κs = ?h
+page-of-requires c κs =
+    let s = c .before .before .before .before .before in
+    let a = s .args in
+    let levels = ap (λ (t : TextureRecord). t .shape .levels) (c .before .texture-at .ensures) in
+    (omega (arith, s .pre .0 .there), page-small (a .textures .now) (a .i) (s .pre .0) (a .slice) (a .level) (s .pre .3) _ levels)
 
--- src/history.rt:96:5
 stamp-page-requires : tie.Need-stamp-page-requires
-stamp-page-requires c κs = ?h
+stamp-page-requires c κs =
+    let s = c .before .before .before .before .before .before .before .before in
+    let a = s .args in
+    let levels = ap (λ (t : TextureRecord). t .shape .levels) (c .before .before .before .before .texture-at .ensures) in (
+      ap (λ (t : TextureRecord). isShape (t .shape)) (c .before .before .before .before .texture-at .ensures) ∙ s .pre .0 .shape,
+      page-below (a .textures .now) (a .i) (s .pre .0) (a .slice) (a .level) (s .pre .3) _ levels _ (c .before .before .page-of .ensures) _ (s .pre .1),
+      s .pre .2,
+    )
 
--- src/history.rt:78:1
 same-length : tie.Need-same-length
 same-length c = search needs
 
--- src/history.rt:78:1
 same-length-2 : tie.Need-same-length-2
 same-length-2 c = search needs
 
--- src/history.rt:78:1
 returns : tie.Need-returns
-returns c = ?h
+unfolding pageOf stampedOn
+returns c =
+    let b = c .before .before .before .before in
+    let a = b .before .before .before .before .before .before .before .before .before .args in
+    let t = b .before .before .before .before .before .texture-at in
+    let p = b .before .before .before .page-of .ensures ∙ ap (λ (t : TextureRecord). pagesUpTo (a .textures .now) (a .i) + gridPlace (t .shape) (a .slice) (a .level)) (t .ensures) in
+    let g = ap₂ (λ (t : TextureRecord) (k : ℕ). stampedBy (tilingOf (t .shape) (a .level)) (a .rect) (a .n) (gridOn (t .shape) (a .level) (a .newest .now) (a .stamps .now) k)) (t .ensures) p in (
+      b .stamp-page .ensures .0 ∙ ap₂ (λ (k : ℕ) (x : StampGrid). newestWritten (a .newest .now) k (x ∷ [])) p g,
+      b .stamp-page .ensures .1 ∙ ap₂ (λ (k : ℕ) (x : StampGrid). pagesWritten (a .stamps .now) k (x ∷ [])) p g,
+    )
 
 pub stamp-subresource-spec : {M : Type 1} → statement M
 stamp-subresource-spec =

@@ -1,0 +1,168 @@
+-- The texture where the search for an id ended, in a pool: what its record says of its history, and where its pages are. Assumes nothing.
+use mathlib.Core.Path.{_≡_, refl, sym, ap, ap₂, _∙_, subst}
+use mathlib.Core.Bool.{Bool, true, false, cond, _&&_}
+use mathlib.Core.Option.{Option, none, some}
+use mathlib.Core.List.{List, []}
+use Prim.Native.Nat.{ℕ, suc, _+_, _*_, _≤_, _<_}
+use native.Mathlib.Omega.{arith}
+use native.Mathlib.Nat.{mul-comm}
+use borrow.Author.Tests.{lt-ltb, ltb-true, eq-eqb}
+use lib.Dec.{ltb, eqb}
+use lib.ListN.{length, take, getD}
+use Rattle.blocks.specs.Lists.{ascending, listed, total}
+use Rattle.blocks.specs.All.{All}
+use Rattle.blocks.proofs.Lists.{and-both}
+use Rattle.blocks.proofs.All.{all-at}
+use Rattle.tables.specs.Records.{recordAt, table}
+use Rattle.tables.proofs.Records.{getD-table, take-table}
+use Rattle.shapes.specs.Shapes.{isShape, slicesOf}
+use Rattle.stores.specs.Model.{WriteHistory, VersionState, find, pagesOf}
+use Rattle.stores.specs.Histories.{inShape, gridPlace}
+use Rattle.grids.proofs.RowByRow.{tile-place}
+use Rattle.stores.specs.Formed.{StateFormed, Given, HistoryFormed}
+use Rattle.records.specs.declared.recorded.Recorded.{Recorded}
+use Rattle.records.specs.declared.recorded.Recorded.the-variants.{Writes, NoHistory}
+use Rattle.records.specs.declared.texture.TextureRecord.{TextureRecord}
+use Rattle.records.specs.Texture.{readTexture}
+use Rattle.records.specs.Find.{idOf, below}
+use Rattle.access.proofs.Ids.{found}
+use Rattle.layout.specs.Lent.{Lent}
+use Rattle.layout.specs.Reading.{trackedRecords, recordedPages, recordPages, gridRead, historyRead, stateRead, modelOf}
+use Rattle.layout.specs.IsPool.{isPool}
+use Rattle.layout.proofs.Fits.{Fits}
+use Rattle.layout.proofs.FromPool.{pool-fits}
+use Rattle.layout.proofs.Runs.{firstSpare, firstPageOf, stateOf, tracked-model, model-at}
+use Rattle.layout.proofs.Places.{place, IsTracked}
+use Rattle.layout.proofs.Stays.{ids-ascend, textures-fit}
+use Rattle.layout.proofs.Pages.{pagesAt, pages-in}
+use Rattle.writes.specs.History.{textureAt, recordedAt, pagesUpTo, pagesHere, pagesEnd, HistoryAt}
+
+-- ---- the pages of a record that has a history
+
+module _ (textures : List ℕ) (i : ℕ) (h : HistoryAt textures i) where
+  pub pages-shape : pagesHere textures i ≡ pagesOf (textureAt textures i .shape)
+  unfolding pagesHere
+  pages-shape = ap (λ (r : Recorded). recordedPages r (textureAt textures i .shape)) (h .recorded)
+
+  -- a subresource of the shape has its page among them
+  pub page-inside : (slice level : ℕ) → inShape (textureAt textures i .shape) slice level ≡ true
+      → pagesUpTo textures i + gridPlace (textureAt textures i .shape) slice level < pagesEnd textures i
+  unfolding pagesOf
+  page-inside slice level e =
+      let s = textureAt textures i .shape in
+      let q = and-both (ltb slice (slicesOf s)) (ltb level (s .levels)) e in
+      omega (arith, pages-shape, tile-place (s .levels) (slicesOf s) level slice (ltb-true level (s .levels) (q .1)) (ltb-true slice (slicesOf s) (q .0)), mul-comm (s .levels) (slicesOf s))
+
+  -- the same by a record that was read
+  module _ (slice level : ℕ) (e : inShape (textureAt textures i .shape) slice level ≡ true) (levels : ℕ) (read : levels ≡ textureAt textures i .shape .levels) where
+    same-place : slice * levels + level ≡ gridPlace (textureAt textures i .shape) slice level
+    same-place = ap (λ (k : ℕ). slice * k + level) read
+
+    pub page-small : pagesUpTo textures i + (slice * levels + level) ≤ 4096
+    page-small = omega (arith, same-place, page-inside slice level e, h .pages)
+
+    pub page-below : (p : ℕ) → p ≡ pagesUpTo textures i + (slice * levels + level) → (n : ℕ) → pagesEnd textures i ≤ n → p < n
+    page-below p q n k = omega (arith, same-place, page-inside slice level e)
+
+-- ---- the record at a place
+
+module _ (l : Lent) (i : ℕ) (h : i < l .pool .tracked) where
+  pub record-at : getD (trackedRecords l) i (readTexture []) ≡ textureAt (l .textures) i
+  record-at = getD-table 19 readTexture (l .pool .tracked) i (l .textures) (readTexture []) h
+
+  pub pages-begin : pagesUpTo (l .textures) i ≡ firstPageOf l i
+  unfolding pagesUpTo firstPageOf
+  pages-begin = ap (total recordPages) (sym (take-table 19 readTexture i (l .pool .tracked) (l .textures) (omega arith)))
+
+  pub pages-of-record : pagesHere (l .textures) i ≡ pagesAt l i
+  unfolding pagesHere
+  pages-of-record = ap recordPages (sym record-at)
+
+  pub shape-at : stateOf l i .shape ≡ textureAt (l .textures) i .shape
+  unfolding stateOf stateRead
+  shape-at = ap (λ (t : TextureRecord). t .shape) record-at
+
+  pub history-read : (r : Recorded) → textureAt (l .textures) i .history ≡ r → stateOf l i .history ≡ historyRead l (stateOf l i .shape) (firstPageOf l i) r
+  unfolding stateOf stateRead
+  history-read r e =
+      ap (historyRead l (getD (trackedRecords l) i (readTexture []) .shape) (firstPageOf l i)) (ap (λ (t : TextureRecord). t .history) record-at ∙ e)
+
+-- ---- a texture of a pool
+
+module _ (l : Lent) (f : Fits l) (id : ℕ) where
+  abbrev pub at : ℕ
+  at = place l id (ids-ascend l f)
+
+  abbrev pub Tracked : Type 0
+  Tracked = IsTracked l id (ids-ascend l f)
+
+  -- what is known where the record at the place says this of its history
+  pub data Unrecorded : Type 0 where
+    untracked : (Tracked → ⊥) → Unrecorded
+    unrecorded : Tracked → textureAt (l .textures) at .history ≡ NoHistory → Unrecorded
+
+  pub record Recording (n : ℕ) : Type 0 where
+    pub tracked : Tracked
+    pub history : textureAt (l .textures) at .history ≡ Writes n
+
+  abbrev pub Says : Recorded → Type 0
+  Says NoHistory = Unrecorded
+  Says (Writes n) = Recording n
+
+  here : Bool
+  here = ltb at (l .pool .tracked) && eqb (idOf (textureAt (l .textures) at)) id
+
+  tracked-here : here ≡ true → Tracked
+  unfolding here
+  tracked-here e =
+      let q = found (l .textures) (l .pool .tracked) at id e in
+      (q .0, ap idOf (record-at l at (q .0)) ∙ q .1)
+
+  not-here : here ≡ false → Tracked → ⊥
+  unfolding here
+  not-here e (h, q) =
+      let z : here ≡ true = ap₂ (λ (a b : Bool). a && b) (lt-ltb at (l .pool .tracked) h) (eq-eqb (idOf (textureAt (l .textures) at)) id (ap idOf (sym (record-at l at h)) ∙ q)) in
+      let y : _≡_ {A = ℕ} 0 1 = ap (λ (b : Bool). cond b 0 1) (sym z ∙ e) in
+      let w : ⊥ = omega arith in w
+
+  pub record-says : Says (recordedAt (l .textures) (l .pool .tracked) at id)
+  unfolding recordedAt here
+  record-says = go here refl (textureAt (l .textures) at .history) refl
+    where
+      go : (b : Bool) → here ≡ b → (r : Recorded) → textureAt (l .textures) at .history ≡ r → Says (cond b r NoHistory)
+      go false e r q = untracked (not-here e)
+      go true e NoHistory q = unrecorded (tracked-here e) q
+      go true e (Writes n) q = record { tracked = tracked-here e; history = q }
+
+  -- ---- a texture with a history
+
+  module _ (n : ℕ) (r : Recording n) where
+    abbrev pub historyIs : WriteHistory
+    historyIs = record { writes = n; grids = listed (gridRead l (stateOf l at .shape) (firstPageOf l at)) 0 (pagesOf (stateOf l at .shape)) }
+
+    pub has-history : stateOf l at .history ≡ some historyIs
+    has-history = history-read l at (r .tracked .0) (Writes n) (r .history)
+
+    formed : StateFormed (stateOf l at)
+    formed =
+        subst StateFormed (model-at l at (stateOf l 0) (r .tracked .0))
+        (all-at (modelOf l .textures) at (stateOf l 0) (omega (arith, r .tracked .0, tracked-model l)) (f .formed .textures))
+
+    pub count-formed : n ≤ 281474976710656
+    count-formed = (subst (Given (HistoryFormed (stateOf l at .shape))) has-history (formed .history)) .writes
+
+    pub shape-formed : isShape (textureAt (l .textures) at .shape) ≡ true
+    shape-formed = ap isShape (sym (shape-at l at (r .tracked .0))) ∙ formed .shape
+
+    pub pages-inside : pagesEnd (l .textures) at ≤ l .pool .pages
+    pages-inside =
+        omega (arith, pages-begin l at (r .tracked .0), pages-of-record l at (r .tracked .0), pages-in l (f .claimed) at (r .tracked .0))
+
+    pub history-there : HistoryAt (l .textures) at
+    history-there = record {
+      there = omega (arith, textures-fit l f, r .tracked .0);
+      shape = shape-formed;
+      writes = n;
+      recorded = r .history;
+      pages = omega (arith, pages-inside, f .pages, f .newest);
+    }

@@ -1,0 +1,99 @@
+-- `note_mip_regeneration` on a pool, case by case. Assumes nothing.
+use mathlib.Core.Path.{_≡_, refl, sym, ap, ap₂, _∙_}
+use mathlib.Core.Bool.{Bool, true, false}
+use mathlib.Core.Option.{Option, none, some}
+use mathlib.Core.List.{List, []}
+use Prim.Native.Nat.{ℕ, suc, _+_, _≤_, _<_}
+use native.Mathlib.Numerals.{add-one}
+use borrow.Author.Tests.{le-leb, lt-leb}
+use lib.ListN.{set}
+use Rattle.shapes.specs.declared.shape.VersionShape.{VersionShape}
+use Rattle.shapes.specs.Shapes.{isShape}
+use Rattle.stores.specs.Model.{WriteHistory, VersionState, Pool, Out, accepted, guard, find, limit}
+use Rattle.stores.specs.Updates.{withHistory, withTextures, change}
+use Rattle.stores.specs.Histories.{regenerated, stampRegeneration, spent}
+use Rattle.stores.specs.NoteWrite.{historyIn, noteMipRegeneration}
+use Rattle.records.specs.declared.recorded.Recorded.the-variants.{NoHistory}
+use Rattle.layout.specs.Lent.{Lent}
+use Rattle.layout.specs.Reading.{modelOf}
+use Rattle.layout.specs.Writing.{after}
+use Rattle.layout.specs.IsPool.{isPool}
+use Rattle.layout.specs.Calls.{Told, refusal, answer, noteMipRegenerationCall}
+use Rattle.layout.proofs.Fits.{Fits}
+use Rattle.layout.proofs.FromPool.{pool-fits}
+use Rattle.layout.proofs.Asked.{guard-passed, guard-refused, asked-refused, asked-accepted}
+use Rattle.layout.proofs.Runs.{stateOf}
+use Rattle.layout.proofs.Places.{found, changed, not-found, not-changed}
+use Rattle.layout.proofs.Stays.{ids-ascend, nothing-changed}
+use Rattle.histories.specs.Written.{remadeGrids}
+use Rattle.writes.specs.History.{textureAt, pagesUpTo, pagesHere}
+use Rattle.writes.proofs.AtPlace.{Unrecorded, untracked, unrecorded, Recording, at, Tracked, history-read, shape-at, historyIs, has-history, shape-formed}
+use Rattle.writes.proofs.Left.{keptLent, history-regenerated}
+use Rattle.writes.proofs.WriteCases.{same-texture}
+
+module _ (l : Lent) (e : isPool l ≡ true) (id : ℕ) where
+  abbrev fits : Fits l
+  fits = pool-fits l e
+
+  abbrev i : ℕ
+  i = at l fits id
+
+  abbrev rule : Pool ℕ → Out ℕ (Unit {0})
+  rule p = noteMipRegeneration p id
+
+  abbrev regenerate : VersionState ℕ → VersionState ℕ
+  regenerate t = withHistory (regenerated (t .shape) (t .history)) t
+
+  passes : spent (historyIn (find id (modelOf l .textures))) ≡ false → (ts : List (VersionState ℕ)) → change id regenerate (modelOf l .textures) ≡ ts
+      → noteMipRegenerationCall l id ≡ (answer tt, after (withTextures ts (modelOf l)) l)
+  unfolding noteMipRegenerationCall noteMipRegeneration
+  passes q ts k =
+      asked-accepted (λ (a : Unit {0}). a) l rule e tt (withTextures ts (modelOf l))
+      (guard-passed (spent (historyIn (find id (modelOf l .textures)))) 12 (accepted tt (withTextures (change id regenerate (modelOf l .textures)) (modelOf l))) q
+      ∙ ap (λ (us : List (VersionState ℕ)). accepted tt (withTextures us (modelOf l))) k)
+
+  -- nothing for an untracked texture, or one without a history
+  pub regeneration-unrecorded : Unrecorded l fits id → (answer tt, l) ≡ noteMipRegenerationCall l id
+  regeneration-unrecorded (untracked ne) =
+      sym (passes (ap (λ (o : Option (VersionState ℕ)). spent (historyIn o)) (not-found l id (ids-ascend l fits) ne)) (modelOf l .textures) (not-changed l id (ids-ascend l fits) ne regenerate)
+      ∙ ap (λ (l′ : Lent). (answer tt, l′)) (nothing-changed l fits))
+  regeneration-unrecorded (unrecorded tr q) =
+      let bare : stateOf l i .history ≡ none = history-read l i (tr .0) NoHistory q in
+      sym (passes (ap (λ (o : Option (VersionState ℕ)). spent (historyIn o)) (found l id (ids-ascend l fits) tr) ∙ ap spent bare) (modelOf l .textures)
+      (changed l id (ids-ascend l fits) tr regenerate
+      ∙ ap (λ (o : Option WriteHistory). set (modelOf l .textures) i (withHistory o (stateOf l i))) (ap (regenerated (stateOf l i .shape)) bare ∙ sym bare)
+      ∙ same-texture l i (tr .0))
+      ∙ ap (λ (l′ : Lent). (answer tt, l′)) (nothing-changed l fits))
+
+  module _ (n : ℕ) (rec : Recording l fits id n) where
+    abbrev old : WriteHistory
+    old = historyIs l fits id n rec
+
+    abbrev shape : VersionShape
+    shape = stateOf l i .shape
+
+    spent-here : spent (historyIn (find id (modelOf l .textures))) ≡ spent (some old)
+    spent-here = ap (λ (o : Option (VersionState ℕ)). spent (historyIn o)) (found l id (ids-ascend l fits) (rec .tracked)) ∙ ap spent (has-history l fits id n rec)
+
+    -- the count is to pass 2^48
+    pub regeneration-spent : limit ≤ n → (refusal 12, l) ≡ noteMipRegenerationCall l id
+    unfolding noteMipRegenerationCall noteMipRegeneration
+    regeneration-spent h =
+        sym (asked-refused (λ (a : Unit {0}). a) l rule e 12
+        (guard-refused (spent (historyIn (find id (modelOf l .textures)))) 12 (accepted tt (withTextures (change id regenerate (modelOf l .textures)) (modelOf l)))
+        (spent-here ∙ le-leb limit n h)))
+
+    -- the regeneration is counted, and every level but the first is stamped
+    pub regeneration-done : n < limit
+        → (answer tt, keptLent l fits i (rec .tracked .0) old (has-history l fits id n rec) (n + 1) (pagesUpTo (l .textures) i)
+        (remadeGrids (textureAt (l .textures) i .shape) (n + 1) (l .newest) (l .stamps) (pagesUpTo (l .textures) i) (pagesHere (l .textures) i)))
+        ≡ noteMipRegenerationCall l id
+    regeneration-done h =
+        ap
+        (λ (k : ℕ). (answer tt, keptLent l fits i (rec .tracked .0) old (has-history l fits id n rec) k (pagesUpTo (l .textures) i)
+        (remadeGrids (textureAt (l .textures) i .shape) k (l .newest) (l .stamps) (pagesUpTo (l .textures) i) (pagesHere (l .textures) i)))) (add-one n)
+        ∙ ap (λ (l′ : Lent). (answer tt, l′))
+        (history-regenerated l fits i (rec .tracked .0) old (has-history l fits id n rec) (ap isShape (shape-at l i (rec .tracked .0)) ∙ shape-formed l fits id n rec) refl)
+        ∙ sym (passes (spent-here ∙ lt-leb limit n h) (set (modelOf l .textures) i (withHistory (some (stampRegeneration shape old)) (stateOf l i)))
+        (changed l id (ids-ascend l fits) (rec .tracked) regenerate
+        ∙ ap (λ (o : Option WriteHistory). set (modelOf l .textures) i (withHistory (regenerated shape o) (stateOf l i))) (has-history l fits id n rec)))

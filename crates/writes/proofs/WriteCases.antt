@@ -1,0 +1,130 @@
+-- `note_write` on a pool, case by case. Assumes nothing.
+use mathlib.Core.Path.{_≡_, refl, sym, ap, ap₂, _∙_}
+use mathlib.Core.Bool.{Bool, true, false, cond, _&&_, and-false}
+use mathlib.Core.Option.{Option, none, some}
+use mathlib.Core.List.{List, [], _∷_}
+use Prim.Native.Nat.{ℕ, suc, _+_, _≤_, _<_}
+use native.Mathlib.Numerals.{add-one}
+use native.Mathlib.Omega.{arith}
+use borrow.Author.Tests.{ltb-true, le-leb, lt-leb}
+use lib.Dec.{leb, ltb}
+use lib.ListN.{getD, set}
+use lib.Seq.{set-getD}
+use Rattle.blocks.proofs.Lists.{and-both}
+use Rattle.shapes.specs.declared.shape.VersionShape.{VersionShape}
+use Rattle.shapes.specs.Shapes.{isShape, slicesOf}
+use Rattle.rects.specs.declared.rect.TexelRect.{TexelRect}
+use Rattle.stores.specs.Model.{WriteHistory, VersionState, Pool, Out, accepted, guard, find, limit}
+use Rattle.stores.specs.Updates.{withHistory, withTextures, change}
+use Rattle.stores.specs.Histories.{inShape, written, stampWrite, spent}
+use Rattle.stores.specs.NoteWrite.{writeSpent, noteWrite}
+use Rattle.records.specs.declared.recorded.Recorded.the-variants.{NoHistory}
+use Rattle.layout.specs.Lent.{Lent}
+use Rattle.layout.specs.Reading.{modelOf}
+use Rattle.layout.specs.Writing.{after}
+use Rattle.layout.specs.IsPool.{isPool}
+use Rattle.layout.specs.Calls.{Told, refusal, answer, noteWriteCall}
+use Rattle.layout.proofs.Fits.{Fits}
+use Rattle.layout.proofs.FromPool.{pool-fits}
+use Rattle.layout.proofs.Asked.{guard-passed, guard-refused, asked-refused, asked-accepted}
+use Rattle.layout.proofs.Runs.{stateOf, model-at}
+use Rattle.layout.proofs.Places.{found, changed, not-found, not-changed}
+use Rattle.layout.proofs.Stays.{ids-ascend, nothing-changed}
+use Rattle.writes.specs.History.{textureAt, pageOf, stampedOn}
+use Rattle.writes.proofs.AtPlace.{Unrecorded, untracked, unrecorded, Recording, at, Tracked, history-read, shape-at, historyIs, has-history, shape-formed}
+use Rattle.writes.proofs.Left.{otherPool, droppedLent, history-dropped, keptLent, history-stamped}
+
+-- a texture of the model put back as it was
+pub same-texture : (l : Lent) (i : ℕ) → i < l .pool .tracked → set (modelOf l .textures) i (stateOf l i) ≡ modelOf l .textures
+same-texture l i h = ap (set (modelOf l .textures) i) (sym (model-at l i (stateOf l 0) h)) ∙ set-getD (modelOf l .textures) i (stateOf l 0)
+
+module _ (l : Lent) (e : isPool l ≡ true) (id slice level : ℕ) (r : TexelRect) where
+  abbrev fits : Fits l
+  fits = pool-fits l e
+
+  abbrev i : ℕ
+  i = at l fits id
+
+  abbrev rule : Pool ℕ → Out ℕ (Unit {0})
+  rule p = noteWrite p id slice level r
+
+  abbrev write : VersionState ℕ → VersionState ℕ
+  write t = withHistory (written slice level r (t .shape) (t .history)) t
+
+  -- not refused
+  passes : writeSpent (find id (modelOf l .textures)) slice level ≡ false → (ts : List (VersionState ℕ)) → change id write (modelOf l .textures) ≡ ts
+      → noteWriteCall l id slice level r ≡ (answer tt, after (withTextures ts (modelOf l)) l)
+  unfolding noteWriteCall noteWrite
+  passes q ts k =
+      asked-accepted (λ (a : Unit {0}). a) l rule e tt (withTextures ts (modelOf l))
+      (guard-passed (writeSpent (find id (modelOf l .textures)) slice level) 12 (accepted tt (withTextures (change id write (modelOf l .textures)) (modelOf l))) q
+      ∙ ap (λ (us : List (VersionState ℕ)). accepted tt (withTextures us (modelOf l))) k)
+
+  -- nothing for an untracked texture, or one without a history
+  pub write-unrecorded : Unrecorded l fits id → (answer tt, l) ≡ noteWriteCall l id slice level r
+  write-unrecorded (untracked ne) =
+      sym (passes (ap (λ (o : Option (VersionState ℕ)). writeSpent o slice level) (not-found l id (ids-ascend l fits) ne)) (modelOf l .textures) (not-changed l id (ids-ascend l fits) ne write)
+      ∙ ap (λ (l′ : Lent). (answer tt, l′)) (nothing-changed l fits))
+  write-unrecorded (unrecorded tr q) =
+      let bare : stateOf l i .history ≡ none = history-read l i (tr .0) NoHistory q in
+      let s = stateOf l i .shape in
+      sym (passes
+      (ap (λ (o : Option (VersionState ℕ)). writeSpent o slice level) (found l id (ids-ascend l fits) tr)
+      ∙ ap (λ (o : Option WriteHistory). inShape s slice level && spent o) bare ∙ and-false (inShape s slice level))
+      (modelOf l .textures)
+      (changed l id (ids-ascend l fits) tr write
+      ∙ ap (λ (o : Option WriteHistory). set (modelOf l .textures) i (withHistory o (stateOf l i))) (ap (written slice level r s) bare ∙ sym bare)
+      ∙ same-texture l i (tr .0))
+      ∙ ap (λ (l′ : Lent). (answer tt, l′)) (nothing-changed l fits))
+
+  module _ (n : ℕ) (rec : Recording l fits id n) where
+    abbrev old : WriteHistory
+    old = historyIs l fits id n rec
+
+    abbrev shape : VersionShape
+    shape = stateOf l i .shape
+
+    read-shape : shape ≡ textureAt (l .textures) i .shape
+    read-shape = shape-at l i (rec .tracked .0)
+
+    spent-here : writeSpent (find id (modelOf l .textures)) slice level ≡ inShape (textureAt (l .textures) i .shape) slice level && leb limit n
+    spent-here =
+        ap (λ (o : Option (VersionState ℕ)). writeSpent o slice level) (found l id (ids-ascend l fits) (rec .tracked))
+        ∙ ap (λ (o : Option WriteHistory). inShape shape slice level && spent o) (has-history l fits id n rec)
+        ∙ ap (λ (s : VersionShape). inShape s slice level && leb limit n) read-shape
+
+    changed-here : (o : Option WriteHistory) → written slice level r shape (some old) ≡ o
+        → change id write (modelOf l .textures) ≡ set (modelOf l .textures) i (withHistory o (stateOf l i))
+    changed-here o q =
+        changed l id (ids-ascend l fits) (rec .tracked) write
+        ∙ ap (λ (w : Option WriteHistory). set (modelOf l .textures) i (withHistory w (stateOf l i))) (ap (written slice level r shape) (has-history l fits id n rec) ∙ q)
+
+    -- outside slices or levels the history is dropped
+    pub write-outside : inShape (textureAt (l .textures) i .shape) slice level ≡ false → (answer tt, droppedLent l fits i (rec .tracked .0)) ≡ noteWriteCall l id slice level r
+    write-outside out =
+        ap (λ (l′ : Lent). (answer tt, l′)) (history-dropped l fits i (rec .tracked .0))
+        ∙ sym (passes (spent-here ∙ ap (λ (b : Bool). b && leb limit n) out) (set (modelOf l .textures) i (withHistory none (stateOf l i)))
+        (changed-here none (ap (λ (b : Bool). cond b (some (stampWrite shape slice level r old)) none) (ap (λ (s : VersionShape). inShape s slice level) read-shape ∙ out))))
+
+    module _ (inside : inShape (textureAt (l .textures) i .shape) slice level ≡ true) where
+      -- the count is to pass 2^48
+      pub write-spent : limit ≤ n → (refusal 12, l) ≡ noteWriteCall l id slice level r
+      unfolding noteWriteCall noteWrite
+      write-spent h =
+          sym (asked-refused (λ (a : Unit {0}). a) l rule e 12
+          (guard-refused (writeSpent (find id (modelOf l .textures)) slice level) 12 (accepted tt (withTextures (change id write (modelOf l .textures)) (modelOf l)))
+          (spent-here ∙ ap₂ (λ (a b : Bool). a && b) inside (le-leb limit n h))))
+
+      -- the write is counted, and its tiles are stamped
+      pub write-inside : n < limit
+          → (answer tt, keptLent l fits i (rec .tracked .0) old (has-history l fits id n rec) (n + 1) (pageOf (l .textures) i slice level) (stampedOn (l .textures) i slice level r (n + 1) (l .newest) (l .stamps) ∷ []))
+          ≡ noteWriteCall l id slice level r
+      write-inside h =
+          let here : inShape shape slice level ≡ true = ap (λ (s : VersionShape). inShape s slice level) read-shape ∙ inside in
+          let q = and-both (ltb slice (slicesOf shape)) (ltb level (shape .levels)) here in
+          ap (λ (k : ℕ). (answer tt, keptLent l fits i (rec .tracked .0) old (has-history l fits id n rec) k (pageOf (l .textures) i slice level) (stampedOn (l .textures) i slice level r k (l .newest) (l .stamps) ∷ []))) (add-one n)
+          ∙ ap (λ (l′ : Lent). (answer tt, l′))
+          (history-stamped l fits i (rec .tracked .0) old (has-history l fits id n rec) slice level r (ltb-true slice (slicesOf shape) (q .0)) (ltb-true level (shape .levels) (q .1))
+          (ap isShape read-shape ∙ shape-formed l fits id n rec))
+          ∙ sym (passes (spent-here ∙ ap₂ (λ (a b : Bool). a && b) inside (lt-leb limit n h)) (set (modelOf l .textures) i (withHistory (some (stampWrite shape slice level r old)) (stateOf l i)))
+          (changed-here (some (stampWrite shape slice level r old)) (ap (λ (b : Bool). cond b (some (stampWrite shape slice level r old)) none) here)))
