@@ -166,3 +166,16 @@ module _ (l : Lent) (f : Fits l) (id : ℕ) where
       recorded = r .history;
       pages = omega (arith, pages-inside, f .pages, f .newest);
     }
+
+  -- ---- the same at the place that the code found
+
+  module _ (i : ℕ) (q : i ≡ at) where
+    pub told : (r x : Recorded) → r ≡ recordedAt (l .textures) (l .pool .tracked) i id → r ≡ x → Says x
+    told r x e t = subst Says (ap (λ (k : ℕ). recordedAt (l .textures) (l .pool .tracked) k id) (sym q) ∙ sym e ∙ t) record-says
+
+    module _ (n : ℕ) (r : Recording n) where
+      pub history-here : HistoryAt (l .textures) i
+      history-here = subst (HistoryAt (l .textures)) (sym q) (history-there n r)
+
+      pub pages-here : pagesEnd (l .textures) i ≤ l .pool .pages
+      pages-here = subst (λ (k : ℕ). pagesEnd (l .textures) k ≤ l .pool .pages) (sym q) (pages-inside n r)

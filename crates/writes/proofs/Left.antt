@@ -48,6 +48,20 @@ total-set f [] i a d h = absurd (let y : ⊥ = omega arith in y)
 total-set f (x ∷ xs) zero a d h = omega arith
 total-set f (x ∷ xs) (suc i) a d h = omega (arith, total-set f xs i a d (omega arith))
 
+-- ---- what is left: of a history that is dropped, and of one that is kept, with another count and these grids on its pages from p on
+
+abbrev pub droppedLent : Lent → ℕ → Lent
+droppedLent l i =
+    lent (withPages (l .pool .pages - pagesHere (l .textures) i) (l .pool)) (l .book)
+    (sets (l .textures) (19 * i) (writeTexture (recordedAs NoHistory (textureAt (l .textures) i)))) (l .retiring) (l .doomed) (l .spares)
+    (moved (l .newest) (pagesUpTo (l .textures) i) (pagesEnd (l .textures) i) (l .pool .pages - pagesEnd (l .textures) i))
+    (moved (l .stamps) (1024 * pagesUpTo (l .textures) i) (1024 * pagesUpTo (l .textures) i + 1024 * pagesHere (l .textures) i) (1024 * (l .pool .pages - pagesEnd (l .textures) i)))
+
+abbrev pub keptLent : Lent → ℕ → ℕ → ℕ → List StampGrid → Lent
+keptLent l i writes p gs =
+    lent (l .pool) (l .book) (sets (l .textures) (19 * i) (writeTexture (recordedAs (Writes writes) (textureAt (l .textures) i)))) (l .retiring) (l .doomed) (l .spares)
+    (newestWritten (l .newest) p gs) (pagesWritten (l .stamps) p gs)
+
 module _ (l : Lent) (f : Fits l) (i : ℕ) (h : i < l .pool .tracked) where
   -- ---- any other history
 
@@ -120,14 +134,7 @@ module _ (l : Lent) (f : Fits l) (i : ℕ) (h : i < l .pool .tracked) where
   stamps-fit : 1024 * l .pool .pages ≤ length (l .stamps)
   stamps-fit = omega (arith, f .stamps, f .pages)
 
-  abbrev pub droppedLent : Lent
-  droppedLent =
-      lent (withPages (l .pool .pages - pagesHere (l .textures) i) (l .pool)) (l .book)
-      (sets (l .textures) (19 * i) (writeTexture (recordedAs NoHistory (textureAt (l .textures) i)))) (l .retiring) (l .doomed) (l .spares)
-      (moved (l .newest) (pagesUpTo (l .textures) i) (pagesEnd (l .textures) i) (l .pool .pages - pagesEnd (l .textures) i))
-      (moved (l .stamps) (1024 * pagesUpTo (l .textures) i) (1024 * pagesUpTo (l .textures) i + 1024 * pagesHere (l .textures) i) (1024 * (l .pool .pages - pagesEnd (l .textures) i)))
-
-  pub history-dropped : droppedLent ≡ after (otherPool none) l
+  pub history-dropped : droppedLent l i ≡ after (otherPool none) l
   history-dropped =
       history-left none (l .pool .pages - pagesHere (l .textures) i) _ _
       (omega (arith, pages-left none, pages-of-record l i h, pages-in l (f .claimed) i h))
@@ -150,12 +157,6 @@ module _ (l : Lent) (f : Fits l) (i : ℕ) (h : i < l .pool .tracked) where
 
     stamps-room : 1024 * (firstPageOf l i + pagesAt l i) ≤ length (l .stamps)
     stamps-room = omega (arith, stamps-fit, pages-in l (f .claimed) i h)
-
-    -- what is left with these on its pages
-    abbrev pub keptLent : ℕ → ℕ → List StampGrid → Lent
-    keptLent writes p gs =
-        lent (l .pool) (l .book) (sets (l .textures) (19 * i) (writeTexture (recordedAs (Writes writes) (textureAt (l .textures) i)))) (l .retiring) (l .doomed) (l .spares)
-        (newestWritten (l .newest) p gs) (pagesWritten (l .stamps) p gs)
 
     -- ---- a write
 
@@ -185,11 +186,11 @@ module _ (l : Lent) (f : Fits l) (i : ℕ) (h : i < l .pool .tracked) where
       unfolding pageOf
       page-of-write = ap₂ (λ (p : ℕ) (s : VersionShape). p + gridPlace s slice level) (pages-begin l i h) (sym (shape-at l i h))
 
-      pub history-stamped : keptLent (suc (old .writes)) (pageOf (l .textures) i slice level) (stampedOn (l .textures) i slice level r (suc (old .writes)) (l .newest) (l .stamps) ∷ [])
+      pub history-stamped : keptLent l i (suc (old .writes)) (pageOf (l .textures) i slice level) (stampedOn (l .textures) i slice level r (suc (old .writes)) (l .newest) (l .stamps) ∷ [])
           ≡ after (otherPool afterWrite) l
       unfolding stampWrite
       history-stamped =
-          ap₂ (λ (p : ℕ) (g : StampGrid). keptLent (suc (old .writes)) p (g ∷ [])) page-of-write stamped-on
+          ap₂ (λ (p : ℕ) (g : StampGrid). keptLent l i (suc (old .writes)) p (g ∷ [])) page-of-write stamped-on
           ∙ history-left afterWrite (l .pool .pages) (newestWritten (l .newest) (firstPageOf l i + place) (stampedGrid ∷ [])) (pagesWritten (l .stamps) (firstPageOf l i + place) (stampedGrid ∷ []))
           (same-pages (stampWrite shape slice level r old))
           (one-newest (l .newest) (firstPageOf l i + place) stampedGrid
@@ -228,12 +229,12 @@ module _ (l : Lent) (f : Fits l) (i : ℕ) (h : i < l .pool .tracked) where
           ap-small : {gs hs : List StampGrid} → gs ≡ hs → length (getD hs k (record { newest = 0; stamps = [] }) .stamps) ≤ 1024 → length (getD gs k (record { newest = 0; stamps = [] }) .stamps) ≤ 1024
           ap-small e s = subst (λ (gs : List StampGrid). length (getD gs k (record { newest = 0; stamps = [] }) .stamps) ≤ 1024) (sym e) s
 
-      pub history-regenerated : keptLent (suc (old .writes)) (pagesUpTo (l .textures) i)
+      pub history-regenerated : keptLent l i (suc (old .writes)) (pagesUpTo (l .textures) i)
           (remadeGrids (textureAt (l .textures) i .shape) (suc (old .writes)) (l .newest) (l .stamps) (pagesUpTo (l .textures) i) (pagesHere (l .textures) i))
           ≡ after (otherPool afterRegeneration) l
       unfolding stampRegeneration newestWritten pagesWritten pageBefore
       history-regenerated =
-          ap₂ (keptLent (suc (old .writes))) (pages-begin l i h) made-grids
+          ap₂ (keptLent l i (suc (old .writes))) (pages-begin l i h) made-grids
           ∙ history-left afterRegeneration (l .pool .pages) (newestWritten (l .newest) (firstPageOf l i) (gridsOf afterRegeneration)) (pagesWritten (l .stamps) (firstPageOf l i) (gridsOf afterRegeneration))
           (same-pages (stampRegeneration shape old))
           (newest-rewritten l (otherPool afterRegeneration) (f .claimed) i h (otherState afterRegeneration) refl (f .pages) count-made)

@@ -85,15 +85,25 @@ module _ (l : Lent) (e : isPool l ≡ true) (id : ℕ) where
 
     -- the regeneration is counted, and every level but the first is stamped
     pub regeneration-done : n < limit
-        → (answer tt, keptLent l fits i (rec .tracked .0) old (has-history l fits id n rec) (n + 1) (pagesUpTo (l .textures) i)
+        → (answer tt, keptLent l i (n + 1) (pagesUpTo (l .textures) i)
         (remadeGrids (textureAt (l .textures) i .shape) (n + 1) (l .newest) (l .stamps) (pagesUpTo (l .textures) i) (pagesHere (l .textures) i)))
         ≡ noteMipRegenerationCall l id
     regeneration-done h =
         ap
-        (λ (k : ℕ). (answer tt, keptLent l fits i (rec .tracked .0) old (has-history l fits id n rec) k (pagesUpTo (l .textures) i)
+        (λ (k : ℕ). (answer tt, keptLent l i k (pagesUpTo (l .textures) i)
         (remadeGrids (textureAt (l .textures) i .shape) k (l .newest) (l .stamps) (pagesUpTo (l .textures) i) (pagesHere (l .textures) i)))) (add-one n)
         ∙ ap (λ (l′ : Lent). (answer tt, l′))
         (history-regenerated l fits i (rec .tracked .0) old (has-history l fits id n rec) (ap isShape (shape-at l i (rec .tracked .0)) ∙ shape-formed l fits id n rec) refl)
         ∙ sym (passes (spent-here ∙ lt-leb limit n h) (set (modelOf l .textures) i (withHistory (some (stampRegeneration shape old)) (stateOf l i)))
         (changed l id (ids-ascend l fits) (rec .tracked) regenerate
         ∙ ap (λ (o : Option WriteHistory). set (modelOf l .textures) i (withHistory (regenerated shape o) (stateOf l i))) (has-history l fits id n rec)))
+
+    -- the same by what the code found and left
+    pub left-regenerated : (k : ℕ) → k ≡ i → n < limit → (l′ : Lent)
+        → l′ ≡ keptLent l k (n + 1) (pagesUpTo (l .textures) k) (remadeGrids (textureAt (l .textures) k .shape) (n + 1) (l .newest) (l .stamps) (pagesUpTo (l .textures) k) (pagesHere (l .textures) k))
+        → (answer tt, l′) ≡ noteMipRegenerationCall l id
+    left-regenerated k q h l′ w =
+        ap (λ (x : Lent). (answer tt, x))
+        (w
+        ∙ ap (λ (m : ℕ). keptLent l m (n + 1) (pagesUpTo (l .textures) m) (remadeGrids (textureAt (l .textures) m .shape) (n + 1) (l .newest) (l .stamps) (pagesUpTo (l .textures) m) (pagesHere (l .textures) m))) q)
+        ∙ regeneration-done h

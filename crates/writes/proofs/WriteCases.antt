@@ -19,6 +19,7 @@ use Rattle.stores.specs.Updates.{withHistory, withTextures, change}
 use Rattle.stores.specs.Histories.{inShape, written, stampWrite, spent}
 use Rattle.stores.specs.NoteWrite.{writeSpent, noteWrite}
 use Rattle.records.specs.declared.recorded.Recorded.the-variants.{NoHistory}
+use Rattle.records.specs.declared.texture.TextureRecord.{TextureRecord}
 use Rattle.layout.specs.Lent.{Lent}
 use Rattle.layout.specs.Reading.{modelOf}
 use Rattle.layout.specs.Writing.{after}
@@ -100,7 +101,7 @@ module _ (l : Lent) (e : isPool l ≡ true) (id slice level : ℕ) (r : TexelRec
         ∙ ap (λ (w : Option WriteHistory). set (modelOf l .textures) i (withHistory w (stateOf l i))) (ap (written slice level r shape) (has-history l fits id n rec) ∙ q)
 
     -- outside slices or levels the history is dropped
-    pub write-outside : inShape (textureAt (l .textures) i .shape) slice level ≡ false → (answer tt, droppedLent l fits i (rec .tracked .0)) ≡ noteWriteCall l id slice level r
+    pub write-outside : inShape (textureAt (l .textures) i .shape) slice level ≡ false → (answer tt, droppedLent l i) ≡ noteWriteCall l id slice level r
     write-outside out =
         ap (λ (l′ : Lent). (answer tt, l′)) (history-dropped l fits i (rec .tracked .0))
         ∙ sym (passes (spent-here ∙ ap (λ (b : Bool). b && leb limit n) out) (set (modelOf l .textures) i (withHistory none (stateOf l i)))
@@ -117,14 +118,37 @@ module _ (l : Lent) (e : isPool l ≡ true) (id slice level : ℕ) (r : TexelRec
 
       -- the write is counted, and its tiles are stamped
       pub write-inside : n < limit
-          → (answer tt, keptLent l fits i (rec .tracked .0) old (has-history l fits id n rec) (n + 1) (pageOf (l .textures) i slice level) (stampedOn (l .textures) i slice level r (n + 1) (l .newest) (l .stamps) ∷ []))
+          → (answer tt, keptLent l i (n + 1) (pageOf (l .textures) i slice level) (stampedOn (l .textures) i slice level r (n + 1) (l .newest) (l .stamps) ∷ []))
           ≡ noteWriteCall l id slice level r
       write-inside h =
           let here : inShape shape slice level ≡ true = ap (λ (s : VersionShape). inShape s slice level) read-shape ∙ inside in
           let q = and-both (ltb slice (slicesOf shape)) (ltb level (shape .levels)) here in
-          ap (λ (k : ℕ). (answer tt, keptLent l fits i (rec .tracked .0) old (has-history l fits id n rec) k (pageOf (l .textures) i slice level) (stampedOn (l .textures) i slice level r k (l .newest) (l .stamps) ∷ []))) (add-one n)
+          ap (λ (k : ℕ). (answer tt, keptLent l i k (pageOf (l .textures) i slice level) (stampedOn (l .textures) i slice level r k (l .newest) (l .stamps) ∷ []))) (add-one n)
           ∙ ap (λ (l′ : Lent). (answer tt, l′))
           (history-stamped l fits i (rec .tracked .0) old (has-history l fits id n rec) slice level r (ltb-true slice (slicesOf shape) (q .0)) (ltb-true level (shape .levels) (q .1))
           (ap isShape read-shape ∙ shape-formed l fits id n rec))
           ∙ sym (passes (spent-here ∙ ap₂ (λ (a b : Bool). a && b) inside (lt-leb limit n h)) (set (modelOf l .textures) i (withHistory (some (stampWrite shape slice level r old)) (stateOf l i)))
           (changed-here (some (stampWrite shape slice level r old)) (ap (λ (b : Bool). cond b (some (stampWrite shape slice level r old)) none) here)))
+
+    -- ---- the same by what the code found and left
+
+    module _ (k : ℕ) (q : k ≡ i) (t : TextureRecord) (read : t ≡ textureAt (l .textures) k) where
+      found-shape : t .shape ≡ textureAt (l .textures) i .shape
+      found-shape = ap (λ (x : TextureRecord). x .shape) (read ∙ ap (textureAt (l .textures)) q)
+
+      in-found : (b : Bool) → inShape (t .shape) slice level ≡ b → inShape (textureAt (l .textures) i .shape) slice level ≡ b
+      in-found b g = ap (λ (s : VersionShape). inShape s slice level) (sym found-shape) ∙ g
+
+      pub left-outside : inShape (t .shape) slice level ≡ false → (l′ : Lent) → l′ ≡ droppedLent l k → (answer tt, l′) ≡ noteWriteCall l id slice level r
+      left-outside g l′ w = ap (λ (x : Lent). (answer tt, x)) (w ∙ ap (droppedLent l) q) ∙ write-outside (in-found false g)
+
+      pub left-spent : inShape (t .shape) slice level ≡ true → limit ≤ n → (refusal 12, l) ≡ noteWriteCall l id slice level r
+      left-spent g h = write-spent (in-found true g) h
+
+      pub left-inside : inShape (t .shape) slice level ≡ true → n < limit → (l′ : Lent)
+          → l′ ≡ keptLent l k (n + 1) (pageOf (l .textures) k slice level) (stampedOn (l .textures) k slice level r (n + 1) (l .newest) (l .stamps) ∷ [])
+          → (answer tt, l′) ≡ noteWriteCall l id slice level r
+      left-inside g h l′ w =
+          ap (λ (x : Lent). (answer tt, x))
+          (w ∙ ap (λ (m : ℕ). keptLent l m (n + 1) (pageOf (l .textures) m slice level) (stampedOn (l .textures) m slice level r (n + 1) (l .newest) (l .stamps) ∷ [])) q)
+          ∙ write-inside (in-found true g) h

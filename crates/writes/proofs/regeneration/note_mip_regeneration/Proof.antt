@@ -1,76 +1,107 @@
+-- `note_mip_regeneration` meets its contract, case by case. Assumes nothing.
+use mathlib.Core.Path.{_≡_, sym, ap, _∙_}
+use mathlib.Core.Bool.{Bool, true, false}
+use Prim.Native.Nat.{ℕ, _+_, _*_, _≤_, _<_}
+use native.Mathlib.Omega.{arith}
+use borrow.Author.Tests.{not-true, not-false}
 use borrow.Author.Needs.{needs}
+use Rattle.records.specs.declared.recorded.Recorded.the-variants.{Writes, NoHistory}
+use Rattle.layout.specs.Lent.{Lent, lent}
+use Rattle.layout.proofs.Fits.{Fits}
+use Rattle.layout.proofs.FromPool.{pool-fits}
+use Rattle.layout.proofs.Stays.{ids-ascend, textures-fit}
+use Rattle.writes.specs.History.{pagesEnd, HistoryAt}
+use Rattle.writes.proofs.AtPlace.{Recording, told, history-here, pages-here}
+use Rattle.writes.proofs.RegenerationCases.{regeneration-unrecorded, regeneration-spent, left-regenerated}
 use Rattle.writes.proofs.regeneration.note_mip_regeneration.Statement.{statement}
 use Rattle.writes.proofs.regeneration.note_mip_regeneration.Tie as tie
-use Rattle.writes.proofs.regeneration.note_mip_regeneration.Reads as reads
-use Rattle.writes.proofs.regeneration.note_mip_regeneration.Lts as lts
-use Rattle.records.proofs.find_texture.Reads as find-texture-reads
-use Rattle.writes.proofs.history.history_at.Reads as history-at-reads
-use Rattle.writes.proofs.history.regenerate_history.Reads as regenerate-history-reads
-use Rattle.writes.proofs.history.set_history.Reads as set-history-reads
 
--- src/regeneration.rt:33:9
+-- the lent memory, and its facts
+abbrev here : tie.Start → Lent
+here s =
+    let a = s .args in lent (a .pool) (a .book) (a .textures .now) (a .retiring .now) (a .doomed .now) (a .spares .now) (a .newest .now) (a .stamps .now)
+
+abbrev fit : (s : tie.Start) → Fits (here s)
+fit s = pool-fits (here s) (s .pre)
+
+-- a texture with a history, which has that many writes
+module _ (w : tie.After-known-told) where
+  abbrev start : tie.Start
+  start = w .before .before .before .before .before .before .before .before .before .before .before .before .before
+
+  abbrev count : ℕ
+  count = w .before .history .given .0 .0
+
+  recording : Recording (here start) (fit start) (start .args .id) count
+  recording =
+      told (here start) (fit start) (start .args .id) (w .before .before .before .before .before .find-texture .result) (w .before .before .before .before .before .find-texture .ensures) (w .before .before .before .history-at .result) (Writes count)
+      (w .before .before .before .history-at .ensures) (w .before .history .given .1)
+
+  held : HistoryAt (start .args .textures .now) (w .before .before .before .before .before .find-texture .result)
+  held = history-here (here start) (fit start) (start .args .id) (w .before .before .before .before .before .find-texture .result) (w .before .before .before .before .before .find-texture .ensures) count recording
+
+  inside : pagesEnd (start .args .textures .now) (w .before .before .before .before .before .find-texture .result) ≤ start .args .pool .pages
+  inside = pages-here (here start) (fit start) (start .args .id) (w .before .before .before .before .before .find-texture .result) (w .before .before .before .before .before .find-texture .ensures) count recording
+
 find-texture-requires : tie.Need-find-texture-requires
-find-texture-requires c κs = ?h
+find-texture-requires c κs = let s = c .before .before .before .before .before .before .before in (textures-fit (here s) (fit s), ids-ascend (here s) (fit s))
 
--- src/regeneration.rt:34:9
 history-at-requires : tie.Need-history-at-requires
-history-at-requires c κs = ?h
+history-at-requires c κs = let s = c .before .before .before .before .before .before .before .before .before in textures-fit (here s) (fit s)
 
--- src/regeneration.rt:35:26
 enum-known-history : tie.Need-enum-known-history
 enum-known-history c = search needs
 
--- src/regeneration.rt:36:9
 enum-told : tie.Need-enum-told
 enum-told c = search needs
 
--- src/regeneration.rt:36:9
 same-length : tie.Need-same-length
 same-length c = search needs
 
--- src/regeneration.rt:36:9
 returns : tie.Need-returns
-returns c = ?h
+returns c =
+    let s = c .before .before .before .before .before .before .before .before .before .before .before .before in
+    let a = s .args in
+    regeneration-unrecorded (here s) (s .pre) (a .id)
+    (told (here s) (fit s) (a .id) (c .before .before .before .before .find-texture .result) (c .before .before .before .before .find-texture .ensures) (c .before .before .history-at .result) NoHistory (c .before .before .history-at .ensures) (c .enum-told .given .1))
 
--- src/regeneration.rt:39:9
 same-length-2 : tie.Need-same-length-2
 same-length-2 c = search needs
 
--- src/regeneration.rt:39:9
 returns-2 : tie.Need-returns-2
-returns-2 c = ?h
+returns-2 c =
+    let w = c .before in regeneration-spent (here (start w)) (start w .pre) (start w .args .id) (count w) (recording w) (c .if1 .taken)
 
--- src/regeneration.rt:41:53
 add-regenerate-history : tie.Need-add-regenerate-history
 add-regenerate-history c = search needs
 
--- src/regeneration.rt:41:5
 regenerate-history-requires : tie.Need-regenerate-history-requires
-regenerate-history-requires c κs = ?h
+regenerate-history-requires c κs =
+    let w = c .before .before .before .before in let f = fit (start w) in (held w, omega (arith, inside w, f .pages), omega (arith, f .stamps))
 
--- src/regeneration.rt:42:47
 add-t26 : tie.Need-add-t26
 add-t26 c = search needs
 
--- src/regeneration.rt:42:5
 set-history-requires : tie.Need-set-history-requires
-set-history-requires c κs = ?h
+set-history-requires c κs = (held (c .before .before .before .before .before .before .before .before .before .before) .there, omega (arith, c .before .before .before .before .before .before .before .before .before .if1 .left))
 
--- src/regeneration.rt:16:1
 same-length-3 : tie.Need-same-length-3
 same-length-3 c = search needs
 
--- src/regeneration.rt:16:1
 same-length-4 : tie.Need-same-length-4
 same-length-4 c = search needs
 
--- src/regeneration.rt:16:1
 same-length-5 : tie.Need-same-length-5
 same-length-5 c = search needs
 
--- src/regeneration.rt:16:1
 returns-3 : tie.Need-returns-3
-returns-3 c = ?h
+returns-3 c =
+    let w = c .before .before .before .before .before .before .before .before .before .before .before .before .before in
+    let s = start w in
+    let a = s .args in
+    let d = c .before .before .before .before .before .before .before .before .regenerate-history in
+    left-regenerated (here s) (s .pre) (a .id) (count w) (recording w) (c .before .before .before .before .before .before .before .before .before .before .before .before .before .before .before .before .before .before .find-texture .result) (c .before .before .before .before .before .before .before .before .before .before .before .before .before .before .before .before .before .before .find-texture .ensures) (c .before .before .before .before .before .before .before .before .before .before .before .before .if1 .left) _
+    (λ j. lent (a .pool) (a .book) (c .before .before .set-history .ensures j) (a .retiring .now) (a .doomed .now) (a .spares .now) (d .ensures .0 j) (d .ensures .1 j))
 
 pub note-mip-regeneration-spec : {M : Type 1} → statement M
 note-mip-regeneration-spec =

@@ -1,111 +1,153 @@
+-- `note_write` meets its contract, case by case. Assumes nothing.
+use mathlib.Core.Path.{_≡_, sym, ap, _∙_}
+use mathlib.Core.Bool.{Bool, true, false}
+use Prim.Native.Nat.{ℕ, _+_, _*_, _≤_, _<_}
+use native.Mathlib.Omega.{arith}
+use borrow.Author.Tests.{not-true, not-false}
 use borrow.Author.Needs.{needs}
+use Rattle.stores.specs.Histories.{inShape}
+use Rattle.records.specs.declared.recorded.Recorded.the-variants.{Writes, NoHistory}
+use Rattle.records.specs.declared.texture.TextureRecord.{TextureRecord}
+use Rattle.layout.specs.Lent.{Lent, lent}
+use Rattle.layout.proofs.Fits.{Fits}
+use Rattle.layout.proofs.FromPool.{pool-fits}
+use Rattle.layout.proofs.Stays.{ids-ascend, textures-fit}
+use Rattle.writes.specs.History.{pagesEnd, HistoryAt}
+use Rattle.writes.specs.Counts.{withPages}
+use Rattle.writes.proofs.AtPlace.{Recording, told, history-here, pages-here}
+use Rattle.writes.proofs.WriteCases.{write-unrecorded, left-outside, left-spent, left-inside}
 use Rattle.writes.proofs.write.note_write.Statement.{statement}
 use Rattle.writes.proofs.write.note_write.Tie as tie
-use Rattle.writes.proofs.write.note_write.Reads as reads
-use Rattle.writes.proofs.write.note_write.Lts as lts
-use Rattle.access.proofs.texture_at.Reads as texture-at-reads
-use Rattle.records.proofs.find_texture.Reads as find-texture-reads
-use Rattle.writes.proofs.history.drop_history.Reads as drop-history-reads
-use Rattle.writes.proofs.history.history_at.Reads as history-at-reads
-use Rattle.writes.proofs.history.in_shape.Reads as in-shape-reads
-use Rattle.writes.proofs.history.set_history.Reads as set-history-reads
-use Rattle.writes.proofs.history.stamp_subresource.Reads as stamp-subresource-reads
 
--- src/write.rt:41:9
+-- the lent memory, and its facts
+abbrev here : tie.Start → Lent
+here s =
+    let a = s .args in lent (a .pool) (a .book) (a .textures .now) (a .retiring .now) (a .doomed .now) (a .spares .now) (a .newest .now) (a .stamps .now)
+
+abbrev fit : (s : tie.Start) → Fits (here s)
+fit s = pool-fits (here s) (s .pre)
+
+-- a texture with a history, which has that many writes
+module _ (w : tie.After-known-told) where
+  abbrev start : tie.Start
+  start = w .before .before .before .before .before .before .before .before .before .before .before .before .before
+
+  abbrev count : ℕ
+  count = w .before .history .given .0 .0
+
+  recording : Recording (here start) (fit start) (start .args .id) count
+  recording =
+      told (here start) (fit start) (start .args .id) (w .before .before .before .before .before .find-texture .result) (w .before .before .before .before .before .find-texture .ensures) (w .before .before .before .history-at .result) (Writes count)
+      (w .before .before .before .history-at .ensures) (w .before .history .given .1)
+
+  held : HistoryAt (start .args .textures .now) (w .before .before .before .before .before .find-texture .result)
+  held = history-here (here start) (fit start) (start .args .id) (w .before .before .before .before .before .find-texture .result) (w .before .before .before .before .before .find-texture .ensures) count recording
+
+  inside : pagesEnd (start .args .textures .now) (w .before .before .before .before .before .find-texture .result) ≤ start .args .pool .pages
+  inside = pages-here (here start) (fit start) (start .args .id) (w .before .before .before .before .before .find-texture .result) (w .before .before .before .before .before .find-texture .ensures) count recording
+
 find-texture-requires : tie.Need-find-texture-requires
-find-texture-requires c κs = ?h
+find-texture-requires c κs = let s = c .before .before .before .before .before .before .before in (textures-fit (here s) (fit s), ids-ascend (here s) (fit s))
 
--- src/write.rt:42:9
 history-at-requires : tie.Need-history-at-requires
-history-at-requires c κs = ?h
+history-at-requires c κs = let s = c .before .before .before .before .before .before .before .before .before in textures-fit (here s) (fit s)
 
--- src/write.rt:43:26
 enum-known-history : tie.Need-enum-known-history
 enum-known-history c = search needs
 
--- src/write.rt:44:9
 enum-told : tie.Need-enum-told
 enum-told c = search needs
 
--- src/write.rt:44:9
 same-length : tie.Need-same-length
 same-length c = search needs
 
--- src/write.rt:44:9
 returns : tie.Need-returns
-returns c = ?h
+returns c =
+    let s = c .before .before .before .before .before .before .before .before .before .before .before .before in
+    let a = s .args in
+    write-unrecorded (here s) (s .pre) (a .id) (a .slice) (a .level) (a .rect)
+    (told (here s) (fit s) (a .id) (c .before .before .before .before .find-texture .result) (c .before .before .before .before .find-texture .ensures) (c .before .before .history-at .result) NoHistory (c .before .before .history-at .ensures) (c .enum-told .given .1))
 
--- src/write.rt:46:9
 texture-at-requires : tie.Need-texture-at-requires
-texture-at-requires c κs = ?h
+texture-at-requires c κs = held (c .before) .there
 
--- src/write.rt:47:9
 in-shape-requires : tie.Need-in-shape-requires
 in-shape-requires c κs = search needs
 
--- src/write.rt:49:9
 drop-history-requires : tie.Need-drop-history-requires
-drop-history-requires c κs = ?h
+drop-history-requires c κs = let w = c .before .before .before .before .before .before .before in let f = fit (start w) in (held w, inside w, f .pages, omega (arith, f .pages, f .stamps))
 
--- src/write.rt:50:9
 set-history-requires : tie.Need-set-history-requires
-set-history-requires c κs = ?h
+set-history-requires c κs = (held (c .before .before .before .before .before .before .before .before .before .before .before .before .before) .there, omega arith)
 
--- src/write.rt:51:9
 same-length-2 : tie.Need-same-length-2
 same-length-2 c = search needs
 
--- src/write.rt:51:9
 same-length-3 : tie.Need-same-length-3
 same-length-3 c = search needs
 
--- src/write.rt:51:9
 same-length-4 : tie.Need-same-length-4
 same-length-4 c = search needs
 
--- src/write.rt:51:9
 returns-2 : tie.Need-returns-2
-returns-2 c = ?h
+returns-2 c =
+    let w = c .before .before .before .before .before .before .before .before .before .before .before .before .before .before .before .before in
+    let s = start w in
+    let a = s .args in
+    let d = c .before .before .before .before .before .before .before .before .drop-history in
+    left-outside (here s) (s .pre) (a .id) (a .slice) (a .level) (a .rect) (count w) (recording w) (c .before .before .before .before .before .before .before .before .before .before .before .before .before .before .before .before .before .before .before .before .before .find-texture .result) (c .before .before .before .before .before .before .before .before .before .before .before .before .before .before .before .before .before .before .before .before .before .find-texture .ensures) (c .before .before .before .before .before .before .before .before .before .before .before .before .before .before .texture-at .result) (c .before .before .before .before .before .before .before .before .before .before .before .before .before .before .texture-at .ensures)
+    (sym (c .before .before .before .before .before .before .before .before .before .before .before .before .before .in-shape .ensures) ∙ not-true _ (c .before .before .before .before .before .before .before .before .before .before .before .before .if1 .taken)) _
+    (λ j. lent (withPages (d .ensures .0 j) (a .pool)) (a .book) (c .before .before .set-history .ensures j) (a .retiring .now) (a .doomed .now) (a .spares .now) (d .ensures .1 j) (d .ensures .2 j))
 
--- src/write.rt:54:9
 same-length-5 : tie.Need-same-length-5
 same-length-5 c = search needs
 
--- src/write.rt:54:9
 returns-3 : tie.Need-returns-3
-returns-3 c = ?h
+returns-3 c =
+    let w = c .before .before .before .before .before in
+    let s = start w in
+    let a = s .args in
+    left-spent (here s) (s .pre) (a .id) (a .slice) (a .level) (a .rect) (count w) (recording w) (c .before .before .before .before .before .before .before .before .before .before .find-texture .result) (c .before .before .before .before .before .before .before .before .before .before .find-texture .ensures) (c .before .before .before .texture-at .result) (c .before .before .before .texture-at .ensures)
+    (sym (c .before .before .in-shape .ensures) ∙ not-false _ (c .before .if1 .left)) (c .if2 .taken)
 
--- src/write.rt:56:72
 add-stamp-subresource : tie.Need-add-stamp-subresource
 add-stamp-subresource c = search needs
 
--- src/write.rt:56:5
 stamp-subresource-requires : tie.Need-stamp-subresource-requires
-stamp-subresource-requires c κs = ?h
+stamp-subresource-requires c κs =
+    let w = c .before .before .before .before .before .before .before .before in
+    let a = start w .args in
+    let f = fit (start w) in (
+      held w,
+      omega (arith, inside w, f .pages),
+      omega (arith, f .stamps),
+      ap (λ (t : TextureRecord). inShape (t .shape) (a .slice) (a .level)) (sym (c .before .before .before .before .before .before .texture-at .ensures)) ∙ sym (c .before .before .before .before .before .in-shape .ensures) ∙ not-false _ (c .before .before .before .before .if1 .left),
+    )
 
--- src/write.rt:57:47
 add-t44 : tie.Need-add-t44
 add-t44 c = search needs
 
--- src/write.rt:57:5
 set-history-requires-2 : tie.Need-set-history-requires-2
-set-history-requires-2 c κs = ?h
+set-history-requires-2 c κs = (held (c .before .before .before .before .before .before .before .before .before .before .before .before .before .before) .there, omega (arith, c .before .before .before .before .before .before .before .before .before .if2 .left))
 
--- src/write.rt:21:1
 same-length-6 : tie.Need-same-length-6
 same-length-6 c = search needs
 
--- src/write.rt:21:1
 same-length-7 : tie.Need-same-length-7
 same-length-7 c = search needs
 
--- src/write.rt:21:1
 same-length-8 : tie.Need-same-length-8
 same-length-8 c = search needs
 
--- src/write.rt:21:1
 returns-4 : tie.Need-returns-4
-returns-4 c = ?h
+returns-4 c =
+    let w = c .before .before .before .before .before .before .before .before .before .before .before .before .before .before .before .before .before in
+    let s = start w in
+    let a = s .args in
+    let d = c .before .before .before .before .before .before .before .before .stamp-subresource in
+    left-inside (here s) (s .pre) (a .id) (a .slice) (a .level) (a .rect) (count w) (recording w) (c .before .before .before .before .before .before .before .before .before .before .before .before .before .before .before .before .before .before .before .before .before .before .find-texture .result) (c .before .before .before .before .before .before .before .before .before .before .before .before .before .before .before .before .before .before .before .before .before .before .find-texture .ensures) (c .before .before .before .before .before .before .before .before .before .before .before .before .before .before .before .texture-at .result) (c .before .before .before .before .before .before .before .before .before .before .before .before .before .before .before .texture-at .ensures)
+    (sym (c .before .before .before .before .before .before .before .before .before .before .before .before .before .before .in-shape .ensures) ∙ not-false _ (c .before .before .before .before .before .before .before .before .before .before .before .before .before .if1 .left)) (c .before .before .before .before .before .before .before .before .before .before .before .before .if2 .left) _
+    (λ j. lent (a .pool) (a .book) (c .before .before .set-history2 .ensures j) (a .retiring .now) (a .doomed .now) (a .spares .now) (d .ensures .0 j) (d .ensures .1 j))
 
 pub note-write-spec : {M : Type 1} → statement M
 note-write-spec =
