@@ -85,13 +85,19 @@ module _ (l : Lent) (e : isPool l ≡ true) (id : ℕ) where
 
     -- the regeneration is counted, and every level but the first is stamped
     pub regeneration-done : n < limit
-        → (answer tt, keptLent l i (n + 1) (pagesUpTo (l .textures) i)
-        (remadeGrids (textureAt (l .textures) i .shape) (n + 1) (l .newest) (l .stamps) (pagesUpTo (l .textures) i) (pagesHere (l .textures) i)))
+        → (
+          answer tt,
+          keptLent l i (n + 1) (pagesUpTo (l .textures) i)
+              (remadeGrids (textureAt (l .textures) i .shape) (n + 1) (l .newest) (l .stamps) (pagesUpTo (l .textures) i) (pagesHere (l .textures) i)),
+        )
         ≡ noteMipRegenerationCall l id
     regeneration-done h =
         ap
-        (λ (k : ℕ). (answer tt, keptLent l i k (pagesUpTo (l .textures) i)
-        (remadeGrids (textureAt (l .textures) i .shape) k (l .newest) (l .stamps) (pagesUpTo (l .textures) i) (pagesHere (l .textures) i)))) (add-one n)
+        (λ (k : ℕ). (
+          answer tt,
+          keptLent l i k (pagesUpTo (l .textures) i)
+              (remadeGrids (textureAt (l .textures) i .shape) k (l .newest) (l .stamps) (pagesUpTo (l .textures) i) (pagesHere (l .textures) i)),
+        )) (add-one n)
         ∙ ap (λ (l′ : Lent). (answer tt, l′))
         (history-regenerated l fits i (rec .tracked .0) old (has-history l fits id n rec) (ap isShape (shape-at l i (rec .tracked .0)) ∙ shape-formed l fits id n rec) refl)
         ∙ sym (passes (spent-here ∙ lt-leb limit n h) (set (modelOf l .textures) i (withHistory (some (stampRegeneration shape old)) (stateOf l i)))

@@ -4,12 +4,12 @@ ghost use mathlib.Core.Bool.{true};
 ghost use Rattle.layout.specs.Lent.{lent};
 ghost use Rattle.layout.specs.IsPool.{isPool};
 ghost use Rattle.layout.specs.Calls.{toldNumber, noteWriteCall};
-use access::texture_at;
 use crate::history::drop_history;
 use crate::history::history_at;
 use crate::history::in_shape;
 use crate::history::set_history;
 use crate::history::stamp_subresource;
+use access::texture_at;
 use layout::DoneAnswer;
 use layout::PacingBook;
 use layout::Pool;
@@ -48,7 +48,10 @@ pub fn note_write(
         let mut left = pool;
         left.pages = drop_history(textures, newest, stamps, pool.pages, i);
         set_history(textures, i, Recorded::NoHistory);
-        return DoneAnswer { pool: left, outcome: 0 };
+        return DoneAnswer {
+            pool: left,
+            outcome: 0,
+        };
     }
     if 281474976710656 <= n {
         return DoneAnswer { pool, outcome: 12 };
