@@ -1,6 +1,6 @@
 -- Laws of a mip regeneration, page by page. Assumes nothing.
 use mathlib.Core.Path.{_≡_, refl, sym, ap, ap₂, _∙_, subst}
-use mathlib.Core.Bool.{Bool, true, false, cond}
+use mathlib.Core.Bool.{Bool, true, cond}
 use mathlib.Core.List.{List, [], _∷_, _++_}
 use Prim.Native.Nat.{ℕ, zero, suc, _+_, _*_, _%_, _≤_, _<_}
 use native.Mathlib.Nat.{zero-add, mod-eq-of-lt, mod-self, mod-lt, mod-add-mod}
@@ -23,7 +23,7 @@ use Rattle.stores.specs.Histories.{regenerateFrom}
 use Rattle.layout.specs.Reading.{pageAt}
 use Rattle.layout.specs.Writing.{pagesFrom}
 use Rattle.histories.specs.Written.{gridOn, newestWritten, pagesWritten, remadeGrid, remadeGrids}
-use Rattle.histories.proofs.Written.{Small, small-stamped, small-grid, newest-past, newest-more, page-past, pages-more, newest-stands, page-stands}
+use Rattle.histories.proofs.Written.{Small, small-stamped, small-grid, newest-past, newest-more, page-past, pages-more}
 
 -- ---- one grid
 

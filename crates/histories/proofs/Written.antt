@@ -1,33 +1,30 @@
 -- Laws of grids written over pages: one after the other, and read past those that are written. Assumes nothing.
 use mathlib.Core.Path.{_≡_, refl, sym, ap, ap₂, _∙_, subst}
-use mathlib.Core.Bool.{Bool, true, false, cond}
+use mathlib.Core.Bool.{true}
 use mathlib.Core.List.{List, [], _∷_, _++_, map, map-append, append-nil, append-assoc}
-use Prim.Native.Nat.{ℕ, zero, suc, _+_, _*_, _-_, _%_, _≤_, _<_}
-use native.Mathlib.Nat.{add-zero, zero-add, add-assoc}
-use native.Mathlib.Numerals.{add-one}
+use Prim.Native.Nat.{ℕ, suc, _+_, _*_, _-_, _≤_, _<_}
+use native.Mathlib.Nat.{add-zero, zero-add}
 use native.Mathlib.Omega.{arith}
-use borrow.Author.Tests.{ne-eqb, eq-eqb}
-use lib.Dec.{eqb}
-use lib.ListN.{length, take, drop, getD, set, take-append-drop, length-append, length-drop, length-map}
-use lib.Seq.{sets, sets-eq, length-sets, length-take-le, drop-set-lt, drop-drop, getD-drop, set-getD, take-add}
-use Rattle.blocks.specs.Lists.{listed, over}
-use Rattle.blocks.specs.All.{All, nil, cons}
-use Rattle.blocks.proofs.Lists.{length-over, over-self, either}
+use lib.ListN.{length, take, drop, getD, set, take-append-drop, length-drop, length-map}
+use lib.Seq.{sets, sets-eq, length-take-le, drop-set-lt, drop-drop, set-getD}
+use Rattle.blocks.specs.Lists.{over}
+use Rattle.blocks.specs.All.{All}
+use Rattle.blocks.proofs.All.{all-at}
+use Rattle.blocks.proofs.Lists.{length-over, over-self}
 use Rattle.blocks.proofs.Blocks.{getD-sets-past}
-use Rattle.blocks.proofs.Listed.{length-listed, listed-more}
 use Rattle.shapes.specs.declared.shape.VersionShape.{VersionShape}
-use Rattle.shapes.specs.Shapes.{isShape, levelWidth, levelHeight}
+use Rattle.shapes.specs.Shapes.{isShape}
 use Rattle.rects.specs.declared.rect.TexelRect.{TexelRect}
-use Rattle.rects.specs.Rects.{wholeLevel}
 use Rattle.tiles.specs.declared.axis.Axis.{Axis}
 use Rattle.tiles.specs.Axes.{AxisOk}
 use Rattle.grids.specs.Grids.{Tiling, tiled, StampGrid, gridIn, tilingOf, stampCount, stampedBy}
 use Rattle.grids.proofs.Tilings.{tiling-ok, count-bound}
 use Rattle.grids.proofs.Stamps.{length-stamped}
-use Rattle.stores.specs.Histories.{regenerateFrom}
 use Rattle.layout.specs.Reading.{pageAt}
 use Rattle.layout.specs.Writing.{pagesFrom}
-use Rattle.histories.specs.Written.{gridOn, newestStamp, newestWritten, pagesWritten, remadeGrid, remadeGrids}
+use Rattle.layout.proofs.Parts.{sets-self}
+use Rattle.layout.proofs.Stamped.{length-pages}
+use Rattle.histories.specs.Written.{gridOn, newestStamp, newestWritten, pagesWritten}
 
 -- ---- a run of numbers stored
 
@@ -43,30 +40,18 @@ module _ {ℓ} {A : Type ℓ} where
   drop-sets n s at [] h = refl
   drop-sets n s at (x ∷ xs) h = drop-sets n (set s at x) (suc at) xs (omega arith) ∙ drop-set-lt n s at x (omega arith)
 
-  -- a run stored where it stood
-  pub sets-self : (s : List A) (at n : ℕ) → at + n ≤ length s → sets s at (take n (drop at s)) ≡ s
-  sets-self s at n h =
-      let e : length (take n (drop at s)) ≡ n = length-take-le n (drop at s) (omega (arith, length-drop at s)) in
-      sets-eq (take n (drop at s)) s at (omega arith)
-      ∙ ap (λ (k : ℕ). (take at s ++ take n (drop at s)) ++ drop (at + k) s) e
-      ∙ ap₂ (λ (a b : List A). a ++ b) (sym (take-add at n s)) refl
-      ∙ take-append-drop (at + n) s
-
 -- ---- the stamps of grids on their pages
 
 -- no grid is larger than a page
 abbrev pub Small : List StampGrid → Type 0
 Small gs = All (λ (g : StampGrid). length (g .stamps) ≤ 1024) gs
 
-pub length-pages : (before : ℕ → List ℕ) (k : ℕ) (gs : List StampGrid) → ((j : ℕ) → j < length gs → length (before (k + j)) ≡ 1024) → Small gs
-    → length (pagesFrom before k gs) ≡ 1024 * length gs
-unfolding pagesFrom
-length-pages before k [] paged nil = refl
-length-pages before k (g ∷ gs) paged (cons h hs) =
-    let a : length (before k) ≡ 1024 = ap (λ (j : ℕ). length (before j)) (sym (add-zero k)) ∙ paged 0 (omega arith) in
-    let b = length-over (g .stamps) (before k) (omega arith) in
-    let c = length-pages before (suc k) gs (λ j q. ap (λ (i : ℕ). length (before i)) (let e : suc k + j ≡ k + suc j = omega arith in e) ∙ paged (suc j) (omega arith)) hs in
-    omega (arith, a, b, c, length-append (over (g .stamps) (before k)) (pagesFrom before (suc k) gs))
+pub length-small : (before : ℕ → List ℕ) (gs : List StampGrid) → ((j : ℕ) → j < length gs → length (before (0 + j)) ≡ 1024) → Small gs
+    → length (pagesFrom before 0 gs) ≡ 1024 * length gs
+length-small before gs paged small =
+    let d : StampGrid = record { newest = 0; stamps = [] } in
+    length-pages before d 0 gs
+    (λ j q. length-over (getD gs j d .stamps) (before (0 + j)) (omega (arith, paged j q, all-at gs j d q small)) ∙ paged j q)
 
 pub pages-append : (before : ℕ → List ℕ) (k : ℕ) (gs hs : List StampGrid)
     → pagesFrom before k (gs ++ hs) ≡ pagesFrom before k gs ++ pagesFrom before (k + length gs) hs
@@ -175,7 +160,7 @@ module _ (stamps : List ℕ) (p k : ℕ) (gs : List StampGrid) (count : length g
 
   pub length-over-pages : length pagesOver ≡ 1024 * k
   length-over-pages =
-      length-pages (λ (j : ℕ). pageAt stamps (p + j)) 0 gs (λ j q. length-page stamps (p + (0 + j)) (omega (arith, count))) small ∙ ap (λ (i : ℕ). 1024 * i) count
+      length-small (λ (j : ℕ). pageAt stamps (p + j)) gs (λ j q. length-page stamps (p + (0 + j)) (omega (arith, count))) small ∙ ap (λ (i : ℕ). 1024 * i) count
 
   pub page-past : pageAt (pagesWritten stamps p gs) (p + k) ≡ pageAt stamps (p + k)
   unfolding pagesWritten

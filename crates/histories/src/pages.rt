@@ -7,7 +7,6 @@ ghost use lib.ListN.{length};
 ghost use Rattle.blocks.specs.Blocks.{moved};
 ghost use Rattle.shapes.specs.Shapes.{isShape};
 ghost use Rattle.grids.specs.Grids.{tilingOf, stampedBy};
-ghost use Rattle.stores.specs.Model.{pagesOf};
 ghost use Rattle.histories.specs.Written.{gridOn, newestWritten, pagesWritten, remadeGrid, remadeGrids};
 use blocks::shift_down;
 use grids::across_axis;
@@ -74,7 +73,7 @@ fn regenerate_page(
 
 // The level of the page behind one of this level: the first again behind the last.
 fn next_level(level: u64, levels: u64) -> u64
-    requires { ⌜ level < levels ⌝ }
+    requires { ⌜ (level < levels) × (levels ≤ 15) ⌝ }
     ensures { λ r. ⌜ r ≡ (level + 1) % levels ⌝ }
 {
     if level + 1 < levels { level + 1 } else { 0 }

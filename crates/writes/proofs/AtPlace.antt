@@ -1,22 +1,20 @@
 -- The texture where the search for an id ended, in a pool: what its record says of its history, and where its pages are. Assumes nothing.
 use mathlib.Core.Path.{_≡_, refl, sym, ap, ap₂, _∙_, subst}
 use mathlib.Core.Bool.{Bool, true, false, cond, _&&_}
-use mathlib.Core.Option.{Option, none, some}
+use mathlib.Core.Option.{some}
 use mathlib.Core.List.{List, []}
-use Prim.Native.Nat.{ℕ, suc, _+_, _*_, _≤_, _<_}
+use Prim.Native.Nat.{ℕ, _+_, _*_, _≤_, _<_}
 use native.Mathlib.Omega.{arith}
 use native.Mathlib.Nat.{mul-comm}
 use borrow.Author.Tests.{lt-ltb, ltb-true, eq-eqb}
 use lib.Dec.{ltb, eqb}
-use lib.ListN.{length, take, getD}
-use Rattle.blocks.specs.Lists.{ascending, listed, total}
-use Rattle.blocks.specs.All.{All}
+use lib.ListN.{getD}
+use Rattle.blocks.specs.Lists.{listed, total}
 use Rattle.blocks.proofs.Lists.{and-both}
 use Rattle.blocks.proofs.All.{all-at}
-use Rattle.tables.specs.Records.{recordAt, table}
 use Rattle.tables.proofs.Records.{getD-table, take-table}
 use Rattle.shapes.specs.Shapes.{isShape, slicesOf}
-use Rattle.stores.specs.Model.{WriteHistory, VersionState, find, pagesOf}
+use Rattle.stores.specs.Model.{WriteHistory, pagesOf}
 use Rattle.stores.specs.Histories.{inShape, gridPlace}
 use Rattle.grids.proofs.RowByRow.{tile-place}
 use Rattle.stores.specs.Formed.{StateFormed, Given, HistoryFormed}
@@ -24,14 +22,12 @@ use Rattle.records.specs.declared.recorded.Recorded.{Recorded}
 use Rattle.records.specs.declared.recorded.Recorded.the-variants.{Writes, NoHistory}
 use Rattle.records.specs.declared.texture.TextureRecord.{TextureRecord}
 use Rattle.records.specs.Texture.{readTexture}
-use Rattle.records.specs.Find.{idOf, below}
+use Rattle.records.specs.Find.{idOf}
 use Rattle.access.proofs.Ids.{found}
 use Rattle.layout.specs.Lent.{Lent}
 use Rattle.layout.specs.Reading.{trackedRecords, recordedPages, recordPages, gridRead, historyRead, stateRead, modelOf}
-use Rattle.layout.specs.IsPool.{isPool}
 use Rattle.layout.proofs.Fits.{Fits}
-use Rattle.layout.proofs.FromPool.{pool-fits}
-use Rattle.layout.proofs.Runs.{firstSpare, firstPageOf, stateOf, tracked-model, model-at}
+use Rattle.layout.proofs.Runs.{firstPageOf, stateOf, tracked-model, model-at}
 use Rattle.layout.proofs.Places.{place, IsTracked}
 use Rattle.layout.proofs.Stays.{ids-ascend, textures-fit}
 use Rattle.layout.proofs.Pages.{pagesAt, pages-in}

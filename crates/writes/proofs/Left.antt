@@ -1,16 +1,14 @@
 -- What is left in the lent memory of a texture whose history changes: dropped, stamped by a write, made anew by a regeneration. Assumes nothing.
 use mathlib.Core.Path.{_≡_, refl, sym, ap, ap₂, _∙_, subst}
-use mathlib.Core.Bool.{Bool, true, cond}
+use mathlib.Core.Bool.{true}
 use mathlib.Core.Option.{Option, none, some}
-use mathlib.Core.List.{List, [], _∷_, _++_, map, append-assoc, append-nil}
-use Prim.Native.Nat.{ℕ, zero, suc, _+_, _*_, _-_, _%_, _≤_, _<_}
-use native.Mathlib.Nat.{add-zero}
+use mathlib.Core.List.{List, [], _∷_}
+use Prim.Native.Nat.{ℕ, zero, suc, _+_, _*_, _-_, _≤_, _<_}
 use native.Mathlib.Omega.{arith}
-use lib.ListN.{length, take, drop, getD, set, length-set}
-use lib.Seq.{sets, sets-eq}
-use Rattle.blocks.specs.Lists.{listed, over, total}
+use lib.ListN.{length, getD, set, length-set}
+use lib.Seq.{sets}
+use Rattle.blocks.specs.Lists.{listed, total}
 use Rattle.blocks.specs.Blocks.{moved}
-use Rattle.blocks.proofs.Lists.{length-over}
 use Rattle.shapes.specs.declared.shape.VersionShape.{VersionShape}
 use Rattle.shapes.specs.Shapes.{isShape, slicesOf}
 use Rattle.rects.specs.declared.rect.TexelRect.{TexelRect}
@@ -18,13 +16,12 @@ use Rattle.grids.specs.Grids.{StampGrid, gridIn, tilingOf, stampedBy}
 use Rattle.stores.specs.Model.{WriteHistory, VersionState, Pool, hasHistory, pagesOf, pagesUsed}
 use Rattle.stores.specs.Updates.{withHistory, withTextures}
 use Rattle.stores.specs.Histories.{gridAt, gridPlace, stampWrite, regenerateFrom, stampRegeneration}
-use Rattle.records.specs.declared.recorded.Recorded.{Recorded}
 use Rattle.records.specs.declared.recorded.Recorded.the-variants.{Writes, NoHistory}
 use Rattle.records.specs.declared.texture.TextureRecord.{TextureRecord}
-use Rattle.records.specs.Texture.{readTexture, writeTexture}
+use Rattle.records.specs.Texture.{writeTexture}
 use Rattle.layout.specs.Lent.{Lent, lent}
-use Rattle.layout.specs.Reading.{trackedRecords, pageAt, gridRead, stateRead, modelOf}
-use Rattle.layout.specs.Writing.{recordedOf, textureRecord, gridsOf, pageBefore, pagesFrom, texturesAfter, newestAfter, stampsAfter, poolAfter, after}
+use Rattle.layout.specs.Reading.{pageAt, gridRead, stateRead, modelOf}
+use Rattle.layout.specs.Writing.{recordedOf, textureRecord, gridsOf, pageBefore, texturesAfter, newestAfter, stampsAfter, poolAfter, after}
 use Rattle.layout.proofs.Fits.{Fits}
 use Rattle.layout.proofs.Runs.{spareCount, firstPageOf, stateOf, tracked-model, model-at, kept-model, pages-model}
 use Rattle.layout.proofs.Rings.{head-stays, hand-model, first-stays}
@@ -32,10 +29,10 @@ use Rattle.layout.proofs.Same.{held-same, queued-model, doomed-model}
 use Rattle.layout.proofs.Stays.{put-together, ids-ascend, textures-fit, book-stays, retiring-stay, doomed-stay, spares-stay}
 use Rattle.layout.proofs.Changes.{count-state, textures-set, every-kept}
 use Rattle.layout.proofs.Pages.{pagesAt, pages-in, newest-dropped, stamps-dropped}
-use Rattle.layout.proofs.Stamped.{gridsAt, used-at, length-grids, whole-grids}
+use Rattle.layout.proofs.Stamped.{gridsAt, used-at, whole-grids}
 use Rattle.layout.proofs.Written.{all-pages, place-page, grid-held, newest-rewritten, newest-stamped, stamps-rewritten, stamps-stamped}
-use Rattle.histories.specs.Written.{gridOn, newestStamp, newestWritten, pagesWritten, remadeGrid, remadeGrids}
-use Rattle.histories.proofs.Written.{length-page, small-stamped, one-newest, one-page}
+use Rattle.histories.specs.Written.{gridOn, newestWritten, pagesWritten, remadeGrids}
+use Rattle.histories.proofs.Written.{small-stamped, one-newest, one-page}
 use Rattle.histories.proofs.Regenerated.{regenerate-listed, length-remade, small-remade}
 use Rattle.writes.specs.History.{textureAt, recordedAs, pagesUpTo, pagesHere, pagesEnd, pageOf, stampedOn}
 use Rattle.writes.specs.Counts.{withPages}

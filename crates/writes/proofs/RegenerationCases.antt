@@ -1,15 +1,15 @@
 -- `note_mip_regeneration` on a pool, case by case. Assumes nothing.
-use mathlib.Core.Path.{_≡_, refl, sym, ap, ap₂, _∙_}
-use mathlib.Core.Bool.{Bool, true, false}
+use mathlib.Core.Path.{_≡_, refl, sym, ap, _∙_}
+use mathlib.Core.Bool.{true, false}
 use mathlib.Core.Option.{Option, none, some}
-use mathlib.Core.List.{List, []}
-use Prim.Native.Nat.{ℕ, suc, _+_, _≤_, _<_}
+use mathlib.Core.List.{List}
+use Prim.Native.Nat.{ℕ, _+_, _≤_, _<_}
 use native.Mathlib.Numerals.{add-one}
 use borrow.Author.Tests.{le-leb, lt-leb}
 use lib.ListN.{set}
 use Rattle.shapes.specs.declared.shape.VersionShape.{VersionShape}
 use Rattle.shapes.specs.Shapes.{isShape}
-use Rattle.stores.specs.Model.{WriteHistory, VersionState, Pool, Out, accepted, guard, find, limit}
+use Rattle.stores.specs.Model.{WriteHistory, VersionState, Pool, Out, accepted, find, limit}
 use Rattle.stores.specs.Updates.{withHistory, withTextures, change}
 use Rattle.stores.specs.Histories.{regenerated, stampRegeneration, spent}
 use Rattle.stores.specs.NoteWrite.{historyIn, noteMipRegeneration}
@@ -18,7 +18,7 @@ use Rattle.layout.specs.Lent.{Lent}
 use Rattle.layout.specs.Reading.{modelOf}
 use Rattle.layout.specs.Writing.{after}
 use Rattle.layout.specs.IsPool.{isPool}
-use Rattle.layout.specs.Calls.{Told, refusal, answer, noteMipRegenerationCall}
+use Rattle.layout.specs.Calls.{refusal, answer, noteMipRegenerationCall}
 use Rattle.layout.proofs.Fits.{Fits}
 use Rattle.layout.proofs.FromPool.{pool-fits}
 use Rattle.layout.proofs.Asked.{guard-passed, guard-refused, asked-refused, asked-accepted}
@@ -27,7 +27,7 @@ use Rattle.layout.proofs.Places.{found, changed, not-found, not-changed}
 use Rattle.layout.proofs.Stays.{ids-ascend, nothing-changed}
 use Rattle.histories.specs.Written.{remadeGrids}
 use Rattle.writes.specs.History.{textureAt, pagesUpTo, pagesHere}
-use Rattle.writes.proofs.AtPlace.{Unrecorded, untracked, unrecorded, Recording, at, Tracked, history-read, shape-at, historyIs, has-history, shape-formed}
+use Rattle.writes.proofs.AtPlace.{Unrecorded, untracked, unrecorded, Recording, at, history-read, shape-at, historyIs, has-history, shape-formed}
 use Rattle.writes.proofs.Left.{keptLent, history-regenerated}
 use Rattle.writes.proofs.WriteCases.{same-texture}
 

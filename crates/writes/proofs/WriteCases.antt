@@ -1,20 +1,19 @@
 -- `note_write` on a pool, case by case. Assumes nothing.
-use mathlib.Core.Path.{_≡_, refl, sym, ap, ap₂, _∙_}
+use mathlib.Core.Path.{_≡_, sym, ap, ap₂, _∙_}
 use mathlib.Core.Bool.{Bool, true, false, cond, _&&_, and-false}
 use mathlib.Core.Option.{Option, none, some}
 use mathlib.Core.List.{List, [], _∷_}
-use Prim.Native.Nat.{ℕ, suc, _+_, _≤_, _<_}
+use Prim.Native.Nat.{ℕ, _+_, _≤_, _<_}
 use native.Mathlib.Numerals.{add-one}
-use native.Mathlib.Omega.{arith}
 use borrow.Author.Tests.{ltb-true, le-leb, lt-leb}
 use lib.Dec.{leb, ltb}
-use lib.ListN.{getD, set}
+use lib.ListN.{set}
 use lib.Seq.{set-getD}
 use Rattle.blocks.proofs.Lists.{and-both}
 use Rattle.shapes.specs.declared.shape.VersionShape.{VersionShape}
 use Rattle.shapes.specs.Shapes.{isShape, slicesOf}
 use Rattle.rects.specs.declared.rect.TexelRect.{TexelRect}
-use Rattle.stores.specs.Model.{WriteHistory, VersionState, Pool, Out, accepted, guard, find, limit}
+use Rattle.stores.specs.Model.{WriteHistory, VersionState, Pool, Out, accepted, find, limit}
 use Rattle.stores.specs.Updates.{withHistory, withTextures, change}
 use Rattle.stores.specs.Histories.{inShape, written, stampWrite, spent}
 use Rattle.stores.specs.NoteWrite.{writeSpent, noteWrite}
@@ -24,7 +23,7 @@ use Rattle.layout.specs.Lent.{Lent}
 use Rattle.layout.specs.Reading.{modelOf}
 use Rattle.layout.specs.Writing.{after}
 use Rattle.layout.specs.IsPool.{isPool}
-use Rattle.layout.specs.Calls.{Told, refusal, answer, noteWriteCall}
+use Rattle.layout.specs.Calls.{refusal, answer, noteWriteCall}
 use Rattle.layout.proofs.Fits.{Fits}
 use Rattle.layout.proofs.FromPool.{pool-fits}
 use Rattle.layout.proofs.Asked.{guard-passed, guard-refused, asked-refused, asked-accepted}
@@ -32,8 +31,8 @@ use Rattle.layout.proofs.Runs.{stateOf, model-at}
 use Rattle.layout.proofs.Places.{found, changed, not-found, not-changed}
 use Rattle.layout.proofs.Stays.{ids-ascend, nothing-changed}
 use Rattle.writes.specs.History.{textureAt, pageOf, stampedOn}
-use Rattle.writes.proofs.AtPlace.{Unrecorded, untracked, unrecorded, Recording, at, Tracked, history-read, shape-at, historyIs, has-history, shape-formed}
-use Rattle.writes.proofs.Left.{otherPool, droppedLent, history-dropped, keptLent, history-stamped}
+use Rattle.writes.proofs.AtPlace.{Unrecorded, untracked, unrecorded, Recording, at, history-read, shape-at, historyIs, has-history, shape-formed}
+use Rattle.writes.proofs.Left.{droppedLent, history-dropped, keptLent, history-stamped}
 
 -- a texture of the model put back as it was
 pub same-texture : (l : Lent) (i : ℕ) → i < l .pool .tracked → set (modelOf l .textures) i (stateOf l i) ≡ modelOf l .textures

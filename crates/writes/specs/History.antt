@@ -1,13 +1,12 @@
 -- What a texture's record says of its history, read off the slices at the record's place.
-use Prim.Native.Nat.{ℕ, suc, _+_, _*_, _≤_}
+use Prim.Native.Nat.{ℕ, _+_, _*_, _≤_}
 use mathlib.Core.Path.{_≡_}
-use mathlib.Core.Bool.{Bool, true, cond, _&&_}
+use mathlib.Core.Bool.{true, cond, _&&_}
 use mathlib.Core.List.{List}
 use lib.Dec.{ltb, eqb}
 use lib.ListN.{length}
 use Rattle.blocks.specs.Lists.{total}
 use Rattle.tables.specs.Records.{recordAt, table}
-use Rattle.shapes.specs.declared.shape.VersionShape.{VersionShape}
 use Rattle.shapes.specs.Shapes.{isShape}
 use Rattle.rects.specs.declared.rect.TexelRect.{TexelRect}
 use Rattle.grids.specs.Grids.{StampGrid, tilingOf, stampedBy}

@@ -1,4 +1,5 @@
 -- `next_level` meets its contract. Assumes nothing.
+use native.Mathlib.Omega.{arith}
 use borrow.Author.Needs.{needs}
 use Rattle.histories.proofs.Regenerated.{level-next, level-wraps}
 use Rattle.histories.proofs.pages.next_level.Statement.{statement}
@@ -16,11 +17,11 @@ add-result c = search needs
 
 -- src/pages.rt:68:1
 returns : tie.Need-returns
-returns c = level-next _ _ (c .if1 .taken)
+returns c = level-next (c .before .args .level) (c .before .args .levels) (omega (arith, c .if1 .taken))
 
 -- src/pages.rt:68:1
 returns-2 : tie.Need-returns-2
-returns-2 c = level-wraps (c .before .args .level) (c .before .args .levels) (c .before .pre) (c .if1 .left)
+returns-2 c = level-wraps (c .before .args .level) (c .before .args .levels) (c .before .pre .0) (omega (arith, c .if1 .left))
 
 pub next-level-spec : {M : Type 1} → statement M
 next-level-spec = tie.close (tie.spec add-if1 add-result returns returns-2)

@@ -1,9 +1,7 @@
 -- `regenerate_page` meets its contract: level 0 stays, any other is stamped whole. Assumes nothing.
-use mathlib.Core.Path.{_≡_, sym, ap, _∙_}
+use mathlib.Core.Path.{sym, ap, _∙_}
 use mathlib.Core.List.{[], _∷_}
-use Prim.Native.Nat.{_+_, _*_, _≤_}
 use native.Mathlib.Omega.{arith}
-use lib.ListN.{length}
 use borrow.Author.Needs.{needs}
 use Rattle.grids.specs.Grids.{StampGrid}
 use Rattle.histories.specs.Written.{gridOn, newestWritten, pagesWritten}

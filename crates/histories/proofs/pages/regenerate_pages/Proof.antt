@@ -1,9 +1,10 @@
 -- `regenerate_pages` meets its contract: page after page. Assumes nothing.
-use mathlib.Core.Path.{_≡_, refl, sym, ap, _∙_}
+use mathlib.Core.Path.{_≡_, refl, ap, _∙_}
 use Prim.Native.Nat.{_+_, _*_, _-_, _%_, _≤_, _<_}
 use native.Mathlib.Omega.{arith}
 use lib.ListN.{length}
 use borrow.Author.Needs.{needs}
+use Rattle.shapes.proofs.Shapes.{shape-bounds}
 use Rattle.histories.specs.Written.{newestWritten, pagesWritten, remadeGrids}
 use Rattle.histories.proofs.Regenerated.{level-first, level-after, next-below, remade-none, newest-remade, pages-remade}
 use Rattle.histories.proofs.pages.regenerate_pages.Statement.{statement}
@@ -49,7 +50,10 @@ regenerate-page-requires c κs =
 
 -- src/pages.rt:93:9
 next-level-requires : tie.Need-next-level-requires Inv-loop μ-loop
-next-level-requires c κs = c .before .before .before .before .before .before .before .before .loop .inv .1
+next-level-requires c κs =
+    let b = c .before .before .before .before .before .before .before .before in
+    let s = b .before .before .before in
+    (b .loop .inv .1, shape-bounds (s .args .shape) (s .pre .0) .levels-bound)
 
 -- src/pages.rt:94:9
 add-k : tie.Need-add-k Inv-loop μ-loop
