@@ -156,7 +156,7 @@ module _ (l : Lent) where
 
 module _ (l : Lent) (p : Pool ℕ) (kept : total sparesOf (trackedRecords l) ≡ l .pool .kept) (fits : 3 * l .pool .kept ≤ length (l .spares)) where
   -- the records of all the spares
-  table-spares : map spareRecord (sparesBefore l) ≡ table 3 readSpare (l .pool .kept) (l .spares)
+  pub table-spares : map spareRecord (sparesBefore l) ≡ table 3 readSpare (l .pool .kept) (l .spares)
   table-spares = ap (map spareRecord) (spares-model l) ∙ spare-records l (total sparesOf (trackedRecords l)) ∙ ap (λ (n : ℕ). table 3 readSpare n (l .spares)) kept
 
   pub spares-inserted : (k : ℕ) (x : Spare ℕ) → 3 * l .pool .kept + 3 ≤ length (l .spares) → k ≤ l .pool .kept

@@ -28,7 +28,7 @@ use Rattle.layout.specs.IsPool.{stateId}
 use Rattle.layout.specs.Writing.{gridsOf, newestOf, newestAfter, firstPage, pageBefore, pagesFrom, pagesAfter, stampsAfter}
 use Rattle.layout.proofs.Parts.{length-zeros, replicate-add, over-replicate, moved-self}
 use Rattle.layout.proofs.Runs.{firstPageOf, stateOf, tracked-model, model-at}
-use Rattle.layout.proofs.Kept.{Here, not-here, no-page, apart}
+use Rattle.layout.proofs.Kept.{isHere, not-here, no-page, apart}
 use Rattle.layout.proofs.Places.{IsTracked, nowhere}
 use Rattle.layout.proofs.Pages.{pagesAt, next-page, page-bound, newest-repacked, stamps-repacked, set-parts, no-newest, no-stamps}
 
@@ -90,20 +90,20 @@ module _ (l : Lent) (up : ascending idOf (trackedRecords l) ≡ true) where
   no-page-reshaped i shape h e =
       no-page (stateOf l i .id) shape (modelOf l .textures) 0 (stateOf l 0) (λ j q. go j (omega (arith, tracked-model l)) (decLt j i) (decLt i j))
     where
-      here : Here (stateOf l i .id) shape (stateOf l i) ≡ false
+      here : isHere (stateOf l i .id) shape (stateOf l i) ≡ false
       here = rw (eq-eqb (stateOf l i .id) (stateOf l i .id) refl, e)
 
       at : getD (modelOf l .textures) i (stateOf l 0) ≡ stateOf l i
       at = model-at l i (stateOf l 0) h
 
-      go : (j : ℕ) → j < l .pool .tracked → Dec (j < i) → Dec (i < j) → Here (stateOf l i .id) shape (getD (modelOf l .textures) j (stateOf l 0)) ≡ false
+      go : (j : ℕ) → j < l .pool .tracked → Dec (j < i) → Dec (i < j) → isHere (stateOf l i .id) shape (getD (modelOf l .textures) j (stateOf l 0)) ≡ false
       go j q (yes a) b =
           not-here (stateOf l i .id) shape (getD (modelOf l .textures) j (stateOf l 0)) (λ f. let y : ⊥ = omega (arith, f, ap stateId at, apart l up (stateOf l 0) i j a h) in y)
       go j q (no a) (yes b) =
           not-here (stateOf l i .id) shape (getD (modelOf l .textures) j (stateOf l 0)) (λ f. let y : ⊥ = omega (arith, f, ap stateId at, apart l up (stateOf l 0) j i b q) in y)
       go j q (no a) (no b) =
           let s : j ≡ i = omega arith in
-          ap (λ (k : ℕ). Here (stateOf l i .id) shape (getD (modelOf l .textures) k (stateOf l 0))) s ∙ ap (Here (stateOf l i .id) shape) at ∙ here
+          ap (λ (k : ℕ). isHere (stateOf l i .id) shape (getD (modelOf l .textures) k (stateOf l 0))) s ∙ ap (isHere (stateOf l i .id) shape) at ∙ here
 
 -- ---- a new history put in
 

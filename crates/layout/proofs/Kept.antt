@@ -30,15 +30,15 @@ use Rattle.layout.proofs.Runs.{firstSpare, firstPageOf, pages-state, st
 -- ---- the first page of a texture
 
 module _ (id : ℕ) (shape : VersionShape) where
-  abbrev pub Here : VersionState ℕ → Bool
-  Here t = eqb (t .id) id && sameShape (t .shape) shape && hasHistory (t .history)
+  abbrev pub isHere : VersionState ℕ → Bool
+  isHere t = eqb (t .id) id && sameShape (t .shape) shape && hasHistory (t .history)
 
-  pub not-here : (t : VersionState ℕ) → (t .id ≡ id → ⊥) → Here t ≡ false
+  pub not-here : (t : VersionState ℕ) → (t .id ≡ id → ⊥) → isHere t ≡ false
   not-here t h = rw (ne-eqb (t .id) id h)
 
   -- the first that has that id, shape and a history
-  pub first-page : (xs : List (VersionState ℕ)) (page i : ℕ) (d : VersionState ℕ) → i < length xs → ((j : ℕ) → j < i → Here (getD xs j d) ≡ false)
-      → Here (getD xs i d) ≡ true → firstPage id shape page xs ≡ some (page + total pagesUsed (take i xs))
+  pub first-page : (xs : List (VersionState ℕ)) (page i : ℕ) (d : VersionState ℕ) → i < length xs → ((j : ℕ) → j < i → isHere (getD xs j d) ≡ false)
+      → isHere (getD xs i d) ≡ true → firstPage id shape page xs ≡ some (page + total pagesUsed (take i xs))
   unfolding firstPage total
   first-page [] page i d h apart here = absurd (let y : ⊥ = omega arith in y)
   first-page (x ∷ xs) page zero d h apart here = rw here (ap some (sym (add-zero page)))
@@ -47,7 +47,7 @@ module _ (id : ℕ) (shape : VersionShape) where
       ∙ first-page xs (page + pagesUsed x) i d (omega arith) (λ j q. apart (suc j) (omega arith)) here
       ∙ ap some (add-assoc page (pagesUsed x) (total pagesUsed (take i xs)))
 
-  pub no-page : (xs : List (VersionState ℕ)) (page : ℕ) (d : VersionState ℕ) → ((j : ℕ) → j < length xs → Here (getD xs j d) ≡ false)
+  pub no-page : (xs : List (VersionState ℕ)) (page : ℕ) (d : VersionState ℕ) → ((j : ℕ) → j < length xs → isHere (getD xs j d) ≡ false)
       → firstPage id shape page xs ≡ none
   unfolding firstPage
   no-page [] page d apart = refl
@@ -101,7 +101,7 @@ module _ (l : Lent) where
     apart i j h k =
         omega (arith, id-model l i d k, id-model l j d (omega arith), ascending-get idOf (trackedRecords l) j i (readTexture []) up h (omega (arith, tracked-records l)))
 
-    pub found-at : (i : ℕ) → i < l .pool .tracked → (id : ℕ) (shape : VersionShape) → Here id shape (getD (modelOf l .textures) i d) ≡ true
+    pub found-at : (i : ℕ) → i < l .pool .tracked → (id : ℕ) (shape : VersionShape) → isHere id shape (getD (modelOf l .textures) i d) ≡ true
         → firstPage id shape 0 (modelOf l .textures) ≡ some (firstPageOf l i)
     found-at i h id shape here =
         let e = eqb-true (getD (modelOf l .textures) i d .id) id (and-both _ _ (and-both _ _ here .0) .0) in
@@ -109,7 +109,7 @@ module _ (l : Lent) where
         (λ j q. not-here id shape (getD (modelOf l .textures) j d) (λ f. let y : ⊥ = omega (arith, e, f, apart i j q h) in y)) here
         ∙ ap some (zero-add _ ∙ page-of i)
 
-    here-at : (i : ℕ) → hasHistory (stateOf l i .history) ≡ true → Here (stateOf l i .id) (stateOf l i .shape) (stateOf l i) ≡ true
+    here-at : (i : ℕ) → hasHistory (stateOf l i .history) ≡ true → isHere (stateOf l i .id) (stateOf l i .shape) (stateOf l i) ≡ true
     here-at i e = rw (eq-eqb (stateOf l i .id) (stateOf l i .id) refl, same-self (stateOf l i .shape), e)
 
     -- texture i keeps its run of pages
@@ -117,7 +117,7 @@ module _ (l : Lent) where
         → pagesAfter l (stateOf l i) ≡ take (1024 * pagesUsed (stateOf l i)) (drop (1024 * firstPageOf l i) (l .stamps))
     unfolding pagesAfter
     pages-kept i h = pages-of i (firstPage (stateOf l i .id) (stateOf l i .shape) 0 (modelOf l .textures))
-        (λ e. found-at i h (stateOf l i .id) (stateOf l i .shape) (ap (Here (stateOf l i .id) (stateOf l i .shape)) (model-at l i d h) ∙ here-at i e))
+        (λ e. found-at i h (stateOf l i .id) (stateOf l i .shape) (ap (isHere (stateOf l i .id) (stateOf l i .shape)) (model-at l i d h) ∙ here-at i e))
 
     pub pages-stand : Stands (pagesAfter l) pagesUsed 1024 (l .stamps) d 0 (modelOf l .textures)
     pages-stand i h =

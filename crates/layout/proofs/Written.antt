@@ -26,7 +26,7 @@ use Rattle.layout.specs.Reading.{trackedRecords, recordPages, pageAt, gr
 use Rattle.layout.specs.Writing.{gridsOf, newestOf, newestAfter, firstPage, pageBefore, pagesFrom, pagesAfter, stampsAfter}
 use Rattle.layout.proofs.Parts.{map-set, moved-self, sets-self, set-sets}
 use Rattle.layout.proofs.Runs.{firstSpare, firstPageOf, stateOf, newest-state, model-at}
-use Rattle.layout.proofs.Kept.{Here, found-at}
+use Rattle.layout.proofs.Kept.{isHere, found-at}
 use Rattle.layout.proofs.Same.{listed-run}
 use Rattle.layout.proofs.Pages.{pagesAt, next-page, page-bound, pages-in, newest-repacked, stamps-repacked, set-parts}
 use Rattle.layout.proofs.Stamped.{Whole, length-pages, page-stamped, gridsAt, pagesStood, used-at, length-grids, grid-of, has-pages, page-stood, length-stood, whole-read, stood}
@@ -115,7 +115,7 @@ module _ (l : Lent) (p : Pool ℕ) (pages : total recordPages (trackedRecords l)
     found-page : hasHistory (stateOf l i .history) ≡ true → firstPage (t .id) (t .shape) 0 (modelOf l .textures) ≡ some (firstPageOf l i)
     found-page has =
         found-at l up (stateOf l 0) i h (t .id) (t .shape)
-        (ap (Here (t .id) (t .shape)) (model-at l i (stateOf l 0) h)
+        (ap (isHere (t .id) (t .shape)) (model-at l i (stateOf l 0) h)
         ∙ rw (eq-eqb (stateOf l i .id) (t .id) (sym id), ap (sameShape (stateOf l i .shape)) shape ∙ same-self (stateOf l i .shape), has) refl)
 
     one-pages : hasHistory (stateOf l i .history) ≡ true → flatMap (pagesAfter l) (t ∷ []) ≡ pagesFrom (pagesStood l i) 0 (gridsOf (t .history))
