@@ -33,7 +33,8 @@ module _ (l : Lent) (p : Pool ℕ) where
   tracked-inserted i t h e =
       ap length e ∙ length-inserted i (modelOf l .textures) (t ∷ []) (omega (arith, tracked-model l)) ∙ ap (λ (n : ℕ). n + 1) (tracked-model l)
 
-  pub tracked-removed : (i k : ℕ) → i + k ≤ l .pool .tracked → p .textures ≡ removed i k (modelOf l .textures) → length (p .textures) ≡ l .pool .tracked - k
+  pub tracked-removed : (i k : ℕ) → i + k ≤ l .pool .tracked → p .textures ≡ removed i k (modelOf l .textures)
+      → length (p .textures) ≡ l .pool .tracked - k
   tracked-removed i k h e =
       ap length e ∙ length-removed i (modelOf l .textures) k (omega (arith, tracked-model l)) ∙ ap (λ (n : ℕ). n - k) (tracked-model l)
 
@@ -49,9 +50,11 @@ module _ (l : Lent) (p : Pool ℕ) where
         count-spares (p .textures) ∙ ap length e ∙ length-inserted k (sparesBefore l) (x ∷ []) (omega (arith, length-spares l))
         ∙ ap (λ (n : ℕ). n + 1) (length-spares l ∙ kept)
 
-    pub kept-removed : (k n : ℕ) → k + n ≤ l .pool .kept → everySpare (p .textures) ≡ removed k n (sparesBefore l) → total spareCount (p .textures) ≡ l .pool .kept - n
+    pub kept-removed : (k n : ℕ) → k + n ≤ l .pool .kept → everySpare (p .textures) ≡ removed k n (sparesBefore l)
+        → total spareCount (p .textures) ≡ l .pool .kept - n
     kept-removed k n h e =
-        count-spares (p .textures) ∙ ap length e ∙ length-removed k (sparesBefore l) n (omega (arith, length-spares l)) ∙ ap (λ (m : ℕ). m - n) (length-spares l ∙ kept)
+        count-spares (p .textures) ∙ ap length e ∙ length-removed k (sparesBefore l) n (omega (arith, length-spares l))
+        ∙ ap (λ (m : ℕ). m - n) (length-spares l ∙ kept)
 
   -- ---- pages in use
 
@@ -64,7 +67,8 @@ module _ (l : Lent) (p : Pool ℕ) where
         ∙ ap₂ (λ (a b : ℕ). a + b) (page-of l i)
         (total-append pagesUsed between (drop j (modelOf l .textures))
         ∙ ap (λ (n : ℕ). total pagesUsed between + n)
-        (let q : total pagesUsed (drop j (modelOf l .textures)) ≡ l .pool .pages - firstPageOf l j = omega (arith, pages, pages-model l, page-of l j, total-cut pagesUsed (modelOf l .textures) j) in q))
+        (let q : total pagesUsed (drop j (modelOf l .textures)) ≡ l .pool .pages - firstPageOf l j =
+        omega (arith, pages, pages-model l, page-of l j, total-cut pagesUsed (modelOf l .textures) j) in q))
 
     one : (t : VersionState ℕ) → total pagesUsed (t ∷ []) ≡ pagesUsed t
     unfolding total
@@ -74,7 +78,8 @@ module _ (l : Lent) (p : Pool ℕ) where
         → total pagesUsed (p .textures) ≡ l .pool .pages - pagesAt l i + pagesUsed t
     pages-set i t h e =
         used-parts i (suc i) (t ∷ []) (set-parts l p i h t e)
-        ∙ (let q : firstPageOf l i + (total pagesUsed (t ∷ []) + (l .pool .pages - firstPageOf l (suc i))) ≡ l .pool .pages - pagesAt l i + pagesUsed t =
+        ∙ (let q : firstPageOf l i + (total pagesUsed (t ∷ []) + (l .pool .pages - firstPageOf l (suc i)))
+        ≡ l .pool .pages - pagesAt l i + pagesUsed t =
         omega (arith, one t, next-page l i h, page-bound l pages (suc i)) in q)
 
     pub pages-inserted : (i : ℕ) (t : VersionState ℕ) → p .textures ≡ inserted i (t ∷ []) (modelOf l .textures)
@@ -82,14 +87,16 @@ module _ (l : Lent) (p : Pool ℕ) where
     unfolding inserted
     pages-inserted i t e =
         used-parts i i (t ∷ []) e
-        ∙ (let q : firstPageOf l i + (total pagesUsed (t ∷ []) + (l .pool .pages - firstPageOf l i)) ≡ l .pool .pages + pagesUsed t = omega (arith, one t, page-bound l pages i) in q)
+        ∙ (let q : firstPageOf l i + (total pagesUsed (t ∷ []) + (l .pool .pages - firstPageOf l i)) ≡ l .pool .pages + pagesUsed t =
+        omega (arith, one t, page-bound l pages i) in q)
 
-    none-used : total pagesUsed [] ≡ 0
+    none-used : total (pagesUsed {W = ℕ}) [] ≡ 0
     unfolding total
     none-used = refl
 
-    pub pages-removed : (i : ℕ) → i < l .pool .tracked → p .textures ≡ removed i 1 (modelOf l .textures) → total pagesUsed (p .textures) ≡ l .pool .pages - pagesAt l i
+    pub pages-removed : (i : ℕ) → i < l .pool .tracked → p .textures ≡ removed i 1 (modelOf l .textures)
+        → total pagesUsed (p .textures) ≡ l .pool .pages - pagesAt l i
     pages-removed i h e =
         used-parts i (suc i) [] (removed-parts l p i e)
-        ∙ (let q : firstPageOf l i + (total pagesUsed [] + (l .pool .pages - firstPageOf l (suc i))) ≡ l .pool .pages - pagesAt l i =
+        ∙ (let q : firstPageOf l i + (total (pagesUsed {W = ℕ}) [] + (l .pool .pages - firstPageOf l (suc i))) ≡ l .pool .pages - pagesAt l i =
         omega (arith, none-used, next-page l i h, page-bound l pages (suc i)) in q)

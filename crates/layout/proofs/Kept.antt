@@ -69,7 +69,8 @@ module _ (l : Lent) where
       ap₂ (λ (a b : List ℕ). a ++ b)
       (over-self (take c old) old (drop c old) (sym (take-append-drop c old)))
       (pages-read s page (suc k) n
-      ∙ ap (take (1024 * n)) (ap (λ (m : ℕ). drop m (l .stamps)) (let e : 1024 * (page + suc k) ≡ at + 1024 = omega arith in e) ∙ sym (drop-drop 1024 at (l .stamps))))
+      ∙ ap (take (1024 * n))
+      (ap (λ (m : ℕ). drop m (l .stamps)) (let e : 1024 * (page + suc k) ≡ at + 1024 = omega arith in e) ∙ sym (drop-drop 1024 at (l .stamps))))
       ∙ sym (take-add 1024 (1024 * n) (drop at (l .stamps)))
       ∙ ap (λ (m : ℕ). take m (drop at (l .stamps))) (let e : 1024 + 1024 * n ≡ 1024 * suc n = omega arith in e)
 
@@ -83,7 +84,8 @@ module _ (l : Lent) where
       ∙ ap (λ (m : ℕ). take (1024 * pagesOf s) (drop (1024 * m) (l .stamps))) (add-zero page)
 
   pub pages-of : (i : ℕ) (found : Option ℕ) → (hasHistory (stateOf l i .history) ≡ true → found ≡ some (firstPageOf l i))
-      → pagesFrom (pageBefore l found) 0 (gridsOf (stateOf l i .history)) ≡ take (1024 * pagesUsed (stateOf l i)) (drop (1024 * firstPageOf l i) (l .stamps))
+      → pagesFrom (pageBefore l found) 0 (gridsOf (stateOf l i .history))
+      ≡ take (1024 * pagesUsed (stateOf l i)) (drop (1024 * firstPageOf l i) (l .stamps))
   unfolding stateOf stateRead
   pages-of i found e =
       let t = getD (trackedRecords l) i (readTexture []) in
@@ -99,7 +101,13 @@ module _ (l : Lent) where
     -- no other texture has its id
     pub apart : (i j : ℕ) → j < i → i < l .pool .tracked → getD (modelOf l .textures) j d .id < getD (modelOf l .textures) i d .id
     apart i j h k =
-        omega (arith, id-model l i d k, id-model l j d (omega arith), ascending-get idOf (trackedRecords l) j i (readTexture []) up h (omega (arith, tracked-records l)))
+        omega (
+          arith,
+          id-model l i d k,
+          id-model l j d (omega arith),
+          ascending-get idOf (trackedRecords l) j i (readTexture []) up h
+              (omega (arith, tracked-records l)),
+        )
 
     pub found-at : (i : ℕ) → i < l .pool .tracked → (id : ℕ) (shape : VersionShape) → isHere id shape (getD (modelOf l .textures) i d) ≡ true
         → firstPage id shape 0 (modelOf l .textures) ≡ some (firstPageOf l i)
@@ -117,14 +125,16 @@ module _ (l : Lent) where
         → pagesAfter l (stateOf l i) ≡ take (1024 * pagesUsed (stateOf l i)) (drop (1024 * firstPageOf l i) (l .stamps))
     unfolding pagesAfter
     pages-kept i h = pages-of i (firstPage (stateOf l i .id) (stateOf l i .shape) 0 (modelOf l .textures))
-        (λ e. found-at i h (stateOf l i .id) (stateOf l i .shape) (ap (isHere (stateOf l i .id) (stateOf l i .shape)) (model-at l i d h) ∙ here-at i e))
+        (λ e. found-at i h (stateOf l i .id) (stateOf l i .shape)
+        (ap (isHere (stateOf l i .id) (stateOf l i .shape)) (model-at l i d h) ∙ here-at i e))
 
     pub pages-stand : Stands (pagesAfter l) pagesUsed 1024 (l .stamps) d 0 (modelOf l .textures)
     pages-stand i h =
         let k : i < l .pool .tracked = omega (arith, tracked-model l) in
         ap (pagesAfter l) (model-at l i d k)
         ∙ pages-kept i k
-        ∙ ap₂ (λ (t : VersionState ℕ) (n : ℕ). take (1024 * pagesUsed t) (drop (1024 * n) (l .stamps))) (sym (model-at l i d k)) (sym (zero-add _ ∙ page-of i))
+        ∙ ap₂ (λ (t : VersionState ℕ) (n : ℕ). take (1024 * pagesUsed t) (drop (1024 * n) (l .stamps))) (sym (model-at l i d k))
+        (sym (zero-add _ ∙ page-of i))
 
     -- all the textures' pages, those before texture i and those from it on
     pub pages-all : flatMap (pagesAfter l) (modelOf l .textures) ≡ take (1024 * total pagesUsed (modelOf l .textures)) (l .stamps)
@@ -137,7 +147,8 @@ module _ (l : Lent) where
         ∙ ap (λ (n : ℕ). take (1024 * n) (l .stamps)) (page-of i)
 
     pub pages-from : (i : ℕ)
-        → flatMap (pagesAfter l) (drop i (modelOf l .textures)) ≡ take (1024 * total pagesUsed (drop i (modelOf l .textures))) (drop (1024 * firstPageOf l i) (l .stamps))
+        → flatMap (pagesAfter l) (drop i (modelOf l .textures))
+        ≡ take (1024 * total pagesUsed (drop i (modelOf l .textures))) (drop (1024 * firstPageOf l i) (l .stamps))
     pages-from i =
         stands-whole (pagesAfter l) pagesUsed 1024 (l .stamps) d (0 + total pagesUsed (take i (modelOf l .textures))) (drop i (modelOf l .textures))
         (stands-drop (pagesAfter l) pagesUsed 1024 (l .stamps) d 0 i (modelOf l .textures) pages-stand)

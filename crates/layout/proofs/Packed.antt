@@ -17,10 +17,12 @@ use Rattle.layout.proofs.Parts.{flat-append as flatMap-append}
 -- ---- numbers
 
 -- the first of them, one more, and what it gives
-pub flat-step : {A B : Type 0} (f : A → List B) (xs : List A) (i : ℕ) (d : A) → i < length xs → flatMap f (take (suc i) xs) ≡ flatMap f (take i xs) ++ f (getD xs i d)
+pub flat-step : {A B : Type 0} (f : A → List B) (xs : List A) (i : ℕ) (d : A) → i < length xs
+    → flatMap f (take (suc i) xs) ≡ flatMap f (take i xs) ++ f (getD xs i d)
 unfolding flatMap
 flat-step {B = B} f xs i d h =
-    ap (flatMap f) (take-suc xs i d h) ∙ flatMap-append f (take i xs) (getD xs i d ∷ []) ∙ ap (λ (l : List B). flatMap f (take i xs) ++ l) (append-nil (f (getD xs i d)))
+    ap (flatMap f) (take-suc xs i d h) ∙ flatMap-append f (take i xs) (getD xs i d ∷ [])
+    ∙ ap (λ (l : List B). flatMap f (take i xs) ++ l) (append-nil (f (getD xs i d)))
 
 -- a run from further back moved up to what was packed
 pub over-moved : (xs s : List ℕ) (r m : ℕ) → length xs ≤ r → r + m ≤ length s → moved (over xs s) (length xs) r m ≡ over (xs ++ take m (drop r s)) s
@@ -28,7 +30,8 @@ unfolding moved over
 over-moved xs s r m h k =
     let b = take m (drop r s) in
     let lb : length b ≡ m = length-take-le m (drop r s) (omega (arith, length-drop r s)) in
-    ap₂ (λ (p q : List ℕ). p ++ take m q ++ drop (length xs + m) (xs ++ drop (length xs) s)) (take-append-seam xs (drop (length xs) s)) (drop-over xs s r h)
+    ap₂ (λ (p q : List ℕ). p ++ take m q ++ drop (length xs + m) (xs ++ drop (length xs) s)) (take-append-seam xs (drop (length xs) s))
+    (drop-over xs s r h)
     ∙ ap (λ (q : List ℕ). (xs ++ b) ++ q) (drop-over xs s (length xs + m) (omega arith))
     ∙ ap (λ (n : ℕ). (xs ++ b) ++ drop n s) (sym (length-append xs b ∙ ap (λ (n : ℕ). length xs + n) lb))
 
@@ -49,7 +52,8 @@ module _ {A : Type 0} {w : ℕ} {rd : List ℕ → A} {wr : A → List ℕ} (C :
   packed-read xs j h = ap rd (drop-over (flat wr xs) s (w * j) (omega (arith, length-flat C xs, mul-le-mul-left w h)))
 
   -- one packed
-  pub packed-put : (xs : List A) (x : A) → w * length xs + w ≤ length s → sets (over (flat wr xs) s) (w * length xs) (wr x) ≡ over (flat wr (xs ++ (x ∷ []))) s
+  pub packed-put : (xs : List A) (x : A) → w * length xs + w ≤ length s
+      → sets (over (flat wr xs) s) (w * length xs) (wr x) ≡ over (flat wr (xs ++ (x ∷ []))) s
   unfolding flat
   packed-put xs x h =
       ap (λ (n : ℕ). sets (over (flat wr xs) s) n (wr x)) (sym (length-flat C xs))
@@ -61,7 +65,8 @@ module _ {A : Type 0} {w : ℕ} {rd : List ℕ → A} {wr : A → List ℕ} (C :
   run-numbers n r m h fits =
       let t = drop (w * r) s in
       let k : w * m ≤ length t = omega (arith, length-drop (w * r) s, mul-le-mul-left w h, mul-add w r m) in
-      let e : take m (drop r (table w rd n s)) ≡ table w rd m t = ap (take m) (drop-table w rd r n s (omega arith)) ∙ take-table w rd m (n - r) t (omega arith) in
+      let e : take m (drop r (table w rd n s)) ≡ table w rd m t =
+      ap (take m) (drop-table w rd r n s (omega arith)) ∙ take-table w rd m (n - r) t (omega arith) in
       ap (flat wr) e
       ∙ sym (ap (take (w * m)) (flat-table C m t k)
       ∙ take-at (flat wr (table w rd m t)) (drop (w * m) t) (w * m) (length-flat C (table w rd m t) ∙ ap (λ (i : ℕ). w * i) (length-table w rd m t)))
@@ -71,5 +76,7 @@ module _ {A : Type 0} {w : ℕ} {rd : List ℕ → A} {wr : A → List ℕ} (C :
       → moved (over (flat wr xs) s) (w * length xs) (w * r) (w * m) ≡ over (flat wr (xs ++ take m (drop r (table w rd n s)))) s
   packed-moved xs n r m h k fits =
       ap (λ (i : ℕ). moved (over (flat wr xs) s) i (w * r) (w * m)) (sym (length-flat C xs))
-      ∙ over-moved (flat wr xs) s (w * r) (w * m) (omega (arith, length-flat C xs, mul-le-mul-left w h)) (omega (arith, mul-le-mul-left w k, mul-add w r m))
-      ∙ ap (λ (l : List ℕ). over l s) (sym (flat-append wr xs (take m (drop r (table w rd n s))) ∙ ap (λ (l : List ℕ). flat wr xs ++ l) (run-numbers n r m k fits)))
+      ∙ over-moved (flat wr xs) s (w * r) (w * m) (omega (arith, length-flat C xs, mul-le-mul-left w h))
+      (omega (arith, mul-le-mul-left w k, mul-add w r m))
+      ∙ ap (λ (l : List ℕ). over l s)
+      (sym (flat-append wr xs (take m (drop r (table w rd n s))) ∙ ap (λ (l : List ℕ). flat wr xs ++ l) (run-numbers n r m k fits)))

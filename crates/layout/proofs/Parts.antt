@@ -95,14 +95,17 @@ module _ {A B : Type 0} (f : A → List B) where
   flat-set i xs a d h =
       ap (flatMap f) (set-split xs i a h)
       ∙ flat-append (take i xs) (a ∷ drop (suc i) xs)
-      ∙ ap₂ (λ (l r : List B). l ++ (f a ++ r)) (flat-take i xs) (flat-drop (suc i) xs ∙ ap (λ (n : ℕ). drop n (flatMap f xs)) (total-next (λ (x : A). length (f x)) xs i d h))
+      ∙ ap₂ (λ (l r : List B). l ++ (f a ++ r)) (flat-take i xs)
+      (flat-drop (suc i) xs ∙ ap (λ (n : ℕ). drop n (flatMap f xs)) (total-next (λ (x : A). length (f x)) xs i d h))
 
-  pub flat-removed : (i : ℕ) (xs : List A) (d : A) → i < length xs → flatMap f (removed i 1 xs) ≡ removed (upTo i xs) (length (f (getD xs i d))) (flatMap f xs)
+  pub flat-removed : (i : ℕ) (xs : List A) (d : A) → i < length xs
+      → flatMap f (removed i 1 xs) ≡ removed (upTo i xs) (length (f (getD xs i d))) (flatMap f xs)
   unfolding removed
   flat-removed i xs d h =
       flat-append (take i xs) (drop (i + 1) xs)
       ∙ ap₂ (λ (l r : List B). l ++ r) (flat-take i xs)
-      (ap (λ (n : ℕ). flatMap f (drop n xs)) (add-one i) ∙ flat-drop (suc i) xs ∙ ap (λ (n : ℕ). drop n (flatMap f xs)) (total-next (λ (x : A). length (f x)) xs i d h))
+      (ap (λ (n : ℕ). flatMap f (drop n xs)) (add-one i) ∙ flat-drop (suc i) xs
+      ∙ ap (λ (n : ℕ). drop n (flatMap f xs)) (total-next (λ (x : A). length (f x)) xs i d h))
 
   pub flat-inserted : (i : ℕ) (ys xs : List A) → flatMap f (inserted i ys xs) ≡ inserted (upTo i xs) (flatMap f ys) (flatMap f xs)
   unfolding inserted
@@ -172,7 +175,8 @@ module _ {A : Type 0} (f : A → List ℕ) (w : A → ℕ) (c : ℕ) (s : List �
       let k = length-take-some i xs j q in
       ap f (getD-take i xs j d (k .0))
       ∙ h j (k .1)
-      ∙ ap₂ (λ (x : A) (ys : List A). take (c * w x) (drop (c * (at + total w ys)) s)) (sym (getD-take i xs j d (k .0))) (sym (take-take j i xs (omega (arith, k .0))))
+      ∙ ap₂ (λ (x : A) (ys : List A). take (c * w x) (drop (c * (at + total w ys)) s)) (sym (getD-take i xs j d (k .0)))
+      (sym (take-take j i xs (omega (arith, k .0))))
 
   pub stands-drop : (at i : ℕ) (xs : List A) → Stands at xs → Stands (at + total w (take i xs)) (drop i xs)
   stands-drop at i xs h j q =
@@ -270,7 +274,8 @@ over-replicate n m x h =
 
 pub set-append-add {ℓ} : {A : Type ℓ} (xs ys : List A) (k : ℕ) (a : A) → set (xs ++ ys) (length xs + k) a ≡ xs ++ set ys k a
 set-append-add [] ys k a = ap (λ (n : ℕ). set ys n a) (zero-add k)
-set-append-add {A = A} (x ∷ xs) ys k a = ap (λ (n : ℕ). set (x ∷ (xs ++ ys)) n a) (suc-add (length xs) k) ∙ ap (λ (l : List A). x ∷ l) (set-append-add xs ys k a)
+set-append-add {A = A} (x ∷ xs) ys k a =
+    ap (λ (n : ℕ). set (x ∷ (xs ++ ys)) n a) (suc-add (length xs) k) ∙ ap (λ (l : List A). x ∷ l) (set-append-add xs ys k a)
 
 module _ {A : Type 0} (s : List A) (at : ℕ) where
   -- what stands there

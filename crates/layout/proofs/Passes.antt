@@ -38,7 +38,8 @@ module _ (l : Lent) (p : Pool ℕ) (e : p .textures ≡ []) where
 
   pub spares-start : sparesAfter p l ≡ l .spares
   unfolding sparesAfter flat flatMap
-  spares-start = ap (λ (ts : List (VersionState ℕ)). over (flat writeSpare (map spareRecord (everySpare ts))) (l .spares)) e ∙ over-nothing (l .spares)
+  spares-start =
+      ap (λ (ts : List (VersionState ℕ)). over (flat writeSpare (map spareRecord (everySpare ts))) (l .spares)) e ∙ over-nothing (l .spares)
 
   pub newest-start : newestAfter p l ≡ l .newest
   unfolding newestAfter flatMap
@@ -53,11 +54,14 @@ module _ (l : Lent) (p : Pool ℕ) (e : p .textures ≡ []) where
 module _ (l : Lent) (p : Pool ℕ) where
   pub texture-unread : (j : ℕ) → length (p .textures) ≤ j → recordAt 19 readTexture (texturesAfter p l) j ≡ recordAt 19 readTexture (l .textures) j
   unfolding texturesAfter
-  texture-unread j h = packed-read texture-codec (l .textures) (map textureRecord (p .textures)) j (omega (arith, length-map (p .textures) textureRecord))
+  texture-unread j h =
+      packed-read texture-codec (l .textures) (map textureRecord (p .textures)) j (omega (arith, length-map (p .textures) textureRecord))
 
   pub spare-unread : (j : ℕ) → length (everySpare (p .textures)) ≤ j → recordAt 3 readSpare (sparesAfter p l) j ≡ recordAt 3 readSpare (l .spares) j
   unfolding sparesAfter
-  spare-unread j h = packed-read spare-codec (l .spares) (map spareRecord (everySpare (p .textures))) j (omega (arith, length-map (everySpare (p .textures)) spareRecord))
+  spare-unread j h =
+      packed-read spare-codec (l .spares) (map spareRecord (everySpare (p .textures))) j
+      (omega (arith, length-map (everySpare (p .textures)) spareRecord))
 
 -- ---- one texture more
 
@@ -67,14 +71,17 @@ module _ (l : Lent) (p q : Pool ℕ) (t : VersionState ℕ) (e : q .textures ≡
   unfolding texturesAfter
   texture-packed room =
       let n = length-map (p .textures) textureRecord in
-      ap (λ (k : ℕ). sets (over (flat writeTexture (map textureRecord (p .textures))) (l .textures)) (19 * k) (writeTexture (textureRecord t))) (sym n)
+      ap (λ (k : ℕ). sets (over (flat writeTexture (map textureRecord (p .textures))) (l .textures)) (19 * k) (writeTexture (textureRecord t)))
+      (sym n)
       ∙ packed-put texture-codec (l .textures) (map textureRecord (p .textures)) (textureRecord t) (omega arith)
-      ∙ ap (λ (xs : List TextureRecord). over (flat writeTexture xs) (l .textures)) (sym (ap (map textureRecord) e ∙ map-append textureRecord (p .textures) (t ∷ [])))
+      ∙ ap (λ (xs : List TextureRecord). over (flat writeTexture xs) (l .textures))
+      (sym (ap (map textureRecord) e ∙ map-append textureRecord (p .textures) (t ∷ [])))
 
   more-spares : everySpare (q .textures) ≡ everySpare (p .textures) ++ t .spares
   unfolding flatMap
   more-spares =
-      ap everySpare e ∙ flat-append (λ (u : VersionState ℕ). u .spares) (p .textures) (t ∷ []) ∙ ap (λ (xs : List (Spare ℕ)). everySpare (p .textures) ++ xs) (append-nil (t .spares))
+      ap everySpare e ∙ flat-append (λ (u : VersionState ℕ). u .spares) (p .textures) (t ∷ [])
+      ∙ ap (λ (xs : List (Spare ℕ)). everySpare (p .textures) ++ xs) (append-nil (t .spares))
 
   -- its m spares from place r on
   pub spares-packed : (kept : total sparesOf (trackedRecords l) ≡ l .pool .kept) → 3 * l .pool .kept ≤ length (l .spares) → (r m : ℕ)
@@ -93,7 +100,8 @@ module _ (l : Lent) (p q : Pool ℕ) (t : VersionState ℕ) (e : q .textures ≡
       (sym (ap (map spareRecord) more-spares ∙ map-append spareRecord xs (t .spares) ∙ ap (λ (ys : List SpareRecord). map spareRecord xs ++ ys) run))
 
   -- texture i, with its id, shape and history
-  module _ (pages : total recordPages (trackedRecords l) ≡ l .pool .pages) (i : ℕ) (h : i < l .pool .tracked) (same : pagedOf t ≡ pagedOf (stateOf l i)) where
+  module _ (pages : total recordPages (trackedRecords l) ≡ l .pool .pages) (i : ℕ) (h : i < l .pool .tracked)
+      (same : pagedOf t ≡ pagedOf (stateOf l i)) where
     more : (f : VersionState ℕ → List ℕ) (xs : List ℕ) → flatMap f (t ∷ []) ≡ xs → flatMap f (q .textures) ≡ flatMap f (p .textures) ++ xs
     more f xs g = ap (flatMap f) e ∙ flat-append f (p .textures) (t ∷ []) ∙ ap (λ (ys : List ℕ). flatMap f (p .textures) ++ ys) g
 
@@ -105,7 +113,8 @@ module _ (l : Lent) (p q : Pool ℕ) (t : VersionState ℕ) (e : q .textures ≡
         ∙ newest-state l (firstSpare l i) (firstPageOf l i) (getD (trackedRecords l) i (readTexture []))
         ∙ listed-run 0 (l .newest) (firstPageOf l i) (pagesAt l i) (omega (arith, pages-in l pages i h))
 
-    one-pages : ascending idOf (trackedRecords l) ≡ true → flatMap (pagesAfter l) (t ∷ []) ≡ take (1024 * pagesAt l i) (drop (1024 * firstPageOf l i) (l .stamps))
+    one-pages : ascending idOf (trackedRecords l) ≡ true
+        → flatMap (pagesAfter l) (t ∷ []) ≡ take (1024 * pagesAt l i) (drop (1024 * firstPageOf l i) (l .stamps))
     unfolding flatMap
     one-pages up =
         pages-paged l (t ∷ []) (stateOf l i ∷ []) (ap (λ (x : Paged). x ∷ []) same)
@@ -116,7 +125,8 @@ module _ (l : Lent) (p q : Pool ℕ) (t : VersionState ℕ) (e : q .textures ≡
     -- `used` pages are packed so far
     module _ (used : ℕ) (before : used ≤ firstPageOf l i) where
       pub newest-packed : l .pool .pages ≤ length (l .newest) → length (flatMap newestOf (p .textures)) ≡ used
-          → (moved (newestAfter p l) used (firstPageOf l i) (pagesAt l i) ≡ newestAfter q l) × (length (flatMap newestOf (q .textures)) ≡ used + pagesAt l i)
+          → (moved (newestAfter p l) used (firstPageOf l i) (pagesAt l i) ≡ newestAfter q l)
+          × (length (flatMap newestOf (q .textures)) ≡ used + pagesAt l i)
       unfolding newestAfter
       newest-packed fits n =
           let xs = flatMap newestOf (p .textures) in
@@ -127,10 +137,12 @@ module _ (l : Lent) (p q : Pool ℕ) (t : VersionState ℕ) (e : q .textures ≡
                 ∙ over-moved xs (l .newest) (firstPageOf l i) (pagesAt l i) (omega arith) (omega arith)
                 ∙ ap (λ (ys : List ℕ). over ys (l .newest)) (sym new),
             ap length new ∙ length-append xs run
-                ∙ ap₂ (λ (a b : ℕ). a + b) n (length-take-le (pagesAt l i) (drop (firstPageOf l i) (l .newest)) (omega (arith, length-drop (firstPageOf l i) (l .newest)))),
+                ∙ ap₂ (λ (a b : ℕ). a + b) n
+                (length-take-le (pagesAt l i) (drop (firstPageOf l i) (l .newest)) (omega (arith, length-drop (firstPageOf l i) (l .newest)))),
           )
 
-      pub stamps-packed : ascending idOf (trackedRecords l) ≡ true → 1024 * l .pool .pages ≤ length (l .stamps) → length (flatMap (pagesAfter l) (p .textures)) ≡ 1024 * used
+      pub stamps-packed : ascending idOf (trackedRecords l) ≡ true → 1024 * l .pool .pages ≤ length (l .stamps)
+          → length (flatMap (pagesAfter l) (p .textures)) ≡ 1024 * used
           → (moved (stampsAfter p l) (1024 * used) (1024 * firstPageOf l i) (1024 * pagesAt l i) ≡ stampsAfter q l)
           × (length (flatMap (pagesAfter l) (q .textures)) ≡ 1024 * (used + pagesAt l i))
       unfolding stampsAfter
@@ -140,7 +152,8 @@ module _ (l : Lent) (p q : Pool ℕ) (t : VersionState ℕ) (e : q .textures ≡
           let run = take (1024 * pagesAt l i) (drop at (l .stamps)) in
           let inside = pages-in l pages i h in
           let new = more (pagesAfter l) run (one-pages up) in
-          let lr : length run ≡ 1024 * pagesAt l i = length-take-le (1024 * pagesAt l i) (drop at (l .stamps)) (omega (arith, length-drop at (l .stamps))) in (
+          let lr : length run ≡ 1024 * pagesAt l i =
+          length-take-le (1024 * pagesAt l i) (drop at (l .stamps)) (omega (arith, length-drop at (l .stamps))) in (
             ap (λ (k : ℕ). moved (over xs (l .stamps)) k at (1024 * pagesAt l i)) (sym n)
                 ∙ over-moved xs (l .stamps) at (1024 * pagesAt l i) (omega arith) (omega arith)
                 ∙ ap (λ (ys : List ℕ). over ys (l .stamps)) (sym new),
