@@ -95,6 +95,18 @@ module _ (l : Lent) where
         ∙ ap (λ (m : ℕ). listed (spareRead l) m (n - firstSpare l i)) (zero-add (firstSpare l i)))
         ∙ take-listed (spareRead l) (sparesAt i) (firstSpare l i) (n - firstSpare l i) (omega (arith, spares-in)))
 
+    -- all but the oldest k of them
+    pub spares-rest : (k : ℕ) → k ≤ sparesAt i → drop k (stateOf l i .spares) ≡ take (sparesAt i - k) (drop (firstSpare l i + k) sparesBefore)
+    unfolding stateOf stateRead
+    spares-rest k q =
+        let n = total sparesOf (trackedRecords l) in
+        let at = firstSpare l i + k in
+        drop-listed (spareRead l) k (firstSpare l i) (sparesAt i) q
+        ∙ sym (ap (λ (xs : List (Spare ℕ)). take (sparesAt i - k) (drop at xs)) (spares-model l)
+        ∙ ap (take (sparesAt i - k))
+        (drop-listed (spareRead l) at 0 n (omega (arith, spares-in)) ∙ ap (λ (m : ℕ). listed (spareRead l) m (n - at)) (zero-add at))
+        ∙ take-listed (spareRead l) (sparesAt i - k) at (n - at) (omega (arith, spares-in)))
+
     pub every-set : (t : VersionState ℕ)
         → everySpare (set (modelOf l .textures) i t)
         ≡ take (firstSpare l i) sparesBefore ++ (t .spares ++ drop (firstSpare l i + sparesAt i) sparesBefore)

@@ -148,7 +148,8 @@ module _ (l : Lent) (p : Pool ℕ) (pages : total recordPages (trackedRecords l)
     abbrev pub OutStamps : Type 0
     OutStamps =
         ascending idOf (trackedRecords l) ≡ true → 1024 * l .pool .pages ≤ length (l .stamps)
-        → moved (l .stamps) (1024 * firstPageOf l i) (1024 * firstPageOf l i + 1024 * pagesAt l i) (1024 * (l .pool .pages - (firstPageOf l i + pagesAt l i)))
+        → moved (l .stamps) (1024 * firstPageOf l i) (1024 * firstPageOf l i + 1024 * pagesAt l i)
+        (1024 * (l .pool .pages - (firstPageOf l i + pagesAt l i)))
         ≡ stampsAfter p l
 
     out-newest : (between : List (VersionState ℕ)) → p .textures ≡ take i (modelOf l .textures) ++ (between ++ drop (suc i) (modelOf l .textures))

@@ -31,7 +31,8 @@ use Rattle.layout.proofs.Same.{listed-run}
 use Rattle.layout.proofs.Pages.{pagesAt, next-page, page-bound, pages-in, newest-repacked, stamps-repacked, set-parts}
 use Rattle.layout.proofs.Stamped.{Whole, length-pages, page-stamped, gridsAt, pagesStood, used-at, length-grids, grid-of, has-pages, page-stood, length-stood, whole-read, stood}
 
-abbrev noGrid : StampGrid
+-- what stands for a grid past the last
+abbrev pub noGrid : StampGrid
 noGrid = record { newest = 0; stamps = [] }
 
 -- a grid of a texture's history is what its page holds
@@ -64,7 +65,7 @@ module _ (l : Lent) (i : ℕ) (h : WriteHistory) (e : stateOf l i .history ≡ s
         (mul-add-mod-self-right slice (s .levels) level ∙ mod-eq-of-lt q)
 
 -- one grid changed, and its page whole
-whole-set : (before : ℕ → List ℕ) (d : StampGrid) (gs : List StampGrid) (k : ℕ) (g : StampGrid) → Whole before d 0 gs
+pub whole-set : (before : ℕ → List ℕ) (d : StampGrid) (gs : List StampGrid) (k : ℕ) (g : StampGrid) → Whole before d 0 gs
     → length (over (g .stamps) (before (0 + k))) ≡ 1024
     → Whole before d 0 (set gs k g)
 whole-set before d gs k g w q j h = go (ℕ-discrete j k)
