@@ -74,18 +74,18 @@ module _ (l : Lent) (p : Pool ℕ) where
     unfolding total
     one t = omega arith
 
-    pub pages-set : (i : ℕ) (t : VersionState ℕ) → i < l .pool .tracked → p .textures ≡ set (modelOf l .textures) i t
+    pub used-set : (i : ℕ) (t : VersionState ℕ) → i < l .pool .tracked → p .textures ≡ set (modelOf l .textures) i t
         → total pagesUsed (p .textures) ≡ l .pool .pages - pagesAt l i + pagesUsed t
-    pages-set i t h e =
+    used-set i t h e =
         used-parts i (suc i) (t ∷ []) (set-parts l p i h t e)
         ∙ (let q : firstPageOf l i + (total pagesUsed (t ∷ []) + (l .pool .pages - firstPageOf l (suc i)))
         ≡ l .pool .pages - pagesAt l i + pagesUsed t =
         omega (arith, one t, next-page l i h, page-bound l pages (suc i)) in q)
 
-    pub pages-inserted : (i : ℕ) (t : VersionState ℕ) → p .textures ≡ inserted i (t ∷ []) (modelOf l .textures)
+    pub used-inserted : (i : ℕ) (t : VersionState ℕ) → p .textures ≡ inserted i (t ∷ []) (modelOf l .textures)
         → total pagesUsed (p .textures) ≡ l .pool .pages + pagesUsed t
     unfolding inserted
-    pages-inserted i t e =
+    used-inserted i t e =
         used-parts i i (t ∷ []) e
         ∙ (let q : firstPageOf l i + (total pagesUsed (t ∷ []) + (l .pool .pages - firstPageOf l i)) ≡ l .pool .pages + pagesUsed t =
         omega (arith, one t, page-bound l pages i) in q)
@@ -94,9 +94,9 @@ module _ (l : Lent) (p : Pool ℕ) where
     unfolding total
     none-used = refl
 
-    pub pages-removed : (i : ℕ) → i < l .pool .tracked → p .textures ≡ removed i 1 (modelOf l .textures)
+    pub used-removed : (i : ℕ) → i < l .pool .tracked → p .textures ≡ removed i 1 (modelOf l .textures)
         → total pagesUsed (p .textures) ≡ l .pool .pages - pagesAt l i
-    pages-removed i h e =
+    used-removed i h e =
         used-parts i (suc i) [] (removed-parts l p i e)
         ∙ (let q : firstPageOf l i + (total (pagesUsed {W = ℕ}) [] + (l .pool .pages - firstPageOf l (suc i))) ≡ l .pool .pages - pagesAt l i =
         omega (arith, none-used, next-page l i h, page-bound l pages (suc i)) in q)
