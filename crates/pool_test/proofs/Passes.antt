@@ -25,7 +25,9 @@ use Rattle.tiles.specs.declared.axis.Axis.{Axis}
 use Rattle.tiles.specs.Axes.{AxisOk}
 use Rattle.grids.specs.Grids.{Tiling, tiled, tilingOf, stampCount, gridIn, largestStamp}
 use Rattle.grids.proofs.Tilings.{count-bound, tiling-ok, count-pos}
-use Rattle.stores.specs.Model.{Doomed, limit, doomedBytes}
+use Rattle.stores.specs.Model.{Doomed, limit, pagesOf, doomedBytes}
+use Rattle.records.specs.declared.recorded.Recorded.{Recorded}
+use Rattle.records.specs.declared.recorded.Recorded.the-variants.{Writes, NoHistory}
 use Rattle.records.specs.declared.texture.TextureRecord.{TextureRecord}
 use Rattle.records.specs.Held.{heldOf}
 use Rattle.records.specs.Texture.{readTexture}
@@ -37,9 +39,9 @@ use Rattle.records.specs.Find.{textures, idOf}
 use Rattle.records.proofs.Codecs.{texture-codec, retiring-codec, doomed-codec}
 use Rattle.layout.specs.declared.pool.Pool.{Pool}
 use Rattle.layout.specs.declared.book.PacingBook.{PacingBook}
-use Rattle.layout.specs.Reading.{recordPages, handPlaces}
+use Rattle.layout.specs.Reading.{recordPages, recordedPages, handPlaces}
 use Rattle.layout.specs.IsPool.{isGrid, isHeldCount, isSpare, isDoomed, isArrival}
-use Rattle.pool_test.specs.Parts.{placesHold, writesFit, isRecord, recordSpares, recordBytes, claim, spareAt, historyFits, historiesFit, retiringAt, doomedAt, doomedFit, numbersFit}
+use Rattle.pool_test.specs.Parts.{placesHold, writesFit, isRecord, recordSpares, recordBytes, claim, spareAt, gridsFit, historyFits, historiesFit, retiringAt, retiringFit, doomedAt, doomedFit, ringsFit, numbersFit}
 
 -- ---- tests
 
@@ -308,3 +310,29 @@ pub counts-test : (pool : Pool) (places versions pages hand : ℕ) → hand ≡ 
 unfolding placesHold tests after
 counts-test pool places versions pages hand e =
     ap (λ (h : ℕ). leb (pool .tracked) places && ltb (pool .head) versions && ltb (pool .first) versions && leb (pool .queued + h + pool .kept + pool .doomed) versions && leb (pool .pages) pages) e
+
+-- ---- the history of one record
+
+module _ (newest stamps : List ℕ) (t u : TextureRecord) (page : ℕ) (e : t ≡ u) where
+  pub history-writes : (n : ℕ) → t .history ≡ Writes n → gridsFit newest stamps (t .shape) page n ≡ historyFits newest stamps (u .shape) page (u .history)
+  history-writes n h = sym (ap (historyFits newest stamps (t .shape) page) h) ∙ ap (λ (r : TextureRecord). historyFits newest stamps (r .shape) page (r .history)) e
+
+  pub history-none : t .history ≡ NoHistory → true ≡ historyFits newest stamps (u .shape) page (u .history)
+  history-none h = sym (ap (historyFits newest stamps (t .shape) page) h) ∙ ap (λ (r : TextureRecord). historyFits newest stamps (r .shape) page (r .history)) e
+
+pub pages-writes : (t u : TextureRecord) (n : ℕ) → t ≡ u → t .history ≡ Writes n → recordPages u ≡ pagesOf (t .shape)
+pages-writes t u n e h = sym (ap recordPages e) ∙ ap (λ (r : Recorded). recordedPages r (t .shape)) h
+
+-- ---- both rings
+
+module _ (pool : Pool) (versions hand : ℕ) (retiring doomed : List ℕ) (e : hand ≡ handPlaces (pool .popped)) (a : Bool) (ea : a ≡ retiringFit versions (pool .head) (hand + pool .queued) retiring) where
+  queue-test : retiringFit versions (pool .head) (handPlaces (pool .popped) + pool .queued) retiring ≡ a
+  queue-test = sym (ea ∙ ap (λ (h : ℕ). retiringFit versions (pool .head) (h + pool .queued) retiring) e)
+
+  pub rings-stop : a ≡ false → false ≡ ringsFit pool versions retiring doomed
+  unfolding ringsFit
+  rings-stop f = sym (fails _ 0 (queue-test ∙ f))
+
+  pub rings-test : a ≡ true → doomedFit versions (pool .first) (pool .doomed) (pool .dooming) doomed ≡ ringsFit pool versions retiring doomed
+  unfolding ringsFit tests after
+  rings-test t = sym (rw (queue-test, t))

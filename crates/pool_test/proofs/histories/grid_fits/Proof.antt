@@ -1,6 +1,9 @@
 -- `grid_fits` meets its contract. Assumes nothing.
 use mathlib.Core.Path.{sym, ap, _∙_}
+use mathlib.Core.List.{List}
+use Prim.Native.Nat.{ℕ}
 use native.Mathlib.Omega.{arith}
+use lib.ListN.{getD}
 use Rattle.grids.specs.Grids.{gridIn, tilingOf}
 use Rattle.layout.specs.IsPool.{isGrid}
 use Rattle.pool_test.proofs.Passes.{grid-ready, grid-test, grid-ahead}
@@ -32,8 +35,9 @@ is-largest-stamp-requires c κs = grid-ready (c .before .before .before .before 
 returns-2 : tie.Need-returns-2
 returns-2 c =
     let a = c .before .before .before .before .before .before .before .before .args in
-    grid-test (a .s) (a .level) _ _ (c .before .before .before .across-axis .ensures) (c .before .before .down-axis .ensures) (a .writes) _ _ _ (c .is-largest-stamp .ensures) (c .before .before .before .before .if1 .left)
-    ∙ ap (λ page. isGrid (a .writes) (gridIn (tilingOf (a .s) (a .level)) _ page)) (c .before .record-at .ensures .1)
+    let x = getD (a .newest .now) (a .at) 0 in
+    grid-test (a .s) (a .level) _ _ (c .before .before .before .across-axis .ensures) (c .before .before .down-axis .ensures) (a .writes) x _ _ (c .is-largest-stamp .ensures) (c .before .before .before .before .if1 .left)
+    ∙ ap (λ (page : List ℕ). isGrid (a .writes) (gridIn (tilingOf (a .s) (a .level)) x page)) (c .before .record-at .ensures .1)
 
 pub grid-fits-spec : {M : Type 1} → statement M
 grid-fits-spec =

@@ -5,6 +5,8 @@ use native.Mathlib.Omega.{arith}
 use borrow.Author.Tests.{not-true, not-false}
 use Rattle.blocks.proofs.Listed.{left}
 use Rattle.tables.proofs.Records.{table-left}
+use Rattle.records.specs.declared.texture.TextureRecord.{TextureRecord}
+use mathlib.Core.List.{List}
 use Rattle.records.specs.Texture.{readTexture}
 use Rattle.records.specs.Find.{textures as textures′}
 use Rattle.layout.specs.Reading.{recordPages}
@@ -21,7 +23,9 @@ abbrev μ-loop : tie.MeasureT-loop
 μ-loop textures n kept pages spares₀ free₀ i₀ spares free i = n - i
 
 loop-holds : tie.Need-loop-holds Inv-loop μ-loop
-loop-holds c = (search needs, ap (λ ts. claim ts _ _) (table-left 19 readTexture _ _))
+loop-holds c =
+    let a = c .before .args in
+    (search needs, ap (λ (ts : List TextureRecord). claim ts (a .kept) (a .pages)) (table-left 19 readTexture (a .n) (a .textures .now)))
 
 record-at-requires : tie.Need-record-at-requires Inv-loop μ-loop
 record-at-requires c κs = search needs
