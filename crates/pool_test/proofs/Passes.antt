@@ -41,7 +41,7 @@ use Rattle.layout.specs.declared.pool.Pool.{Pool}
 use Rattle.layout.specs.declared.book.PacingBook.{PacingBook}
 use Rattle.layout.specs.Reading.{recordPages, recordedPages, handPlaces}
 use Rattle.layout.specs.IsPool.{isGrid, isHeldCount, isSpare, isDoomed, isArrival}
-use Rattle.pool_test.specs.Parts.{placesHold, writesFit, isRecord, recordSpares, recordBytes, claim, spareAt, gridsFit, historyFits, historiesFit, retiringAt, retiringFit, doomedAt, doomedFit, ringsFit, numbersFit}
+use Rattle.pool_test.specs.Parts.{placesHold, writesFit, isRecord, recordSpares, recordBytes, claim, spareAt, gridsFit, historyFits, historiesFit, retiringAt, retiringFit, doomedAt, doomedFit, ringsFit, numbersFit, texturesFit}
 
 -- ---- tests
 
@@ -336,3 +336,24 @@ module _ (pool : Pool) (versions hand : ℕ) (retiring doomed : List ℕ) (e : h
   pub rings-test : a ≡ true → doomedFit versions (pool .first) (pool .doomed) (pool .dooming) doomed ≡ ringsFit pool versions retiring doomed
   unfolding ringsFit tests after
   rings-test t = sym (rw (queue-test, t))
+
+-- ---- the textures together
+
+module _ (ts : List TextureRecord) (kept pages : ℕ) (e : claim ts kept pages ≡ true) where
+  pub claimed-spares : total recordSpares ts ≡ kept
+  unfolding claim
+  claimed-spares = sym (eqb-true _ _ (passed _ e 0))
+
+  pub claimed-pages : total recordPages ts ≡ pages
+  unfolding claim
+  claimed-pages = sym (eqb-true _ _ (passed _ e 1))
+
+pub parked-other : (parked sum n : ℕ) → sum ≡ n → (parked ≡ sum → ⊥) → eqb parked n ≡ false
+parked-other parked sum n e h = ne-eqb parked n (λ q. h (q ∙ sym e))
+
+pub textures-last : (pool : Pool) (slice spares newest stamps : List ℕ) → ascending idOf (textures (pool .tracked) slice) ≡ true
+    → all isRecord (textures (pool .tracked) slice) ≡ true → claim (textures (pool .tracked) slice) (pool .kept) (pool .pages) ≡ true
+    → all isSpare (listed (spareAt spares) 0 (pool .kept)) ≡ true → pool .parked ≡ total recordBytes (textures (pool .tracked) slice)
+    → historiesFit newest stamps 0 (textures (pool .tracked) slice) ≡ texturesFit pool slice spares newest stamps
+unfolding texturesFit tests after
+textures-last pool slice spares newest stamps i r c s p = sym (rw (i, r, c, s, eq-eqb (pool .parked) (total recordBytes (textures (pool .tracked) slice)) p))
