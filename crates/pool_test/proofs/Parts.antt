@@ -131,7 +131,8 @@ module _ (l : Lent) where
     module _ (runs : runsFit l ≡ true) where
       to-claim : claim ts (l .pool .kept) (l .pool .pages) ≡ true
       unfolding claim runsFit
-      to-claim = pass-all _ (cons (flip _ _ (passed _ runs 0)) (cons (flip _ _ (passed _ runs 1)) nil))
+      to-claim =
+          pass-all _ (cons (flip (total recordSpares ts) (l .pool .kept) (passed _ runs 0)) (cons (flip (total recordPages ts) (l .pool .pages) (passed _ runs 1)) nil))
 
       to-textures : texturesOf l ≡ true
       unfolding texturesFit
@@ -162,7 +163,8 @@ module _ (l : Lent) where
 
     from-runs : runsFit l ≡ true
     unfolding claim runsFit
-    from-runs = pass-all _ (cons (flip _ _ (passed _ from-claim 0)) (cons (flip _ _ (passed _ from-claim 1)) nil))
+    from-runs =
+        pass-all _ (cons (flip (l .pool .kept) (total recordSpares ts) (passed _ from-claim 0)) (cons (flip (l .pool .pages) (total recordPages ts) (passed _ from-claim 1)) nil))
 
     from-states : all isState (statesRead l 0 0 ts) ≡ true
     unfolding texturesFit
@@ -199,13 +201,13 @@ module _ (l : Lent) where
   pool-parts eight =
       same-test (isPool l) (tests (partsOf l))
       (λ e.
-        let c = conditions (passed _ e 3) in
-        pass-all _ (cons (passed _ e 0) (cons (passed _ e 1) (cons (to-numbers c) (cons (to-rings c) (cons (to-textures c (passed _ e 2)) nil))))))
+      let c = conditions (passed _ e 3) in
+      pass-all _ (cons (passed _ e 0) (cons (passed _ e 1) (cons (to-numbers c) (cons (to-rings c) (cons (to-textures c (passed _ e 2)) nil))))))
       (λ e.
-        let n = passed _ e 2 in
-        let r = passed _ e 3 in
-        let t = passed _ e 4 in
-        pass-all _ (cons (passed _ e 0) (cons (passed _ e 1) (cons (from-runs n r t) (cons (formed eight (from-parts n r t)) nil)))))
+      let n = passed _ e 2 in
+      let r = passed _ e 3 in
+      let t = passed _ e 4 in
+      pass-all _ (cons (passed _ e 0) (cons (passed _ e 1) (cons (from-runs n r t) (cons (formed eight (from-parts n r t)) nil)))))
 
   -- where all but the last pass, the last decides
   pub last-part : length (l .book .arrivals) ≡ 8 → sizesFit l ≡ true → countsFit l ≡ true → numbersOf l ≡ true → ringsOf l ≡ true → texturesOf l ≡ isPool l
@@ -253,3 +255,31 @@ counts l e = record {
   used = leb-true _ _ (passed _ e 3);
   pages = leb-true _ _ (passed _ e 4);
 }
+
+module _ (l : Lent) (s : sizesFit l ≡ true) where
+  pub few-versions : length (l .retiring) / 7 ≤ 4096
+  unfolding versionPlaces
+  few-versions = sizes l s .versions
+
+  module _ (p : placesHold (l .pool) (length (l .textures) / 19) (length (l .retiring) / 7) (length (l .newest)) ≡ true) where
+    counted : CountsFit l
+    counted = counts l (counts-places l ∙ p)
+
+    pub rings-room : (7 * (length (l .retiring) / 7) ≤ length (l .retiring)) × (2 * (length (l .retiring) / 7) ≤ length (l .doomed)) × (length (l .retiring) / 7 ≤ 4096)
+        × (l .pool .head < length (l .retiring) / 7) × (l .pool .first < length (l .retiring) / 7)
+        × (handPlaces (l .pool .popped) + l .pool .queued ≤ length (l .retiring) / 7) × (l .pool .doomed ≤ length (l .retiring) / 7)
+    unfolding versionPlaces
+    rings-room =
+        let z = sizes l s in
+        (omega (arith, z .retiring), omega (arith, z .doomed), few-versions, counted .head, counted .first, omega (arith, counted .used), omega (arith, counted .used))
+
+    pub textures-room : (19 * l .pool .tracked ≤ length (l .textures)) × (3 * l .pool .kept ≤ length (l .spares)) × (l .pool .kept ≤ 4096)
+        × (l .pool .pages ≤ length (l .newest)) × (length (l .stamps) ≡ 1024 * length (l .newest))
+    textures-room =
+        let z = sizes l s in (
+          omega (arith, z .textures, counted .tracked),
+          omega (arith, z .spares, counted .used),
+          omega (arith, z .versions, counted .used),
+          counted .pages,
+          z .stamps,
+        )

@@ -306,7 +306,7 @@ too-many pool places versions pages h = fails _ 3 (lt-leb _ _ h)
 
 pub counts-test : (pool : Pool) (places versions pages hand : ℕ) → hand ≡ handPlaces (pool .popped)
     → leb (pool .tracked) places && ltb (pool .head) versions && ltb (pool .first) versions && leb (pool .queued + hand + pool .kept + pool .doomed) versions && leb (pool .pages) pages
-      ≡ placesHold pool places versions pages
+    ≡ placesHold pool places versions pages
 unfolding placesHold tests after
 counts-test pool places versions pages hand e =
     ap (λ (h : ℕ). leb (pool .tracked) places && ltb (pool .head) versions && ltb (pool .first) versions && leb (pool .queued + h + pool .kept + pool .doomed) versions && leb (pool .pages) pages) e

@@ -23,7 +23,14 @@ use shapes::VersionShape;
 use tables::record_at;
 
 // The grid of a level, on page `at`.
-fn grid_fits(s: VersionShape, level: u64, writes: u64, newest: &[u64], stamps: &[u64], at: usize) -> bool
+fn grid_fits(
+    s: VersionShape,
+    level: u64,
+    writes: u64,
+    newest: &[u64],
+    stamps: &[u64],
+    at: usize,
+) -> bool
     requires { ⌜ (isShape s ≡ true) × (at < length (now newest)) × (length (now stamps) ≡ 1024 * length (now newest)) ⌝ }
     ensures { λ r. ⌜ r ≡ isGrid writes (gridIn (tilingOf s level) (getD (now (newest .entry)) at 0) (pageAt (now (stamps .entry)) at)) ⌝ }
 {
@@ -55,7 +62,7 @@ fn grids_fit(s: VersionShape, writes: u64, newest: &[u64], stamps: &[u64], page:
 // The history of a record whose first page is `page`.
 fn history_fits(p: &[u64], newest: &[u64], stamps: &[u64], page: usize) -> bool
     requires { ⌜ (19 ≤ length (now p)) × (isShape (readTexture (now p) .shape) ≡ true)
-      × (page + recordPages (readTexture (now p)) ≤ length (now newest)) × (length (now stamps) ≡ 1024 * length (now newest)) ⌝ }
+        × (page + recordPages (readTexture (now p)) ≤ length (now newest)) × (length (now stamps) ≡ 1024 * length (now newest)) ⌝ }
     ensures { λ r. ⌜ r ≡ historyFits (now (newest .entry)) (now (stamps .entry)) (readTexture (now (p .entry)) .shape) page (readTexture (now (p .entry)) .history) ⌝ }
 {
     let t = read_texture(p);
@@ -70,7 +77,7 @@ fn history_fits(p: &[u64], newest: &[u64], stamps: &[u64], page: usize) -> bool
 // The histories of the first n records, each behind the pages of those before it.
 pub fn histories_fit(textures: &[u64], n: usize, newest: &[u64], stamps: &[u64]) -> bool
     requires { ⌜ (19 * n ≤ length (now textures)) × (all isRecord (textures′ n (now textures)) ≡ true)
-      × (total recordPages (textures′ n (now textures)) ≤ length (now newest)) × (length (now stamps) ≡ 1024 * length (now newest)) ⌝ }
+        × (total recordPages (textures′ n (now textures)) ≤ length (now newest)) × (length (now stamps) ≡ 1024 * length (now newest)) ⌝ }
     ensures { λ r. ⌜ r ≡ historiesFit (now (newest .entry)) (now (stamps .entry)) 0 (textures′ n (now (textures .entry))) ⌝ }
 {
     let mut page = 0;

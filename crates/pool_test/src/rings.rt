@@ -18,7 +18,11 @@ fn is_retiring(p: &[u64]) -> bool
     requires { ⌜ 7 ≤ length (now p) ⌝ }
     ensures { λ r. ⌜ r ≡ isRetiring (retiringOf (readRetiring (now (p .entry)))) ⌝ }
 {
-    (p[2] <= MOST_COUNTED) & (p[3] <= MOST_COUNTED) & (p[4] <= MOST_COUNTED) & (p[5] <= MOST_COUNTED) & (p[6] <= MOST_BYTES)
+    (p[2] <= MOST_COUNTED)
+        & (p[3] <= MOST_COUNTED)
+        & (p[4] <= MOST_COUNTED)
+        & (p[5] <= MOST_COUNTED)
+        & (p[6] <= MOST_BYTES)
 }
 
 // The n versions of the retiring ring: the popped one, if there is one, and the queue.
@@ -58,8 +62,8 @@ fn doomed_fit(doomed: &[u64], cap: usize, first: usize, n: usize, bytes: u64) ->
 // Both rings.
 pub fn rings_fit(pool: Pool, versions: usize, retiring: &[u64], doomed: &[u64]) -> bool
     requires { ⌜ (7 * versions ≤ length (now retiring)) × (2 * versions ≤ length (now doomed)) × (versions ≤ 4096)
-      × (pool .head < versions) × (pool .first < versions)
-      × (handPlaces (pool .popped) + pool .queued ≤ versions) × (pool .doomed ≤ versions) ⌝ }
+        × (pool .head < versions) × (pool .first < versions)
+        × (handPlaces (pool .popped) + pool .queued ≤ versions) × (pool .doomed ≤ versions) ⌝ }
     ensures { λ r. ⌜ r ≡ ringsFit pool versions (now (retiring .entry)) (now (doomed .entry)) ⌝ }
 {
     let hand = hand_places(pool.popped);

@@ -38,7 +38,7 @@ pub fn runs_fit(textures: &[u64], n: usize, kept: usize, pages: usize) -> bool
 // The bytes of the first n textures' spares.
 pub fn parked_bytes(textures: &[u64], n: usize) -> u64
     requires { ⌜ (19 * n ≤ length (now textures)) × (all isRecord (textures′ n (now textures)) ≡ true)
-      × (total recordSpares (textures′ n (now textures)) ≤ 4096) ⌝ }
+        × (total recordSpares (textures′ n (now textures)) ≤ 4096) ⌝ }
     ensures { λ r. ⌜ r ≡ total recordBytes (textures′ n (now (textures .entry))) ⌝ }
 {
     let mut sum = 0;

@@ -11,7 +11,14 @@ ghost use Rattle.pool_test.specs.Parts.{lengthsFit, placesHold};
 use layout::Pool;
 
 // The slices are of whole places, as many as may be lent, and fit together.
-fn lengths_fit(textures: usize, retiring: usize, doomed: usize, spares: usize, newest: usize, stamps: usize) -> bool
+fn lengths_fit(
+    textures: usize,
+    retiring: usize,
+    doomed: usize,
+    spares: usize,
+    newest: usize,
+    stamps: usize,
+) -> bool
     ensures { λ r. ⌜ r ≡ lengthsFit textures retiring doomed spares newest stamps ⌝ }
 {
     if newest > 4096 {
@@ -32,11 +39,25 @@ fn lengths_fit(textures: usize, retiring: usize, doomed: usize, spares: usize, n
 }
 
 // The lent slices have the sizes that a pool needs, whatever its counts are.
-pub fn sizes_fit(textures: &[u64], retiring: &[u64], doomed: &[u64], spares: &[u64], newest: &[u64], stamps: &[u64]) -> bool
+pub fn sizes_fit(
+    textures: &[u64],
+    retiring: &[u64],
+    doomed: &[u64],
+    spares: &[u64],
+    newest: &[u64],
+    stamps: &[u64],
+) -> bool
     ensures { λ r. ⌜ ((pool : Counts) (book : PacingBook)
-      → r ≡ sizesFit (lent pool book (now (textures .entry)) (now (retiring .entry)) (now (doomed .entry)) (now (spares .entry)) (now (newest .entry)) (now (stamps .entry)))) ⌝ }
+        → r ≡ sizesFit (lent pool book (now (textures .entry)) (now (retiring .entry)) (now (doomed .entry)) (now (spares .entry)) (now (newest .entry)) (now (stamps .entry)))) ⌝ }
 {
-    lengths_fit(textures.len(), retiring.len(), doomed.len(), spares.len(), newest.len(), stamps.len())
+    lengths_fit(
+        textures.len(),
+        retiring.len(),
+        doomed.len(),
+        spares.len(),
+        newest.len(),
+        stamps.len(),
+    )
 }
 
 // How many places of the retiring ring the popped version takes.

@@ -11,9 +11,15 @@ use crate::runs::runs_fit;
 use crate::spares::spares_fit;
 use layout::Pool;
 
-pub fn textures_fit(pool: Pool, textures: &[u64], spares: &[u64], newest: &[u64], stamps: &[u64]) -> bool
+pub fn textures_fit(
+    pool: Pool,
+    textures: &[u64],
+    spares: &[u64],
+    newest: &[u64],
+    stamps: &[u64],
+) -> bool
     requires { ⌜ (19 * pool .tracked ≤ length (now textures)) × (3 * pool .kept ≤ length (now spares)) × (pool .kept ≤ 4096)
-      × (pool .pages ≤ length (now newest)) × (length (now stamps) ≡ 1024 * length (now newest)) ⌝ }
+        × (pool .pages ≤ length (now newest)) × (length (now stamps) ≡ 1024 * length (now newest)) ⌝ }
     ensures { λ r. ⌜ r ≡ texturesFit pool (now (textures .entry)) (now (spares .entry)) (now (newest .entry)) (now (stamps .entry)) ⌝ }
 {
     let n = pool.tracked;

@@ -40,8 +40,7 @@ history-fits-requires c κs =
     let s = z .args .textures .now in
     let r = c .record-at .ensures in
     let h = c .before .loop-test .taken in
-    let m = ap recordPages (texture-read s (b .loop .i) _ (r .1)) in
-    (
+    let m = ap recordPages (texture-read s (b .loop .i) _ (r .1)) in (
       omega (arith, r .0),
       read-shape s (b .loop .i) _ (r .1) (z .args .n) (z .pre .1) h,
       omega (arith, m, z .pre .2, b .loop .inv .1, total-more (textureAt s) (z .args .n) recordPages (b .loop .i) h),
@@ -86,8 +85,7 @@ loop-again c =
     let t = texture-read s (b .loop .i) _ (c .before .before .before .record-at .ensures .1) in
     let h = c .before .before .before .before .loop-test .taken in
     let m = c .record-pages .ensures .1 ∙ ap recordPages t in
-    let e = sym (ap (λ (u : TextureRecord). historyFits (a .newest .now) (a .stamps .now) (u .shape) (b .loop .page) (u .history)) t) ∙ sym (c .before .before .history-fits .ensures) ∙ not-false _ (c .before .if1 .left) in
-    (
+    let e = sym (ap (λ (u : TextureRecord). historyFits (a .newest .now) (a .stamps .now) (u .shape) (b .loop .page) (u .history)) t) ∙ sym (c .before .before .history-fits .ensures) ∙ not-false _ (c .before .if1 .left) in (
       search needs,
       omega (arith, m, b .loop .inv .1, total-more (textureAt s) (a .n) recordPages (b .loop .i) h),
       sym (histories-more (a .newest .now) (a .stamps .now) s (a .n) (b .loop .i) (b .loop .page) h _ m e) ∙ b .loop .inv .2,

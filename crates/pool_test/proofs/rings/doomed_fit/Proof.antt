@@ -59,8 +59,7 @@ loop-again c =
     let f = doomedAt (a .cap) (a .first) s in
     let r = c .before .before .ring-record .ensures .1 in
     let h = c .before .before .before .loop-test .taken in
-    let ok = doomed-fits (a .cap) (a .first) (b .loop .i) s _ r (c .if1 .left) in
-    (
+    let ok = doomed-fits (a .cap) (a .first) (b .loop .i) s _ r (c .if1 .left) in (
       search needs,
       omega (arith, b .loop .inv .1, c .if1 .left),
       sym (all-more f (a .n) isDoomed (b .loop .i) h ok) ∙ b .loop .inv .2,

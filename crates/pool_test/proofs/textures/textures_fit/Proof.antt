@@ -2,6 +2,7 @@
 use mathlib.Core.Path.{sym, ap, _∙_}
 use mathlib.Core.Bool.{true}
 use native.Mathlib.Omega.{arith}
+use borrow.Author.Needs.{needs}
 use borrow.Author.Tests.{not-true, not-false}
 use lib.Dec.{eqb}
 use Rattle.pool_test.specs.Parts.{texturesFit}
@@ -10,14 +11,14 @@ use Rattle.pool_test.proofs.textures.textures_fit.Statement.{statement}
 use Rattle.pool_test.proofs.textures.textures_fit.Tie as tie
 
 ids-ascend-requires : tie.Need-ids-ascend-requires
-ids-ascend-requires c κs = ?
+ids-ascend-requires c κs = search needs
 
 returns : tie.Need-returns
 unfolding texturesFit
 returns c = sym (fails _ 0 (sym (c .before .ids-ascend .ensures) ∙ not-true _ (c .if1 .taken)))
 
 records-fit-requires : tie.Need-records-fit-requires
-records-fit-requires c κs = ?
+records-fit-requires c κs = search needs
 
 returns-2 : tie.Need-returns-2
 unfolding texturesFit
