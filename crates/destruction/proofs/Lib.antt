@@ -1,1 +1,3 @@
 pub mod Pushed
+pub mod Columns
+pub mod Batches
