@@ -81,11 +81,11 @@ grid-formed g writes newest page h e =
       below = leb-true _ _ (q .1);
     }
 
+pub length-page : (l : Lent) → 1024 * length (l .newest) ≡ length (l .stamps) → (page : ℕ) → page < length (l .newest) → length (pageAt (l .stamps) page) ≡ 1024
+length-page l paged page h = length-take-le 1024 (drop (1024 * page) (l .stamps)) (omega (arith, length-drop (1024 * page) (l .stamps)))
+
 module _ (l : Lent) (paged : 1024 * length (l .newest) ≡ length (l .stamps)) (s : VersionShape) (shaped : isShape s ≡ true)
     (page : ℕ) (room : page + pagesOf s ≤ length (l .newest)) where
-  pub length-page : (k : ℕ) → k < pagesOf s → length (pageAt (l .stamps) (page + k)) ≡ 1024
-  length-page k h = length-take-le 1024 (drop (1024 * (page + k)) (l .stamps)) (omega (arith, length-drop (1024 * (page + k)) (l .stamps)))
-
   -- the grid of a subresource is that of its page
   pub grid-place : (writes slice level : ℕ) → slice < slicesOf s → level < s .levels
       → (gridPlace s slice level < pagesOf s)
@@ -100,7 +100,7 @@ module _ (l : Lent) (paged : 1024 * length (l .newest) ≡ length (l .stamps)) (
   unfolding gridRead
   page-formed n k h e =
       let c = count-bound (tilingOf s (k % s .levels)) (tiling-ok s shaped (k % s .levels)) in
-      grid-formed (tilingOf s (k % s .levels)) n (getD (l .newest) (page + k) 0) (pageAt (l .stamps) (page + k)) (omega (arith, c, length-page k h)) e
+      grid-formed (tilingOf s (k % s .levels)) n (getD (l .newest) (page + k) 0) (pageAt (l .stamps) (page + k)) (omega (arith, c, length-page l paged (page + k) (omega arith))) e
 
   place-level : (slice level : ℕ) → level < s .levels → gridPlace s slice level % s .levels ≡ level
   place-level slice level h = mul-add-mod-self-right slice (s .levels) level ∙ mod-eq-of-lt h
@@ -237,6 +237,42 @@ enough n e = record {
   pages = leb-true _ _ (passed _ e 4);
 }
 
+-- ---- the slices' lengths
+
+module _ (l : Lent) (e : sizesFit l ≡ true) where
+  pub are-places : arePlaces (modelOf l .places) ≡ true
+  unfolding sizesFit
+  are-places = passed _ e 0
+
+  pub whole-textures : 19 * modelOf l .places .textures ≡ length (l .textures)
+  unfolding sizesFit
+  whole-textures = sym (eqb-true _ _ (passed _ e 1))
+
+  pub whole-retiring : 7 * versionPlaces l ≡ length (l .retiring)
+  unfolding sizesFit
+  whole-retiring = sym (eqb-true _ _ (passed _ e 2))
+
+  pub whole-doomed : 2 * versionPlaces l ≡ length (l .doomed)
+  unfolding sizesFit
+  whole-doomed = sym (eqb-true _ _ (passed _ e 3))
+
+  pub whole-spares : 3 * versionPlaces l ≡ length (l .spares)
+  unfolding sizesFit
+  whole-spares = sym (eqb-true _ _ (passed _ e 4))
+
+  pub whole-stamps : 1024 * length (l .newest) ≡ length (l .stamps)
+  unfolding sizesFit
+  whole-stamps = sym (eqb-true _ _ (passed _ e 5))
+
+  pub some-version : 1 ≤ versionPlaces l
+  some-version = omega (arith, enough (modelOf l .places) are-places .version, version-places l)
+
+  pub most-versions : versionPlaces l ≤ 4096
+  most-versions = omega (arith, enough (modelOf l .places) are-places .versions, version-places l)
+
+  pub most-pages : length (l .newest) ≤ 4096
+  most-pages = omega (arith, enough (modelOf l .places) are-places .pages, page-places l)
+
 -- ---- the whole
 
 module _ (l : Lent) (e : isPool l ≡ true) where
@@ -255,14 +291,6 @@ module _ (l : Lent) (e : isPool l ≡ true) where
   forming : isFormed (modelOf l) ≡ true
   unfolding isPool
   forming = passed _ e 3
-
-  are-places : arePlaces (modelOf l .places) ≡ true
-  unfolding sizesFit
-  are-places = passed _ sized 0
-
-  paged : 1024 * length (l .newest) ≡ length (l .stamps)
-  unfolding sizesFit
-  paged = sym (eqb-true _ _ (passed _ sized 5))
 
   pages-claimed : total recordPages (trackedRecords l) ≡ l .pool .pages
   unfolding runsFit
@@ -286,7 +314,7 @@ module _ (l : Lent) (e : isPool l ≡ true) where
 
   textures-formed : All StateFormed (modelOf l .textures)
   unfolding isFormed modelOf
-  textures-formed = states-formed l paged 0 0 (trackedRecords l) (omega (arith, pages-claimed, pages-counted)) (passed _ forming 1)
+  textures-formed = states-formed l (whole-stamps l sized) 0 0 (trackedRecords l) (omega (arith, pages-claimed, pages-counted)) (passed _ forming 1)
 
   model-formed : Formed (modelOf l)
   unfolding isFormed
@@ -307,21 +335,21 @@ module _ (l : Lent) (e : isPool l ≡ true) where
     eight = eqb-true _ _ (passed _ forming 10);
     arrivals = all-holds isArrival arrival-formed (modelOf l .pacing .arrivals) (passed _ forming 11);
     since = leb-true _ _ (passed _ forming 12);
-    most = enough (modelOf l .places) are-places .versions;
+    most = enough (modelOf l .places) (are-places l sized) .versions;
   }
 
   pub pool-fits : Fits l
-  unfolding sizesFit countsFit
+  unfolding countsFit
   pool-fits = record {
-    places = are-places;
-    textures = sym (eqb-true _ _ (passed _ sized 1));
-    retiring = sym (eqb-true _ _ (passed _ sized 2));
-    doomed = sym (eqb-true _ _ (passed _ sized 3));
-    spares = sym (eqb-true _ _ (passed _ sized 4));
-    stamps = paged;
-    least = omega (arith, enough (modelOf l .places) are-places .version, version-places l);
-    most = omega (arith, enough (modelOf l .places) are-places .versions, version-places l);
-    newest = omega (arith, enough (modelOf l .places) are-places .pages, page-places l);
+    places = are-places l sized;
+    textures = whole-textures l sized;
+    retiring = whole-retiring l sized;
+    doomed = whole-doomed l sized;
+    spares = whole-spares l sized;
+    stamps = whole-stamps l sized;
+    least = some-version l sized;
+    most = most-versions l sized;
+    newest = most-pages l sized;
     tracked = tracked-counted;
     head = ltb-true _ _ (passed _ counted 1);
     first = ltb-true _ _ (passed _ counted 2);
