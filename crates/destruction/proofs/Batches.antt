@@ -2,7 +2,7 @@
 use mathlib.Core.Path.{_≡_, refl, sym, ap, ap₂, _∙_}
 use mathlib.Core.List.{List, [], _∷_, _++_}
 use Prim.Native.Nat.{ℕ, suc, _+_, _*_, _≤_, _<_}
-use native.Mathlib.Nat.{add-zero, zero-add}
+use native.Mathlib.Nat.{add-zero, zero-add, min-le-right}
 use native.Mathlib.Numerals.{add-one}
 use native.Mathlib.Omega.{arith}
 use borrow.Author.Tests.{lt-ltb, le-ltb}
@@ -16,7 +16,7 @@ use Rattle.tables.specs.Rings.{placeOf, along}
 use Rattle.records.specs.Doomed.{readDoomed}
 use Rattle.stores.specs.Model.{Doomed, doomedBytes}
 use Rattle.stores.specs.TakeDoomed.{coverMore}
-use Rattle.destruction.specs.Batch.{doomedEntry, doomedEntries, batchOf}
+use Rattle.destruction.specs.Batch.{doomedEntry, doomedEntries, pacedOf, batchOf}
 
 -- eight numbers, summed one by one
 pub eight-sum : (a : List ℕ) → length a ≡ 8
@@ -26,6 +26,11 @@ eight-sum a e =
     let f : ℕ → ℕ = λ k. getD a k 0 in
     ap (total (λ (n : ℕ). n)) (sym (listed-getD 0 a) ∙ ap (listed f 0) e)
     ∙ (let q : f 0 + (f 1 + (f 2 + (f 3 + (f 4 + (f 5 + (f 6 + (f 7 + 0))))))) ≡ f 0 + f 1 + f 2 + f 3 + f 4 + f 5 + f 6 + f 7 = omega arith in q)
+
+-- no more than there are
+pub paced-most : (arrivals : List ℕ) (n : ℕ) → pacedOf arrivals n ≤ n
+unfolding pacedOf
+paced-most arrivals n = min-le-right _ n
 
 -- how many more it takes, where the excess is covered
 cover-stop : (covered excess : ℕ) (ds : List (Doomed ℕ)) → excess ≤ covered → coverMore covered excess ds ≡ 0

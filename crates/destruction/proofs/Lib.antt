@@ -1,3 +1,4 @@
 pub mod Pushed
 pub mod Columns
 pub mod Batches
+pub mod Taken

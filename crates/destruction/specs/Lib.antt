@@ -1,3 +1,5 @@
 pub mod Given
 pub mod Views
 pub mod Batch
+pub mod Answer
+pub mod Taken

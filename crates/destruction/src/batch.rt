@@ -5,7 +5,6 @@ ghost use Prim.Native.Nat.{ℕ, _*_, _^_, _≤_, _<_};
 ghost use lib.ListN.{length, set};
 ghost use Rattle.blocks.specs.Lists.{total};
 ghost use Rattle.stores.specs.Model.{doomedBytes};
-ghost use Rattle.layout.specs.declared.book.PacingBook.{PacingBook as PacingBook′};
 ghost use Rattle.destruction.specs.Batch.{doomedEntries, pacedOf, batchOf};
 use blocks::larger;
 use blocks::smaller;
@@ -78,4 +77,20 @@ fn covering(doomed: &[u64], cap: usize, first: usize, n: usize, least: usize, ex
         count += 1;
     }
     Batch { count, bytes }
+}
+
+// The next batch of the n versions of the ring.
+pub fn next_batch(
+    doomed: &[u64],
+    cap: usize,
+    first: usize,
+    n: usize,
+    arrivals: [u64; 8],
+    excess: u64,
+) -> Batch
+    requires { ⌜ (2 * cap ≤ length (now doomed)) × (first < cap) × (n ≤ cap) × (cap ≤ 4096) × (total (λ (n : ℕ). n) arrivals ≤ 32768) × (doomedBytes (doomedEntries cap first (now doomed) n) < 2 ^ 64) ⌝ }
+    ensures { λ r. ⌜ (r .count ≡ batchOf (pacedOf arrivals n) excess (doomedEntries cap first (now (doomed .entry)) n)) × (r .count ≤ n) × (r .bytes ≡ doomedBytes (doomedEntries cap first (now (doomed .entry)) (r .count))) ⌝ }
+{
+    let least = paced(arrivals, n as u64) as usize;
+    covering(doomed, cap, first, n, least, excess)
 }
