@@ -11,7 +11,10 @@ use Rattle.blocks.specs.Lists.{listed, over}
 use Rattle.blocks.proofs.Lists.{length-over, drop-over}
 use Rattle.blocks.proofs.Listed.{length-listed, listed-more}
 use Rattle.tables.specs.Rings.{placeOf}
+use Rattle.layout.specs.declared.pool.Pool.{Pool}
+use Rattle.layout.specs.Reading.{handPlaces}
 use Rattle.destruction.specs.Views.{numberAt, column}
+use Rattle.destruction.specs.Drained.{drainedViews}
 
 -- one number more stored behind the others
 sets-more : (vs : List ℕ) (x : ℕ) (l : List ℕ) (i : ℕ) → sets l i (vs ++ (x ∷ [])) ≡ set (sets l i vs) (i + length vs) x
@@ -51,3 +54,27 @@ over-sets xs ys o h =
 pub front-sets : (xs o : List ℕ) → length xs ≤ length o → sets o 0 xs ≡ over xs o
 unfolding over
 front-sets xs o h = sets-eq xs o 0 (omega arith) ∙ ap (λ (n : ℕ). xs ++ drop n o) (zero-add (length xs))
+
+-- three blocks stored one behind the other
+three-sets : (xs ys zs o : List ℕ) → length xs + length ys + length zs ≤ length o
+    → sets (sets (sets o 0 xs) (length xs) ys) (length xs + length ys) zs ≡ over (xs ++ (ys ++ zs)) o
+three-sets xs ys zs o h =
+    ap (λ (t : List ℕ). sets (sets t (length xs) ys) (length xs + length ys) zs) (front-sets xs o (omega arith))
+    ∙ ap₂ (λ (t : List ℕ) (n : ℕ). sets t n zs) (over-sets xs ys o (omega arith)) (sym (length-append xs ys))
+    ∙ over-sets (xs ++ ys) zs o (omega (arith, length-append xs ys))
+    ∙ ap (λ (l : List ℕ). over l o) (append-assoc xs ys zs)
+
+-- the views of a drain, as they are copied
+pub views-copied : (c : Pool) (places : ℕ) (retiring doomed spares o : List ℕ) → c .queued + c .doomed + c .kept ≤ length o
+    → sets (sets (sets o 0 (column 7 1 places (c .head) retiring (handPlaces (c .popped)) (c .queued))) (c .queued) (column 2 0 places (c .first) doomed 0 (c .doomed)))
+    (c .queued + c .doomed) (column 3 0 places 0 spares 0 (c .kept))
+    ≡ over (drainedViews c places retiring doomed spares) o
+unfolding drainedViews
+views-copied c places retiring doomed spares o h =
+    let xs = column 7 1 places (c .head) retiring (handPlaces (c .popped)) (c .queued) in
+    let ys = column 2 0 places (c .first) doomed 0 (c .doomed) in
+    let zs = column 3 0 places 0 spares 0 (c .kept) in
+    let lx : length xs ≡ c .queued = length-column 7 1 places (c .head) retiring (handPlaces (c .popped)) (c .queued) in
+    let ly : length ys ≡ c .doomed = length-column 2 0 places (c .first) doomed 0 (c .doomed) in
+    let lz : length zs ≡ c .kept = length-column 3 0 places 0 spares 0 (c .kept) in
+    ap₂ (λ (n m : ℕ). sets (sets (sets o 0 xs) n ys) (n + m) zs) (sym lx) (sym ly) ∙ three-sets xs ys zs o (omega arith)

@@ -3,3 +3,4 @@ pub mod Views
 pub mod Batch
 pub mod Answer
 pub mod Taken
+pub mod Drained
