@@ -1,11 +1,11 @@
 -- Textures' records cleared of their spares, one after the other. Assumes nothing.
 use mathlib.Core.Path.{_≡_, refl, sym, ap, ap₂, _∙_}
 use mathlib.Core.List.{List, [], _∷_, _++_, map, map-append, append-assoc, append-nil}
-use Prim.Native.Nat.{ℕ, suc, _+_, _*_, _≤_, _<_}
+use Prim.Native.Nat.{ℕ, suc, _+_, _*_, _≤_}
 use native.Mathlib.Nat.{zero-add}
 use native.Mathlib.Numerals.{add-one}
 use native.Mathlib.Omega.{arith}
-use lib.ListN.{length, take, drop, set, length-append, length-map, length-drop, take-append-drop}
+use lib.ListN.{length, drop, set, length-append, length-map, length-drop, take-append-drop}
 use lib.Seq.{drop-drop}
 use Rattle.blocks.specs.Lists.{listed, over}
 use Rattle.blocks.proofs.Listed.{listed-more}

@@ -1,16 +1,15 @@
 -- Laws of views copied to an answer. Assumes nothing.
 use mathlib.Core.Path.{_≡_, refl, sym, ap, ap₂, _∙_}
 use mathlib.Core.List.{List, [], _∷_, _++_, append-assoc}
-use Prim.Native.Nat.{ℕ, suc, _+_, _*_, _≤_, _<_}
+use Prim.Native.Nat.{ℕ, suc, _+_, _≤_}
 use native.Mathlib.Nat.{add-zero, zero-add}
 use native.Mathlib.Numerals.{add-one}
 use native.Mathlib.Omega.{arith}
-use lib.ListN.{length, take, drop, set, length-append}
-use lib.Seq.{sets, sets-eq, drop-drop, take-append-seam}
+use lib.ListN.{length, drop, set, length-append}
+use lib.Seq.{sets, sets-eq, take-append-seam}
 use Rattle.blocks.specs.Lists.{listed, over}
 use Rattle.blocks.proofs.Lists.{length-over, drop-over}
 use Rattle.blocks.proofs.Listed.{length-listed, listed-more}
-use Rattle.tables.specs.Rings.{placeOf}
 use Rattle.layout.specs.declared.pool.Pool.{Pool}
 use Rattle.layout.specs.Reading.{handPlaces}
 use Rattle.destruction.specs.Views.{numberAt, column}
@@ -64,17 +63,21 @@ three-sets xs ys zs o h =
     ∙ over-sets (xs ++ ys) zs o (omega (arith, length-append xs ys))
     ∙ ap (λ (l : List ℕ). over l o) (append-assoc xs ys zs)
 
--- the views of a drain, as they are copied
+-- the views of a drain, copied column by column
 pub views-copied : (c : Pool) (places : ℕ) (retiring doomed spares o : List ℕ) → c .queued + c .doomed + c .kept ≤ length o
-    → sets (sets (sets o 0 (column 7 1 places (c .head) retiring (handPlaces (c .popped)) (c .queued))) (c .queued) (column 2 0 places (c .first) doomed 0 (c .doomed)))
-    (c .queued + c .doomed) (column 3 0 places 0 spares 0 (c .kept))
-    ≡ over (drainedViews c places retiring doomed spares) o
+    → (i : ℕ) (o1 o2 o3 : List ℕ) → i ≡ handPlaces (c .popped) → o1 ≡ sets o 0 (column 7 1 places (c .head) retiring i (c .queued))
+    → o2 ≡ sets o1 (c .queued) (column 2 0 places (c .first) doomed 0 (c .doomed))
+    → o3 ≡ sets o2 (c .queued + c .doomed) (column 3 0 places 0 spares 0 (c .kept)) → o3 ≡ over (drainedViews c places retiring doomed spares) o
 unfolding drainedViews
-views-copied c places retiring doomed spares o h =
-    let xs = column 7 1 places (c .head) retiring (handPlaces (c .popped)) (c .queued) in
+views-copied c places retiring doomed spares o h i o1 o2 o3 e e1 e2 e3 =
+    let column1 : ℕ → List ℕ = λ j. column 7 1 places (c .head) retiring j (c .queued) in
+    let xs = column1 (handPlaces (c .popped)) in
     let ys = column 2 0 places (c .first) doomed 0 (c .doomed) in
     let zs = column 3 0 places 0 spares 0 (c .kept) in
     let lx : length xs ≡ c .queued = length-column 7 1 places (c .head) retiring (handPlaces (c .popped)) (c .queued) in
     let ly : length ys ≡ c .doomed = length-column 2 0 places (c .first) doomed 0 (c .doomed) in
     let lz : length zs ≡ c .kept = length-column 3 0 places 0 spares 0 (c .kept) in
-    ap₂ (λ (n m : ℕ). sets (sets (sets o 0 xs) n ys) (n + m) zs) (sym lx) (sym ly) ∙ three-sets xs ys zs o (omega arith)
+    e3
+    ∙ ap (λ (t : List ℕ). sets t (c .queued + c .doomed) zs) (e2 ∙ ap (λ (t : List ℕ). sets t (c .queued) ys) (e1 ∙ ap (λ (j : ℕ). sets o 0 (column1 j)) e))
+    ∙ ap₂ (λ (n m : ℕ). sets (sets (sets o 0 xs) n ys) (n + m) zs) (sym lx) (sym ly)
+    ∙ three-sets xs ys zs o (omega arith)

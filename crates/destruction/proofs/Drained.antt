@@ -10,11 +10,11 @@ use lib.ListN.{length, drop, getD, replicate, length-append, length-map}
 use lib.Seq.{getD-drop}
 use Rattle.blocks.specs.Lists.{listed, over, total}
 use Rattle.blocks.proofs.Listed.{map-listed, listed-same, left-none, drop-left}
-use Rattle.tables.specs.Records.{recordAt, table, flat}
+use Rattle.tables.specs.Records.{recordAt, flat}
 use Rattle.tables.specs.Rings.{placeOf, along}
 use Rattle.tables.proofs.Rings.{place-near}
 use Rattle.records.specs.declared.texture.TextureRecord.{TextureRecord}
-use Rattle.records.specs.Texture.{readTexture, writeTexture}
+use Rattle.records.specs.Texture.{writeTexture}
 use Rattle.records.specs.Spare.{readSpare, writeSpare}
 use Rattle.records.specs.Retiring.{readRetiring}
 use Rattle.records.specs.Doomed.{readDoomed}
@@ -24,12 +24,12 @@ use Rattle.stores.specs.DrainVersions.{everyView, drainVersions}
 use Rattle.layout.specs.declared.pool.Pool.{Pool as Counts}
 use Rattle.layout.specs.declared.book.PacingBook.{PacingBook}
 use Rattle.layout.specs.Lent.{Lent, lent, versionPlaces}
-use Rattle.layout.specs.Reading.{trackedRecords, spareRead, retiringRead, handPlaces, doomedRead, modelOf}
+use Rattle.layout.specs.Reading.{spareRead, retiringRead, handPlaces, doomedRead, modelOf}
 use Rattle.layout.specs.Writing.{textureRecord, spareRecord, everySpare, texturesAfter, sparesAfter, bookAfter, poolAfter, after}
 use Rattle.layout.specs.IsPool.{isPool}
-use Rattle.layout.specs.Calls.{Told, refusal, answer, viewNumbers, asked, drainVersionsCall}
+use Rattle.layout.specs.Calls.{refusal, answer, viewNumbers, asked, drainVersionsCall}
 use Rattle.layout.proofs.Fits.{Fits}
-use Rattle.layout.proofs.Runs.{sparesOf, spareCount, tracked-model, records-model, spares-model, pages-model}
+use Rattle.layout.proofs.Runs.{spareCount, tracked-model, records-model, spares-model, pages-model}
 use Rattle.layout.proofs.Kept.{pagedOf, used-paged}
 use Rattle.layout.proofs.Rings.{head-stays, hand-model, retiring-drained, first-taken, doomed-taken}
 use Rattle.layout.proofs.Same.{held-same}

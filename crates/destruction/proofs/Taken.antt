@@ -3,12 +3,12 @@ use mathlib.Core.Path.{_≡_, refl, sym, ap, ap₂, _∙_}
 use mathlib.Core.Bool.{true}
 use mathlib.Core.List.{List, [], _∷_, map}
 use Prim.Native.Nat.{ℕ, suc, _+_, _*_, _-_, _^_, _%_, _≤_, _<_}
-use native.Mathlib.Nat.{add-zero, mul-suc}
+use native.Mathlib.Nat.{mul-suc}
 use native.Mathlib.Omega.{arith}
 use borrow.Author.Tests.{lt-ltb, le-ltb}
-use lib.ListN.{length, take, drop, getD, set, length-set, length-drop}
+use lib.ListN.{length, take, drop, set, length-set, length-drop}
 use lib.Seq.{sets, getD-drop}
-use Rattle.blocks.specs.Lists.{listed, over, total}
+use Rattle.blocks.specs.Lists.{over, total}
 use Rattle.blocks.specs.All.{All, nil, cons}
 use Rattle.blocks.proofs.Listed.{take-listed, map-listed, listed-same}
 use Rattle.tables.specs.Records.{recordAt, flat}
@@ -34,6 +34,7 @@ use Rattle.destruction.specs.Views.{numberAt, column}
 use Rattle.destruction.specs.Batch.{doomedEntry, doomedEntries, pacedOf, batchOf}
 use Rattle.destruction.specs.Taken.{takenCounts, takenBook}
 use Rattle.destruction.proofs.Columns.{length-column, front-sets}
+use Rattle.destruction.proofs.Batches.{bytes-part}
 
 -- a sum of numbers of which none passes b
 all-total : (b : ℕ) {xs : List ℕ} → All (λ (n : ℕ). n ≤ b) xs → total (λ (n : ℕ). n) xs ≤ b * length xs
@@ -89,7 +90,7 @@ module _ (l : Lent) where
         let h : l .pool .since ≤ 4096 = omega (arith, f .formed .since, doomed-model l, f .versions, f .most) in
         omega (arith, all-total 4096 (all-set (l .book .slot) (l .pool .since) h (f .formed .arrivals)), length-set (l .book .arrivals) (l .book .slot) (l .pool .since), f .formed .eight)
 
-    pub dooming-sum : l .pool .dooming ≡ doomedBytes (entries (l .pool .doomed))
+    dooming-sum : l .pool .dooming ≡ doomedBytes (entries (l .pool .doomed))
     unfolding modelOf
     dooming-sum = f .formed .dooming ∙ ap doomedBytes (sym entries-model)
 
@@ -109,6 +110,12 @@ module _ (l : Lent) where
       omega (arith, ap (total (λ (n : ℕ). n)) e, noted-bound),
       omega (arith, dooming-sum),
     )
+
+    -- what the counts after the take are worked out from
+    pub counts-fit : (n bytes : ℕ) → n ≤ l .pool .doomed → bytes ≡ doomedBytes (entries n)
+        → (l .pool .first < versionPlaces l) × (n ≤ versionPlaces l) × (n ≤ l .pool .doomed) × (bytes ≤ l .pool .dooming)
+    counts-fit n bytes few e =
+        (f .first, omega (arith, doomed-fit l f), few, omega (arith, dooming-sum, bytes-part (versionPlaces l) (l .pool .first) (l .doomed) n (l .pool .doomed) few))
 
     -- ---- what is left
 
@@ -159,10 +166,11 @@ module _ (l : Lent) where
       ∙ listed-same (λ (j : ℕ). e j .view) (numberAt 2 0 (versionPlaces l) (l .pool .first) (l .doomed)) n 0 0
       (λ j q. getD-drop (2 * placeOf (versionPlaces l) (l .pool .first) (0 + j)) (l .doomed) 0 0)
 
-  module _ (pooled : isPool l ≡ true) (buffer : List ℕ) (n : ℕ)
-      (batched : n ≡ batchOf (pacedOf noted (l .pool .doomed)) (l .book .excess) (entries (l .pool .doomed))) where
+  module _ (pooled : isPool l ≡ true) (buffer arrivals : List ℕ) (n : ℕ) (now : arrivals ≡ noted)
+      (batched : n ≡ batchOf (pacedOf arrivals (l .pool .doomed)) (l .book .excess) (entries (l .pool .doomed))) where
     counted : n ≡ batch (modelOf l)
-    counted = batched ∙ batch-model
+    counted =
+        batched ∙ ap (λ (xs : List ℕ). batchOf (pacedOf xs (l .pool .doomed)) (l .book .excess) (entries (l .pool .doomed))) now ∙ batch-model
 
     pub take-refused : length buffer < n → (refusal 11, (buffer, l)) ≡ takeDoomedCall l buffer
     unfolding takeDoomedCall asked takeDoomed guard
@@ -174,7 +182,7 @@ module _ (l : Lent) where
 
     module _ (f : Fits l) (bytes : ℕ) (few : n ≤ l .pool .doomed) (sum : bytes ≡ doomedBytes (entries n)) (room : n ≤ length buffer) where
       pub take-accepted : (out : List ℕ) (c : Counts) (b : PacingBook) → out ≡ sets buffer 0 (column 2 0 (versionPlaces l) (l .pool .first) (l .doomed) 0 n)
-          → c ≡ takenCounts (l .pool) (versionPlaces l) n bytes → b ≡ takenBook (l .book) noted
+          → c ≡ takenCounts (l .pool) (versionPlaces l) n bytes → b ≡ takenBook (l .book) arrivals
           → (answer n, (out, lent c b (l .textures) (l .retiring) (l .doomed) (l .spares) (l .newest) (l .stamps))) ≡ takeDoomedCall l buffer
       take-accepted out c b e1 e2 e3 =
           let vs = column 2 0 (versionPlaces l) (l .pool .first) (l .doomed) 0 n in
@@ -183,5 +191,5 @@ module _ (l : Lent) where
           let full : out ≡ over (flat viewNumbers (viewsOf l n)) buffer =
           e1 ∙ front-sets vs buffer (omega arith) ∙ ap (λ (xs : List ℕ). over xs buffer) same in
           let kept : lent c b (l .textures) (l .retiring) (l .doomed) (l .spares) (l .newest) (l .stamps) ≡ after (restOf l n) l =
-          ap₂ (λ (c : Counts) (b : PacingBook). lent c b (l .textures) (l .retiring) (l .doomed) (l .spares) (l .newest) (l .stamps)) e2 e3 ∙ left-taken f n bytes few sum in
+          ap₂ (λ (c : Counts) (b : PacingBook). lent c b (l .textures) (l .retiring) (l .doomed) (l .spares) (l .newest) (l .stamps)) e2 (e3 ∙ ap (takenBook (l .book)) now) ∙ left-taken f n bytes few sum in
           (λ i. (answer ((sym long ∙ ap length (sym (views-taken n few))) i), (full i, kept i))) ∙ ap (said l buffer) counted ∙ accepted-views room

@@ -1,8 +1,4 @@
 -- `copy_views` meets its contract: three columns, one behind the other. Assumes nothing.
-use mathlib.Core.Path.{ap, _∙_}
-use Prim.Native.Nat.{_+_}
-use lib.Seq.{sets}
-use Rattle.destruction.specs.Views.{column}
 use Rattle.destruction.proofs.Columns.{views-copied}
 use borrow.Author.Needs.{needs}
 use Rattle.destruction.proofs.drain.copy_views.Statement.{statement}
@@ -34,15 +30,8 @@ returns c =
     let hand = one .before .before in
     let s = hand .before .before .before .before .before in
     let a = s .args in
-    let n = a .pool .queued in
-    let m = a .pool .doomed in
-    let ys = column 2 0 (a .places) (a .pool .first) (a .doomed .now) 0 m in
-    let zs = column 3 0 (a .places) 0 (a .spares .now) 0 (a .pool .kept) in
-    third .copy-column3 .ensures
-    ∙ ap (λ o. sets o (n + m) zs) (second .copy-column2 .ensures)
-    ∙ ap (λ o. sets (sets o n ys) (n + m) zs) (one .copy-column .ensures)
-    ∙ ap (λ i. sets (sets (sets (a .buffer .now) 0 (column 7 1 (a .places) (a .pool .head) (a .retiring .now) i n)) n ys) (n + m) zs) (hand .hand-places .ensures)
-    ∙ views-copied (a .pool) (a .places) (a .retiring .now) (a .doomed .now) (a .spares .now) (a .buffer .now) (s .pre .6)
+    views-copied (a .pool) (a .places) (a .retiring .now) (a .doomed .now) (a .spares .now) (a .buffer .now) (s .pre .6)
+    (hand .hand-places .result) _ _ _ (hand .hand-places .ensures) (one .copy-column .ensures) (second .copy-column2 .ensures) (third .copy-column3 .ensures)
 
 pub copy-views-spec : {M : Type 1} → statement M
 copy-views-spec =

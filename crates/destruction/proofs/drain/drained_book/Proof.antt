@@ -1,7 +1,6 @@
 -- `drained_book` meets its contract. Assumes nothing.
 use mathlib.Core.Path.{refl}
 use Rattle.destruction.specs.Drained.{drainedBook}
-use borrow.Author.Needs.{needs}
 use Rattle.destruction.proofs.drain.drained_book.Statement.{statement}
 use Rattle.destruction.proofs.drain.drained_book.Tie as tie
 

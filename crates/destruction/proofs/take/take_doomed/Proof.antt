@@ -1,13 +1,9 @@
 -- `take_doomed` meets its contract: the batch, its views and what is left are the rule's. Assumes nothing.
-use mathlib.Core.Path.{_≡_, ap, _∙_}
 use native.Mathlib.Omega.{arith}
 use Rattle.layout.specs.Lent.{lent, versionPlaces}
 use Rattle.layout.proofs.FromPool.{pool-fits}
 use Rattle.layout.proofs.Stays.{doomed-fit}
-use Rattle.destruction.specs.Batch.{doomedEntries, pacedOf, batchOf}
-use Rattle.destruction.specs.Taken.{takenCounts, takenBook}
-use Rattle.destruction.proofs.Batches.{bytes-part}
-use Rattle.destruction.proofs.Taken.{slot-below, batch-fits, dooming-sum, take-refused, take-accepted}
+use Rattle.destruction.proofs.Taken.{slot-below, batch-fits, counts-fit, take-refused, take-accepted}
 use borrow.Author.Needs.{needs}
 use Rattle.destruction.proofs.take.take_doomed.Statement.{statement}
 use Rattle.destruction.proofs.take.take_doomed.Tie as tie
@@ -35,10 +31,9 @@ returns c =
     let s = c .before .before .before .before .before .before .before .before .before .before in
     let a = s .args in
     let l = lent (a .pool) (a .book) (a .textures .now) (a .retiring .now) (a .doomed .now) (a .spares .now) (a .newest .now) (a .stamps .now) in
-    let f = pool-fits l (s .pre) in
     let b = c .before in
-    take-refused l (s .pre) (a .buffer .now) (b .next-batch .result .count)
-    (b .next-batch .ensures .0 ∙ ap (λ n. batchOf (pacedOf n (a .pool .doomed)) (a .book .excess) (doomedEntries (versionPlaces l) (a .pool .first) (a .doomed .now) (a .pool .doomed))) (b .before .arrived .ensures)) (c .if1 .taken)
+    take-refused l (s .pre) (a .buffer .now) (b .before .arrived .result) (b .next-batch .result .count) (b .before .arrived .ensures) (b .next-batch .ensures .0)
+    (c .if1 .taken)
 
 copy-column-requires : tie.Need-copy-column-requires
 unfolding versionPlaces
@@ -57,8 +52,8 @@ taken-counts-requires c κs =
     let a = s .args in
     let l = lent (a .pool) (a .book) (a .textures .now) (a .retiring .now) (a .doomed .now) (a .spares .now) (a .newest .now) (a .stamps .now) in
     let f = pool-fits l (s .pre) in
-    let b = c .before .before .before .before .before .next-batch .ensures in
-    (f .first, omega (arith, b .1, doomed-fit l f), b .1, omega (arith, b .2, dooming-sum l f, bytes-part (versionPlaces l) (a .pool .first) (a .doomed .now) (c .before .before .before .before .before .next-batch .result .count) (a .pool .doomed) (b .1)))
+    let b = c .before .before .before .before .before .next-batch in
+    counts-fit l f (b .result .count) (b .result .bytes) (b .ensures .1) (b .ensures .2)
 
 taken-book-requires : tie.Need-taken-book-requires
 taken-book-requires c κs =
@@ -79,12 +74,10 @@ returns-2 c =
     let l = lent (a .pool) (a .book) (a .textures .now) (a .retiring .now) (a .doomed .now) (a .spares .now) (a .newest .now) (a .stamps .now) in
     let f = pool-fits l (s .pre) in
     let d = c .before .before .before .before .before .before .before in
-    let e = d .next-batch .ensures in
-    let noted = d .before .arrived .ensures in
-    take-accepted l (s .pre) (a .buffer .now) (d .next-batch .result .count)
-    (e .0 ∙ ap (λ n. batchOf (pacedOf n (a .pool .doomed)) (a .book .excess) (doomedEntries (versionPlaces l) (a .pool .first) (a .doomed .now) (a .pool .doomed))) noted)
-    f (d .next-batch .result .bytes) (e .1) (e .2) (omega (arith, c .before .before .before .before .before .before .if1 .left))
-    _ _ _ (c .before .before .before .before .copy-column .ensures) (c .before .taken-counts .ensures) (c .taken-book .ensures ∙ ap (takenBook (a .book)) noted)
+    let b = d .next-batch in
+    take-accepted l (s .pre) (a .buffer .now) (d .before .arrived .result) (b .result .count) (d .before .arrived .ensures) (b .ensures .0)
+    f (b .result .bytes) (b .ensures .1) (b .ensures .2) (omega (arith, c .before .before .before .before .before .before .if1 .left))
+    _ _ _ (c .before .before .before .before .copy-column .ensures) (c .before .taken-counts .ensures) (c .taken-book .ensures)
 
 pub take-doomed-spec : {M : Type 1} → statement M
 take-doomed-spec =
