@@ -6,5 +6,5 @@ use Rattle.layout.specs.Calls.{Told, refusal, answer}
 use Rattle.destruction.specs.declared.answer.DrainAnswer.{DrainAnswer}
 
 -- how many views, or 01's number of a refusal
-abbrev pub drained : DrainAnswer → Told ℕ
-drained r = cond (eqb (r .outcome) 0) (answer (r .count)) (refusal (r .outcome))
+abbrev pub toldCount : DrainAnswer → Told ℕ
+toldCount r = cond (eqb (r .outcome) 0) (answer (r .count)) (refusal (r .outcome))

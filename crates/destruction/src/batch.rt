@@ -48,7 +48,8 @@ fn paced(a: [u64; 8], n: u64) -> u64
 
 // The bytes of the first k versions of the ring.
 fn bytes_of(doomed: &[u64], cap: usize, first: usize, k: usize) -> u64
-    requires { ⌜ (2 * cap ≤ length (now doomed)) × (first < cap) × (k ≤ cap) × (doomedBytes (doomedEntries cap first (now doomed) k) < 2 ^ 64) ⌝ }
+    requires { ⌜ (2 * cap ≤ length (now doomed)) × (first < cap) × (k ≤ cap)
+        × (doomedBytes (doomedEntries cap first (now doomed) k) < 2 ^ 64) ⌝ }
     ensures { λ r. ⌜ r ≡ doomedBytes (doomedEntries cap first (now (doomed .entry)) k) ⌝ }
 {
     let mut sum = 0;
@@ -63,8 +64,10 @@ fn bytes_of(doomed: &[u64], cap: usize, first: usize, k: usize) -> u64
 
 // The first `least` of the n versions of the ring, and more until their bytes cover the excess.
 fn covering(doomed: &[u64], cap: usize, first: usize, n: usize, least: usize, excess: u64) -> Batch
-    requires { ⌜ (2 * cap ≤ length (now doomed)) × (first < cap) × (n ≤ cap) × (least ≤ n) × (doomedBytes (doomedEntries cap first (now doomed) n) < 2 ^ 64) ⌝ }
-    ensures { λ r. ⌜ (r .count ≡ batchOf least excess (doomedEntries cap first (now (doomed .entry)) n)) × (r .count ≤ n) × (r .bytes ≡ doomedBytes (doomedEntries cap first (now (doomed .entry)) (r .count))) ⌝ }
+    requires { ⌜ (2 * cap ≤ length (now doomed)) × (first < cap) × (n ≤ cap) × (least ≤ n)
+        × (doomedBytes (doomedEntries cap first (now doomed) n) < 2 ^ 64) ⌝ }
+    ensures { λ r. ⌜ (r .count ≡ batchOf least excess (doomedEntries cap first (now (doomed .entry)) n)) × (r .count ≤ n)
+        × (r .bytes ≡ doomedBytes (doomedEntries cap first (now (doomed .entry)) (r .count))) ⌝ }
 {
     let mut count = least;
     let mut bytes = bytes_of(doomed, cap, first, least);
@@ -88,8 +91,10 @@ pub fn next_batch(
     arrivals: [u64; 8],
     excess: u64,
 ) -> Batch
-    requires { ⌜ (2 * cap ≤ length (now doomed)) × (first < cap) × (n ≤ cap) × (cap ≤ 4096) × (total (λ (n : ℕ). n) arrivals ≤ 32768) × (doomedBytes (doomedEntries cap first (now doomed) n) < 2 ^ 64) ⌝ }
-    ensures { λ r. ⌜ (r .count ≡ batchOf (pacedOf arrivals n) excess (doomedEntries cap first (now (doomed .entry)) n)) × (r .count ≤ n) × (r .bytes ≡ doomedBytes (doomedEntries cap first (now (doomed .entry)) (r .count))) ⌝ }
+    requires { ⌜ (2 * cap ≤ length (now doomed)) × (first < cap) × (n ≤ cap) × (cap ≤ 4096) × (total (λ (n : ℕ). n) arrivals ≤ 32768)
+        × (doomedBytes (doomedEntries cap first (now doomed) n) < 2 ^ 64) ⌝ }
+    ensures { λ r. ⌜ (r .count ≡ batchOf (pacedOf arrivals n) excess (doomedEntries cap first (now (doomed .entry)) n)) × (r .count ≤ n)
+        × (r .bytes ≡ doomedBytes (doomedEntries cap first (now (doomed .entry)) (r .count))) ⌝ }
 {
     let least = paced(arrivals, n as u64) as usize;
     covering(doomed, cap, first, n, least, excess)

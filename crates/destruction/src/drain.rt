@@ -8,7 +8,7 @@ ghost use Rattle.layout.specs.Lent.{lent};
 ghost use Rattle.layout.specs.Reading.{handPlaces};
 ghost use Rattle.layout.specs.IsPool.{isPool};
 ghost use Rattle.layout.specs.Calls.{drainVersionsCall};
-ghost use Rattle.destruction.specs.Answer.{drained};
+ghost use Rattle.destruction.specs.Answer.{toldCount};
 ghost use Rattle.destruction.specs.Drained.{drainedViews, drainedCounts, drainedBook, cleared};
 use crate::answer::DrainAnswer;
 use crate::views::copy_column;
@@ -35,9 +35,11 @@ fn copy_views(
     spares: &[u64],
     buffer: &mut [u64],
 )
-    requires { ⌜ (7 * places ≤ length (now retiring)) × (2 * places ≤ length (now doomed)) × (3 * places ≤ length (now spares)) × (pool .head < places) × (pool .first < places)
-        × (pool .queued + handPlaces (pool .popped) + pool .kept + pool .doomed ≤ places) × (pool .queued + pool .doomed + pool .kept ≤ length (now buffer)) ⌝ }
-    ensures { λ _. ⌜ now (buffer .exit) ≡ over (drainedViews pool places (now (retiring .entry)) (now (doomed .entry)) (now (spares .entry))) (now (buffer .entry)) ⌝ }
+    requires { ⌜ (7 * places ≤ length (now retiring)) × (2 * places ≤ length (now doomed)) × (3 * places ≤ length (now spares))
+        × (pool .head < places) × (pool .first < places) × (pool .queued + handPlaces (pool .popped) + pool .kept + pool .doomed ≤ places)
+        × (pool .queued + pool .doomed + pool .kept ≤ length (now buffer)) ⌝ }
+    ensures { λ _. ⌜ now (buffer .exit)
+        ≡ over (drainedViews pool places (now (retiring .entry)) (now (doomed .entry)) (now (spares .entry))) (now (buffer .entry)) ⌝ }
 {
     let queued = pool.queued;
     let waiting = pool.doomed;
@@ -117,8 +119,16 @@ pub fn drain_versions(
     buffer: &mut [u64],
 ) -> DrainAnswer
     requires { ⌜ isPool (lent pool book (now textures) (now retiring) (now doomed) (now spares) (now newest) (now stamps)) ≡ true ⌝ }
-    ensures { λ r. ⌜ (drained r, (now (buffer .exit), lent (r .pool) (r .book) (now (textures .exit)) (now (retiring .entry)) (now (doomed .entry)) (now (spares .entry)) (now (newest .entry)) (now (stamps .entry))))
-        ≡ drainVersionsCall (lent pool book (now (textures .entry)) (now (retiring .entry)) (now (doomed .entry)) (now (spares .entry)) (now (newest .entry)) (now (stamps .entry))) (now (buffer .entry)) ⌝ }
+    ensures { λ r. ⌜ (
+      toldCount r,
+      (
+        now (buffer .exit),
+        lent (r .pool) (r .book) (now (textures .exit)) (now (retiring .entry)) (now (doomed .entry)) (now (spares .entry)) (now (newest .entry)) (now (stamps .entry)),
+      ),
+    )
+        ≡ drainVersionsCall
+        (lent pool book (now (textures .entry)) (now (retiring .entry)) (now (doomed .entry)) (now (spares .entry)) (now (newest .entry)) (now (stamps .entry)))
+        (now (buffer .entry)) ⌝ }
 {
     let places = retiring.len() / 7;
     let count = pool.queued + pool.doomed + pool.kept;

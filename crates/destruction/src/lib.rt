@@ -7,8 +7,6 @@ mod take;
 mod views;
 
 pub use answer::DrainAnswer;
-pub use batch::Batch;
 pub use drain::drain_versions;
 pub use given::push_spares;
 pub use take::take_doomed;
-pub use views::copy_column;

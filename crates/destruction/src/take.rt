@@ -5,7 +5,7 @@ ghost use Prim.Native.Nat.{_≤_, _<_};
 ghost use Rattle.layout.specs.Lent.{lent};
 ghost use Rattle.layout.specs.IsPool.{isPool};
 ghost use Rattle.layout.specs.Calls.{takeDoomedCall};
-ghost use Rattle.destruction.specs.Answer.{drained};
+ghost use Rattle.destruction.specs.Answer.{toldCount};
 ghost use Rattle.destruction.specs.Taken.{takenCounts, takenBook};
 use crate::answer::DrainAnswer;
 use crate::batch::Batch;
@@ -55,8 +55,16 @@ pub fn take_doomed(
     buffer: &mut [u64],
 ) -> DrainAnswer
     requires { ⌜ isPool (lent pool book (now textures) (now retiring) (now doomed) (now spares) (now newest) (now stamps)) ≡ true ⌝ }
-    ensures { λ r. ⌜ (drained r, (now (buffer .exit), lent (r .pool) (r .book) (now (textures .entry)) (now (retiring .entry)) (now (doomed .entry)) (now (spares .entry)) (now (newest .entry)) (now (stamps .entry))))
-        ≡ takeDoomedCall (lent pool book (now (textures .entry)) (now (retiring .entry)) (now (doomed .entry)) (now (spares .entry)) (now (newest .entry)) (now (stamps .entry))) (now (buffer .entry)) ⌝ }
+    ensures { λ r. ⌜ (
+      toldCount r,
+      (
+        now (buffer .exit),
+        lent (r .pool) (r .book) (now (textures .entry)) (now (retiring .entry)) (now (doomed .entry)) (now (spares .entry)) (now (newest .entry)) (now (stamps .entry)),
+      ),
+    )
+        ≡ takeDoomedCall
+        (lent pool book (now (textures .entry)) (now (retiring .entry)) (now (doomed .entry)) (now (spares .entry)) (now (newest .entry)) (now (stamps .entry)))
+        (now (buffer .entry)) ⌝ }
 {
     let places = retiring.len() / 7;
     let first = pool.first;
