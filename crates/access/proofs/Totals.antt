@@ -1,7 +1,7 @@
 -- Laws of a sum over the first records of a table. Assumes nothing.
-use mathlib.Core.Path.{_≡_, refl, sym, ap, _∙_}
-use mathlib.Core.List.{List, [], _∷_, _++_}
-use Prim.Native.Nat.{ℕ, suc, _+_, _≤_, _<_}
+use mathlib.Core.Path.{_≡_, refl, ap, _∙_}
+use mathlib.Core.List.{List, [], _∷_}
+use Prim.Native.Nat.{ℕ, _+_, _≤_, _<_}
 use native.Mathlib.Numerals.{add-one}
 use native.Mathlib.Nat.{zero-add, add-zero}
 use native.Mathlib.Omega.{arith}
@@ -20,10 +20,11 @@ module _ {ℓ} {A : Type ℓ} (w : ℕ) (rd : List ℕ → A) (f : A → ℕ) (s
   pub total-next : (i : ℕ) → total f (table w rd (i + 1) s) ≡ total f (table w rd i s) + f (recordAt w rd s i)
   unfolding table total
   total-next i =
-      ap (λ (k : ℕ). total f (listed (recordAt w rd s) 0 k)) (add-one i)
-      ∙ ap (total f) (listed-more (recordAt w rd s) 0 i)
-      ∙ total-append f (listed (recordAt w rd s) 0 i) (recordAt w rd s (0 + i) ∷ [])
-      ∙ ap (λ (k : ℕ). total f (listed (recordAt w rd s) 0 i) + k) (add-zero (f (recordAt w rd s (0 + i))) ∙ ap (λ (k : ℕ). f (recordAt w rd s k)) (zero-add i))
+      let rec = recordAt w rd s in
+      ap (λ (k : ℕ). total f (listed rec 0 k)) (add-one i)
+      ∙ ap (total f) (listed-more rec 0 i)
+      ∙ total-append f (listed rec 0 i) (rec (0 + i) ∷ [])
+      ∙ ap (λ (k : ℕ). total f (listed rec 0 i) + k) (add-zero (f (rec (0 + i))) ∙ ap (λ (k : ℕ). f (rec k)) (zero-add i))
 
   -- the sum of the first i, and that of those from i on
   pub total-split : (i n : ℕ) → i ≤ n → total f (table w rd n s) ≡ total f (table w rd i s) + total f (left (recordAt w rd s) n i)

@@ -18,7 +18,8 @@ abbrev pub noGrid : StampGrid
 noGrid = record { newest = 0; stamps = [] }
 
 -- each grid is that of its slice and level
-pub grid-of : (s : VersionShape) (h : WriteHistory) → HistoryFormed s h → (i : ℕ) → i < length (h .grids) → GridFormed (tilingOf s (i % s .levels)) (h .writes) (getD (h .grids) i noGrid)
+pub grid-of : (s : VersionShape) (h : WriteHistory) → HistoryFormed s h → (i : ℕ) → i < length (h .grids)
+    → GridFormed (tilingOf s (i % s .levels)) (h .writes) (getD (h .grids) i noGrid)
 unfolding gridAt
 grid-of s h f i k =
     let a = tile-at (s .levels) (slicesOf s) i (omega (arith, f .size, mul-comm (s .levels) (slicesOf s))) in

@@ -4,14 +4,14 @@ use mathlib.Core.Bool.{Bool, true, false, cond, _&&_}
 use mathlib.Core.Option.{Option, none, some}
 use mathlib.Core.List.{List, [], _∷_, _++_, map, flatMap}
 use Prim.Native.Nat.{ℕ, zero, suc, _+_, _*_, _%_, _<_}
-use native.Mathlib.Nat.{add-zero, zero-add, add-assoc, mul-add, mul-zero}
+use native.Mathlib.Nat.{add-zero, zero-add, add-assoc, mul-zero}
 use native.Mathlib.Omega.{arith}
 use borrow.Author.Tests.{eqb-true, ne-eqb, eq-eqb}
 use lib.Dec.{eqb}
-use lib.ListN.{length, take, drop, getD, take-append-drop, length-drop}
-use lib.Seq.{take-add, drop-drop, getD-take, getD-drop, take-take}
+use lib.ListN.{length, take, drop, getD, take-append-drop, set}
+use lib.Seq.{take-add, drop-drop, map-set-same}
 use Rattle.blocks.specs.Lists.{listed, total, ascending}
-use Rattle.blocks.proofs.Lists.{over-self, and-both, ascending-get, total-append}
+use Rattle.blocks.proofs.Lists.{over-self, and-both, ascending-get}
 use Rattle.shapes.specs.declared.shape.VersionShape.{VersionShape}
 use Rattle.shapes.specs.Shapes.{sameShape}
 use Rattle.shapes.proofs.Shapes.{same-self}
@@ -24,20 +24,21 @@ use Rattle.records.specs.Find.{idOf}
 use Rattle.layout.specs.Lent.{Lent}
 use Rattle.layout.specs.Reading.{trackedRecords, pageAt, gridRead, historyRead, recordedPages, stateRead, modelOf}
 use Rattle.layout.specs.Writing.{gridsOf, firstPage, pageBefore, pagesFrom, pagesAfter, newestOf}
+use Rattle.layout.proofs.Parts.{flat-mapped, total-mapped, Stands, stands-whole, stands-take, stands-drop}
 use Rattle.layout.proofs.Runs.{firstSpare, firstPageOf, pages-state, stateOf, tracked-records, tracked-model, model-at, id-model, take-states, pages-states}
 
 -- ---- the first page of a texture
 
 module _ (id : ℕ) (shape : VersionShape) where
-  abbrev pub Here : VersionState ℕ → Bool
-  Here t = eqb (t .id) id && sameShape (t .shape) shape && hasHistory (t .history)
+  abbrev pub isHere : VersionState ℕ → Bool
+  isHere t = eqb (t .id) id && sameShape (t .shape) shape && hasHistory (t .history)
 
-  pub not-here : (t : VersionState ℕ) → (t .id ≡ id → ⊥) → Here t ≡ false
+  pub not-here : (t : VersionState ℕ) → (t .id ≡ id → ⊥) → isHere t ≡ false
   not-here t h = rw (ne-eqb (t .id) id h)
 
   -- the first that has that id, shape and a history
-  pub first-page : (xs : List (VersionState ℕ)) (page i : ℕ) (d : VersionState ℕ) → i < length xs → ((j : ℕ) → j < i → Here (getD xs j d) ≡ false)
-      → Here (getD xs i d) ≡ true → firstPage id shape page xs ≡ some (page + total pagesUsed (take i xs))
+  pub first-page : (xs : List (VersionState ℕ)) (page i : ℕ) (d : VersionState ℕ) → i < length xs → ((j : ℕ) → j < i → isHere (getD xs j d) ≡ false)
+      → isHere (getD xs i d) ≡ true → firstPage id shape page xs ≡ some (page + total pagesUsed (take i xs))
   unfolding firstPage total
   first-page [] page i d h apart here = absurd (let y : ⊥ = omega arith in y)
   first-page (x ∷ xs) page zero d h apart here = rw here (ap some (sym (add-zero page)))
@@ -46,54 +47,13 @@ module _ (id : ℕ) (shape : VersionShape) where
       ∙ first-page xs (page + pagesUsed x) i d (omega arith) (λ j q. apart (suc j) (omega arith)) here
       ∙ ap some (add-assoc page (pagesUsed x) (total pagesUsed (take i xs)))
 
-  pub no-page : (xs : List (VersionState ℕ)) (page : ℕ) (d : VersionState ℕ) → ((j : ℕ) → j < length xs → Here (getD xs j d) ≡ false)
+  pub no-page : (xs : List (VersionState ℕ)) (page : ℕ) (d : VersionState ℕ) → ((j : ℕ) → j < length xs → isHere (getD xs j d) ≡ false)
       → firstPage id shape page xs ≡ none
   unfolding firstPage
   no-page [] page d apart = refl
   no-page (x ∷ xs) page d apart =
       ap (λ (b : Bool). cond b (some page) (firstPage id shape (page + pagesUsed x) xs)) (apart 0 (omega arith))
       ∙ no-page xs (page + pagesUsed x) d (λ j q. apart (suc j) (omega arith))
-
--- ---- runs of a list that stand one behind the other
-
-length-take-some {ℓ} : {A : Type ℓ} (i : ℕ) (xs : List A) (j : ℕ) → j < length (take i xs) → (j < i) × (j < length xs)
-length-take-some zero xs j h = absurd (let y : ⊥ = omega arith in y)
-length-take-some (suc i) [] j h = absurd (let y : ⊥ = omega arith in y)
-length-take-some (suc i) (x ∷ xs) zero h = (omega arith, omega arith)
-length-take-some (suc i) (x ∷ xs) (suc j) h = let k = length-take-some i xs j (omega arith) in (omega (arith, k .0), omega (arith, k .1))
-
-module _ {A : Type 0} (f : A → List ℕ) (w : A → ℕ) (c : ℕ) (s : List ℕ) (d : A) where
-  -- from c * at on, each has its run of c * w numbers
-  abbrev pub Stands : ℕ → List A → Type 0
-  Stands at xs = (j : ℕ) → j < length xs → f (getD xs j d) ≡ take (c * w (getD xs j d)) (drop (c * (at + total w (take j xs))) s)
-
-  pub stands-whole : (at : ℕ) (xs : List A) → Stands at xs → flatMap f xs ≡ take (c * total w xs) (drop (c * at) s)
-  unfolding flatMap total
-  stands-whole at [] h = sym (ap (λ (k : ℕ). take k (drop (c * at) s)) (mul-zero c))
-  stands-whole at (x ∷ xs) h =
-      ap₂ (λ (a b : List ℕ). a ++ b)
-      (h 0 (omega arith) ∙ ap (λ (k : ℕ). take (c * w x) (drop (c * k) s)) (add-zero at))
-      (stands-whole (at + w x) xs
-      (λ j q. h (suc j) (omega arith) ∙ ap (λ (k : ℕ). take (c * w (getD xs j d)) (drop (c * k) s)) (sym (add-assoc at (w x) (total w (take j xs)))))
-      ∙ ap (take (c * total w xs)) (ap (λ (k : ℕ). drop k s) (mul-add c at (w x)) ∙ sym (drop-drop (c * w x) (c * at) s)))
-      ∙ sym (take-add (c * w x) (c * total w xs) (drop (c * at) s))
-      ∙ ap (λ (k : ℕ). take k (drop (c * at) s)) (sym (mul-add c (w x) (total w xs)))
-
-  pub stands-take : (at i : ℕ) (xs : List A) → Stands at xs → Stands at (take i xs)
-  stands-take at i xs h j q =
-      let k = length-take-some i xs j q in
-      ap f (getD-take i xs j d (k .0))
-      ∙ h j (k .1)
-      ∙ ap₂ (λ (x : A) (ys : List A). take (c * w x) (drop (c * (at + total w ys)) s)) (sym (getD-take i xs j d (k .0))) (sym (take-take j i xs (omega (arith, k .0))))
-
-  pub stands-drop : (at i : ℕ) (xs : List A) → Stands at xs → Stands (at + total w (take i xs)) (drop i xs)
-  stands-drop at i xs h j q =
-      let e : at + total w (take (i + j) xs) ≡ at + total w (take i xs) + total w (take j (drop i xs)) =
-      ap (λ (n : ℕ). at + n) (ap (total w) (take-add i j xs) ∙ total-append w (take i xs) (take j (drop i xs)))
-      ∙ sym (add-assoc at (total w (take i xs)) (total w (take j (drop i xs)))) in
-      ap f (getD-drop i xs j d)
-      ∙ h (i + j) (omega (arith, q, length-drop i xs))
-      ∙ ap₂ (λ (x : A) (n : ℕ). take (c * w x) (drop (c * n) s)) (sym (getD-drop i xs j d)) e
 
 -- ---- a texture's pages
 
@@ -109,7 +69,8 @@ module _ (l : Lent) where
       ap₂ (λ (a b : List ℕ). a ++ b)
       (over-self (take c old) old (drop c old) (sym (take-append-drop c old)))
       (pages-read s page (suc k) n
-      ∙ ap (take (1024 * n)) (ap (λ (m : ℕ). drop m (l .stamps)) (let e : 1024 * (page + suc k) ≡ at + 1024 = omega arith in e) ∙ sym (drop-drop 1024 at (l .stamps))))
+      ∙ ap (take (1024 * n))
+      (ap (λ (m : ℕ). drop m (l .stamps)) (let e : 1024 * (page + suc k) ≡ at + 1024 = omega arith in e) ∙ sym (drop-drop 1024 at (l .stamps))))
       ∙ sym (take-add 1024 (1024 * n) (drop at (l .stamps)))
       ∙ ap (λ (m : ℕ). take m (drop at (l .stamps))) (let e : 1024 + 1024 * n ≡ 1024 * suc n = omega arith in e)
 
@@ -122,8 +83,9 @@ module _ (l : Lent) where
       ∙ pages-read s page 0 (pagesOf s)
       ∙ ap (λ (m : ℕ). take (1024 * pagesOf s) (drop (1024 * m) (l .stamps))) (add-zero page)
 
-  pages-of : (i : ℕ) (found : Option ℕ) → (hasHistory (stateOf l i .history) ≡ true → found ≡ some (firstPageOf l i))
-      → pagesFrom (pageBefore l found) 0 (gridsOf (stateOf l i .history)) ≡ take (1024 * pagesUsed (stateOf l i)) (drop (1024 * firstPageOf l i) (l .stamps))
+  pub pages-of : (i : ℕ) (found : Option ℕ) → (hasHistory (stateOf l i .history) ≡ true → found ≡ some (firstPageOf l i))
+      → pagesFrom (pageBefore l found) 0 (gridsOf (stateOf l i .history))
+      ≡ take (1024 * pagesUsed (stateOf l i)) (drop (1024 * firstPageOf l i) (l .stamps))
   unfolding stateOf stateRead
   pages-of i found e =
       let t = getD (trackedRecords l) i (readTexture []) in
@@ -139,9 +101,15 @@ module _ (l : Lent) where
     -- no other texture has its id
     pub apart : (i j : ℕ) → j < i → i < l .pool .tracked → getD (modelOf l .textures) j d .id < getD (modelOf l .textures) i d .id
     apart i j h k =
-        omega (arith, id-model l i d k, id-model l j d (omega arith), ascending-get idOf (trackedRecords l) j i (readTexture []) up h (omega (arith, tracked-records l)))
+        omega (
+          arith,
+          id-model l i d k,
+          id-model l j d (omega arith),
+          ascending-get idOf (trackedRecords l) j i (readTexture []) up h
+              (omega (arith, tracked-records l)),
+        )
 
-    found-at : (i : ℕ) → i < l .pool .tracked → (id : ℕ) (shape : VersionShape) → Here id shape (getD (modelOf l .textures) i d) ≡ true
+    pub found-at : (i : ℕ) → i < l .pool .tracked → (id : ℕ) (shape : VersionShape) → isHere id shape (getD (modelOf l .textures) i d) ≡ true
         → firstPage id shape 0 (modelOf l .textures) ≡ some (firstPageOf l i)
     found-at i h id shape here =
         let e = eqb-true (getD (modelOf l .textures) i d .id) id (and-both _ _ (and-both _ _ here .0) .0) in
@@ -149,7 +117,7 @@ module _ (l : Lent) where
         (λ j q. not-here id shape (getD (modelOf l .textures) j d) (λ f. let y : ⊥ = omega (arith, e, f, apart i j q h) in y)) here
         ∙ ap some (zero-add _ ∙ page-of i)
 
-    here-at : (i : ℕ) → hasHistory (stateOf l i .history) ≡ true → Here (stateOf l i .id) (stateOf l i .shape) (stateOf l i) ≡ true
+    here-at : (i : ℕ) → hasHistory (stateOf l i .history) ≡ true → isHere (stateOf l i .id) (stateOf l i .shape) (stateOf l i) ≡ true
     here-at i e = rw (eq-eqb (stateOf l i .id) (stateOf l i .id) refl, same-self (stateOf l i .shape), e)
 
     -- texture i keeps its run of pages
@@ -157,14 +125,16 @@ module _ (l : Lent) where
         → pagesAfter l (stateOf l i) ≡ take (1024 * pagesUsed (stateOf l i)) (drop (1024 * firstPageOf l i) (l .stamps))
     unfolding pagesAfter
     pages-kept i h = pages-of i (firstPage (stateOf l i .id) (stateOf l i .shape) 0 (modelOf l .textures))
-        (λ e. found-at i h (stateOf l i .id) (stateOf l i .shape) (ap (Here (stateOf l i .id) (stateOf l i .shape)) (model-at l i d h) ∙ here-at i e))
+        (λ e. found-at i h (stateOf l i .id) (stateOf l i .shape)
+        (ap (isHere (stateOf l i .id) (stateOf l i .shape)) (model-at l i d h) ∙ here-at i e))
 
     pub pages-stand : Stands (pagesAfter l) pagesUsed 1024 (l .stamps) d 0 (modelOf l .textures)
     pages-stand i h =
         let k : i < l .pool .tracked = omega (arith, tracked-model l) in
         ap (pagesAfter l) (model-at l i d k)
         ∙ pages-kept i k
-        ∙ ap₂ (λ (t : VersionState ℕ) (n : ℕ). take (1024 * pagesUsed t) (drop (1024 * n) (l .stamps))) (sym (model-at l i d k)) (sym (zero-add _ ∙ page-of i))
+        ∙ ap₂ (λ (t : VersionState ℕ) (n : ℕ). take (1024 * pagesUsed t) (drop (1024 * n) (l .stamps))) (sym (model-at l i d k))
+        (sym (zero-add _ ∙ page-of i))
 
     -- all the textures' pages, those before texture i and those from it on
     pub pages-all : flatMap (pagesAfter l) (modelOf l .textures) ≡ take (1024 * total pagesUsed (modelOf l .textures)) (l .stamps)
@@ -177,7 +147,8 @@ module _ (l : Lent) where
         ∙ ap (λ (n : ℕ). take (1024 * n) (l .stamps)) (page-of i)
 
     pub pages-from : (i : ℕ)
-        → flatMap (pagesAfter l) (drop i (modelOf l .textures)) ≡ take (1024 * total pagesUsed (drop i (modelOf l .textures))) (drop (1024 * firstPageOf l i) (l .stamps))
+        → flatMap (pagesAfter l) (drop i (modelOf l .textures))
+        ≡ take (1024 * total pagesUsed (drop i (modelOf l .textures))) (drop (1024 * firstPageOf l i) (l .stamps))
     pages-from i =
         stands-whole (pagesAfter l) pagesUsed 1024 (l .stamps) d (0 + total pagesUsed (take i (modelOf l .textures))) (drop i (modelOf l .textures))
         (stands-drop (pagesAfter l) pagesUsed 1024 (l .stamps) d 0 i (modelOf l .textures) pages-stand)
@@ -197,28 +168,23 @@ pagedOf t = record { id = t .id; shape = t .shape; history = t .history }
 abbrev pagesIn : Lent → Paged → List ℕ
 pagesIn l t = pagesFrom (pageBefore l (firstPage (t .id) (t .shape) 0 (modelOf l .textures))) 0 (gridsOf (t .history))
 
-pub flat-mapped : {A B C : Type 0} (g : B → List C) (f : A → B) (xs : List A) → flatMap (λ (x : A). g (f x)) xs ≡ flatMap g (map f xs)
-unfolding flatMap
-flat-mapped g f [] = refl
-flat-mapped {C = C} g f (x ∷ xs) = ap (λ (ys : List C). g (f x) ++ ys) (flat-mapped g f xs)
-
 pub pages-paged : (l : Lent) (ts us : List (VersionState ℕ)) → map pagedOf ts ≡ map pagedOf us → flatMap (pagesAfter l) ts ≡ flatMap (pagesAfter l) us
 unfolding pagesAfter
-pages-paged l ts us e = flat-mapped (pagesIn l) pagedOf ts ∙ ap (flatMap (pagesIn l)) e ∙ sym (flat-mapped (pagesIn l) pagedOf us)
+pages-paged l ts us e = flat-mapped pagedOf (pagesIn l) ts ∙ ap (flatMap (pagesIn l)) e ∙ sym (flat-mapped pagedOf (pagesIn l) us)
 
 abbrev newestIn : Paged → List ℕ
 newestIn t = map (λ (g : StampGrid). g .newest) (gridsOf (t .history))
 
 pub newest-paged : (ts us : List (VersionState ℕ)) → map pagedOf ts ≡ map pagedOf us → flatMap newestOf ts ≡ flatMap newestOf us
-newest-paged ts us e = flat-mapped newestIn pagedOf ts ∙ ap (flatMap newestIn) e ∙ sym (flat-mapped newestIn pagedOf us)
-
-total-mapped : {A B : Type 0} (g : B → ℕ) (f : A → B) (xs : List A) → total (λ (x : A). g (f x)) xs ≡ total g (map f xs)
-unfolding total
-total-mapped g f [] = refl
-total-mapped g f (x ∷ xs) = ap (λ (n : ℕ). g (f x) + n) (total-mapped g f xs)
+newest-paged ts us e = flat-mapped pagedOf newestIn ts ∙ ap (flatMap newestIn) e ∙ sym (flat-mapped pagedOf newestIn us)
 
 abbrev usedIn : Paged → ℕ
 usedIn t = cond (hasHistory (t .history)) (pagesOf (t .shape)) 0
 
 pub used-paged : (ts us : List (VersionState ℕ)) → map pagedOf ts ≡ map pagedOf us → total pagesUsed ts ≡ total pagesUsed us
-used-paged ts us e = total-mapped usedIn pagedOf ts ∙ ap (total usedIn) e ∙ sym (total-mapped usedIn pagedOf us)
+used-paged ts us e = total-mapped pagedOf usedIn ts ∙ ap (total usedIn) e ∙ sym (total-mapped pagedOf usedIn us)
+
+-- a texture whose id, shape and history stay
+pub paged-set : (l : Lent) (i : ℕ) (t : VersionState ℕ) → i < l .pool .tracked → pagedOf t ≡ pagedOf (stateOf l i)
+    → map pagedOf (set (modelOf l .textures) i t) ≡ map pagedOf (modelOf l .textures)
+paged-set l i t h e = map-set-same pagedOf (modelOf l .textures) i t (stateOf l 0) (e ∙ sym (ap pagedOf (model-at l i (stateOf l 0) h)))

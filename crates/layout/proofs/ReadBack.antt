@@ -60,7 +60,8 @@ module _ (l : Lent) (p : Pool ℕ) (fits : Fits l) (formed : Formed p) (same : p
   unfolding texturesAfter
   textures-kept = length-over _ (l .textures) (omega (arith, length-textures, fits .textures, texture-room))
 
-  length-spares : length (flat writeSpare (map spareRecord (everySpare (p .textures)))) ≡ 3 * total (λ (t : VersionState ℕ). length (t .spares)) (p .textures)
+  length-spares : length (flat writeSpare (map spareRecord (everySpare (p .textures))))
+      ≡ 3 * total (λ (t : VersionState ℕ). length (t .spares)) (p .textures)
   length-spares =
       length-flat spare-codec (map spareRecord (everySpare (p .textures)))
       ∙ ap (λ (n : ℕ). 3 * n) (length-map (everySpare (p .textures)) spareRecord ∙ length-every-spare (p .textures))
@@ -75,7 +76,9 @@ module _ (l : Lent) (p : Pool ℕ) (fits : Fits l) (formed : Formed p) (same : p
 
   stamps-kept : length (stampsAfter p l) ≡ length (l .stamps)
   unfolding stampsAfter
-  stamps-kept = length-over _ (l .stamps) (omega (arith, length-new-pages l (fits .stamps) pages-before (p .textures) (formed .textures), page-room, fits .stamps))
+  stamps-kept =
+      length-over _ (l .stamps)
+      (omega (arith, length-new-pages l (fits .stamps) pages-before (p .textures) (formed .textures), page-room, fits .stamps))
 
   retiring-kept : length (retiringAfter p l) ≡ length (l .retiring)
   unfolding retiringAfter
@@ -146,7 +149,8 @@ module _ (l : Lent) (p : Pool ℕ) (fits : Fits l) (formed : Formed p) (same : p
 
   doomed-read-back : listed (doomedRead (after p l)) 0 (length (p .doomed)) ≡ p .doomed
   doomed-read-back =
-      doomed-back (after p l) (l .doomed) (omega (arith, versions-kept, fits .doomed)) ring-first (p .doomed) (omega (arith, version-room, versions-kept)) destroy-laid-back
+      doomed-back (after p l) (l .doomed) (omega (arith, versions-kept, fits .doomed)) ring-first (p .doomed)
+      (omega (arith, version-room, versions-kept)) destroy-laid-back
 
   -- ---- the whole pool
 

@@ -67,8 +67,9 @@ module _ (before : ℕ → List ℕ) where
 
 -- ---- a history
 
-module _ (m : Lent) (s : VersionShape) (page : ℕ) (h : WriteHistory) (formed : HistoryFormed s h) (before : ℕ → List ℕ) (whole : Whole before 0 (h .grids))
-    (others rest : List ℕ) (newests : drop page (m .newest) ≡ map (λ (g : StampGrid). g .newest) (h .grids) ++ others)
+module _ (m : Lent) (s : VersionShape) (page : ℕ) (h : WriteHistory) (formed : HistoryFormed s h) (before : ℕ → List ℕ)
+    (whole : Whole before 0 (h .grids)) (others rest : List ℕ)
+    (newests : drop page (m .newest) ≡ map (λ (g : StampGrid). g .newest) (h .grids) ++ others)
     (pages : drop (1024 * page) (m .stamps) ≡ pagesFrom before 0 (h .grids) ++ rest) where
   newest-back : (k : ℕ) → k < length (h .grids) → getD (m .newest) (page + k) 0 ≡ getD (h .grids) k noGrid .newest
   newest-back k q =
@@ -78,7 +79,8 @@ module _ (m : Lent) (s : VersionShape) (page : ℕ) (h : WriteHistory) (formed :
       ∙ List·getD-append (map f (h .grids)) others 0 k (omega (arith, length-map (h .grids) f))
       ∙ List·getD-map f (h .grids) k noGrid
 
-  stamps-back : (k : ℕ) → k < length (h .grids) → take (stampCount (tilingOf s (k % s .levels))) (pageAt (m .stamps) (page + k)) ≡ getD (h .grids) k noGrid .stamps
+  stamps-back : (k : ℕ) → k < length (h .grids)
+      → take (stampCount (tilingOf s (k % s .levels))) (pageAt (m .stamps) (page + k)) ≡ getD (h .grids) k noGrid .stamps
   stamps-back k q =
       let g = getD (h .grids) k noGrid in
       let n = stampCount (tilingOf s (k % s .levels)) in
@@ -108,13 +110,15 @@ pub first-within : (id : ℕ) (s : VersionShape) (page q : ℕ) (ts : List (Vers
     → q + pagesOf s ≤ page + total pagesUsed ts
 unfolding firstPage total
 first-within id s page q [] e = absurd (Option·none-ne-some q e)
-first-within id s page q (t ∷ ts) e = go (eqb (t .id) id && sameShape (t .shape) s && hasHistory (t .history)) refl e (first-within id s (page + pagesUsed t) q ts)
+first-within id s page q (t ∷ ts) e =
+    go (eqb (t .id) id && sameShape (t .shape) s && hasHistory (t .history)) refl e (first-within id s (page + pagesUsed t) q ts)
   where
     own : (h : Option WriteHistory) → hasHistory h ≡ true → t .shape ≡ s → cond (hasHistory h) (pagesOf (t .shape)) 0 ≡ pagesOf s
     own none x y = absurd (true≢false (sym x))
     own (some h) x y = ap pagesOf y
 
-    go : (b : Bool) → (eqb (t .id) id && sameShape (t .shape) s && hasHistory (t .history)) ≡ b → cond b (some page) (firstPage id s (page + pagesUsed t) ts) ≡ some q
+    go : (b : Bool) → (eqb (t .id) id && sameShape (t .shape) s && hasHistory (t .history)) ≡ b
+        → cond b (some page) (firstPage id s (page + pagesUsed t) ts) ≡ some q
         → (firstPage id s (page + pagesUsed t) ts ≡ some q → q + pagesOf s ≤ page + pagesUsed t + total pagesUsed ts)
         → q + pagesOf s ≤ page + (pagesUsed t + total pagesUsed ts)
     go true x y r =
@@ -126,7 +130,8 @@ first-within id s page q (t ∷ ts) e = go (eqb (t .id) id && sameShape (t .shap
     go false x y r = omega (arith, r y)
 
 module _ (l : Lent) (paged : 1024 * length (l .newest) ≡ length (l .stamps)) (s : VersionShape) where
-  length-before : (o : Option ℕ) → ((q : ℕ) → o ≡ some q → q + pagesOf s ≤ length (l .newest)) → (k : ℕ) → k < pagesOf s → length (pageBefore l o k) ≡ 1024
+  length-before : (o : Option ℕ) → ((q : ℕ) → o ≡ some q → q + pagesOf s ≤ length (l .newest))
+      → (k : ℕ) → k < pagesOf s → length (pageBefore l o k) ≡ 1024
   unfolding pageBefore
   length-before none h k q = length-replicate {A = ℕ} 1024 0
   length-before (some page) h k q = let r = h page refl in length-page l paged (page + k) (omega arith)
@@ -141,7 +146,8 @@ module _ (l : Lent) (paged : 1024 * length (l .newest) ≡ length (l .stamps)) (
       let b = length-before o room (0 + j) (omega (arith, f .size)) in
       length-over (getD (h .grids) j noGrid .stamps) (pageBefore l o (0 + j)) (omega arith) ∙ b
 
-  pub whole-pages : isShape s ≡ true → (id : ℕ) (ts : List (VersionState ℕ)) → total pagesUsed ts ≤ length (l .newest) → (h : WriteHistory) → HistoryFormed s h
+  pub whole-pages : isShape s ≡ true → (id : ℕ) (ts : List (VersionState ℕ)) → total pagesUsed ts ≤ length (l .newest)
+      → (h : WriteHistory) → HistoryFormed s h
       → Whole (pageBefore l (firstPage id s 0 ts)) 0 (h .grids)
   whole-pages shaped id ts room h f =
       whole-page shaped (firstPage id s 0 ts) (λ q e. let w = first-within id s 0 q ts e in omega arith) h f

@@ -28,7 +28,8 @@ module _ (m : Lent) (s : List ℕ) (room : 7 * versionPlaces m ≤ length s) (he
   retiring-listed vs h e =
       sym (map-listed retiringOf (along 7 readRetiring (versionPlaces m) (m .pool .head) (m .retiring)) 0 (length vs))
       ∙ ap (λ (r : List ℕ). map retiringOf (listed (along 7 readRetiring (versionPlaces m) (m .pool .head) r) 0 (length vs))) e
-      ∙ ap (map retiringOf) (ring-laid retiring-codec (versionPlaces m) (m .pool .head) head (map retiringRecord vs) (length vs) s room h (length-map vs retiringRecord))
+      ∙ ap (map retiringOf)
+      (ring-laid retiring-codec (versionPlaces m) (m .pool .head) head (map retiringRecord vs) (length vs) s room h (length-map vs retiringRecord))
       ∙ map-map retiringOf retiringRecord vs
       ∙ map-id vs
 
@@ -47,12 +48,14 @@ module _ (m : Lent) (s : List ℕ) (room : 7 * versionPlaces m ≤ length s) (he
 
 -- ---- the destroy ring
 
-pub doomed-back : (m : Lent) (s : List ℕ) → 2 * versionPlaces m ≤ length s → m .pool .first < versionPlaces m → (ds : List (Doomed ℕ)) → length ds ≤ versionPlaces m
+pub doomed-back : (m : Lent) (s : List ℕ) → 2 * versionPlaces m ≤ length s → m .pool .first < versionPlaces m
+    → (ds : List (Doomed ℕ)) → length ds ≤ versionPlaces m
     → m .doomed ≡ laid 2 writeDoomed (versionPlaces m) (m .pool .first) 0 (map doomedRecord ds) s → listed (doomedRead m) 0 (length ds) ≡ ds
 unfolding doomedRead ring
 doomed-back m s room first ds h e =
     sym (map-listed doomedOf (along 2 readDoomed (versionPlaces m) (m .pool .first) (m .doomed)) 0 (length ds))
     ∙ ap (λ (r : List ℕ). map doomedOf (listed (along 2 readDoomed (versionPlaces m) (m .pool .first) r) 0 (length ds))) e
-    ∙ ap (map doomedOf) (ring-laid doomed-codec (versionPlaces m) (m .pool .first) first (map doomedRecord ds) (length ds) s room h (length-map ds doomedRecord))
+    ∙ ap (map doomedOf)
+    (ring-laid doomed-codec (versionPlaces m) (m .pool .first) first (map doomedRecord ds) (length ds) s room h (length-map ds doomedRecord))
     ∙ map-map doomedOf doomedRecord ds
     ∙ map-id ds

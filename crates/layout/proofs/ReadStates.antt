@@ -43,7 +43,8 @@ module _ (m : Lent) (first : ℕ) (ss : List (Spare ℕ)) (rest : List ℕ) wher
   unfolding spareRead table
   spares-back e =
       listed-same (spareRead m) (λ k. spareOf (recordAt 3 readSpare (drop (3 * first) (m .spares)) k)) (length ss) first 0
-      (λ j q. ap spareOf (ap (recordAt 3 readSpare (m .spares)) (let h : first + j ≡ first + (0 + j) = omega arith in h) ∙ sym (record-past 3 readSpare first (0 + j) (m .spares))))
+      (λ j q. ap spareOf (ap (recordAt 3 readSpare (m .spares)) (let h : first + j ≡ first + (0 + j) = omega arith in h)
+      ∙ sym (record-past 3 readSpare first (0 + j) (m .spares))))
       ∙ sym (map-listed spareOf (recordAt 3 readSpare (drop (3 * first) (m .spares))) 0 (length ss))
       ∙ ap₂ (λ (l : List ℕ) (n : ℕ). map spareOf (listed (recordAt 3 readSpare l) 0 n)) e (sym (length-map ss spareRecord))
       ∙ ap (map spareOf) (table-flat spare-codec (map spareRecord ss) rest)
@@ -63,7 +64,8 @@ module _ (l : Lent) (paged : 1024 * length (l .newest) ≡ length (l .stamps)) (
   abbrev before : ℕ → List ℕ
   before = pageBefore l (firstPage id s 0 (modelOf l .textures))
 
-  length-stamps : (o : Option WriteHistory) → Given (HistoryFormed s) o → length (pagesFrom before 0 (gridsOf o)) ≡ 1024 * recordedPages (recordedOf o) s
+  length-stamps : (o : Option WriteHistory) → Given (HistoryFormed s) o
+      → length (pagesFrom before 0 (gridsOf o)) ≡ 1024 * recordedPages (recordedOf o) s
   unfolding pagesOf pagesFrom
   length-stamps none f = refl
   length-stamps (some h) f =
@@ -112,18 +114,24 @@ module _ (l m : Lent) (paged : 1024 * length (l .newest) ≡ length (l .stamps))
   unfolding statesRead flatMap
   states-back first page [] nil a b c ea eb ec = refl
   states-back first page (t ∷ ts) (cons f fs) a b c ea eb ec =
-      let x = flat writeSpare (map spareRecord (t .spares)) in
+      let ss = map spareRecord (t .spares) in
+      let x = flat writeSpare ss in
       let xs = flat writeSpare (map spareRecord (everySpare ts)) in
+      let n = length (t .spares) in
+      let k = recordPages (textureRecord t) in
+      let both = map-append spareRecord (t .spares) (everySpare ts) in
       let ea′ : drop (3 * first) (m .spares) ≡ (x ++ xs) ++ a =
-      ea ∙ ap (λ (l : List ℕ). l ++ a) (ap (flat writeSpare) (map-append spareRecord (t .spares) (everySpare ts)) ∙ flat-append writeSpare (map spareRecord (t .spares)) (map spareRecord (everySpare ts))) in
-      let lx : length x ≡ 3 * length (t .spares) = length-flat spare-codec (map spareRecord (t .spares)) ∙ ap (λ (n : ℕ). 3 * n) (length-map (t .spares) spareRecord) in
+      ea ∙ ap (λ (l : List ℕ). l ++ a) (ap (flat writeSpare) both ∙ flat-append writeSpare ss (map spareRecord (everySpare ts))) in
+      let lx : length x ≡ 3 * n = length-flat spare-codec ss ∙ ap (λ (i : ℕ). 3 * i) (length-map (t .spares) spareRecord) in
       ap₂ (λ (u : VersionState ℕ) (us : List (VersionState ℕ)). u ∷ us)
       (state-back first page t f (xs ++ a) (flatMap newestOf ts ++ b) (flatMap (pagesAfter l) ts ++ c)
-      (ea′ ∙ append-assoc x xs a) (eb ∙ append-assoc (newestOf t) (flatMap newestOf ts) b) (ec ∙ append-assoc (pagesAfter l t) (flatMap (pagesAfter l) ts) c))
-      (states-back (first + length (t .spares)) (page + recordPages (textureRecord t)) ts fs a b c
-      (drop-past (m .spares) x xs a (3 * first) (3 * length (t .spares)) (3 * (first + length (t .spares))) ea′ lx (omega arith))
-      (drop-past (m .newest) (newestOf t) (flatMap newestOf ts) b page (recordPages (textureRecord t)) (page + recordPages (textureRecord t)) eb (length-newest (t .shape) (t .history) (f .history)) refl)
-      (drop-past (m .stamps) (pagesAfter l t) (flatMap (pagesAfter l) ts) c (1024 * page) (1024 * recordPages (textureRecord t)) (1024 * (page + recordPages (textureRecord t))) ec (length-new l paged used t f) (omega arith)))
+      (ea′ ∙ append-assoc x xs a) (eb ∙ append-assoc (newestOf t) (flatMap newestOf ts) b)
+      (ec ∙ append-assoc (pagesAfter l t) (flatMap (pagesAfter l) ts) c))
+      (states-back (first + n) (page + k) ts fs a b c
+      (drop-past (m .spares) x xs a (3 * first) (3 * n) (3 * (first + n)) ea′ lx (omega arith))
+      (drop-past (m .newest) (newestOf t) (flatMap newestOf ts) b page k (page + k) eb (length-newest (t .shape) (t .history) (f .history)) refl)
+      (drop-past (m .stamps) (pagesAfter l t) (flatMap (pagesAfter l) ts) c (1024 * page) (1024 * k) (1024 * (page + k)) ec (length-new l paged used t f)
+      (omega arith)))
 
 -- ---- how much of each slice they take
 

@@ -46,7 +46,8 @@ state-passes t f =
 retiring-passes : (v : Retiring ℕ) → RetiringFormed v → isRetiring v ≡ true
 unfolding isRetiring
 retiring-passes v f =
-    every (cons (le-leb _ _ (f .seq)) (cons (le-leb _ _ (f .epoch)) (cons (le-leb _ _ (f .birth)) (cons (le-leb _ _ (f .held)) (cons (le-leb _ _ (f .bytes)) nil)))))
+    every (cons (le-leb _ _ (f .seq)) (cons (le-leb _ _ (f .epoch)) (cons (le-leb _ _ (f .birth)) (cons (le-leb _ _ (f .held))
+    (cons (le-leb _ _ (f .bytes)) nil)))))
 
 hand-passes : (o : Option (Retiring ℕ)) → Given RetiringFormed o → isHand o ≡ true
 hand-passes none f = refl
@@ -78,7 +79,8 @@ module _ (l : Lent) (f : Fits l) where
   counts-pass : countsFit l ≡ true
   unfolding countsFit
   counts-pass =
-      every (cons (le-leb _ _ (f .tracked)) (cons (lt-ltb _ _ (f .head)) (cons (lt-ltb _ _ (f .first)) (cons (le-leb _ _ (f .versions)) (cons (le-leb _ _ (f .pages)) nil)))))
+      every (cons (le-leb _ _ (f .tracked)) (cons (lt-ltb _ _ (f .head)) (cons (lt-ltb _ _ (f .first)) (cons (le-leb _ _ (f .versions))
+      (cons (le-leb _ _ (f .pages)) nil)))))
 
   runs-pass : runsFit l ≡ true
   unfolding runsFit

@@ -25,7 +25,9 @@ returns c =
     let put = c .before .before in
     let made = put .before .before .before in
     let a = made .before .before .args in
-    put .insert-record .ensures ∙ ap (λ (l : List ℕ). sets (moved (a .s .now) (3 * a .k + 3) (3 * a .k) (3 * (a .n - a .k))) (3 * a .k) l) (made .spare-numbers .ensures)
+    let s = a .s .now in
+    let i = a .k in
+    put .insert-record .ensures ∙ ap (λ (l : List ℕ). sets (moved s (3 * i + 3) (3 * i) (3 * (a .n - i))) (3 * i) l) (made .spare-numbers .ensures)
 
 pub insert-spare-spec : {M : Type 1} → statement M
 insert-spare-spec =

@@ -25,7 +25,9 @@ returns c =
     let put = c .before .before in
     let made = put .before .before .before in
     let a = made .before .before .args in
-    put .insert-record .ensures ∙ ap (λ (l : List ℕ). sets (moved (a .s .now) (19 * a .i + 19) (19 * a .i) (19 * (a .n - a .i))) (19 * a .i) l) (made .texture-numbers .ensures)
+    let s = a .s .now in
+    let i = a .i in
+    put .insert-record .ensures ∙ ap (λ (l : List ℕ). sets (moved s (19 * i + 19) (19 * i) (19 * (a .n - i))) (19 * i) l) (made .texture-numbers .ensures)
 
 pub insert-texture-spec : {M : Type 1} → statement M
 insert-texture-spec =

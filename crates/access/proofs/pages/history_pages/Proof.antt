@@ -3,8 +3,8 @@ use borrow.Author.Needs.{needs}
 use mathlib.Core.Path.{sym, _∙_}
 use native.Mathlib.Omega.{arith}
 use Rattle.access.proofs.Fields.{claims-all, claims-none}
-use Rattle.access.proofs.runs.history_pages.Statement.{statement}
-use Rattle.access.proofs.runs.history_pages.Tie as tie
+use Rattle.access.proofs.pages.history_pages.Statement.{statement}
+use Rattle.access.proofs.pages.history_pages.Tie as tie
 
 enum-told : tie.Need-enum-told
 enum-told c = search needs

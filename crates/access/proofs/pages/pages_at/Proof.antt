@@ -2,8 +2,8 @@
 use borrow.Author.Needs.{needs}
 use native.Mathlib.Omega.{arith}
 use Rattle.access.proofs.Fields.{pages-none, pages-six, pages-one}
-use Rattle.access.proofs.runs.pages_at.Statement.{statement}
-use Rattle.access.proofs.runs.pages_at.Tie as tie
+use Rattle.access.proofs.pages.pages_at.Statement.{statement}
+use Rattle.access.proofs.pages.pages_at.Tie as tie
 
 mul-if1 : tie.Need-mul-if1
 mul-if1 c = search needs
@@ -18,7 +18,7 @@ shared-slice-read-if1 : tie.Need-shared-slice-read-if1
 shared-slice-read-if1 c = search needs
 
 returns : tie.Need-returns
-returns c = pages-none (c .before .before .args .s .now) (c .before .before .args .i) (c .if1 .taken)
+returns c = pages-none (c .before .before .args .textures .now) (c .before .before .args .i) (c .if1 .taken)
 
 mul-levels : tie.Need-mul-levels
 mul-levels c = search needs
@@ -47,17 +47,17 @@ shared-slice-read-if2 c = search needs
 mul-result : tie.Need-mul-result
 mul-result c =
     let a = c .before .before .before .before .before .args in
-    omega (arith, c .before .before .before .before .before .pre .1, pages-six (a .s .now) (a .i) (c .before .before .before .if1 .left) (c .if2 .taken))
+    omega (arith, c .before .before .before .before .before .pre .1, pages-six (a .textures .now) (a .i) (c .before .before .before .if1 .left) (c .if2 .taken))
 
 returns-2 : tie.Need-returns-2
 returns-2 c =
     let a = c .before .before .before .before .before .args in
-    pages-six (a .s .now) (a .i) (c .before .before .before .if1 .left) (c .if2 .taken)
+    pages-six (a .textures .now) (a .i) (c .before .before .before .if1 .left) (c .if2 .taken)
 
 returns-3 : tie.Need-returns-3
 returns-3 c =
     let a = c .before .before .before .before .before .args in
-    pages-one (a .s .now) (a .i) (c .before .before .before .if1 .left) (c .if2 .left)
+    pages-one (a .textures .now) (a .i) (c .before .before .before .if1 .left) (c .if2 .left)
 
 pub pages-at-spec : {M : Type 1} → statement M
 pages-at-spec =

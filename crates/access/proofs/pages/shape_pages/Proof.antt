@@ -2,8 +2,8 @@
 use borrow.Author.Needs.{needs}
 use native.Mathlib.Omega.{arith}
 use Rattle.access.proofs.Fields.{pages-by-slices}
-use Rattle.access.proofs.runs.shape_pages.Statement.{statement}
-use Rattle.access.proofs.runs.shape_pages.Tie as tie
+use Rattle.access.proofs.pages.shape_pages.Statement.{statement}
+use Rattle.access.proofs.pages.shape_pages.Tie as tie
 
 slices-requires : tie.Need-slices-requires
 slices-requires c κs = search needs

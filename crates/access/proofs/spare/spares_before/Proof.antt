@@ -10,8 +10,8 @@ use Rattle.records.specs.declared.texture.TextureRecord.{TextureRecord}
 use Rattle.records.specs.Texture.{readTexture}
 use Rattle.access.proofs.Totals.{sum-start, sum-fits, sum-more, sum-done}
 use Rattle.access.proofs.Fields.{spares-number}
-use Rattle.access.proofs.runs.spares_before.Statement.{statement}
-use Rattle.access.proofs.runs.spares_before.Tie as tie
+use Rattle.access.proofs.spare.spares_before.Statement.{statement}
+use Rattle.access.proofs.spare.spares_before.Tie as tie
 
 abbrev sparesOf : TextureRecord → ℕ
 sparesOf t = t .spares
@@ -23,7 +23,7 @@ abbrev μ-loop : tie.MeasureT-loop
 μ-loop s i sum₀ j₀ sum j = i - j
 
 loop-holds : tie.Need-loop-holds Inv-loop μ-loop
-loop-holds c = (omega arith, sum-start 19 readTexture sparesOf (c .args .s .now) (c .args .i))
+loop-holds c = (omega arith, sum-start 19 readTexture sparesOf (c .args .textures .now) (c .args .i))
 
 mul-sum : tie.Need-mul-sum Inv-loop μ-loop
 mul-sum c = search needs
@@ -41,7 +41,7 @@ add-sum-2 : tie.Need-add-sum-2 Inv-loop μ-loop
 add-sum-2 c =
     let b = c .before .before in
     let e = b .before in
-    let t = e .args .s .now in
+    let t = e .args .textures .now in
     let j = b .loop .j in
     omega (arith, e .pre .1, sum-fits 19 readTexture sparesOf t (e .args .i) j (b .loop .sum) (b .loop .inv .1) _ (spares-number t j) (c .before .loop-test .taken))
 
@@ -55,7 +55,7 @@ loop-again : tie.Need-loop-again Inv-loop μ-loop
 loop-again c =
     let b = c .before .before in
     let a = b .before .args in
-    let t = a .s .now in
+    let t = a .textures .now in
     let j = b .loop .j in
     (omega arith, sum-more 19 readTexture sparesOf t (a .i) j (b .loop .sum) (b .loop .inv .1) _ (spares-number t j) (c .before .loop-test .taken))
 
@@ -63,7 +63,7 @@ returns : tie.Need-returns Inv-loop μ-loop
 returns c =
     let b = c .before in
     let a = b .before .args in
-    sum-done 19 readTexture sparesOf (a .s .now) (a .i) (b .loop .j) (b .loop .sum) (b .loop .inv .1) (c .loop-test .left)
+    sum-done 19 readTexture sparesOf (a .textures .now) (a .i) (b .loop .j) (b .loop .sum) (b .loop .inv .1) (c .loop-test .left)
 
 pub spares-before-spec : {M : Type 1} → statement M
 spares-before-spec =
