@@ -86,10 +86,11 @@ module _ (cap first : ℕ) (s : List ℕ) where
     unfolding batchFrom coverMore
     batch-more bytes k h e =
         let f = doomedEntry cap first s in
+        let ds = left f n (k + 1) in
         sym (ap (λ (ds : List (Doomed ℕ)). k + coverMore bytes excess ds) (left-step f n k h)
-        ∙ (let q : k + coverMore bytes excess (f k ∷ left f n (k + 1)) ≡ k + suc (coverMore (bytes + f k .bytes) excess (left f n (k + 1))) = rw (lt-ltb bytes excess e) in q)
-        ∙ ap (λ (b : ℕ). k + suc (coverMore (bytes + b) excess (left f n (k + 1)))) (entry-bytes k)
-        ∙ (let q : k + suc (coverMore (bytes + bytesAt k) excess (left f n (k + 1))) ≡ k + 1 + coverMore (bytes + bytesAt k) excess (left f n (k + 1)) = omega arith in q))
+        ∙ (let q : k + coverMore bytes excess (f k ∷ ds) ≡ k + suc (coverMore (bytes + f k .bytes) excess ds) = rw (lt-ltb bytes excess e) in q)
+        ∙ ap (λ (b : ℕ). k + suc (coverMore (bytes + b) excess ds)) (entry-bytes k)
+        ∙ (let q : k + suc (coverMore (bytes + bytesAt k) excess ds) ≡ k + 1 + coverMore (bytes + bytesAt k) excess ds = omega arith in q))
 
     pub batch-stop : (bytes k : ℕ) → excess ≤ bytes → batchFrom bytes k ≡ k
     unfolding batchFrom

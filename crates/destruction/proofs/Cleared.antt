@@ -53,7 +53,8 @@ module _ (s : List ℕ) (i : ℕ) (fits : 19 * i + 19 ≤ length s) where
   front-more =
       let f = recordAt 19 readTexture s in
       ap (λ (n : ℕ). flat writeTexture (map spareless (listed f 0 n))) (add-one i)
-      ∙ ap (λ (ts : List TextureRecord). flat writeTexture (map spareless ts)) (listed-more f 0 i ∙ ap (λ (k : ℕ). listed f 0 i ++ (f k ∷ [])) (zero-add i))
+      ∙ ap (λ (ts : List TextureRecord). flat writeTexture (map spareless ts))
+      (listed-more f 0 i ∙ ap (λ (k : ℕ). listed f 0 i ++ (f k ∷ [])) (zero-add i))
       ∙ ap (flat writeTexture) (map-append spareless (listed f 0 i) (f i ∷ []))
       ∙ flat-append writeTexture (map spareless (listed f 0 i)) (spareless (f i) ∷ [])
       ∙ ap (λ (l : List ℕ). flat writeTexture (map spareless (listed f 0 i)) ++ l) (append-nil (writeTexture (spareless (f i))))

@@ -19,7 +19,8 @@ use Rattle.destruction.specs.Drained.{drainedViews}
 sets-more : (vs : List ℕ) (x : ℕ) (l : List ℕ) (i : ℕ) → sets l i (vs ++ (x ∷ [])) ≡ set (sets l i vs) (i + length vs) x
 sets-more [] x l i = ap (λ (k : ℕ). set l k x) (sym (add-zero i))
 sets-more (v ∷ vs) x l i =
-    sets-more vs x (set l i v) (suc i) ∙ ap (λ (k : ℕ). set (sets (set l i v) (suc i) vs) k x) (let e : suc i + length vs ≡ i + suc (length vs) = omega arith in e)
+    sets-more vs x (set l i v) (suc i)
+    ∙ ap (λ (k : ℕ). set (sets (set l i v) (suc i) vs) k x) (let e : suc i + length vs ≡ i + suc (length vs) = omega arith in e)
 
 module _ (w k cap head : ℕ) (s : List ℕ) (i : ℕ) where
   pub length-column : (n : ℕ) → length (column w k cap head s i n) ≡ n
@@ -78,6 +79,7 @@ views-copied c places retiring doomed spares o h i o1 o2 o3 e e1 e2 e3 =
     let ly : length ys ≡ c .doomed = length-column 2 0 places (c .first) doomed 0 (c .doomed) in
     let lz : length zs ≡ c .kept = length-column 3 0 places 0 spares 0 (c .kept) in
     e3
-    ∙ ap (λ (t : List ℕ). sets t (c .queued + c .doomed) zs) (e2 ∙ ap (λ (t : List ℕ). sets t (c .queued) ys) (e1 ∙ ap (λ (j : ℕ). sets o 0 (column1 j)) e))
+    ∙ ap (λ (t : List ℕ). sets t (c .queued + c .doomed) zs)
+    (e2 ∙ ap (λ (t : List ℕ). sets t (c .queued) ys) (e1 ∙ ap (λ (j : ℕ). sets o 0 (column1 j)) e))
     ∙ ap₂ (λ (n m : ℕ). sets (sets (sets o 0 xs) n ys) (n + m) zs) (sym lx) (sym ly)
     ∙ three-sets xs ys zs o (omega arith)

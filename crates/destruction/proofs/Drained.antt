@@ -75,7 +75,8 @@ spare-views (t ∷ ts) =
 -- the pool that the rule leaves
 abbrev restOf : Lent → Pool ℕ
 restOf l =
-    withPacing (record { arrivals = replicate 8 0; slot = modelOf l .pacing .slot; pressed = modelOf l .pacing .pressed; excess = modelOf l .pacing .excess })
+    let b = modelOf l .pacing in
+    withPacing (record { arrivals = replicate 8 0; slot = b .slot; pressed = b .pressed; excess = b .excess })
     (withParked 0 (withDoomed [] 0 0 (withRetiring [] (modelOf l .hand) (withTextures (emptied (modelOf l .textures)) (modelOf l)))))
 
 module _ (l : Lent) (f : Fits l) where
@@ -87,12 +88,16 @@ module _ (l : Lent) (f : Fits l) where
 
   -- ---- what is handed out
 
-  queue-views : map (λ (v : Retiring ℕ). v .view) (modelOf l .retiring) ≡ column 7 1 places (l .pool .head) (l .retiring) (handPlaces (l .pool .popped)) (l .pool .queued)
+  -- the hand's place is not the queue's
+  abbrev from : ℕ
+  from = handPlaces (l .pool .popped)
+
+  queue-views : map (λ (v : Retiring ℕ). v .view) (modelOf l .retiring) ≡ column 7 1 places (l .pool .head) (l .retiring) from (l .pool .queued)
   unfolding modelOf column retiringRead along recordAt readRetiring
   queue-views =
-      map-listed (λ (v : Retiring ℕ). v .view) (retiringRead l) (handPlaces (l .pool .popped)) (l .pool .queued)
-      ∙ listed-same (λ (j : ℕ). retiringRead l j .view) (numberAt 7 1 places (l .pool .head) (l .retiring)) (l .pool .queued) (handPlaces (l .pool .popped)) (handPlaces (l .pool .popped))
-      (λ j q. getD-drop (7 * placeOf places (l .pool .head) (handPlaces (l .pool .popped) + j)) (l .retiring) 1 0)
+      map-listed (λ (v : Retiring ℕ). v .view) (retiringRead l) from (l .pool .queued)
+      ∙ listed-same (λ (j : ℕ). retiringRead l j .view) (numberAt 7 1 places (l .pool .head) (l .retiring)) (l .pool .queued) from from
+      (λ j q. getD-drop (7 * placeOf places (l .pool .head) (from + j)) (l .retiring) 1 0)
 
   doomed-views : map (λ (d : Doomed ℕ). d .view) (modelOf l .doomed) ≡ column 2 0 places (l .pool .first) (l .doomed) 0 (l .pool .doomed)
   unfolding modelOf column doomedRead along recordAt readDoomed
@@ -102,7 +107,8 @@ module _ (l : Lent) (f : Fits l) where
       (λ j q. getD-drop (2 * placeOf places (l .pool .first) (0 + j)) (l .doomed) 0 0)
 
   -- the spares are packed: a ring that begins at place 0
-  kept-views : flatMap (λ (t : VersionState ℕ). map (λ (s : Spare ℕ). s .view) (t .spares)) (modelOf l .textures) ≡ column 3 0 places 0 (l .spares) 0 (l .pool .kept)
+  kept-views : flatMap (λ (t : VersionState ℕ). map (λ (s : Spare ℕ). s .view) (t .spares)) (modelOf l .textures)
+      ≡ column 3 0 places 0 (l .spares) 0 (l .pool .kept)
   unfolding column spareRead recordAt readSpare
   kept-views =
       spare-views (modelOf l .textures)
@@ -119,10 +125,10 @@ module _ (l : Lent) (f : Fits l) where
   views-count : length viewsIn ≡ l .pool .queued + l .pool .doomed + l .pool .kept
   unfolding drainedViews
   views-count =
-      let xs = column 7 1 places (l .pool .head) (l .retiring) (handPlaces (l .pool .popped)) (l .pool .queued) in
+      let xs = column 7 1 places (l .pool .head) (l .retiring) from (l .pool .queued) in
       let ys = column 2 0 places (l .pool .first) (l .doomed) 0 (l .pool .doomed) in
       let zs = column 3 0 places 0 (l .spares) 0 (l .pool .kept) in
-      let lx : length xs ≡ l .pool .queued = length-column 7 1 places (l .pool .head) (l .retiring) (handPlaces (l .pool .popped)) (l .pool .queued) in
+      let lx : length xs ≡ l .pool .queued = length-column 7 1 places (l .pool .head) (l .retiring) from (l .pool .queued) in
       let ly : length ys ≡ l .pool .doomed = length-column 2 0 places (l .pool .first) (l .doomed) 0 (l .pool .doomed) in
       let lz : length zs ≡ l .pool .kept = length-column 3 0 places 0 (l .spares) 0 (l .pool .kept) in
       omega (arith, length-append xs (ys ++ zs), length-append ys zs)
@@ -135,7 +141,8 @@ module _ (l : Lent) (f : Fits l) where
   none-left : [] ≡ drop (l .pool .doomed) (modelOf l .doomed)
   unfolding modelOf
   none-left =
-      sym (left-none (doomedRead l) (l .pool .doomed) (l .pool .doomed) (omega arith)) ∙ drop-left (doomedRead l) (l .pool .doomed) (l .pool .doomed) (omega arith)
+      sym (left-none (doomedRead l) (l .pool .doomed) (l .pool .doomed) (omega arith))
+      ∙ drop-left (doomedRead l) (l .pool .doomed) (l .pool .doomed) (omega arith)
 
   counts-drained : drainedCounts (l .pool) places ≡ poolAfter rest l
   unfolding drainedCounts poolAfter modelOf
@@ -163,16 +170,21 @@ module _ (l : Lent) (f : Fits l) where
   textures-drained : cleared (l .pool .tracked) (l .textures) ≡ texturesAfter rest l
   unfolding cleared texturesAfter
   textures-drained =
-      ap (λ (rs : List TextureRecord). over (flat writeTexture rs) (l .textures)) (sym (emptied-records (modelOf l .textures) ∙ ap (map spareless) (records-model l)))
+      ap (λ (rs : List TextureRecord). over (flat writeTexture rs) (l .textures))
+      (sym (emptied-records (modelOf l .textures) ∙ ap (map spareless) (records-model l)))
 
   spares-drained : l .spares ≡ sparesAfter rest l
   unfolding sparesAfter over flat
   spares-drained = ap (λ (ss : List (Spare ℕ)). over (flat writeSpare (map spareRecord ss)) (l .spares)) (sym (emptied-spares (modelOf l .textures)))
 
-  left-drained : lent (drainedCounts (l .pool) places) (drainedBook (l .book)) (cleared (l .pool .tracked) (l .textures)) (l .retiring) (l .doomed) (l .spares) (l .newest) (l .stamps)
-      ≡ after rest l
+  -- the other slices with these counts, this book and these textures
+  abbrev leaving : Counts → PacingBook → List ℕ → Lent
+  leaving c b textures = lent c b textures (l .retiring) (l .doomed) (l .spares) (l .newest) (l .stamps)
+
+  left-drained : leaving (drainedCounts (l .pool) places) (drainedBook (l .book)) (cleared (l .pool .tracked) (l .textures)) ≡ after rest l
   left-drained =
-      put-together rest l (drainedCounts (l .pool) places) (drainedBook (l .book)) (cleared (l .pool .tracked) (l .textures)) (l .retiring) (l .doomed) (l .spares) (l .newest) (l .stamps)
+      put-together rest l (drainedCounts (l .pool) places) (drainedBook (l .book)) (cleared (l .pool .tracked) (l .textures))
+      (l .retiring) (l .doomed) (l .spares) (l .newest) (l .stamps)
       counts-drained book-drained textures-drained
       (sym (retiring-drained l rest (f .head) (omega (arith, f .retiring)) (ring-fits l f) refl refl))
       (sym (doomed-taken l rest (f .first) (omega (arith, f .doomed)) (doomed-fit l f) (l .pool .doomed) (omega arith) none-left))
@@ -180,26 +192,27 @@ module _ (l : Lent) (f : Fits l) where
 
   -- ---- the call
 
+  abbrev handedOut : ℕ
+  handedOut = l .pool .queued + l .pool .doomed + l .pool .kept
+
   module _ (pooled : isPool l ≡ true) (buffer : List ℕ) where
-    counted : length (everyView (modelOf l)) ≡ l .pool .queued + l .pool .doomed + l .pool .kept
+    counted : length (everyView (modelOf l)) ≡ handedOut
     counted = ap length (sym views-drained) ∙ views-count
 
-    pub drain-refused : length buffer < l .pool .queued + l .pool .doomed + l .pool .kept → (refusal 11, (buffer, l)) ≡ drainVersionsCall l buffer
+    pub drain-refused : length buffer < handedOut → (refusal 11, (buffer, l)) ≡ drainVersionsCall l buffer
     unfolding drainVersionsCall asked drainVersions guard
     drain-refused h = sym (rw (pooled, lt-ltb (length buffer) (length (everyView (modelOf l))) (omega (arith, counted))))
 
-    drain-said : l .pool .queued + l .pool .doomed + l .pool .kept ≤ length buffer
+    drain-said : handedOut ≤ length buffer
         → (answer (length (everyView (modelOf l))), (over (flat viewNumbers (everyView (modelOf l))) buffer, after rest l)) ≡ drainVersionsCall l buffer
     unfolding drainVersionsCall asked drainVersions guard
     drain-said h = sym (rw (pooled, le-ltb (length buffer) (length (everyView (modelOf l))) (omega (arith, counted))))
 
-    pub drain-accepted : l .pool .queued + l .pool .doomed + l .pool .kept ≤ length buffer → (out textures : List ℕ) (c : Counts) (b : PacingBook)
-        → out ≡ over viewsIn buffer → textures ≡ cleared (l .pool .tracked) (l .textures) → c ≡ drainedCounts (l .pool) places → b ≡ drainedBook (l .book)
-        → (answer (l .pool .queued + l .pool .doomed + l .pool .kept), (out, lent c b textures (l .retiring) (l .doomed) (l .spares) (l .newest) (l .stamps)))
-        ≡ drainVersionsCall l buffer
+    pub drain-accepted : handedOut ≤ length buffer → (out textures : List ℕ) (c : Counts) (b : PacingBook)
+        → out ≡ over viewsIn buffer → textures ≡ cleared (l .pool .tracked) (l .textures) → c ≡ drainedCounts (l .pool) places
+        → b ≡ drainedBook (l .book) → (answer handedOut, (out, leaving c b textures)) ≡ drainVersionsCall l buffer
     drain-accepted h out textures c b e1 e2 e3 e4 =
         let full : out ≡ over (flat viewNumbers (everyView (modelOf l))) buffer =
         e1 ∙ ap (λ (vs : List ℕ). over vs buffer) (views-drained ∙ sym (flat-views (everyView (modelOf l)))) in
-        let kept : lent c b textures (l .retiring) (l .doomed) (l .spares) (l .newest) (l .stamps) ≡ after rest l =
-        (λ i. lent (e3 i) (e4 i) (e2 i) (l .retiring) (l .doomed) (l .spares) (l .newest) (l .stamps)) ∙ left-drained in
+        let kept : leaving c b textures ≡ after rest l = (λ i. leaving (e3 i) (e4 i) (e2 i)) ∙ left-drained in
         (λ i. (answer (sym counted i), (full i, kept i))) ∙ drain-said h

@@ -60,6 +60,10 @@ restOf l n =
 abbrev said : Lent → List ℕ → ℕ → Told ℕ × (List ℕ × Lent)
 said l buffer n = (answer (length (viewsOf l n)), (over (flat viewNumbers (viewsOf l n)) buffer, after (restOf l n) l))
 
+-- the slices with these counts and this book
+abbrev leaving : Lent → Counts → PacingBook → Lent
+leaving l c b = lent c b (l .textures) (l .retiring) (l .doomed) (l .spares) (l .newest) (l .stamps)
+
 module _ (l : Lent) where
   -- the arrivals with those since the last take
   abbrev pub noted : List ℕ
@@ -88,7 +92,8 @@ module _ (l : Lent) where
     unfolding modelOf
     noted-bound =
         let h : l .pool .since ≤ 4096 = omega (arith, f .formed .since, doomed-model l, f .versions, f .most) in
-        omega (arith, all-total 4096 (all-set (l .book .slot) (l .pool .since) h (f .formed .arrivals)), length-set (l .book .arrivals) (l .book .slot) (l .pool .since), f .formed .eight)
+        let sum = all-total 4096 (all-set (l .book .slot) (l .pool .since) h (f .formed .arrivals)) in
+        omega (arith, sum, length-set (l .book .arrivals) (l .book .slot) (l .pool .since), f .formed .eight)
 
     dooming-sum : l .pool .dooming ≡ doomedBytes (entries (l .pool .doomed))
     unfolding modelOf
@@ -100,8 +105,8 @@ module _ (l : Lent) where
 
     -- what the batch is worked out from
     pub batch-fits : (arrivals : List ℕ) → arrivals ≡ noted → l .pool .dooming < 2 ^ 64
-        → (2 * versionPlaces l ≤ length (l .doomed)) × (l .pool .first < versionPlaces l) × (l .pool .doomed ≤ versionPlaces l) × (versionPlaces l ≤ 4096)
-        × (total (λ (n : ℕ). n) arrivals ≤ 32768) × (doomedBytes (entries (l .pool .doomed)) < 2 ^ 64)
+        → (2 * versionPlaces l ≤ length (l .doomed)) × (l .pool .first < versionPlaces l) × (l .pool .doomed ≤ versionPlaces l)
+        × (versionPlaces l ≤ 4096) × (total (λ (n : ℕ). n) arrivals ≤ 32768) × (doomedBytes (entries (l .pool .doomed)) < 2 ^ 64)
     batch-fits arrivals e h = (
       omega (arith, f .doomed),
       f .first,
@@ -115,7 +120,8 @@ module _ (l : Lent) where
     pub counts-fit : (n bytes : ℕ) → n ≤ l .pool .doomed → bytes ≡ doomedBytes (entries n)
         → (l .pool .first < versionPlaces l) × (n ≤ versionPlaces l) × (n ≤ l .pool .doomed) × (bytes ≤ l .pool .dooming)
     counts-fit n bytes few e =
-        (f .first, omega (arith, doomed-fit l f), few, omega (arith, dooming-sum, bytes-part (versionPlaces l) (l .pool .first) (l .doomed) n (l .pool .doomed) few))
+        let part = bytes-part (versionPlaces l) (l .pool .first) (l .doomed) n (l .pool .doomed) few in
+        (f .first, omega (arith, doomed-fit l f), few, omega (arith, dooming-sum))
 
     -- ---- what is left
 
@@ -146,18 +152,17 @@ module _ (l : Lent) where
       unfolding takenBook bookAfter modelOf
       book-taken = refl
 
-      left-taken : lent (takenCounts (l .pool) (versionPlaces l) n bytes) (takenBook (l .book) noted) (l .textures) (l .retiring) (l .doomed) (l .spares) (l .newest) (l .stamps)
-          ≡ after rest l
+      left-taken : leaving l (takenCounts (l .pool) (versionPlaces l) n bytes) (takenBook (l .book) noted) ≡ after rest l
       left-taken =
-          put-together rest l (takenCounts (l .pool) (versionPlaces l) n bytes) (takenBook (l .book) noted) (l .textures) (l .retiring) (l .doomed) (l .spares) (l .newest) (l .stamps)
+          put-together rest l (takenCounts (l .pool) (versionPlaces l) n bytes) (takenBook (l .book) noted)
+          (l .textures) (l .retiring) (l .doomed) (l .spares) (l .newest) (l .stamps)
           counts-taken book-taken (textures-stay l f rest refl) (retiring-stay l f rest refl refl)
           (sym (doomed-taken l rest (f .first) (omega (arith, f .doomed)) (doomed-fit l f) n few refl))
           (spares-stay l f rest refl) (newest-stay l f rest refl) (stamps-stay l f rest refl)
 
   -- ---- the call
 
-  views-taken : (n : ℕ) → n ≤ l .pool .doomed
-      → viewsOf l n ≡ column 2 0 (versionPlaces l) (l .pool .first) (l .doomed) 0 n
+  views-taken : (n : ℕ) → n ≤ l .pool .doomed → viewsOf l n ≡ column 2 0 (versionPlaces l) (l .pool .first) (l .doomed) 0 n
   unfolding column doomedEntry along recordAt readDoomed
   views-taken n h =
       let e = doomedEntry (versionPlaces l) (l .pool .first) (l .doomed) in
@@ -181,15 +186,18 @@ module _ (l : Lent) where
     accepted-views h = sym (rw (pooled, le-ltb (length buffer) (batch (modelOf l)) (omega (arith, counted))))
 
     module _ (f : Fits l) (bytes : ℕ) (few : n ≤ l .pool .doomed) (sum : bytes ≡ doomedBytes (entries n)) (room : n ≤ length buffer) where
-      pub take-accepted : (out : List ℕ) (c : Counts) (b : PacingBook) → out ≡ sets buffer 0 (column 2 0 (versionPlaces l) (l .pool .first) (l .doomed) 0 n)
+      pub take-accepted : (out : List ℕ) (c : Counts) (b : PacingBook)
+          → out ≡ sets buffer 0 (column 2 0 (versionPlaces l) (l .pool .first) (l .doomed) 0 n)
           → c ≡ takenCounts (l .pool) (versionPlaces l) n bytes → b ≡ takenBook (l .book) arrivals
-          → (answer n, (out, lent c b (l .textures) (l .retiring) (l .doomed) (l .spares) (l .newest) (l .stamps))) ≡ takeDoomedCall l buffer
+          → (answer n, (out, leaving l c b)) ≡ takeDoomedCall l buffer
       take-accepted out c b e1 e2 e3 =
           let vs = column 2 0 (versionPlaces l) (l .pool .first) (l .doomed) 0 n in
           let long : length vs ≡ n = length-column 2 0 (versionPlaces l) (l .pool .first) (l .doomed) 0 n in
           let same : vs ≡ flat viewNumbers (viewsOf l n) = sym (flat-views (viewsOf l n) ∙ views-taken n few) in
           let full : out ≡ over (flat viewNumbers (viewsOf l n)) buffer =
           e1 ∙ front-sets vs buffer (omega arith) ∙ ap (λ (xs : List ℕ). over xs buffer) same in
-          let kept : lent c b (l .textures) (l .retiring) (l .doomed) (l .spares) (l .newest) (l .stamps) ≡ after (restOf l n) l =
-          ap₂ (λ (c : Counts) (b : PacingBook). lent c b (l .textures) (l .retiring) (l .doomed) (l .spares) (l .newest) (l .stamps)) e2 (e3 ∙ ap (takenBook (l .book)) now) ∙ left-taken f n bytes few sum in
-          (λ i. (answer ((sym long ∙ ap length (sym (views-taken n few))) i), (full i, kept i))) ∙ ap (said l buffer) counted ∙ accepted-views room
+          let kept : leaving l c b ≡ after (restOf l n) l =
+          ap₂ (leaving l) e2 (e3 ∙ ap (takenBook (l .book)) now) ∙ left-taken f n bytes few sum in
+          (λ i. (answer ((sym long ∙ ap length (sym (views-taken n few))) i), (full i, kept i)))
+          ∙ ap (said l buffer) counted
+          ∙ accepted-views room

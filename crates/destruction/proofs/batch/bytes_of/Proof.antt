@@ -41,7 +41,9 @@ add-sum-2 c =
     let i = b .before .before .loop .i in
     let e = ap (λ p. getD (a .doomed .now) (2 * p + 1) 0) (b .place .ensures .1) in
     let h : i + 1 ≤ a .k = omega (arith, b .before .loop-test .taken) in
-    omega (arith, e, b .before .before .loop .inv .1, b .before .before .before .before .pre, bytes-more (a .cap) (a .first) (a .doomed .now) i, bytes-part (a .cap) (a .first) (a .doomed .now) (i + 1) (a .k) h)
+    let more = bytes-more (a .cap) (a .first) (a .doomed .now) i in
+    let part = bytes-part (a .cap) (a .first) (a .doomed .now) (i + 1) (a .k) h in
+    omega (arith, e, more, part, b .before .before .loop .inv .1, b .before .before .before .before .pre)
 
 add-i : tie.Need-add-i Inv-loop μ-loop
 add-i c = search needs

@@ -41,7 +41,8 @@ returns : tie.Need-returns Inv-loop μ-loop
 returns c =
     let l = c .before .before in
     let a = l .before .before .before .args in
-    (sym (batch-stop (a .cap) (a .first) (a .doomed .now) (a .n) (a .excess) (l .loop .bytes) (l .loop .count) (c .if1 .taken)) ∙ l .loop .inv .3, l .loop .inv .1, l .loop .inv .2)
+    let whole = batch-stop (a .cap) (a .first) (a .doomed .now) (a .n) (a .excess) (l .loop .bytes) (l .loop .count) (c .if1 .taken) in
+    (sym whole ∙ l .loop .inv .3, l .loop .inv .1, l .loop .inv .2)
 
 place-requires : tie.Need-place-requires Inv-loop μ-loop
 place-requires c κs = search needs
@@ -66,7 +67,9 @@ add-bytes-2 c =
     let k = l .loop .count in
     let e = ap (λ p. getD (a .doomed .now) (2 * p + 1) 0) (b .place .ensures .1) in
     let h : k + 1 ≤ a .n = omega (arith, b .before .before .loop-test .taken) in
-    omega (arith, e, l .loop .inv .2, l .before .before .before .pre, bytes-more (a .cap) (a .first) (a .doomed .now) k, bytes-part (a .cap) (a .first) (a .doomed .now) (k + 1) (a .n) h)
+    let more = bytes-more (a .cap) (a .first) (a .doomed .now) k in
+    let part = bytes-part (a .cap) (a .first) (a .doomed .now) (k + 1) (a .n) h in
+    omega (arith, e, more, part, l .loop .inv .2, l .before .before .before .pre)
 
 add-count : tie.Need-add-count Inv-loop μ-loop
 add-count c = search needs
@@ -93,7 +96,9 @@ returns-2 : tie.Need-returns-2 Inv-loop μ-loop
 returns-2 c =
     let l = c .before in
     let a = l .before .before .before .args in
-    (sym (batch-done (a .cap) (a .first) (a .doomed .now) (a .n) (a .excess) (l .loop .bytes) (l .loop .count) (omega (arith, c .loop-test .left))) ∙ l .loop .inv .3, l .loop .inv .1, l .loop .inv .2)
+    let h : a .n ≤ l .loop .count = omega (arith, c .loop-test .left) in
+    let whole = batch-done (a .cap) (a .first) (a .doomed .now) (a .n) (a .excess) (l .loop .bytes) (l .loop .count) h in
+    (sym whole ∙ l .loop .inv .3, l .loop .inv .1, l .loop .inv .2)
 
 pub covering-spec : {M : Type 1} → statement M
 covering-spec =
