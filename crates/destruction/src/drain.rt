@@ -8,9 +8,10 @@ ghost use Rattle.layout.specs.Lent.{lent};
 ghost use Rattle.layout.specs.Reading.{handPlaces};
 ghost use Rattle.layout.specs.IsPool.{isPool};
 ghost use Rattle.layout.specs.Calls.{drainVersionsCall};
-ghost use Rattle.destruction.specs.Answer.{toldCount};
+ghost use Rattle.destruction.specs.Answer.{handedTold};
 ghost use Rattle.destruction.specs.Drained.{drainedViews, drainedCounts, drainedBook, cleared};
 use crate::answer::DrainAnswer;
+use crate::answer::Handed;
 use crate::views::copy_column;
 use layout::PacingBook;
 use layout::Pool;
@@ -119,7 +120,7 @@ pub fn drain_versions(
     buffer: &mut [u64],
 ) -> DrainAnswer
     requires { ⌜ isPool (lent pool book (now textures) (now retiring) (now doomed) (now spares) (now newest) (now stamps)) ≡ true ⌝ }
-    ensures { λ r. ⌜ (toldCount r, (now (buffer .exit), lent (r .pool) (r .book) (now (textures .exit)) (now (retiring .entry)) (now (doomed .entry)) (now (spares .entry)) (now (newest .entry)) (now (stamps .entry))))
+    ensures { λ r. ⌜ (handedTold (r .handed), (now (buffer .exit), lent (r .pool) (r .book) (now (textures .exit)) (now (retiring .entry)) (now (doomed .entry)) (now (spares .entry)) (now (newest .entry)) (now (stamps .entry))))
         ≡ drainVersionsCall (lent pool book (now (textures .entry)) (now (retiring .entry)) (now (doomed .entry)) (now (spares .entry)) (now (newest .entry)) (now (stamps .entry))) (now (buffer .entry)) ⌝ }
 {
     let places = retiring.len() / 7;
@@ -128,8 +129,7 @@ pub fn drain_versions(
         return DrainAnswer {
             pool,
             book,
-            outcome: 11,
-            count: 0,
+            handed: Handed::Refused(11),
         };
     }
     copy_views(pool, places, retiring, doomed, spares, buffer);
@@ -137,7 +137,6 @@ pub fn drain_versions(
     DrainAnswer {
         pool: drained_counts(pool, places),
         book: drained_book(book),
-        outcome: 0,
-        count,
+        handed: Handed::Views(count),
     }
 }

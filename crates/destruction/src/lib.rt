@@ -7,6 +7,7 @@ mod take;
 mod views;
 
 pub use answer::DrainAnswer;
+pub use answer::Handed;
 pub use drain::drain_versions;
 pub use given::push_spares;
 pub use take::take_doomed;

@@ -5,9 +5,10 @@ ghost use Prim.Native.Nat.{_≤_, _<_};
 ghost use Rattle.layout.specs.Lent.{lent};
 ghost use Rattle.layout.specs.IsPool.{isPool};
 ghost use Rattle.layout.specs.Calls.{takeDoomedCall};
-ghost use Rattle.destruction.specs.Answer.{toldCount};
+ghost use Rattle.destruction.specs.Answer.{handedTold};
 ghost use Rattle.destruction.specs.Taken.{takenCounts, takenBook};
 use crate::answer::DrainAnswer;
+use crate::answer::Handed;
 use crate::batch::Batch;
 use crate::batch::arrived;
 use crate::batch::next_batch;
@@ -55,7 +56,7 @@ pub fn take_doomed(
     buffer: &mut [u64],
 ) -> DrainAnswer
     requires { ⌜ isPool (lent pool book (now textures) (now retiring) (now doomed) (now spares) (now newest) (now stamps)) ≡ true ⌝ }
-    ensures { λ r. ⌜ (toldCount r, (now (buffer .exit), lent (r .pool) (r .book) (now (textures .entry)) (now (retiring .entry)) (now (doomed .entry)) (now (spares .entry)) (now (newest .entry)) (now (stamps .entry))))
+    ensures { λ r. ⌜ (handedTold (r .handed), (now (buffer .exit), lent (r .pool) (r .book) (now (textures .entry)) (now (retiring .entry)) (now (doomed .entry)) (now (spares .entry)) (now (newest .entry)) (now (stamps .entry))))
         ≡ takeDoomedCall (lent pool book (now (textures .entry)) (now (retiring .entry)) (now (doomed .entry)) (now (spares .entry)) (now (newest .entry)) (now (stamps .entry))) (now (buffer .entry)) ⌝ }
 {
     let places = retiring.len() / 7;
@@ -67,15 +68,13 @@ pub fn take_doomed(
         return DrainAnswer {
             pool,
             book,
-            outcome: 11,
-            count: 0,
+            handed: Handed::Refused(11),
         };
     }
     copy_column(buffer, 0, doomed, 2, 0, places, first, 0, count);
     DrainAnswer {
         pool: taken_counts(pool, places, batch),
         book: taken_book(book, arrivals),
-        outcome: 0,
-        count,
+        handed: Handed::Views(count),
     }
 }
