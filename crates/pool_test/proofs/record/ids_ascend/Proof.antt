@@ -50,7 +50,7 @@ returns : tie.Need-returns Inv-loop μ-loop
 returns c =
     let b = c .before .before .before .before in
     let a = b .before .args in
-    sym (ids-stop (a .textures .now) (a .n) (b .loop .i) (c .before .before .before .loop-test .taken) (c .if1 .taken)) ∙ b .loop .inv .1
+    sym (ids-stop (a .textures .now) (a .n) (b .loop .i) (c .before .before .before .loop-test .taken) (omega (arith, c .if1 .taken))) ∙ b .loop .inv .1
 
 add-i : tie.Need-add-i Inv-loop μ-loop
 add-i c = search needs
