@@ -10,7 +10,6 @@ use Rattle.stores.specs.Model.{Retiring, Doomed, limit, doomedBytes}
 use Rattle.records.specs.Retiring.{readRetiring}
 use Rattle.records.specs.Doomed.{readDoomed}
 use Rattle.records.specs.Views.{retiringOf, doomedOf}
-use Rattle.records.specs.Find.{textures}
 use Rattle.layout.specs.declared.pool.Pool.{Pool}
 use Rattle.layout.specs.declared.book.PacingBook.{PacingBook}
 use Rattle.layout.specs.Reading.{handPlaces}
