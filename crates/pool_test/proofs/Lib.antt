@@ -1,3 +1,3 @@
-pub mod Passes
-pub mod States
+pub mod RingTests
+pub mod NumberTests
 pub mod Parts

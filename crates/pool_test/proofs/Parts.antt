@@ -1,6 +1,6 @@
 -- The parts that the test goes by are together what it takes to form a pool. Assumes nothing.
 use mathlib.Core.Path.{_≡_, refl, sym, ap, ap₂, _∙_}
-use mathlib.Core.Bool.{Bool, true, false, _&&_}
+use mathlib.Core.Bool.{Bool, true, _&&_}
 use mathlib.Core.List.{List, [], _∷_}
 use Prim.Native.Nat.{ℕ, _+_, _*_, _/_, _≤_, _<_}
 use native.Mathlib.Omega.{arith}
@@ -15,13 +15,14 @@ use Rattle.blocks.proofs.Listed.{length-listed}
 use Rattle.stores.specs.Model.{Places, limit, spareBytes, doomedBytes}
 use Rattle.stores.specs.Open.{arePlaces}
 use Rattle.records.specs.declared.texture.TextureRecord.{TextureRecord}
-use Rattle.records.specs.Find.{idOf}
 use Rattle.layout.specs.Lent.{Lent, versionPlaces}
 use Rattle.layout.specs.Reading.{trackedRecords, recordPages, handPlaces, statesRead, retiringRead, handRead, doomedRead, modelOf}
 use Rattle.layout.specs.IsPool.{sizesFit, countsFit, runsFit, stateId, isSpare, isState, isRetiring, isHand, isDoomed, isArrival, isFormed, isPool}
-use Rattle.pool_test.specs.Parts.{lengthsFit, placesHold, isRecord, recordSpares, claim, spareAt, historiesFit, texturesFit, retiringAt, retiringFit, doomedAt, doomedFit, ringsFit, numbersFit}
-use Rattle.pool_test.proofs.Passes.{same-test}
-use Rattle.pool_test.proofs.States.{states-ids, states-bytes, states-test, hand-test}
+use Rattle.pool_test.specs.Parts.{lengthsFit, placesHold, retiringAt, retiringFit, doomedAt, doomedFit, ringsFit, numbersFit}
+use Rattle.texture_test.specs.Textures.{isRecord, recordSpares, claim, spareAt, historiesFit, texturesFit}
+use Rattle.texture_test.proofs.Tests.{same-test}
+use Rattle.texture_test.proofs.States.{states-ids, states-bytes, states-test}
+use Rattle.pool_test.proofs.RingTests.{hand-test}
 
 pub sizes-lengths : (l : Lent) → sizesFit l
     ≡ lengthsFit (length (l .textures)) (length (l .retiring)) (length (l .doomed)) (length (l .spares)) (length (l .newest)) (length (l .stamps))

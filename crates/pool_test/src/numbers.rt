@@ -3,9 +3,9 @@
 ghost use mathlib.Core.Path.{_≡_};
 ghost use lib.ListN.{length};
 ghost use Rattle.pool_test.specs.Parts.{numbersFit};
-use crate::limits::MOST_COUNTED;
 use layout::PacingBook;
 use layout::Pool;
+use texture_test::MOST_COUNTED;
 
 pub fn numbers_fit(pool: Pool, book: PacingBook) -> bool
     ensures { λ r. ⌜ (r ≡ numbersFit pool book) × (length (book .arrivals) ≡ 8) ⌝ }

@@ -6,9 +6,9 @@ use crate::numbers::numbers_fit;
 use crate::rings::rings_fit;
 use crate::sizes::counts_fit;
 use crate::sizes::sizes_fit;
-use crate::textures::textures_fit;
 use layout::PacingBook;
 use layout::Pool;
+use texture_test::textures_fit;
 
 pub fn is_pool(
     pool: Pool,

@@ -7,11 +7,11 @@ ghost use Rattle.records.specs.Views.{retiringOf};
 ghost use Rattle.layout.specs.Reading.{handPlaces};
 ghost use Rattle.layout.specs.IsPool.{isRetiring};
 ghost use Rattle.pool_test.specs.Parts.{retiringFit, doomedFit, ringsFit};
-use crate::limits::MOST_BYTES;
-use crate::limits::MOST_COUNTED;
 use crate::sizes::hand_places;
 use layout::Pool;
 use tables::ring_record;
+use texture_test::MOST_BYTES;
+use texture_test::MOST_COUNTED;
 
 // A retiring version's counts and submissions are at most 2^48, its bytes at most 2^44.
 fn is_retiring(p: &[u64]) -> bool

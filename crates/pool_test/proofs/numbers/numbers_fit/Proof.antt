@@ -1,5 +1,5 @@
 -- `numbers_fit` meets its contract. Assumes nothing.
-use Rattle.pool_test.proofs.Passes.{numbers-test}
+use Rattle.pool_test.proofs.NumberTests.{numbers-test}
 use borrow.Author.Needs.{needs}
 use Rattle.pool_test.proofs.numbers.numbers_fit.Statement.{statement}
 use Rattle.pool_test.proofs.numbers.numbers_fit.Tie as tie

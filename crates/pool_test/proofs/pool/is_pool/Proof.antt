@@ -3,7 +3,7 @@ use mathlib.Core.Path.{sym, _∙_}
 use borrow.Author.Tests.{not-true, not-false}
 use Rattle.layout.specs.Lent.{lent, versionPlaces}
 use Rattle.layout.specs.IsPool.{isPool}
-use Rattle.pool_test.proofs.Passes.{fails}
+use Rattle.texture_test.proofs.Tests.{fails}
 use Rattle.pool_test.proofs.Parts.{counts-places, partsOf, pool-parts, last-part, few-versions, rings-room, textures-room}
 use borrow.Author.Needs.{needs}
 use Rattle.pool_test.proofs.pool.is_pool.Statement.{statement}

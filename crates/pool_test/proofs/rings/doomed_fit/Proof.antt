@@ -1,14 +1,14 @@
 -- `doomed_fit` meets its contract: the sum so far is at most 2^44 a version. Assumes nothing.
-use mathlib.Core.Path.{_≡_, refl, sym, ap, _∙_}
-use Prim.Native.Nat.{ℕ, _+_, _*_, _-_, _≤_, _<_}
+use mathlib.Core.Path.{_≡_, sym, ap, _∙_}
+use Prim.Native.Nat.{ℕ, _+_, _*_, _-_, _≤_}
 use native.Mathlib.Omega.{arith}
-use borrow.Author.Tests.{not-true, not-false}
 use Rattle.blocks.specs.Lists.{all, listed}
 use Rattle.blocks.proofs.Listed.{left, left-all, all-more, all-stop, total-more}
 use Rattle.stores.specs.Model.{Doomed, doomedBytes}
 use Rattle.layout.specs.IsPool.{isDoomed}
 use Rattle.pool_test.specs.Parts.{doomedAt, doomedFit}
-use Rattle.pool_test.proofs.Passes.{fails, doomed-bytes, doomed-fits, doomed-large, doomed-done}
+use Rattle.texture_test.proofs.Tests.{fails}
+use Rattle.pool_test.proofs.RingTests.{doomed-bytes, doomed-fits, doomed-large, doomed-done}
 use borrow.Author.Needs.{needs}
 use Rattle.pool_test.proofs.rings.doomed_fit.Statement.{statement}
 use Rattle.pool_test.proofs.rings.doomed_fit.Tie as tie

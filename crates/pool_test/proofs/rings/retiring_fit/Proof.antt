@@ -1,13 +1,12 @@
 -- `retiring_fit` meets its contract. Assumes nothing.
-use mathlib.Core.Path.{_≡_, refl, sym, ap, _∙_}
-use Prim.Native.Nat.{_+_, _*_, _-_, _≤_, _<_}
-use native.Mathlib.Omega.{arith}
+use mathlib.Core.Path.{_≡_, sym, ap, _∙_}
+use Prim.Native.Nat.{_-_, _≤_}
 use borrow.Author.Tests.{not-true, not-false}
-use Rattle.blocks.specs.Lists.{all, listed}
+use Rattle.blocks.specs.Lists.{all}
 use Rattle.blocks.proofs.Listed.{left, left-all, all-more, all-stop, all-done}
 use Rattle.layout.specs.IsPool.{isRetiring}
 use Rattle.pool_test.specs.Parts.{retiringAt, retiringFit}
-use Rattle.pool_test.proofs.Passes.{retiring-read}
+use Rattle.pool_test.proofs.RingTests.{retiring-read}
 use borrow.Author.Needs.{needs}
 use Rattle.pool_test.proofs.rings.retiring_fit.Statement.{statement}
 use Rattle.pool_test.proofs.rings.retiring_fit.Tie as tie

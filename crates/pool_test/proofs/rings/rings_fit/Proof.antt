@@ -1,8 +1,7 @@
 -- `rings_fit` meets its contract. Assumes nothing.
-use mathlib.Core.Path.{sym, _∙_}
-use native.Mathlib.Omega.{arith}
+use mathlib.Core.Path.{_∙_}
 use borrow.Author.Tests.{not-true, not-false}
-use Rattle.pool_test.proofs.Passes.{rings-stop, rings-test}
+use Rattle.pool_test.proofs.RingTests.{rings-stop, rings-test}
 use borrow.Author.Needs.{needs}
 use Rattle.pool_test.proofs.rings.rings_fit.Statement.{statement}
 use Rattle.pool_test.proofs.rings.rings_fit.Tie as tie

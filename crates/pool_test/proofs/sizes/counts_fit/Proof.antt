@@ -1,7 +1,7 @@
 -- `counts_fit` meets its contract. Assumes nothing.
 use mathlib.Core.Path.{sym}
 use native.Mathlib.Omega.{arith}
-use Rattle.pool_test.proofs.Passes.{too-many, counts-test}
+use Rattle.pool_test.proofs.NumberTests.{too-many, counts-test}
 use borrow.Author.Needs.{needs}
 use Rattle.pool_test.proofs.sizes.counts_fit.Statement.{statement}
 use Rattle.pool_test.proofs.sizes.counts_fit.Tie as tie

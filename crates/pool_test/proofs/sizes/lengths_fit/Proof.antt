@@ -3,7 +3,7 @@ use mathlib.Core.Path.{refl, sym}
 use borrow.Author.Tests.{lt-leb}
 use Rattle.blocks.specs.Lists.{tests, after}
 use Rattle.pool_test.specs.Parts.{lengthsFit}
-use Rattle.pool_test.proofs.Passes.{fails}
+use Rattle.texture_test.proofs.Tests.{fails}
 use borrow.Author.Needs.{needs}
 use Rattle.pool_test.proofs.sizes.lengths_fit.Statement.{statement}
 use Rattle.pool_test.proofs.sizes.lengths_fit.Tie as tie
