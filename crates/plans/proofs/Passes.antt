@@ -2,10 +2,11 @@
 use mathlib.Core.Path.{_≡_, refl, sym, ap, ap₂, _∙_}
 use mathlib.Core.List.{List, [], _∷_, _++_, append-nil, flatMap}
 use Prim.Native.Nat.{ℕ, suc, _+_, _*_, _≤_, _<_}
-use native.Mathlib.Nat.{add-zero, mul-add, mul-comm}
+use native.Mathlib.Nat.{add-zero, zero-add}
 use native.Mathlib.Omega.{arith}
-use lib.ListN.{length, set, length-append}
-use lib.Seq.{sets}
+use lib.ListN.{length, drop, set, length-append}
+use lib.Seq.{sets, sets-eq}
+use Rattle.blocks.specs.Lists.{over}
 use Rattle.blocks.proofs.Listed.{left, left-all, left-step, left-none}
 use Rattle.tables.specs.Records.{flat}
 use Rattle.tables.proofs.Records.{flat-append}
@@ -112,6 +113,13 @@ with-append xs ys at b =
     ∙ sets-append (flat copyNumbers xs) (flat copyNumbers ys) b (7 * at)
     ∙ ap (λ (k : ℕ). sets (sets b (7 * at) (flat copyNumbers xs)) k (flat copyNumbers ys))
     (let e : 7 * at + length (flat copyNumbers xs) ≡ 7 * (at + length xs) = omega (arith, length-copies xs) in e)
+
+-- from the front of the buffer on
+pub with-front : (cs : List PreserveCopy) (b : List ℕ) → 7 * length cs ≤ length b → withCopies 0 cs b ≡ over (flat copyNumbers cs) b
+unfolding withCopies over
+with-front cs b h =
+    sets-eq (flat copyNumbers cs) b 0 (omega (arith, length-copies cs))
+    ∙ ap (λ (k : ℕ). flat copyNumbers cs ++ drop k b) (zero-add (length (flat copyNumbers cs)))
 
 -- the rest is to be written behind those that are
 module _ (f : ℕ → List PreserveCopy) (n : ℕ) where

@@ -1,8 +1,11 @@
-// The copies that bring a rename's new version up to the live one.
+// The call `preserve_plan`: the copies that bring a rename's new version up to the live one.
 mod copy;
 mod count;
 mod fill;
+mod history;
+mod plan;
+mod refusal;
 mod since;
 
-pub use since::Since;
-pub use since::Upload;
+pub use plan::PlanAnswer;
+pub use plan::preserve_plan;
