@@ -3,20 +3,18 @@ use mathlib.Core.Path.{_≡_, refl, sym, ap, ap₂, _∙_}
 use mathlib.Core.Bool.{Bool, true, false, cond, not}
 use mathlib.Core.Option.{Option, none, some}
 use mathlib.Core.List.{List, []}
-use Prim.Native.Nat.{ℕ, _+_, _*_, _≤_, _<_}
+use Prim.Native.Nat.{ℕ, _+_, _≤_, _<_}
 use native.Mathlib.Omega.{arith}
-use lib.Dec.{leb}
-use lib.ListN.{length, take, getD}
-use Rattle.blocks.specs.Lists.{ascending, total}
-use Rattle.blocks.proofs.Lists.{either}
+use lib.ListN.{length, getD}
+use Rattle.blocks.specs.Lists.{total}
 use Rattle.tables.specs.Records.{recordAt, table}
-use Rattle.tables.proofs.Records.{length-table, getD-table, take-table}
+use Rattle.tables.proofs.Records.{getD-table, take-table}
 use Rattle.shapes.specs.declared.shape.VersionShape.{VersionShape}
 use Rattle.shapes.specs.Shapes.{sameShape}
 use Rattle.shapes.proofs.Shapes.{same-shape}
 use Rattle.stores.specs.declared.held.Held.{Held}
 use Rattle.stores.specs.declared.held.Held.the-variants.{Known, Unknown}
-use Rattle.stores.specs.Model.{WriteHistory, VersionState, Pool, Out, PreserveCopy, UploadFootprint, guard, find, limit, pagesOf}
+use Rattle.stores.specs.Model.{WriteHistory, Out, PreserveCopy, UploadFootprint, guard, find, pagesOf}
 use Rattle.stores.specs.Histories.{spent}
 use Rattle.stores.specs.PreservePlan.{planWith, planFound}
 use Rattle.records.specs.declared.recorded.Recorded.{Recorded}
@@ -24,7 +22,6 @@ use Rattle.records.specs.declared.recorded.Recorded.the-variants.{Writes, NoHis
 use Rattle.records.specs.declared.texture.TextureRecord.{TextureRecord}
 use Rattle.records.specs.Texture.{readTexture}
 use Rattle.records.specs.Find.{idOf, below}
-use Rattle.records.proofs.Places.{below-length}
 use Rattle.layout.specs.Lent.{Lent}
 use Rattle.layout.specs.Reading.{trackedRecords, recordPages, recordedPages, historyRead, stateRead, modelOf}
 use Rattle.layout.proofs.Fits.{Fits}
@@ -35,11 +32,10 @@ use Rattle.layout.proofs.Places as places
 use Rattle.layout.proofs.Stays.{ids-ascend}
 use Rattle.access.proofs.Ids.{hasId}
 use Rattle.access.proofs.Ids as ids
-use Rattle.plans.specs.declared.since.Since.{Since}
 use Rattle.plans.specs.declared.history.Found.{Found}
 use Rattle.plans.specs.declared.history.Found.the-variants.{OtherShape, NothingRecorded, History}
 use Rattle.plans.specs.Copies.{SinceFits}
-use Rattle.plans.specs.Plan.{recordedFound, foundOf, foundAt, historyFound, sinceHeld, sinceOf, isOther, isSpent}
+use Rattle.plans.specs.Plan.{recordedFound, foundOf, foundAt, historyFound, sinceOf, isOther, isSpent}
 
 -- ---- as the code finds it
 

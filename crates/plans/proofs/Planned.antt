@@ -1,9 +1,9 @@
 -- Laws of one subresource's copy, as the code finds it. Assumes nothing.
 use mathlib.Core.Path.{_≡_, refl, sym, ap, ap₂, subst, _∙_}
 use mathlib.Core.Bool.{Bool, true, false, cond}
-use mathlib.Core.List.{List, [], _∷_}
+use mathlib.Core.List.{List}
 use Prim.Native.Nat.{ℕ, _+_, _-_, _*_, _≤_, _<_}
-use native.Mathlib.Nat.{mul-comm, mul-le-mul, mul-le-mul-right}
+use native.Mathlib.Nat.{mul-comm, mul-le-mul}
 use native.Mathlib.Omega.{arith}
 use lib.ListN.{length, take, drop, getD, length-drop}
 use lib.Seq.{length-take-le}
@@ -13,25 +13,22 @@ use Rattle.shapes.specs.declared.shape.VersionShape.{VersionShape}
 use Rattle.shapes.specs.Shapes.{isShape, slicesOf, levelWidth, levelHeight}
 use Rattle.shapes.proofs.Shapes.{shape-bounds}
 use Rattle.rects.specs.declared.rect.TexelRect.{TexelRect}
-use Rattle.rects.specs.declared.rect.Region.{Region}
 use Rattle.rects.specs.declared.rect.Region.the-variants.{Whole, Part}
 use Rattle.rects.specs.Rects.{wholeLevel}
 use Rattle.tiles.specs.declared.axis.Axis.{Axis}
 use Rattle.tiles.specs.Axes.{AxisOk}
-use Rattle.grids.specs.declared.since.Dirty.{Dirty}
 use Rattle.grids.specs.declared.since.Dirty.the-variants.{Box, Clean}
 use Rattle.grids.specs.Grids.{Tiling, tiled, tilingOf, stampCount, gridIn, boxSince}
 use Rattle.grids.proofs.Tilings.{tiling-ok, count-bound}
 use Rattle.grids.proofs.RowByRow.{tile-place}
 use Rattle.stores.specs.Model.{UploadFootprint, pagesOf}
 use Rattle.stores.specs.Histories.{gridPlace}
-use Rattle.stores.specs.PreservePlan.{sameRect, covers, boxCopy}
+use Rattle.stores.specs.PreservePlan.{sameRect, covers}
 use Rattle.layout.specs.Reading.{pageAt}
-use Rattle.plans.specs.declared.copy.Planned.{Planned}
 use Rattle.plans.specs.declared.copy.Planned.the-variants.{Skipped, Copied}
 use Rattle.plans.specs.declared.since.Since.{Since}
 use Rattle.plans.specs.declared.since.Since.the-variants.{After, Nothing}
-use Rattle.plans.specs.Copies.{SinceFits, gridOn, boxPlanned, plannedSince, plannedAt, copyList}
+use Rattle.plans.specs.Copies.{SinceFits, gridOn, boxPlanned, plannedSince, plannedAt}
 
 -- ---- a box
 

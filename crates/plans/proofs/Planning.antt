@@ -1,19 +1,17 @@
 -- The plan that the code makes is the rule's, and so is what the call says and leaves. Assumes nothing.
 use mathlib.Core.Path.{_≡_, refl, sym, ap, ap₂, _∙_}
 use mathlib.Core.Bool.{Bool, true, false, cond, not, _&&_}
-use mathlib.Core.Option.{Option, none, some}
-use mathlib.Core.List.{List, [], _∷_, _++_, flatMap}
+use mathlib.Core.Option.{none}
+use mathlib.Core.List.{List, [], _++_, flatMap}
 use Prim.Native.Nat.{ℕ, zero, suc, _+_, _*_, _/_, _≤_, _<_}
 use native.Mathlib.Nat.{add-zero, zero-add, suc-mul, zero-mul, mul-one, mul-add-mod-self-right, mod-eq-of-lt}
 use native.Mathlib.Omega.{arith}
 use borrow.Author.Tests.{not-false, ltb-false, ne-eqb}
-use lib.Dec.{ltb, eqb}
+use lib.Dec.{ltb}
 use lib.ListN.{length, getD, length-append}
-use Rattle.blocks.specs.Lists.{listed, over}
-use Rattle.tables.specs.Records.{flat}
+use Rattle.blocks.specs.Lists.{listed}
 use Rattle.shapes.specs.declared.shape.VersionShape.{VersionShape}
-use Rattle.shapes.specs.Shapes.{isShape, slicesOf, levelWidth, levelHeight}
-use Rattle.rects.specs.declared.rect.Region.the-variants.{Whole, Part}
+use Rattle.shapes.specs.Shapes.{isShape, slicesOf}
 use Rattle.grids.specs.declared.since.Dirty.{Dirty}
 use Rattle.grids.specs.declared.since.Dirty.the-variants.{Box, Clean}
 use Rattle.grids.specs.Grids.{StampGrid, tilingOf, gridIn, boxSince}
@@ -22,7 +20,6 @@ use Rattle.stores.specs.declared.held.Held.the-variants.{Known, Unknown}
 use Rattle.stores.specs.Model.{Pool, Out, refused, accepted, guard, find, PreserveCopy, UploadFootprint, pagesOf}
 use Rattle.stores.specs.Histories.{inShape, gridPlace, gridAt}
 use Rattle.stores.specs.PreservePlan.{covers, boxCopy, copyOf, copies, planFound, preservePlan}
-use Rattle.records.specs.declared.recorded.Recorded.the-variants.{Writes}
 use Rattle.layout.specs.Lent.{Lent}
 use Rattle.layout.specs.Reading.{pageAt, gridRead, modelOf}
 use Rattle.layout.specs.IsPool.{isPool}
@@ -33,12 +30,11 @@ use Rattle.layout.proofs.Stays.{nothing-changed}
 use Rattle.layout.proofs.Asked.{asked-refused, asked-accepted}
 use Rattle.plans.specs.declared.copy.Planned.the-variants.{Skipped}
 use Rattle.plans.specs.declared.since.Since.{Since}
-use Rattle.plans.specs.declared.since.Since.the-variants.{After, Nothing}
 use Rattle.plans.specs.declared.plan.PlanAnswer.{PlanAnswer}
 use Rattle.plans.specs.declared.history.Found.{Found}
 use Rattle.plans.specs.declared.history.Found.the-variants.{OtherShape, NothingRecorded, History}
 use Rattle.plans.specs.Copies.{SinceFits, gridOn, boxPlanned, plannedSince, plannedAt, copyList, inOrder, copiesAt, sliceCopies, lentCopies, withCopies}
-use Rattle.plans.specs.Plan.{sinceOf, isOther, isSpent, planRefusal, planTold, toldCount}
+use Rattle.plans.specs.Plan.{sinceOf, isOther, skipsSpent, planRefusal, planTold, toldCount}
 use Rattle.plans.proofs.Passes.{list-most, with-front}
 use Rattle.plans.proofs.Finding.{historyIn, spent-found, foundIn, plan-found, found-fits}
 
@@ -187,13 +183,13 @@ module _ (l : Lent) (pool : isPool l ≡ true) (id : ℕ) (shape : VersionShape)
 
   plan-rule : (room : ℕ)
       → preservePlan (modelOf l) id shape held u room
-      ≡ guards (accepted planned (modelOf l)) (not (isShape shape)) (isOther found) (ltb room (length planned)) (u .cover && inShape shape (u .slice) (u .level) && isSpent found)
+      ≡ guards (accepted planned (modelOf l)) (not (isShape shape)) (isOther found) (ltb room (length planned)) (skipsSpent shape found u)
   unfolding preservePlan guard
   plan-rule room = go (isShape shape) refl
     where
       go : (b : Bool) → isShape shape ≡ b
           → guard (not b) 2 (planFound (modelOf l) shape held u room (find id (modelOf l .textures)))
-          ≡ guards (accepted planned (modelOf l)) (not b) (isOther found) (ltb room (length planned)) (u .cover && inShape shape (u .slice) (u .level) && isSpent found)
+          ≡ guards (accepted planned (modelOf l)) (not b) (isOther found) (ltb room (length planned)) (skipsSpent shape found u)
       go false e = refl
       go true e =
           plan-found l fits id shape held u room
@@ -205,7 +201,7 @@ module _ (l : Lent) (pool : isPool l ≡ true) (id : ℕ) (shape : VersionShape)
   pub plan-room : (room : ℕ) → number-of room ≡ 0 → (isShape shape ≡ true) × (length planned ≤ room)
   unfolding planRefusal
   plan-room room e =
-      let q = number-passed (not (isShape shape)) (isOther found) (ltb room (length planned)) (u .cover && inShape shape (u .slice) (u .level) && isSpent found) e in
+      let q = number-passed (not (isShape shape)) (isOther found) (ltb room (length planned)) (skipsSpent shape found u) e in
       (not-false (isShape shape) (q .0), ltb-false room (length planned) (q .1))
 
   module _ (buffer : List ℕ) where

@@ -1,6 +1,6 @@
 -- The number that a plan is refused by, test by test. Assumes nothing.
-use mathlib.Core.Path.{_≡_, sym, ap, _∙_}
-use mathlib.Core.Bool.{true, false, _&&_}
+use mathlib.Core.Path.{_≡_, ap}
+use mathlib.Core.Bool.{true, false}
 use mathlib.Core.List.{List}
 use Prim.Native.Nat.{ℕ, _*_, _≤_}
 use native.Mathlib.Omega.{arith}
@@ -10,11 +10,10 @@ use lib.ListN.{length}
 use Rattle.shapes.specs.declared.shape.VersionShape.{VersionShape}
 use Rattle.shapes.specs.Shapes.{isShape, slicesOf}
 use Rattle.stores.specs.Model.{UploadFootprint, pagesOf}
-use Rattle.stores.specs.Histories.{inShape}
 use Rattle.plans.specs.declared.since.Since.{Since}
 use Rattle.plans.specs.declared.history.Found.{Found}
 use Rattle.plans.specs.Copies.{lentCopies}
-use Rattle.plans.specs.Plan.{isOther, isSpent, planRefusal}
+use Rattle.plans.specs.Plan.{isOther, skipsSpent, planRefusal}
 use Rattle.plans.proofs.Planned.{pages-most}
 use Rattle.plans.proofs.Planning.{copies-most}
 
@@ -31,12 +30,12 @@ module _ (s : VersionShape) (f : Found) (u : UploadFootprint) (count room : ℕ)
   unfolding planRefusal
   refusal-short a b c = rw (a, b, c)
 
-  pub refusal-spent : isShape s ≡ true → isOther f ≡ false → ltb room count ≡ false → u .cover && inShape s (u .slice) (u .level) && isSpent f ≡ true
+  pub refusal-spent : isShape s ≡ true → isOther f ≡ false → ltb room count ≡ false → skipsSpent s f u ≡ true
       → planRefusal s f u count room ≡ 12
   unfolding planRefusal
   refusal-spent a b c d = rw (a, b, c, d)
 
-  pub refusal-none : isShape s ≡ true → isOther f ≡ false → ltb room count ≡ false → u .cover && inShape s (u .slice) (u .level) && isSpent f ≡ false
+  pub refusal-none : isShape s ≡ true → isOther f ≡ false → ltb room count ≡ false → skipsSpent s f u ≡ false
       → planRefusal s f u count room ≡ 0
   unfolding planRefusal
   refusal-none a b c d = rw (a, b, c, d)

@@ -65,13 +65,17 @@ isSpent (History page n) = leb limit n
 isSpent NothingRecorded = false
 isSpent OtherShape = false
 
+-- a plan would skip a covered level of a history at 2^48
+abbrev pub skipsSpent : VersionShape → Found → UploadFootprint → Bool
+skipsSpent shape found u = u .cover && inShape shape (u .slice) (u .level) && isSpent found
+
 -- 0 for none; `count` is how many copies the plan has, `room` how many the buffer has room for
 unfoldable pub planRefusal : VersionShape → Found → UploadFootprint → ℕ → ℕ → ℕ
 planRefusal shape found u count room =
     cond (not (isShape shape)) 2
     (cond (isOther found) 4
     (cond (ltb room count) 11
-    (cond (u .cover && inShape shape (u .slice) (u .level) && isSpent found) 12 0)))
+    (cond (skipsSpent shape found u) 12 0)))
 
 -- ---- the answer
 

@@ -1,7 +1,7 @@
 // How many copies a plan has, counted before any is written: a refusal leaves the buffer as it was.
 ghost use mathlib.Core.Path.{_≡_};
 ghost use mathlib.Core.Bool.{true};
-ghost use Prim.Native.Nat.{_*_, _≤_, _<_};
+ghost use Prim.Native.Nat.{_≤_, _<_};
 ghost use lib.ListN.{length};
 ghost use Rattle.shapes.specs.Shapes.{isShape, slicesOf};
 ghost use Rattle.stores.specs.Model.{pagesOf};

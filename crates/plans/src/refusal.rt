@@ -6,7 +6,7 @@ ghost use lib.ListN.{length};
 ghost use Rattle.shapes.specs.Shapes.{isShape};
 ghost use Rattle.stores.specs.Model.{pagesOf};
 ghost use Rattle.plans.specs.Copies.{SinceFits, footprint, lentCopies};
-ghost use Rattle.plans.specs.Plan.{planRefusal};
+ghost use Rattle.plans.specs.Plan.{skipsSpent, planRefusal};
 use crate::count::count_copies;
 use crate::history::Found;
 use crate::history::is_other;
@@ -36,6 +36,14 @@ fn is_short(
     room < count_copies(newest, stamps, shape, since, upload)
 }
 
+// The plan would skip a covered level of a history whose write count is spent: its covering write could not be taken.
+fn skips_spent(shape: VersionShape, found: Found, upload: Upload) -> bool
+    ensures { λ r. ⌜ r ≡ skipsSpent shape found (footprint upload) ⌝ }
+{
+    let inside = (upload.slice < slices(shape)) & (upload.level < shape.levels);
+    upload.cover & inside & is_spent(found)
+}
+
 // 01's number, the lowest that applies; 0 if none does.
 pub fn plan_refusal(
     newest: &[u64],
@@ -47,7 +55,8 @@ pub fn plan_refusal(
     room: usize,
 ) -> u64
     requires { ⌜ SinceFits since (pagesOf shape) (length (now newest)) (length (now stamps)) ⌝ }
-    ensures { λ r. ⌜ r ≡ planRefusal shape found (footprint upload) (length (lentCopies (now (newest .entry)) (now (stamps .entry)) shape since (footprint upload))) room ⌝ }
+    ensures { λ r. ⌜ r ≡ planRefusal shape found (footprint upload)
+        (length (lentCopies (now (newest .entry)) (now (stamps .entry)) shape since (footprint upload))) room ⌝ }
 {
     if !is_shape(shape) {
         return 2;
@@ -55,12 +64,12 @@ pub fn plan_refusal(
     if is_other(found) {
         return 4;
     }
-    if is_short(newest, stamps, shape, since, upload, room) {
+    let short = is_short(newest, stamps, shape, since, upload, room);
+    let spent = skips_spent(shape, found, upload);
+    if short {
         return 11;
     }
-    // A level that the plan would skip as covered could not take its covering write.
-    let inside = (upload.slice < slices(shape)) & (upload.level < shape.levels);
-    if upload.cover & inside & is_spent(found) {
+    if spent {
         return 12;
     }
     0

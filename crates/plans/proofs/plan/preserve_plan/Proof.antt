@@ -1,5 +1,4 @@
 -- `preserve_plan` meets its contract: the number, the copies and their count are the rule's. Assumes nothing.
-use mathlib.Core.Path.{_≡_, sym, ap, _∙_}
 use native.Mathlib.Omega.{arith}
 use Rattle.layout.specs.Lent.{Lent, lent}
 use Rattle.layout.proofs.Fits.{Fits}
