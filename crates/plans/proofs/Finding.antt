@@ -102,15 +102,18 @@ module _ (l : Lent) (shape : VersionShape) (held : Held) (u : UploadFootprint) (
   abbrev pub planBy : Found → Out ℕ (List PreserveCopy)
   planBy f = guard (isOther f) 4 (planWith (modelOf l) shape (historyIn l shape f) held u room)
 
-  plan-state : (first page : ℕ) (t : TextureRecord) → planFound (modelOf l) shape held u room (some (stateRead l first page t)) ≡ planBy (foundOf page shape t)
+  plan-state : (first page : ℕ) (t : TextureRecord)
+      → planFound (modelOf l) shape held u room (some (stateRead l first page t)) ≡ planBy (foundOf page shape t)
   unfolding stateRead foundOf guard
   plan-state first page t = go (sameShape (t .shape) shape) refl
     where
       go : (b : Bool) → sameShape (t .shape) shape ≡ b
-          → guard (not b) 4 (planWith (modelOf l) shape (historyRead l (t .shape) page (t .history)) held u room) ≡ planBy (cond b (recordedFound page (t .history)) OtherShape)
+          → guard (not b) 4 (planWith (modelOf l) shape (historyRead l (t .shape) page (t .history)) held u room)
+          ≡ planBy (cond b (recordedFound page (t .history)) OtherShape)
       go true e =
           ap (λ (s : VersionShape). planWith (modelOf l) shape (historyRead l s page (t .history)) held u room) (same-shape (t .shape) shape e)
-          ∙ sym (ap₂ (λ (b : Bool) (h : Option WriteHistory). guard b 4 (planWith (modelOf l) shape h held u room)) (recorded-same page (t .history)) (recorded-in l shape page (t .history)))
+          ∙ sym (ap₂ (λ (b : Bool) (h : Option WriteHistory). guard b 4 (planWith (modelOf l) shape h held u room))
+          (recorded-same page (t .history)) (recorded-in l shape page (t .history)))
       go false e = refl
 
 module _ (l : Lent) (fits : Fits l) (id : ℕ) (shape : VersionShape) where

@@ -83,7 +83,8 @@ list-one p region a b e = ap (λ (x : Planned). copyList x a b) e
 sets-append : (xs ys s : List ℕ) (i : ℕ) → sets s i (xs ++ ys) ≡ sets (sets s i xs) (i + length xs) ys
 sets-append [] ys s i = ap (λ (k : ℕ). sets s k ys) (sym (add-zero i))
 sets-append (x ∷ xs) ys s i =
-    sets-append xs ys (set s i x) (suc i) ∙ ap (λ (k : ℕ). sets (sets (set s i x) (suc i) xs) k ys) (let e : suc i + length xs ≡ i + suc (length xs) = omega arith in e)
+    sets-append xs ys (set s i x) (suc i)
+    ∙ ap (λ (k : ℕ). sets (sets (set s i x) (suc i) xs) k ys) (let e : suc i + length xs ≡ i + suc (length xs) = omega arith in e)
 
 pub copy-long : (c : PreserveCopy) → length (copyNumbers c) ≡ 7
 unfolding copyNumbers

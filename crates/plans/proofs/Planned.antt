@@ -52,7 +52,8 @@ module _ (newest stamps : List ℕ) (s : VersionShape) (u : UploadFootprint) (sl
   unfolding plannedAt
   planned-covered since e = ap (λ (b : Bool). cond b Skipped (plannedSince newest stamps s since slice level)) e
 
-  planned-open : (since : Since) → covers u slice level ≡ false → plannedAt newest stamps s since u slice level ≡ plannedSince newest stamps s since slice level
+  planned-open : (since : Since) → covers u slice level ≡ false
+      → plannedAt newest stamps s since u slice level ≡ plannedSince newest stamps s since slice level
   unfolding plannedAt
   planned-open since e = ap (λ (b : Bool). cond b Skipped (plannedSince newest stamps s since slice level)) e
 

@@ -89,7 +89,8 @@ box-list s slice level (Box r) = refl
 module _ (l : Lent) (paged : 1024 * length (l .newest) ≡ length (l .stamps)) (s : VersionShape) (shaped : isShape s ≡ true) where
   -- the grid on the page is the model's
   grid-same : (page n slice level : ℕ) → page + pagesOf s ≤ length (l .newest) → slice < slicesOf s → level < s .levels
-      → gridOn s level (l .newest) (l .stamps) (page + gridPlace s slice level) ≡ gridAt s (record { writes = n; grids = listed (gridRead l s page) 0 (pagesOf s) }) slice level
+      → gridOn s level (l .newest) (l .stamps) (page + gridPlace s slice level)
+      ≡ gridAt s (record { writes = n; grids = listed (gridRead l s page) 0 (pagesOf s) }) slice level
   unfolding gridOn gridRead
   grid-same page n slice level room p q =
       let k = gridPlace s slice level in
@@ -205,14 +206,16 @@ module _ (l : Lent) (pool : isPool l ≡ true) (id : ℕ) (shape : VersionShape)
       (not-false (isShape shape) (q .0), ltb-false room (length planned) (q .1))
 
   module _ (buffer : List ℕ) where
-    pub plan-refused : (number-of (length buffer / 7) ≡ 0 → ⊥) → (refusal (number-of (length buffer / 7)), (buffer, l)) ≡ preservePlanCall l buffer id shape held u
+    pub plan-refused : (number-of (length buffer / 7) ≡ 0 → ⊥)
+        → (refusal (number-of (length buffer / 7)), (buffer, l)) ≡ preservePlanCall l buffer id shape held u
     unfolding preservePlanCall planRefusal
     plan-refused h =
         sym (ap (inBuffer copyNumbers buffer)
         (asked-refused (λ a. a) l (λ (p : Pool ℕ). preservePlan p id shape held u (length buffer / 7)) pool _
         (plan-rule (length buffer / 7) ∙ guards-refused (accepted planned (modelOf l)) _ _ _ _ h)))
 
-    pub plan-accepted : number-of (length buffer / 7) ≡ 0 → (answer (length planned), (withCopies 0 planned buffer, l)) ≡ preservePlanCall l buffer id shape held u
+    pub plan-accepted : number-of (length buffer / 7) ≡ 0
+        → (answer (length planned), (withCopies 0 planned buffer, l)) ≡ preservePlanCall l buffer id shape held u
     unfolding preservePlanCall planRefusal
     plan-accepted h =
         sym (ap (inBuffer copyNumbers buffer)
@@ -247,10 +250,12 @@ module _ (l : Lent) (pool : isPool l ≡ true) (id : ℕ) (shape : VersionShape)
 
       pub says-accepted : (n count : ℕ) (after : List ℕ)
           → n ≡ planRefusal shape f u (length (lentCopies (l .newest) (l .stamps) shape since u)) (length buffer / 7) → n ≡ 0
-          → count ≡ length (lentCopies (l .newest) (l .stamps) shape since u) → after ≡ withCopies 0 (lentCopies (l .newest) (l .stamps) shape since u) buffer
+          → count ≡ length (lentCopies (l .newest) (l .stamps) shape since u)
+          → after ≡ withCopies 0 (lentCopies (l .newest) (l .stamps) shape since u) buffer
           → Says (record { outcome = 0; count = count }) after l (preservePlanCall l buffer id shape held u)
       says-accepted n count after q z c a = (
         refl,
-        ap₂ (λ (k : ℕ) (x : List ℕ). (answer k, (x, l))) (c ∙ ap length same-copies) (a ∙ ap (λ (cs : List PreserveCopy). withCopies 0 cs buffer) same-copies)
+        ap₂ (λ (k : ℕ) (x : List ℕ). (answer k, (x, l))) (c ∙ ap length same-copies)
+        (a ∙ ap (λ (cs : List PreserveCopy). withCopies 0 cs buffer) same-copies)
             ∙ plan-accepted (sym (same-number n q) ∙ z),
       )

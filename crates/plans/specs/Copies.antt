@@ -39,15 +39,18 @@ SinceFits (After page held) pages newest stamps = (page + pages ≤ newest) × (
 unfoldable pub gridOn : VersionShape → ℕ → List ℕ → List ℕ → ℕ → StampGrid
 gridOn s level newest stamps k = gridIn (tilingOf s level) (getD newest k 0) (pageAt stamps k)
 
+-- none where no tile was stamped since; a box equal to the level is whole
 unfoldable pub boxPlanned : VersionShape → ℕ → Dirty → Planned
 boxPlanned s level Clean = Skipped
 boxPlanned s level (Box r) = Copied (cond (sameRect r (wholeLevel (levelWidth s level) (levelHeight s level))) Whole (Part r))
 
+-- whole where nothing is known, otherwise the box since the held writes
 abbrev pub plannedSince : List ℕ → List ℕ → VersionShape → Since → ℕ → ℕ → Planned
 plannedSince newest stamps s Nothing slice level = Copied Whole
 plannedSince newest stamps s (After page held) slice level =
     boxPlanned s level (boxSince (tilingOf s level) held (gridOn s level newest stamps (page + gridPlace s slice level)))
 
+-- left out where the upload rewrites it entirely
 unfoldable pub plannedAt : List ℕ → List ℕ → VersionShape → Since → UploadFootprint → ℕ → ℕ → Planned
 plannedAt newest stamps s since u slice level = cond (covers u slice level) Skipped (plannedSince newest stamps s since slice level)
 

@@ -18,7 +18,8 @@ use tables::put_record;
 // A subresource's copy, if there is one, behind the `at` copies of the buffer. The answer is how many there are then.
 fn put_copy(buffer: &mut [u64], at: usize, planned: Planned, slice: u64, level: u64) -> usize
     requires { ⌜ 7 * (at + length (copyList planned slice level)) ≤ length (now buffer) ⌝ }
-    ensures { λ r. ⌜ (r ≡ at + length (copyList planned slice level)) × (now (buffer .exit) ≡ withCopies at (copyList planned slice level) (now (buffer .entry))) ⌝ }
+    ensures { λ r. ⌜ (r ≡ at + length (copyList planned slice level))
+        × (now (buffer .exit) ≡ withCopies at (copyList planned slice level) (now (buffer .entry))) ⌝ }
 {
     let Planned::Copied(region) = planned else {
         return at;
@@ -42,7 +43,8 @@ fn put_slice(
     requires { ⌜ (isShape shape ≡ true) × (slice < slicesOf shape) × SinceFits since (pagesOf shape) (length (now newest)) (length (now stamps))
         × (7 * (at + length (sliceCopies (now newest) (now stamps) shape since (footprint upload) slice)) ≤ length (now buffer)) ⌝ }
     ensures { λ r. ⌜ (r ≡ at + length (sliceCopies (now (newest .entry)) (now (stamps .entry)) shape since (footprint upload) slice))
-        × (now (buffer .exit) ≡ withCopies at (sliceCopies (now (newest .entry)) (now (stamps .entry)) shape since (footprint upload) slice) (now (buffer .entry))) ⌝ }
+        × (now (buffer .exit)
+        ≡ withCopies at (sliceCopies (now (newest .entry)) (now (stamps .entry)) shape since (footprint upload) slice) (now (buffer .entry))) ⌝ }
 {
     let mut count = at;
     let mut level = 0;
@@ -66,7 +68,8 @@ pub fn put_copies(
     requires { ⌜ (isShape shape ≡ true) × SinceFits since (pagesOf shape) (length (now newest)) (length (now stamps))
         × (7 * length (lentCopies (now newest) (now stamps) shape since (footprint upload)) ≤ length (now buffer)) ⌝ }
     ensures { λ r. ⌜ (r ≡ length (lentCopies (now (newest .entry)) (now (stamps .entry)) shape since (footprint upload)))
-        × (now (buffer .exit) ≡ withCopies 0 (lentCopies (now (newest .entry)) (now (stamps .entry)) shape since (footprint upload)) (now (buffer .entry))) ⌝ }
+        × (now (buffer .exit)
+        ≡ withCopies 0 (lentCopies (now (newest .entry)) (now (stamps .entry)) shape since (footprint upload)) (now (buffer .entry))) ⌝ }
 {
     let all = slices(shape);
     let mut count = 0;

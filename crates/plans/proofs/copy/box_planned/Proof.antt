@@ -37,7 +37,9 @@ module _ (c : tie.After-same-rect) where
   abbrev entry : tie.Start
   entry = c .before .before .before .before .before .before .before
 
-  same : c .same-rect .result ≡ sameRect (c .before .before .before .before .before .dirty .given .0 .0) (wholeLevel (levelWidth (entry .args .shape) (entry .args .level)) (levelHeight (entry .args .shape) (entry .args .level)))
+  same : c .same-rect .result
+      ≡ sameRect (c .before .before .before .before .before .dirty .given .0 .0)
+      (wholeLevel (levelWidth (entry .args .shape) (entry .args .level)) (levelHeight (entry .args .shape) (entry .args .level)))
   unfolding levelWidth levelHeight
   same =
       c .same-rect .ensures

@@ -30,7 +30,8 @@ module _ (c : tie.After-struct-known4) where
   abbrev entry : tie.Start
   entry = c .before .before .before .before .before .before .before .before .before .before
 
-  page : PageIn (entry .args .shape) (entry .args .slice) (entry .args .level) (c .before .before .since .given .0 .0) (length (entry .args .newest .now)) (length (entry .args .stamps .now))
+  page : PageIn (entry .args .shape) (entry .args .slice) (entry .args .level) (c .before .before .since .given .0 .0)
+      (length (entry .args .newest .now)) (length (entry .args .stamps .now))
   page =
       let a = entry .args in
       let e = entry .pre in

@@ -69,7 +69,8 @@ returns-3 c =
     let k = x .before .before in
     let a = entry k .args in
     sym (found-recorded (a .textures .now) (a .tracked) (a .id) (a .shape) (at k) (x .texture-at .result) (x .texture-at .ensures)
-    (sym (k .has-id .ensures) ∙ not-false _ (x .before .if1 .left)) NoHistory _ (sym (c .before .before .before .same-shape .ensures) ∙ not-false _ (c .before .before .if2 .left))
+    (sym (k .has-id .ensures) ∙ not-false _ (x .before .if1 .left)) NoHistory _
+    (sym (c .before .before .before .same-shape .ensures) ∙ not-false _ (c .before .before .if2 .left))
     (c .enum-told .given .1) refl)
     ∙ placed k
 
