@@ -256,6 +256,6 @@ module _ (l : Lent) (pool : isPool l ≡ true) (id : ℕ) (shape : VersionShape)
       says-accepted n count after q z c a = (
         refl,
         ap₂ (λ (k : ℕ) (x : List ℕ). (answer k, (x, l))) (c ∙ ap length same-copies)
-        (a ∙ ap (λ (cs : List PreserveCopy). withCopies 0 cs buffer) same-copies)
+            (a ∙ ap (λ (cs : List PreserveCopy). withCopies 0 cs buffer) same-copies)
             ∙ plan-accepted (sym (same-number n q) ∙ z),
       )

@@ -43,8 +43,14 @@ pub fn preserve_plan(
 ) -> PlanAnswer
     requires { ⌜ isPool (lent pool book (now textures) (now retiring) (now doomed) (now spares) (now newest) (now stamps)) ≡ true ⌝ }
     ensures { λ r. ⌜ (r .count ≡ toldCount (planTold r))
-        × ((planTold r, (now (buffer .exit), lent pool book (now (textures .entry)) (now (retiring .entry)) (now (doomed .entry))
-        (now (spares .entry)) (now (newest .entry)) (now (stamps .entry))))
+        × ((
+          planTold r,
+          (
+            now (buffer .exit),
+            lent pool book (now (textures .entry)) (now (retiring .entry)) (now (doomed .entry))
+                (now (spares .entry)) (now (newest .entry)) (now (stamps .entry)),
+          ),
+        )
         ≡ preservePlanCall (lent pool book (now (textures .entry)) (now (retiring .entry)) (now (doomed .entry))
         (now (spares .entry)) (now (newest .entry)) (now (stamps .entry))) (now (buffer .entry)) id shape held
         (record { slice = slice; level = level; cover = cover })) ⌝ }
