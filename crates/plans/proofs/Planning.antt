@@ -6,7 +6,7 @@ use mathlib.Core.List.{List, [], _++_, flatMap}
 use Prim.Native.Nat.{ℕ, zero, suc, _+_, _*_, _/_, _≤_, _<_}
 use native.Mathlib.Nat.{add-zero, zero-add, suc-mul, zero-mul, mul-one, mul-add-mod-self-right, mod-eq-of-lt}
 use native.Mathlib.Omega.{arith}
-use borrow.Author.Tests.{not-false, ltb-false, ne-eqb}
+use borrow.Author.Tests.{not-false, ltb-false}
 use lib.Dec.{ltb}
 use lib.ListN.{length, getD, length-append}
 use Rattle.blocks.specs.Lists.{listed}
@@ -23,18 +23,17 @@ use Rattle.stores.specs.PreservePlan.{covers, boxCopy, copyOf, copies, planFoun
 use Rattle.layout.specs.Lent.{Lent}
 use Rattle.layout.specs.Reading.{pageAt, gridRead, modelOf}
 use Rattle.layout.specs.IsPool.{isPool}
-use Rattle.layout.specs.Calls.{Told, refusal, answer, copyNumbers, inBuffer, preservePlanCall}
+use Rattle.layout.specs.Calls.{refusal, answer, copyNumbers, inBuffer, preservePlanCall}
 use Rattle.layout.proofs.Fits.{Fits}
 use Rattle.layout.proofs.FromPool.{pool-fits, grid-place}
 use Rattle.layout.proofs.Stays.{nothing-changed}
 use Rattle.layout.proofs.Asked.{asked-refused, asked-accepted}
 use Rattle.plans.specs.declared.copy.Planned.the-variants.{Skipped}
 use Rattle.plans.specs.declared.since.Since.{Since}
-use Rattle.plans.specs.declared.plan.PlanAnswer.{PlanAnswer}
 use Rattle.plans.specs.declared.history.Found.{Found}
 use Rattle.plans.specs.declared.history.Found.the-variants.{OtherShape, NothingRecorded, History}
 use Rattle.plans.specs.Copies.{SinceFits, gridOn, boxPlanned, plannedSince, plannedAt, copyList, inOrder, copiesAt, sliceCopies, lentCopies, withCopies}
-use Rattle.plans.specs.Plan.{sinceOf, isOther, skipsSpent, planRefusal, planTold, toldCount}
+use Rattle.plans.specs.Plan.{sinceOf, isOther, skipsSpent, planRefusal}
 use Rattle.plans.proofs.Passes.{list-most, with-front}
 use Rattle.plans.proofs.Finding.{historyIn, spent-found, foundIn, plan-found, found-fits}
 
@@ -162,13 +161,6 @@ module _ {A : Type 0} (out : Out ℕ A) where
 
 -- ---- the call
 
--- what the answer says, and what the call leaves, are those of the call's definition
-abbrev pub Says : PlanAnswer → List ℕ → Lent → Told ℕ × (List ℕ × Lent) → Type 0
-Says r buffer l call = (r .count ≡ toldCount (planTold r)) × ((planTold r, (buffer, l)) ≡ call)
-
-told-refused : (n count : ℕ) → (n ≡ 0 → ⊥) → planTold (record { outcome = n; count = count }) ≡ refusal n
-told-refused n count h = ap (λ (b : Bool). cond b (answer count) (refusal n)) (ne-eqb n 0 h)
-
 module _ (l : Lent) (pool : isPool l ≡ true) (id : ℕ) (shape : VersionShape) (held : Held) (u : UploadFootprint) where
   abbrev fits : Fits l
   fits = pool-fits l pool
@@ -240,22 +232,17 @@ module _ (l : Lent) (pool : isPool l ≡ true) (id : ℕ) (shape : VersionShape)
           (r .0, omega (arith, r .1, ap length same-copies))
 
       pub says-refused : (n : ℕ) → n ≡ planRefusal shape f u (length (lentCopies (l .newest) (l .stamps) shape since u)) (length buffer / 7)
-          → (n ≡ 0 → ⊥) → Says (record { outcome = n; count = 0 }) buffer l (preservePlanCall l buffer id shape held u)
+          → (n ≡ 0 → ⊥) → (refusal n, (buffer, l)) ≡ preservePlanCall l buffer id shape held u
       says-refused n q h =
-          let t = told-refused n 0 h in
-          let w = same-number n q in (
-            sym (ap toldCount t),
-            ap (λ (x : Told ℕ). (x, (buffer, l))) t ∙ ap (λ (k : ℕ). (refusal k, (buffer, l))) w ∙ plan-refused (λ z. h (w ∙ z)),
-          )
+          let w = same-number n q in
+          ap (λ (k : ℕ). (refusal k, (buffer, l))) w ∙ plan-refused (λ z. h (w ∙ z))
 
       pub says-accepted : (n count : ℕ) (after : List ℕ)
           → n ≡ planRefusal shape f u (length (lentCopies (l .newest) (l .stamps) shape since u)) (length buffer / 7) → n ≡ 0
           → count ≡ length (lentCopies (l .newest) (l .stamps) shape since u)
           → after ≡ withCopies 0 (lentCopies (l .newest) (l .stamps) shape since u) buffer
-          → Says (record { outcome = 0; count = count }) after l (preservePlanCall l buffer id shape held u)
-      says-accepted n count after q z c a = (
-        refl,
-        ap₂ (λ (k : ℕ) (x : List ℕ). (answer k, (x, l))) (c ∙ ap length same-copies)
-            (a ∙ ap (λ (cs : List PreserveCopy). withCopies 0 cs buffer) same-copies)
-            ∙ plan-accepted (sym (same-number n q) ∙ z),
-      )
+          → (answer count, (after, l)) ≡ preservePlanCall l buffer id shape held u
+      says-accepted n count after q z c a =
+          ap₂ (λ (k : ℕ) (x : List ℕ). (answer k, (x, l))) (c ∙ ap length same-copies)
+          (a ∙ ap (λ (cs : List PreserveCopy). withCopies 0 cs buffer) same-copies)
+          ∙ plan-accepted (sym (same-number n q) ∙ z)

@@ -4,7 +4,7 @@ ghost use mathlib.Core.Bool.{true};
 ghost use Rattle.layout.specs.Lent.{lent};
 ghost use Rattle.layout.specs.IsPool.{isPool};
 ghost use Rattle.layout.specs.Calls.{preservePlanCall};
-ghost use Rattle.plans.specs.Plan.{planTold, toldCount};
+ghost use Rattle.plans.specs.Plan.{plannedTold};
 use crate::fill::put_copies;
 use crate::history::find_history;
 use crate::history::since_of;
@@ -15,11 +15,11 @@ use layout::Pool;
 use shapes::VersionShape;
 use stores::Held;
 
-// 01's number, 0 if the call was accepted, and how many copies stand in the answer buffer, seven numbers each: slice, level,
-// whole or not, left, top, width, height. After a refusal the count is 0.
-pub struct PlanAnswer {
-    pub outcome: u64,
-    pub count: usize,
+// How many copies stand in the answer buffer, or 01's number of a refusal. A copy is seven numbers: slice, level, whole or not,
+// left, top, width, height.
+pub enum Planned {
+    Copies(usize),
+    Refused(u64),
 }
 
 // The copies that bring a version with these held writes up to the live one, when the upload to a slice's level, covering it or
@@ -40,20 +40,11 @@ pub fn preserve_plan(
     slice: u64,
     level: u64,
     cover: bool,
-) -> PlanAnswer
+) -> Planned
     requires { ⌜ isPool (lent pool book (now textures) (now retiring) (now doomed) (now spares) (now newest) (now stamps)) ≡ true ⌝ }
-    ensures { λ r. ⌜ (r .count ≡ toldCount (planTold r))
-        × ((
-          planTold r,
-          (
-            now (buffer .exit),
-            lent pool book (now (textures .entry)) (now (retiring .entry)) (now (doomed .entry))
-                (now (spares .entry)) (now (newest .entry)) (now (stamps .entry)),
-          ),
-        )
-        ≡ preservePlanCall (lent pool book (now (textures .entry)) (now (retiring .entry)) (now (doomed .entry))
-        (now (spares .entry)) (now (newest .entry)) (now (stamps .entry))) (now (buffer .entry)) id shape held
-        (record { slice = slice; level = level; cover = cover })) ⌝ }
+    ensures { λ r. ⌜ (plannedTold r, (now (buffer .exit), lent pool book (now (textures .entry)) (now (retiring .entry)) (now (doomed .entry)) (now (spares .entry)) (now (newest .entry)) (now (stamps .entry))))
+        ≡ preservePlanCall (lent pool book (now (textures .entry)) (now (retiring .entry)) (now (doomed .entry)) (now (spares .entry)) (now (newest .entry)) (now (stamps .entry)))
+        (now (buffer .entry)) id shape held (record { slice = slice; level = level; cover = cover }) ⌝ }
 {
     let tracked = pool.tracked;
     let found = find_history(textures, tracked, id, shape);
@@ -66,11 +57,8 @@ pub fn preserve_plan(
     let room = buffer.len() / 7;
     let why = plan_refusal(newest, stamps, shape, found, since, upload, room);
     if why != 0 {
-        return PlanAnswer {
-            outcome: why,
-            count: 0,
-        };
+        return Planned::Refused(why);
     }
     let count = put_copies(buffer, newest, stamps, shape, since, upload);
-    PlanAnswer { outcome: 0, count }
+    Planned::Copies(count)
 }
