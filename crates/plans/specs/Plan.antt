@@ -22,8 +22,8 @@ use Rattle.plans.specs.declared.since.Since.{Since}
 use Rattle.plans.specs.declared.since.Since.the-variants.{After, Nothing}
 use Rattle.plans.specs.declared.history.Found.{Found}
 use Rattle.plans.specs.declared.history.Found.the-variants.{OtherShape, NothingRecorded, History}
-use Rattle.plans.specs.declared.plan.Planned.{Planned}
-use Rattle.plans.specs.declared.plan.Planned.the-variants.{Copies, Refused}
+use Rattle.plans.specs.declared.plan.PlanAnswer.{PlanAnswer}
+use Rattle.plans.specs.declared.plan.PlanAnswer.the-variants.{Copies, Refused}
 
 -- ---- the texture
 
@@ -81,6 +81,6 @@ planRefusal shape found u count room =
 -- ---- the answer
 
 -- how many copies, or 01's number of a refusal
-abbrev pub plannedTold : Planned → Told ℕ
+abbrev pub plannedTold : PlanAnswer → Told ℕ
 plannedTold (Copies n) = answer n
 plannedTold (Refused n) = refusal n

@@ -7,5 +7,5 @@ mod plan;
 mod refusal;
 mod since;
 
-pub use plan::Planned;
+pub use plan::PlanAnswer;
 pub use plan::preserve_plan;

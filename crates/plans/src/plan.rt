@@ -17,7 +17,7 @@ use stores::Held;
 
 // How many copies stand in the answer buffer, or 01's number of a refusal. A copy is seven numbers: slice, level, whole or not,
 // left, top, width, height.
-pub enum Planned {
+pub enum PlanAnswer {
     Copies(usize),
     Refused(u64),
 }
@@ -40,7 +40,7 @@ pub fn preserve_plan(
     slice: u64,
     level: u64,
     cover: bool,
-) -> Planned
+) -> PlanAnswer
     requires { ⌜ isPool (lent pool book (now textures) (now retiring) (now doomed) (now spares) (now newest) (now stamps)) ≡ true ⌝ }
     ensures { λ r. ⌜ (plannedTold r, (now (buffer .exit), lent pool book (now (textures .entry)) (now (retiring .entry)) (now (doomed .entry)) (now (spares .entry)) (now (newest .entry)) (now (stamps .entry))))
         ≡ preservePlanCall (lent pool book (now (textures .entry)) (now (retiring .entry)) (now (doomed .entry)) (now (spares .entry)) (now (newest .entry)) (now (stamps .entry)))
@@ -57,8 +57,8 @@ pub fn preserve_plan(
     let room = buffer.len() / 7;
     let why = plan_refusal(newest, stamps, shape, found, since, upload, room);
     if why != 0 {
-        return Planned::Refused(why);
+        return PlanAnswer::Refused(why);
     }
     let count = put_copies(buffer, newest, stamps, shape, since, upload);
-    Planned::Copies(count)
+    PlanAnswer::Copies(count)
 }
