@@ -1,3 +1,4 @@
 pub mod Picked
 pub mod Sorted
-pub mod Line
+pub mod ByLine
+pub mod Parked

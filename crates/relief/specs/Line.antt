@@ -22,10 +22,10 @@ isAt line a = eqb (a .parked) line
 unfoldable pub bytesBefore : ℕ → List Aged → ℕ
 bytesBefore line xs = total bytesOfAged (keep (isBefore line) xs)
 
--- the last line such that what is parked before it does not cover the excess
-pub record IsLine (dooming excess : ℕ) (xs : List Aged) (line : ℕ) : Type 0 where
-  pub short : dooming + bytesBefore line xs < excess
-  pub last : (excess ≤ dooming + bytesBefore (suc line) xs) ⊎ (limit < line)
+-- the last line such that what is parked before it does not cover the excess; `below` says how many bytes are parked before a line
+pub record IsLine (dooming excess : ℕ) (below : ℕ → ℕ) (line : ℕ) : Type 0 where
+  pub short : dooming + below line < excess
+  pub last : (excess ≤ dooming + below (suc line)) ⊎ (limit < line)
 
 -- the bytes freed by what is parked before the line and by those picked among some at it
 unfoldable pub freedWith : ℕ → ℕ → List Aged → ℕ

@@ -21,7 +21,7 @@ use Rattle.relief.specs.Line.{bytesOfAged, isBefore, isAt, bytesBefore, 
 use Rattle.relief.proofs.Picked.{picked-none, picked-all, picked-covers, picked-append, all-picked, count-append, count-all, count-none}
 use Rattle.relief.proofs.Sorted.{total-sorted, count-sorted, sorted-parted, isAfter, none-after, bytes-next, Rising, level, rising-both, rising-same, sorted-at}
 
-module _ (dooming excess : ℕ) (xs : List Aged) (line : ℕ) (L : IsLine dooming excess xs line) (rising : Rising xs) (parked : All (λ (a : Aged). a .parked ≤ limit) xs) where
+module _ (dooming excess : ℕ) (xs : List Aged) (line : ℕ) (L : IsLine dooming excess (λ n. bytesBefore n xs) line) (rising : Rising xs) (parked : All (λ (a : Aged). a .parked ≤ limit) xs) where
   abbrev freed : ℕ
   freed = dooming + bytesBefore line xs
 
@@ -206,7 +206,7 @@ module _ {W : Type 0} where
         ) in q)
 
     -- what the texture gives
-    pub texture-gives : (dooming excess line : ℕ) → IsLine dooming excess (agedAll (us ++ (t ∷ vs))) line → All StateFormed (us ++ (t ∷ vs))
+    pub texture-gives : (dooming excess line : ℕ) → IsLine dooming excess (λ n. bytesBefore n (agedAll (us ++ (t ∷ vs)))) line → All StateFormed (us ++ (t ∷ vs))
         → countOf (t .id) (picked dooming excess (byAge (agedAll (us ++ (t ∷ vs)))))
         ≡ gives (freedWith (dooming + bytesBefore line (agedAll (us ++ (t ∷ vs)))) excess (keep (isAt line) (agedAll us))) excess (bytesOf (t .shape)) line
         (map parkedOf (t .spares))
