@@ -3,7 +3,7 @@
 use Prim.Native.Nat.{ℕ}
 use mathlib.Core.Path.{_≡_, _∙_}
 use mathlib.Core.Bool.{true}
-use mathlib.Core.List.{List, [], _∷_}
+use mathlib.Core.List.{List, [], _∷_, map}
 use Rattle.stores.specs.Model.{Pool, Places, Out, refused, accepted}
 use Rattle.stores.specs.Formed.{Formed}
 use Rattle.stores.specs.Closed.{OutFormed, formed}
@@ -40,15 +40,20 @@ call-formed p k (between c) = between-formed p k c
 
 -- ---- demand 3 of what represents the pool
 
-module _ {S : Type 0} (calls : S → Call → Reply × S) (Represents : S → Pool ℕ → Type 0)
-    (simulates : (σ : S) (p : Pool ℕ) (c : Call) → Formed p → Represents σ p → (calls σ c .0 ≡ call p c .0) × Represents (calls σ c .1) (call p c .1)) where
-  along : (s : State) (p : Pool ℕ) (σ : S) (cs : List Call) → Formed p → Represents σ p → Throughout s p cs → ThroughoutOf calls s σ cs
+module _ {S C : Type 0} (standsFor : C → Call) (calls : S → C → Reply × S) (Represents : S → Pool ℕ → Type 0)
+    (simulates : (σ : S) (p : Pool ℕ) (c : C) → Formed p → Represents σ p
+    → (calls σ c .0 ≡ call p (standsFor c) .0) × Represents (calls σ c .1) (call p (standsFor c) .1)) where
+  along : (s : State) (p : Pool ℕ) (σ : S) (cs : List C) → Formed p → Represents σ p → Throughout s p (map standsFor cs)
+      → ThroughoutOf standsFor calls s σ cs
   along s p σ [] k r t = t .agrees
-  along s p σ (c ∷ cs) k r t =
-      (t .0 .agrees, simulates σ p c k r .0 ∙ t .1, along (step s c) (call p c .1) (calls σ c .1) cs (call-formed p k c) (simulates σ p c k r .1) (t .2))
+  along s p σ (c ∷ cs) k r t = (
+    t .0 .agrees,
+    simulates σ p c k r .0 ∙ t .1,
+    along (step s (standsFor c)) (call p (standsFor c) .1) (calls σ c .1) cs (call-formed p k (standsFor c)) (simulates σ p c k r .1) (t .2),
+  )
 
-  pub demand3-of : (places : Places) → arePlaces places ≡ true → (working : ℕ) (σ : S) → Represents σ (opened places working) → (cs : List Call)
-      → Renames (start places working) cs → ThroughoutOf calls (start places working) σ cs
+  pub demand3-of : (places : Places) → arePlaces places ≡ true → (working : ℕ) (σ : S) → Represents σ (opened places working) → (cs : List C)
+      → Renames (start places working) (map standsFor cs) → ThroughoutOf standsFor calls (start places working) σ cs
   unfolding Demand3
   demand3-of places enough working σ r cs list =
-      along (start places working) (opened places working) σ cs (opened-formed places enough working) r (demand3 places working cs list)
+      along (start places working) (opened places working) σ cs (opened-formed places enough working) r (demand3 places working (map standsFor cs) list)

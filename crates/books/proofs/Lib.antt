@@ -9,4 +9,7 @@ pub mod Natural
 pub mod NaturalOut
 pub mod Demand3
 pub mod End
+pub mod Places
+pub mod Answers
+pub mod LentLists
 pub mod Sample

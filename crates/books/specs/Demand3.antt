@@ -106,8 +106,10 @@ Throughout s p (c ∷ cs) = Here s p × (call p c .0 ≡ replied s c) × Through
 unfoldable pub Demand3 : Type 0
 Demand3 = (places : Places) (working : ℕ) (cs : List Call) → Renames (start places working) cs → Throughout (start places working) (opened places working) cs
 
--- the same of anything that takes calls: it answers each as the version book's copy does, and the books agree at every point
-module _ {S : Type 0} (calls : S → Call → Reply × S) where
-  abbrev pub ThroughoutOf : State → S → List Call → Type 0
+-- the same of anything that takes calls, of whatever type, each of which stands for one of the model's: it answers each as the version book's copy
+-- does, and the books agree at every point
+module _ {S C : Type 0} (standsFor : C → Call) (calls : S → C → Reply × S) where
+  abbrev pub ThroughoutOf : State → S → List C → Type 0
   ThroughoutOf s σ [] = (id : ℕ) → Agrees (s .books id)
-  ThroughoutOf s σ (c ∷ cs) = ((id : ℕ) → Agrees (s .books id)) × (calls σ c .0 ≡ replied s c) × ThroughoutOf (step s c) (calls σ c .1) cs
+  ThroughoutOf s σ (c ∷ cs) =
+      ((id : ℕ) → Agrees (s .books id)) × (calls σ c .0 ≡ replied s (standsFor c)) × ThroughoutOf (step s (standsFor c)) (calls σ c .1) cs

@@ -5,3 +5,4 @@ pub mod Carry
 pub mod Lists
 pub mod Demand3
 pub mod Sample
+pub mod LentLists

@@ -6,9 +6,10 @@ use Prim.Native.Nat.{ℕ, suc, _≤_}
 use native.Mathlib.Omega.{arith}
 use lib.Dec.{ltb}
 use borrow.Author.Tests.{ltb-true, lt-ltb}
-use Rattle.blocks.specs.Lists.{all, ascending}
+use Rattle.blocks.specs.Lists.{all, ascending, tests}
 use Rattle.blocks.specs.All.{All, nil, cons}
-use Rattle.blocks.proofs.Lists.{and-both}
+use Rattle.blocks.proofs.Lists.{and-both, pass}
+use Rattle.blocks.proofs.All.{all-at}
 use Rattle.stores.specs.Model.{VersionState}
 use Rattle.stores.specs.Formed.{Ascending, end, more}
 use Rattle.layout.specs.IsPool.{stateId}
@@ -41,3 +42,7 @@ unfolding ascending
 ascending-passes end = refl
 ascending-passes (more h end) = refl
 ascending-passes (more {t = t} h (more {t = u} k r)) = ap₂ (λ (a b : Bool). a && b) (lt-ltb (t .id) (u .id) k) (ascending-passes (more k r))
+
+-- a list of tests passes where all of them do
+pub every : {bs : List Bool} → All (λ (b : Bool). b ≡ true) bs → tests bs ≡ true
+every {bs = bs} a = pass bs (λ k h. all-at bs k true h a)

@@ -1,6 +1,6 @@
 -- Lent memory that passes the test has every one of the facts. Assumes nothing.
 use mathlib.Core.Path.{_≡_, refl, sym, ap, ap₂, _∙_, subst}
-use mathlib.Core.Bool.{Bool, true, false}
+use mathlib.Core.Bool.{Bool, true, false, cond}
 use mathlib.Core.Option.{Option, none, some}
 use mathlib.Core.List.{List, [], _∷_}
 use Prim.Native.Nat.{ℕ, suc, _+_, _*_, _%_, _≤_, _<_}
@@ -23,7 +23,7 @@ use Rattle.grids.proofs.Tilings.{tiling-ok, count-bound}
 use Rattle.grids.proofs.RowByRow.{tile-place}
 use Rattle.stores.specs.declared.held.Held.{Held}
 use Rattle.stores.specs.declared.held.Held.the-variants.{Known, Unknown}
-use Rattle.stores.specs.Model.{Spare, Retiring, Doomed, VersionState, Places, pagesOf, pagesUsed, handCount, versionsUsed}
+use Rattle.stores.specs.Model.{WriteHistory, Spare, Retiring, Doomed, VersionState, Places, pagesOf, pagesUsed, hasHistory, handCount, versionsUsed}
 use Rattle.stores.specs.Histories.{gridAt, gridPlace}
 use Rattle.stores.specs.Open.{arePlaces}
 use Rattle.stores.specs.Formed.{Given, HeldFormed, GridFormed, HistoryFormed, SpareFormed, RetiringFormed, DoomedFormed, StateFormed, Formed}
@@ -52,15 +52,13 @@ module _ (l : Lent) where
   total-spares first page (t ∷ ts) =
       ap₂ (λ (a b : ℕ). a + b) (length-listed (spareRead l) first (t .spares)) (total-spares (first + t .spares) (page + recordPages t) ts)
 
+  history-pages : (s : VersionShape) (page : ℕ) (h : Recorded) → cond (hasHistory (historyRead l s page h)) (pagesOf s) 0 ≡ recordedPages h s
+  history-pages s page NoHistory = refl
+  history-pages s page (Writes n) = refl
+
   pub pages-read : (first page : ℕ) (t : TextureRecord) → pagesUsed (stateRead l first page t) ≡ recordPages t
   unfolding stateRead
-  pages-read first page t = go (t .history)
-    where
-      go : (h : Recorded)
-          → pagesUsed (record { id = t .id; shape = t .shape; epoch = t .epoch; history = historyRead l (t .shape) page h; birth = t .birth; rename = t .rename; due = t .due; spares = listed (spareRead l) first (t .spares) })
-          ≡ recordedPages h (t .shape)
-      go NoHistory = refl
-      go (Writes n) = refl
+  pages-read first page t = history-pages (t .shape) page (t .history)
 
   pub total-pages : (first page : ℕ) (ts : List TextureRecord) → total pagesUsed (statesRead l first page ts) ≡ total recordPages ts
   unfolding statesRead total
@@ -81,26 +79,33 @@ grid-formed g writes newest page h e =
       below = leb-true _ _ (q .1);
     }
 
+pub length-page : (l : Lent) → 1024 * length (l .newest) ≡ length (l .stamps) → (page : ℕ) → page < length (l .newest)
+    → length (pageAt (l .stamps) page) ≡ 1024
+length-page l paged page h = length-take-le 1024 (drop (1024 * page) (l .stamps)) (omega (arith, length-drop (1024 * page) (l .stamps)))
+
 module _ (l : Lent) (paged : 1024 * length (l .newest) ≡ length (l .stamps)) (s : VersionShape) (shaped : isShape s ≡ true)
     (page : ℕ) (room : page + pagesOf s ≤ length (l .newest)) where
-  pub length-page : (k : ℕ) → k < pagesOf s → length (pageAt (l .stamps) (page + k)) ≡ 1024
-  length-page k h = length-take-le 1024 (drop (1024 * (page + k)) (l .stamps)) (omega (arith, length-drop (1024 * (page + k)) (l .stamps)))
+  -- the history that is read there
+  abbrev readHistory : ℕ → WriteHistory
+  readHistory writes = record { writes = writes; grids = listed (gridRead l s page) 0 (pagesOf s) }
 
   -- the grid of a subresource is that of its page
   pub grid-place : (writes slice level : ℕ) → slice < slicesOf s → level < s .levels
       → (gridPlace s slice level < pagesOf s)
-      × (gridAt s (record { writes = writes; grids = listed (gridRead l s page) 0 (pagesOf s) }) slice level ≡ gridRead l s page (gridPlace s slice level))
+      × (gridAt s (readHistory writes) slice level ≡ gridRead l s page (gridPlace s slice level))
   unfolding gridAt pagesOf
   grid-place writes slice level p q =
       let h : gridPlace s slice level < slicesOf s * s .levels =
       omega (arith, tile-place (s .levels) (slicesOf s) level slice q p, mul-comm (s .levels) (slicesOf s)) in
-      (h, getD-listed (gridRead l s page) 0 (slicesOf s * s .levels) (gridPlace s slice level) _ h ∙ ap (gridRead l s page) (zero-add (gridPlace s slice level)))
+      let k = gridPlace s slice level in
+      (h, getD-listed (gridRead l s page) 0 (slicesOf s * s .levels) k _ h ∙ ap (gridRead l s page) (zero-add k))
 
   page-formed : (n k : ℕ) → k < pagesOf s → isGrid n (gridRead l s page k) ≡ true → GridFormed (tilingOf s (k % s .levels)) n (gridRead l s page k)
   unfolding gridRead
   page-formed n k h e =
       let c = count-bound (tilingOf s (k % s .levels)) (tiling-ok s shaped (k % s .levels)) in
-      grid-formed (tilingOf s (k % s .levels)) n (getD (l .newest) (page + k) 0) (pageAt (l .stamps) (page + k)) (omega (arith, c, length-page k h)) e
+      grid-formed (tilingOf s (k % s .levels)) n (getD (l .newest) (page + k) 0) (pageAt (l .stamps) (page + k))
+      (omega (arith, c, length-page l paged (page + k) (omega arith))) e
 
   place-level : (slice level : ℕ) → level < s .levels → gridPlace s slice level % s .levels ≡ level
   place-level slice level h = mul-add-mod-self-right slice (s .levels) level ∙ mod-eq-of-lt h
@@ -117,15 +122,15 @@ module _ (l : Lent) (paged : 1024 * length (l .newest) ≡ length (l .stamps)) (
       record { writes = leb-true _ _ (q .0); size = length-grids; grids = λ slice level a b. go slice level a b (q .1) }
     where
       go : (slice level : ℕ) → slice < slicesOf s → level < s .levels → all (isGrid n) (listed (gridRead l s page) 0 (pagesOf s)) ≡ true
-          → GridFormed (tilingOf s level) n (gridAt s (record { writes = n; grids = listed (gridRead l s page) 0 (pagesOf s) }) slice level)
+          → GridFormed (tilingOf s level) n (gridAt s (readHistory n) slice level)
       go slice level a b e =
           let k = gridPlace s slice level in
           let w = grid-place n slice level a b in
           let d : StampGrid = record { newest = 0; stamps = [] } in
-          let f : getD (listed (gridRead l s page) 0 (pagesOf s)) k d ≡ gridRead l s page k =
+          let f : getD (readHistory n .grids) k d ≡ gridRead l s page k =
           getD-listed (gridRead l s page) 0 (pagesOf s) k d (w .0) ∙ ap (gridRead l s page) (zero-add k) in
-          let g = all-get (isGrid n) (listed (gridRead l s page) 0 (pagesOf s)) k d e (omega (arith, w .0, length-listed (gridRead l s page) 0 (pagesOf s))) in
-          subst (λ (m : ℕ). GridFormed (tilingOf s m) n (gridAt s (record { writes = n; grids = listed (gridRead l s page) 0 (pagesOf s) }) slice level)) (place-level slice level b)
+          let g = all-get (isGrid n) (readHistory n .grids) k d e (omega (arith, w .0, length-listed (gridRead l s page) 0 (pagesOf s))) in
+          subst (λ (m : ℕ). GridFormed (tilingOf s m) n (gridAt s (readHistory n) slice level)) (place-level slice level b)
           (subst (λ (x : StampGrid). GridFormed (tilingOf s (k % s .levels)) n x) (sym (w .1))
           (page-formed n k (w .0) (ap (isGrid n) (sym f) ∙ g)))
 
@@ -179,7 +184,8 @@ module _ (l : Lent) (paged : 1024 * length (l .newest) ≡ length (l .stamps)) w
       go NoHistory room f = tt
       go (Writes n) room f = history-formed l paged (t .shape) (passed _ e 0) page room (Writes n) f
 
-  states-formed : (first page : ℕ) (ts : List TextureRecord) → page + total recordPages ts ≤ length (l .newest) → all isState (statesRead l first page ts) ≡ true
+  states-formed : (first page : ℕ) (ts : List TextureRecord) → page + total recordPages ts ≤ length (l .newest)
+      → all isState (statesRead l first page ts) ≡ true
       → All StateFormed (statesRead l first page ts)
   unfolding statesRead total all
   states-formed first page [] room e = nil
@@ -194,7 +200,8 @@ module _ (l : Lent) where
   hand-read true = refl
   hand-read false = refl
 
-  pub versions-read : versionsUsed (modelOf l) ≡ l .pool .queued + handPlaces (l .pool .popped) + total (λ (t : TextureRecord). t .spares) (trackedRecords l) + l .pool .doomed
+  pub versions-read : versionsUsed (modelOf l)
+      ≡ l .pool .queued + handPlaces (l .pool .popped) + total (λ (t : TextureRecord). t .spares) (trackedRecords l) + l .pool .doomed
   unfolding modelOf
   versions-read =
       ap₂ (λ (a b : ℕ). a + b)
@@ -237,6 +244,42 @@ enough n e = record {
   pages = leb-true _ _ (passed _ e 4);
 }
 
+-- ---- the slices' lengths
+
+module _ (l : Lent) (e : sizesFit l ≡ true) where
+  pub are-places : arePlaces (modelOf l .places) ≡ true
+  unfolding sizesFit
+  are-places = passed _ e 0
+
+  pub whole-textures : 19 * modelOf l .places .textures ≡ length (l .textures)
+  unfolding sizesFit
+  whole-textures = sym (eqb-true _ _ (passed _ e 1))
+
+  pub whole-retiring : 7 * versionPlaces l ≡ length (l .retiring)
+  unfolding sizesFit
+  whole-retiring = sym (eqb-true _ _ (passed _ e 2))
+
+  pub whole-doomed : 2 * versionPlaces l ≡ length (l .doomed)
+  unfolding sizesFit
+  whole-doomed = sym (eqb-true _ _ (passed _ e 3))
+
+  pub whole-spares : 3 * versionPlaces l ≡ length (l .spares)
+  unfolding sizesFit
+  whole-spares = sym (eqb-true _ _ (passed _ e 4))
+
+  pub whole-stamps : 1024 * length (l .newest) ≡ length (l .stamps)
+  unfolding sizesFit
+  whole-stamps = sym (eqb-true _ _ (passed _ e 5))
+
+  pub some-version : 1 ≤ versionPlaces l
+  some-version = omega (arith, enough (modelOf l .places) are-places .version, version-places l)
+
+  pub most-versions : versionPlaces l ≤ 4096
+  most-versions = omega (arith, enough (modelOf l .places) are-places .versions, version-places l)
+
+  pub most-pages : length (l .newest) ≤ 4096
+  most-pages = omega (arith, enough (modelOf l .places) are-places .pages, page-places l)
+
 -- ---- the whole
 
 module _ (l : Lent) (e : isPool l ≡ true) where
@@ -255,14 +298,6 @@ module _ (l : Lent) (e : isPool l ≡ true) where
   forming : isFormed (modelOf l) ≡ true
   unfolding isPool
   forming = passed _ e 3
-
-  are-places : arePlaces (modelOf l .places) ≡ true
-  unfolding sizesFit
-  are-places = passed _ sized 0
-
-  paged : 1024 * length (l .newest) ≡ length (l .stamps)
-  unfolding sizesFit
-  paged = sym (eqb-true _ _ (passed _ sized 5))
 
   pages-claimed : total recordPages (trackedRecords l) ≡ l .pool .pages
   unfolding runsFit
@@ -286,7 +321,7 @@ module _ (l : Lent) (e : isPool l ≡ true) where
 
   textures-formed : All StateFormed (modelOf l .textures)
   unfolding isFormed modelOf
-  textures-formed = states-formed l paged 0 0 (trackedRecords l) (omega (arith, pages-claimed, pages-counted)) (passed _ forming 1)
+  textures-formed = states-formed l (whole-stamps l sized) 0 0 (trackedRecords l) (omega (arith, pages-claimed, pages-counted)) (passed _ forming 1)
 
   model-formed : Formed (modelOf l)
   unfolding isFormed
@@ -307,21 +342,21 @@ module _ (l : Lent) (e : isPool l ≡ true) where
     eight = eqb-true _ _ (passed _ forming 10);
     arrivals = all-holds isArrival arrival-formed (modelOf l .pacing .arrivals) (passed _ forming 11);
     since = leb-true _ _ (passed _ forming 12);
-    most = enough (modelOf l .places) are-places .versions;
+    most = enough (modelOf l .places) (are-places l sized) .versions;
   }
 
   pub pool-fits : Fits l
-  unfolding sizesFit countsFit
+  unfolding countsFit
   pool-fits = record {
-    places = are-places;
-    textures = sym (eqb-true _ _ (passed _ sized 1));
-    retiring = sym (eqb-true _ _ (passed _ sized 2));
-    doomed = sym (eqb-true _ _ (passed _ sized 3));
-    spares = sym (eqb-true _ _ (passed _ sized 4));
-    stamps = paged;
-    least = omega (arith, enough (modelOf l .places) are-places .version, version-places l);
-    most = omega (arith, enough (modelOf l .places) are-places .versions, version-places l);
-    newest = omega (arith, enough (modelOf l .places) are-places .pages, page-places l);
+    places = are-places l sized;
+    textures = whole-textures l sized;
+    retiring = whole-retiring l sized;
+    doomed = whole-doomed l sized;
+    spares = whole-spares l sized;
+    stamps = whole-stamps l sized;
+    least = some-version l sized;
+    most = most-versions l sized;
+    newest = most-pages l sized;
     tracked = tracked-counted;
     head = ltb-true _ _ (passed _ counted 1);
     first = ltb-true _ _ (passed _ counted 2);

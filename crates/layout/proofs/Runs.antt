@@ -18,6 +18,7 @@ use Rattle.records.specs.declared.texture.TextureRecord.{TextureRecord}
 use Rattle.records.specs.Texture.{readTexture}
 use Rattle.layout.specs.Lent.{Lent}
 use Rattle.layout.specs.Reading.{trackedRecords, gridRead, historyRead, recordedPages, recordPages, spareRead, stateRead, statesRead, modelOf}
+use Rattle.layout.specs.IsPool.{stateId}
 use Rattle.layout.specs.Writing.{recordedOf, textureRecord, everySpare, gridsOf, newestOf}
 
 abbrev pub sparesOf : TextureRecord → ℕ
@@ -199,3 +200,7 @@ module _ (l : Lent) where
       state-at i 0 0 (trackedRecords l) d (readTexture []) (omega (arith, tracked-records))
       ∙ ap₂ (λ (a b : ℕ). stateRead l a b (getD (trackedRecords l) i (readTexture [])))
       (zero-add (total sparesOf (take i (trackedRecords l)))) (zero-add (total recordPages (take i (trackedRecords l))))
+
+  pub id-model : (i : ℕ) (d : VersionState ℕ) → i < l .pool .tracked → getD (modelOf l .textures) i d .id ≡ getD (trackedRecords l) i (readTexture []) .id
+  unfolding stateOf stateRead
+  id-model i d h = ap stateId (model-at i d h)

@@ -1,0 +1,23 @@
+// The lent slices read and written, one record or one run at a time. Every call of the pool is made of these.
+mod doomed;
+mod pages;
+mod retiring;
+mod spare;
+mod texture;
+
+pub use doomed::doomed_at;
+pub use doomed::push_doomed;
+pub use pages::history_pages;
+pub use pages::pages_at;
+pub use pages::pages_before;
+pub use pages::shape_pages;
+pub use retiring::push_retiring;
+pub use retiring::retiring_at;
+pub use spare::insert_spare;
+pub use spare::spare_at;
+pub use spare::spares_before;
+pub use texture::has_id;
+pub use texture::insert_texture;
+pub use texture::put_texture;
+pub use texture::remove_texture;
+pub use texture::texture_at;

@@ -1,0 +1,50 @@
+// The spares' records: three numbers each, packed texture by texture from the front of their slice, so that a texture's begin behind
+// those of the textures before it.
+ghost use mathlib.Core.Path.{_≡_};
+ghost use Prim.Native.Nat.{_+_, _*_, _-_, _≤_};
+ghost use lib.ListN.{length};
+ghost use lib.Seq.{sets};
+ghost use Rattle.blocks.specs.Blocks.{moved};
+ghost use Rattle.blocks.specs.Lists.{total};
+ghost use Rattle.tables.specs.Records.{recordAt, table};
+ghost use Rattle.records.specs.Held.{HeldFits};
+ghost use Rattle.records.specs.Spare.{readSpare, writeSpare};
+ghost use Rattle.records.specs.Texture.{readTexture};
+use records::SpareRecord;
+use records::read_spare;
+use records::spare_numbers;
+use tables::insert_record;
+use tables::record_at;
+
+// Record k.
+pub fn spare_at(s: &[u64], k: usize) -> SpareRecord
+    requires { ⌜ 3 * k + 3 ≤ length (now s) ⌝ }
+    ensures { λ r. ⌜ r ≡ recordAt 3 readSpare (now (s .entry)) k ⌝ }
+{
+    let part = record_at(s, 3, k);
+    read_spare(part)
+}
+
+// Of n records, one more put in before record k.
+pub fn insert_spare(s: &mut [u64], n: usize, k: usize, x: SpareRecord)
+    requires { ⌜ (3 * n + 3 ≤ length (now s)) × (k ≤ n) × HeldFits (x .held) ⌝ }
+    ensures { λ _. ⌜ now (s .exit) ≡ sets (moved (now (s .entry)) (3 * k + 3) (3 * k) (3 * (n - k))) (3 * k) (writeSpare x) ⌝ }
+{
+    let numbers = spare_numbers(x);
+    insert_record(s, 3, n, k, &numbers);
+}
+
+// How many spares the first i textures have, which is where those of texture i begin. `textures` is the textures' slice, of which
+// the sum reads one number a record.
+pub fn spares_before(textures: &[u64], i: usize) -> usize
+    requires { ⌜ (19 * i ≤ length (now textures)) × (total (λ t. t .spares) (table 19 readTexture i (now textures)) ≤ 4096) ⌝ }
+    ensures { λ r. ⌜ r ≡ total (λ t. t .spares) (table 19 readTexture i (now (textures .entry))) ⌝ }
+{
+    let mut sum = 0;
+    let mut j = 0;
+    while j < i {
+        sum += textures[19 * j + 18] as usize;
+        j += 1;
+    }
+    sum
+}

@@ -1,0 +1,208 @@
+-- What was written back is what is read, and it forms a pool again. Assumes nothing.
+use mathlib.Core.Path.{_≡_, refl, sym, ap, _∙_, subst}
+use mathlib.Core.Bool.{true}
+use mathlib.Core.Option.{Option, none, some}
+use mathlib.Core.List.{_++_, map}
+use Prim.Native.Nat.{ℕ, _+_, _-_, _*_, _/_, _≤_, _<_}
+use native.Mathlib.Omega.{arith}
+use lib.ListN.{length, length-map}
+use Rattle.blocks.specs.Lists.{listed, over, total}
+use Rattle.blocks.proofs.Lists.{length-over}
+use Rattle.tables.specs.Records.{flat}
+use Rattle.tables.specs.Rings.{laid}
+use Rattle.tables.proofs.Records.{length-flat, reread}
+use Rattle.tables.proofs.Rings.{place-in, length-laid}
+use Rattle.stores.specs.Model.{Retiring, VersionState, Places, Pool, pagesUsed, handCount, versionsUsed}
+use Rattle.stores.specs.PopRetired.{isHeld}
+use Rattle.stores.specs.Open.{arePlaces}
+use Rattle.stores.specs.Formed.{Formed}
+use Rattle.records.specs.declared.texture.TextureRecord.{TextureRecord}
+use Rattle.records.specs.Texture.{writeTexture}
+use Rattle.records.specs.Spare.{writeSpare}
+use Rattle.records.specs.Retiring.{writeRetiring}
+use Rattle.records.specs.Doomed.{writeDoomed}
+use Rattle.records.proofs.Codecs.{texture-codec, spare-codec}
+use Rattle.layout.specs.Lent.{Lent, versionPlaces}
+use Rattle.layout.specs.Reading.{trackedRecords, recordPages, statesRead, retiringRead, handPlaces, handRead, doomedRead, modelOf}
+use Rattle.layout.specs.Writing.{textureRecord, spareRecord, retiringRecord, doomedRecord, texturesAfter, everySpare, sparesAfter, newestAfter, stampsAfter, headAfter, handList, retiringAfter, firstAfter, doomedAfter, poolAfter, bookAfter, after}
+use Rattle.layout.specs.IsPool.{isPool}
+use Rattle.layout.proofs.Fits.{Fits}
+use Rattle.layout.proofs.FromPool.{version-places, page-places, pages-used}
+use Rattle.layout.proofs.ToPool.{fits-pool}
+use Rattle.layout.proofs.ReadStates.{states-back, length-every-spare, kept-recorded, pages-recorded, length-newests, length-new-pages}
+use Rattle.layout.proofs.ReadRings.{hand-back, queue-back, doomed-back}
+
+hand-places : (o : Option (Retiring ℕ)) → handPlaces (isHeld o) ≡ handCount o
+hand-places none = refl
+hand-places (some v) = refl
+
+module _ (l : Lent) (p : Pool ℕ) (fits : Fits l) (formed : Formed p) (same : p .places ≡ modelOf l .places) where
+  -- ---- the pool has room in the slices
+
+  texture-room : length (p .textures) ≤ modelOf l .places .textures
+  texture-room = omega (arith, formed .places, ap (λ (n : Places). n .textures) same)
+
+  version-room : versionsUsed p ≤ versionPlaces l
+  version-room = omega (arith, formed .versions, ap (λ (n : Places). n .versions) same, version-places l)
+
+  page-room : total pagesUsed (p .textures) ≤ length (l .newest)
+  page-room = omega (arith, formed .pages, ap (λ (n : Places). n .pages) same, page-places l)
+
+  pages-before : total pagesUsed (modelOf l .textures) ≤ length (l .newest)
+  pages-before = omega (arith, pages-used l, fits .claimed, fits .pages)
+
+  -- ---- the slices keep their lengths
+
+  length-textures : length (flat writeTexture (map textureRecord (p .textures))) ≡ 19 * length (p .textures)
+  length-textures = length-flat texture-codec (map textureRecord (p .textures)) ∙ ap (λ (n : ℕ). 19 * n) (length-map (p .textures) textureRecord)
+
+  textures-kept : length (texturesAfter p l) ≡ length (l .textures)
+  unfolding texturesAfter
+  textures-kept = length-over _ (l .textures) (omega (arith, length-textures, fits .textures, texture-room))
+
+  length-spares : length (flat writeSpare (map spareRecord (everySpare (p .textures))))
+      ≡ 3 * total (λ (t : VersionState ℕ). length (t .spares)) (p .textures)
+  length-spares =
+      length-flat spare-codec (map spareRecord (everySpare (p .textures)))
+      ∙ ap (λ (n : ℕ). 3 * n) (length-map (everySpare (p .textures)) spareRecord ∙ length-every-spare (p .textures))
+
+  spares-kept : length (sparesAfter p l) ≡ length (l .spares)
+  unfolding sparesAfter
+  spares-kept = length-over _ (l .spares) (omega (arith, length-spares, fits .spares, version-room))
+
+  newest-kept : length (newestAfter p l) ≡ length (l .newest)
+  unfolding newestAfter
+  newest-kept = length-over _ (l .newest) (omega (arith, length-newests (p .textures) (formed .textures), page-room))
+
+  stamps-kept : length (stampsAfter p l) ≡ length (l .stamps)
+  unfolding stampsAfter
+  stamps-kept =
+      length-over _ (l .stamps)
+      (omega (arith, length-new-pages l (fits .stamps) pages-before (p .textures) (formed .textures), page-room, fits .stamps))
+
+  retiring-kept : length (retiringAfter p l) ≡ length (l .retiring)
+  unfolding retiringAfter
+  retiring-kept = length-laid 7 writeRetiring (versionPlaces l) (headAfter p l) (map retiringRecord (handList (p .hand) ++ p .retiring)) 0 (l .retiring)
+
+  doomed-kept : length (doomedAfter p l) ≡ length (l .doomed)
+  unfolding doomedAfter
+  doomed-kept = length-laid 2 writeDoomed (versionPlaces l) (firstAfter p l) (map doomedRecord (p .doomed)) 0 (l .doomed)
+
+  versions-kept : versionPlaces (after p l) ≡ versionPlaces l
+  unfolding versionPlaces after
+  versions-kept = ap (λ (n : ℕ). n / 7) retiring-kept
+
+  pub places-kept : modelOf (after p l) .places ≡ modelOf l .places
+  unfolding modelOf after
+  places-kept = λ i. record { textures = textures-kept i / 19; versions = versions-kept i; pages = newest-kept i }
+
+  -- ---- both rings begin inside their places
+
+  head-in : headAfter p l < versionPlaces l
+  unfolding headAfter
+  head-in = place-in (versionPlaces l) (l .pool .head) (handPlaces (l .pool .popped) - handCount (p .hand)) (fits .head) (omega (arith, fits .versions))
+
+  first-in : firstAfter p l < versionPlaces l
+  unfolding firstAfter
+  first-in = place-in (versionPlaces l) (l .pool .first) (l .pool .doomed - length (p .doomed)) (fits .first) (omega (arith, fits .versions))
+
+  -- ---- each part is read back
+
+  records-back : trackedRecords (after p l) ≡ map textureRecord (p .textures)
+  unfolding after poolAfter texturesAfter
+  records-back = reread texture-codec (map textureRecord (p .textures)) (length (p .textures)) (l .textures) (length-map (p .textures) textureRecord)
+
+  textures-back : statesRead (after p l) 0 0 (map textureRecord (p .textures)) ≡ p .textures
+  unfolding after sparesAfter newestAfter stampsAfter over
+  textures-back = states-back l (after p l) (fits .stamps) pages-before 0 0 (p .textures) (formed .textures) _ _ _ refl refl refl
+
+  ring-laid-back : after p l .retiring
+      ≡ laid 7 writeRetiring (versionPlaces (after p l)) (after p l .pool .head) 0 (map retiringRecord (handList (p .hand) ++ p .retiring)) (l .retiring)
+  unfolding after poolAfter retiringAfter
+  ring-laid-back =
+      ap (λ (n : ℕ). laid 7 writeRetiring n (headAfter p l) 0 (map retiringRecord (handList (p .hand) ++ p .retiring)) (l .retiring)) (sym versions-kept)
+
+  ring-room : 7 * versionPlaces (after p l) ≤ length (l .retiring)
+  ring-room = omega (arith, versions-kept, fits .retiring)
+
+  ring-head : after p l .pool .head < versionPlaces (after p l)
+  unfolding after poolAfter
+  ring-head = omega (arith, head-in, versions-kept)
+
+  waiting-room : length (p .retiring) + handCount (p .hand) ≤ versionPlaces (after p l)
+  waiting-room = omega (arith, version-room, versions-kept)
+
+  hand-read-back : handRead (after p l) (isHeld (p .hand)) ≡ p .hand
+  hand-read-back = hand-back (after p l) (l .retiring) ring-room ring-head (p .hand) (p .retiring) waiting-room ring-laid-back
+
+  queue-read-back : listed (retiringRead (after p l)) (handPlaces (isHeld (p .hand))) (length (p .retiring)) ≡ p .retiring
+  queue-read-back = queue-back (after p l) (l .retiring) ring-room ring-head (p .hand) (p .retiring) waiting-room ring-laid-back
+
+  destroy-laid-back : after p l .doomed
+      ≡ laid 2 writeDoomed (versionPlaces (after p l)) (after p l .pool .first) 0 (map doomedRecord (p .doomed)) (l .doomed)
+  unfolding after poolAfter doomedAfter
+  destroy-laid-back = ap (λ (n : ℕ). laid 2 writeDoomed n (firstAfter p l) 0 (map doomedRecord (p .doomed)) (l .doomed)) (sym versions-kept)
+
+  ring-first : after p l .pool .first < versionPlaces (after p l)
+  unfolding after poolAfter
+  ring-first = omega (arith, first-in, versions-kept)
+
+  doomed-read-back : listed (doomedRead (after p l)) 0 (length (p .doomed)) ≡ p .doomed
+  doomed-read-back =
+      doomed-back (after p l) (l .doomed) (omega (arith, versions-kept, fits .doomed)) ring-first (p .doomed)
+      (omega (arith, version-room, versions-kept)) destroy-laid-back
+
+  -- ---- the whole pool
+
+  states-read-back : statesRead (after p l) 0 0 (trackedRecords (after p l)) ≡ p .textures
+  states-read-back = ap (statesRead (after p l) 0 0) records-back ∙ textures-back
+
+  places-read-back : modelOf (after p l) .places ≡ p .places
+  places-read-back = places-kept ∙ sym same
+
+  pub read-back : modelOf (after p l) ≡ p
+  unfolding modelOf after poolAfter bookAfter
+  read-back = λ i. record {
+    textures = states-read-back i;
+    retiring = queue-read-back i;
+    hand = hand-read-back i;
+    doomed = doomed-read-back i;
+    since = p .since;
+    trackings = p .trackings;
+    parked = p .parked;
+    dooming = p .dooming;
+    places = places-read-back i;
+    budget = p .budget;
+    pacing = p .pacing;
+  }
+
+  -- ---- and it fits
+
+  after-newest : length (after p l .newest) ≡ length (l .newest)
+  unfolding after
+  after-newest = newest-kept
+
+  pub after-fits : Fits (after p l)
+  unfolding after poolAfter
+  after-fits = record {
+    places = ap arePlaces places-kept ∙ fits .places;
+    textures = ap (λ (n : Places). 19 * n .textures) places-kept ∙ fits .textures ∙ sym textures-kept;
+    retiring = ap (λ (n : ℕ). 7 * n) versions-kept ∙ fits .retiring ∙ sym retiring-kept;
+    doomed = ap (λ (n : ℕ). 2 * n) versions-kept ∙ fits .doomed ∙ sym doomed-kept;
+    spares = ap (λ (n : ℕ). 3 * n) versions-kept ∙ fits .spares ∙ sym spares-kept;
+    stamps = ap (λ (n : ℕ). 1024 * n) newest-kept ∙ fits .stamps ∙ sym stamps-kept;
+    least = omega (arith, fits .least, versions-kept);
+    most = omega (arith, fits .most, versions-kept);
+    newest = omega (arith, fits .newest, newest-kept);
+    tracked = omega (arith, texture-room, ap (λ (n : Places). n .textures) places-kept);
+    head = ring-head;
+    first = ring-first;
+    versions = omega (arith, version-room, versions-kept, hand-places (p .hand));
+    pages = omega (arith, page-room, newest-kept);
+    kept = ap (total (λ (t : TextureRecord). t .spares)) records-back ∙ kept-recorded (p .textures);
+    claimed = ap (total recordPages) records-back ∙ pages-recorded (p .textures);
+    formed = subst (λ (q : Pool ℕ). Formed q) (sym read-back) formed;
+  }
+
+  pub after-pool : isPool (after p l) ≡ true
+  after-pool = fits-pool (after p l) after-fits
