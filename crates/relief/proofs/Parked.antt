@@ -2,7 +2,9 @@
 use mathlib.Core.Path.{_≡_, refl, sym, ap, ap₂, _∙_}
 use mathlib.Core.Bool.{Bool, true, false, cond}
 use mathlib.Core.List.{List, [], _∷_, map}
+use mathlib.Core.Logic.{_⊎_, inl, inr, ⊎-elim}
 use Prim.Native.Nat.{ℕ, suc, _+_, _-_, _*_, _≤_, _<_}
+use native.Mathlib.Nat.{mul-le-mul-left}
 use native.Mathlib.Omega.{arith}
 use lib.Dec.{ltb, leb, eqb}
 use lib.ListN.{length, getD}
@@ -18,8 +20,9 @@ use Rattle.shapes.specs.Shapes.{bytesOf}
 use Rattle.records.specs.declared.texture.TextureRecord.{TextureRecord}
 use Rattle.records.specs.Texture.{readTexture}
 use Rattle.records.specs.Spare.{readSpare}
-use Rattle.relief.specs.Line.{countBefore, takenAt, gives}
-use Rattle.relief.specs.Parked.{parkedAt, parkings, bytesFrom}
+use Rattle.access.proofs.Fields.{spares-number}
+use Rattle.relief.specs.Line.{countBefore, takenAt, gives, IsLine}
+use Rattle.relief.specs.Parked.{parkedAt, parkings, bytesFrom, recordSpares, recordBytes}
 
 -- a parking number is the third number of its record
 pub parked-at : (spares : List ℕ) (k : ℕ) → getD spares (3 * k + 2) 0 ≡ parkedAt spares k
@@ -121,11 +124,6 @@ gives-sum freed excess bytes line ps = refl
 
 -- ---- textures
 
--- the number of a texture's spares is the last of its record
-pub spares-at : (textures : List ℕ) (i : ℕ) → getD textures (19 * i + 18) 0 ≡ recordAt 19 readTexture textures i .spares
-unfolding recordAt readTexture
-spares-at textures i = sym (getD-drop (19 * i) textures 18 0)
-
 -- no spare is parked before the first line
 count-zero : (ps : List ℕ) → countBefore 0 ps ≡ 0
 unfolding countBefore total
@@ -138,3 +136,52 @@ bytes-zero spares from [] = refl
 bytes-zero spares from (t ∷ ts) =
     ap₂ (λ (a b : ℕ). bytesOf (t .shape) * a + b) (count-zero (parkings spares from (t .spares))) (bytes-zero spares (from + t .spares) ts)
     ∙ (let e : bytesOf (t .shape) * 0 + 0 ≡ 0 = omega arith in e)
+
+-- ---- a turn of the loop over textures: the rest of them, from texture i on
+
+module _ (textures spares : List ℕ) (n i : ℕ) (h : i < n) where
+  abbrev textureAt : ℕ → TextureRecord
+  textureAt k = recordAt 19 readTexture textures k
+
+  abbrev rest : ℕ → List TextureRecord
+  rest k = left textureAt n k
+
+  pub spares-rest : total recordSpares (rest i) ≡ getD textures (19 * i + 18) 0 + total recordSpares (rest (i + 1))
+  spares-rest = total-more textureAt n recordSpares i h ∙ ap (λ (k : ℕ). k + total recordSpares (rest (i + 1))) (sym (spares-number textures i))
+
+  pub bytes-rest : total recordBytes (rest i) ≡ bytesOf (textureAt i .shape) * getD textures (19 * i + 18) 0 + total recordBytes (rest (i + 1))
+  bytes-rest =
+      total-more textureAt n recordBytes i h
+      ∙ ap (λ (k : ℕ). bytesOf (textureAt i .shape) * k + total recordBytes (rest (i + 1))) (sym (spares-number textures i))
+
+  pub before-rest : (line from : ℕ)
+      → bytesFrom spares line from (rest i)
+      ≡ bytesOf (textureAt i .shape) * countBefore line (parkings spares from (getD textures (19 * i + 18) 0))
+      + bytesFrom spares line (from + getD textures (19 * i + 18) 0) (rest (i + 1))
+  unfolding bytesFrom
+  before-rest line from =
+      ap (bytesFrom spares line from) (left-step textureAt n i h)
+      ∙ ap (λ (k : ℕ). bytesOf (textureAt i .shape) * countBefore line (parkings spares from k) + bytesFrom spares line (from + k) (rest (i + 1))) (sym (spares-number textures i))
+
+pub before-done : (textures spares : List ℕ) (n i line from : ℕ) → n ≤ i → bytesFrom spares line from (left (recordAt 19 readTexture textures) n i) ≡ 0
+unfolding bytesFrom
+before-done textures spares n i line from h = rw (left-none (recordAt 19 readTexture textures) n i h)
+
+-- as many as are parked before a line are bytes of theirs
+pub count-most : (line : ℕ) (ps : List ℕ) → countBefore line ps ≤ length ps
+count-most line ps = omega (arith, gives-sum 0 0 0 line ps, gives-most 0 0 0 line ps)
+
+pub counted-bytes : (bytes line : ℕ) (spares : List ℕ) (from n : ℕ) → bytes * countBefore line (parkings spares from n) ≤ bytes * n
+counted-bytes bytes line spares from n =
+    mul-le-mul-left {m = countBefore line (parkings spares from n)} {n = n} bytes (omega (arith, count-most line (parkings spares from n), length-parkings spares from n))
+
+-- ---- the line, found by halves: the two ends have met
+
+pub ends-meet : (dooming excess : ℕ) (below : ℕ → ℕ) (lo hi : ℕ) → lo < hi → hi ≤ lo + 1 → dooming + below lo < excess
+    → (excess ≤ dooming + below hi) ⊎ (hi ≡ 281474976710658) → IsLine dooming excess below lo
+ends-meet dooming excess below lo hi h k short last = record {
+  short = short;
+  last =
+      let e : hi ≡ suc lo = omega arith in
+      ⊎-elim (λ q. inl (omega (arith, q, ap below e))) (λ q. inr (omega arith)) last;
+}

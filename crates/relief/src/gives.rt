@@ -70,7 +70,7 @@ pub fn texture_gives(
 ) -> Given
     requires { ⌜ (3 * (from + n) ≤ length (now spares)) × (freed + bytes * n < 2 ^ 64) ⌝ }
     ensures { λ r. ⌜ (r .count ≡ gives freed excess bytes line (parkings (now (spares .entry)) from n)) × (r .count ≤ n)
-      × (r .freed ≡ freed + bytes * takenAt freed excess bytes line (parkings (now (spares .entry)) from n)) ⌝ }
+        × (r .freed ≡ freed + bytes * takenAt freed excess bytes line (parkings (now (spares .entry)) from n)) ⌝ }
 {
     let before = count_before(spares, from, n, line);
     let at = take_at(spares, from, n, line, bytes, freed, excess);

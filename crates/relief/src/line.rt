@@ -9,9 +9,8 @@ ghost use Rattle.records.specs.Texture.{readTexture};
 ghost use Rattle.relief.specs.Line.{countBefore, IsLine};
 ghost use Rattle.relief.specs.Parked.{parkings, bytesFrom, Countable};
 use crate::gives::count_before;
-use records::read_texture;
+use access::texture_at;
 use shapes::shape_bytes;
-use tables::record_at;
 
 // No parking number passes it.
 const LIMIT: u64 = 281474976710656;
@@ -21,15 +20,14 @@ pub fn version_bytes(textures: &[u64], i: usize) -> u64
     requires { ⌜ (19 * i + 19 ≤ length (now textures)) × (isShape (recordAt 19 readTexture (now textures) i .shape) ≡ true) ⌝ }
     ensures { λ r. ⌜ r ≡ bytesOf (recordAt 19 readTexture (now (textures .entry)) i .shape) ⌝ }
 {
-    let part = record_at(textures, 19, i);
-    let t = read_texture(part);
+    let t = texture_at(textures, i);
     shape_bytes(t.shape)
 }
 
 // Bytes of the spares parked before a line, of texture i, which has n spares from place `from` on.
 fn run_bytes(textures: &[u64], i: usize, spares: &[u64], from: usize, n: usize, line: u64) -> u64
     requires { ⌜ (19 * i + 19 ≤ length (now textures)) × (isShape (recordAt 19 readTexture (now textures) i .shape) ≡ true) × (3 * (from + n) ≤ length (now spares))
-      × (bytesOf (recordAt 19 readTexture (now textures) i .shape) * n ≤ 72057594037927936) ⌝ }
+        × (bytesOf (recordAt 19 readTexture (now textures) i .shape) * n ≤ 72057594037927936) ⌝ }
     ensures { λ r. ⌜ r ≡ bytesOf (recordAt 19 readTexture (now (textures .entry)) i .shape) * countBefore line (parkings (now (spares .entry)) from n) ⌝ }
 {
     let count = count_before(spares, from, n, line);

@@ -82,8 +82,12 @@ returns c =
     let b = c .before in
     let a = b .before .args in (
       search needs,
-      omega (arith, b .loop .inv .3, count-done (a .line) (parkedAt (a .spares .now)) (a .from + a .n) (b .loop .j) (c .loop-test .left),
-        ap (countBefore (a .line)) (parkings-left (a .spares .now) (a .from) (a .n)))
+      omega (
+        arith,
+        b .loop .inv .3,
+        count-done (a .line) (parkedAt (a .spares .now)) (a .from + a .n) (b .loop .j) (c .loop-test .left),
+        ap (countBefore (a .line)) (parkings-left (a .spares .now) (a .from) (a .n)),
+      ),
     )
 
 pub count-before-spec : {M : Type 1} → statement M

@@ -69,8 +69,7 @@ loop-less c = search needs
 loop-again : tie.Need-loop-again Inv-loop μ-loop
 loop-again c =
     let b = c .before .before .before .before in
-    let a = b .before .args in
-    (
+    let a = b .before .args in (
       search needs,
       search needs,
       search needs,
@@ -86,8 +85,7 @@ loop-less-2 c = search needs
 loop-again-2 : tie.Need-loop-again-2 Inv-loop μ-loop
 loop-again-2 c =
     let b = c .before .before .before .before in
-    let a = b .before .args in
-    (
+    let a = b .before .args in (
       search needs,
       search needs,
       search needs,
@@ -100,8 +98,12 @@ returns : tie.Need-returns Inv-loop μ-loop
 returns c =
     let b = c .before in
     let a = b .before .args in (
-      omega (arith, b .loop .inv .4, taken-done (b .loop .sum) (a .excess) (a .bytes) (a .line) (parkedAt (a .spares .now)) (a .from + a .n) (b .loop .j) (c .loop-test .left),
-        ap (takenAt (a .freed) (a .excess) (a .bytes) (a .line)) (parkings-left (a .spares .now) (a .from) (a .n))),
+      omega (
+        arith,
+        b .loop .inv .4,
+        taken-done (b .loop .sum) (a .excess) (a .bytes) (a .line) (parkedAt (a .spares .now)) (a .from + a .n) (b .loop .j) (c .loop-test .left),
+        ap (takenAt (a .freed) (a .excess) (a .bytes) (a .line)) (parkings-left (a .spares .now) (a .from) (a .n)),
+      ),
       b .loop .inv .3,
     )
 
@@ -110,8 +112,12 @@ returns-2 : tie.Need-returns-2 Inv-loop μ-loop
 returns-2 c =
     let b = c .before .before in
     let a = b .before .args in (
-      omega (arith, b .loop .inv .4, taken-none (b .loop .sum) (a .excess) (a .bytes) (a .line) (left (parkedAt (a .spares .now)) (a .from + a .n) (b .loop .j)) (c .if1 .taken),
-        ap (takenAt (a .freed) (a .excess) (a .bytes) (a .line)) (parkings-left (a .spares .now) (a .from) (a .n))),
+      omega (
+        arith,
+        b .loop .inv .4,
+        taken-none (b .loop .sum) (a .excess) (a .bytes) (a .line) (left (parkedAt (a .spares .now)) (a .from + a .n) (b .loop .j)) (c .if1 .taken),
+        ap (takenAt (a .freed) (a .excess) (a .bytes) (a .line)) (parkings-left (a .spares .now) (a .from) (a .n)),
+      ),
       b .loop .inv .3,
     )
 
