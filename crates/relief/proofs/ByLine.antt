@@ -1,5 +1,5 @@
 -- What is picked, by the line: all that is parked before it, and of those at it as many as it takes, texture by texture. Assumes nothing.
-use mathlib.Core.Path.{_≡_, refl, sym, ap, ap₂, _∙_}
+use mathlib.Core.Path.{_≡_, refl, sym, ap, ap₂, _∙_, subst}
 use mathlib.Core.Bool.{Bool, true, false, cond}
 use mathlib.Core.List.{List, [], _∷_, _++_, map, flatMap, append-assoc, append-nil}
 use mathlib.Core.Logic.{_⊎_, ⊎-elim}
@@ -117,13 +117,16 @@ module _ {W : Type 0} where
   aged-append [] us = refl
   aged-append (t ∷ ts) us = ap (λ (l : List Aged). agedOf t ++ l) (aged-append ts us) ∙ sym (append-assoc (agedOf t) (agedAll ts) (agedAll us))
 
-  -- a texture's spares have its id and, in a formed pool, a submission as their parking number
+  all-any : {P : Spare W → Type 0} → ((s : Spare W) → P s) → (ss : List (Spare W)) → All P ss
+  all-any f [] = nil
+  all-any f (s ∷ ss) = cons (f s) (all-any f ss)
+
+  -- a texture's spares have its id, its bytes and, in a formed pool, a submission as their parking number
   aged-id : (t : VersionState W) → All (λ (a : Aged). a .id ≡ t .id) (agedOf t)
-  aged-id t = all-map (λ (s : Spare W). record { parked = s .parked; id = t .id; bytes = bytesOf (t .shape) }) (λ s q. refl) (all-any (t .spares))
-    where
-      all-any : (ss : List (Spare W)) → All (λ (s : Spare W). Unit {0}) ss
-      all-any [] = nil
-      all-any (s ∷ ss) = cons tt (all-any ss)
+  aged-id t = all-map (aged (t .id) (bytesOf (t .shape))) (λ s q. q) (all-any {P = λ s. t .id ≡ t .id} (λ s. refl) (t .spares))
+
+  pub aged-bytes : (t : VersionState W) → All (λ (a : Aged). a .bytes ≡ bytesOf (t .shape)) (agedOf t)
+  aged-bytes t = all-map (aged (t .id) (bytesOf (t .shape))) (λ s q. q) (all-any {P = λ s. bytesOf (t .shape) ≡ bytesOf (t .shape)} (λ s. refl) (t .spares))
 
   pub aged-parked : {ts : List (VersionState W)} → All StateFormed ts → All (λ (a : Aged). a .parked ≤ limit) (agedAll ts)
   aged-parked fs = all-flatMap agedOf (λ t f. all-map (λ (s : Spare W). record { parked = s .parked; id = t .id; bytes = bytesOf (t .shape) }) (λ s q. q .parked) (f .spares)) fs
@@ -215,3 +218,16 @@ module _ {W : Type 0} where
         count-line dooming excess (agedAll (us ++ (t ∷ vs))) line L (aged-rising asc) (aged-parked formed) (t .id)
         ∙ ap₂ (λ (a b : ℕ). a + b) (count-kept (isBefore line) ∙ before-run t line)
         (count-picked (isAt line) (dooming + bytesBefore line (agedAll (us ++ (t ∷ vs)))) excess ∙ at-run t line _ excess)
+
+  -- the same, of textures known to part so
+  pub gives-among : (us : List (VersionState W)) (t : VersionState W) (vs ts : List (VersionState W)) → us ++ (t ∷ vs) ≡ ts → {lo : ℕ} → Ascending lo ts
+      → All StateFormed ts → (dooming excess line : ℕ) → IsLine dooming excess (λ n. bytesBefore n (agedAll ts)) line
+      → countOf (t .id) (picked dooming excess (byAge (agedAll ts)))
+      ≡ gives (freedWith (dooming + bytesBefore line (agedAll ts)) excess (keep (isAt line) (agedAll us))) excess (bytesOf (t .shape)) line (map parkedOf (t .spares))
+  gives-among us t vs ts e {lo} =
+      subst
+      (λ (xs : List (VersionState W)). Ascending lo xs → All StateFormed xs → (dooming excess line : ℕ)
+      → IsLine dooming excess (λ n. bytesBefore n (agedAll xs)) line
+      → countOf (t .id) (picked dooming excess (byAge (agedAll xs)))
+      ≡ gives (freedWith (dooming + bytesBefore line (agedAll xs)) excess (keep (isAt line) (agedAll us))) excess (bytesOf (t .shape)) line (map parkedOf (t .spares)))
+      e (λ asc formed dooming excess line L. texture-gives us t vs asc dooming excess line L formed)

@@ -175,6 +175,12 @@ pub counted-bytes : (bytes line : ℕ) (spares : List ℕ) (from n : ℕ) → by
 counted-bytes bytes line spares from n =
     mul-le-mul-left {m = countBefore line (parkings spares from n)} {n = n} bytes (omega (arith, count-most line (parkings spares from n), length-parkings spares from n))
 
+pub before-most : (spares : List ℕ) (line from : ℕ) (ts : List TextureRecord) → bytesFrom spares line from ts ≤ total recordBytes ts
+unfolding bytesFrom total
+before-most spares line from [] = omega arith
+before-most spares line from (t ∷ ts) =
+    omega (arith, counted-bytes (bytesOf (t .shape)) line spares from (t .spares), before-most spares line (from + t .spares) ts)
+
 -- ---- the line, found by halves: the two ends have met
 
 pub ends-meet : (dooming excess : ℕ) (below : ℕ → ℕ) (lo hi : ℕ) → lo < hi → hi ≤ lo + 1 → dooming + below lo < excess

@@ -59,6 +59,15 @@ all-picked freed excess nil = nil
 all-picked {P = P} freed excess (cons {x = x} {xs = xs} p ps) =
     either (All P) (leb excess freed) [] (x ∷ picked (freed + x .bytes) excess xs) (λ e. nil) (λ e. cons p (all-picked (freed + x .bytes) excess ps))
 
+-- what two lists free
+pub freed-append : (freed excess : ℕ) (xs ys : List Aged) → freedWith freed excess (xs ++ ys) ≡ freedWith (freedWith freed excess xs) excess ys
+unfolding freedWith
+freed-append freed excess xs ys =
+    let a = picked freed excess xs in
+    let b = picked (freed + total bytesOfAged a) excess ys in
+    ap (λ (l : List Aged). freed + total bytesOfAged l) (picked-append freed excess xs ys)
+    ∙ (let e : freed + total bytesOfAged (a ++ b) ≡ freed + total bytesOfAged a + total bytesOfAged b = omega (arith, total-append bytesOfAged a b) in e)
+
 -- ---- how many a texture has among them
 
 module _ (id : ℕ) where
