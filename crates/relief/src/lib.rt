@@ -1,7 +1,7 @@
 // note_allocated: under pressure the oldest spares of all textures go to the destroy queue, until their bytes cover the excess.
+mod give;
 mod gives;
 mod line;
+mod relieve;
 
-pub use gives::Given;
-pub use gives::texture_gives;
-pub use line::parking_line;
+pub use give::give_spares;
