@@ -60,6 +60,18 @@ state-at-line t line freed excess =
     ∙ ap (λ (n : ℕ). bytesOf (t .shape) * n) (at-run t line freed excess))
 
 module _ (l : Lent) where
+  abbrev recordOf : ℕ → TextureRecord
+  recordOf i = recordAt 19 readTexture (l .textures) i
+
+  -- how many were picked of a texture
+  abbrev pub share : ℕ → VersionState ℕ → ℕ
+  share excess t = countOf (t .id) (pickedIn excess (modelOf l))
+
+  -- what is freed when the first i textures have given
+  unfoldable pub freedTo : ℕ → ℕ → ℕ → ℕ
+  freedTo excess line i =
+      freedWith (l .pool .dooming + bytesFrom (l .spares) line 0 (trackedRecords l)) excess (keep (isAt line) (agedAll (take i (modelOf l .textures))))
+
   -- ---- the parking numbers
 
   run-parkings : (first n : ℕ) → map parkedOf (listed (spareRead l) first n) ≡ parkings (l .spares) first n
@@ -129,18 +141,6 @@ module _ (l : Lent) where
     -- ---- what each texture gives
 
     module _ (excess line : ℕ) (L : IsLine (l .pool .dooming) excess (λ n. bytesFrom (l .spares) n 0 (trackedRecords l)) line) where
-      -- how many were picked of it
-      abbrev pub share : VersionState ℕ → ℕ
-      share t = countOf (t .id) (pickedIn excess (modelOf l))
-
-      abbrev recordOf : ℕ → TextureRecord
-      recordOf i = recordAt 19 readTexture (l .textures) i
-
-      -- what is freed when the first i textures have given
-      unfoldable pub freedTo : ℕ → ℕ
-      freedTo i =
-          freedWith (l .pool .dooming + bytesFrom (l .spares) line 0 (trackedRecords l)) excess (keep (isAt line) (agedAll (take i (modelOf l .textures))))
-
       model-line : IsLine (l .pool .dooming) excess (λ n. bytesBefore n (agedAll (modelOf l .textures))) line
       model-line = record { short = omega (arith, L .short, bytes-model line); last = ⊎-elim (λ q. inl (omega (arith, q, bytes-model (suc line)))) inr (L .last) }
 
@@ -155,7 +155,7 @@ module _ (l : Lent) where
       dooming-model = refl
 
       pub share-gives : (i : ℕ) → i < l .pool .tracked
-          → gives (freedTo i) excess (bytesOf (recordOf i .shape)) line (parkings (l .spares) (firstSpare l i) (recordOf i .spares)) ≡ share (stateOf l i)
+          → gives (freedTo excess line i) excess (bytesOf (recordOf i .shape)) line (parkings (l .spares) (firstSpare l i) (recordOf i .spares)) ≡ share excess (stateOf l i)
       unfolding freedTo
       share-gives i h =
           let ts = modelOf l .textures in
@@ -165,21 +165,21 @@ module _ (l : Lent) where
           sym (ap (λ (n : ℕ). countOf (t .id) (picked n excess (byAge (agedAll ts)))) dooming-model
           ∙ gives-among (take i ts) t (drop (suc i) ts) ts (parts i h) (f .formed .ids) (f .formed .textures) d excess line model-line
           ∙ ap (λ (n : ℕ). gives (freedWith (d + n) excess at) excess (bytesOf (t .shape)) line (map parkedOf (t .spares))) (sym (bytes-model line))
-          ∙ ap₂ (λ (b : ℕ) (ps : List ℕ). gives (freedTo i) excess b line ps) (ap bytesOf (state-shape l i h)) (state-parkings i h))
+          ∙ ap₂ (λ (b : ℕ) (ps : List ℕ). gives (freedTo excess line i) excess b line ps) (ap bytesOf (state-shape l i h)) (state-parkings i h))
 
-      pub share-most : (i : ℕ) → i < l .pool .tracked → share (stateOf l i) ≤ recordOf i .spares
+      pub share-most : (i : ℕ) → i < l .pool .tracked → share excess (stateOf l i) ≤ recordOf i .spares
       share-most i h =
           let ps = parkings (l .spares) (firstSpare l i) (recordOf i .spares) in
           omega (
             arith,
             share-gives i h,
-            gives-most (freedTo i) excess (bytesOf (recordOf i .shape)) line ps,
+            gives-most (freedTo excess line i) excess (bytesOf (recordOf i .shape)) line ps,
             length-parkings (l .spares) (firstSpare l i) (recordOf i .spares),
           )
 
       pub freed-next : (i : ℕ) → i < l .pool .tracked
-          → freedTo i + bytesOf (recordOf i .shape) * takenAt (freedTo i) excess (bytesOf (recordOf i .shape)) line (parkings (l .spares) (firstSpare l i) (recordOf i .spares))
-          ≡ freedTo (suc i)
+          → freedTo excess line i + bytesOf (recordOf i .shape) * takenAt (freedTo excess line i) excess (bytesOf (recordOf i .shape)) line (parkings (l .spares) (firstSpare l i) (recordOf i .spares))
+          ≡ freedTo excess line (suc i)
       unfolding freedTo flatMap
       freed-next i h =
           let ts = modelOf l .textures in
@@ -191,24 +191,24 @@ module _ (l : Lent) where
           (aged-append (take i ts) (t ∷ []) ∙ ap (λ (xs : List Aged). agedAll (take i ts) ++ xs) (append-nil (agedOf t)))
           ∙ ap (freedWith start excess) (keep-append (isAt line) (agedAll (take i ts)) (agedOf t))
           ∙ freed-append start excess at (keep (isAt line) (agedOf t))
-          ∙ state-at-line t line (freedTo i) excess
-          ∙ ap₂ (λ (b : ℕ) (ps : List ℕ). freedTo i + b * takenAt (freedTo i) excess b line ps) (ap bytesOf (state-shape l i h)) (state-parkings i h))
+          ∙ state-at-line t line (freedTo excess line i) excess
+          ∙ ap₂ (λ (b : ℕ) (ps : List ℕ). freedTo excess line i + b * takenAt (freedTo excess line i) excess b line ps) (ap bytesOf (state-shape l i h)) (state-parkings i h))
 
-      pub freed-start : freedTo 0 ≡ l .pool .dooming + bytesFrom (l .spares) line 0 (trackedRecords l)
+      pub freed-start : freedTo excess line 0 ≡ l .pool .dooming + bytesFrom (l .spares) line 0 (trackedRecords l)
       unfolding freedTo freedWith keep flatMap picked total
       freed-start = add-zero (l .pool .dooming + bytesFrom (l .spares) line 0 (trackedRecords l))
 
       -- bounds of what is freed and given, for the code's sums
       freed-most : (i : ℕ) → i ≤ l .pool .tracked
-          → freedTo i ≤ l .pool .dooming + bytesFrom (l .spares) line 0 (trackedRecords l) + total recordBytes (take i (trackedRecords l))
+          → freedTo excess line i ≤ l .pool .dooming + bytesFrom (l .spares) line 0 (trackedRecords l) + total recordBytes (take i (trackedRecords l))
       unfolding total
       freed-most zero h = omega (arith, freed-start)
       freed-most (suc i) h =
           let ps = parkings (l .spares) (firstSpare l i) (recordOf i .spares) in
           let b = bytesOf (recordOf i .shape) in
-          let n = takenAt (freedTo i) excess b line ps in
+          let n = takenAt (freedTo excess line i) excess b line ps in
           let le : n ≤ recordOf i .spares =
-          omega (arith, gives-sum (freedTo i) excess b line ps, gives-most (freedTo i) excess b line ps, length-parkings (l .spares) (firstSpare l i) (recordOf i .spares)) in
+          omega (arith, gives-sum (freedTo excess line i) excess b line ps, gives-most (freedTo excess line i) excess b line ps, length-parkings (l .spares) (firstSpare l i) (recordOf i .spares)) in
           omega (
             arith,
             freed-most i (omega arith),
@@ -218,7 +218,7 @@ module _ (l : Lent) where
             ap recordBytes (getD-table 19 readTexture (l .pool .tracked) i (l .textures) (readTexture []) h),
           )
 
-      pub freed-fits : (i : ℕ) → i < l .pool .tracked → freedTo i + bytesOf (recordOf i .shape) * recordOf i .spares ≤ 216172782113783808
+      pub freed-fits : (i : ℕ) → i < l .pool .tracked → freedTo excess line i + bytesOf (recordOf i .shape) * recordOf i .spares ≤ 216172782113783808
       freed-fits i h =
           omega (
             arith,

@@ -5,3 +5,4 @@ pub mod Parked
 pub mod Written
 pub mod Thinned
 pub mod Chosen
+pub mod Progress

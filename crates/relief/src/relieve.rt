@@ -1,21 +1,25 @@
 // Relief: each texture, in ascending id, gives the spares that were picked of it.
 ghost use mathlib.Core.Path.{_≡_};
 ghost use mathlib.Core.Bool.{true};
-ghost use mathlib.Core.List.{flatMap};
 ghost use Prim.Native.Nat.{_+_, _-_, _*_, _≤_, _<_, _^_};
 ghost use lib.ListN.{length, set};
 ghost use Rattle.blocks.specs.Blocks.{moved};
-ghost use Rattle.tables.specs.Records.{recordAt};
+ghost use Rattle.tables.specs.Records.{recordAt, table};
 ghost use Rattle.tables.specs.Rings.{laid};
 ghost use Rattle.shapes.specs.Shapes.{isShape, bytesOf};
 ghost use Rattle.records.specs.Texture.{readTexture};
 ghost use Rattle.records.specs.Doomed.{writeDoomed};
+ghost use Rattle.layout.specs.Lent.{lent};
+ghost use Rattle.layout.specs.IsPool.{isPool};
 ghost use Rattle.destruction.specs.Given.{givenRecords};
-ghost use Rattle.relief.specs.Line.{takenAt, gives};
-ghost use Rattle.relief.specs.Parked.{parkings};
+ghost use Rattle.relief.specs.Line.{IsLine, takenAt, gives};
+ghost use Rattle.relief.specs.Parked.{parkings, bytesFrom};
+ghost use Rattle.relief.specs.Relieved.{Relieves};
 use crate::give::give_spares;
 use crate::gives::texture_gives;
 use crate::line::version_bytes;
+use layout::PacingBook;
+use layout::Pool;
 
 // What one texture did: how many spares it had, how many of them it gave, their bytes, and the bytes freed by then.
 pub struct Step {
@@ -78,4 +82,61 @@ fn relieve_texture(
         bytes: bytes * count as u64,
         freed: given.freed,
     }
+}
+
+// What relief left and took: how many spares are kept, and the bytes of those that were given up.
+pub struct Relief {
+    pub kept: usize,
+    pub bytes: u64,
+}
+
+// Every texture gives what was picked of it, by the line. `freed` are the bytes queued already and those parked before the line.
+pub fn relieve(
+    pool: Pool,
+    book: PacingBook,
+    textures: &mut [u64],
+    retiring: &[u64],
+    doomed: &mut [u64],
+    spares: &mut [u64],
+    newest: &[u64],
+    stamps: &[u64],
+    line: u64,
+    freed: u64,
+    excess: u64,
+) -> Relief
+    requires { ⌜ (isPool (lent pool book (now textures) (now retiring) (now doomed) (now spares) (now newest) (now stamps)) ≡ true)
+      × IsLine (pool .dooming) excess (λ k. bytesFrom (now spares) k 0 (table 19 readTexture (pool .tracked) (now textures))) line
+      × (freed ≡ pool .dooming + bytesFrom (now spares) line 0 (table 19 readTexture (pool .tracked) (now textures))) ⌝ }
+    ensures { λ r. ⌜ Relieves (lent pool book (now (textures .entry)) (now (retiring .entry)) (now (doomed .entry)) (now (spares .entry)) (now (newest .entry)) (now (stamps .entry)))
+      excess (r .kept) (r .bytes) (now (textures .exit)) (now (doomed .exit)) (now (spares .exit)) ⌝ }
+{
+    let cap = retiring.len() / 7;
+    let mut i = 0;
+    let mut from = 0;
+    let mut kept = 0;
+    let mut bytes = 0;
+    let mut sum = freed;
+    while i < pool.tracked {
+        let queued = pool.doomed + (from - kept);
+        let step = relieve_texture(
+            textures,
+            i,
+            doomed,
+            cap,
+            pool.first,
+            queued,
+            spares,
+            from,
+            kept,
+            line,
+            sum,
+            excess,
+        );
+        kept += step.spares - step.count;
+        from += step.spares;
+        bytes += step.bytes;
+        sum = step.freed;
+        i += 1;
+    }
+    Relief { kept, bytes }
 }
