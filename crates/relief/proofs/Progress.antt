@@ -13,8 +13,8 @@ use Rattle.tables.specs.Records.{recordAt, flat}
 use Rattle.tables.specs.Rings.{laid}
 use Rattle.tables.proofs.Rings.{length-laid}
 use Rattle.shapes.specs.Shapes.{isShape, bytesOf}
-use Rattle.stores.specs.Model.{VersionState, doomedBytes}
-use Rattle.stores.proofs.Moves.{lessened, given}
+use Rattle.stores.specs.Model.{VersionState, spareBytes, doomedBytes}
+use Rattle.stores.proofs.Moves.{lessened, given, given-bytes}
 use Rattle.records.specs.declared.texture.TextureRecord.{TextureRecord}
 use Rattle.records.specs.declared.spare.SpareRecord.{SpareRecord}
 use Rattle.records.specs.Texture.{readTexture, writeTexture}
@@ -220,3 +220,14 @@ module _ (l : Lent) (f : Fits l) (excess line : ℕ) {i from kept bytes sum : �
     ring = p .ring ∙ doomed-all;
     runs = p .runs ∙ spares-all;
   }
+
+-- what is given is never more than what is parked
+pub given-fits : (l : Lent) (f : Fits l) (excess i : ℕ) → bytesTo l (share l excess) i ≤ l .pool .parked
+unfolding bytesTo modelOf
+given-fits l f excess i =
+    omega (
+      arith,
+      given-bytes (share l excess) (take i (modelOf l .textures)),
+      total-cut spareBytes (modelOf l .textures) i,
+      f .formed .parked,
+    )
