@@ -40,7 +40,7 @@ fn run_bytes(textures: &[u64], i: usize, spares: &[u64], from: usize, n: usize, 
 }
 
 // Bytes of the spares parked before a line, of the first n textures.
-fn bytes_before(textures: &[u64], n: usize, spares: &[u64], line: u64) -> u64
+pub fn bytes_before(textures: &[u64], n: usize, spares: &[u64], line: u64) -> u64
     requires { ⌜ Countable (now textures) n (now spares) ⌝ }
     ensures { λ r. ⌜ (r ≤ 72057594037927936) × (r ≡ bytesFrom (now (spares .entry)) line 0 (table 19 readTexture n (now (textures .entry)))) ⌝ }
 {

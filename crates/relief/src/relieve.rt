@@ -105,10 +105,10 @@ pub fn relieve(
     excess: u64,
 ) -> Relief
     requires { ⌜ (isPool (lent pool book (now textures) (now retiring) (now doomed) (now spares) (now newest) (now stamps)) ≡ true)
-      × IsLine (pool .dooming) excess (λ k. bytesFrom (now spares) k 0 (table 19 readTexture (pool .tracked) (now textures))) line
-      × (freed ≡ pool .dooming + bytesFrom (now spares) line 0 (table 19 readTexture (pool .tracked) (now textures))) ⌝ }
+        × IsLine (pool .dooming) excess (λ k. bytesFrom (now spares) k 0 (table 19 readTexture (pool .tracked) (now textures))) line
+        × (freed ≡ pool .dooming + bytesFrom (now spares) line 0 (table 19 readTexture (pool .tracked) (now textures))) ⌝ }
     ensures { λ r. ⌜ Relieves (lent pool book (now (textures .entry)) (now (retiring .entry)) (now (doomed .entry)) (now (spares .entry)) (now (newest .entry)) (now (stamps .entry)))
-      excess (r .kept) (r .bytes) (now (textures .exit)) (now (doomed .exit)) (now (spares .exit)) ⌝ }
+        excess (r .kept) (r .bytes) (now (textures .exit)) (now (doomed .exit)) (now (spares .exit)) ⌝ }
 {
     let cap = retiring.len() / 7;
     let mut i = 0;

@@ -16,7 +16,7 @@ use Rattle.relief.proofs.relieve.relieve.Tie as tie
 abbrev Inv-loop : tie.InvT-loop
 Inv-loop pool textures₀ retiring doomed₀ spares₀ newest stamps line freed excess cap i₀ from₀ kept₀ bytes₀ sum₀ textures doomed spares i from kept bytes sum =
     (book : PacingBook) → Fits (lent pool book textures₀ retiring doomed₀ spares₀ newest stamps)
-        → Progress (lent pool book textures₀ retiring doomed₀ spares₀ newest stamps) excess line i from kept bytes sum textures doomed spares
+    → Progress (lent pool book textures₀ retiring doomed₀ spares₀ newest stamps) excess line i from kept bytes sum textures doomed spares
 
 abbrev μ-loop : tie.MeasureT-loop
 μ-loop pool textures₀ retiring doomed₀ spares₀ newest stamps line freed excess cap i₀ from₀ kept₀ bytes₀ sum₀ textures doomed spares i from kept bytes sum =
