@@ -32,11 +32,11 @@ use Rattle.layout.proofs.Parts.{total-next, total-cut, total-within}
 use Rattle.layout.proofs.Runs.{firstSpare, stateOf, tracked-records, tracked-model, records-model, model-at}
 use Rattle.layout.proofs.Same.{doomed-model}
 use Rattle.layout.proofs.Stays.{textures-fit, spares-fit}
-use Rattle.relief.specs.Line.{bytesOfAged, isBefore, isAt, bytesBefore, IsLine, freedWith, parkedOf, countBefore, takenAt, gives}
-use Rattle.relief.specs.Parked.{parkedAt, parkings, bytesFrom, recordSpares, recordBytes, Countable}
-use Rattle.relief.proofs.Picked.{all-picked, freed-append}
-use Rattle.relief.proofs.ByLine.{agedAll, aged-append, before-run, at-run, gives-among, aged-bytes}
-use Rattle.relief.proofs.Parked.{length-parkings, gives-most, gives-sum, before-most}
+use Rattle.relief_line.specs.Line.{bytesOfAged, isBefore, isAt, bytesBefore, IsLine, freedWith, parkedOf, countBefore, takenAt, gives}
+use Rattle.relief_line.specs.Parked.{parkedAt, parkings, bytesFrom, recordSpares, recordBytes, Countable}
+use Rattle.relief_line.proofs.Picked.{all-picked, freed-append}
+use Rattle.relief_line.proofs.ByLine.{agedAll, aged-append, before-run, at-run, gives-among, aged-bytes}
+use Rattle.relief_line.proofs.Parked.{length-parkings, gives-most, gives-sum, before-most}
 use Rattle.relief.proofs.Thinned.{state-spares, state-shape, take-next}
 
 -- ---- bytes of one texture's spares

@@ -34,7 +34,7 @@ use Rattle.layout.proofs.Stays.{put-together, nothing-changed, newest-stay, sta
 use Rattle.layout.proofs.Asked.{asked-accepted}
 use Rattle.destruction.proofs.Pushed.{first-pushed}
 use Rattle.relief.specs.Relieved.{relievedPool, givenUp, Relieves, countsAfter, notedBook}
-use Rattle.relief.proofs.Picked.{picked-none}
+use Rattle.relief_line.proofs.Picked.{picked-none}
 use Rattle.relief.proofs.Chosen.{share, dooming-most}
 
 -- textures that give up spares keep what their pages depend on

@@ -29,8 +29,8 @@ use Rattle.layout.proofs.Runs.{sparesOf, spareCount, firstSpare, stateOf}
 use Rattle.layout.proofs.Stays.{textures-fit, doomed-fit}
 use Rattle.destruction.specs.Given.{givenRecords}
 use Rattle.destruction.proofs.Pushed.{doomed-pushed}
-use Rattle.relief.specs.Line.{IsLine, takenAt, gives}
-use Rattle.relief.specs.Parked.{parkedAt, parkings, bytesFrom, Countable}
+use Rattle.relief_line.specs.Line.{IsLine, takenAt, gives}
+use Rattle.relief_line.specs.Parked.{parkedAt, parkings, bytesFrom, Countable}
 use Rattle.relief.specs.Relieved.{relievedPool, givenUp, Relieves}
 use Rattle.relief.proofs.Thinned.{first-next, texturesTo, sparesTo, doomedTo, keptTo, bytesTo, textures-next, record-next, kept-most, kept-next, spares-next, spare-next, doomed-next, bytes-next, none-given, none-counted, all-given}
 use Rattle.relief.proofs.Chosen.{share, freedTo, countable, share-gives, share-most, freed-next, freed-start, freed-fits}

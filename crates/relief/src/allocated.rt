@@ -8,11 +8,11 @@ ghost use Rattle.layout.specs.Lent.{lent};
 ghost use Rattle.layout.specs.IsPool.{isPool};
 ghost use Rattle.layout.specs.Calls.{toldNumber, noteAllocatedCall};
 ghost use Rattle.relief.specs.Relieved.{countsAfter, notedBook};
-use crate::line::bytes_before;
-use crate::line::parking_line;
 use crate::relieve::relieve;
 use layout::PacingBook;
 use layout::Pool;
+use relief_line::bytes_before;
+use relief_line::parking_line;
 use stores::VersionBudget;
 
 // The pool and the book after the call, and 01's number: it is 0 on every pool.

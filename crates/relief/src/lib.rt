@@ -1,8 +1,6 @@
 // note_allocated: under pressure the oldest spares of all textures go to the destroy queue, until their bytes cover the excess.
 mod allocated;
 mod give;
-mod gives;
-mod line;
 mod relieve;
 
 pub use allocated::NotedAnswer;

@@ -12,14 +12,14 @@ ghost use Rattle.records.specs.Doomed.{writeDoomed};
 ghost use Rattle.layout.specs.Lent.{lent};
 ghost use Rattle.layout.specs.IsPool.{isPool};
 ghost use Rattle.destruction.specs.Given.{givenRecords};
-ghost use Rattle.relief.specs.Line.{IsLine, takenAt, gives};
-ghost use Rattle.relief.specs.Parked.{parkings, bytesFrom};
+ghost use Rattle.relief_line.specs.Line.{IsLine, takenAt, gives};
+ghost use Rattle.relief_line.specs.Parked.{parkings, bytesFrom};
 ghost use Rattle.relief.specs.Relieved.{Relieves};
 use crate::give::give_spares;
-use crate::gives::texture_gives;
-use crate::line::version_bytes;
 use layout::PacingBook;
 use layout::Pool;
+use relief_line::texture_gives;
+use relief_line::version_bytes;
 
 // What one texture did: how many spares it had, how many of them it gave, their bytes, and the bytes freed by then.
 pub struct Step {

@@ -8,8 +8,8 @@ use borrow.Author.Needs.{needs}
 use Rattle.tables.specs.Rings.{laid}
 use Rattle.records.specs.Doomed.{writeDoomed}
 use Rattle.destruction.specs.Given.{givenRecords}
-use Rattle.relief.specs.Line.{takenAt, gives}
-use Rattle.relief.specs.Parked.{parkings}
+use Rattle.relief_line.specs.Line.{takenAt, gives}
+use Rattle.relief_line.specs.Parked.{parkings}
 use Rattle.access.proofs.Fields.{spares-number}
 use Rattle.relief.proofs.relieve.relieve_texture.Statement.{statement}
 use Rattle.relief.proofs.relieve.relieve_texture.Tie as tie

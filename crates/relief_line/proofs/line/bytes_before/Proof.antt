@@ -10,10 +10,10 @@ use Rattle.tables.specs.Records.{recordAt, table}
 use Rattle.tables.proofs.Records.{table-left}
 use Rattle.shapes.specs.Shapes.{bytesOf}
 use Rattle.records.specs.Texture.{readTexture}
-use Rattle.relief.specs.Parked.{bytesFrom, recordSpares, recordBytes}
-use Rattle.relief.proofs.Parked.{spares-rest, bytes-rest, before-rest, before-done, counted-bytes}
-use Rattle.relief.proofs.line.bytes_before.Statement.{statement}
-use Rattle.relief.proofs.line.bytes_before.Tie as tie
+use Rattle.relief_line.specs.Parked.{bytesFrom, recordSpares, recordBytes}
+use Rattle.relief_line.proofs.Parked.{spares-rest, bytes-rest, before-rest, before-done, counted-bytes}
+use Rattle.relief_line.proofs.line.bytes_before.Statement.{statement}
+use Rattle.relief_line.proofs.line.bytes_before.Tie as tie
 
 abbrev Inv-loop : tie.InvT-loop
 Inv-loop textures n spares line sum₀ from₀ i₀ sum from i =

@@ -6,13 +6,13 @@ use lib.Dec.{ltb}
 use lib.ListN.{getD}
 use borrow.Author.Needs.{needs}
 use Rattle.blocks.proofs.Listed.{left}
-use Rattle.relief.specs.Line.{countBefore}
-use Rattle.relief.specs.Parked.{parkedAt}
-use Rattle.relief.proofs.Parked.{parkings-left, byte-most, count-done, count-step}
-use Rattle.relief.proofs.gives.count_before.Statement.{statement}
-use Rattle.relief.proofs.gives.count_before.Tie as tie
-use Rattle.relief.proofs.gives.count_before.Reads as reads
-use Rattle.relief.proofs.gives.count_before.Lts as lts
+use Rattle.relief_line.specs.Line.{countBefore}
+use Rattle.relief_line.specs.Parked.{parkedAt}
+use Rattle.relief_line.proofs.Parked.{parkings-left, byte-most, count-done, count-step}
+use Rattle.relief_line.proofs.gives.count_before.Statement.{statement}
+use Rattle.relief_line.proofs.gives.count_before.Tie as tie
+use Rattle.relief_line.proofs.gives.count_before.Reads as reads
+use Rattle.relief_line.proofs.gives.count_before.Lts as lts
 
 abbrev Inv-loop : tie.InvT-loop
 Inv-loop spares from n line end k₀ j₀ k j =

@@ -7,11 +7,11 @@ use native.Mathlib.Omega.{arith}
 use borrow.Author.Needs.{needs}
 use Rattle.tables.specs.Records.{table}
 use Rattle.records.specs.Texture.{readTexture}
-use Rattle.relief.specs.Line.{IsLine}
-use Rattle.relief.specs.Parked.{bytesFrom}
-use Rattle.relief.proofs.Parked.{bytes-zero, ends-meet}
-use Rattle.relief.proofs.line.parking_line.Statement.{statement}
-use Rattle.relief.proofs.line.parking_line.Tie as tie
+use Rattle.relief_line.specs.Line.{IsLine}
+use Rattle.relief_line.specs.Parked.{bytesFrom}
+use Rattle.relief_line.proofs.Parked.{bytes-zero, ends-meet}
+use Rattle.relief_line.proofs.line.parking_line.Statement.{statement}
+use Rattle.relief_line.proofs.line.parking_line.Tie as tie
 
 abbrev Inv-loop : tie.InvT-loop
 Inv-loop textures n spares dooming excess lo₀ hi₀ lo hi =

@@ -5,13 +5,13 @@ use native.Mathlib.Nat.{mul-add, mul-le-mul-left}
 use native.Mathlib.Omega.{arith}
 use borrow.Author.Needs.{needs}
 use Rattle.blocks.proofs.Listed.{left}
-use Rattle.relief.specs.Line.{takenAt}
-use Rattle.relief.specs.Parked.{parkedAt}
-use Rattle.relief.proofs.Parked.{parked-at, parkings-left, taken-none, taken-done, take-hit, take-miss}
-use Rattle.relief.proofs.gives.take_at.Statement.{statement}
-use Rattle.relief.proofs.gives.take_at.Tie as tie
-use Rattle.relief.proofs.gives.take_at.Reads as reads
-use Rattle.relief.proofs.gives.take_at.Lts as lts
+use Rattle.relief_line.specs.Line.{takenAt}
+use Rattle.relief_line.specs.Parked.{parkedAt}
+use Rattle.relief_line.proofs.Parked.{parked-at, parkings-left, taken-none, taken-done, take-hit, take-miss}
+use Rattle.relief_line.proofs.gives.take_at.Statement.{statement}
+use Rattle.relief_line.proofs.gives.take_at.Tie as tie
+use Rattle.relief_line.proofs.gives.take_at.Reads as reads
+use Rattle.relief_line.proofs.gives.take_at.Lts as lts
 
 abbrev Inv-loop : tie.InvT-loop
 Inv-loop spares from n line bytes freed excess end count₀ sum₀ j₀ count sum j =

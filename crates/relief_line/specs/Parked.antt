@@ -10,7 +10,7 @@ use Rattle.shapes.specs.Shapes.{isShape, bytesOf}
 use Rattle.records.specs.declared.texture.TextureRecord.{TextureRecord}
 use Rattle.records.specs.Texture.{readTexture}
 use Rattle.records.specs.Spare.{readSpare}
-use Rattle.relief.specs.Line.{countBefore}
+use Rattle.relief_line.specs.Line.{countBefore}
 
 unfoldable pub parkedAt : List ℕ → ℕ → ℕ
 parkedAt spares k = recordAt 3 readSpare spares k .parked

@@ -7,9 +7,9 @@ use borrow.Author.Needs.{needs}
 use Rattle.tables.specs.Records.{recordAt}
 use Rattle.shapes.specs.Shapes.{bytesOf}
 use Rattle.records.specs.Texture.{readTexture}
-use Rattle.relief.proofs.Parked.{counted-bytes}
-use Rattle.relief.proofs.line.run_bytes.Statement.{statement}
-use Rattle.relief.proofs.line.run_bytes.Tie as tie
+use Rattle.relief_line.proofs.Parked.{counted-bytes}
+use Rattle.relief_line.proofs.line.run_bytes.Statement.{statement}
+use Rattle.relief_line.proofs.line.run_bytes.Tie as tie
 
 count-before-requires : tie.Need-count-before-requires
 count-before-requires c κs = search needs

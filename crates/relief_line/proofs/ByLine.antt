@@ -17,9 +17,9 @@ use Rattle.stores.specs.Model.{Spare, VersionState, limit}
 use Rattle.stores.specs.NoteAllocated.{Aged, picked, byAge, countOf, agedOf}
 use Rattle.stores.specs.Formed.{StateFormed, Ascending, end, more}
 use Rattle.stores.proofs.States.{ascending-above}
-use Rattle.relief.specs.Line.{bytesOfAged, isBefore, isAt, bytesBefore, IsLine, freedWith, parkedOf, countBefore, takenAt, gives}
-use Rattle.relief.proofs.Picked.{picked-none, picked-all, picked-covers, picked-append, all-picked, count-append, count-all, count-none}
-use Rattle.relief.proofs.Sorted.{total-sorted, count-sorted, sorted-parted, isAfter, none-after, bytes-next, Rising, level, rising-both, rising-same, sorted-at}
+use Rattle.relief_line.specs.Line.{bytesOfAged, isBefore, isAt, bytesBefore, IsLine, freedWith, parkedOf, countBefore, takenAt, gives}
+use Rattle.relief_line.proofs.Picked.{picked-none, picked-all, picked-covers, picked-append, all-picked, count-append, count-all, count-none}
+use Rattle.relief_line.proofs.Sorted.{total-sorted, count-sorted, sorted-parted, isAfter, none-after, bytes-next, Rising, level, rising-both, rising-same, sorted-at}
 
 module _ (dooming excess : ℕ) (xs : List Aged) (line : ℕ) (L : IsLine dooming excess (λ n. bytesBefore n xs) line) (rising : Rising xs) (parked : All (λ (a : Aged). a .parked ≤ limit) xs) where
   abbrev freed : ℕ

@@ -12,7 +12,7 @@ use Rattle.blocks.specs.All.{All, nil, cons}
 use Rattle.blocks.proofs.All.{all-both, all-mono, all-keep, all-kept}
 use Rattle.stores.proofs.Lists.{all-pairs}
 use Rattle.stores.specs.NoteAllocated.{Aged, notAfter, insertAged, byAge, countOf}
-use Rattle.relief.specs.Line.{bytesOfAged, isBefore, isAt, bytesBefore}
+use Rattle.relief_line.specs.Line.{bytesOfAged, isBefore, isAt, bytesBefore}
 
 -- ---- one put in
 

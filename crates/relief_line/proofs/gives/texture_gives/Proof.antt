@@ -3,10 +3,10 @@ use mathlib.Core.Path.{ap, _∙_}
 use Prim.Native.Nat.{_+_, _*_}
 use native.Mathlib.Omega.{arith}
 use borrow.Author.Needs.{needs}
-use Rattle.relief.specs.Parked.{parkings}
-use Rattle.relief.proofs.Parked.{length-parkings, gives-sum, gives-most}
-use Rattle.relief.proofs.gives.texture_gives.Statement.{statement}
-use Rattle.relief.proofs.gives.texture_gives.Tie as tie
+use Rattle.relief_line.specs.Parked.{parkings}
+use Rattle.relief_line.proofs.Parked.{length-parkings, gives-sum, gives-most}
+use Rattle.relief_line.proofs.gives.texture_gives.Statement.{statement}
+use Rattle.relief_line.proofs.gives.texture_gives.Tie as tie
 
 count-before-requires : tie.Need-count-before-requires
 count-before-requires c κs = search needs

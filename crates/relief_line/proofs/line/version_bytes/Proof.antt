@@ -2,8 +2,8 @@
 use mathlib.Core.Path.{ap, _∙_}
 use borrow.Author.Needs.{needs}
 use Rattle.shapes.specs.Shapes.{isShape, bytesOf}
-use Rattle.relief.proofs.line.version_bytes.Statement.{statement}
-use Rattle.relief.proofs.line.version_bytes.Tie as tie
+use Rattle.relief_line.proofs.line.version_bytes.Statement.{statement}
+use Rattle.relief_line.proofs.line.version_bytes.Tie as tie
 
 texture-at-requires : tie.Need-texture-at-requires
 texture-at-requires c κs = search needs

@@ -12,7 +12,7 @@ use Rattle.blocks.specs.Lists.{total}
 use Rattle.blocks.specs.All.{All, nil, cons}
 use Rattle.blocks.proofs.Lists.{either, total-append}
 use Rattle.stores.specs.NoteAllocated.{Aged, picked, countOf}
-use Rattle.relief.specs.Line.{bytesOfAged, freedWith}
+use Rattle.relief_line.specs.Line.{bytesOfAged, freedWith}
 
 -- ---- what is picked
 

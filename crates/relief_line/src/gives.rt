@@ -3,8 +3,8 @@
 ghost use mathlib.Core.Path.{_≡_};
 ghost use Prim.Native.Nat.{_+_, _*_, _≤_, _<_, _^_};
 ghost use lib.ListN.{length};
-ghost use Rattle.relief.specs.Line.{countBefore, takenAt, gives};
-ghost use Rattle.relief.specs.Parked.{parkings};
+ghost use Rattle.relief_line.specs.Line.{countBefore, takenAt, gives};
+ghost use Rattle.relief_line.specs.Parked.{parkings};
 
 // How many were picked, and the bytes freed with them and all before.
 pub struct Given {

@@ -21,8 +21,8 @@ use Rattle.records.specs.declared.texture.TextureRecord.{TextureRecord}
 use Rattle.records.specs.Texture.{readTexture}
 use Rattle.records.specs.Spare.{readSpare}
 use Rattle.access.proofs.Fields.{spares-number}
-use Rattle.relief.specs.Line.{countBefore, takenAt, gives, IsLine}
-use Rattle.relief.specs.Parked.{parkedAt, parkings, bytesFrom, recordSpares, recordBytes}
+use Rattle.relief_line.specs.Line.{countBefore, takenAt, gives, IsLine}
+use Rattle.relief_line.specs.Parked.{parkedAt, parkings, bytesFrom, recordSpares, recordBytes}
 
 -- a parking number is the third number of its record
 pub parked-at : (spares : List ℕ) (k : ℕ) → getD spares (3 * k + 2) 0 ≡ parkedAt spares k
