@@ -10,7 +10,6 @@ use lib.Dec.{ltb, leb, eqb}
 use lib.ListN.{length, getD}
 use lib.Seq.{getD-drop}
 use native.Mathlib.Decide.{decLt}
-use mir.Val.{boolByte}
 use borrow.Author.Tests.{le-leb, lt-leb, lt-ltb, le-ltb, eq-eqb, ne-eqb}
 use Rattle.blocks.specs.Lists.{listed, total}
 use Rattle.blocks.proofs.Lists.{either}
@@ -40,11 +39,8 @@ module _ (spares : List ℕ) (from n : ℕ) where
 
 -- ---- those parked before the line
 
-abbrev pub flag : Bool → ℕ
-flag b = cond b 1 0
-
 module _ (line : ℕ) (f : ℕ → ℕ) (end : ℕ) where
-  pub count-more : (j : ℕ) → j < end → countBefore line (left f end j) ≡ flag (ltb (f j) line) + countBefore line (left f end (j + 1))
+  count-more : (j : ℕ) → j < end → countBefore line (left f end j) ≡ cond (ltb (f j) line) 1 0 + countBefore line (left f end (j + 1))
   unfolding countBefore
   count-more j h = total-more f end (λ (p : ℕ). cond (ltb p line) 1 0) j h
 
@@ -52,25 +48,17 @@ module _ (line : ℕ) (f : ℕ → ℕ) (end : ℕ) where
   unfolding countBefore
   count-done j h = total-done f end (λ (p : ℕ). cond (ltb p line) 1 0) j h
 
--- the test as the number that the code adds
-byte-flag : (b : Bool) → boolByte b ≡ flag b
-byte-flag true = refl
-byte-flag false = refl
+-- a turn of the loop: k are counted, m in all
+module _ (spares : List ℕ) (line end j k m : ℕ) (h : j < end) (e : k + countBefore line (left (parkedAt spares) end j) ≡ m) where
+  pub count-hit : getD spares (3 * j + 2) 0 < line → k + 1 + countBefore line (left (parkedAt spares) end (j + 1)) ≡ m
+  count-hit q =
+      let t : ltb (parkedAt spares j) line ≡ true = lt-ltb (parkedAt spares j) line (omega (arith, q, parked-at spares j)) in
+      omega (arith, e, count-more line (parkedAt spares) end j h, ap {B = ℕ} (λ (b : Bool). cond b 1 0) t)
 
-pub byte-most : (b : Bool) → boolByte b ≤ 1
-byte-most true = omega arith
-byte-most false = omega arith
-
-pub count-step : (line : ℕ) (spares : List ℕ) (end j k m : ℕ) → j < end → k + countBefore line (left (parkedAt spares) end j) ≡ m
-    → k + boolByte (ltb (getD spares (3 * j + 2) 0) line) + countBefore line (left (parkedAt spares) end (j + 1)) ≡ m
-count-step line spares end j k m h e =
-    omega (
-      arith,
-      e,
-      count-more line (parkedAt spares) end j h,
-      byte-flag (ltb (getD spares (3 * j + 2) 0) line),
-      ap (λ (p : ℕ). flag (ltb p line)) (parked-at spares j),
-    )
+  pub count-miss : line ≤ getD spares (3 * j + 2) 0 → k + countBefore line (left (parkedAt spares) end (j + 1)) ≡ m
+  count-miss q =
+      let t : ltb (parkedAt spares j) line ≡ false = le-ltb (parkedAt spares j) line (omega (arith, q, parked-at spares j)) in
+      omega (arith, e, count-more line (parkedAt spares) end j h, ap {B = ℕ} (λ (b : Bool). cond b 1 0) t)
 
 -- ---- those parked at it
 

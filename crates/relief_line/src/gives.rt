@@ -21,8 +21,11 @@ pub fn count_before(spares: &[u64], from: usize, n: usize, line: u64) -> usize
     let mut k = 0;
     let mut j = from;
     while j < end {
-        k += (spares[3 * j + 2] < line) as usize;
+        let parked = spares[3 * j + 2];
         j += 1;
+        if parked < line {
+            k += 1;
+        }
     }
     k
 }

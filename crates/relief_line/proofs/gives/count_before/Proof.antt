@@ -1,18 +1,14 @@
 -- `count_before` meets its contract. Assumes nothing.
-use Prim.Native.Nat.{_+_, _*_, _-_, _≤_}
 use mathlib.Core.Path.{_≡_, ap}
+use Prim.Native.Nat.{_+_, _-_, _≤_}
 use native.Mathlib.Omega.{arith}
-use lib.Dec.{ltb}
-use lib.ListN.{getD}
 use borrow.Author.Needs.{needs}
 use Rattle.blocks.proofs.Listed.{left}
 use Rattle.relief_line.specs.Line.{countBefore}
 use Rattle.relief_line.specs.Parked.{parkedAt}
-use Rattle.relief_line.proofs.Parked.{parkings-left, byte-most, count-done, count-step}
+use Rattle.relief_line.proofs.Parked.{parkings-left, count-done, count-hit, count-miss}
 use Rattle.relief_line.proofs.gives.count_before.Statement.{statement}
 use Rattle.relief_line.proofs.gives.count_before.Tie as tie
-use Rattle.relief_line.proofs.gives.count_before.Reads as reads
-use Rattle.relief_line.proofs.gives.count_before.Lts as lts
 
 abbrev Inv-loop : tie.InvT-loop
 Inv-loop spares from n line end k₀ j₀ k j =
@@ -21,62 +17,56 @@ Inv-loop spares from n line end k₀ j₀ k j =
 abbrev μ-loop : tie.MeasureT-loop
 μ-loop spares from n line end k₀ j₀ k j = end - j
 
--- src/gives.rt:20:15
 add-end : tie.Need-add-end Inv-loop μ-loop
 add-end c = search needs
 
--- src/gives.rt:23:5
 loop-holds : tie.Need-loop-holds Inv-loop μ-loop
 loop-holds c = (search needs, search needs, search needs, search needs)
 
--- src/gives.rt:24:22
-mul-k : tie.Need-mul-k Inv-loop μ-loop
-mul-k c = search needs
+mul-parked : tie.Need-mul-parked Inv-loop μ-loop
+mul-parked c = search needs
 
--- src/gives.rt:24:22
-add-k : tie.Need-add-k Inv-loop μ-loop
-add-k c = search needs
+add-parked : tie.Need-add-parked Inv-loop μ-loop
+add-parked c = search needs
 
--- src/gives.rt:24:15
-mul-k-2 : tie.Need-mul-k-2 Inv-loop μ-loop
-mul-k-2 c = search needs
+mul-parked-2 : tie.Need-mul-parked-2 Inv-loop μ-loop
+mul-parked-2 c = search needs
 
--- src/gives.rt:24:15
-shared-slice-read-k : tie.Need-shared-slice-read-k Inv-loop μ-loop
-shared-slice-read-k c = search needs
+shared-slice-read-parked : tie.Need-shared-slice-read-parked Inv-loop μ-loop
+shared-slice-read-parked c = search needs
 
--- src/gives.rt:24:14
-cast-k : tie.Need-cast-k Inv-loop μ-loop
-cast-k c = search needs
-
--- src/gives.rt:24:9
-add-k-2 : tie.Need-add-k-2 Inv-loop μ-loop
-add-k-2 c =
-    let b = c .before .before in
-    let a = b .before .args in
-    omega (arith, byte-most (ltb (getD (a .spares .now) (3 * b .loop .j + 2) 0) (a .line)), b .loop .inv, c .before .loop-test)
-
--- src/gives.rt:25:9
 add-j : tie.Need-add-j Inv-loop μ-loop
 add-j c = search needs
 
--- src/gives.rt:23:5
+add-k : tie.Need-add-k Inv-loop μ-loop
+add-k c = search needs
+
 loop-less : tie.Need-loop-less Inv-loop μ-loop
 loop-less c = search needs
 
--- src/gives.rt:23:5
 loop-again : tie.Need-loop-again Inv-loop μ-loop
 loop-again c =
-    let b = c .before .before in
-    let a = b .before .args in
-    let e = byte-most (ltb (getD (a .spares .now) (3 * b .loop .j + 2) 0) (a .line)) in (
+    let b = c .before .before .before in
+    let a = b .before .args in (
       search needs,
       search needs,
-      omega (arith, e, b .loop .inv .2),
-      count-step (a .line) (a .spares .now) (a .from + a .n) (b .loop .j) (b .loop .k) _ (c .before .loop-test .taken) (b .loop .inv .3),
+      search needs,
+      count-hit (a .spares .now) (a .line) (a .from + a .n) (b .loop .j) (b .loop .k) _ (c .before .before .loop-test .taken) (b .loop .inv .3) (c .if1 .taken),
     )
 
--- src/gives.rt:16:1
+loop-less-2 : tie.Need-loop-less-2 Inv-loop μ-loop
+loop-less-2 c = search needs
+
+loop-again-2 : tie.Need-loop-again-2 Inv-loop μ-loop
+loop-again-2 c =
+    let b = c .before .before .before in
+    let a = b .before .args in (
+      search needs,
+      search needs,
+      search needs,
+      count-miss (a .spares .now) (a .line) (a .from + a .n) (b .loop .j) (b .loop .k) _ (c .before .before .loop-test .taken) (b .loop .inv .3) (c .if1 .left),
+    )
+
 returns : tie.Need-returns Inv-loop μ-loop
 returns c =
     let b = c .before in
@@ -98,13 +88,14 @@ count-before-spec =
     μ-loop
     add-end
     loop-holds
-    mul-k
-    add-k
-    mul-k-2
-    shared-slice-read-k
-    cast-k
-    add-k-2
+    mul-parked
+    add-parked
+    mul-parked-2
+    shared-slice-read-parked
     add-j
+    add-k
     loop-less
     loop-again
+    loop-less-2
+    loop-again-2
     returns)
