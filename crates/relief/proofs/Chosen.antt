@@ -1,34 +1,33 @@
 -- What relief picks of a pool in lent memory, texture by texture: the numbers that the code works with are the model's. Assumes nothing.
-use mathlib.Core.Path.{_≡_, refl, sym, ap, ap₂, _∙_, subst}
+use mathlib.Core.Path.{_≡_, refl, sym, ap, ap₂, _∙_}
 use mathlib.Core.Bool.{true}
 use mathlib.Core.List.{List, [], _∷_, _++_, map, flatMap, append-nil}
 use mathlib.Core.Logic.{_⊎_, inl, inr, ⊎-elim}
 use Prim.Native.Nat.{ℕ, zero, suc, _+_, _-_, _*_, _≤_, _<_}
-use native.Mathlib.Nat.{add-zero, zero-add, mul-zero, mul-add, mul-suc, mul-le-mul-left, mul-le-mul-right}
+use native.Mathlib.Nat.{add-zero, mul-zero, mul-suc, mul-le-mul-left, mul-le-mul-right}
 use native.Mathlib.Omega.{arith}
-use lib.ListN.{length, take, drop, getD}
+use lib.ListN.{length, take, drop}
 use lib.Seq.{split-at}
 use Rattle.blocks.specs.Lists.{listed, keep, total}
 use Rattle.blocks.specs.All.{All, nil, cons}
 use Rattle.blocks.proofs.All.{all-map, all-at, all-keep}
 use Rattle.blocks.proofs.Lists.{keep-append, total-append}
 use Rattle.blocks.proofs.Listed.{map-listed}
-use Rattle.tables.specs.Records.{recordAt, table}
+use Rattle.tables.specs.Records.{recordAt}
 use Rattle.tables.proofs.Records.{getD-table}
 use Rattle.shapes.specs.Shapes.{isShape, bytesOf}
 use Rattle.shapes.proofs.ShapeBytes.{bytes-bound}
-use Rattle.stores.specs.Model.{Spare, Doomed, VersionState, spareBytes, doomedBytes}
+use Rattle.stores.specs.Model.{Doomed, VersionState, doomedBytes}
 use Rattle.stores.specs.NoteAllocated.{Aged, picked, byAge, countOf, agedOf, pickedIn}
-use Rattle.stores.specs.Formed.{Ascending, StateFormed, DoomedFormed}
-use Rattle.stores.proofs.Moves.{given, given-bytes}
+use Rattle.stores.specs.Formed.{DoomedFormed}
+use Rattle.stores.proofs.Moves.{given}
 use Rattle.records.specs.declared.texture.TextureRecord.{TextureRecord}
 use Rattle.records.specs.Texture.{readTexture}
-use Rattle.records.specs.Spare.{readSpare}
-use Rattle.layout.specs.Lent.{Lent, versionPlaces}
+use Rattle.layout.specs.Lent.{Lent}
 use Rattle.layout.specs.Reading.{trackedRecords, recordPages, spareRead, stateRead, statesRead, modelOf}
 use Rattle.layout.specs.Writing.{textureRecord}
 use Rattle.layout.proofs.Fits.{Fits}
-use Rattle.layout.proofs.Parts.{total-next, total-cut, total-within}
+use Rattle.layout.proofs.Parts.{total-next, total-within}
 use Rattle.layout.proofs.Runs.{firstSpare, stateOf, tracked-records, tracked-model, records-model, model-at}
 use Rattle.layout.proofs.Same.{doomed-model}
 use Rattle.layout.proofs.Stays.{textures-fit, spares-fit}

@@ -1,7 +1,7 @@
 -- note_allocated on lent memory: what relief leaves, with the counts and the book, is what the model's rule leaves; and where the queued bytes cover the
 -- excess the book alone changes. Assumes nothing.
 use mathlib.Core.Path.{_≡_, refl, sym, ap, ap₂, _∙_}
-use mathlib.Core.Bool.{true, false}
+use mathlib.Core.Bool.{true}
 use mathlib.Core.List.{List, [], _∷_, _++_, map, flatMap, append-nil}
 use Prim.Native.Nat.{ℕ, _+_, _-_, _*_, _≤_, _<_, _^_}
 use native.Mathlib.Nat.{add-zero, sub-zero, mul-le-mul-right}
@@ -11,21 +11,18 @@ use Rattle.blocks.specs.Lists.{total}
 use Rattle.blocks.specs.All.{All, nil, cons}
 use Rattle.shapes.specs.Shapes.{bytesOf}
 use Rattle.shapes.proofs.ShapeBytes.{bytes-bound}
-use Rattle.stores.specs.Model.{Spare, Doomed, VersionState, Pool, Out, accepted, pagesUsed, spareBytes, doomedBytes}
-use Rattle.stores.specs.Updates.{withSpares, withPacing}
-use Rattle.stores.specs.NoteAllocated.{pressedAfter, countOf, picked, pickedIn, relieved, noteAllocated}
+use Rattle.stores.specs.Model.{Doomed, VersionState, Pool, accepted, pagesUsed, spareBytes, doomedBytes}
+use Rattle.stores.specs.Updates.{withPacing}
+use Rattle.stores.specs.NoteAllocated.{pressedAfter, countOf, pickedIn, relieved, noteAllocated}
 use Rattle.stores.specs.Formed.{StateFormed}
 use Rattle.stores.proofs.Lists.{total-map}
 use Rattle.stores.proofs.Moves.{lessened, given, given-bytes, given-count}
-use Rattle.layout.specs.declared.pool.Pool.{Pool as Counts}
-use Rattle.layout.specs.declared.book.PacingBook.{PacingBook}
 use Rattle.layout.specs.Lent.{Lent, lent}
-use Rattle.layout.specs.Reading.{trackedRecords, modelOf}
+use Rattle.layout.specs.Reading.{modelOf}
 use Rattle.layout.specs.Writing.{texturesAfter, sparesAfter, newestAfter, stampsAfter, headAfter, retiringAfter, firstAfter, doomedAfter, poolAfter, bookAfter, after}
 use Rattle.layout.specs.IsPool.{isPool}
-use Rattle.layout.specs.Calls.{Told, answer, toldNumber, noteAllocatedCall}
+use Rattle.layout.specs.Calls.{answer, toldNumber, noteAllocatedCall}
 use Rattle.layout.proofs.Fits.{Fits}
-use Rattle.layout.proofs.FromPool.{pool-fits}
 use Rattle.layout.proofs.Runs.{spareCount, tracked-model, kept-model, pages-model}
 use Rattle.layout.proofs.Kept.{pagedOf}
 use Rattle.layout.proofs.Rings.{hand-model, head-stays}

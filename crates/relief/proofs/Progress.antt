@@ -1,24 +1,23 @@
 -- The loop over the textures: how far relief has come when the first i textures have given, and a turn of it. Assumes nothing.
 use mathlib.Core.Path.{_≡_, refl, sym, ap, ap₂, _∙_}
 use mathlib.Core.Bool.{true}
-use mathlib.Core.List.{List, [], _∷_, map, flatMap}
+use mathlib.Core.List.{List, map, flatMap}
 use Prim.Native.Nat.{ℕ, suc, _+_, _-_, _*_, _≤_, _<_, _^_}
 use native.Mathlib.Numerals.{add-one}
 use native.Mathlib.Omega.{arith}
-use lib.ListN.{length, take, drop, getD, set, length-set}
-use Rattle.blocks.specs.Lists.{listed, over, total}
+use lib.ListN.{length, take, set}
+use Rattle.blocks.specs.Lists.{over, total}
 use Rattle.blocks.specs.Blocks.{moved}
 use Rattle.blocks.proofs.Listed.{listed-same}
 use Rattle.tables.specs.Records.{recordAt, flat}
 use Rattle.tables.specs.Rings.{laid}
-use Rattle.tables.proofs.Rings.{length-laid}
 use Rattle.shapes.specs.Shapes.{isShape, bytesOf}
 use Rattle.stores.specs.Model.{VersionState, spareBytes, doomedBytes}
 use Rattle.stores.proofs.Moves.{lessened, given, given-bytes}
 use Rattle.records.specs.declared.texture.TextureRecord.{TextureRecord}
 use Rattle.records.specs.declared.spare.SpareRecord.{SpareRecord}
 use Rattle.records.specs.Texture.{readTexture, writeTexture}
-use Rattle.records.specs.Spare.{readSpare, writeSpare}
+use Rattle.records.specs.Spare.{writeSpare}
 use Rattle.records.specs.Doomed.{writeDoomed}
 use Rattle.layout.specs.Lent.{Lent, versionPlaces}
 use Rattle.layout.specs.Reading.{trackedRecords, modelOf}
@@ -30,10 +29,10 @@ use Rattle.layout.proofs.Stays.{textures-fit, doomed-fit}
 use Rattle.destruction.specs.Given.{givenRecords}
 use Rattle.destruction.proofs.Pushed.{doomed-pushed}
 use Rattle.relief_line.specs.Line.{IsLine, takenAt, gives}
-use Rattle.relief_line.specs.Parked.{parkedAt, parkings, bytesFrom, Countable}
+use Rattle.relief_line.specs.Parked.{parkedAt, parkings, bytesFrom}
 use Rattle.relief.specs.Relieved.{relievedPool, givenUp, Relieves}
 use Rattle.relief.proofs.Thinned.{first-next, texturesTo, sparesTo, doomedTo, keptTo, bytesTo, textures-next, record-next, kept-most, kept-next, spares-next, spare-next, doomed-next, bytes-next, none-given, none-counted, all-given}
-use Rattle.relief.proofs.Chosen.{share, freedTo, countable, share-gives, share-most, freed-next, freed-start, freed-fits}
+use Rattle.relief.proofs.Chosen.{share, freedTo, countable, share-gives, share-most, freed-next, freed-fits}
 
 -- the numbers and slices as they are when the first i textures have given what was picked of them
 pub record Progress (l : Lent) (excess line i from kept bytes sum : ℕ) (textures doomed spares : List ℕ) : Type 0 where

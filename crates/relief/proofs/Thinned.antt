@@ -3,16 +3,14 @@
 use mathlib.Core.Path.{_≡_, refl, sym, ap, ap₂, _∙_}
 use mathlib.Core.List.{List, [], _∷_, _++_, map, flatMap, map-append, append-nil}
 use Prim.Native.Nat.{ℕ, suc, _+_, _-_, _*_, _≤_, _<_}
-use native.Mathlib.Nat.{add-zero, zero-add}
-use native.Mathlib.Numerals.{add-one}
 use native.Mathlib.Omega.{arith}
-use lib.ListN.{length, take, drop, getD, set, length-append, length-map, length-drop}
+use lib.ListN.{length, take, drop, set, length-append, length-map, length-drop}
 use lib.Seq.{take-suc, take-all, length-take-le}
 use Rattle.blocks.specs.Lists.{listed, over, total}
 use Rattle.blocks.specs.Blocks.{moved}
 use Rattle.blocks.proofs.Lists.{total-append}
 use Rattle.blocks.proofs.Listed.{length-listed, drop-listed, take-listed, map-listed, listed-same}
-use Rattle.tables.specs.Records.{recordAt, table, flat}
+use Rattle.tables.specs.Records.{recordAt, flat}
 use Rattle.tables.specs.Rings.{laid}
 use Rattle.tables.proofs.Records.{getD-table}
 use Rattle.shapes.specs.Shapes.{bytesOf}

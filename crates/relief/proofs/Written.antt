@@ -1,14 +1,14 @@
 -- Laws of slices written from the front: one record more, one run more, some more along a ring. Assumes nothing.
-use mathlib.Core.Path.{_≡_, refl, sym, ap, ap₂, _∙_}
-use mathlib.Core.List.{List, [], _∷_, _++_, append-assoc, append-nil}
-use Prim.Native.Nat.{ℕ, suc, _+_, _-_, _*_, _≤_, _<_}
+use mathlib.Core.Path.{_≡_, sym, ap, ap₂, _∙_}
+use mathlib.Core.List.{List, [], _∷_, _++_}
+use Prim.Native.Nat.{ℕ, suc, _+_, _-_, _*_, _≤_}
 use native.Mathlib.Nat.{add-zero, zero-add, suc-add, mul-add, mul-le-mul-left}
 use native.Mathlib.Omega.{arith}
-use lib.ListN.{length, take, drop, getD, set, length-append, length-drop, take-append-drop}
-use lib.Seq.{sets, take-length, take-at, length-take-le}
+use lib.ListN.{length, take, drop, set, length-append, length-drop, take-append-drop}
+use lib.Seq.{sets, take-at}
 use Rattle.blocks.specs.Lists.{listed, over}
 use Rattle.blocks.specs.Blocks.{moved}
-use Rattle.blocks.proofs.Lists.{take-over, drop-over, over-append}
+use Rattle.blocks.proofs.Lists.{drop-over, over-append}
 use Rattle.blocks.proofs.Listed.{length-listed, listed-same}
 use Rattle.tables.specs.Records.{recordAt, table, flat}
 use Rattle.tables.specs.Rings.{placeOf, laid}

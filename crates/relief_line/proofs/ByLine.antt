@@ -11,7 +11,7 @@ use borrow.Author.Tests.{leb-true}
 use Rattle.blocks.specs.Lists.{keep, total}
 use Rattle.blocks.specs.All.{All, nil, cons}
 use Rattle.blocks.proofs.Lists.{keep-append}
-use Rattle.blocks.proofs.All.{all-both, all-mono, all-keep, all-map, all-flatMap, all-left}
+use Rattle.blocks.proofs.All.{all-mono, all-keep, all-map, all-flatMap}
 use Rattle.shapes.specs.Shapes.{bytesOf}
 use Rattle.stores.specs.Model.{Spare, VersionState, limit}
 use Rattle.stores.specs.NoteAllocated.{Aged, picked, byAge, countOf, agedOf}

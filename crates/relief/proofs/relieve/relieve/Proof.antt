@@ -1,9 +1,8 @@
 -- `relieve` meets its contract: each turn one more texture has given what was picked of it. The book is no part of the loop, so the invariant is said
 -- of any. Assumes nothing.
-use mathlib.Core.Path.{_≡_, refl, sym, _∙_}
-use Prim.Native.Nat.{_+_, _-_, _*_}
+use mathlib.Core.Path.{sym, _∙_}
+use Prim.Native.Nat.{_+_, _-_}
 use native.Mathlib.Omega.{arith}
-use borrow.Author.Needs.{needs}
 use Rattle.layout.specs.declared.book.PacingBook.{PacingBook}
 use Rattle.layout.specs.Lent.{lent, versionPlaces}
 use Rattle.layout.proofs.Fits.{Fits}

@@ -1,17 +1,15 @@
 -- `take_at` meets its contract. Assumes nothing.
 use Prim.Native.Nat.{_+_, _*_, _-_, _≤_}
-use mathlib.Core.Path.{_≡_, refl, sym, ap, _∙_}
+use mathlib.Core.Path.{_≡_, ap}
 use native.Mathlib.Nat.{mul-add, mul-le-mul-left}
 use native.Mathlib.Omega.{arith}
 use borrow.Author.Needs.{needs}
 use Rattle.blocks.proofs.Listed.{left}
 use Rattle.relief_line.specs.Line.{takenAt}
 use Rattle.relief_line.specs.Parked.{parkedAt}
-use Rattle.relief_line.proofs.Parked.{parked-at, parkings-left, taken-none, taken-done, take-hit, take-miss}
+use Rattle.relief_line.proofs.Parked.{parkings-left, taken-none, taken-done, take-hit, take-miss}
 use Rattle.relief_line.proofs.gives.take_at.Statement.{statement}
 use Rattle.relief_line.proofs.gives.take_at.Tie as tie
-use Rattle.relief_line.proofs.gives.take_at.Reads as reads
-use Rattle.relief_line.proofs.gives.take_at.Lts as lts
 
 abbrev Inv-loop : tie.InvT-loop
 Inv-loop spares from n line bytes freed excess end count₀ sum₀ j₀ count sum j =
@@ -21,39 +19,30 @@ Inv-loop spares from n line bytes freed excess end count₀ sum₀ j₀ count su
 abbrev μ-loop : tie.MeasureT-loop
 μ-loop spares from n line bytes freed excess end count₀ sum₀ j₀ count sum j = end - j
 
--- src/gives.rt:43:15
 add-end : tie.Need-add-end Inv-loop μ-loop
 add-end c = search needs
 
--- src/gives.rt:47:5
 loop-holds : tie.Need-loop-holds Inv-loop μ-loop
 loop-holds c = (search needs, search needs, search needs, search needs, search needs)
 
--- src/gives.rt:51:29
 mul-parked : tie.Need-mul-parked Inv-loop μ-loop
 mul-parked c = search needs
 
--- src/gives.rt:51:29
 add-parked : tie.Need-add-parked Inv-loop μ-loop
 add-parked c = search needs
 
--- src/gives.rt:51:22
 mul-parked-2 : tie.Need-mul-parked-2 Inv-loop μ-loop
 mul-parked-2 c = search needs
 
--- src/gives.rt:51:22
 shared-slice-read-parked : tie.Need-shared-slice-read-parked Inv-loop μ-loop
 shared-slice-read-parked c = search needs
 
--- src/gives.rt:52:9
 add-j : tie.Need-add-j Inv-loop μ-loop
 add-j c = search needs
 
--- src/gives.rt:54:13
 add-count : tie.Need-add-count Inv-loop μ-loop
 add-count c = search needs
 
--- src/gives.rt:55:13
 add-sum : tie.Need-add-sum Inv-loop μ-loop
 add-sum c =
     let b = c .before .before .before .before in
@@ -61,11 +50,9 @@ add-sum c =
     let m = mul-le-mul-left {m = b .loop .count + 1} {n = a .n} (a .bytes) (omega (arith, b .loop .inv, c .before .before .before .loop-test .taken)) in
     omega (arith, m, b .loop .inv .3, b .before .pre .1)
 
--- src/gives.rt:47:5
 loop-less : tie.Need-loop-less Inv-loop μ-loop
 loop-less c = search needs
 
--- src/gives.rt:47:5
 loop-again : tie.Need-loop-again Inv-loop μ-loop
 loop-again c =
     let b = c .before .before .before .before in
@@ -77,11 +64,9 @@ loop-again c =
       take-hit (a .spares .now) (a .excess) (a .bytes) (a .line) (a .from + a .n) (b .loop .j) (b .loop .count) (b .loop .sum) _ (c .before .before .before .loop-test .taken) (c .before .before .if1 .left) (b .loop .inv .4) (c .if2 .taken),
     )
 
--- src/gives.rt:47:5
 loop-less-2 : tie.Need-loop-less-2 Inv-loop μ-loop
 loop-less-2 c = search needs
 
--- src/gives.rt:47:5
 loop-again-2 : tie.Need-loop-again-2 Inv-loop μ-loop
 loop-again-2 c =
     let b = c .before .before .before .before in
@@ -93,7 +78,6 @@ loop-again-2 c =
       take-miss (a .spares .now) (a .excess) (a .bytes) (a .line) (a .from + a .n) (b .loop .j) (b .loop .count) (b .loop .sum) _ (c .before .before .before .loop-test .taken) (c .before .before .if1 .left) (b .loop .inv .4) (c .if2 .left),
     )
 
--- src/gives.rt:31:1
 returns : tie.Need-returns Inv-loop μ-loop
 returns c =
     let b = c .before in
@@ -107,7 +91,6 @@ returns c =
       b .loop .inv .3,
     )
 
--- src/gives.rt:31:1
 returns-2 : tie.Need-returns-2 Inv-loop μ-loop
 returns-2 c =
     let b = c .before .before in

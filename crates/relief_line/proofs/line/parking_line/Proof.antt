@@ -1,13 +1,12 @@
 -- `parking_line` meets its contract: what is parked before the lower end does not cover the excess, what is parked before the upper end does, or no
 -- spare is parked later. Assumes nothing.
-use mathlib.Core.Path.{_≡_, ap}
-use mathlib.Core.Logic.{_⊎_, inl, inr, ⊎-elim}
-use Prim.Native.Nat.{ℕ, suc, _+_, _-_, _≤_, _<_}
+use mathlib.Core.Path.{_≡_}
+use mathlib.Core.Logic.{_⊎_, inl, inr}
+use Prim.Native.Nat.{_+_, _-_, _≤_, _<_}
 use native.Mathlib.Omega.{arith}
 use borrow.Author.Needs.{needs}
 use Rattle.tables.specs.Records.{table}
 use Rattle.records.specs.Texture.{readTexture}
-use Rattle.relief_line.specs.Line.{IsLine}
 use Rattle.relief_line.specs.Parked.{bytesFrom}
 use Rattle.relief_line.proofs.Parked.{bytes-zero, ends-meet}
 use Rattle.relief_line.proofs.line.parking_line.Statement.{statement}

@@ -1,5 +1,5 @@
 -- `run_bytes` meets its contract. Assumes nothing.
-use mathlib.Core.Path.{refl, sym, ap, ap₂, _∙_}
+use mathlib.Core.Path.{sym, ap, ap₂, _∙_}
 use Prim.Native.Nat.{_*_}
 use native.Mathlib.Nat.{mul-zero}
 use native.Mathlib.Omega.{arith}
