@@ -1,1 +1,6 @@
 pub mod Given
+pub mod Views
+pub mod Batch
+pub mod Answer
+pub mod Taken
+pub mod Drained

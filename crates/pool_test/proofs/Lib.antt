@@ -1,0 +1,3 @@
+pub mod RingTests
+pub mod NumberTests
+pub mod Parts

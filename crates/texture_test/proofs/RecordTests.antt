@@ -1,0 +1,99 @@
+-- What a pass learns at one texture's record. Assumes nothing.
+use mathlib.Core.Path.{_≡_, sym, ap, ap₂, _∙_}
+use mathlib.Core.Bool.{Bool, true, false, _&&_}
+use mathlib.Core.List.{List, []}
+use Prim.Native.Nat.{ℕ, _+_, _*_, _≤_, _<_}
+use native.Mathlib.Nat.{add-zero, mul-zero, mul-le-mul}
+use native.Mathlib.Omega.{arith}
+use borrow.Author.Tests.{lt-ltb, le-ltb}
+use lib.Dec.{leb}
+use lib.ListN.{take, drop, getD}
+use lib.Seq.{getD-drop}
+use Rattle.blocks.specs.Lists.{all, total, ascending, tests, after}
+use Rattle.blocks.proofs.Lists.{all-get, total-get, passed}
+use Rattle.blocks.proofs.Listed.{left, ascending-more, ascending-stop}
+use Rattle.tables.specs.Records.{recordAt}
+use Rattle.tables.proofs.Records.{length-table, getD-table, record-part}
+use Rattle.shapes.specs.declared.shape.VersionShape.{VersionShape}
+use Rattle.shapes.specs.Shapes.{isShape, slicesOf, bytesOf}
+use Rattle.shapes.proofs.Shapes.{shape-bounds, slices-bound}
+use Rattle.shapes.proofs.ShapeBytes.{bytes-bound}
+use Rattle.stores.specs.Model.{limit}
+use Rattle.records.specs.declared.texture.TextureRecord.{TextureRecord}
+use Rattle.records.specs.Texture.{readTexture}
+use Rattle.records.specs.Find.{textures, idOf}
+use Rattle.records.proofs.Codecs.{texture-codec}
+use Rattle.texture_test.specs.Textures.{writesFit, isRecord, recordSpares, recordBytes}
+
+-- ---- records
+
+-- record i of the textures' slice
+abbrev pub textureAt : List ℕ → ℕ → TextureRecord
+textureAt s i = recordAt 19 readTexture s i
+
+-- read out of the part of the slice that holds it
+pub texture-read : (s : List ℕ) (i : ℕ) (p : List ℕ) → p ≡ take 19 (drop (19 * i) s) → readTexture p ≡ textureAt s i
+texture-read s i p e = ap readTexture e ∙ record-part texture-codec s i
+
+-- ---- ids
+
+id-here : (s : List ℕ) (i : ℕ) → getD s (19 * i) 0 ≡ idOf (textureAt s i)
+unfolding recordAt readTexture
+id-here s i = sym (getD-drop (19 * i) s 0 0 ∙ ap (λ (k : ℕ). getD s k 0) (add-zero (19 * i)))
+
+id-next : (s : List ℕ) (i : ℕ) → getD s (19 * i + 19) 0 ≡ idOf (textureAt s (i + 1))
+id-next s i = ap (λ (k : ℕ). getD s k 0) (let e : 19 * i + 19 ≡ 19 * (i + 1) = omega arith in e) ∙ id-here s (i + 1)
+
+module _ (s : List ℕ) (n i : ℕ) (h : i + 1 < n) where
+  pub ids-more : getD s (19 * i) 0 < getD s (19 * i + 19) 0 → ascending idOf (left (textureAt s) n i) ≡ ascending idOf (left (textureAt s) n (i + 1))
+  ids-more q = ascending-more (textureAt s) n idOf i h (lt-ltb (idOf (textureAt s i)) (idOf (textureAt s (i + 1))) (omega (arith, id-here s i, id-next s i)))
+
+  pub ids-stop : getD s (19 * i + 19) 0 ≤ getD s (19 * i) 0 → ascending idOf (left (textureAt s) n i) ≡ false
+  ids-stop q = ascending-stop (textureAt s) n idOf i h (le-ltb (idOf (textureAt s i)) (idOf (textureAt s (i + 1))) (omega (arith, id-here s i, id-next s i)))
+
+-- ---- single records
+
+pub record-test : (t u : TextureRecord) (a w : Bool) → t ≡ u → a ≡ isShape (t .shape) → w ≡ writesFit (t .history)
+    → a && leb (t .epoch) limit && leb (t .birth) limit && leb (t .rename) limit && leb (t .due) limit && w ≡ isRecord u
+unfolding isRecord tests after
+record-test t u a w e ea ew =
+    ap₂ (λ (x y : Bool). x && leb (t .epoch) limit && leb (t .birth) limit && leb (t .rename) limit && leb (t .due) limit && y) ea ew ∙ ap isRecord e
+
+pub pages-small : (s : VersionShape) (k : ℕ) → k ≡ slicesOf s → isShape s ≡ true → k * s .levels ≤ 90
+pages-small s k e h = mul-le-mul {n₂ = 6} {m₂ = 15} (omega (arith, e, slices-bound s)) (shape-bounds s h .levels-bound)
+
+pub bytes-small : (s : VersionShape) (b k : ℕ) → b ≡ bytesOf s → isShape s ≡ true → k ≤ 4096 → b * k ≤ 72057594037927936
+bytes-small s b k e h q = mul-le-mul {n₂ = 17592186044416} {m₂ = 4096} (omega (arith, e, bytes-bound s h)) q
+
+pub bytes-none : (t : TextureRecord) → t .spares ≡ 0 → 0 ≡ recordBytes t
+unfolding recordBytes
+bytes-none t e = sym (ap (λ (k : ℕ). bytesOf (t .shape) * k) e ∙ mul-zero (bytesOf (t .shape)))
+
+-- ---- what passed, of the record at i
+
+pub record-shape : (t : TextureRecord) → isRecord t ≡ true → isShape (t .shape) ≡ true
+unfolding isRecord
+record-shape t e = passed _ e 0
+
+module _ (s : List ℕ) (n : ℕ) (ok : all isRecord (textures n s) ≡ true) where
+  pub shape-at : (i : ℕ) → i < n → isShape (textureAt s i .shape) ≡ true
+  shape-at i h =
+      let e = getD-table 19 readTexture n i s (readTexture []) h in
+      let f = all-get isRecord (textures n s) i (readTexture []) ok (omega (arith, length-table 19 readTexture n s)) in
+      record-shape (textureAt s i) (rw e at f)
+
+pub spares-at : (s : List ℕ) (n i : ℕ) → i < n → textureAt s i .spares ≤ total recordSpares (textures n s)
+spares-at s n i h =
+    let e = getD-table 19 readTexture n i s (readTexture []) h in
+    let f = total-get recordSpares (textures n s) i (readTexture []) (omega (arith, length-table 19 readTexture n s)) in
+    rw e at f
+
+-- ---- the record at i, read out of its part of the slice
+
+module _ (s : List ℕ) (i : ℕ) (p : List ℕ) (e : p ≡ take 19 (drop (19 * i) s)) where
+  pub read-shape : (n : ℕ) → all isRecord (textures n s) ≡ true → i < n → isShape (readTexture p .shape) ≡ true
+  read-shape n ok h = ap (λ (t : TextureRecord). isShape (t .shape)) (texture-read s i p e) ∙ shape-at s n ok i h
+
+  pub read-spares : getD p 18 0 ≡ textureAt s i .spares
+  unfolding readTexture
+  read-spares = ap (λ (t : TextureRecord). t .spares) (texture-read s i p e)

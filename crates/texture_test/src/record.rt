@@ -1,0 +1,111 @@
+// The textures' records, each by itself.
+ghost use mathlib.Core.Path.{_≡_};
+ghost use mathlib.Core.Bool.{true};
+ghost use Prim.Native.Nat.{_+_, _*_, _≤_};
+ghost use lib.ListN.{length};
+ghost use Rattle.blocks.specs.Lists.{all, ascending};
+ghost use Rattle.shapes.specs.Shapes.{isShape};
+ghost use Rattle.stores.specs.Model.{pagesOf};
+ghost use Rattle.records.specs.Texture.{readTexture};
+ghost use Rattle.records.specs.Find.{textures as textures′, idOf};
+ghost use Rattle.layout.specs.Reading.{recordPages};
+ghost use Rattle.texture_test.specs.Textures.{writesFit, isRecord, recordBytes};
+use crate::limits::MOST_COUNTED;
+use records::Recorded;
+use records::read_texture;
+use shapes::VersionShape;
+use shapes::is_shape;
+use shapes::shape_bytes;
+use shapes::slices;
+use tables::record_at;
+
+// The ids of the first n records ascend.
+pub fn ids_ascend(textures: &[u64], n: usize) -> bool
+    requires { ⌜ 19 * n ≤ length (now textures) ⌝ }
+    ensures { λ r. ⌜ r ≡ ascending idOf (textures′ n (now (textures .entry))) ⌝ }
+{
+    let mut i = 0;
+    while i + 1 < n {
+        if textures[19 * i + 19] <= textures[19 * i] {
+            return false;
+        }
+        i += 1;
+    }
+    true
+}
+
+// A write count, if there is a history, is at most 2^48.
+fn writes_fit(h: Recorded) -> bool
+    ensures { λ r. ⌜ r ≡ writesFit h ⌝ }
+{
+    match h {
+        Recorded::Writes(n) => n <= MOST_COUNTED,
+        Recorded::NoHistory => true,
+    }
+}
+
+// The record's shape passes refusal 2, and its numbers are at most 2^48.
+fn is_record(p: &[u64]) -> bool
+    requires { ⌜ 19 ≤ length (now p) ⌝ }
+    ensures { λ r. ⌜ r ≡ isRecord (readTexture (now (p .entry))) ⌝ }
+{
+    let t = read_texture(p);
+    let shape = t.shape;
+    let history = t.history;
+    is_shape(shape)
+        & (t.epoch <= MOST_COUNTED)
+        & (t.birth <= MOST_COUNTED)
+        & (t.rename <= MOST_COUNTED)
+        & (t.due <= MOST_COUNTED)
+        & writes_fit(history)
+}
+
+// Every one of the first n records does.
+pub fn records_fit(textures: &[u64], n: usize) -> bool
+    requires { ⌜ 19 * n ≤ length (now textures) ⌝ }
+    ensures { λ r. ⌜ r ≡ all isRecord (textures′ n (now (textures .entry))) ⌝ }
+{
+    let mut i = 0;
+    while i < n {
+        if !is_record(record_at(textures, 19, i)) {
+            return false;
+        }
+        i += 1;
+    }
+    true
+}
+
+// One page for each slice and level.
+pub fn pages_of(s: VersionShape) -> u64
+    requires { ⌜ isShape s ≡ true ⌝ }
+    ensures { λ r. ⌜ (r ≤ 90) × (r ≡ pagesOf s) ⌝ }
+{
+    slices(s) * s.levels
+}
+
+// How many pages a record claims.
+pub fn record_pages(p: &[u64]) -> usize
+    requires { ⌜ (19 ≤ length (now p)) × (isShape (readTexture (now p) .shape) ≡ true) ⌝ }
+    ensures { λ r. ⌜ (r ≤ 90) × (r ≡ recordPages (readTexture (now (p .entry)))) ⌝ }
+{
+    let t = read_texture(p);
+    let shape = t.shape;
+    let history = t.history;
+    match history {
+        Recorded::Writes(_) => pages_of(shape) as usize,
+        Recorded::NoHistory => 0,
+    }
+}
+
+// The bytes of a record's spares. A texture without spares asks for no sum over its levels.
+pub fn record_bytes(p: &[u64]) -> u64
+    requires { ⌜ (19 ≤ length (now p)) × (isShape (readTexture (now p) .shape) ≡ true) × (readTexture (now p) .spares ≤ 4096) ⌝ }
+    ensures { λ r. ⌜ r ≡ recordBytes (readTexture (now (p .entry))) ⌝ }
+{
+    if p[18] == 0 {
+        return 0;
+    }
+    let t = read_texture(p);
+    let shape = t.shape;
+    shape_bytes(shape) * t.spares
+}
