@@ -1,0 +1,5 @@
+pub mod Written
+pub mod Thinned
+pub mod Chosen
+pub mod Progress
+pub mod Noted

@@ -1,0 +1,18 @@
+-- `noted` meets its contract. Assumes nothing.
+use borrow.Author.Needs.{needs}
+use Rattle.relief.proofs.allocated.noted.Statement.{statement}
+use Rattle.relief.proofs.allocated.noted.Tie as tie
+
+pressed-after-requires : tie.Need-pressed-after-requires
+pressed-after-requires c κs = search needs
+
+excess-over-requires : tie.Need-excess-over-requires
+excess-over-requires c κs = search needs
+
+returns : tie.Need-returns
+returns c =
+    let a = c .before .before .args in
+    λ i. record { arrivals = a .book .arrivals; slot = a .book .slot; pressed = c .before .pressed-after .ensures i; excess = c .excess-over .ensures i }
+
+pub noted-spec : {M : Type 1} → statement M
+noted-spec = tie.close (tie.spec pressed-after-requires excess-over-requires returns)

@@ -1,0 +1,4 @@
+pub mod Picked
+pub mod Sorted
+pub mod ByLine
+pub mod Parked

@@ -1,0 +1,76 @@
+// The parking line: all spares parked before it go, and none parked after it. It is found by halves, so that nothing is sorted.
+ghost use mathlib.Core.Path.{_≡_};
+ghost use mathlib.Core.Bool.{true};
+ghost use Prim.Native.Nat.{_+_, _*_, _≤_, _<_};
+ghost use lib.ListN.{length};
+ghost use Rattle.tables.specs.Records.{recordAt, table};
+ghost use Rattle.shapes.specs.Shapes.{isShape, bytesOf};
+ghost use Rattle.records.specs.Texture.{readTexture};
+ghost use Rattle.relief_line.specs.Line.{countBefore, IsLine};
+ghost use Rattle.relief_line.specs.Parked.{parkings, bytesFrom, Countable};
+use crate::gives::count_before;
+use access::texture_at;
+use shapes::shape_bytes;
+
+// No parking number passes it.
+const LIMIT: u64 = 281474976710656;
+
+// Bytes of one version of texture i.
+pub fn version_bytes(textures: &[u64], i: usize) -> u64
+    requires { ⌜ (19 * i + 19 ≤ length (now textures)) × (isShape (recordAt 19 readTexture (now textures) i .shape) ≡ true) ⌝ }
+    ensures { λ r. ⌜ r ≡ bytesOf (recordAt 19 readTexture (now (textures .entry)) i .shape) ⌝ }
+{
+    let t = texture_at(textures, i);
+    shape_bytes(t.shape)
+}
+
+// Bytes of the spares parked before a line, of texture i, which has n spares from place `from` on.
+fn run_bytes(textures: &[u64], i: usize, spares: &[u64], from: usize, n: usize, line: u64) -> u64
+    requires { ⌜ (19 * i + 19 ≤ length (now textures)) × (isShape (recordAt 19 readTexture (now textures) i .shape) ≡ true) × (3 * (from + n) ≤ length (now spares))
+        × (bytesOf (recordAt 19 readTexture (now textures) i .shape) * n ≤ 72057594037927936) ⌝ }
+    ensures { λ r. ⌜ r ≡ bytesOf (recordAt 19 readTexture (now (textures .entry)) i .shape) * countBefore line (parkings (now (spares .entry)) from n) ⌝ }
+{
+    let count = count_before(spares, from, n, line);
+    // The bytes are worked out only where they count.
+    if count == 0 {
+        return 0;
+    }
+    let bytes = version_bytes(textures, i);
+    bytes * count as u64
+}
+
+// Bytes of the spares parked before a line, of the first n textures.
+pub fn bytes_before(textures: &[u64], n: usize, spares: &[u64], line: u64) -> u64
+    requires { ⌜ Countable (now textures) n (now spares) ⌝ }
+    ensures { λ r. ⌜ (r ≤ 72057594037927936) × (r ≡ bytesFrom (now (spares .entry)) line 0 (table 19 readTexture n (now (textures .entry)))) ⌝ }
+{
+    let mut sum = 0;
+    let mut from = 0;
+    let mut i = 0;
+    while i < n {
+        let kept = textures[19 * i + 18] as usize;
+        sum += run_bytes(textures, i, spares, from, kept, line);
+        from += kept;
+        i += 1;
+    }
+    sum
+}
+
+// The last line such that what is parked before it, and what is queued already, do not cover the excess.
+pub fn parking_line(textures: &[u64], n: usize, spares: &[u64], dooming: u64, excess: u64) -> u64
+    requires { ⌜ Countable (now textures) n (now spares) × (dooming ≤ 72057594037927936) × (dooming < excess) ⌝ }
+    ensures { λ r. ⌜ IsLine dooming excess (λ k. bytesFrom (now (spares .entry)) k 0 (table 19 readTexture n (now (textures .entry)))) r ⌝ }
+{
+    let mut lo = 0;
+    let mut hi = LIMIT + 2;
+    while lo + 1 < hi {
+        let mid = lo + (hi - lo) / 2;
+        let sum = dooming + bytes_before(textures, n, spares, mid);
+        if sum < excess {
+            lo = mid;
+        } else {
+            hi = mid;
+        }
+    }
+    lo
+}
