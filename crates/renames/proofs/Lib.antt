@@ -1,0 +1,4 @@
+pub mod Refusals
+pub mod Counts
+pub mod Tracked
+pub mod TakenNewest

@@ -1,0 +1,3 @@
+pub mod Answer
+pub mod Refusal
+pub mod Cases
