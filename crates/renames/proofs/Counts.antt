@@ -4,21 +4,16 @@ use Prim.Native.Nat.{ℕ, _≤_}
 use native.Mathlib.Omega.{arith}
 use lib.ListN.{length}
 use Rattle.blocks.specs.Lists.{total}
-use Rattle.stores.specs.Model.{PacingBook as Pacing, Pool, pagesUsed, handCount}
+use Rattle.stores.specs.Model.{Pool, pagesUsed, handCount}
 use Rattle.stores.specs.PopRetired.{isHeld}
 use Rattle.layout.specs.declared.pool.Pool.{Pool as Counts}
 use Rattle.layout.specs.Lent.{Lent}
 use Rattle.layout.specs.Reading.{modelOf}
-use Rattle.layout.specs.Writing.{poolAfter, bookAfter}
+use Rattle.layout.specs.Writing.{poolAfter}
 use Rattle.layout.proofs.Fits.{Fits}
 use Rattle.layout.proofs.Runs.{spareCount}
 use Rattle.layout.proofs.Same.{held-same, queued-model}
 use Rattle.layout.proofs.Rings.{head-stays, hand-model, first-stays}
-
--- the pacing book as it was
-pub book-stays : (l : Lent) (p : Pool ℕ) → p .pacing ≡ modelOf l .pacing → l .book ≡ bookAfter p
-unfolding bookAfter modelOf
-book-stays l p e = sym (ap (λ (b : Pacing). record { arrivals = b .arrivals; slot = b .slot; pressed = b .pressed; excess = b .excess }) e)
 
 -- the other counts set anew
 abbrev pub counted : Counts → (tracked kept pages doomed since trackings parked dooming : ℕ) → Counts

@@ -15,6 +15,7 @@ use Rattle.stores.specs.Model.{Spare, VersionState, Pool, Out, refused, accepte
 use Rattle.stores.specs.Updates.{withTextures, withTrackings, change, insert, asDoomed, doomSpares}
 use Rattle.stores.specs.TakeSpare.{newState, historyFull, takeNew, takeRenewed, takeTracked, takeFound, takeSpare}
 use Rattle.layout.proofs.Asked.{guard-passed}
+use Rattle.renames.specs.Begun.{freshPages}
 use Rattle.renames.specs.Refusal.{trackingRefusal, begunRefusal, foundRefusal, takeRefusal}
 
 -- ---- a refusal before others
@@ -92,3 +93,67 @@ module _ (p : Pool ℕ) (id : ℕ) (shape : VersionShape) (records : Bool) (seq 
         → takeSpare p id shape records seq ≡ takeTracked p id seq t
     take-tracked t q same =
         take-found ∙ ap (takeFound p id shape records seq) q ∙ ap (λ (b : Bool). cond b (takeTracked p id seq t) (takeRenewed p id shape records seq t)) same
+
+    -- a tracking begun: its number is not spent, and its pages are free
+    module _ (own : ℕ) (b : begunRefusal p shape records own ≡ 0) where
+      begun-passed : (historyFull p shape records own ≡ false) × (leb limit (p .trackings) ≡ false)
+      unfolding trackingRefusal
+      begun-passed =
+          let both = passed-both (historyFull p shape records own) 5 (cond (leb limit (p .trackings)) 12 0) b in
+          (both .0, passed-both (leb limit (p .trackings)) 11 0 (both .1) .0)
+
+      begun-out : (out : Out ℕ (Option (Spare ℕ))) → guard (historyFull p shape records own) 6 (guard (leb limit (p .trackings)) 12 out) ≡ out
+      begun-out out =
+          guard-passed (historyFull p shape records own) 6 (guard (leb limit (p .trackings)) 12 out) (begun-passed .0)
+          ∙ guard-passed (leb limit (p .trackings)) 12 out (begun-passed .1)
+
+      pub counter-left : p .trackings < limit
+      counter-left = leb-false limit (p .trackings) (begun-passed .1)
+
+      pub pages-left : total pagesUsed (p .textures) ≤ p .places .pages + own → total pagesUsed (p .textures) + freshPages shape records ≤ p .places .pages + own
+      pages-left = go records (begun-passed .0)
+        where
+          go : (r : Bool) → r && ltb (p .places .pages + own) (total pagesUsed (p .textures) + pagesOf shape) ≡ false → total pagesUsed (p .textures) ≤ p .places .pages + own
+              → total pagesUsed (p .textures) + freshPages shape r ≤ p .places .pages + own
+          go true q h = ltb-false (p .places .pages + own) (total pagesUsed (p .textures) + pagesOf shape) q
+          go false q h = omega arith
+
+    -- not tracked
+    module _ (q : find id (p .textures) ≡ none) where
+      new-passed : (leb (p .places .textures) (length (p .textures)) ≡ false) × (begunRefusal p shape records 0 ≡ 0)
+      new-passed =
+          passed-both (leb (p .places .textures) (length (p .textures))) 4 (begunRefusal p shape records 0) (ap (foundRefusal p shape records) (sym q) ∙ found-passed)
+
+      pub new-room : length (p .textures) < p .places .textures
+      new-room = leb-false (p .places .textures) (length (p .textures)) (new-passed .0)
+
+      pub new-begun : begunRefusal p shape records 0 ≡ 0
+      new-begun = new-passed .1
+
+      pub take-new : takeSpare p id shape records seq
+          ≡ accepted none (withTrackings (suc (p .trackings)) (withTextures (insert (newState id shape records (suc (p .trackings)) seq) (p .textures)) p))
+      take-new =
+          let out = accepted none (withTrackings (suc (p .trackings)) (withTextures (insert (newState id shape records (suc (p .trackings)) seq) (p .textures)) p)) in
+          take-found
+          ∙ ap (takeFound p id shape records seq) q
+          ∙ guard-passed (leb (p .places .textures) (length (p .textures))) 5 (guard (historyFull p shape records 0) 6 (guard (leb limit (p .trackings)) 12 out)) (new-passed .0)
+          ∙ begun-out 0 new-begun out
+
+    -- tracked with another shape
+    module _ (t : VersionState ℕ) (q : find id (p .textures) ≡ some t) (other : sameShape (t .shape) shape ≡ false) where
+      pub renewed-begun : begunRefusal p shape records (pagesUsed t) ≡ 0
+      renewed-begun =
+          sym (ap (λ (b : Bool). cond b 0 (begunRefusal p shape records (pagesUsed t))) other) ∙ ap (foundRefusal p shape records) (sym q) ∙ found-passed
+
+      abbrev pub renewedPool : Pool ℕ
+      renewedPool =
+          withTrackings (suc (p .trackings))
+          (withTextures (change id (λ (u : VersionState ℕ). newState id shape records (suc (p .trackings)) seq) (p .textures))
+          (doomSpares (asDoomed (bytesOf (t .shape)) (t .spares)) p))
+
+      pub take-renewed : takeSpare p id shape records seq ≡ accepted none renewedPool
+      take-renewed =
+          take-found
+          ∙ ap (takeFound p id shape records seq) q
+          ∙ ap (λ (b : Bool). cond b (takeTracked p id seq t) (takeRenewed p id shape records seq t)) other
+          ∙ begun-out (pagesUsed t) renewed-begun (accepted none renewedPool)

@@ -37,14 +37,14 @@ use Rattle.layout.proofs.Runs.{sparesOf, spareCount, firstSpare, firstPageOf, s
 use Rattle.layout.proofs.Kept.{pagedOf}
 use Rattle.layout.proofs.Same.{book-same, held-same, queued-model, doomed-model}
 use Rattle.layout.proofs.Rings.{head-stays, hand-model, first-stays}
-use Rattle.layout.proofs.Stays.{put-together, ids-ascend, textures-fit, spares-stay, newest-stay, stamps-stay, retiring-stay, doomed-stay}
+use Rattle.layout.proofs.Stays.{put-together, book-stays, ids-ascend, textures-fit, spares-stay, newest-stay, stamps-stay, retiring-stay, doomed-stay}
 use Rattle.layout.proofs.Places.{changed}
 use Rattle.layout.proofs.Changes.{textures-set, sparesBefore, sparesAt, count-state, every-taken, every-kept, spares-removed, newest-at, others-taken}
 use Rattle.layout.proofs.Asked.{asked-accepted}
 use Rattle.renames.specs.Refusal.{takeRefusal}
 use Rattle.renames.specs.Cases.{Accepted, recordOf, TrackedAt, renamedRecord}
 use Rattle.renames.proofs.Refusals.{take-tracked}
-use Rattle.renames.proofs.Counts.{counted, counts-after, book-stays}
+use Rattle.renames.proofs.Counts.{counted, counts-after}
 use Rattle.renames.proofs.Tracked.{same-record, spares-from, spares-within, kept-fits, shape-state, is-there, found-there}
 
 -- ---- lists
@@ -126,7 +126,7 @@ module _ (l : Lent) (i id : ℕ) (shape : VersionShape) (records : Bool) (seq : 
   left-as c spares e1 e2 =
       let kept = map-unchanged pagedOf id (renamedState seq) (λ (v : VersionState ℕ). refl) (modelOf l .textures) in
       put-together after-take l c (l .book) (sets (l .textures) (19 * i) (writeTexture (renamedRecord seq (count - 1) t))) (l .retiring) (l .doomed) spares (l .newest) (l .stamps)
-      e1 (book-stays l after-take refl)
+      e1 (book-stays l f after-take refl)
       (ap (λ (r : TextureRecord). sets (l .textures) (19 * i) (writeTexture r)) (sym record-left) ∙ textures-set l after-take (textures-fit l f) i (renamedState seq u) (h .0) changed-there)
       (retiring-stay l f after-take refl refl) (doomed-stay l f after-take refl) e2 (newest-stay l f after-take kept) (stamps-stay l f after-take kept)
 
