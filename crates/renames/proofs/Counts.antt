@@ -34,6 +34,10 @@ counted c tracked kept pages doomed since trackings parked dooming = record {
   line = c .line;
 }
 
+-- of them, the pages and the trackings
+abbrev pub begunCounts : Counts → (pages trackings : ℕ) → Counts
+begunCounts c pages trackings = counted c (c .tracked) (c .kept) pages (c .doomed) (c .since) trackings (c .parked) (c .dooming)
+
 module _ (l : Lent) (f : Fits l) (p : Pool ℕ) (hand : p .hand ≡ modelOf l .hand) (queue : p .retiring ≡ modelOf l .retiring)
     (cap : l .pool .cap ≡ p .budget .cap) (line : l .pool .line ≡ p .budget .line) where
   pub counts-after : (tracked kept pages doomed : ℕ) → tracked ≡ length (p .textures) → kept ≡ total spareCount (p .textures)

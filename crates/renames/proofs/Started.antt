@@ -43,7 +43,7 @@ use Rattle.renames.specs.Begun.{freshPages, newRecord}
 use Rattle.renames.specs.Cases.{Accepted, recordOf, TrackedAt}
 use Rattle.renames.proofs.Refusals.{shape-passed, counter-left, pages-left, new-room, new-begun, take-new}
 use Rattle.renames.proofs.Counts.{counted, counts-after}
-use Rattle.renames.proofs.Tracked.{same-record}
+use Rattle.renames.proofs.Tracked.{not-there}
 use Rattle.renames.proofs.Trackings.{begun, begun-record, begun-pages, newest-begun, stamps-begun}
 
 -- what the code asks of a pool that has room for a texture more
@@ -64,10 +64,7 @@ module _ (l : Lent) (i id : ℕ) (shape : VersionShape) (records : Bool) (seq : 
   f = pool-fits l (ok .0)
 
   nowhere : IsTracked l id (ids-ascend l f) → ⊥
-  nowhere (h, e) =
-      let at = ok .1 .0 in
-      let k : i < l .pool .tracked = omega (arith, at, h) in
-      untracked (k, sym (ap (λ (t : TextureRecord). t .id) (same-record l f i k)) ∙ ap (λ (j : ℕ). getD (trackedRecords l) j (readTexture []) .id) at ∙ e)
+  nowhere = not-there l f i id (ok .1 .0) untracked
 
   none-there : find id (modelOf l .textures) ≡ none
   none-there = not-found l id (ids-ascend l f) nowhere

@@ -13,7 +13,7 @@ use Rattle.tables.specs.Records.{table}
 use Rattle.tables.proofs.Records.{getD-table, take-table}
 use Rattle.shapes.specs.declared.shape.VersionShape.{VersionShape}
 use Rattle.shapes.specs.Shapes.{isShape, bytesOf}
-use Rattle.stores.specs.Model.{VersionState, find, limit, spareBytes}
+use Rattle.stores.specs.Model.{VersionState, find, limit, pagesUsed, spareBytes}
 use Rattle.stores.specs.Formed.{StateFormed, Given, HistoryFormed}
 use Rattle.stores.proofs.States.{find-part}
 use Rattle.records.specs.declared.recorded.Recorded.{Recorded}
@@ -26,7 +26,7 @@ use Rattle.layout.specs.Lent.{Lent, versionPlaces}
 use Rattle.layout.specs.Reading.{trackedRecords, recordPages, historyRead, stateRead, modelOf}
 use Rattle.layout.proofs.Fits.{Fits}
 use Rattle.layout.proofs.FromPool.{pool-fits}
-use Rattle.layout.proofs.Runs.{sparesOf, firstSpare, firstPageOf, stateOf, tracked-model, model-at}
+use Rattle.layout.proofs.Runs.{sparesOf, firstSpare, firstPageOf, stateOf, pages-state, tracked-model, model-at}
 use Rattle.layout.proofs.Stays.{ids-ascend}
 use Rattle.layout.proofs.Places.{IsTracked, found}
 use Rattle.layout.proofs.Changes.{sparesAt, count-state, spares-in}
@@ -69,6 +69,10 @@ module _ (l : Lent) (f : Fits l) (i : ℕ) (h : i < l .pool .tracked) where
   pub shape-passes : isShape (recordOf l i .shape) ≡ true
   shape-passes = ap isShape (sym shape-state) ∙ state-formed .shape
 
+  pub pages-counted : pagesUsed (stateOf l i) ≡ recordPages (recordOf l i)
+  unfolding stateOf
+  pages-counted = pages-state l (firstSpare l i) (firstPageOf l i) (getD (trackedRecords l) i (readTexture [])) ∙ ap recordPages same-record
+
   pub history-fits : RecordedFits (recordOf l i .history)
   unfolding stateOf stateRead
   history-fits = rw (ap (λ (t : TextureRecord). t .history) same-record) at (go (getD (trackedRecords l) i (readTexture []) .history) (state-formed .history))
@@ -98,6 +102,12 @@ module _ (l : Lent) (f : Fits l) (i : ℕ) (h : i < l .pool .tracked) where
 
     pub spare-parked : 0 < recordOf l i .spares → bytesOf (recordOf l i .shape) ≤ l .pool .parked
     spare-parked q = omega (arith, spares-parked, mul-one (bytesOf (recordOf l i .shape)), mul-le-mul-left (bytesOf (recordOf l i .shape)) q)
+
+-- the id is not at its place: it is not tracked
+pub not-there : (l : Lent) (f : Fits l) (i id : ℕ) → i ≡ below id (trackedRecords l) → (TrackedAt l i id → ⊥) → IsTracked l id (ids-ascend l f) → ⊥
+not-there l f i id at untracked (h, e) =
+    let k : i < l .pool .tracked = omega (arith, at, h) in
+    untracked (k, sym (ap (λ (t : TextureRecord). t .id) (same-record l f i k)) ∙ ap (λ (j : ℕ). getD (trackedRecords l) j (readTexture []) .id) at ∙ e)
 
 -- what the calls' code asks of a tracked texture's record
 pub record Here (l : Lent) (i : ℕ) : Type 0 where

@@ -2,3 +2,4 @@ pub mod Answer
 pub mod Refusal
 pub mod Cases
 pub mod Begun
+pub mod Holdings
