@@ -1,0 +1,5 @@
+pub mod Answer
+pub mod Refusal
+pub mod Cases
+pub mod Begun
+pub mod Holdings

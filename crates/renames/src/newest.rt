@@ -1,0 +1,78 @@
+// The newest spare of a texture that is tracked with the same shape.
+ghost use mathlib.Core.Path.{_≡_};
+ghost use mathlib.Core.Bool.{true};
+ghost use Rattle.shapes.specs.Shapes.{sameShape};
+ghost use Rattle.layout.specs.Lent.{lent};
+ghost use Rattle.layout.specs.Calls.{takeSpareCall};
+ghost use Rattle.renames.specs.Answer.{taken};
+ghost use Rattle.renames.specs.Cases.{Accepted, recordOf, TrackedAt, renamedRecord};
+use crate::answer::TakeAnswer;
+use crate::answer::Taken;
+use access::put_texture;
+use access::spare_at;
+use access::spares_before;
+use access::texture_at;
+use layout::PacingBook;
+use layout::Pool;
+use records::TextureRecord;
+use shapes::VersionShape;
+use shapes::shape_bytes;
+use tables::remove_records;
+
+// The texture's record after the rename.
+fn renamed(t: TextureRecord, seq: u64, left: u64) -> TextureRecord
+    ensures { λ r. ⌜ r ≡ renamedRecord seq left t ⌝ }
+{
+    let mut u = t;
+    u.rename = seq;
+    u.spares = left;
+    u
+}
+
+pub fn take_newest(
+    pool: Pool,
+    book: PacingBook,
+    textures: &mut [u64],
+    retiring: &[u64],
+    doomed: &[u64],
+    spares: &mut [u64],
+    newest: &[u64],
+    stamps: &[u64],
+    i: usize,
+    id: u64,
+    shape: VersionShape,
+    records: bool,
+    seq: u64,
+) -> TakeAnswer
+    requires { ⌜ Accepted (lent pool book (now textures) (now retiring) (now doomed) (now spares) (now newest) (now stamps)) i id shape records seq
+        × TrackedAt (lent pool book (now textures) (now retiring) (now doomed) (now spares) (now newest) (now stamps)) i id
+        × (sameShape (recordOf (lent pool book (now textures) (now retiring) (now doomed) (now spares) (now newest) (now stamps)) i .shape) shape ≡ true) ⌝ }
+    ensures { λ r. ⌜ (taken (r .taken), lent (r .pool) book (now (textures .exit)) (now (retiring .entry)) (now (doomed .entry)) (now (spares .exit)) (now (newest .entry)) (now (stamps .entry)))
+        ≡ takeSpareCall (lent pool book (now (textures .entry)) (now (retiring .entry)) (now (doomed .entry)) (now (spares .entry)) (now (newest .entry)) (now (stamps .entry))) id shape records seq ⌝ }
+{
+    let t = texture_at(textures, i);
+    if t.spares == 0 {
+        put_texture(textures, i, renamed(t, seq, 0));
+        return TakeAnswer {
+            pool,
+            taken: Taken::NoSpare,
+        };
+    }
+    let left = t.spares - 1;
+    let k = spares_before(textures, i) + left as usize;
+    let spare = spare_at(spares, k);
+    let held = spare.held;
+    let bytes = shape_bytes(t.shape);
+    put_texture(textures, i, renamed(t, seq, left));
+    remove_records(spares, 3, pool.kept, k, 1);
+    let mut after = pool;
+    after.kept = pool.kept - 1;
+    after.parked = pool.parked - bytes;
+    TakeAnswer {
+        pool: after,
+        taken: Taken::Spare {
+            view: spare.view,
+            held,
+        },
+    }
+}

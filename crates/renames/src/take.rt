@@ -1,0 +1,113 @@
+// take_spare: start a rename, handing back the texture's newest spare if it has one.
+ghost use mathlib.Core.Path.{_≡_};
+ghost use mathlib.Core.Bool.{true};
+ghost use Rattle.layout.specs.Lent.{lent};
+ghost use Rattle.layout.specs.IsPool.{isPool};
+ghost use Rattle.layout.specs.Calls.{takeSpareCall};
+ghost use Rattle.renames.specs.Answer.{taken};
+use crate::answer::TakeAnswer;
+use crate::answer::Taken;
+use crate::newest::take_newest;
+use crate::refusal::take_refusal;
+use crate::renewal::renew_tracking;
+use crate::start::start_tracking;
+use access::has_id;
+use access::texture_at;
+use layout::PacingBook;
+use layout::Pool;
+use records::find_texture;
+use shapes::VersionShape;
+use shapes::same_shape;
+
+// The lent stores form a pool. A texture that is not tracked, or tracked with another shape, has a tracking begun and no spare.
+pub fn take_spare(
+    pool: Pool,
+    book: PacingBook,
+    textures: &mut [u64],
+    retiring: &[u64],
+    doomed: &mut [u64],
+    spares: &mut [u64],
+    newest: &mut [u64],
+    stamps: &mut [u64],
+    id: u64,
+    shape: VersionShape,
+    records: bool,
+    seq: u64,
+) -> TakeAnswer
+    requires { ⌜ isPool (lent pool book (now textures) (now retiring) (now doomed) (now spares) (now newest) (now stamps)) ≡ true ⌝ }
+    ensures { λ r. ⌜ (taken (r .taken), lent (r .pool) book (now (textures .exit)) (now (retiring .entry)) (now (doomed .exit)) (now (spares .exit)) (now (newest .exit)) (now (stamps .exit)))
+        ≡ takeSpareCall (lent pool book (now (textures .entry)) (now (retiring .entry)) (now (doomed .entry)) (now (spares .entry)) (now (newest .entry)) (now (stamps .entry))) id shape records seq ⌝ }
+{
+    let i = find_texture(textures, pool.tracked, id);
+    let why = take_refusal(
+        pool,
+        book,
+        textures,
+        retiring,
+        doomed,
+        spares,
+        newest,
+        stamps,
+        i,
+        id,
+        shape,
+        records,
+        seq,
+    );
+    if why != 0 {
+        return TakeAnswer {
+            pool,
+            taken: Taken::Refused(why),
+        };
+    }
+    if !has_id(textures, pool.tracked, i, id) {
+        return start_tracking(
+            pool,
+            book,
+            textures,
+            retiring,
+            doomed,
+            spares,
+            newest,
+            stamps,
+            i,
+            id,
+            shape,
+            records,
+            seq,
+        );
+    }
+    let t = texture_at(textures, i);
+    if same_shape(t.shape, shape) {
+        return take_newest(
+            pool,
+            book,
+            textures,
+            retiring,
+            doomed,
+            spares,
+            newest,
+            stamps,
+            i,
+            id,
+            shape,
+            records,
+            seq,
+        );
+    }
+    renew_tracking(
+        pool,
+        book,
+        textures,
+        retiring,
+        doomed,
+        spares,
+        newest,
+        stamps,
+        i,
+        id,
+        shape,
+        records,
+        seq,
+    )
+}
