@@ -1,0 +1,7 @@
+// Textures that are tracked no longer: forgotten on their release, or dropped by a trim, which also gives up the spares idle past
+// the bound.
+mod forget;
+mod owned;
+mod pages;
+
+pub use forget::forget_texture;
