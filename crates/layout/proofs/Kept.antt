@@ -82,7 +82,7 @@ module _ (l : Lent) where
       ∙ pages-read s page 0 (pagesOf s)
       ∙ ap (λ (m : ℕ). take (1024 * pagesOf s) (drop (1024 * m) (l .stamps))) (add-zero page)
 
-  pages-of : (i : ℕ) (found : Option ℕ) → (hasHistory (stateOf l i .history) ≡ true → found ≡ some (firstPageOf l i))
+  pub pages-of : (i : ℕ) (found : Option ℕ) → (hasHistory (stateOf l i .history) ≡ true → found ≡ some (firstPageOf l i))
       → pagesFrom (pageBefore l found) 0 (gridsOf (stateOf l i .history)) ≡ take (1024 * pagesUsed (stateOf l i)) (drop (1024 * firstPageOf l i) (l .stamps))
   unfolding stateOf stateRead
   pages-of i found e =
@@ -101,7 +101,7 @@ module _ (l : Lent) where
     apart i j h k =
         omega (arith, id-model l i d k, id-model l j d (omega arith), ascending-get idOf (trackedRecords l) j i (readTexture []) up h (omega (arith, tracked-records l)))
 
-    found-at : (i : ℕ) → i < l .pool .tracked → (id : ℕ) (shape : VersionShape) → Here id shape (getD (modelOf l .textures) i d) ≡ true
+    pub found-at : (i : ℕ) → i < l .pool .tracked → (id : ℕ) (shape : VersionShape) → Here id shape (getD (modelOf l .textures) i d) ≡ true
         → firstPage id shape 0 (modelOf l .textures) ≡ some (firstPageOf l i)
     found-at i h id shape here =
         let e = eqb-true (getD (modelOf l .textures) i d .id) id (and-both _ _ (and-both _ _ here .0) .0) in

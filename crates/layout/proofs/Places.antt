@@ -155,7 +155,7 @@ module _ (l : Lent) (id : ℕ) (up : ascending idOf (trackedRecords l) ≡ true)
   only : IsTracked → Only id (stateOf l 0) place (modelOf l .textures)
   only (h, e) = (omega (arith, tracked-model l), (id-model l place (stateOf l 0) h ∙ e, λ j q ne f. ne (sym (elsewhere j q f .0))))
 
-  nowhere : (IsTracked → ⊥) → Nowhere id (stateOf l 0) (modelOf l .textures)
+  pub nowhere : (IsTracked → ⊥) → Nowhere id (stateOf l 0) (modelOf l .textures)
   nowhere ne j q f =
       let w = elsewhere j q f in
       ne (omega (arith, w .0, w .1 .0), ap idAt (w .0) ∙ w .1 .1)

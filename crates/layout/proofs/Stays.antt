@@ -65,6 +65,10 @@ module _ (l : Lent) (f : Fits l) where
       (omega (arith, f .spares, f .versions)) (f .pages) ring-fits doomed-fit ids-ascend
 
   module _ (p : Pool ℕ) where
+    pub book-stays : p .pacing ≡ modelOf l .pacing → l .book ≡ bookAfter p
+    unfolding bookAfter modelOf
+    book-stays e = λ i. record { arrivals = sym e i .arrivals; slot = sym e i .slot; pressed = sym e i .pressed; excess = sym e i .excess }
+
     pub textures-stay : map textureRecord (p .textures) ≡ map textureRecord (modelOf l .textures) → l .textures ≡ texturesAfter p l
     textures-stay e = sym (textures-same l p textures-fit (e ∙ records-model l))
 

@@ -1,0 +1,86 @@
+-- The counts as a version goes through the pool. There is no update of a record's field, so each is written out.
+use Prim.Native.Nat.{ℕ, _+_, _-_}
+use mathlib.Core.Bool.{true, false}
+use Rattle.tables.specs.Rings.{placeOf}
+use Rattle.layout.specs.declared.pool.Pool.{Pool}
+use Rattle.layout.specs.Reading.{handPlaces}
+
+-- the versions of the retiring ring: the hand and the queue
+abbrev pub ringCount : Pool → ℕ
+ringCount p = handPlaces (p .popped) + p .queued
+
+-- a version queued at the back
+abbrev pub oneQueued : Pool → Pool
+oneQueued p = record {
+  tracked = p .tracked;
+  kept = p .kept;
+  pages = p .pages;
+  head = p .head;
+  popped = p .popped;
+  queued = p .queued + 1;
+  first = p .first;
+  doomed = p .doomed;
+  since = p .since;
+  trackings = p .trackings;
+  parked = p .parked;
+  dooming = p .dooming;
+  cap = p .cap;
+  line = p .line;
+}
+
+-- the queue's front in the hand
+abbrev pub frontPopped : Pool → Pool
+frontPopped p = record {
+  tracked = p .tracked;
+  kept = p .kept;
+  pages = p .pages;
+  head = p .head;
+  popped = true;
+  queued = p .queued - 1;
+  first = p .first;
+  doomed = p .doomed;
+  since = p .since;
+  trackings = p .trackings;
+  parked = p .parked;
+  dooming = p .dooming;
+  cap = p .cap;
+  line = p .line;
+}
+
+-- the hand's version parked: the ring begins behind it
+abbrev pub handKept : ℕ → ℕ → Pool → Pool
+handKept places bytes p = record {
+  tracked = p .tracked;
+  kept = p .kept + 1;
+  pages = p .pages;
+  head = placeOf places (p .head) 1;
+  popped = false;
+  queued = p .queued;
+  first = p .first;
+  doomed = p .doomed;
+  since = p .since;
+  trackings = p .trackings;
+  parked = p .parked + bytes;
+  dooming = p .dooming;
+  cap = p .cap;
+  line = p .line;
+}
+
+-- the hand's version queued for destruction
+abbrev pub handDoomed : ℕ → ℕ → Pool → Pool
+handDoomed places bytes p = record {
+  tracked = p .tracked;
+  kept = p .kept;
+  pages = p .pages;
+  head = placeOf places (p .head) 1;
+  popped = false;
+  queued = p .queued;
+  first = p .first;
+  doomed = p .doomed + 1;
+  since = p .since + 1;
+  trackings = p .trackings;
+  parked = p .parked;
+  dooming = p .dooming + bytes;
+  cap = p .cap;
+  line = p .line;
+}
