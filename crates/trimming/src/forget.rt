@@ -4,11 +4,11 @@ ghost use mathlib.Core.Bool.{true};
 ghost use Rattle.layout.specs.Lent.{lent};
 ghost use Rattle.layout.specs.IsPool.{isPool};
 ghost use Rattle.layout.specs.Calls.{toldNumber, forgetTextureCall};
-use access::has_id;
-use access::remove_texture;
 use crate::owned::counts_without;
 use crate::owned::owned_at;
 use crate::pages::move_pages;
+use access::has_id;
+use access::remove_texture;
 use destruction::push_spares;
 use layout::DoneAnswer;
 use layout::PacingBook;
@@ -30,8 +30,8 @@ pub fn forget_texture(
 ) -> DoneAnswer
     requires { ⌜ isPool (lent pool book (now textures) (now retiring) (now doomed) (now spares) (now newest) (now stamps)) ≡ true ⌝ }
     ensures { λ r. ⌜
-      (toldNumber (r .outcome), lent (r .pool) book (now (textures .exit)) (now (retiring .entry)) (now (doomed .exit)) (now (spares .exit)) (now (newest .exit)) (now (stamps .exit)))
-      ≡ forgetTextureCall (lent pool book (now (textures .entry)) (now (retiring .entry)) (now (doomed .entry)) (now (spares .entry)) (now (newest .entry)) (now (stamps .entry))) id ⌝ }
+        (toldNumber (r .outcome), lent (r .pool) book (now (textures .exit)) (now (retiring .entry)) (now (doomed .exit)) (now (spares .exit)) (now (newest .exit)) (now (stamps .exit)))
+        ≡ forgetTextureCall (lent pool book (now (textures .entry)) (now (retiring .entry)) (now (doomed .entry)) (now (spares .entry)) (now (newest .entry)) (now (stamps .entry))) id ⌝ }
 {
     let tracked = pool.tracked;
     let i = find_texture(textures, tracked, id);
@@ -40,7 +40,16 @@ pub fn forget_texture(
     }
     let own = owned_at(textures, i);
     let places = retiring.len() / 7;
-    push_spares(doomed, places, pool.first, pool.doomed, spares, own.first, own.spares, own.bytes);
+    push_spares(
+        doomed,
+        places,
+        pool.first,
+        pool.doomed,
+        spares,
+        own.first,
+        own.spares,
+        own.bytes,
+    );
     remove_records(spares, 3, pool.kept, own.first, own.spares);
     let later = pool.pages - (own.page + own.pages);
     move_pages(newest, stamps, own.page, own.pages, later);

@@ -10,7 +10,7 @@ use blocks::shift_down;
 pub fn move_pages(newest: &mut [u64], stamps: &mut [u64], to: usize, gap: usize, n: usize)
     requires { ⌜ (to + gap + n ≤ length (now newest)) × (1024 * (to + gap + n) ≤ length (now stamps)) ⌝ }
     ensures { λ _. ⌜ (now (newest .exit) ≡ moved (now (newest .entry)) to (to + gap) n)
-        × (now (stamps .exit) ≡ moved (now (stamps .entry)) (1024 * to) (1024 * (to + gap)) (1024 * n)) ⌝ }
+        × (now (stamps .exit) ≡ moved (now (stamps .entry)) (1024 * to) (1024 * to + 1024 * gap) (1024 * n)) ⌝ }
 {
     if gap == 0 {
         return;
