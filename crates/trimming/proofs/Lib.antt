@@ -1,2 +1,6 @@
 pub mod TextureRuns
 pub mod Forgotten
+pub mod Ages
+pub mod Looks
+pub mod Steps
+pub mod Trimmed

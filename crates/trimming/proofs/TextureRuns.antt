@@ -12,18 +12,18 @@ use Rattle.blocks.specs.All.{All, nil, cons}
 use Rattle.blocks.proofs.Lists.{total-append}
 use Rattle.blocks.proofs.All.{all-at}
 use Rattle.tables.proofs.Records.{take-table, getD-table}
-use Rattle.shapes.specs.declared.shape.VersionShape.{VersionShape}
 use Rattle.shapes.specs.Shapes.{isShape, bytesOf}
 use Rattle.shapes.proofs.ShapeBytes.{bytes-bound}
-use Rattle.stores.specs.Model.{Spare, Doomed, VersionState, pagesUsed, doomedBytes}
+use Rattle.stores.specs.Model.{Doomed, VersionState, pagesUsed, doomedBytes}
 use Rattle.stores.specs.Formed.{DoomedFormed}
 use Rattle.records.specs.declared.texture.TextureRecord.{TextureRecord}
 use Rattle.records.specs.Texture.{readTexture}
-use Rattle.layout.specs.Lent.{Lent, versionPlaces}
+use Rattle.layout.specs.Lent.{Lent}
 use Rattle.layout.specs.Reading.{trackedRecords, recordPages, spareRead, stateRead, modelOf}
 use Rattle.layout.proofs.Fits.{Fits}
 use Rattle.layout.proofs.Parts.{total-next, total-cut}
-use Rattle.layout.proofs.Runs.{sparesOf, firstSpare, firstPageOf, stateOf, tracked-model, model-at, pages-state}
+use Rattle.layout.specs.Writing.{textureRecord}
+use Rattle.layout.proofs.Runs.{sparesOf, firstSpare, firstPageOf, stateOf, tracked-model, model-at, record-state, pages-state}
 use Rattle.layout.proofs.Changes.{count-state}
 use Rattle.access.proofs.Totals.{total-with}
 use Rattle.trimming.specs.Owned.{textureIn, sparesTo, pagesTo}
@@ -53,6 +53,10 @@ module _ (l : Lent) (i : ℕ) (h : i < l .pool .tracked) where
   pub pages-to : firstPageOf l i ≡ pagesTo (l .textures) i
   unfolding firstPageOf
   pages-to = ap (total recordPages) (take-table 19 readTexture i (l .pool .tracked) (l .textures) (omega arith))
+
+  pub record-of : textureRecord (stateOf l i) ≡ textureIn (l .textures) i
+  unfolding stateOf
+  record-of = record-state l (firstSpare l i) (firstPageOf l i) (getD (trackedRecords l) i (readTexture [])) ∙ record-in
 
   pub shape-in : stateOf l i .shape ≡ textureIn (l .textures) i .shape
   unfolding stateOf stateRead
