@@ -183,3 +183,21 @@ module _ (l : Lent) (now i : ℕ) (h : i < l .pool .tracked) where
       ∙ given-spares l (bytesOf (t₀ .shape)) (sparesTo (l .textures) i) k
       ∙ sym (ap₂ (λ (b : ℕ) (ss : List (Spare ℕ)). map doomedRecord (asDoomed b ss)) (ap bytesOf (shape-in l i h))
       (ap (take k) (spares-in l i h) ∙ take-listed (spareRead l) k (sparesTo (l .textures) i) (t₀ .spares) few))
+
+-- ---- the look put together from its parts; b is whether the texture is dropped
+
+pub look-made : (now : ℕ) (t : TextureRecord) (n own aged claimed due bytes : ℕ) (b : Bool) → own ≡ t .spares → aged ≡ n → claimed ≡ recordPages t
+    → due ≡ dueAfter now t → bytes ≡ bytesGiven t aged → b ≡ isIdle now t (own - aged)
+    → record { own = own; aged = aged; claimed = claimed; staying = cond b 0 1; paged = cond b 0 claimed; due = due; bytes = bytes } ≡ lookOf now t n
+unfolding lookOf
+look-made now t n own aged claimed due bytes b e1 e2 e3 e4 e5 e6 =
+    let out : b ≡ isIdle now t (t .spares - n) = e6 ∙ ap₂ (λ (x y : ℕ). isIdle now t (x - y)) e1 e2 in
+    λ j. record {
+      own = e1 j;
+      aged = e2 j;
+      claimed = e3 j;
+      staying = ap (λ (c : Bool). cond c 0 1) out j;
+      paged = ap₂ (λ (c : Bool) (m : ℕ). cond c 0 m) out e3 j;
+      due = e4 j;
+      bytes = (e5 ∙ ap (bytesGiven t) e2) j;
+    }

@@ -151,17 +151,19 @@ module _ (l : Lent) (now i : ℕ) (h : i < l .pool .tracked) where
             → (moved (newestAfter p l) used (pagesTo (l .textures) i) (recordPages t₀) ≡ newestAfter q l)
             × (length (flatMap newestOf (keptTo l now (i + 1))) ≡ used + recordPages t₀)
         newest-stays n =
-            let w = newest-packed l p q (looked now (stateOf l i)) more (f .claimed) i h (looked-paged now (stateOf l i)) used before (f .pages) n in
-            (ap₂ (λ (a b : ℕ). moved (newestAfter p l) used a b) (sym (pages-to l i h)) (sym (ap recordPages (record-in l i h))) ∙ w .0,
-             w .1 ∙ ap (λ (m : ℕ). used + m) (ap recordPages (record-in l i h)))
+            let w = newest-packed l p q (looked now (stateOf l i)) more (f .claimed) i h (looked-paged now (stateOf l i)) used before (f .pages) n in (
+              ap₂ (λ (a b : ℕ). moved (newestAfter p l) used a b) (sym (pages-to l i h)) (sym (ap recordPages (record-in l i h))) ∙ w .0,
+              w .1 ∙ ap (λ (m : ℕ). used + m) (ap recordPages (record-in l i h)),
+            )
 
         pub stamps-stay : length (flatMap (pagesAfter l) (keptTo l now i)) ≡ 1024 * used
             → (moved (stampsAfter p l) (1024 * used) (1024 * pagesTo (l .textures) i) (1024 * recordPages t₀) ≡ stampsAfter q l)
             × (length (flatMap (pagesAfter l) (keptTo l now (i + 1))) ≡ 1024 * (used + recordPages t₀))
         stamps-stay n =
-            let w = stamps-packed l p q (looked now (stateOf l i)) more (f .claimed) i h (looked-paged now (stateOf l i)) used before (ids-ascend l f) (omega (arith, f .stamps, f .pages)) n in
-            (ap₂ (λ (a b : ℕ). moved (stampsAfter p l) (1024 * used) (1024 * a) (1024 * b)) (sym (pages-to l i h)) (sym (ap recordPages (record-in l i h))) ∙ w .0,
-             w .1 ∙ ap (λ (m : ℕ). 1024 * (used + m)) (ap recordPages (record-in l i h)))
+            let w = stamps-packed l p q (looked now (stateOf l i)) more (f .claimed) i h (looked-paged now (stateOf l i)) used before (ids-ascend l f) (omega (arith, f .stamps, f .pages)) n in (
+              ap₂ (λ (a b : ℕ). moved (stampsAfter p l) (1024 * used) (1024 * a) (1024 * b)) (sym (pages-to l i h)) (sym (ap recordPages (record-in l i h))) ∙ w .0,
+              w .1 ∙ ap (λ (m : ℕ). 1024 * (used + m)) (ap recordPages (record-in l i h)),
+            )
 
       -- ---- the counts
 

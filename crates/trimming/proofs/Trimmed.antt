@@ -251,8 +251,15 @@ module _ (l : Lent) (now i : ℕ) (w : Pass) (T D S N P : List ℕ) (f : Fits l)
         kept = kept;
         pages = pages;
         count = omega (arith, count-on, aged-is, s .count, ap length (given-next l now i h), length-append (givenTo l now i) (givenOne now (stateOf l i)), given-count l now i h);
-        freed = omega (arith, freed-on, bytes-is, s .freed, ap doomedBytes (given-next l now i h),
-            total-append (λ (d : Doomed ℕ). d .bytes) (givenTo l now i) (givenOne now (stateOf l i)), given-bytes l now i h);
+        freed = omega (
+          arith,
+          freed-on,
+          bytes-is,
+          s .freed,
+          ap doomedBytes (given-next l now i h),
+          total-append (λ (d : Doomed ℕ). d .bytes) (givenTo l now i) (givenOne now (stateOf l i)),
+          given-bytes l now i h,
+        );
         fewer = omega (arith, tracked-on, s .fewer, seen .staying);
         low = omega (arith, pages-on, page-on, s .low, seen .paged);
         all = omega (arith, count-on, kept-on, first-on, s .all, seen .few);

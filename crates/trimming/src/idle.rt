@@ -12,8 +12,6 @@ ghost use Rattle.layout.specs.Writing.{after};
 ghost use Rattle.layout.specs.Calls.{toldNumber, trimCall};
 ghost use Rattle.trimming.specs.Look.{lookedPut};
 ghost use Rattle.trimming.specs.Pass.{trimmed};
-use access::put_texture;
-use access::texture_at;
 use crate::look::Look;
 use crate::look::look_at;
 use crate::pages::move_down;
@@ -21,6 +19,8 @@ use crate::pages::move_pages;
 use crate::pass::counts_after;
 use crate::pass::no_pass;
 use crate::pass::pass_on;
+use access::put_texture;
+use access::texture_at;
 use destruction::push_spares;
 use layout::DoneAnswer;
 use layout::PacingBook;
@@ -55,8 +55,8 @@ fn trim_textures(
 ) -> Pool
     requires { ⌜ isPool (lent pool book (now textures) (now retiring) (now doomed) (now spares) (now newest) (now stamps)) ≡ true ⌝ }
     ensures { λ r. ⌜
-      lent r book (now (textures .exit)) (now (retiring .entry)) (now (doomed .exit)) (now (spares .exit)) (now (newest .exit)) (now (stamps .exit))
-      ≡ after (trimmed (lent pool book (now (textures .entry)) (now (retiring .entry)) (now (doomed .entry)) (now (spares .entry)) (now (newest .entry)) (now (stamps .entry))) current (pool .tracked))
+        lent r book (now (textures .exit)) (now (retiring .entry)) (now (doomed .exit)) (now (spares .exit)) (now (newest .exit)) (now (stamps .exit))
+        ≡ after (trimmed (lent pool book (now (textures .entry)) (now (retiring .entry)) (now (doomed .entry)) (now (spares .entry)) (now (newest .entry)) (now (stamps .entry))) current (pool .tracked))
         (lent pool book (now (textures .entry)) (now (retiring .entry)) (now (doomed .entry)) (now (spares .entry)) (now (newest .entry)) (now (stamps .entry))) ⌝ }
 {
     let places = retiring.len() / 7;
@@ -67,9 +67,29 @@ fn trim_textures(
     let mut i = 0;
     while i < tracked {
         let look = look_at(textures, spares, i, pass.first, current);
-        push_spares(doomed, places, ring, waiting + pass.count, spares, pass.first, look.aged, look.bytes);
-        move_down(spares, 3 * pass.kept, 3 * (pass.first + look.aged - pass.kept), 3 * (look.own - look.aged));
-        move_pages(newest, stamps, pass.pages, pass.page - pass.pages, look.paged);
+        push_spares(
+            doomed,
+            places,
+            ring,
+            waiting + pass.count,
+            spares,
+            pass.first,
+            look.aged,
+            look.bytes,
+        );
+        move_down(
+            spares,
+            3 * pass.kept,
+            3 * (pass.first + look.aged - pass.kept),
+            3 * (look.own - look.aged),
+        );
+        move_pages(
+            newest,
+            stamps,
+            pass.pages,
+            pass.page - pass.pages,
+            look.paged,
+        );
         put_looked(textures, pass.tracked, i, look);
         pass = pass_on(pass, look);
         i += 1;
@@ -90,13 +110,23 @@ pub fn trim(
 ) -> DoneAnswer
     requires { ⌜ isPool (lent pool book (now textures) (now retiring) (now doomed) (now spares) (now newest) (now stamps)) ≡ true ⌝ }
     ensures { λ r. ⌜
-      (toldNumber (r .outcome), lent (r .pool) book (now (textures .exit)) (now (retiring .entry)) (now (doomed .exit)) (now (spares .exit)) (now (newest .exit)) (now (stamps .exit)))
-      ≡ trimCall (lent pool book (now (textures .entry)) (now (retiring .entry)) (now (doomed .entry)) (now (spares .entry)) (now (newest .entry)) (now (stamps .entry))) current ⌝ }
+        (toldNumber (r .outcome), lent (r .pool) book (now (textures .exit)) (now (retiring .entry)) (now (doomed .exit)) (now (spares .exit)) (now (newest .exit)) (now (stamps .exit)))
+        ≡ trimCall (lent pool book (now (textures .entry)) (now (retiring .entry)) (now (doomed .entry)) (now (spares .entry)) (now (newest .entry)) (now (stamps .entry))) current ⌝ }
 {
     if current > 281474976710656 {
         return DoneAnswer { pool, outcome: 3 };
     }
-    let counts = trim_textures(pool, book, textures, retiring, doomed, spares, newest, stamps, current);
+    let counts = trim_textures(
+        pool,
+        book,
+        textures,
+        retiring,
+        doomed,
+        spares,
+        newest,
+        stamps,
+        current,
+    );
     DoneAnswer {
         pool: counts,
         outcome: 0,

@@ -103,7 +103,23 @@ pub fn look_at(textures: &[u64], spares: &[u64], i: usize, first: usize, current
     let bytes = bytes_given(textures, i, aged);
     let due = due_after(textures, i, current);
     if is_idle(textures, i, own - aged, current) {
-        return Look { own, aged, claimed, staying: 0, paged: 0, due, bytes };
+        return Look {
+            own,
+            aged,
+            claimed,
+            staying: 0,
+            paged: 0,
+            due,
+            bytes,
+        };
     }
-    Look { own, aged, claimed, staying: 1, paged: claimed, due, bytes }
+    Look {
+        own,
+        aged,
+        claimed,
+        staying: 1,
+        paged: claimed,
+        due,
+        bytes,
+    }
 }

@@ -20,7 +20,15 @@ pub struct Pass {
 pub fn no_pass() -> Pass
     ensures { λ r. ⌜ r ≡ noPass ⌝ }
 {
-    Pass { first: 0, page: 0, tracked: 0, kept: 0, pages: 0, count: 0, freed: 0 }
+    Pass {
+        first: 0,
+        page: 0,
+        tracked: 0,
+        kept: 0,
+        pages: 0,
+        count: 0,
+        freed: 0,
+    }
 }
 
 // One texture more.
