@@ -1,0 +1,7 @@
+pub mod TextureRuns
+pub mod Forgotten
+pub mod Ages
+pub mod Looks
+pub mod Steps
+pub mod Trimmed
+pub mod TrimCalls

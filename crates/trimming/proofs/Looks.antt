@@ -1,0 +1,203 @@
+-- The look at one texture is what the model's rule says of it. Assumes nothing.
+use mathlib.Core.Path.{_≡_, refl, sym, ap, ap₂, _∙_}
+use mathlib.Core.Bool.{Bool, true, false, cond, _&&_}
+use mathlib.Core.List.{List, [], _∷_, map}
+use Prim.Native.Nat.{ℕ, zero, suc, _+_, _-_, _*_, _≤_, _<_}
+use native.Mathlib.Nat.{mul-zero, mul-le-mul-right}
+use native.Mathlib.Omega.{arith}
+use borrow.Author.Tests.{eqb-true, ne-eqb}
+use lib.Dec.{eqb}
+use lib.ListN.{length, take, drop, length-drop}
+use lib.Seq.{length-take-le}
+use Rattle.blocks.specs.Lists.{listed}
+use Rattle.blocks.proofs.Lists.{either, and-both}
+use Rattle.blocks.proofs.Listed.{take-listed}
+use Rattle.shapes.specs.Shapes.{bytesOf}
+use Rattle.shapes.proofs.ShapeBytes.{bytes-bound}
+use Rattle.stores.specs.Model.{Spare, Doomed, VersionState, doomedBytes}
+use Rattle.stores.specs.Updates.{withDue, withSpares, asDoomed}
+use Rattle.stores.specs.Trim.{aged, agedCount, thinned, isEmpty, idle, lookedAt}
+use Rattle.stores.proofs.Moves.{as-doomed-bytes, as-doomed-length}
+use Rattle.records.specs.declared.texture.TextureRecord.{TextureRecord}
+use Rattle.records.specs.declared.doomed.DoomedRecord.{DoomedRecord}
+use Rattle.layout.specs.Lent.{Lent}
+use Rattle.layout.specs.Reading.{recordPages, spareRead}
+use Rattle.layout.specs.Writing.{textureRecord, doomedRecord}
+use Rattle.layout.proofs.Fits.{Fits}
+use Rattle.layout.proofs.Runs.{stateOf}
+use Rattle.layout.proofs.Kept.{Paged, pagedOf}
+use Rattle.destruction.specs.Given.{givenRecords}
+use Rattle.destruction.proofs.Pushed.{given-spares}
+use Rattle.trimming.specs.declared.look.Look.{Look}
+use Rattle.trimming.specs.Owned.{textureIn, sparesTo}
+use Rattle.trimming.specs.Look.{isIdle, dueAfter, bytesGiven, lookOf, lookedRecord}
+use Rattle.trimming.specs.Pass.{givenOne}
+use Rattle.trimming.proofs.TextureRuns.{record-of, shape-in, spares-in, count-in, shape-passes}
+use Rattle.trimming.proofs.Ages.{aged-most}
+
+-- ---- any state
+
+not-none : (n : ℕ) → eqb (suc n) 0 ≡ false
+not-none n = ne-eqb (suc n) 0 (λ e. let y : ⊥ = omega arith in y)
+
+no-spares : (ss : List (Spare ℕ)) → isEmpty ss ≡ eqb (length ss) 0
+no-spares [] = refl
+no-spares (s ∷ ss) = sym (not-none (length ss))
+
+module _ (now : ℕ) (t : VersionState ℕ) where
+  -- how many of its spares are given up
+  abbrev pub count : ℕ
+  count = agedCount now (t .spares)
+
+  abbrev pub looked : VersionState ℕ
+  looked = lookedAt now (thinned now t)
+
+  pub looked-paged : pagedOf looked ≡ pagedOf t
+  looked-paged = either (λ (u : VersionState ℕ). pagedOf u ≡ pagedOf t) (aged now (t .due)) _ _ (λ q. refl) (λ q. refl)
+
+  pub looked-spares : looked .spares ≡ drop count (t .spares)
+  looked-spares = either (λ (u : VersionState ℕ). u .spares ≡ drop count (t .spares)) (aged now (t .due)) _ _ (λ q. refl) (λ q. refl)
+
+  -- its record, by that of the texture
+  looked-due : textureRecord looked .due ≡ dueAfter now (textureRecord t)
+  unfolding dueAfter
+  looked-due = go (aged now (t .due))
+    where
+      go : (b : Bool) → textureRecord (cond b (withDue (cond (aged now (t .rename)) now (t .rename)) (thinned now t)) (thinned now t)) .due
+          ≡ cond b (cond (aged now (t .rename)) now (t .rename)) (t .due)
+      go true = refl
+      go false = refl
+
+  pub looked-record : textureRecord looked ≡ record {
+    id = t .id;
+    shape = t .shape;
+    epoch = t .epoch;
+    history = textureRecord t .history;
+    birth = t .birth;
+    rename = t .rename;
+    due = dueAfter now (textureRecord t);
+    spares = length (drop count (t .spares));
+  }
+  unfolding dueAfter
+  looked-record = go (aged now (t .due))
+    where
+      go : (b : Bool) → textureRecord (cond b (withDue (cond (aged now (t .rename)) now (t .rename)) (thinned now t)) (thinned now t)) ≡ record {
+        id = t .id;
+        shape = t .shape;
+        epoch = t .epoch;
+        history = textureRecord t .history;
+        birth = t .birth;
+        rename = t .rename;
+        due = cond b (cond (aged now (t .rename)) now (t .rename)) (t .due);
+        spares = length (drop count (t .spares));
+      }
+      go true = refl
+      go false = refl
+
+  idle-record : idle now (thinned now t) ≡ isIdle now (textureRecord t) (length (t .spares) - count)
+  unfolding isIdle
+  idle-record =
+      ap (λ (b : Bool). aged now (t .due) && (aged now (t .rename) && b))
+      (no-spares (drop count (t .spares)) ∙ ap (λ (n : ℕ). eqb n 0) (length-drop count (t .spares)))
+
+-- ---- texture i of a pool
+
+module _ (l : Lent) (now i : ℕ) (h : i < l .pool .tracked) where
+  abbrev t₀ : TextureRecord
+  t₀ = textureIn (l .textures) i
+
+  abbrev pub lookHere : Look
+  lookHere = lookOf now t₀ (count now (stateOf l i))
+
+  pub few : count now (stateOf l i) ≤ t₀ .spares
+  few = omega (arith, aged-most now (stateOf l i .spares), count-in l i h)
+
+  pub left-count : length (drop (count now (stateOf l i)) (stateOf l i .spares)) ≡ t₀ .spares - count now (stateOf l i)
+  left-count = length-drop (count now (stateOf l i)) (stateOf l i .spares) ∙ ap (λ (n : ℕ). n - count now (stateOf l i)) (count-in l i h)
+
+  pub idle-here : idle now (thinned now (stateOf l i)) ≡ isIdle now t₀ (t₀ .spares - count now (stateOf l i))
+  idle-here = idle-record now (stateOf l i) ∙ ap₂ (λ (t : TextureRecord) (n : ℕ). isIdle now t (n - count now (stateOf l i))) (record-of l i h) (count-in l i h)
+
+  pub none-left : idle now (thinned now (stateOf l i)) ≡ true → t₀ .spares - count now (stateOf l i) ≡ 0
+  unfolding isIdle
+  none-left e =
+      let left = t₀ .spares - count now (stateOf l i) in
+      let tests = and-both (aged now (t₀ .due)) (aged now (t₀ .rename) && eqb left 0) (sym idle-here ∙ e) .1 in
+      eqb-true left 0 (and-both (aged now (t₀ .rename)) (eqb left 0) tests .1)
+
+  pub record-here : textureRecord (looked now (stateOf l i)) ≡ lookedRecord lookHere t₀
+  unfolding lookedRecord lookOf
+  record-here =
+      looked-record now (stateOf l i)
+      ∙ ap₂ (λ (t : TextureRecord) (n : ℕ). record {
+        id = t .id;
+        shape = t .shape;
+        epoch = t .epoch;
+        history = t .history;
+        birth = t .birth;
+        rename = t .rename;
+        due = dueAfter now t;
+        spares = n;
+      }) (record-of l i h) left-count
+
+  -- ---- what it gives up
+
+  abbrev given : List (Spare ℕ)
+  given = take (count now (stateOf l i)) (stateOf l i .spares)
+
+  given-length : length given ≡ count now (stateOf l i)
+  given-length = length-take-le (count now (stateOf l i)) (stateOf l i .spares) (aged-most now (stateOf l i .spares))
+
+  pub given-count : length (givenOne now (stateOf l i)) ≡ count now (stateOf l i)
+  unfolding givenOne
+  given-count = as-doomed-length (bytesOf (stateOf l i .shape)) given ∙ given-length
+
+  -- the bytes are worked out only where they are needed
+  by-count : (n : ℕ) → bytesGiven t₀ n * n ≡ bytesOf (t₀ .shape) * n
+  unfolding bytesGiven
+  by-count zero = sym (mul-zero (bytesOf (t₀ .shape)))
+  by-count (suc n) = ap (λ (b : Bool). cond b 0 (bytesOf (t₀ .shape)) * suc n) (not-none n)
+
+  pub given-bytes : bytesGiven t₀ (count now (stateOf l i)) * count now (stateOf l i) ≡ doomedBytes (givenOne now (stateOf l i))
+  unfolding givenOne
+  given-bytes =
+      by-count (count now (stateOf l i))
+      ∙ sym (as-doomed-bytes (bytesOf (stateOf l i .shape)) given ∙ ap₂ (λ (b n : ℕ). b * n) (ap bytesOf (shape-in l i h)) given-length)
+
+  pub bytes-few : Fits l → bytesGiven t₀ (count now (stateOf l i)) * count now (stateOf l i) ≤ 17592186044416 * count now (stateOf l i)
+  bytes-few f =
+      omega (arith, by-count (count now (stateOf l i)), mul-le-mul-right (count now (stateOf l i)) (bytes-bound (t₀ .shape) (shape-passes l i h f)))
+
+  records-by-count : (n : ℕ) → givenRecords (l .spares) (bytesGiven t₀ n) (sparesTo (l .textures) i) n ≡ givenRecords (l .spares) (bytesOf (t₀ .shape)) (sparesTo (l .textures) i) n
+  unfolding bytesGiven givenRecords listed
+  records-by-count zero = refl
+  records-by-count (suc n) =
+      ap (λ (b : Bool). givenRecords (l .spares) (cond b 0 (bytesOf (t₀ .shape))) (sparesTo (l .textures) i) (suc n)) (not-none n)
+
+  pub given-records : givenRecords (l .spares) (bytesGiven t₀ (count now (stateOf l i))) (sparesTo (l .textures) i) (count now (stateOf l i))
+      ≡ map doomedRecord (givenOne now (stateOf l i))
+  unfolding givenOne
+  given-records =
+      let k = count now (stateOf l i) in
+      records-by-count k
+      ∙ given-spares l (bytesOf (t₀ .shape)) (sparesTo (l .textures) i) k
+      ∙ sym (ap₂ (λ (b : ℕ) (ss : List (Spare ℕ)). map doomedRecord (asDoomed b ss)) (ap bytesOf (shape-in l i h))
+      (ap (take k) (spares-in l i h) ∙ take-listed (spareRead l) k (sparesTo (l .textures) i) (t₀ .spares) few))
+
+-- ---- the look put together from its parts; b is whether the texture is dropped
+
+pub look-made : (now : ℕ) (t : TextureRecord) (n own aged claimed due bytes : ℕ) (b : Bool) → own ≡ t .spares → aged ≡ n → claimed ≡ recordPages t
+    → due ≡ dueAfter now t → bytes ≡ bytesGiven t aged → b ≡ isIdle now t (own - aged)
+    → record { own = own; aged = aged; claimed = claimed; staying = cond b 0 1; paged = cond b 0 claimed; due = due; bytes = bytes } ≡ lookOf now t n
+unfolding lookOf
+look-made now t n own aged claimed due bytes b e1 e2 e3 e4 e5 e6 =
+    let out : b ≡ isIdle now t (t .spares - n) = e6 ∙ ap₂ (λ (x y : ℕ). isIdle now t (x - y)) e1 e2 in
+    λ j. record {
+      own = e1 j;
+      aged = e2 j;
+      claimed = e3 j;
+      staying = ap (λ (c : Bool). cond c 0 1) out j;
+      paged = ap₂ (λ (c : Bool) (m : ℕ). cond c 0 m) out e3 j;
+      due = e4 j;
+      bytes = (e5 ∙ ap (bytesGiven t) e2) j;
+    }

@@ -1,0 +1,61 @@
+-- `owned_at` meets its contract: each number is what its part answers. Assumes nothing.
+use borrow.Author.Needs.{needs}
+use mathlib.Core.Path.{_≡_, sym, ap, _∙_}
+use mathlib.Core.Bool.{true}
+use native.Mathlib.Omega.{arith}
+use Rattle.shapes.specs.Shapes.{isShape, bytesOf}
+use Rattle.records.specs.declared.texture.TextureRecord.{TextureRecord}
+use Rattle.records.specs.Texture.{readTexture}
+use Rattle.layout.specs.Reading.{recordPages}
+use Rattle.access.proofs.Totals.{total-next}
+use Rattle.trimming.specs.Owned.{ownedAt}
+use Rattle.trimming.proofs.owned.owned_at.Statement.{statement}
+use Rattle.trimming.proofs.owned.owned_at.Tie as tie
+
+texture-at-requires : tie.Need-texture-at-requires
+texture-at-requires c κs = search needs
+
+spares-before-requires : tie.Need-spares-before-requires
+spares-before-requires c κs =
+    let b = c .before .before in
+    (omega (arith, b .pre), omega (arith, b .pre, total-next 19 readTexture (λ t. t .spares) (b .args .textures .now) (b .args .i)))
+
+pages-before-requires : tie.Need-pages-before-requires
+pages-before-requires c κs =
+    let b = c .before .before .before in
+    (omega (arith, b .pre), omega (arith, b .pre, total-next 19 readTexture recordPages (b .args .textures .now) (b .args .i)))
+
+history-pages-requires : tie.Need-history-pages-requires
+history-pages-requires c κs =
+    let d = c .before .before in
+    let b = d .before .before in
+    omega (arith, b .pre, total-next 19 readTexture recordPages (b .args .textures .now) (b .args .i), ap recordPages (d .texture-at .ensures))
+
+shape-bytes-requires : tie.Need-shape-bytes-requires
+shape-bytes-requires c κs =
+    let d = c .before .before .before in
+    ap (λ (t : TextureRecord). isShape (t .shape)) (d .texture-at .ensures) ∙ d .before .before .pre .1
+
+returns : tie.Need-returns
+unfolding ownedAt
+returns c =
+    let d = c .before .before .before .before in
+    let t = d .texture-at .ensures in
+    λ j. record {
+      first = c .before .before .before .spares-before .ensures j;
+      spares = t j .spares;
+      page = c .before .before .pages-before .ensures j;
+      pages = (c .before .history-pages .ensures ∙ ap recordPages t) j;
+      bytes = (c .shape-bytes .ensures ∙ ap (λ (s : TextureRecord). bytesOf (s .shape)) t) j;
+    }
+
+pub owned-at-spec : {M : Type 1} → statement M
+owned-at-spec =
+    tie.close
+    (tie.spec
+    texture-at-requires
+    spares-before-requires
+    pages-before-requires
+    history-pages-requires
+    shape-bytes-requires
+    returns)

@@ -1,0 +1,49 @@
+-- What one texture owns, as its record and those before it say, and the pool's counts without it.
+use Prim.Native.Nat.{ℕ, _+_, _-_, _*_}
+use mathlib.Core.List.{List}
+use Rattle.blocks.specs.Lists.{total}
+use Rattle.tables.specs.Records.{recordAt, table}
+use Rattle.shapes.specs.Shapes.{bytesOf}
+use Rattle.records.specs.declared.texture.TextureRecord.{TextureRecord}
+use Rattle.records.specs.Texture.{readTexture}
+use Rattle.layout.specs.declared.pool.Pool.{Pool as Counts}
+use Rattle.layout.specs.Reading.{recordPages}
+use Rattle.trimming.specs.declared.owned.Owned.{Owned}
+
+-- the record of texture i
+abbrev pub textureIn : List ℕ → ℕ → TextureRecord
+textureIn textures i = recordAt 19 readTexture textures i
+
+-- where the spares and the pages of texture i begin
+abbrev pub sparesTo : List ℕ → ℕ → ℕ
+sparesTo textures i = total (λ (t : TextureRecord). t .spares) (table 19 readTexture i textures)
+
+abbrev pub pagesTo : List ℕ → ℕ → ℕ
+pagesTo textures i = total recordPages (table 19 readTexture i textures)
+
+unfoldable pub ownedAt : List ℕ → ℕ → Owned
+ownedAt textures i = record {
+  first = sparesTo textures i;
+  spares = textureIn textures i .spares;
+  page = pagesTo textures i;
+  pages = recordPages (textureIn textures i);
+  bytes = bytesOf (textureIn textures i .shape);
+}
+
+unfoldable pub without : Counts → Owned → Counts
+without c own = record {
+  tracked = c .tracked - 1;
+  kept = c .kept - own .spares;
+  pages = c .pages - own .pages;
+  head = c .head;
+  popped = c .popped;
+  queued = c .queued;
+  first = c .first;
+  doomed = c .doomed + own .spares;
+  since = c .since + own .spares;
+  trackings = c .trackings;
+  parked = c .parked - own .bytes * own .spares;
+  dooming = c .dooming + own .bytes * own .spares;
+  cap = c .cap;
+  line = c .line;
+}

@@ -1,0 +1,134 @@
+// trim: queue for destruction every spare idle past the bound, and forget idle textures.
+ghost use mathlib.Core.Path.{_≡_};
+ghost use mathlib.Core.Bool.{true};
+ghost use Prim.Native.Nat.{_+_, _*_, _≤_};
+ghost use lib.ListN.{length};
+ghost use Rattle.tables.specs.Records.{recordAt};
+ghost use Rattle.records.specs.Recorded.{RecordedFits};
+ghost use Rattle.records.specs.Texture.{readTexture};
+ghost use Rattle.layout.specs.Lent.{lent};
+ghost use Rattle.layout.specs.IsPool.{isPool};
+ghost use Rattle.layout.specs.Writing.{after};
+ghost use Rattle.layout.specs.Calls.{toldNumber, trimCall};
+ghost use Rattle.trimming.specs.Look.{lookedPut};
+ghost use Rattle.trimming.specs.Pass.{trimmed};
+use crate::look::Look;
+use crate::look::look_at;
+use crate::pages::move_down;
+use crate::pages::move_pages;
+use crate::pass::counts_after;
+use crate::pass::no_pass;
+use crate::pass::pass_on;
+use access::put_texture;
+use access::texture_at;
+use destruction::push_spares;
+use layout::DoneAnswer;
+use layout::PacingBook;
+use layout::Pool;
+
+// Record i written at place `to` as it is after the look; nothing where it is dropped.
+fn put_looked(textures: &mut [u64], to: usize, i: usize, look: Look)
+    requires { ⌜ (19 * i + 19 ≤ length (now textures)) × (19 * to + 19 ≤ length (now textures))
+        × RecordedFits (recordAt 19 readTexture (now textures) i .history) × (look .aged ≤ look .own) ⌝ }
+    ensures { λ _. ⌜ now (textures .exit) ≡ lookedPut (now (textures .entry)) to i look ⌝ }
+{
+    if look.staying == 0 {
+        return;
+    }
+    let mut t = texture_at(textures, i);
+    t.due = look.due;
+    t.spares = (look.own - look.aged) as u64;
+    put_texture(textures, to, t);
+}
+
+// The textures in ascending id. What stays moves down to what stays before it, so that no number is written before it is read.
+fn trim_textures(
+    pool: Pool,
+    book: PacingBook,
+    textures: &mut [u64],
+    retiring: &[u64],
+    doomed: &mut [u64],
+    spares: &mut [u64],
+    newest: &mut [u64],
+    stamps: &mut [u64],
+    current: u64,
+) -> Pool
+    requires { ⌜ isPool (lent pool book (now textures) (now retiring) (now doomed) (now spares) (now newest) (now stamps)) ≡ true ⌝ }
+    ensures { λ r. ⌜
+        lent r book (now (textures .exit)) (now (retiring .entry)) (now (doomed .exit)) (now (spares .exit)) (now (newest .exit)) (now (stamps .exit))
+        ≡ after (trimmed (lent pool book (now (textures .entry)) (now (retiring .entry)) (now (doomed .entry)) (now (spares .entry)) (now (newest .entry)) (now (stamps .entry))) current (pool .tracked))
+        (lent pool book (now (textures .entry)) (now (retiring .entry)) (now (doomed .entry)) (now (spares .entry)) (now (newest .entry)) (now (stamps .entry))) ⌝ }
+{
+    let places = retiring.len() / 7;
+    let tracked = pool.tracked;
+    let ring = pool.first;
+    let waiting = pool.doomed;
+    let mut pass = no_pass();
+    let mut i = 0;
+    while i < tracked {
+        let look = look_at(textures, spares, i, pass.first, current);
+        push_spares(
+            doomed,
+            places,
+            ring,
+            waiting + pass.count,
+            spares,
+            pass.first,
+            look.aged,
+            look.bytes,
+        );
+        move_down(
+            spares,
+            3 * pass.kept,
+            3 * (pass.first + look.aged - pass.kept),
+            3 * (look.own - look.aged),
+        );
+        move_pages(
+            newest,
+            stamps,
+            pass.pages,
+            pass.page - pass.pages,
+            look.paged,
+        );
+        put_looked(textures, pass.tracked, i, look);
+        pass = pass_on(pass, look);
+        i += 1;
+    }
+    counts_after(pool, pass)
+}
+
+pub fn trim(
+    pool: Pool,
+    book: PacingBook,
+    textures: &mut [u64],
+    retiring: &[u64],
+    doomed: &mut [u64],
+    spares: &mut [u64],
+    newest: &mut [u64],
+    stamps: &mut [u64],
+    current: u64,
+) -> DoneAnswer
+    requires { ⌜ isPool (lent pool book (now textures) (now retiring) (now doomed) (now spares) (now newest) (now stamps)) ≡ true ⌝ }
+    ensures { λ r. ⌜
+        (toldNumber (r .outcome), lent (r .pool) book (now (textures .exit)) (now (retiring .entry)) (now (doomed .exit)) (now (spares .exit)) (now (newest .exit)) (now (stamps .exit)))
+        ≡ trimCall (lent pool book (now (textures .entry)) (now (retiring .entry)) (now (doomed .entry)) (now (spares .entry)) (now (newest .entry)) (now (stamps .entry))) current ⌝ }
+{
+    if current > 281474976710656 {
+        return DoneAnswer { pool, outcome: 3 };
+    }
+    let counts = trim_textures(
+        pool,
+        book,
+        textures,
+        retiring,
+        doomed,
+        spares,
+        newest,
+        stamps,
+        current,
+    );
+    DoneAnswer {
+        pool: counts,
+        outcome: 0,
+    }
+}
