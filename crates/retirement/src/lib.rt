@@ -2,7 +2,9 @@
 // graphics chip is done with it, and parked as a spare or queued for destruction by `park`.
 mod counts;
 mod popping;
+mod queue;
 
 pub use popping::PopAnswer;
 pub use popping::Popped;
 pub use popping::pop_retired;
+pub use queue::retire;
