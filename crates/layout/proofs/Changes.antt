@@ -36,7 +36,8 @@ module _ (l : Lent) (p : Pool ℕ) (fits : 19 * l .pool .tracked ≤ length (l .
   textures-set i t h e =
       replaced-record texture-codec (l .pool .tracked) (l .textures) fits i (textureRecord t) h
       ∙ sym (ap (λ (xs : List TextureRecord). over (flat writeTexture xs) (l .textures))
-      (ap (map textureRecord) e ∙ map-set textureRecord (modelOf l .textures) i t ∙ ap (λ (xs : List TextureRecord). set xs i (textureRecord t)) (records-model l)))
+      (ap (map textureRecord) e ∙ map-set textureRecord (modelOf l .textures) i t
+      ∙ ap (λ (xs : List TextureRecord). set xs i (textureRecord t)) (records-model l)))
 
   pub textures-inserted : (i : ℕ) (t : VersionState ℕ) → 19 * l .pool .tracked + 19 ≤ length (l .textures) → i ≤ l .pool .tracked
       → p .textures ≡ inserted i (t ∷ []) (modelOf l .textures)
@@ -89,11 +90,26 @@ module _ (l : Lent) where
     spares-run =
         let n = total sparesOf (trackedRecords l) in
         sym (ap (λ (xs : List (Spare ℕ)). take (sparesAt i) (drop (firstSpare l i) xs)) (spares-model l)
-        ∙ ap (take (sparesAt i)) (drop-listed (spareRead l) (firstSpare l i) 0 n (omega (arith, spares-in)) ∙ ap (λ (m : ℕ). listed (spareRead l) m (n - firstSpare l i)) (zero-add (firstSpare l i)))
+        ∙ ap (take (sparesAt i))
+        (drop-listed (spareRead l) (firstSpare l i) 0 n (omega (arith, spares-in))
+        ∙ ap (λ (m : ℕ). listed (spareRead l) m (n - firstSpare l i)) (zero-add (firstSpare l i)))
         ∙ take-listed (spareRead l) (sparesAt i) (firstSpare l i) (n - firstSpare l i) (omega (arith, spares-in)))
 
+    -- all but the oldest k of them
+    pub spares-rest : (k : ℕ) → k ≤ sparesAt i → drop k (stateOf l i .spares) ≡ take (sparesAt i - k) (drop (firstSpare l i + k) sparesBefore)
+    unfolding stateOf stateRead
+    spares-rest k q =
+        let n = total sparesOf (trackedRecords l) in
+        let at = firstSpare l i + k in
+        drop-listed (spareRead l) k (firstSpare l i) (sparesAt i) q
+        ∙ sym (ap (λ (xs : List (Spare ℕ)). take (sparesAt i - k) (drop at xs)) (spares-model l)
+        ∙ ap (take (sparesAt i - k))
+        (drop-listed (spareRead l) at 0 n (omega (arith, spares-in)) ∙ ap (λ (m : ℕ). listed (spareRead l) m (n - at)) (zero-add at))
+        ∙ take-listed (spareRead l) (sparesAt i - k) at (n - at) (omega (arith, spares-in)))
+
     pub every-set : (t : VersionState ℕ)
-        → everySpare (set (modelOf l .textures) i t) ≡ take (firstSpare l i) sparesBefore ++ (t .spares ++ drop (firstSpare l i + sparesAt i) sparesBefore)
+        → everySpare (set (modelOf l .textures) i t)
+        ≡ take (firstSpare l i) sparesBefore ++ (t .spares ++ drop (firstSpare l i + sparesAt i) sparesBefore)
     every-set t =
         flat-set (λ (t : VersionState ℕ). t .spares) i (modelOf l .textures) t (stateOf l 0) (omega (arith, tracked-model l))
         ∙ ap₂ (λ (m n : ℕ). take m sparesBefore ++ (t .spares ++ drop (m + n) sparesBefore)) (spares-upto i)
@@ -156,8 +172,10 @@ module _ (l : Lent) where
 
 module _ (l : Lent) (p : Pool ℕ) (kept : total sparesOf (trackedRecords l) ≡ l .pool .kept) (fits : 3 * l .pool .kept ≤ length (l .spares)) where
   -- the records of all the spares
-  table-spares : map spareRecord (sparesBefore l) ≡ table 3 readSpare (l .pool .kept) (l .spares)
-  table-spares = ap (map spareRecord) (spares-model l) ∙ spare-records l (total sparesOf (trackedRecords l)) ∙ ap (λ (n : ℕ). table 3 readSpare n (l .spares)) kept
+  pub table-spares : map spareRecord (sparesBefore l) ≡ table 3 readSpare (l .pool .kept) (l .spares)
+  table-spares =
+      ap (map spareRecord) (spares-model l) ∙ spare-records l (total sparesOf (trackedRecords l))
+      ∙ ap (λ (n : ℕ). table 3 readSpare n (l .spares)) kept
 
   pub spares-inserted : (k : ℕ) (x : Spare ℕ) → 3 * l .pool .kept + 3 ≤ length (l .spares) → k ≤ l .pool .kept
       → everySpare (p .textures) ≡ inserted k (x ∷ []) (sparesBefore l)

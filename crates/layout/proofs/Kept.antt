@@ -8,8 +8,8 @@ use native.Mathlib.Nat.{add-zero, zero-add, add-assoc, mul-zero}
 use native.Mathlib.Omega.{arith}
 use borrow.Author.Tests.{eqb-true, ne-eqb, eq-eqb}
 use lib.Dec.{eqb}
-use lib.ListN.{length, take, drop, getD, take-append-drop}
-use lib.Seq.{take-add, drop-drop}
+use lib.ListN.{length, take, drop, getD, take-append-drop, set}
+use lib.Seq.{take-add, drop-drop, map-set-same}
 use Rattle.blocks.specs.Lists.{listed, total, ascending}
 use Rattle.blocks.proofs.Lists.{over-self, and-both, ascending-get}
 use Rattle.shapes.specs.declared.shape.VersionShape.{VersionShape}
@@ -30,15 +30,15 @@ use Rattle.layout.proofs.Runs.{firstSpare, firstPageOf, pages-state, st
 -- ---- the first page of a texture
 
 module _ (id : ℕ) (shape : VersionShape) where
-  abbrev pub Here : VersionState ℕ → Bool
-  Here t = eqb (t .id) id && sameShape (t .shape) shape && hasHistory (t .history)
+  abbrev pub isHere : VersionState ℕ → Bool
+  isHere t = eqb (t .id) id && sameShape (t .shape) shape && hasHistory (t .history)
 
-  pub not-here : (t : VersionState ℕ) → (t .id ≡ id → ⊥) → Here t ≡ false
+  pub not-here : (t : VersionState ℕ) → (t .id ≡ id → ⊥) → isHere t ≡ false
   not-here t h = rw (ne-eqb (t .id) id h)
 
   -- the first that has that id, shape and a history
-  pub first-page : (xs : List (VersionState ℕ)) (page i : ℕ) (d : VersionState ℕ) → i < length xs → ((j : ℕ) → j < i → Here (getD xs j d) ≡ false)
-      → Here (getD xs i d) ≡ true → firstPage id shape page xs ≡ some (page + total pagesUsed (take i xs))
+  pub first-page : (xs : List (VersionState ℕ)) (page i : ℕ) (d : VersionState ℕ) → i < length xs → ((j : ℕ) → j < i → isHere (getD xs j d) ≡ false)
+      → isHere (getD xs i d) ≡ true → firstPage id shape page xs ≡ some (page + total pagesUsed (take i xs))
   unfolding firstPage total
   first-page [] page i d h apart here = absurd (let y : ⊥ = omega arith in y)
   first-page (x ∷ xs) page zero d h apart here = rw here (ap some (sym (add-zero page)))
@@ -47,7 +47,7 @@ module _ (id : ℕ) (shape : VersionShape) where
       ∙ first-page xs (page + pagesUsed x) i d (omega arith) (λ j q. apart (suc j) (omega arith)) here
       ∙ ap some (add-assoc page (pagesUsed x) (total pagesUsed (take i xs)))
 
-  pub no-page : (xs : List (VersionState ℕ)) (page : ℕ) (d : VersionState ℕ) → ((j : ℕ) → j < length xs → Here (getD xs j d) ≡ false)
+  pub no-page : (xs : List (VersionState ℕ)) (page : ℕ) (d : VersionState ℕ) → ((j : ℕ) → j < length xs → isHere (getD xs j d) ≡ false)
       → firstPage id shape page xs ≡ none
   unfolding firstPage
   no-page [] page d apart = refl
@@ -69,7 +69,8 @@ module _ (l : Lent) where
       ap₂ (λ (a b : List ℕ). a ++ b)
       (over-self (take c old) old (drop c old) (sym (take-append-drop c old)))
       (pages-read s page (suc k) n
-      ∙ ap (take (1024 * n)) (ap (λ (m : ℕ). drop m (l .stamps)) (let e : 1024 * (page + suc k) ≡ at + 1024 = omega arith in e) ∙ sym (drop-drop 1024 at (l .stamps))))
+      ∙ ap (take (1024 * n))
+      (ap (λ (m : ℕ). drop m (l .stamps)) (let e : 1024 * (page + suc k) ≡ at + 1024 = omega arith in e) ∙ sym (drop-drop 1024 at (l .stamps))))
       ∙ sym (take-add 1024 (1024 * n) (drop at (l .stamps)))
       ∙ ap (λ (m : ℕ). take m (drop at (l .stamps))) (let e : 1024 + 1024 * n ≡ 1024 * suc n = omega arith in e)
 
@@ -83,7 +84,8 @@ module _ (l : Lent) where
       ∙ ap (λ (m : ℕ). take (1024 * pagesOf s) (drop (1024 * m) (l .stamps))) (add-zero page)
 
   pub pages-of : (i : ℕ) (found : Option ℕ) → (hasHistory (stateOf l i .history) ≡ true → found ≡ some (firstPageOf l i))
-      → pagesFrom (pageBefore l found) 0 (gridsOf (stateOf l i .history)) ≡ take (1024 * pagesUsed (stateOf l i)) (drop (1024 * firstPageOf l i) (l .stamps))
+      → pagesFrom (pageBefore l found) 0 (gridsOf (stateOf l i .history))
+      ≡ take (1024 * pagesUsed (stateOf l i)) (drop (1024 * firstPageOf l i) (l .stamps))
   unfolding stateOf stateRead
   pages-of i found e =
       let t = getD (trackedRecords l) i (readTexture []) in
@@ -99,9 +101,15 @@ module _ (l : Lent) where
     -- no other texture has its id
     pub apart : (i j : ℕ) → j < i → i < l .pool .tracked → getD (modelOf l .textures) j d .id < getD (modelOf l .textures) i d .id
     apart i j h k =
-        omega (arith, id-model l i d k, id-model l j d (omega arith), ascending-get idOf (trackedRecords l) j i (readTexture []) up h (omega (arith, tracked-records l)))
+        omega (
+          arith,
+          id-model l i d k,
+          id-model l j d (omega arith),
+          ascending-get idOf (trackedRecords l) j i (readTexture []) up h
+              (omega (arith, tracked-records l)),
+        )
 
-    pub found-at : (i : ℕ) → i < l .pool .tracked → (id : ℕ) (shape : VersionShape) → Here id shape (getD (modelOf l .textures) i d) ≡ true
+    pub found-at : (i : ℕ) → i < l .pool .tracked → (id : ℕ) (shape : VersionShape) → isHere id shape (getD (modelOf l .textures) i d) ≡ true
         → firstPage id shape 0 (modelOf l .textures) ≡ some (firstPageOf l i)
     found-at i h id shape here =
         let e = eqb-true (getD (modelOf l .textures) i d .id) id (and-both _ _ (and-both _ _ here .0) .0) in
@@ -109,7 +117,7 @@ module _ (l : Lent) where
         (λ j q. not-here id shape (getD (modelOf l .textures) j d) (λ f. let y : ⊥ = omega (arith, e, f, apart i j q h) in y)) here
         ∙ ap some (zero-add _ ∙ page-of i)
 
-    here-at : (i : ℕ) → hasHistory (stateOf l i .history) ≡ true → Here (stateOf l i .id) (stateOf l i .shape) (stateOf l i) ≡ true
+    here-at : (i : ℕ) → hasHistory (stateOf l i .history) ≡ true → isHere (stateOf l i .id) (stateOf l i .shape) (stateOf l i) ≡ true
     here-at i e = rw (eq-eqb (stateOf l i .id) (stateOf l i .id) refl, same-self (stateOf l i .shape), e)
 
     -- texture i keeps its run of pages
@@ -117,14 +125,16 @@ module _ (l : Lent) where
         → pagesAfter l (stateOf l i) ≡ take (1024 * pagesUsed (stateOf l i)) (drop (1024 * firstPageOf l i) (l .stamps))
     unfolding pagesAfter
     pages-kept i h = pages-of i (firstPage (stateOf l i .id) (stateOf l i .shape) 0 (modelOf l .textures))
-        (λ e. found-at i h (stateOf l i .id) (stateOf l i .shape) (ap (Here (stateOf l i .id) (stateOf l i .shape)) (model-at l i d h) ∙ here-at i e))
+        (λ e. found-at i h (stateOf l i .id) (stateOf l i .shape)
+        (ap (isHere (stateOf l i .id) (stateOf l i .shape)) (model-at l i d h) ∙ here-at i e))
 
     pub pages-stand : Stands (pagesAfter l) pagesUsed 1024 (l .stamps) d 0 (modelOf l .textures)
     pages-stand i h =
         let k : i < l .pool .tracked = omega (arith, tracked-model l) in
         ap (pagesAfter l) (model-at l i d k)
         ∙ pages-kept i k
-        ∙ ap₂ (λ (t : VersionState ℕ) (n : ℕ). take (1024 * pagesUsed t) (drop (1024 * n) (l .stamps))) (sym (model-at l i d k)) (sym (zero-add _ ∙ page-of i))
+        ∙ ap₂ (λ (t : VersionState ℕ) (n : ℕ). take (1024 * pagesUsed t) (drop (1024 * n) (l .stamps))) (sym (model-at l i d k))
+        (sym (zero-add _ ∙ page-of i))
 
     -- all the textures' pages, those before texture i and those from it on
     pub pages-all : flatMap (pagesAfter l) (modelOf l .textures) ≡ take (1024 * total pagesUsed (modelOf l .textures)) (l .stamps)
@@ -137,7 +147,8 @@ module _ (l : Lent) where
         ∙ ap (λ (n : ℕ). take (1024 * n) (l .stamps)) (page-of i)
 
     pub pages-from : (i : ℕ)
-        → flatMap (pagesAfter l) (drop i (modelOf l .textures)) ≡ take (1024 * total pagesUsed (drop i (modelOf l .textures))) (drop (1024 * firstPageOf l i) (l .stamps))
+        → flatMap (pagesAfter l) (drop i (modelOf l .textures))
+        ≡ take (1024 * total pagesUsed (drop i (modelOf l .textures))) (drop (1024 * firstPageOf l i) (l .stamps))
     pages-from i =
         stands-whole (pagesAfter l) pagesUsed 1024 (l .stamps) d (0 + total pagesUsed (take i (modelOf l .textures))) (drop i (modelOf l .textures))
         (stands-drop (pagesAfter l) pagesUsed 1024 (l .stamps) d 0 i (modelOf l .textures) pages-stand)
@@ -172,3 +183,8 @@ usedIn t = cond (hasHistory (t .history)) (pagesOf (t .shape)) 0
 
 pub used-paged : (ts us : List (VersionState ℕ)) → map pagedOf ts ≡ map pagedOf us → total pagesUsed ts ≡ total pagesUsed us
 used-paged ts us e = total-mapped pagedOf usedIn ts ∙ ap (total usedIn) e ∙ sym (total-mapped pagedOf usedIn us)
+
+-- a texture whose id, shape and history stay
+pub paged-set : (l : Lent) (i : ℕ) (t : VersionState ℕ) → i < l .pool .tracked → pagedOf t ≡ pagedOf (stateOf l i)
+    → map pagedOf (set (modelOf l .textures) i t) ≡ map pagedOf (modelOf l .textures)
+paged-set l i t h e = map-set-same pagedOf (modelOf l .textures) i t (stateOf l 0) (e ∙ sym (ap pagedOf (model-at l i (stateOf l 0) h)))

@@ -62,7 +62,8 @@ module _ (l : Lent) where
           ∙ newest-states l 0 0 (take i (trackedRecords l))
           ∙ listed-run 0 (l .newest) 0 (total recordPages (take i (trackedRecords l))) (omega (arith, page-bound i))
 
-      newest-from : (i : ℕ) → flatMap newestOf (drop i (modelOf l .textures)) ≡ take (l .pool .pages - firstPageOf l i) (drop (firstPageOf l i) (l .newest))
+      newest-from : (i : ℕ)
+          → flatMap newestOf (drop i (modelOf l .textures)) ≡ take (l .pool .pages - firstPageOf l i) (drop (firstPageOf l i) (l .newest))
       unfolding modelOf firstPageOf
       newest-from i =
           let at = total recordPages (take i (trackedRecords l)) in
@@ -84,7 +85,8 @@ no-stamps l t e =
     ap (λ (o : Option WriteHistory). pagesFrom (pageBefore l (firstPage (t .id) (t .shape) 0 (modelOf l .textures))) 0 (gridsOf o) ++ []) e
 
 module _ (l : Lent) (p : Pool ℕ) (i : ℕ) where
-  pub removed-parts : p .textures ≡ removed i 1 (modelOf l .textures) → p .textures ≡ take i (modelOf l .textures) ++ ([] ++ drop (suc i) (modelOf l .textures))
+  pub removed-parts : p .textures ≡ removed i 1 (modelOf l .textures)
+      → p .textures ≡ take i (modelOf l .textures) ++ ([] ++ drop (suc i) (modelOf l .textures))
   unfolding removed
   removed-parts e = e ∙ ap (λ (k : ℕ). take i (modelOf l .textures) ++ drop k (modelOf l .textures)) (add-one i)
 
@@ -95,18 +97,21 @@ module _ (l : Lent) (p : Pool ℕ) (i : ℕ) where
 -- ---- the textures from i up to j replaced by others
 
 module _ (l : Lent) (p : Pool ℕ) (pages : total recordPages (trackedRecords l) ≡ l .pool .pages) where
-  module _ (i j : ℕ) (between : List (VersionState ℕ)) (h : i ≤ j) (e : p .textures ≡ take i (modelOf l .textures) ++ (between ++ drop j (modelOf l .textures))) where
+  module _ (i j : ℕ) (between : List (VersionState ℕ)) (h : i ≤ j)
+      (e : p .textures ≡ take i (modelOf l .textures) ++ (between ++ drop j (modelOf l .textures))) where
     abbrev last : ℕ
     last = l .pool .pages - firstPageOf l j
 
     -- what they give, and the later pages behind it
-    parts : (f : VersionState ℕ → List ℕ) → flatMap f (p .textures) ≡ flatMap f (take i (modelOf l .textures)) ++ (flatMap f between ++ flatMap f (drop j (modelOf l .textures)))
+    parts : (f : VersionState ℕ → List ℕ)
+        → flatMap f (p .textures) ≡ flatMap f (take i (modelOf l .textures)) ++ (flatMap f between ++ flatMap f (drop j (modelOf l .textures)))
     parts f =
         ap (flatMap f) e
         ∙ flat-append f (take i (modelOf l .textures)) (between ++ drop j (modelOf l .textures))
         ∙ ap (λ (xs : List ℕ). flatMap f (take i (modelOf l .textures)) ++ xs) (flat-append f between (drop j (modelOf l .textures)))
 
-    pub newest-repacked : (xs : List ℕ) → flatMap newestOf between ≡ xs → l .pool .pages ≤ length (l .newest) → firstPageOf l i + length xs + last ≤ length (l .newest)
+    pub newest-repacked : (xs : List ℕ) → flatMap newestOf between ≡ xs → l .pool .pages ≤ length (l .newest)
+        → firstPageOf l i + length xs + last ≤ length (l .newest)
         → sets (moved (l .newest) (firstPageOf l i + length xs) (firstPageOf l j) last) (firstPageOf l i) xs ≡ newestAfter p l
     unfolding newestAfter
     newest-repacked xs new fits room =
@@ -116,17 +121,21 @@ module _ (l : Lent) (p : Pool ℕ) (pages : total recordPages (trackedRecords l)
         ∙ ap₂ (λ (a b : List ℕ). a ++ (flatMap newestOf between ++ b)) (newest-before l pages fits i) (newest-from l pages fits j)
         ∙ ap (λ (ys : List ℕ). take (firstPageOf l i) (l .newest) ++ (ys ++ take last (drop (firstPageOf l j) (l .newest)))) new))
 
-    pub stamps-repacked : ascending idOf (trackedRecords l) ≡ true → (xs : List ℕ) → flatMap (pagesAfter l) between ≡ xs → 1024 * l .pool .pages ≤ length (l .stamps)
+    pub stamps-repacked : ascending idOf (trackedRecords l) ≡ true → (xs : List ℕ) → flatMap (pagesAfter l) between ≡ xs
+        → 1024 * l .pool .pages ≤ length (l .stamps)
         → 1024 * firstPageOf l i + length xs + 1024 * last ≤ length (l .stamps)
-        → sets (moved (l .stamps) (1024 * firstPageOf l i + length xs) (1024 * firstPageOf l j) (1024 * last)) (1024 * firstPageOf l i) xs ≡ stampsAfter p l
+        → sets (moved (l .stamps) (1024 * firstPageOf l i + length xs) (1024 * firstPageOf l j) (1024 * last)) (1024 * firstPageOf l i) xs
+        ≡ stampsAfter p l
     unfolding stampsAfter
     stamps-repacked up xs new fits room =
-        repacked (l .stamps) xs (1024 * firstPageOf l i) (1024 * firstPageOf l j) (1024 * last) (omega (arith, page-order l pages i j h)) (omega (arith, page-bound l pages j)) room
+        repacked (l .stamps) xs (1024 * firstPageOf l i) (1024 * firstPageOf l j) (1024 * last) (omega (arith, page-order l pages i j h))
+        (omega (arith, page-bound l pages j)) room
         ∙ ap (λ (ys : List ℕ). over ys (l .stamps))
         (sym (parts (pagesAfter l)
         ∙ ap₂ (λ (a b : List ℕ). a ++ (flatMap (pagesAfter l) between ++ b)) (pages-before l up (stateOf l 0) i)
         (pages-from l up (stateOf l 0) j ∙ ap (λ (n : ℕ). take (1024 * n) (drop (1024 * firstPageOf l j) (l .stamps))) (later-states l pages j))
-        ∙ ap (λ (ys : List ℕ). take (1024 * firstPageOf l i) (l .stamps) ++ (ys ++ take (1024 * last) (drop (1024 * firstPageOf l j) (l .stamps)))) new))
+        ∙ ap (λ (ys : List ℕ). take (1024 * firstPageOf l i) (l .stamps) ++
+        (ys ++ take (1024 * last) (drop (1024 * firstPageOf l j) (l .stamps)))) new))
 
   -- ---- one texture out, or its history dropped
 
@@ -139,19 +148,27 @@ module _ (l : Lent) (p : Pool ℕ) (pages : total recordPages (trackedRecords l)
     abbrev pub OutStamps : Type 0
     OutStamps =
         ascending idOf (trackedRecords l) ≡ true → 1024 * l .pool .pages ≤ length (l .stamps)
-        → moved (l .stamps) (1024 * firstPageOf l i) (1024 * firstPageOf l i + 1024 * pagesAt l i) (1024 * (l .pool .pages - (firstPageOf l i + pagesAt l i))) ≡ stampsAfter p l
+        → moved (l .stamps) (1024 * firstPageOf l i) (1024 * firstPageOf l i + 1024 * pagesAt l i)
+        (1024 * (l .pool .pages - (firstPageOf l i + pagesAt l i)))
+        ≡ stampsAfter p l
 
-    out-newest : (between : List (VersionState ℕ)) → p .textures ≡ take i (modelOf l .textures) ++ (between ++ drop (suc i) (modelOf l .textures)) → flatMap newestOf between ≡ [] → OutNewest
+    out-newest : (between : List (VersionState ℕ)) → p .textures ≡ take i (modelOf l .textures) ++ (between ++ drop (suc i) (modelOf l .textures))
+        → flatMap newestOf between ≡ [] → OutNewest
     out-newest between e new fits =
         ap₂ (λ (a b : ℕ). moved (l .newest) a b (l .pool .pages - b)) (sym (add-zero (firstPageOf l i))) (sym (next-page l i h))
-        ∙ newest-repacked i (suc i) between (omega arith) e [] new fits (omega (arith, page-order l pages i (suc i) (omega arith), page-bound l pages (suc i)))
+        ∙ newest-repacked i (suc i) between (omega arith) e [] new fits
+        (omega (arith, page-order l pages i (suc i) (omega arith), page-bound l pages (suc i)))
 
-    out-stamps : (between : List (VersionState ℕ)) → p .textures ≡ take i (modelOf l .textures) ++ (between ++ drop (suc i) (modelOf l .textures)) → flatMap (pagesAfter l) between ≡ [] → OutStamps
+    out-stamps : (between : List (VersionState ℕ)) → p .textures ≡ take i (modelOf l .textures) ++ (between ++ drop (suc i) (modelOf l .textures))
+        → flatMap (pagesAfter l) between ≡ [] → OutStamps
     out-stamps between e new up fits =
         let next : 1024 * firstPageOf l i + 1024 * pagesAt l i ≡ 1024 * firstPageOf l (suc i) = omega (arith, next-page l i h) in
-        ap₂ (λ (a b : ℕ). moved (l .stamps) a b (1024 * (l .pool .pages - (firstPageOf l i + pagesAt l i)))) (sym (add-zero (1024 * firstPageOf l i))) next
-        ∙ ap (λ (b : ℕ). moved (l .stamps) (1024 * firstPageOf l i + 0) (1024 * firstPageOf l (suc i)) (1024 * (l .pool .pages - b))) (sym (next-page l i h))
-        ∙ stamps-repacked i (suc i) between (omega arith) e up [] new fits (omega (arith, page-order l pages i (suc i) (omega arith), page-bound l pages (suc i)))
+        ap₂ (λ (a b : ℕ). moved (l .stamps) a b (1024 * (l .pool .pages - (firstPageOf l i + pagesAt l i))))
+        (sym (add-zero (1024 * firstPageOf l i))) next
+        ∙ ap (λ (b : ℕ). moved (l .stamps) (1024 * firstPageOf l i + 0) (1024 * firstPageOf l (suc i)) (1024 * (l .pool .pages - b)))
+        (sym (next-page l i h))
+        ∙ stamps-repacked i (suc i) between (omega arith) e up [] new fits
+        (omega (arith, page-order l pages i (suc i) (omega arith), page-bound l pages (suc i)))
 
     none-left : flatMap newestOf [] ≡ []
     unfolding flatMap

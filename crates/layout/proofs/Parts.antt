@@ -1,13 +1,14 @@
 -- Lists cut and joined again, under a map and packed in one list of numbers. Assumes nothing.
 use mathlib.Core.Path.{_≡_, refl, sym, ap, ap₂, _∙_}
-use mathlib.Core.List.{List, [], _∷_, _++_, map, flatMap, map-append, append-assoc}
+use mathlib.Core.Bool.{Bool, true, false, cond}
+use mathlib.Core.List.{List, [], _∷_, _++_, map, flatMap, map-append, append-assoc, append-nil}
 use Prim.Native.Nat.{ℕ, zero, suc, _+_, _*_, _-_, _≤_, _<_}
 use native.Mathlib.Numerals.{add-one}
 use native.Mathlib.Nat.{add-zero, zero-add, suc-add, add-assoc, mul-add, mul-zero}
 use native.Mathlib.Omega.{arith}
 use lib.ListN.{length, take, drop, getD, set, replicate, length-replicate, length-append, length-drop, length-set, take-append-drop}
-use lib.Seq.{sets, sets-eq, set-split, take-add, take-take, take-append-le, take-append-add, take-at, take-all, drop-at, drop-drop, drop-append-le, drop-append-add, getD-take, getD-drop, length-take-le, set-append-left}
-use Rattle.blocks.specs.Lists.{over, total, removed, inserted}
+use lib.Seq.{sets, sets-eq, set-split, take-add, take-take, take-append-le, take-append-add, take-at, take-all, drop-at, drop-drop, drop-append-le, drop-append-add, getD-take, getD-drop, length-take-le, set-append-left, take-suc, drop-cons, drop-nil, getD-at, set-at, set-getD, append-snoc}
+use Rattle.blocks.specs.Lists.{over, total, keep, removed, inserted}
 use Rattle.blocks.specs.Blocks.{moved}
 use Rattle.blocks.proofs.Lists.{over-self, over-over, length-over, take-over, total-append}
 
@@ -95,14 +96,17 @@ module _ {A B : Type 0} (f : A → List B) where
   flat-set i xs a d h =
       ap (flatMap f) (set-split xs i a h)
       ∙ flat-append (take i xs) (a ∷ drop (suc i) xs)
-      ∙ ap₂ (λ (l r : List B). l ++ (f a ++ r)) (flat-take i xs) (flat-drop (suc i) xs ∙ ap (λ (n : ℕ). drop n (flatMap f xs)) (total-next (λ (x : A). length (f x)) xs i d h))
+      ∙ ap₂ (λ (l r : List B). l ++ (f a ++ r)) (flat-take i xs)
+      (flat-drop (suc i) xs ∙ ap (λ (n : ℕ). drop n (flatMap f xs)) (total-next (λ (x : A). length (f x)) xs i d h))
 
-  pub flat-removed : (i : ℕ) (xs : List A) (d : A) → i < length xs → flatMap f (removed i 1 xs) ≡ removed (upTo i xs) (length (f (getD xs i d))) (flatMap f xs)
+  pub flat-removed : (i : ℕ) (xs : List A) (d : A) → i < length xs
+      → flatMap f (removed i 1 xs) ≡ removed (upTo i xs) (length (f (getD xs i d))) (flatMap f xs)
   unfolding removed
   flat-removed i xs d h =
       flat-append (take i xs) (drop (i + 1) xs)
       ∙ ap₂ (λ (l r : List B). l ++ r) (flat-take i xs)
-      (ap (λ (n : ℕ). flatMap f (drop n xs)) (add-one i) ∙ flat-drop (suc i) xs ∙ ap (λ (n : ℕ). drop n (flatMap f xs)) (total-next (λ (x : A). length (f x)) xs i d h))
+      (ap (λ (n : ℕ). flatMap f (drop n xs)) (add-one i) ∙ flat-drop (suc i) xs
+      ∙ ap (λ (n : ℕ). drop n (flatMap f xs)) (total-next (λ (x : A). length (f x)) xs i d h))
 
   pub flat-inserted : (i : ℕ) (ys xs : List A) → flatMap f (inserted i ys xs) ≡ inserted (upTo i xs) (flatMap f ys) (flatMap f xs)
   unfolding inserted
@@ -172,7 +176,8 @@ module _ {A : Type 0} (f : A → List ℕ) (w : A → ℕ) (c : ℕ) (s : List �
       let k = length-take-some i xs j q in
       ap f (getD-take i xs j d (k .0))
       ∙ h j (k .1)
-      ∙ ap₂ (λ (x : A) (ys : List A). take (c * w x) (drop (c * (at + total w ys)) s)) (sym (getD-take i xs j d (k .0))) (sym (take-take j i xs (omega (arith, k .0))))
+      ∙ ap₂ (λ (x : A) (ys : List A). take (c * w x) (drop (c * (at + total w ys)) s)) (sym (getD-take i xs j d (k .0)))
+      (sym (take-take j i xs (omega (arith, k .0))))
 
   pub stands-drop : (at i : ℕ) (xs : List A) → Stands at xs → Stands (at + total w (take i xs)) (drop i xs)
   stands-drop at i xs h j q =
@@ -270,7 +275,8 @@ over-replicate n m x h =
 
 pub set-append-add {ℓ} : {A : Type ℓ} (xs ys : List A) (k : ℕ) (a : A) → set (xs ++ ys) (length xs + k) a ≡ xs ++ set ys k a
 set-append-add [] ys k a = ap (λ (n : ℕ). set ys n a) (zero-add k)
-set-append-add {A = A} (x ∷ xs) ys k a = ap (λ (n : ℕ). set (x ∷ (xs ++ ys)) n a) (suc-add (length xs) k) ∙ ap (λ (l : List A). x ∷ l) (set-append-add xs ys k a)
+set-append-add {A = A} (x ∷ xs) ys k a =
+    ap (λ (n : ℕ). set (x ∷ (xs ++ ys)) n a) (suc-add (length xs) k) ∙ ap (λ (l : List A). x ∷ l) (set-append-add xs ys k a)
 
 module _ {A : Type 0} (s : List A) (at : ℕ) where
   -- what stands there
@@ -331,3 +337,65 @@ module _ {A : Type 0} (s : List A) (at : ℕ) where
         ∙ (let e : (take at s ++ take m ys) ++ (x ++ (drop (m + w) ys ++ rest)) ≡ take at s ++ new ++ rest = simp append-assoc in e)
         ∙ ap (λ (n : ℕ). take at s ++ new ++ drop (at + n) s) (sym long)
         ∙ sym (sets-eq new s at (omega arith))
+
+-- ---- a list made anew element by element: the first k are new
+
+abbrev pub mixed {ℓ} : {A : Type ℓ} → ℕ → List A → List A → List A
+mixed k new old = take k new ++ drop k old
+
+module _ {A : Type 0} (new old : List A) (long : length new ≡ length old) where
+  pub mixed-start : mixed 0 new old ≡ old
+  mixed-start = refl
+
+  pub mixed-end : (k : ℕ) → length old ≤ k → mixed k new old ≡ new
+  mixed-end k h = ap₂ (λ (a b : List A). a ++ b) (take-all k new (omega arith)) (drop-all k old h) ∙ append-nil new
+    where
+      drop-all : (k : ℕ) (xs : List A) → length xs ≤ k → drop k xs ≡ []
+      drop-all k [] q = drop-nil k
+      drop-all zero (x ∷ xs) q = absurd (let y : ⊥ = omega arith in y)
+      drop-all (suc k) (x ∷ xs) q = drop-all k xs (omega arith)
+
+  module _ (k : ℕ) (d : A) (h : k < length old) where
+    front : length (take k new) ≡ k
+    front = length-take-le k new (omega arith)
+
+    -- the next is still the old one
+    pub mixed-at : getD (mixed k new old) k d ≡ getD old k d
+    mixed-at =
+        ap (λ (l : List A). getD (take k new ++ l) k d) (drop-cons old k d h) ∙ getD-at (take k new) (getD old k d) (drop (suc k) old) d k front
+
+    pub mixed-next : mixed (suc k) new old ≡ set (mixed k new old) k (getD new k d)
+    mixed-next =
+        ap (λ (l : List A). l ++ drop (suc k) old) (take-suc new k d (omega arith))
+        ∙ append-snoc (take k new) (getD new k d) (drop (suc k) old)
+        ∙ sym (ap (λ (l : List A). set (take k new ++ l) k (getD new k d)) (drop-cons old k d h)
+        ∙ set-at (take k new) (getD old k d) (drop (suc k) old) (getD new k d) k front)
+
+    -- one that does not change
+    pub mixed-same : getD new k d ≡ getD old k d → mixed (suc k) new old ≡ mixed k new old
+    mixed-same e = mixed-next ∙ ap (set (mixed k new old) k) (e ∙ sym mixed-at) ∙ set-getD (mixed k new old) k d
+
+  pub length-mixed : (k : ℕ) → k ≤ length old → length (mixed k new old) ≡ length old
+  length-mixed k h =
+      length-append (take k new) (drop k old)
+      ∙ (let e : length (take k new) + length (drop k old) ≡ length old = omega (arith, length-take-le k new (omega arith), length-drop k old) in e)
+
+-- ---- a pass over a list, as what each gives
+
+module _ {A : Type 0} where
+  pub map-each : {B : Type 0} (f : A → B) (xs : List A) → map f xs ≡ flatMap (λ (x : A). f x ∷ []) xs
+  unfolding flatMap
+  map-each f [] = refl
+  map-each {B = B} f (x ∷ xs) = ap (λ (l : List B). f x ∷ l) (map-each f xs)
+
+  -- changed by f, those of which p holds kept, and changed by g
+  pub keep-each : (f g : A → A) (p : A → Bool) (xs : List A) → map g (keep p (map f xs)) ≡ flatMap (λ (x : A). cond (p (f x)) (g (f x) ∷ []) []) xs
+  unfolding flatMap keep
+  keep-each f g p [] = refl
+  keep-each f g p (x ∷ xs) = go (p (f x)) (keep-each f g p xs)
+    where
+      go : (b : Bool) → map g (keep p (map f xs)) ≡ flatMap (λ (x : A). cond (p (f x)) (g (f x) ∷ []) []) xs
+          → map g (cond b (f x ∷ keep p (map f xs)) (keep p (map f xs)))
+          ≡ cond b (g (f x) ∷ []) [] ++ flatMap (λ (x : A). cond (p (f x)) (g (f x) ∷ []) []) xs
+      go true e = ap (λ (l : List A). g (f x) ∷ l) e
+      go false e = e

@@ -146,7 +146,8 @@ module _ (l : Lent) (id : ℕ) (up : ascending idOf (trackedRecords l) ≡ true)
   not-tracked ne (h, e) = ne h (sym (id-at (l .pool .tracked) place (l .textures) h) ∙ e)
 
   -- no other place has the id
-  elsewhere : (j : ℕ) → j < length (modelOf l .textures) → getD (modelOf l .textures) j (stateOf l 0) .id ≡ id → (place ≡ j) × ((j < l .pool .tracked) × (idAt j ≡ id))
+  elsewhere : (j : ℕ) → j < length (modelOf l .textures) → getD (modelOf l .textures) j (stateOf l 0) .id ≡ id
+      → (place ≡ j) × ((j < l .pool .tracked) × (idAt j ≡ id))
   elsewhere j q f =
       let k : j < l .pool .tracked = omega (arith, tracked-model l) in
       let e : idAt j ≡ id = sym (id-model l j (stateOf l 0) k) ∙ f in
@@ -188,7 +189,13 @@ module _ (l : Lent) (id : ℕ) (up : ascending idOf (trackedRecords l) ≡ true)
     put-in t e =
         insert-at t (stateOf l 0) (modelOf l .textures) place (omega (arith, tracked-model l, tracked-records l, below-length id (trackedRecords l)))
         (λ j q.
-        omega (arith, e, id-model l j (stateOf l 0) (omega (arith, tracked-records l, below-length id (trackedRecords l))), below-before id (trackedRecords l) j (readTexture []) q))
+        omega (
+          arith,
+          e,
+          id-model l j (stateOf l 0) (omega (arith, tracked-records l, below-length id (trackedRecords l))),
+          below-before id
+              (trackedRecords l) j (readTexture []) q,
+        ))
         (λ q. higher (omega (arith, tracked-model l)))
       where
         higher : place < l .pool .tracked → t .id < getD (modelOf l .textures) place (stateOf l 0) .id

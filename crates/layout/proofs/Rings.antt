@@ -37,7 +37,8 @@ module _ {ℓ} {A : Type ℓ} (w : ℕ) (wr : A → List ℕ) (cap head : ℕ) w
       laid-append xs ys (suc i) t
       ∙ ap (λ (k : ℕ). laid w wr cap head k ys (laid w wr cap head (suc i) xs t)) (let e : suc i + length xs ≡ i + suc (length xs) = omega arith in e)
 
-module _ {ℓ} {A : Type ℓ} {w : ℕ} {rd : List ℕ → A} {wr : A → List ℕ} (C : Codec w rd wr) (cap head : ℕ) (h : head < cap) (s : List ℕ) (fits : w * cap ≤ length s) where
+module _ {ℓ} {A : Type ℓ} {w : ℕ} {rd : List ℕ → A} {wr : A → List ℕ} (C : Codec w rd wr) (cap head : ℕ) (h : head < cap) (s : List ℕ)
+    (fits : w * cap ≤ length s) where
   -- the n records from the k-th on, written where they stand
   pub laid-standing : (k n : ℕ) → k + n ≤ cap → laid w wr cap (placeOf cap head k) 0 (listed (along w rd cap head s) k n) s ≡ s
   unfolding ring along
@@ -64,7 +65,9 @@ module _ (l : Lent) where
   unfolding modelOf listed
   ring-model = go (l .pool .popped)
     where
-      go : (b : Bool) → handList (handRead l b) ++ listed (retiringRead l) (handPlaces b) (l .pool .queued) ≡ listed (retiringRead l) 0 (handPlaces b + l .pool .queued)
+      go : (b : Bool)
+          → handList (handRead l b) ++ listed (retiringRead l) (handPlaces b) (l .pool .queued)
+          ≡ listed (retiringRead l) 0 (handPlaces b + l .pool .queued)
       go false = ap (listed (retiringRead l) 0) (sym (zero-add (l .pool .queued)))
       go true = sym (listed-split (retiringRead l) 0 1 (l .pool .queued))
 
@@ -105,7 +108,9 @@ module _ (l : Lent) where
       -- a hand that is full as it was leaves the head where it is, and one that is filled too
       pub head-stays : popped ≤ handCount (p .hand) → headAfter p l ≡ l .pool .head
       unfolding headAfter
-      head-stays h = ap (placeOf (versionPlaces l) (l .pool .head)) (let e : popped - handCount (p .hand) ≡ 0 = omega arith in e) ∙ place-head (versionPlaces l) (l .pool .head) inside
+      head-stays h =
+          ap (placeOf (versionPlaces l) (l .pool .head)) (let e : popped - handCount (p .hand) ≡ 0 = omega arith in e)
+          ∙ place-head (versionPlaces l) (l .pool .head) inside
 
       -- parked: the head moves on by one
       pub head-parked : l .pool .popped ≡ true → p .hand ≡ none → headAfter p l ≡ placeOf (versionPlaces l) (l .pool .head) 1
@@ -119,7 +124,8 @@ module _ (l : Lent) where
         unfolding retiringAfter
         retiring-stays k n e f b =
             ap₂ (λ (m : ℕ) (vs : List (Retiring ℕ)). laid 7 writeRetiring (versionPlaces l) m 0 (map retiringRecord vs) (l .retiring)) e f
-            ∙ ap (λ (xs : List RetiringRecord). laid 7 writeRetiring (versionPlaces l) (placeOf (versionPlaces l) (l .pool .head) k) 0 xs (l .retiring)) (retiring-records k n)
+            ∙ ap (λ (xs : List RetiringRecord). laid 7 writeRetiring (versionPlaces l) (placeOf (versionPlaces l) (l .pool .head) k) 0 xs
+            (l .retiring)) (retiring-records k n)
             ∙ laid-standing retiring-codec (versionPlaces l) (l .pool .head) inside (l .retiring) fits k n b
 
         module _ (room : popped + l .pool .queued ≤ versionPlaces l) where
@@ -135,7 +141,8 @@ module _ (l : Lent) where
           retiring-popped v e f g =
               retiring-stays 0 (popped + l .pool .queued)
               (head-stays (omega (arith, ap handPlaces e)) ∙ sym (place-head (versionPlaces l) (l .pool .head) inside))
-              (ap (λ (o : Option (Retiring ℕ)). handList o ++ p .retiring) g ∙ sym f ∙ sym (ap (λ (o : Option (Retiring ℕ)). handList o ++ modelOf l .retiring) (hand-empty e)) ∙ ring-model)
+              (ap (λ (o : Option (Retiring ℕ)). handList o ++ p .retiring) g ∙ sym f
+              ∙ sym (ap (λ (o : Option (Retiring ℕ)). handList o ++ modelOf l .retiring) (hand-empty e)) ∙ ring-model)
               (omega arith)
 
           -- the hand is parked or given up
@@ -152,8 +159,10 @@ module _ (l : Lent) where
               (ap₂ (λ (o : Option (Retiring ℕ)) (vs : List (Retiring ℕ)). handList o ++ vs) e f ∙ hand-alone) (omega arith)
 
         -- one more is queued
-        pub retiring-pushed : (v : Retiring ℕ) → popped + l .pool .queued < versionPlaces l → p .hand ≡ modelOf l .hand → p .retiring ≡ modelOf l .retiring ++ (v ∷ [])
-            → sets (l .retiring) (7 * placeOf (versionPlaces l) (l .pool .head) (popped + l .pool .queued)) (writeRetiring (retiringRecord v)) ≡ retiringAfter p l
+        pub retiring-pushed : (v : Retiring ℕ) → popped + l .pool .queued < versionPlaces l → p .hand ≡ modelOf l .hand
+            → p .retiring ≡ modelOf l .retiring ++ (v ∷ [])
+            → sets (l .retiring) (7 * placeOf (versionPlaces l) (l .pool .head) (popped + l .pool .queued)) (writeRetiring (retiringRecord v))
+            ≡ retiringAfter p l
         unfolding retiringAfter laid
         retiring-pushed v room e f =
             let n = popped + l .pool .queued in
@@ -161,24 +170,30 @@ module _ (l : Lent) where
             ≡ listed (along 7 readRetiring (versionPlaces l) (l .pool .head) (l .retiring)) 0 n ++ (retiringRecord v ∷ []) =
             ap (map retiringRecord)
             (ap₂ (λ (o : Option (Retiring ℕ)) (vs : List (Retiring ℕ)). handList o ++ vs) e f
-            ∙ sym (append-assoc (handList (modelOf l .hand)) (modelOf l .retiring) (v ∷ [])) ∙ ap (λ (vs : List (Retiring ℕ)). vs ++ (v ∷ [])) ring-model)
+            ∙ sym (append-assoc (handList (modelOf l .hand)) (modelOf l .retiring) (v ∷ []))
+            ∙ ap (λ (vs : List (Retiring ℕ)). vs ++ (v ∷ [])) ring-model)
             ∙ map-append retiringRecord (listed (retiringRead l) 0 n) (v ∷ [])
             ∙ ap (λ (xs : List RetiringRecord). xs ++ (retiringRecord v ∷ [])) (retiring-records 0 n) in
-            sym (ap₂ (λ (m : ℕ) (xs : List RetiringRecord). laid 7 writeRetiring (versionPlaces l) m 0 xs (l .retiring)) (head-stays (omega (arith, hand-model, ap handCount e))) whole
+            sym (ap₂ (λ (m : ℕ) (xs : List RetiringRecord). laid 7 writeRetiring (versionPlaces l) m 0 xs (l .retiring))
+            (head-stays (omega (arith, hand-model, ap handCount e))) whole
             ∙ laid-behind retiring-codec (versionPlaces l) (l .pool .head) inside (l .retiring) fits n (retiringRecord v ∷ []) (omega arith))
 
 -- ---- the destroy ring
 
 module _ (l : Lent) (p : Pool ℕ) where
-  doomed-records : (k n : ℕ) → map doomedRecord (listed (doomedRead l) k n) ≡ listed (along 2 readDoomed (versionPlaces l) (l .pool .first) (l .doomed)) k n
+  doomed-records : (k n : ℕ)
+      → map doomedRecord (listed (doomedRead l) k n) ≡ listed (along 2 readDoomed (versionPlaces l) (l .pool .first) (l .doomed)) k n
   unfolding doomedRead
   doomed-records k n = map-listed doomedRecord (doomedRead l) k n
 
   -- the first k are handed out
-  pub first-taken : (k : ℕ) → k ≤ l .pool .doomed → p .doomed ≡ drop k (modelOf l .doomed) → firstAfter p l ≡ placeOf (versionPlaces l) (l .pool .first) k
+  pub first-taken : (k : ℕ) → k ≤ l .pool .doomed → p .doomed ≡ drop k (modelOf l .doomed)
+      → firstAfter p l ≡ placeOf (versionPlaces l) (l .pool .first) k
   unfolding firstAfter modelOf
   first-taken k h e =
-      let n : length (p .doomed) ≡ l .pool .doomed - k = ap length e ∙ length-drop k (listed (doomedRead l) 0 (l .pool .doomed)) ∙ ap (λ (m : ℕ). m - k) (length-listed (doomedRead l) 0 (l .pool .doomed)) in
+      let n : length (p .doomed) ≡ l .pool .doomed - k =
+      ap length e ∙ length-drop k (listed (doomedRead l) 0 (l .pool .doomed))
+      ∙ ap (λ (m : ℕ). m - k) (length-listed (doomedRead l) 0 (l .pool .doomed)) in
       ap (placeOf (versionPlaces l) (l .pool .first)) (let q : l .pool .doomed - length (p .doomed) ≡ k = omega arith in q)
 
   module _ (inside : l .pool .first < versionPlaces l) where
@@ -186,14 +201,17 @@ module _ (l : Lent) (p : Pool ℕ) where
     pub first-stays : l .pool .doomed ≤ length (p .doomed) → firstAfter p l ≡ l .pool .first
     unfolding firstAfter
     first-stays h =
-        ap (placeOf (versionPlaces l) (l .pool .first)) (let e : l .pool .doomed - length (p .doomed) ≡ 0 = omega arith in e) ∙ place-head (versionPlaces l) (l .pool .first) inside
+        ap (placeOf (versionPlaces l) (l .pool .first)) (let e : l .pool .doomed - length (p .doomed) ≡ 0 = omega arith in e)
+        ∙ place-head (versionPlaces l) (l .pool .first) inside
 
     module _ (fits : 2 * versionPlaces l ≤ length (l .doomed)) (room : l .pool .doomed ≤ versionPlaces l) where
       pub doomed-taken : (k : ℕ) → k ≤ l .pool .doomed → p .doomed ≡ drop k (modelOf l .doomed) → doomedAfter p l ≡ l .doomed
       unfolding doomedAfter modelOf
       doomed-taken k h e =
           ap₂ (λ (m : ℕ) (xs : List DoomedRecord). laid 2 writeDoomed (versionPlaces l) m 0 xs (l .doomed)) (first-taken k h e)
-          (ap (map doomedRecord) (e ∙ drop-listed (doomedRead l) k 0 (l .pool .doomed) h ∙ ap (λ (m : ℕ). listed (doomedRead l) m (l .pool .doomed - k)) (zero-add k)) ∙ doomed-records k (l .pool .doomed - k))
+          (ap (map doomedRecord)
+          (e ∙ drop-listed (doomedRead l) k 0 (l .pool .doomed) h ∙ ap (λ (m : ℕ). listed (doomedRead l) m (l .pool .doomed - k)) (zero-add k))
+          ∙ doomed-records k (l .pool .doomed - k))
           ∙ laid-standing doomed-codec (versionPlaces l) (l .pool .first) inside (l .doomed) fits k (l .pool .doomed - k) (omega arith)
 
       pub doomed-same : p .doomed ≡ modelOf l .doomed → doomedAfter p l ≡ l .doomed
@@ -205,8 +223,10 @@ module _ (l : Lent) (p : Pool ℕ) where
       unfolding doomedAfter modelOf
       doomed-pushed ds e =
           let n = l .pool .doomed in
-          let more : n ≤ length (p .doomed) = omega (arith, ap length e, length-append (listed (doomedRead l) 0 n) ds, length-listed (doomedRead l) 0 n) in
-          let whole : map doomedRecord (p .doomed) ≡ listed (along 2 readDoomed (versionPlaces l) (l .pool .first) (l .doomed)) 0 n ++ map doomedRecord ds =
+          let more : n ≤ length (p .doomed) =
+          omega (arith, ap length e, length-append (listed (doomedRead l) 0 n) ds, length-listed (doomedRead l) 0 n) in
+          let whole : map doomedRecord (p .doomed) ≡ listed
+          (along 2 readDoomed (versionPlaces l) (l .pool .first) (l .doomed)) 0 n ++ map doomedRecord ds =
           ap (map doomedRecord) e
           ∙ map-append doomedRecord (listed (doomedRead l) 0 n) ds
           ∙ ap (λ (xs : List DoomedRecord). xs ++ map doomedRecord ds) (doomed-records 0 n) in

@@ -66,7 +66,8 @@ module _ (l : Lent) where
   newest-read s page NoHistory = refl
   newest-read s page (Writes n) =
       map-listed (λ (g : StampGrid). g .newest) (gridRead l s page) 0 (pagesOf s)
-      ∙ listed-same (λ k. getD (l .newest) (page + k) 0) (newestAt l) (pagesOf s) 0 page (λ j q. ap (λ (k : ℕ). getD (l .newest) (page + k) 0) (zero-add j))
+      ∙ listed-same (λ k. getD (l .newest) (page + k) 0) (newestAt l) (pagesOf s) 0 page
+      (λ j q. ap (λ (k : ℕ). getD (l .newest) (page + k) 0) (zero-add j))
 
   pub newest-state : (first page : ℕ) (t : TextureRecord) → newestOf (stateRead l first page t) ≡ listed (newestAt l) page (recordPages t)
   unfolding stateRead
@@ -84,10 +85,12 @@ module _ (l : Lent) where
   unfolding statesRead
   records-states first page [] = refl
   records-states first page (t ∷ ts) =
-      ap₂ (λ (x : TextureRecord) (xs : List TextureRecord). x ∷ xs) (record-state first page t) (records-states (first + t .spares) (page + recordPages t) ts)
+      ap₂ (λ (x : TextureRecord) (xs : List TextureRecord). x ∷ xs) (record-state first page t)
+      (records-states (first + t .spares) (page + recordPages t) ts)
 
   -- their spares
-  pub spares-states : (first page : ℕ) (ts : List TextureRecord) → everySpare (statesRead l first page ts) ≡ listed (spareRead l) first (total sparesOf ts)
+  pub spares-states : (first page : ℕ) (ts : List TextureRecord)
+      → everySpare (statesRead l first page ts) ≡ listed (spareRead l) first (total sparesOf ts)
   unfolding statesRead stateRead flatMap total listed
   spares-states first page [] = refl
   spares-states first page (t ∷ ts) =
@@ -201,6 +204,7 @@ module _ (l : Lent) where
       ∙ ap₂ (λ (a b : ℕ). stateRead l a b (getD (trackedRecords l) i (readTexture [])))
       (zero-add (total sparesOf (take i (trackedRecords l)))) (zero-add (total recordPages (take i (trackedRecords l))))
 
-  pub id-model : (i : ℕ) (d : VersionState ℕ) → i < l .pool .tracked → getD (modelOf l .textures) i d .id ≡ getD (trackedRecords l) i (readTexture []) .id
+  pub id-model : (i : ℕ) (d : VersionState ℕ) → i < l .pool .tracked
+      → getD (modelOf l .textures) i d .id ≡ getD (trackedRecords l) i (readTexture []) .id
   unfolding stateOf stateRead
   id-model i d h = ap stateId (model-at i d h)

@@ -43,7 +43,8 @@ unfolding spareRead table
 spare-records l n = map-listed spareRecord (spareRead l) 0 n
 
 module _ (l : Lent) (p : Pool ℕ) where
-  pub textures-same : 19 * l .pool .tracked ≤ length (l .textures) → map textureRecord (p .textures) ≡ trackedRecords l → texturesAfter p l ≡ l .textures
+  pub textures-same : 19 * l .pool .tracked ≤ length (l .textures) → map textureRecord (p .textures) ≡ trackedRecords l
+      → texturesAfter p l ≡ l .textures
   unfolding texturesAfter
   textures-same fits e =
       ap (λ (xs : List TextureRecord). over (flat writeTexture xs) (l .textures)) e ∙ over-table texture-codec (l .pool .tracked) (l .textures) fits
@@ -52,7 +53,8 @@ module _ (l : Lent) (p : Pool ℕ) where
       → sparesAfter p l ≡ l .spares
   unfolding sparesAfter
   spares-same fits e =
-      ap (λ (xs : List SpareRecord). over (flat writeSpare xs) (l .spares)) (ap (map spareRecord) (e ∙ spares-model l) ∙ spare-records l (total sparesOf (trackedRecords l)))
+      ap (λ (xs : List SpareRecord). over (flat writeSpare xs) (l .spares))
+      (ap (map spareRecord) (e ∙ spares-model l) ∙ spare-records l (total sparesOf (trackedRecords l)))
       ∙ over-table spare-codec (total sparesOf (trackedRecords l)) (l .spares) fits
 
   -- textures that keep their ids, shapes and histories keep their pages
@@ -61,10 +63,12 @@ module _ (l : Lent) (p : Pool ℕ) where
   unfolding newestAfter
   newest-same fits e =
       ap (λ (xs : List ℕ). over xs (l .newest))
-      (newest-paged (p .textures) (modelOf l .textures) e ∙ newest-model l ∙ listed-run 0 (l .newest) 0 (total recordPages (trackedRecords l)) (omega arith))
+      (newest-paged (p .textures) (modelOf l .textures) e ∙ newest-model l
+      ∙ listed-run 0 (l .newest) 0 (total recordPages (trackedRecords l)) (omega arith))
       ∙ over-front (total recordPages (trackedRecords l)) (l .newest)
 
-  pub stamps-same : ascending idOf (trackedRecords l) ≡ true → map pagedOf (p .textures) ≡ map pagedOf (modelOf l .textures) → stampsAfter p l ≡ l .stamps
+  pub stamps-same : ascending idOf (trackedRecords l) ≡ true → map pagedOf (p .textures) ≡ map pagedOf (modelOf l .textures)
+      → stampsAfter p l ≡ l .stamps
   unfolding stampsAfter
   stamps-same up e =
       ap (λ (xs : List ℕ). over xs (l .stamps)) (pages-paged l (p .textures) (modelOf l .textures) e ∙ pages-all l up (stateOf l 0))
@@ -117,7 +121,8 @@ module _ (l : Lent) where
 
     -- the lent memory as it stood
     module _ (textures : 19 * l .pool .tracked ≤ length (l .textures)) (retiring : 7 * versionPlaces l ≤ length (l .retiring))
-        (doomed : 2 * versionPlaces l ≤ length (l .doomed)) (spares : 3 * l .pool .kept ≤ length (l .spares)) (newest : l .pool .pages ≤ length (l .newest))
+        (doomed : 2 * versionPlaces l ≤ length (l .doomed)) (spares : 3 * l .pool .kept ≤ length (l .spares))
+        (newest : l .pool .pages ≤ length (l .newest))
         (queue : handPlaces (l .pool .popped) + l .pool .queued ≤ versionPlaces l) (queued : l .pool .doomed ≤ versionPlaces l)
         (up : ascending idOf (trackedRecords l) ≡ true) where
       pub after-same : after (modelOf l) l ≡ l

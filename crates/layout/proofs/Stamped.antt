@@ -54,7 +54,8 @@ module _ (before : ℕ → List ℕ) (d : StampGrid) where
   unfolding pagesFrom
   page-of-grid k [] m w h = absurd (let y : ⊥ = omega arith in y)
   page-of-grid k (g ∷ gs) zero w h =
-      take-at (over (g .stamps) (before k)) (pagesFrom before (suc k) gs) 1024 (whole-head k g gs w) ∙ ap (λ (j : ℕ). over (g .stamps) (before j)) (sym (add-zero k))
+      take-at (over (g .stamps) (before k)) (pagesFrom before (suc k) gs) 1024 (whole-head k g gs w)
+      ∙ ap (λ (j : ℕ). over (g .stamps) (before j)) (sym (add-zero k))
   page-of-grid k (g ∷ gs) (suc m) w h =
       let one = over (g .stamps) (before k) in
       let rest = pagesFrom before (suc k) gs in
@@ -88,7 +89,8 @@ module _ (before : ℕ → List ℕ) (d : StampGrid) where
 
 -- ---- a slice of pages with some of them written
 
-module _ (s : List ℕ) (at : ℕ) (before : ℕ → List ℕ) (d : StampGrid) (gs : List StampGrid) (w : Whole before d 0 gs) (fits : at + 1024 * length gs ≤ length s)
+module _ (s : List ℕ) (at : ℕ) (before : ℕ → List ℕ) (d : StampGrid) (gs : List StampGrid) (w : Whole before d 0 gs)
+    (fits : at + 1024 * length gs ≤ length s)
     (k : ℕ) (h : k < length gs) where
   -- page k as it stands
   pub page-now : take 1024 (drop (at + 1024 * k) (sets s at (pagesFrom before 0 gs))) ≡ over (getD gs k d .stamps) (before k)
@@ -100,14 +102,16 @@ module _ (s : List ℕ) (at : ℕ) (before : ℕ → List ℕ) (d : StampGrid) (
 
   -- and after a stamp on it
   pub page-stamped : (g : StampGrid) → length (over (g .stamps) (before k)) ≡ 1024
-      → take (at + 1024 * k) (sets s at (pagesFrom before 0 gs)) ++ (over (g .stamps) (before k) ++ drop (at + 1024 * k + 1024) (sets s at (pagesFrom before 0 gs)))
+      → take (at + 1024 * k) (sets s at (pagesFrom before 0 gs))
+      ++ (over (g .stamps) (before k) ++ drop (at + 1024 * k + 1024) (sets s at (pagesFrom before 0 gs)))
       ≡ sets s at (pagesFrom before 0 (set gs k g))
   page-stamped g q =
       let n = length-pages before d 0 gs w in
       sets-part s at (pagesFrom before 0 gs) (omega arith) (over (g .stamps) (before k)) (1024 * k) 1024 q (omega arith)
       ∙ ap (sets s at)
       (sym (pages-set before d 0 gs k g w h
-      ∙ ap (λ (j : ℕ). take (1024 * k) (pagesFrom before 0 gs) ++ (over (g .stamps) (before j) ++ drop (1024 * k + 1024) (pagesFrom before 0 gs))) (zero-add k)))
+      ∙ ap (λ (j : ℕ). take (1024 * k) (pagesFrom before 0 gs) ++ (over (g .stamps) (before j) ++ drop (1024 * k + 1024) (pagesFrom before 0 gs)))
+      (zero-add k)))
 
 -- ---- texture i
 
@@ -133,7 +137,8 @@ module _ (l : Lent) (i : ℕ) where
       let t = getD (trackedRecords l) i (readTexture []) in
       length-read (t .shape) (firstPageOf l i) (t .history)
 
-  grid-in : (s : VersionShape) (page : ℕ) (h : Recorded) (k : ℕ) (d : StampGrid) → k < recordedPages h s → getD (gridsOf (historyRead l s page h)) k d ≡ gridRead l s page k
+  grid-in : (s : VersionShape) (page : ℕ) (h : Recorded) (k : ℕ) (d : StampGrid) → k < recordedPages h s
+      → getD (gridsOf (historyRead l s page h)) k d ≡ gridRead l s page k
   grid-in s page NoHistory k d q = absurd (let y : ⊥ = omega arith in y)
   grid-in s page (Writes n) k d q = getD-listed (gridRead l s page) 0 (pagesOf s) k d q ∙ ap (gridRead l s page) (zero-add k)
 
@@ -162,12 +167,14 @@ module _ (l : Lent) (i : ℕ) where
   pub read-over : (k : ℕ) (d : StampGrid) → k < pagesAt l i → over (getD gridsAt k d .stamps) (pagesStood k) ≡ pagesStood k
   unfolding gridRead gridIn pageBefore
   read-over k d q =
-      ap (λ (g : StampGrid). over (g .stamps) (pagesStood k)) (grid-of k d q) ∙ over-front (stampCount (tilingOf (stateOf l i .shape) (k % stateOf l i .shape .levels))) (pagesStood k)
+      ap (λ (g : StampGrid). over (g .stamps) (pagesStood k)) (grid-of k d q)
+      ∙ over-front (stampCount (tilingOf (stateOf l i .shape) (k % stateOf l i .shape .levels))) (pagesStood k)
 
   module _ (fits : 1024 * (firstPageOf l i + pagesAt l i) ≤ length (l .stamps)) where
     pub length-stood : (k : ℕ) → k < pagesAt l i → length (pagesStood k) ≡ 1024
     unfolding pageBefore
-    length-stood k q = length-take-le 1024 (drop (1024 * (firstPageOf l i + k)) (l .stamps)) (omega (arith, length-drop (1024 * (firstPageOf l i + k)) (l .stamps)))
+    length-stood k q =
+        length-take-le 1024 (drop (1024 * (firstPageOf l i + k)) (l .stamps)) (omega (arith, length-drop (1024 * (firstPageOf l i + k)) (l .stamps)))
 
     pub whole-read : (d : StampGrid) → Whole pagesStood d 0 gridsAt
     whole-read d k q =
@@ -175,7 +182,8 @@ module _ (l : Lent) (i : ℕ) where
         ap (λ (j : ℕ). length (over (getD gridsAt k d .stamps) (pagesStood j))) (zero-add k) ∙ ap length (read-over k d r) ∙ length-stood k r
 
     -- grids of no more than 1,024 stamps
-    pub whole-grids : (d : StampGrid) (gs : List StampGrid) → length gs ≡ pagesAt l i → ((k : ℕ) → k < length gs → length (getD gs k d .stamps) ≤ 1024) → Whole pagesStood d 0 gs
+    pub whole-grids : (d : StampGrid) (gs : List StampGrid) → length gs ≡ pagesAt l i
+        → ((k : ℕ) → k < length gs → length (getD gs k d .stamps) ≤ 1024) → Whole pagesStood d 0 gs
     whole-grids d gs n small k q =
         let e = length-stood k (omega arith) in
         ap (λ (j : ℕ). length (over (getD gs k d .stamps) (pagesStood j))) (zero-add k)

@@ -26,12 +26,13 @@ use Rattle.layout.specs.Reading.{trackedRecords, recordPages, pageAt, gr
 use Rattle.layout.specs.Writing.{gridsOf, newestOf, newestAfter, firstPage, pageBefore, pagesFrom, pagesAfter, stampsAfter}
 use Rattle.layout.proofs.Parts.{map-set, moved-self, sets-self, set-sets}
 use Rattle.layout.proofs.Runs.{firstSpare, firstPageOf, stateOf, newest-state, model-at}
-use Rattle.layout.proofs.Kept.{Here, found-at}
+use Rattle.layout.proofs.Kept.{isHere, found-at}
 use Rattle.layout.proofs.Same.{listed-run}
 use Rattle.layout.proofs.Pages.{pagesAt, next-page, page-bound, pages-in, newest-repacked, stamps-repacked, set-parts}
 use Rattle.layout.proofs.Stamped.{Whole, length-pages, page-stamped, gridsAt, pagesStood, used-at, length-grids, grid-of, has-pages, page-stood, length-stood, whole-read, stood}
 
-abbrev noGrid : StampGrid
+-- what stands for a grid past the last
+abbrev pub noGrid : StampGrid
 noGrid = record { newest = 0; stamps = [] }
 
 -- a grid of a texture's history is what its page holds
@@ -43,7 +44,13 @@ module _ (l : Lent) (i : ℕ) (h : WriteHistory) (e : stateOf l i .history ≡ s
     pub place-page : gridPlace (stateOf l i .shape) slice level < pagesAt l i
     unfolding pagesOf
     place-page =
-        omega (arith, all-pages, tile-place (stateOf l i .shape .levels) (slicesOf (stateOf l i .shape)) level slice q p, mul-comm (stateOf l i .shape .levels) (slicesOf (stateOf l i .shape)))
+        omega (
+          arith,
+          all-pages,
+          tile-place (stateOf l i .shape .levels) (slicesOf (stateOf l i .shape)) level slice q p,
+          mul-comm
+              (stateOf l i .shape .levels) (slicesOf (stateOf l i .shape)),
+        )
 
     pub grid-held : gridAt (stateOf l i .shape) h slice level
         ≡ gridIn (tilingOf (stateOf l i .shape) level) (getD (l .newest) (firstPageOf l i + gridPlace (stateOf l i .shape) slice level) 0)
@@ -58,7 +65,8 @@ module _ (l : Lent) (i : ℕ) (h : WriteHistory) (e : stateOf l i .history ≡ s
         (mul-add-mod-self-right slice (s .levels) level ∙ mod-eq-of-lt q)
 
 -- one grid changed, and its page whole
-whole-set : (before : ℕ → List ℕ) (d : StampGrid) (gs : List StampGrid) (k : ℕ) (g : StampGrid) → Whole before d 0 gs → length (over (g .stamps) (before (0 + k))) ≡ 1024
+pub whole-set : (before : ℕ → List ℕ) (d : StampGrid) (gs : List StampGrid) (k : ℕ) (g : StampGrid) → Whole before d 0 gs
+    → length (over (g .stamps) (before (0 + k))) ≡ 1024
     → Whole before d 0 (set gs k g)
 whole-set before d gs k g w q j h = go (ℕ-discrete j k)
   where
@@ -71,7 +79,8 @@ whole-set before d gs k g w q j h = go (ℕ-discrete j k)
         ∙ ap (λ (x : StampGrid). length (over (x .stamps) (before (0 + k)))) (getD-set-same gs k g d (omega (arith, m))) ∙ q
     go (no e) = ap (λ (x : StampGrid). length (over (x .stamps) (before (0 + j)))) (getD-set-other gs k j g d e) ∙ w j m
 
-module _ (l : Lent) (p : Pool ℕ) (pages : total recordPages (trackedRecords l) ≡ l .pool .pages) (i : ℕ) (h : i < l .pool .tracked) (t : VersionState ℕ)
+module _ (l : Lent) (p : Pool ℕ) (pages : total recordPages (trackedRecords l) ≡ l .pool .pages) (i : ℕ) (h : i < l .pool .tracked)
+    (t : VersionState ℕ)
     (e : p .textures ≡ set (modelOf l .textures) i t) where
   -- ---- newest
 
@@ -89,7 +98,8 @@ module _ (l : Lent) (p : Pool ℕ) (pages : total recordPages (trackedRecords l)
         let next : a + length (newestOf t) ≡ b = omega (arith, next-page l i h) in
         ap (λ (s : List ℕ). sets s a (newestOf t)) (sym (moved-self (l .newest) b r))
         ∙ ap (λ (m : ℕ). sets (moved (l .newest) m b r) a (newestOf t)) (sym next)
-        ∙ newest-repacked l p pages i (suc i) (t ∷ []) (omega arith) (set-parts l p i h t e) (newestOf t) one-newest fits (omega (arith, page-bound l pages (suc i)))
+        ∙ newest-repacked l p pages i (suc i) (t ∷ []) (omega arith) (set-parts l p i h t e) (newestOf t) one-newest fits
+        (omega (arith, page-bound l pages (suc i)))
 
     pub newest-stamped : (k : ℕ) (g : StampGrid) → k < pagesAt l i → gridsOf (t .history) ≡ set (gridsAt l i) k g
         → set (l .newest) (firstPageOf l i + k) (g .newest) ≡ newestAfter p l
@@ -100,9 +110,11 @@ module _ (l : Lent) (p : Pool ℕ) (pages : total recordPages (trackedRecords l)
         let run = take n (drop a (l .newest)) in
         let inside : a + n ≤ length (l .newest) = omega (arith, pages-in l pages i h) in
         let lr : length run ≡ n = length-take-le n (drop a (l .newest)) (omega (arith, length-drop a (l .newest))) in
-        let old : newestOf (stateOf l i) ≡ run = newest-state l (firstSpare l i) a (getD (trackedRecords l) i (readTexture [])) ∙ listed-run 0 (l .newest) a n inside in
+        let old : newestOf (stateOf l i) ≡ run =
+        newest-state l (firstSpare l i) a (getD (trackedRecords l) i (readTexture [])) ∙ listed-run 0 (l .newest) a n inside in
         let new : newestOf t ≡ set run k (g .newest) =
-        ap (map (λ (x : StampGrid). x .newest)) f ∙ map-set (λ (x : StampGrid). x .newest) (gridsAt l i) k g ∙ ap (λ (xs : List ℕ). set xs k (g .newest)) old in
+        ap (map (λ (x : StampGrid). x .newest)) f ∙ map-set (λ (x : StampGrid). x .newest) (gridsAt l i) k g
+        ∙ ap (λ (xs : List ℕ). set xs k (g .newest)) old in
         ap (λ (s : List ℕ). set s (a + k) (g .newest)) (sym (sets-self (l .newest) a n inside))
         ∙ set-sets (l .newest) a run (omega arith) k (g .newest) (omega arith)
         ∙ ap (sets (l .newest) a) (sym new)
@@ -115,14 +127,15 @@ module _ (l : Lent) (p : Pool ℕ) (pages : total recordPages (trackedRecords l)
     found-page : hasHistory (stateOf l i .history) ≡ true → firstPage (t .id) (t .shape) 0 (modelOf l .textures) ≡ some (firstPageOf l i)
     found-page has =
         found-at l up (stateOf l 0) i h (t .id) (t .shape)
-        (ap (Here (t .id) (t .shape)) (model-at l i (stateOf l 0) h)
+        (ap (isHere (t .id) (t .shape)) (model-at l i (stateOf l 0) h)
         ∙ rw (eq-eqb (stateOf l i .id) (t .id) (sym id), ap (sameShape (stateOf l i .shape)) shape ∙ same-self (stateOf l i .shape), has) refl)
 
     one-pages : hasHistory (stateOf l i .history) ≡ true → flatMap (pagesAfter l) (t ∷ []) ≡ pagesFrom (pagesStood l i) 0 (gridsOf (t .history))
     unfolding flatMap pagesAfter
     one-pages has = append-nil (pagesAfter l t) ∙ ap (λ (o : Option ℕ). pagesFrom (pageBefore l o) 0 (gridsOf (t .history))) (found-page has)
 
-    pub stamps-rewritten : (d : StampGrid) → hasHistory (stateOf l i .history) ≡ true → length (gridsOf (t .history)) ≡ pagesAt l i → Whole (pagesStood l i) d 0 (gridsOf (t .history))
+    pub stamps-rewritten : (d : StampGrid) → hasHistory (stateOf l i .history) ≡ true → length (gridsOf (t .history)) ≡ pagesAt l i
+        → Whole (pagesStood l i) d 0 (gridsOf (t .history))
         → sets (l .stamps) (1024 * firstPageOf l i) (pagesFrom (pagesStood l i) 0 (gridsOf (t .history))) ≡ stampsAfter p l
     stamps-rewritten d has n w =
         let a = 1024 * firstPageOf l i in
@@ -133,7 +146,8 @@ module _ (l : Lent) (p : Pool ℕ) (pages : total recordPages (trackedRecords l)
         let next : a + length new ≡ b = omega (arith, next-page l i h) in
         ap (λ (s : List ℕ). sets s a new) (sym (moved-self (l .stamps) b r))
         ∙ ap (λ (m : ℕ). sets (moved (l .stamps) m b r) a new) (sym next)
-        ∙ stamps-repacked l p pages i (suc i) (t ∷ []) (omega arith) (set-parts l p i h t e) up new (one-pages has) fits (omega (arith, page-bound l pages (suc i)))
+        ∙ stamps-repacked l p pages i (suc i) (t ∷ []) (omega arith) (set-parts l p i h t e) up new (one-pages has) fits
+        (omega (arith, page-bound l pages (suc i)))
 
     pub stamps-stamped : (k : ℕ) (g : StampGrid) → k < pagesAt l i → gridsOf (t .history) ≡ set (gridsAt l i) k g → length (g .stamps) ≤ 1024
         → take (1024 * (firstPageOf l i + k)) (l .stamps)
