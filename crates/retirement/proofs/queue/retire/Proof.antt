@@ -1,63 +1,98 @@
+-- `retire` meets its contract: refused, or queued behind the others. Assumes nothing.
 use borrow.Author.Needs.{needs}
+use native.Mathlib.Omega.{arith}
+use Rattle.layout.specs.Lent.{lent}
+use Rattle.layout.proofs.FromPool.{pool-fits}
+use Rattle.layout.proofs.Stays.{ids-ascend, textures-fit}
+use Rattle.retirement.proofs.Tracked.{shape-here, history-here}
+use Rattle.retirement.proofs.RetireCases.{refusal-fits, queued-fits, push-fits, retire-refused, retire-accepted}
 use Rattle.retirement.proofs.queue.retire.Statement.{statement}
 use Rattle.retirement.proofs.queue.retire.Tie as tie
-use Rattle.retirement.proofs.queue.retire.Reads as reads
-use Rattle.retirement.proofs.queue.retire.Lts as lts
-use Rattle.access.proofs.push_retiring.Reads as push-retiring-reads
-use Rattle.records.proofs.find_texture.Reads as find-texture-reads
-use Rattle.retirement.proofs.counts.one_queued.Reads as one-queued-reads
-use Rattle.retirement.proofs.counts.ring_count.Reads as ring-count-reads
-use Rattle.retirement.proofs.queue.note_birth.Reads as note-birth-reads
-use Rattle.retirement.proofs.queue.retire_refusal.Reads as retire-refusal-reads
-use Rattle.retirement.proofs.queue.retired_version.Reads as retired-version-reads
 
--- src/queue.rt:152:9
 retire-refusal-requires : tie.Need-retire-refusal-requires
-retire-refusal-requires c κs = search needs
+retire-refusal-requires c κs =
+    let b = c .before .before .before .before .before .before .before in
+    let a = b .args in
+    let l = lent (a .pool) (a .book) (a .textures .now) (a .retiring .now) (a .doomed .now) (a .spares .now) (a .newest .now) (a .stamps .now) in
+    refusal-fits l (pool-fits l (b .pre))
 
--- src/queue.rt:154:9
 same-length : tie.Need-same-length
 same-length c = search needs
 
--- src/queue.rt:154:9
 returns : tie.Need-returns
-returns c = search needs
+returns c =
+    let b = c .before .before .before .before .before .before .before .before .before in
+    let a = b .args in
+    let l = lent (a .pool) (a .book) (a .textures .now) (a .retiring .now) (a .doomed .now) (a .spares .now) (a .newest .now) (a .stamps .now) in
+    let r = c .before .retire-refusal in
+    retire-refused l (b .pre) (a .id) (a .view) (a .seq) (r .result) (r .ensures) (omega (arith, c .if1 .taken))
 
--- src/queue.rt:159:9
 find-texture-requires : tie.Need-find-texture-requires
-find-texture-requires c κs = search needs
+find-texture-requires c κs =
+    let b = c .before .before .before .before .before .before .before .before .before .before in
+    let a = b .args in
+    let l = lent (a .pool) (a .book) (a .textures .now) (a .retiring .now) (a .doomed .now) (a .spares .now) (a .newest .now) (a .stamps .now) in
+    let f = pool-fits l (b .pre) in
+    (textures-fit l f, ids-ascend l f)
 
--- src/queue.rt:160:9
 retired-version-requires : tie.Need-retired-version-requires
-retired-version-requires c κs = search needs
+retired-version-requires c κs =
+    let b = c .before .before .before .before .before .before .before .before .before .before .before .before in
+    let a = b .args in
+    let l = lent (a .pool) (a .book) (a .textures .now) (a .retiring .now) (a .doomed .now) (a .spares .now) (a .newest .now) (a .stamps .now) in
+    let f = pool-fits l (b .pre) in
+    let s = c .before .find-texture in
+    (textures-fit l f, shape-here l f (a .id) (s .result) (s .ensures))
 
--- src/queue.rt:161:5
 note-birth-requires : tie.Need-note-birth-requires
-note-birth-requires c κs = search needs
+note-birth-requires c κs =
+    let b = c .before .before .before .before .before .before .before .before .before .before .before .before .before .before in
+    let a = b .args in
+    let l = lent (a .pool) (a .book) (a .textures .now) (a .retiring .now) (a .doomed .now) (a .spares .now) (a .newest .now) (a .stamps .now) in
+    let f = pool-fits l (b .pre) in
+    let s = c .before .before .before .find-texture in
+    (textures-fit l f, history-here l f (a .id) (s .result) (s .ensures))
 
--- src/queue.rt:162:48
 ring-count-requires : tie.Need-ring-count-requires
-ring-count-requires c κs = search needs
+ring-count-requires c κs =
+    let b = c .before .before .before .before .before .before .before .before .before .before .before .before .before .before .before .before .before .before in
+    let a = b .args in
+    let l = lent (a .pool) (a .book) (a .textures .now) (a .retiring .now) (a .doomed .now) (a .spares .now) (a .newest .now) (a .stamps .now) in
+    queued-fits l (pool-fits l (b .pre))
 
--- src/queue.rt:162:5
 push-retiring-requires : tie.Need-push-retiring-requires
-push-retiring-requires c κs = search needs
+push-retiring-requires c κs =
+    let b = c .before .before .before .before .before .before .before .before .before .before .before .before .before .before .before .before .before .before .before in
+    let a = b .args in
+    let l = lent (a .pool) (a .book) (a .textures .now) (a .retiring .now) (a .doomed .now) (a .spares .now) (a .newest .now) (a .stamps .now) in
+    let r = c .before .before .before .before .before .before .before .before .before .before .before .retire-refusal in
+    let p = push-fits l (b .pre) (a .id) (a .view) (a .seq) (r .result) (r .ensures) (omega (arith, c .before .before .before .before .before .before .before .before .before .before .if1 .left)) in
+    (p .0, p .1, omega (arith, p .2, c .ring-count .ensures))
 
--- src/queue.rt:164:15
 one-queued-requires : tie.Need-one-queued-requires
-one-queued-requires c κs = search needs
+one-queued-requires c κs =
+    let b = c .before .before .before .before .before .before .before .before .before .before .before .before .before .before .before .before .before .before .before .before .before .before in
+    let a = b .args in
+    let l = lent (a .pool) (a .book) (a .textures .now) (a .retiring .now) (a .doomed .now) (a .spares .now) (a .newest .now) (a .stamps .now) in
+    queued-fits l (pool-fits l (b .pre))
 
--- src/queue.rt:134:1
 same-length-2 : tie.Need-same-length-2
 same-length-2 c = search needs
 
--- src/queue.rt:134:1
 same-length-3 : tie.Need-same-length-3
 same-length-3 c = search needs
 
--- src/queue.rt:134:1
 returns-2 : tie.Need-returns-2
-returns-2 c = search needs
+returns-2 c =
+    let b = c .before .before .before .before .before .before .before .before .before .before .before .before .before .before .before .before .before .before .before .before .before .before .before in
+    let a = b .args in
+    let l = lent (a .pool) (a .book) (a .textures .now) (a .retiring .now) (a .doomed .now) (a .spares .now) (a .newest .now) (a .stamps .now) in
+    let r = c .before .before .before .before .before .before .before .before .before .before .before .before .before .before .before .retire-refusal in
+    let s = c .before .before .before .before .before .before .before .before .before .before .before .before .find-texture in
+    let v = c .before .before .before .before .before .before .before .before .before .before .retired-version in
+    let n = c .before .before .before .before .ring-count in
+    retire-accepted l (b .pre) (a .id) (a .view) (a .seq) (r .result) (r .ensures) (omega (arith, c .before .before .before .before .before .before .before .before .before .before .before .before .before .before .if1 .left)) (s .result) (s .ensures) (v .result) (n .result) (c .one-queued .result)
+    _ _ (v .ensures) (c .before .before .before .before .before .before .before .before .note-birth .ensures) (n .ensures) (c .before .before .before .push-retiring .ensures) (c .one-queued .ensures)
 
 pub retire-spec : {M : Type 1} → statement M
 retire-spec =
