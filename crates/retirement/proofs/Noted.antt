@@ -9,7 +9,6 @@ use Rattle.shapes.specs.Shapes.{bytesOf}
 use Rattle.stores.specs.Model.{WriteHistory, VersionState, writesOf}
 use Rattle.stores.specs.Retire.{retired}
 use Rattle.records.specs.declared.texture.TextureRecord.{TextureRecord}
-use Rattle.records.specs.declared.retiring.RetiringRecord.{RetiringRecord}
 use Rattle.records.specs.Recorded.{RecordedFits}
 use Rattle.records.specs.Texture.{writeTexture}
 use Rattle.layout.specs.Writing.{recordedOf, textureRecord, retiringRecord}

@@ -24,7 +24,7 @@ use Rattle.layout.specs.Lent.{Lent, lent, versionPlaces}
 use Rattle.layout.specs.Reading.{trackedRecords, modelOf}
 use Rattle.layout.specs.Writing.{textureRecord, retiringRecord, everySpare, texturesAfter, retiringAfter, poolAfter}
 use Rattle.layout.specs.IsPool.{isPool}
-use Rattle.layout.specs.Calls.{Told, refusal, answer, toldNumber, retireCall}
+use Rattle.layout.specs.Calls.{refusal, answer, toldNumber, retireCall}
 use Rattle.layout.proofs.Fits.{Fits}
 use Rattle.layout.proofs.FromPool.{pool-fits, version-places}
 use Rattle.layout.proofs.Asked.{asked-refused, asked-accepted}

@@ -13,7 +13,6 @@ use Rattle.blocks.proofs.All.{all-at}
 use Rattle.tables.specs.Records.{recordAt}
 use Rattle.tables.proofs.Records.{getD-table}
 use Rattle.shapes.specs.Shapes.{isShape}
-use Rattle.shapes.specs.declared.shape.VersionShape.{VersionShape}
 use Rattle.stores.specs.Model.{WriteHistory, VersionState, find}
 use Rattle.stores.specs.Updates.{change}
 use Rattle.stores.specs.Formed.{Given, HistoryFormed, StateFormed}

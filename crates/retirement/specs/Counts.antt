@@ -1,7 +1,6 @@
 -- The counts as a version goes through the pool. There is no update of a record's field, so each is written out.
 use Prim.Native.Nat.{ℕ, _+_, _-_}
 use mathlib.Core.Bool.{true, false}
-use Rattle.tables.specs.Rings.{placeOf}
 use Rattle.layout.specs.declared.pool.Pool.{Pool}
 use Rattle.layout.specs.Reading.{handPlaces}
 
@@ -47,13 +46,13 @@ frontPopped p = record {
   line = p .line;
 }
 
--- the hand's version parked: the ring begins behind it
+-- the hand's version parked; `head` is where the ring begins without it
 abbrev pub handKept : ℕ → ℕ → Pool → Pool
-handKept places bytes p = record {
+handKept head bytes p = record {
   tracked = p .tracked;
   kept = p .kept + 1;
   pages = p .pages;
-  head = placeOf places (p .head) 1;
+  head = head;
   popped = false;
   queued = p .queued;
   first = p .first;
@@ -68,11 +67,11 @@ handKept places bytes p = record {
 
 -- the hand's version queued for destruction
 abbrev pub handDoomed : ℕ → ℕ → Pool → Pool
-handDoomed places bytes p = record {
+handDoomed head bytes p = record {
   tracked = p .tracked;
   kept = p .kept;
   pages = p .pages;
-  head = placeOf places (p .head) 1;
+  head = head;
   popped = false;
   queued = p .queued;
   first = p .first;
