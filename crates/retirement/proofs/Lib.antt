@@ -3,5 +3,3 @@ pub mod Tracked
 pub mod RetireRefusals
 pub mod Noted
 pub mod RetireCases
-pub mod Parked
-pub mod ParkCases

@@ -1,7 +1,7 @@
 // The counts of the retiring ring.
 ghost use mathlib.Core.Path.{_≡_};
-ghost use Prim.Native.Nat.{_+_, _≤_, _<_, _^_};
-ghost use Rattle.retirement.specs.Counts.{ringCount, oneQueued, frontPopped, handKept, handDoomed};
+ghost use Prim.Native.Nat.{_≤_, _<_};
+ghost use Rattle.retirement.specs.Counts.{ringCount, oneQueued, frontPopped};
 use layout::Pool;
 
 // The versions in the ring: the hand and the queue.
@@ -33,32 +33,5 @@ pub fn front_popped(pool: Pool) -> Pool
     let mut after = pool;
     after.popped = true;
     after.queued = pool.queued - 1;
-    after
-}
-
-// The hand's version parked. The ring begins at `head` without it.
-pub fn hand_kept(pool: Pool, head: usize, bytes: u64) -> Pool
-    requires { ⌜ (pool .kept ≤ 4096) × (pool .parked + bytes ≤ pool .cap) ⌝ }
-    ensures { λ r. ⌜ r ≡ handKept head bytes pool ⌝ }
-{
-    let mut after = pool;
-    after.kept = pool.kept + 1;
-    after.head = head;
-    after.popped = false;
-    after.parked = pool.parked + bytes;
-    after
-}
-
-// The hand's version queued for destruction.
-pub fn hand_doomed(pool: Pool, head: usize, bytes: u64) -> Pool
-    requires { ⌜ (pool .doomed ≤ 4096) × (pool .since ≤ 4096) × (pool .dooming + bytes < 2 ^ 64) ⌝ }
-    ensures { λ r. ⌜ r ≡ handDoomed head bytes pool ⌝ }
-{
-    let mut after = pool;
-    after.head = head;
-    after.popped = false;
-    after.doomed = pool.doomed + 1;
-    after.since = pool.since + 1;
-    after.dooming = pool.dooming + bytes;
     after
 }

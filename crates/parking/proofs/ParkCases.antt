@@ -49,14 +49,14 @@ use Rattle.layout.proofs.Kept.{pagedOf}
 use Rattle.layout.proofs.Changes.{sparesBefore, sparesAt, every-appended, textures-set, spares-inserted}
 use Rattle.layout.proofs.Counts.{kept-inserted}
 use Rattle.layout.proofs.Stays.{put-together, textures-fit, ring-fits, doomed-fit, book-stays, textures-stay, spares-stay, newest-stay, stamps-stay, doomed-stay}
-use Rattle.retirement.specs.declared.parking.Parking.{Parking}
-use Rattle.retirement.specs.declared.parking.Parking.the-variants.{Destroyed, Kept}
-use Rattle.retirement.specs.Counts.{handKept, handDoomed}
+use Rattle.parking.specs.declared.decision.Parking.{Parking}
+use Rattle.parking.specs.declared.decision.Parking.the-variants.{Destroyed, Kept}
+use Rattle.parking.specs.Counts.{handKept, handDoomed}
 use Rattle.retirement.specs.Noted.{hasId}
-use Rattle.retirement.specs.Parked.{parkRefusal, parkingOf, spareParked, oneMore, sparesEnd}
+use Rattle.parking.specs.Parked.{parkRefusal, parkingOf, spareParked, oneMore, sparesEnd}
 use Rattle.retirement.proofs.Tracked.{map-change, textureAt, inside, record-read, record-at, found-here, found-nowhere, changed-here, shape-here, history-here}
 use Rattle.retirement.proofs.PopCases.{front-read}
-use Rattle.retirement.proofs.Parked.{Says, decision-says, held-fits}
+use Rattle.parking.proofs.Parked.{Says, decision-says, held-fits}
 
 -- as the code counts them
 abbrev places : Lent → ℕ

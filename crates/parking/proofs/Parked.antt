@@ -23,9 +23,9 @@ use Rattle.records.specs.Recorded.{RecordedFits}
 use Rattle.records.specs.Spare.{writeSpare}
 use Rattle.records.specs.Texture.{readTexture, writeTexture}
 use Rattle.layout.specs.declared.pool.Pool.{Pool}
-use Rattle.retirement.specs.declared.parking.Parking.{Parking}
-use Rattle.retirement.specs.declared.parking.Parking.the-variants.{Destroyed, Kept}
-use Rattle.retirement.specs.Parked.{parkRefusal, parkingOf, heldParked, oneMore, sparesEnd}
+use Rattle.parking.specs.declared.decision.Parking.{Parking}
+use Rattle.parking.specs.declared.decision.Parking.the-variants.{Destroyed, Kept}
+use Rattle.parking.specs.Parked.{parkRefusal, parkingOf, heldParked, oneMore, sparesEnd}
 
 -- ---- the code's refusals, in order
 

@@ -2,8 +2,8 @@
 use borrow.Author.Needs.{needs}
 use mathlib.Core.Path.{ap}
 use Rattle.stores.specs.declared.held.Held.{Held}
-use Rattle.retirement.proofs.parking.spare_parked.Statement.{statement}
-use Rattle.retirement.proofs.parking.spare_parked.Tie as tie
+use Rattle.parking.proofs.keeping.spare_parked.Statement.{statement}
+use Rattle.parking.proofs.keeping.spare_parked.Tie as tie
 
 held-parked-requires : tie.Need-held-parked-requires
 held-parked-requires c κs = search needs

@@ -14,8 +14,8 @@ use Rattle.records.specs.declared.spare.SpareRecord.{SpareRecord}
 use Rattle.records.specs.declared.retiring.RetiringRecord.{RetiringRecord}
 use Rattle.records.specs.Texture.{readTexture}
 use Rattle.layout.specs.declared.pool.Pool.{Pool}
-use Rattle.retirement.specs.declared.parking.Parking.{Parking}
-use Rattle.retirement.specs.declared.parking.Parking.the-variants.{Destroyed, Kept}
+use Rattle.parking.specs.declared.decision.Parking.{Parking}
+use Rattle.parking.specs.declared.decision.Parking.the-variants.{Destroyed, Kept}
 
 -- the number of the first refusal, or 0
 unfoldable pub parkRefusal : Pool → ℕ → ℕ → ℕ

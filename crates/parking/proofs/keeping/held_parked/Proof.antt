@@ -2,8 +2,8 @@
 use mathlib.Core.Path.{sym, ap}
 use mathlib.Core.Bool.{Bool, cond}
 use Rattle.stores.specs.declared.held.Held.the-variants.{Known, Unknown}
-use Rattle.retirement.proofs.parking.held_parked.Statement.{statement}
-use Rattle.retirement.proofs.parking.held_parked.Tie as tie
+use Rattle.parking.proofs.keeping.held_parked.Statement.{statement}
+use Rattle.parking.proofs.keeping.held_parked.Tie as tie
 
 returns : tie.Need-returns
 returns c =

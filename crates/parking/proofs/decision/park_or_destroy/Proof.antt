@@ -5,10 +5,10 @@ use Rattle.shapes.specs.Shapes.{isShape}
 use Rattle.tables.specs.Records.{recordAt}
 use Rattle.records.specs.Texture.{readTexture}
 use Rattle.access.proofs.Ids.{hasId}
 use Rattle.retirement.proofs.Tracked.{says-nowhere, says-here, record-fits}
-use Rattle.retirement.proofs.Parked.{decide-untracked, decide-renewed, decide-full, decide-kept}
-use Rattle.retirement.proofs.parking.park_or_destroy.Statement.{statement}
-use Rattle.retirement.proofs.parking.park_or_destroy.Tie as tie
+use Rattle.parking.proofs.Parked.{decide-untracked, decide-renewed, decide-full, decide-kept}
+use Rattle.parking.proofs.decision.park_or_destroy.Statement.{statement}
+use Rattle.parking.proofs.decision.park_or_destroy.Tie as tie
 
 has-id-requires : tie.Need-has-id-requires
 has-id-requires c κs = c .before .pre .0

@@ -1,9 +1,9 @@
 -- `keep_version` meets its contract: the texture's record counts one more, and the spare stands behind the others. Assumes nothing.
 use borrow.Author.Needs.{needs}
 use native.Mathlib.Omega.{arith}
-use Rattle.retirement.proofs.Parked.{end-fits, keep-history, keep-record, keep-spare}
-use Rattle.retirement.proofs.parking.keep_version.Statement.{statement}
-use Rattle.retirement.proofs.parking.keep_version.Tie as tie
+use Rattle.parking.proofs.Parked.{end-fits, keep-history, keep-record, keep-spare}
+use Rattle.parking.proofs.keeping.keep_version.Statement.{statement}
+use Rattle.parking.proofs.keeping.keep_version.Tie as tie
 
 texture-at-requires : tie.Need-texture-at-requires
 texture-at-requires c κs = c .before .before .before .pre .0

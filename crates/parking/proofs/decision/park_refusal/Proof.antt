@@ -1,7 +1,7 @@
 -- `park_refusal` meets its contract, test by test. Assumes nothing.
-use Rattle.retirement.proofs.Parked.{refused-late, hand-there, refused-empty}
-use Rattle.retirement.proofs.parking.park_refusal.Statement.{statement}
-use Rattle.retirement.proofs.parking.park_refusal.Tie as tie
+use Rattle.parking.proofs.Parked.{refused-late, hand-there, refused-empty}
+use Rattle.parking.proofs.decision.park_refusal.Statement.{statement}
+use Rattle.parking.proofs.decision.park_refusal.Tie as tie
 
 returns : tie.Need-returns
 returns c =

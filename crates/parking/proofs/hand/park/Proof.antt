@@ -5,9 +5,9 @@ use native.Mathlib.Omega.{arith}
 use Rattle.layout.specs.Lent.{lent}
 use Rattle.layout.proofs.FromPool.{pool-fits}
 use Rattle.layout.proofs.Stays.{ids-ascend, textures-fit}
-use Rattle.retirement.proofs.ParkCases.{park-refused, front-fits, decision-fits, push-fits, doomed-counts-fit, keep-fits, kept-counts-fit, park-destroyed, park-kept}
-use Rattle.retirement.proofs.parking.park.Statement.{statement}
-use Rattle.retirement.proofs.parking.park.Tie as tie
+use Rattle.parking.proofs.ParkCases.{park-refused, front-fits, decision-fits, push-fits, doomed-counts-fit, keep-fits, kept-counts-fit, park-destroyed, park-kept}
+use Rattle.parking.proofs.hand.park.Statement.{statement}
+use Rattle.parking.proofs.hand.park.Tie as tie
 
 park-refusal-requires : tie.Need-park-refusal-requires
 park-refusal-requires c κs = search needs
