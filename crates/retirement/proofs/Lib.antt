@@ -1,1 +1,5 @@
 pub mod PopCases
+pub mod Tracked
+pub mod RetireRefusals
+pub mod Noted
+pub mod RetireCases

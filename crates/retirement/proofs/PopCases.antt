@@ -1,12 +1,12 @@
 -- `pop_retired` on a pool, case by case. Assumes nothing.
 use mathlib.Core.Path.{_≡_, refl, sym, ap, ap₂, _∙_}
 use mathlib.Core.Bool.{Bool, true, false, cond}
-use mathlib.Core.Option.{Option, none, some}
-use mathlib.Core.List.{List, [], _∷_}
+use mathlib.Core.Option.{none, some}
+use mathlib.Core.List.{List, _∷_}
 use Prim.Native.Nat.{ℕ, suc, _-_, _*_, _/_, _≤_, _<_}
 use native.Mathlib.Omega.{arith}
 use borrow.Author.Tests.{lt-ltb, le-ltb, le-leb, lt-leb}
-use lib.Dec.{leb, ltb}
+use lib.Dec.{ltb}
 use lib.ListN.{length}
 use Rattle.blocks.specs.Lists.{listed}
 use Rattle.blocks.proofs.Listed.{length-listed}
@@ -19,9 +19,9 @@ use Rattle.stores.specs.Updates.{withRetiring}
 use Rattle.stores.specs.PopRetired.{popFront, isHeld, popRetired}
 use Rattle.layout.specs.Lent.{Lent, lent, versionPlaces}
 use Rattle.layout.specs.Reading.{handPlaces, retiringRead, modelOf}
-use Rattle.layout.specs.Writing.{after, poolAfter}
+use Rattle.layout.specs.Writing.{poolAfter}
 use Rattle.layout.specs.IsPool.{isPool}
-use Rattle.layout.specs.Calls.{Told, refusal, answer, PoppedVersion, poppedOf, asked, popRetiredCall}
+use Rattle.layout.specs.Calls.{refusal, answer, poppedOf, popRetiredCall}
 use Rattle.layout.proofs.Fits.{Fits}
 use Rattle.layout.proofs.FromPool.{pool-fits}
 use Rattle.layout.proofs.Asked.{guard-passed, guard-refused, asked-refused, asked-accepted}
@@ -35,6 +35,11 @@ use Rattle.retirement.specs.Counts.{frontPopped}
 pub ring-room : (l : Lent) → Fits l → (7 * (length (l .retiring) / 7) ≤ length (l .retiring)) × (l .pool .head < length (l .retiring) / 7) × (0 < length (l .retiring) / 7)
 unfolding versionPlaces
 ring-room l f = (omega (arith, f .retiring), f .head, f .least)
+
+-- the ring's front, by the record that the code reads
+pub front-read : (l : Lent) (x : RetiringRecord) → x ≡ along 7 readRetiring (length (l .retiring) / 7) (l .pool .head) (l .retiring) 0 → retiringOf x ≡ retiringRead l 0
+unfolding retiringRead versionPlaces
+front-read l x read = ap retiringOf read
 
 -- an empty hand is no longer than a full one
 hand-full : {b : Bool} → b ≡ false → handPlaces b ≤ 1
@@ -139,8 +144,7 @@ module _ (l : Lent) (e : isPool l ≡ true) (settled : ℕ) where
         -- the same by the record that the code reads
         module _ (x : RetiringRecord) (read : x ≡ along 7 readRetiring (length (l .retiring) / 7) (l .pool .head) (l .retiring) 0) where
           as-read : retiringOf x ≡ retiringRead l 0
-          unfolding retiringRead versionPlaces
-          as-read = ap retiringOf read
+          as-read = front-read l x read
 
           pub unsettled-front : settled < x .seq → (answer none, l) ≡ popRetiredCall l settled
           unsettled-front k = pop-unsettled (omega (arith, ap (λ (v : Retiring ℕ). v .seq) as-read))

@@ -1,7 +1,6 @@
 -- The counts as a version goes through the pool. There is no update of a record's field, so each is written out.
 use Prim.Native.Nat.{ℕ, _+_, _-_}
-use mathlib.Core.Bool.{true, false}
-use Rattle.tables.specs.Rings.{placeOf}
+use mathlib.Core.Bool.{true}
 use Rattle.layout.specs.declared.pool.Pool.{Pool}
 use Rattle.layout.specs.Reading.{handPlaces}
 
@@ -43,44 +42,6 @@ frontPopped p = record {
   trackings = p .trackings;
   parked = p .parked;
   dooming = p .dooming;
-  cap = p .cap;
-  line = p .line;
-}
-
--- the hand's version parked: the ring begins behind it
-abbrev pub handKept : ℕ → ℕ → Pool → Pool
-handKept places bytes p = record {
-  tracked = p .tracked;
-  kept = p .kept + 1;
-  pages = p .pages;
-  head = placeOf places (p .head) 1;
-  popped = false;
-  queued = p .queued;
-  first = p .first;
-  doomed = p .doomed;
-  since = p .since;
-  trackings = p .trackings;
-  parked = p .parked + bytes;
-  dooming = p .dooming;
-  cap = p .cap;
-  line = p .line;
-}
-
--- the hand's version queued for destruction
-abbrev pub handDoomed : ℕ → ℕ → Pool → Pool
-handDoomed places bytes p = record {
-  tracked = p .tracked;
-  kept = p .kept;
-  pages = p .pages;
-  head = placeOf places (p .head) 1;
-  popped = false;
-  queued = p .queued;
-  first = p .first;
-  doomed = p .doomed + 1;
-  since = p .since + 1;
-  trackings = p .trackings;
-  parked = p .parked;
-  dooming = p .dooming + bytes;
   cap = p .cap;
   line = p .line;
 }

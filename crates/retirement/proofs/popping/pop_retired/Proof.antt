@@ -23,7 +23,7 @@ returns-2 c =
 returns-3 : tie.Need-returns-3
 returns-3 c =
     let b = c .before .before .before .before .before .before .before .before .before .before in
-    pop-none (lent (b .args .pool) (b .args .book) (b .args .textures .now) (b .args .retiring .now) (b .args .doomed .now) (b .args .spares .now) (b .args .newest .now) (b .args .stamps .now)) (b .pre) (b .args .settled) (c .before .before .before .if1 .left) (c .before .before .if2 .left) (c .if3 .taken)
+    pop-none (lent (b .args .pool) (b .args .book) (b .args .textures .now) (b .args .retiring .now) (b .args .doomed .now) (b .args .spares .now) (b .args .newest .now) (b .args .stamps .now)) (b .pre) (b .args .settled) (c .before .before .before .if1 .left) (c .before .before .if2 .left) (omega (arith, c .if3 .taken))
 
 retiring-at-requires : tie.Need-retiring-at-requires
 retiring-at-requires c κs =
@@ -36,7 +36,7 @@ returns-4 c =
     let d = c .before .before in
     let b = d .before .before .before .before .before .before .before .before .before .before .before in
     unsettled-front (lent (b .args .pool) (b .args .book) (b .args .textures .now) (b .args .retiring .now) (b .args .doomed .now) (b .args .spares .now) (b .args .newest .now) (b .args .stamps .now)) (b .pre) (b .args .settled) (d .before .before .before .before .if1 .left) (d .before .before .before .if2 .left) (omega (arith, d .before .if3 .left))
-    (d .retiring-at .result) (d .retiring-at .ensures) (c .if4 .taken)
+    (d .retiring-at .result) (d .retiring-at .ensures) (omega (arith, c .if4 .taken))
 
 front-popped-requires : tie.Need-front-popped-requires
 front-popped-requires c κs = search needs
@@ -49,7 +49,7 @@ returns-5 c =
     (λ p. (answer (some (record { id = d .retiring-at .result .id; view = d .retiring-at .result .view })), lent p (b .args .book) (b .args .textures .now) (b .args .retiring .now) (b .args .doomed .now) (b .args .spares .now) (b .args .newest .now) (b .args .stamps .now)))
     (c .front-popped .ensures)
     ∙ settled-front (lent (b .args .pool) (b .args .book) (b .args .textures .now) (b .args .retiring .now) (b .args .doomed .now) (b .args .spares .now) (b .args .newest .now) (b .args .stamps .now)) (b .pre) (b .args .settled) (d .before .before .before .before .if1 .left) (d .before .before .before .if2 .left) (omega (arith, d .before .if3 .left))
-    (d .retiring-at .result) (d .retiring-at .ensures) (c .before .if4 .left)
+    (d .retiring-at .result) (d .retiring-at .ensures) (omega (arith, c .before .if4 .left))
 
 pub pop-retired-spec : {M : Type 1} → statement M
 pop-retired-spec =

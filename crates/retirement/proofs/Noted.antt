@@ -1,0 +1,65 @@
+-- What `retire` notes of the version and in its texture's record, by whether the texture is tracked. Assumes nothing.
+use mathlib.Core.Path.{_≡_, refl, sym, ap, _∙_, subst}
+use mathlib.Core.Bool.{Bool, true, false, cond}
+use mathlib.Core.Option.{Option, none, some}
+use mathlib.Core.List.{List}
+use Prim.Native.Nat.{ℕ, _*_}
+use lib.Seq.{sets}
+use Rattle.shapes.specs.Shapes.{bytesOf}
+use Rattle.stores.specs.Model.{WriteHistory, VersionState, writesOf}
+use Rattle.stores.specs.Retire.{retired}
+use Rattle.records.specs.declared.texture.TextureRecord.{TextureRecord}
+use Rattle.records.specs.Recorded.{RecordedFits}
+use Rattle.records.specs.Texture.{writeTexture}
+use Rattle.layout.specs.Writing.{recordedOf, textureRecord, retiringRecord}
+use Rattle.retirement.specs.Noted.{writesCounted, retiredRecord, bornAt}
+
+-- ---- as the code notes it
+
+module _ (b : Bool) (t : TextureRecord) (id view seq : ℕ) where
+  pub note-untracked : b ≡ false → record { id = id; view = view; seq = seq; epoch = 0; birth = 0; held = 0; bytes = 0 } ≡ retiredRecord b t id view seq
+  unfolding retiredRecord
+  note-untracked e = sym (ap (λ (a : Bool). retiredRecord a t id view seq) e)
+
+  pub note-tracked : b ≡ true → (u : TextureRecord) → u ≡ t → (held bytes : ℕ) → held ≡ writesCounted (u .history) → bytes ≡ bytesOf (u .shape)
+      → record { id = id; view = view; seq = seq; epoch = u .epoch; birth = u .birth; held = held; bytes = bytes } ≡ retiredRecord b t id view seq
+  unfolding retiredRecord
+  note-tracked e u read held bytes e1 e2 =
+      (λ i. record { id = id; view = view; seq = seq; epoch = u .epoch; birth = u .birth; held = e1 i; bytes = e2 i })
+      ∙ ap (λ (v : TextureRecord). retiredRecord true v id view seq) read
+      ∙ sym (ap (λ (a : Bool). retiredRecord a t id view seq) e)
+
+pub birth-fits : (u t w : TextureRecord) (seq : ℕ) → u ≡ t → w ≡ bornAt seq u → RecordedFits (t .history) → RecordedFits (w .history)
+birth-fits u t w seq read born h = subst (λ (v : TextureRecord). RecordedFits (v .history)) (sym (born ∙ ap (bornAt seq) read)) h
+
+module _ (b : Bool) (s : List ℕ) (i seq : ℕ) (t : TextureRecord) where
+  pub birth-untracked : b ≡ false → s ≡ cond b (sets s (19 * i) (writeTexture (bornAt seq t))) s
+  birth-untracked e = sym (ap (λ (a : Bool). cond a (sets s (19 * i) (writeTexture (bornAt seq t))) s) e)
+
+  pub birth-tracked : b ≡ true → (u w : TextureRecord) → u ≡ t → w ≡ bornAt seq u → (r : List ℕ) → r ≡ sets s (19 * i) (writeTexture w)
+      → r ≡ cond b (sets s (19 * i) (writeTexture (bornAt seq t))) s
+  birth-tracked e u w read born r put =
+      put ∙ ap (λ (v : TextureRecord). sets s (19 * i) (writeTexture v)) (born ∙ ap (bornAt seq) read)
+      ∙ sym (ap (λ (a : Bool). cond a (sets s (19 * i) (writeTexture (bornAt seq t))) s) e)
+
+-- ---- as the model does
+
+pub model-tracked : (t : VersionState ℕ) (id view seq : ℕ) → retiringRecord (retired id view seq (some t)) ≡ retiredRecord true (textureRecord t) id view seq
+unfolding retiredRecord
+model-tracked t id view seq = λ i. record {
+  id = id;
+  view = view;
+  seq = seq;
+  epoch = t .epoch;
+  birth = t .birth;
+  held = go (t .history) i;
+  bytes = bytesOf (t .shape);
+}
+  where
+    go : (o : Option WriteHistory) → writesOf o ≡ writesCounted (recordedOf o)
+    go none = refl
+    go (some h) = refl
+
+pub model-untracked : (t : TextureRecord) (id view seq : ℕ) → retiringRecord (retired {W = ℕ} id view seq none) ≡ retiredRecord false t id view seq
+unfolding retiredRecord
+model-untracked t id view seq = refl

@@ -1,0 +1,52 @@
+-- `retired_version` meets its contract, for an untracked texture and a tracked one. Assumes nothing.
+use borrow.Author.Needs.{needs}
+use mathlib.Core.Path.{ap, _∙_}
+use Rattle.shapes.specs.Shapes.{isShape}
+use Rattle.tables.specs.Records.{recordAt}
+use Rattle.records.specs.Texture.{readTexture}
+use Rattle.access.proofs.Ids.{hasId}
+use Rattle.retirement.proofs.Tracked.{says-nowhere, says-here, record-fits}
+use Rattle.retirement.proofs.Noted.{note-untracked, note-tracked}
+use Rattle.retirement.proofs.queue.retired_version.Statement.{statement}
+use Rattle.retirement.proofs.queue.retired_version.Tie as tie
+
+has-id-requires : tie.Need-has-id-requires
+has-id-requires c κs = c .before .pre .0
+
+returns : tie.Need-returns
+returns c =
+    let a = c .before .before .before .args in
+    note-untracked (hasId (a .textures .now) (a .tracked) (a .i) (a .id)) (recordAt 19 readTexture (a .textures .now) (a .i)) (a .id) (a .view) (a .seq)
+    (says-nowhere (a .textures .now) (a .tracked) (a .i) (a .id) (c .before .has-id .result) (c .before .has-id .ensures) (c .if1 .taken))
+
+texture-at-requires : tie.Need-texture-at-requires
+texture-at-requires c κs =
+    let a = c .before .before .before .args in
+    record-fits (a .textures .now) (a .tracked) (a .i) (a .id) (c .before .has-id .result) (c .before .has-id .ensures) (c .if1 .left) (c .before .before .before .pre .0)
+
+writes-counted-requires : tie.Need-writes-counted-requires
+writes-counted-requires c κs = search needs
+
+shape-bytes-requires : tie.Need-shape-bytes-requires
+shape-bytes-requires c κs =
+    let a = c .before .before .before .before .before .before .args in
+    ap (λ t. isShape (t .shape)) (c .before .before .texture-at .ensures)
+    ∙ c .before .before .before .before .before .before .pre .1 (says-here (a .textures .now) (a .tracked) (a .i) (a .id) (c .before .before .before .before .has-id .result) (c .before .before .before .before .has-id .ensures) (c .before .before .before .if1 .left))
+
+returns-2 : tie.Need-returns-2
+returns-2 c =
+    let a = c .before .before .before .before .before .before .before .args in
+    note-tracked (hasId (a .textures .now) (a .tracked) (a .i) (a .id)) (recordAt 19 readTexture (a .textures .now) (a .i)) (a .id) (a .view) (a .seq)
+    (says-here (a .textures .now) (a .tracked) (a .i) (a .id) (c .before .before .before .before .before .has-id .result) (c .before .before .before .before .before .has-id .ensures) (c .before .before .before .before .if1 .left)) (c .before .before .before .texture-at .result) (c .before .before .before .texture-at .ensures)
+    (c .before .writes-counted .result) (c .shape-bytes .result) (c .before .writes-counted .ensures) (c .shape-bytes .ensures)
+
+pub retired-version-spec : {M : Type 1} → statement M
+retired-version-spec =
+    tie.close
+    (tie.spec
+    has-id-requires
+    returns
+    texture-at-requires
+    writes-counted-requires
+    shape-bytes-requires
+    returns-2)
