@@ -5,7 +5,7 @@ use Rattle.renames.specs.declared.answer.Taken.{Taken}
 use Rattle.renames.specs.declared.answer.Taken.the-variants.{Spare, NoSpare, Refused}
 
 -- the spare's view number and held writes, no spare, or 01's number of a refusal
-abbrev pub taken : Taken → Told (Option TakenVersion)
-taken (Spare view held) = answer (some (record { view = view; held = held }))
-taken NoSpare = answer none
-taken (Refused n) = refusal n
+abbrev pub takenTold : Taken → Told (Option TakenVersion)
+takenTold (Spare view held) = answer (some (record { view = view; held = held }))
+takenTold NoSpare = answer none
+takenTold (Refused n) = refusal n

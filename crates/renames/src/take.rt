@@ -4,7 +4,7 @@ ghost use mathlib.Core.Bool.{true};
 ghost use Rattle.layout.specs.Lent.{lent};
 ghost use Rattle.layout.specs.IsPool.{isPool};
 ghost use Rattle.layout.specs.Calls.{takeSpareCall};
-ghost use Rattle.renames.specs.Answer.{taken};
+ghost use Rattle.renames.specs.Answer.{takenTold};
 use crate::answer::TakeAnswer;
 use crate::answer::Taken;
 use crate::newest::take_newest;
@@ -35,7 +35,7 @@ pub fn take_spare(
     seq: u64,
 ) -> TakeAnswer
     requires { ⌜ isPool (lent pool book (now textures) (now retiring) (now doomed) (now spares) (now newest) (now stamps)) ≡ true ⌝ }
-    ensures { λ r. ⌜ (taken (r .taken), lent (r .pool) book (now (textures .exit)) (now (retiring .entry)) (now (doomed .exit)) (now (spares .exit)) (now (newest .exit)) (now (stamps .exit)))
+    ensures { λ r. ⌜ (takenTold (r .taken), lent (r .pool) book (now (textures .exit)) (now (retiring .entry)) (now (doomed .exit)) (now (spares .exit)) (now (newest .exit)) (now (stamps .exit)))
         ≡ takeSpareCall (lent pool book (now (textures .entry)) (now (retiring .entry)) (now (doomed .entry)) (now (spares .entry)) (now (newest .entry)) (now (stamps .entry))) id shape records seq ⌝ }
 {
     let i = find_texture(textures, pool.tracked, id);

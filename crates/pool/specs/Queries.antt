@@ -1,0 +1,54 @@
+-- The queries, which alter nothing: stores that form no pool are refused with 1; nothing else is refused.
+use Prim.Native.Nat.{ℕ}
+use mathlib.Core.Path.{_≡_}
+use mathlib.Core.Bool.{Bool, cond}
+use Rattle.grids.specs.declared.dirty.DirtyTile.{DirtyTile}
+use Rattle.grids.specs.declared.dirty.DirtyTile.the-variants.{At, NoTile}
+use Rattle.stores.specs.NoteWrite.{recordsWrites, IsDirtyTileOf}
+use Rattle.layout.specs.Lent.{Lent}
+use Rattle.layout.specs.Reading.{modelOf}
+use Rattle.layout.specs.IsPool.{isPool}
+use Rattle.layout.specs.Calls.{Told, refusal, answer}
+use Rattle.pool.specs.declared.queries.RecordsAnswer.{RecordsAnswer}
+use Rattle.pool.specs.declared.queries.RecordsAnswer.the-variants.{Records, NoPool as NoPoolRecords}
+use Rattle.pool.specs.declared.queries.BytesAnswer.{BytesAnswer}
+use Rattle.pool.specs.declared.queries.BytesAnswer.the-variants.{Bytes, NoPool as NoPoolBytes}
+use Rattle.pool.specs.declared.queries.DirtyAnswer.{DirtyAnswer}
+use Rattle.pool.specs.declared.queries.DirtyAnswer.the-variants.{Tile, NoTile as Clean, NoPool as NoPoolTile}
+
+-- ---- 01's number and value for each case of an answer
+
+abbrev pub recordsTold : RecordsAnswer → Told Bool
+recordsTold (Records b) = answer b
+recordsTold NoPoolRecords = refusal 1
+
+abbrev pub bytesTold : BytesAnswer → Told ℕ
+bytesTold (Bytes n) = answer n
+bytesTold NoPoolBytes = refusal 1
+
+abbrev pub tileTold : DirtyAnswer → Told DirtyTile
+tileTold (Tile column row) = answer (At column row)
+tileTold Clean = answer NoTile
+tileTold NoPoolTile = refusal 1
+
+-- ---- the queries
+
+-- whether the texture keeps a history
+unfoldable pub recordsWritesCall : Lent → ℕ → Told Bool
+recordsWritesCall l id = cond (isPool l) (answer (recordsWrites (modelOf l) id)) (refusal 1)
+
+-- bytes of the spares
+unfoldable pub parkedBytesCall : Lent → Told ℕ
+parkedBytesCall l = cond (isPool l) (answer (modelOf l .parked)) (refusal 1)
+
+-- bytes of the destroy queue
+unfoldable pub pendingDestroyBytesCall : Lent → Told ℕ
+pendingDestroyBytesCall l = cond (isPool l) (answer (modelOf l .dooming)) (refusal 1)
+
+-- the one answer that 01 leaves open: some tile stamped above `held`, none only where none is
+abbrev pub IsTile : Lent → ℕ → ℕ → ℕ → ℕ → Told DirtyTile → Type 0
+IsTile l id slice level held (refusal n) = ⊥
+IsTile l id slice level held (answer t) = IsDirtyTileOf (modelOf l) id slice level held t
+
+unfoldable pub DirtyTileCall : Lent → ℕ → ℕ → ℕ → ℕ → Told DirtyTile → Type 0
+DirtyTileCall l id slice level held r = cond (isPool l) (IsTile l id slice level held r) (r ≡ refusal 1)

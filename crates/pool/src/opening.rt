@@ -1,0 +1,76 @@
+// A pool just opened (the Rust's `new`).
+ghost use mathlib.Core.Path.{_≡_};
+ghost use Rattle.layout.specs.Lent.{lent};
+ghost use Rattle.layout.specs.Calls.{openNumber, openedPool, openedBook};
+use layout::PacingBook;
+use layout::Pool;
+use pool_test::sizes_fit;
+use stores::VersionBudget;
+
+// 01's number, 0 if the pool was opened, and the pool and pacing book to begin with.
+pub struct OpenAnswer {
+    pub outcome: u64,
+    pub pool: Pool,
+    pub book: PacingBook,
+}
+
+// Nothing tracked, nothing queued, with the budget of a working set.
+fn opened_pool(working: u64) -> Pool
+    ensures { λ r. ⌜ r ≡ openedPool working ⌝ }
+{
+    let budget = VersionBudget::from_working_set(working);
+    Pool {
+        tracked: 0,
+        kept: 0,
+        pages: 0,
+        head: 0,
+        popped: false,
+        queued: 0,
+        first: 0,
+        doomed: 0,
+        since: 0,
+        trackings: 0,
+        parked: 0,
+        dooming: 0,
+        cap: budget.cap,
+        line: budget.line,
+    }
+}
+
+fn opened_book() -> PacingBook
+    ensures { λ r. ⌜ r ≡ openedBook ⌝ }
+{
+    PacingBook {
+        arrivals: [0; 8],
+        slot: 0,
+        pressed: false,
+        excess: 0,
+    }
+}
+
+// The slices are lent to be measured: whatever they hold is free, and stays.
+pub fn open(
+    working: u64,
+    textures: &[u64],
+    retiring: &[u64],
+    doomed: &[u64],
+    spares: &[u64],
+    newest: &[u64],
+    stamps: &[u64],
+) -> OpenAnswer
+    ensures { λ r. ⌜ r ≡ record {
+      outcome = openNumber (lent (openedPool working) openedBook (now (textures .entry)) (now (retiring .entry)) (now (doomed .entry)) (now (spares .entry)) (now (newest .entry)) (now (stamps .entry)));
+      pool = openedPool working;
+      book = openedBook;
+    } ⌝ }
+{
+    let fits = sizes_fit(textures, retiring, doomed, spares, newest, stamps);
+    let pool = opened_pool(working);
+    let book = opened_book();
+    let outcome = if fits { 0 } else { 1 };
+    OpenAnswer {
+        outcome,
+        pool,
+        book,
+    }
+}

@@ -1,0 +1,95 @@
+// What was written.
+ghost use mathlib.Core.Path.{_≡_};
+ghost use Rattle.layout.specs.Lent.{lent};
+ghost use Rattle.layout.specs.Calls.{toldNumber, noteMipRegenerationCall, noteWriteCall};
+use layout::DoneAnswer;
+use layout::PacingBook;
+use layout::Pool;
+use pool_test::is_pool;
+use rects::TexelRect;
+
+// Notes a write to one subresource.
+pub fn note_write(
+    pool: Pool,
+    book: PacingBook,
+    textures: &mut [u64],
+    retiring: &[u64],
+    doomed: &[u64],
+    spares: &[u64],
+    newest: &mut [u64],
+    stamps: &mut [u64],
+    id: u64,
+    slice: u64,
+    level: u64,
+    rect: TexelRect,
+) -> DoneAnswer
+    ensures { λ r. ⌜ (toldNumber (r .outcome), lent (r .pool) book (now (textures .exit)) (now (retiring .entry)) (now (doomed .entry)) (now (spares .entry)) (now (newest .exit)) (now (stamps .exit)))
+        ≡ noteWriteCall (lent pool book (now (textures .entry)) (now (retiring .entry)) (now (doomed .entry)) (now (spares .entry)) (now (newest .entry)) (now (stamps .entry))) id slice level rect ⌝ }
+{
+    if !is_pool(
+        pool,
+        book,
+        textures,
+        retiring,
+        doomed,
+        spares,
+        newest,
+        stamps,
+    ) {
+        return DoneAnswer { pool, outcome: 1 };
+    }
+    writes::note_write(
+        pool,
+        book,
+        textures,
+        retiring,
+        doomed,
+        spares,
+        newest,
+        stamps,
+        id,
+        slice,
+        level,
+        rect,
+    )
+}
+
+// Notes that every level but the first was made anew.
+pub fn note_mip_regeneration(
+    pool: Pool,
+    book: PacingBook,
+    textures: &mut [u64],
+    retiring: &[u64],
+    doomed: &[u64],
+    spares: &[u64],
+    newest: &mut [u64],
+    stamps: &mut [u64],
+    id: u64,
+) -> DoneAnswer
+    ensures { λ r. ⌜ (toldNumber (r .outcome), lent (r .pool) book (now (textures .exit)) (now (retiring .entry)) (now (doomed .entry)) (now (spares .entry)) (now (newest .exit)) (now (stamps .exit)))
+        ≡ noteMipRegenerationCall (lent pool book (now (textures .entry)) (now (retiring .entry)) (now (doomed .entry)) (now (spares .entry)) (now (newest .entry)) (now (stamps .entry))) id ⌝ }
+{
+    if !is_pool(
+        pool,
+        book,
+        textures,
+        retiring,
+        doomed,
+        spares,
+        newest,
+        stamps,
+    ) {
+        return DoneAnswer { pool, outcome: 1 };
+    }
+    writes::note_mip_regeneration(
+        pool,
+        book,
+        textures,
+        retiring,
+        doomed,
+        spares,
+        newest,
+        stamps,
+        id,
+    )
+}
