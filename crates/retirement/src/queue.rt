@@ -43,7 +43,8 @@ fn retire_refusal(pool: Pool, retiring: &[u64], places: usize, seq: u64) -> u64
     if places <= n + pool.kept + pool.doomed {
         return 7;
     }
-    if pool.queued == 0 {
+    let queued = pool.queued;
+    if queued == 0 {
         return 0;
     }
     let last = retiring_at(retiring, places, pool.head, n - 1);
