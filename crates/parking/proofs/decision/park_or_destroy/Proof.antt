@@ -17,7 +17,8 @@ returns : tie.Need-returns
 returns c =
     let a = c .before .before .before .args in
     let h = c .before .has-id in
-    decide-untracked (a .pool) (a .pressed) (hasId (a .textures .now) (a .pool .tracked) (a .i) (a .v .id)) (recordAt 19 readTexture (a .textures .now) (a .i)) (a .v)
+    decide-untracked (a .pool) (a .pressed) (hasId (a .textures .now) (a .pool .tracked) (a .i) (a .v .id))
+    (recordAt 19 readTexture (a .textures .now) (a .i)) (a .v)
     (says-nowhere (a .textures .now) (a .pool .tracked) (a .i) (a .v .id) (h .result) (h .ensures) (c .if1 .taken))
 
 texture-at-requires : tie.Need-texture-at-requires
@@ -30,17 +31,21 @@ returns-2 : tie.Need-returns-2
 returns-2 c =
     let a = c .before .before .before .before .before .before .before .args in
     let h = c .before .before .before .before .before .has-id in
-    let q = says-here (a .textures .now) (a .pool .tracked) (a .i) (a .v .id) (h .result) (h .ensures) (c .before .before .before .before .if1 .left) in
+    let q = says-here (a .textures .now) (a .pool .tracked) (a .i) (a .v .id) (h .result) (h .ensures)
+    (c .before .before .before .before .if1 .left) in
     let t = c .before .before .before .texture-at in
-    decide-renewed (a .pool) (a .pressed) (hasId (a .textures .now) (a .pool .tracked) (a .i) (a .v .id)) (recordAt 19 readTexture (a .textures .now) (a .i)) (a .v)
+    decide-renewed (a .pool) (a .pressed) (hasId (a .textures .now) (a .pool .tracked) (a .i) (a .v .id))
+    (recordAt 19 readTexture (a .textures .now) (a .i)) (a .v)
     q (t .result) (t .ensures) (λ same. let y : ⊥ = omega (arith, same, c .if2 .taken) in y)
 
 shape-bytes-requires : tie.Need-shape-bytes-requires
 shape-bytes-requires c κs =
     let a = c .before .before .before .before .before .before .before .args in
     let h = c .before .before .before .before .before .has-id in
-    let q = says-here (a .textures .now) (a .pool .tracked) (a .i) (a .v .id) (h .result) (h .ensures) (c .before .before .before .before .if1 .left) in
-    ap (λ t. isShape (t .shape)) (c .before .before .before .texture-at .ensures) ∙ c .before .before .before .before .before .before .before .pre .1 q
+    let q = says-here (a .textures .now) (a .pool .tracked) (a .i) (a .v .id) (h .result) (h .ensures)
+    (c .before .before .before .before .if1 .left) in
+    ap (λ t. isShape (t .shape)) (c .before .before .before .texture-at .ensures)
+    ∙ c .before .before .before .before .before .before .before .pre .1 q
 
 sub-if3 : tie.Need-sub-if3
 sub-if3 c = c .before .before .before .before .before .before .before .before .before .pre .2
@@ -49,22 +54,26 @@ returns-3 : tie.Need-returns-3
 returns-3 c =
     let a = c .before .before .before .before .before .before .before .before .before .before .args in
     let h = c .before .before .before .before .before .before .before .before .has-id in
-    let q = says-here (a .textures .now) (a .pool .tracked) (a .i) (a .v .id) (h .result) (h .ensures) (c .before .before .before .before .before .before .before .if1 .left) in
+    let q = says-here (a .textures .now) (a .pool .tracked) (a .i) (a .v .id) (h .result) (h .ensures)
+    (c .before .before .before .before .before .before .before .if1 .left) in
     let t = c .before .before .before .before .before .before .texture-at in
     let n = c .before .before .shape-bytes in
     let within = c .before .before .before .before .before .before .before .before .before .before .pre .2 in
-    decide-full (a .pool) (a .pressed) (hasId (a .textures .now) (a .pool .tracked) (a .i) (a .v .id)) (recordAt 19 readTexture (a .textures .now) (a .i)) (a .v)
+    decide-full (a .pool) (a .pressed) (hasId (a .textures .now) (a .pool .tracked) (a .i) (a .v .id))
+    (recordAt 19 readTexture (a .textures .now) (a .i)) (a .v)
     q (t .result) (t .ensures) (omega (arith, c .before .before .before .if2 .left)) (n .result) (n .ensures) within (c .if3 .taken)
 
 returns-4 : tie.Need-returns-4
 returns-4 c =
     let a = c .before .before .before .before .before .before .before .before .before .before .args in
     let h = c .before .before .before .before .before .before .before .before .has-id in
-    let q = says-here (a .textures .now) (a .pool .tracked) (a .i) (a .v .id) (h .result) (h .ensures) (c .before .before .before .before .before .before .before .if1 .left) in
+    let q = says-here (a .textures .now) (a .pool .tracked) (a .i) (a .v .id) (h .result) (h .ensures)
+    (c .before .before .before .before .before .before .before .if1 .left) in
     let t = c .before .before .before .before .before .before .texture-at in
     let n = c .before .before .shape-bytes in
     let within = c .before .before .before .before .before .before .before .before .before .before .pre .2 in
-    decide-kept (a .pool) (a .pressed) (hasId (a .textures .now) (a .pool .tracked) (a .i) (a .v .id)) (recordAt 19 readTexture (a .textures .now) (a .i)) (a .v)
+    decide-kept (a .pool) (a .pressed) (hasId (a .textures .now) (a .pool .tracked) (a .i) (a .v .id))
+    (recordAt 19 readTexture (a .textures .now) (a .i)) (a .v)
     q (t .result) (t .ensures) (omega (arith, c .before .before .before .if2 .left)) (n .result) (n .ensures) within (c .if3 .left)
 
 pub park-or-destroy-spec : {M : Type 1} → statement M

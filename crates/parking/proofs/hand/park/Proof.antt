@@ -151,7 +151,8 @@ returns-2 c =
     park-destroyed l (b .pre) (a .failed) (a .current) (r .park-refusal .result) (r .park-refusal .ensures) zero
     (v .retiring-at .result) (v .retiring-at .ensures) (s .find-texture .result) (s .find-texture .ensures)
     (d .park-or-destroy .result) (d .park-or-destroy .ensures) (told .decided .given .0 .0) (told .decided .given .1)
-    (h .ring-drop .result) (c .hand-doomed .result) _ (h .ring-drop .ensures .1) (c .before .before .before .push-doomed .ensures) (c .hand-doomed .ensures)
+    (h .ring-drop .result) (c .hand-doomed .result) _ (h .ring-drop .ensures .1) (c .before .before .before .push-doomed .ensures)
+    (c .hand-doomed .ensures)
 
 same-length-3 : tie.Need-same-length-3
 same-length-3 c = search needs

@@ -59,7 +59,8 @@ returns c =
     let m = c .before .before .before .before .before .before .before .before .before .spares-before in
     let more = c .before .before .before .one-more in (
       keep-record (a .textures .now) (a .i) (t .result) (t .ensures) (more .result) (more .ensures) _ (c .before .before .put-texture .ensures),
-      keep-spare (a .textures .now) (a .i) (t .result) (t .ensures) (m .result) (m .ensures) (a .spares .now) (a .kept) (a .x) _ (c .before .before .before .before .before .before .before .insert-spare .ensures),
+      keep-spare (a .textures .now) (a .i) (t .result) (t .ensures) (m .result) (m .ensures) (a .spares .now) (a .kept) (a .x) _
+          (c .before .before .before .before .before .before .before .insert-spare .ensures),
     )
 
 pub keep-version-spec : {M : Type 1} → statement M

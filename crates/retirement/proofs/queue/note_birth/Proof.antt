@@ -18,14 +18,16 @@ returns : tie.Need-returns
 returns c =
     let a = c .before .before .before .before .args in
     let h = c .before .has-id in
-    birth-untracked (hasId (a .textures .now) (a .tracked) (a .i) (a .id)) (a .textures .now) (a .i) (a .seq) (recordAt 19 readTexture (a .textures .now) (a .i))
+    birth-untracked (hasId (a .textures .now) (a .tracked) (a .i) (a .id)) (a .textures .now) (a .i) (a .seq)
+    (recordAt 19 readTexture (a .textures .now) (a .i))
     (says-nowhere (a .textures .now) (a .tracked) (a .i) (a .id) (h .result) (h .ensures) (c .if1 .taken))
 
 texture-at-requires : tie.Need-texture-at-requires
 texture-at-requires c κs =
     let a = c .before .before .before .before .before .args in
     let h = c .before .before .has-id in
-    record-fits (a .textures .now) (a .tracked) (a .i) (a .id) (h .result) (h .ensures) (c .before .if1 .left) (c .before .before .before .before .before .pre .0)
+    record-fits (a .textures .now) (a .tracked) (a .i) (a .id) (h .result) (h .ensures) (c .before .if1 .left)
+    (c .before .before .before .before .before .pre .0)
 
 born-at-requires : tie.Need-born-at-requires
 born-at-requires c κs = search needs
@@ -38,7 +40,8 @@ put-texture-requires c κs =
     let q = says-here (a .textures .now) (a .tracked) (a .i) (a .id) (h .result) (h .ensures) (c .before .before .before .before .if1 .left) in
     let t = c .before .before .texture-at in (
       record-fits (a .textures .now) (a .tracked) (a .i) (a .id) (h .result) (h .ensures) (c .before .before .before .before .if1 .left) (pre .0),
-      birth-fits (t .result) (recordAt 19 readTexture (a .textures .now) (a .i)) (c .born-at .result) (a .seq) (t .ensures) (c .born-at .ensures) (pre .1 q),
+      birth-fits (t .result) (recordAt 19 readTexture (a .textures .now) (a .i)) (c .born-at .result) (a .seq) (t .ensures) (c .born-at .ensures)
+          (pre .1 q),
     )
 
 same-length-2 : tie.Need-same-length-2
@@ -48,10 +51,12 @@ returns-2 : tie.Need-returns-2
 returns-2 c =
     let a = c .before .before .before .before .before .before .before .before .before .before .before .args in
     let h = c .before .before .before .before .before .before .before .before .has-id in
-    let q = says-here (a .textures .now) (a .tracked) (a .i) (a .id) (h .result) (h .ensures) (c .before .before .before .before .before .before .before .if1 .left) in
+    let q = says-here (a .textures .now) (a .tracked) (a .i) (a .id) (h .result) (h .ensures)
+    (c .before .before .before .before .before .before .before .if1 .left) in
     let t = c .before .before .before .before .before .texture-at in
     let born = c .before .before .before .born-at in
-    birth-tracked (hasId (a .textures .now) (a .tracked) (a .i) (a .id)) (a .textures .now) (a .i) (a .seq) (recordAt 19 readTexture (a .textures .now) (a .i))
+    birth-tracked (hasId (a .textures .now) (a .tracked) (a .i) (a .id)) (a .textures .now) (a .i) (a .seq)
+    (recordAt 19 readTexture (a .textures .now) (a .i))
     q (t .result) (born .result) (t .ensures) (born .ensures) _ (c .before .before .put-texture .ensures)
 
 pub note-birth-spec : {M : Type 1} → statement M

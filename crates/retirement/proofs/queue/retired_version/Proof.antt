@@ -17,7 +17,8 @@ returns : tie.Need-returns
 returns c =
     let a = c .before .before .before .args in
     let h = c .before .has-id in
-    note-untracked (hasId (a .textures .now) (a .tracked) (a .i) (a .id)) (recordAt 19 readTexture (a .textures .now) (a .i)) (a .id) (a .view) (a .seq)
+    note-untracked (hasId (a .textures .now) (a .tracked) (a .i) (a .id)) (recordAt 19 readTexture (a .textures .now) (a .i)) (a .id) (a .view)
+    (a .seq)
     (says-nowhere (a .textures .now) (a .tracked) (a .i) (a .id) (h .result) (h .ensures) (c .if1 .taken))
 
 texture-at-requires : tie.Need-texture-at-requires
