@@ -175,14 +175,16 @@ module _ (l : Lent) (e : isPool l ≡ true) (failed current : ℕ) where
         unfolding parkingOf modelOf
         tracked-parks t = go (eqb (t .epoch) (x .epoch)) (l .book .pressed || ltb (l .pool .cap) (l .pool .parked + bytesOf (t .shape)))
           where
-            go : (a b : Bool) → cond a (cond b (parked (Destroyed (bytesOf (t .shape)))) (parked (Kept (bytesOf (t .shape))))) (parked (Destroyed (x .bytes)))
+            go : (a b : Bool) → cond a (cond b (parked (Destroyed (bytesOf (t .shape)))) (parked (Kept (bytesOf (t .shape)))))
+                (parked (Destroyed (x .bytes)))
                 ≡ parked (cond a (cond b (Destroyed (bytesOf (t .shape))) (Kept (bytesOf (t .shape)))) (Destroyed (x .bytes)))
             go true true = refl
             go true false = refl
             go false b = refl
 
         parks : (b : Bool) → here ≡ b
-            → parkFound emptied failed current v (find (x .id) (modelOf l .textures)) ≡ parked (parkingOf (l .pool) (l .book .pressed) b (textureAt l i) x)
+            → parkFound emptied failed current v (find (x .id) (modelOf l .textures))
+            ≡ parked (parkingOf (l .pool) (l .book .pressed) b (textureAt l i) x)
         unfolding parkingOf
         parks false q = ap (parkFound emptied failed current v) (found-nowhere l fits (x .id) i at q)
         parks true q =
@@ -197,7 +199,8 @@ module _ (l : Lent) (e : isPool l ≡ true) (failed current : ℕ) where
             ∙ sym (asked-accepted (λ a. a) l (λ (p : Pool ℕ). park p failed current) e tt (parked d)
             (rule-passed ∙ ap (accepted tt) (parks here refl ∙ ap parked q)))
 
-        pub decision-fits : (19 * l .pool .tracked ≤ length (l .textures)) × (here ≡ true → isShape (textureAt l i .shape) ≡ true) × (l .pool .parked ≤ l .pool .cap)
+        pub decision-fits : (19 * l .pool .tracked ≤ length (l .textures)) × (here ≡ true → isShape (textureAt l i .shape) ≡ true)
+            × (l .pool .parked ≤ l .pool .cap)
         unfolding modelOf
         decision-fits = (textures-fit l fits, shape-here l fits (x .id) i at, fits .formed .cap)
 
@@ -221,7 +224,8 @@ module _ (l : Lent) (e : isPool l ≡ true) (failed current : ℕ) where
             pub doomed-counts-fit : (l .pool .doomed ≤ 4096) × (l .pool .since ≤ 4096) × (l .pool .dooming + bytes < 2 ^ 64)
             unfolding modelOf
             doomed-counts-fit =
-                let dooming : l .pool .dooming ≤ 17592186044416 * length (modelOf l .doomed) = omega (arith, fits .formed .dooming, doomed-bound (fits .formed .doomed)) in (
+                let dooming : l .pool .dooming ≤ 17592186044416 * length (modelOf l .doomed) =
+                omega (arith, fits .formed .dooming, doomed-bound (fits .formed .doomed)) in (
                   omega (arith, doomed-fit l fits, fits .most),
                   omega (arith, fits .formed .since, doomed-model l, doomed-fit l fits, fits .most),
                   omega (arith, dooming, doomed-model l, doomed-fit l fits, fits .most, few),
@@ -252,12 +256,14 @@ module _ (l : Lent) (e : isPool l ≡ true) (failed current : ℕ) where
               line = l .pool .line;
             }
 
-            doomed-lost : sets (l .doomed) (2 * placeOf (places l) (l .pool .first) (l .pool .doomed)) (writeDoomed (record { view = x .view; bytes = bytes })) ≡ doomedAfter lost l
+            doomed-lost : sets (l .doomed) (2 * placeOf (places l) (l .pool .first) (l .pool .doomed))
+                (writeDoomed (record { view = x .view; bytes = bytes })) ≡ doomedAfter lost l
             unfolding laid versionPlaces
             doomed-lost = doomed-pushed l lost (fits .first) (omega (arith, fits .doomed)) (doomed-fit l fits) one refl
 
             pub park-destroyed : (head : ℕ) (c : Counts) (doomed : List ℕ) → head ≡ placeOf (places l) (l .pool .head) 1
-                → doomed ≡ sets (l .doomed) (2 * placeOf (places l) (l .pool .first) (l .pool .doomed)) (writeDoomed (record { view = x .view; bytes = bytes }))
+                → doomed ≡ sets (l .doomed) (2 * placeOf (places l) (l .pool .first) (l .pool .doomed))
+                (writeDoomed (record { view = x .view; bytes = bytes }))
                 → c ≡ handDoomed head bytes (l .pool)
                 → (toldNumber 0, lent c (l .book) (l .textures) (l .retiring) doomed (l .spares) (l .newest) (l .stamps)) ≡ parkCall l failed current
             park-destroyed head c doomed e1 e2 e3 =
@@ -341,10 +347,12 @@ module _ (l : Lent) (e : isPool l ≡ true) (failed current : ℕ) where
 
             textures-kept : sets (l .textures) (19 * i) (writeTexture (oneMore (textureAt l i))) ≡ texturesAfter stays l
             textures-kept =
-                ap (λ (t : TextureRecord). sets (l .textures) (19 * i) (writeTexture t)) (ap oneMore (sym (record-at l i there)) ∙ record-one spare (stateOf l i))
+                ap (λ (t : TextureRecord). sets (l .textures) (19 * i) (writeTexture t))
+                (ap oneMore (sym (record-at l i there)) ∙ record-one spare (stateOf l i))
                 ∙ textures-set l stays (textures-fit l fits) i (withOne spare (stateOf l i)) there grown-is
 
-            spares-kept : sets (moved (l .spares) (3 * end + 3) (3 * end) (3 * (l .pool .kept - end))) (3 * end) (writeSpare (spareParked failed current x)) ≡ sparesAfter stays l
+            spares-kept : sets (moved (l .spares) (3 * end + 3) (3 * end) (3 * (l .pool .kept - end))) (3 * end)
+                (writeSpare (spareParked failed current x)) ≡ sparesAfter stays l
             spares-kept = spares-inserted l stays (fits .kept) (omega (arith, room)) end spare room end-within every-is
 
             pub park-kept : (head : ℕ) (s : SpareRecord) (c : Counts) (textures spares : List ℕ) → head ≡ placeOf (places l) (l .pool .head) 1
@@ -359,5 +367,6 @@ module _ (l : Lent) (e : isPool l ≡ true) (failed current : ℕ) where
                 (e5 ∙ counts-kept head e1) (book-stays l fits stays refl) (e3 ∙ textures-kept)
                 (sym (retiring-parked l stays (fits .head) (omega (arith, fits .retiring)) (ring-fits l fits) held refl refl))
                 (doomed-stay l fits stays refl)
-                (e4 ∙ ap (λ (y : SpareRecord). sets (moved (l .spares) (3 * end + 3) (3 * end) (3 * (l .pool .kept - end))) (3 * end) (writeSpare y)) e2 ∙ spares-kept)
+                (e4 ∙ ap (λ (y : SpareRecord). sets (moved (l .spares) (3 * end + 3) (3 * end) (3 * (l .pool .kept - end))) (3 * end)
+                (writeSpare y)) e2 ∙ spares-kept)
                 (newest-stay l fits stays paged) (stamps-stay l fits stays paged))

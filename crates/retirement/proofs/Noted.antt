@@ -17,7 +17,8 @@ use Rattle.retirement.specs.Noted.{writesCounted, retiredRecord, bornAt}
 -- ---- as the code notes it
 
 module _ (b : Bool) (t : TextureRecord) (id view seq : ℕ) where
-  pub note-untracked : b ≡ false → record { id = id; view = view; seq = seq; epoch = 0; birth = 0; held = 0; bytes = 0 } ≡ retiredRecord b t id view seq
+  pub note-untracked : b ≡ false → record { id = id; view = view; seq = seq; epoch = 0; birth = 0; held = 0; bytes = 0 }
+      ≡ retiredRecord b t id view seq
   unfolding retiredRecord
   note-untracked e = sym (ap (λ (a : Bool). retiredRecord a t id view seq) e)
 
@@ -44,7 +45,8 @@ module _ (b : Bool) (s : List ℕ) (i seq : ℕ) (t : TextureRecord) where
 
 -- ---- as the model does
 
-pub model-tracked : (t : VersionState ℕ) (id view seq : ℕ) → retiringRecord (retired id view seq (some t)) ≡ retiredRecord true (textureRecord t) id view seq
+pub model-tracked : (t : VersionState ℕ) (id view seq : ℕ) → retiringRecord (retired id view seq (some t))
+    ≡ retiredRecord true (textureRecord t) id view seq
 unfolding retiredRecord
 model-tracked t id view seq = λ i. record {
   id = id;

@@ -37,7 +37,8 @@ unfolding versionPlaces
 ring-room l f = (omega (arith, f .retiring), f .head, f .least)
 
 -- the ring's front, by the record that the code reads
-pub front-read : (l : Lent) (x : RetiringRecord) → x ≡ along 7 readRetiring (length (l .retiring) / 7) (l .pool .head) (l .retiring) 0 → retiringOf x ≡ retiringRead l 0
+pub front-read : (l : Lent) (x : RetiringRecord) → x ≡ along 7 readRetiring (length (l .retiring) / 7) (l .pool .head) (l .retiring) 0
+    → retiringOf x ≡ retiringRead l 0
 unfolding retiringRead versionPlaces
 front-read l x read = ap retiringOf read
 

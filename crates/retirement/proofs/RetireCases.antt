@@ -46,7 +46,8 @@ abbrev places : Lent → ℕ
 places l = length (l .retiring) / 7
 
 pub refusal-fits : (l : Lent) → Fits l
-    → (7 * places l ≤ length (l .retiring)) × (l .pool .head < places l) × (ringCount (l .pool) + l .pool .kept + l .pool .doomed ≤ places l) × (places l ≤ 4096)
+    → (7 * places l ≤ length (l .retiring)) × (l .pool .head < places l) × (ringCount (l .pool) + l .pool .kept + l .pool .doomed ≤ places l)
+    × (places l ≤ 4096)
 unfolding versionPlaces
 refusal-fits l f = (omega (arith, f .retiring), f .head, omega (arith, f .versions), f .most)
 
@@ -150,13 +151,15 @@ module _ (l : Lent) (e : isPool l ≡ true) (id view seq : ℕ) where
 
       version-noted : (b : Bool) → here ≡ b → retiringRecord version ≡ retiredRecord b (textureAt l i) id view seq
       version-noted false q =
-          ap (λ (o : Option (VersionState ℕ)). retiringRecord (retired id view seq o)) (found-nowhere l fits id i at q) ∙ model-untracked (textureAt l i) id view seq
+          ap (λ (o : Option (VersionState ℕ)). retiringRecord (retired id view seq o)) (found-nowhere l fits id i at q)
+          ∙ model-untracked (textureAt l i) id view seq
       version-noted true q =
           ap (λ (o : Option (VersionState ℕ)). retiringRecord (retired id view seq o)) (found-here l fits id i at q)
           ∙ model-tracked (stateOf l i) id view seq
           ∙ ap (λ (t : TextureRecord). retiredRecord true t id view seq) (record-at l i (inside l fits id i at q))
 
-      retiring-left : sets (l .retiring) (7 * placeOf (places l) (l .pool .head) (ringCount (l .pool))) (writeRetiring (retiringRecord version)) ≡ retiringAfter queued l
+      retiring-left : sets (l .retiring) (7 * placeOf (places l) (l .pool .head) (ringCount (l .pool))) (writeRetiring (retiringRecord version))
+          ≡ retiringAfter queued l
       unfolding versionPlaces
       retiring-left = retiring-pushed l queued (fits .head) (omega (arith, fits .retiring)) version (push-fits .2) refl refl
 
@@ -174,7 +177,9 @@ module _ (l : Lent) (e : isPool l ≡ true) (id view seq : ℕ) where
           (e5 ∙ counts)
           (book-stays l fits queued refl)
           (e2 ∙ textures-left here refl)
-          (e4 ∙ ap₂ (λ (k : ℕ) (x : RetiringRecord). sets (l .retiring) (7 * placeOf (places l) (l .pool .head) k) (writeRetiring x)) e3 (e1 ∙ sym (version-noted here refl))
+          (e4 ∙ ap₂ (λ (k : ℕ) (x : RetiringRecord). sets (l .retiring) (7 * placeOf (places l) (l .pool .head) k) (writeRetiring x)) e3
+          (e1 ∙ sym (version-noted here refl))
           ∙ retiring-left)
-          (doomed-stay l fits queued refl) (spares-stay l fits queued spares-kept) (newest-stay l fits queued paged) (stamps-stay l fits queued paged))
+          (doomed-stay l fits queued refl) (spares-stay l fits queued spares-kept) (newest-stay l fits queued paged)
+          (stamps-stay l fits queued paged))
           ∙ sym (asked-accepted (λ a. a) l (λ (p : Pool ℕ). retire p id view seq) e tt queued rule-passed)

@@ -46,7 +46,8 @@ module _ (p : Pool) (retiring : List ℕ) (places seq : ℕ) where
       pub nothing-queued : p .queued ≡ 0 → 0 ≡ retireRefusal p retiring places seq
       unfolding lastQueued
       nothing-queued q =
-          sym (by-last ∙ ap (λ (b : Bool). cond (ltb seq (cond b 0 (along 7 readRetiring places (p .head) retiring (ringCount p - 1) .seq))) 8 0) (eq-eqb (p .queued) 0 q)
+          sym (by-last ∙ ap (λ (b : Bool). cond (ltb seq (cond b 0 (along 7 readRetiring places (p .head) retiring (ringCount p - 1) .seq))) 8 0)
+          (eq-eqb (p .queued) 0 q)
           ∙ ap (λ (b : Bool). cond b 8 0) (le-ltb seq 0 (omega arith)))
 
       -- x is the last of the ring
@@ -120,7 +121,8 @@ module _ (l : Lent) where
       go (suc n) =
           last-listed (retiringRead l) (handPlaces (l .pool .popped)) n ∙ read-last (handPlaces (l .pool .popped) + n)
           ∙ ap lastAt (let e : handPlaces (l .pool .popped) + n ≡ handPlaces (l .pool .popped) + suc n - 1 = omega arith in e)
-          ∙ sym (ap (λ (b : Bool). cond b 0 (lastAt (handPlaces (l .pool .popped) + suc n - 1))) (ne-eqb (suc n) 0 (λ q. let y : ⊥ = omega (arith, q) in y)))
+          ∙ sym (ap (λ (b : Bool). cond b 0 (lastAt (handPlaces (l .pool .popped) + suc n - 1)))
+          (ne-eqb (suc n) 0 (λ q. let y : ⊥ = omega (arith, q) in y)))
 
   pub used-model : Fits l → versionsUsed (modelOf l) ≡ ringCount (l .pool) + l .pool .kept + l .pool .doomed
   used-model f = omega (arith, versions-read l, f .kept)

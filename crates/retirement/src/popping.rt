@@ -44,7 +44,8 @@ pub fn pop_retired(
             popped: Popped::Refused(3),
         };
     }
-    if pool.popped {
+    let popped = pool.popped;
+    if popped {
         return PopAnswer {
             pool,
             popped: Popped::Refused(9),

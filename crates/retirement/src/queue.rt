@@ -43,7 +43,8 @@ fn retire_refusal(pool: Pool, retiring: &[u64], places: usize, seq: u64) -> u64
     if places <= n + pool.kept + pool.doomed {
         return 7;
     }
-    if pool.queued == 0 {
+    let queued = pool.queued;
+    if queued == 0 {
         return 0;
     }
     let last = retiring_at(retiring, places, pool.head, n - 1);
@@ -72,7 +73,8 @@ fn retired_version(
     view: u64,
     seq: u64,
 ) -> RetiringRecord
-    requires { ⌜ (19 * tracked ≤ length (now textures)) × (hasId (now textures) tracked i id ≡ true → isShape (recordAt 19 readTexture (now textures) i .shape) ≡ true) ⌝ }
+    requires { ⌜ (19 * tracked ≤ length (now textures))
+        × (hasId (now textures) tracked i id ≡ true → isShape (recordAt 19 readTexture (now textures) i .shape) ≡ true) ⌝ }
     ensures { λ r. ⌜ r ≡ retiredRecord (hasId (now (textures .entry)) tracked i id) (recordAt 19 readTexture (now (textures .entry)) i) id view seq ⌝ }
 {
     if !has_id(textures, tracked, i, id) {
@@ -120,9 +122,11 @@ fn born_at(t: TextureRecord, seq: u64) -> TextureRecord
 
 // A tracked texture's live version became live in this submission.
 fn note_birth(textures: &mut [u64], tracked: usize, i: usize, id: u64, seq: u64)
-    requires { ⌜ (19 * tracked ≤ length (now textures)) × (hasId (now textures) tracked i id ≡ true → RecordedFits (recordAt 19 readTexture (now textures) i .history)) ⌝ }
+    requires { ⌜ (19 * tracked ≤ length (now textures))
+        × (hasId (now textures) tracked i id ≡ true → RecordedFits (recordAt 19 readTexture (now textures) i .history)) ⌝ }
     ensures { λ _. ⌜ now (textures .exit)
-        ≡ cond (hasId (now (textures .entry)) tracked i id) (sets (now (textures .entry)) (19 * i) (writeTexture (bornAt seq (recordAt 19 readTexture (now (textures .entry)) i)))) (now (textures .entry)) ⌝ }
+        ≡ cond (hasId (now (textures .entry)) tracked i id)
+        (sets (now (textures .entry)) (19 * i) (writeTexture (bornAt seq (recordAt 19 readTexture (now (textures .entry)) i)))) (now (textures .entry)) ⌝ }
 {
     if !has_id(textures, tracked, i, id) {
         return;

@@ -16,27 +16,36 @@ has-id-requires c κs = c .before .pre .0
 returns : tie.Need-returns
 returns c =
     let a = c .before .before .before .args in
-    decide-untracked (a .pool) (a .pressed) (hasId (a .textures .now) (a .pool .tracked) (a .i) (a .v .id)) (recordAt 19 readTexture (a .textures .now) (a .i)) (a .v)
-    (says-nowhere (a .textures .now) (a .pool .tracked) (a .i) (a .v .id) (c .before .has-id .result) (c .before .has-id .ensures) (c .if1 .taken))
+    let h = c .before .has-id in
+    decide-untracked (a .pool) (a .pressed) (hasId (a .textures .now) (a .pool .tracked) (a .i) (a .v .id))
+    (recordAt 19 readTexture (a .textures .now) (a .i)) (a .v)
+    (says-nowhere (a .textures .now) (a .pool .tracked) (a .i) (a .v .id) (h .result) (h .ensures) (c .if1 .taken))
 
 texture-at-requires : tie.Need-texture-at-requires
 texture-at-requires c κs =
     let a = c .before .before .before .args in
-    record-fits (a .textures .now) (a .pool .tracked) (a .i) (a .v .id) (c .before .has-id .result) (c .before .has-id .ensures) (c .if1 .left) (c .before .before .before .pre .0)
+    let h = c .before .has-id in
+    record-fits (a .textures .now) (a .pool .tracked) (a .i) (a .v .id) (h .result) (h .ensures) (c .if1 .left) (c .before .before .before .pre .0)
 
 returns-2 : tie.Need-returns-2
 returns-2 c =
     let a = c .before .before .before .before .before .before .before .args in
+    let h = c .before .before .before .before .before .has-id in
+    let q = says-here (a .textures .now) (a .pool .tracked) (a .i) (a .v .id) (h .result) (h .ensures)
+    (c .before .before .before .before .if1 .left) in
     let t = c .before .before .before .texture-at in
-    decide-renewed (a .pool) (a .pressed) (hasId (a .textures .now) (a .pool .tracked) (a .i) (a .v .id)) (recordAt 19 readTexture (a .textures .now) (a .i)) (a .v)
-    (says-here (a .textures .now) (a .pool .tracked) (a .i) (a .v .id) (c .before .before .before .before .before .has-id .result) (c .before .before .before .before .before .has-id .ensures) (c .before .before .before .before .if1 .left)) (t .result) (t .ensures)
-    (λ same. let y : ⊥ = omega (arith, same, c .if2 .taken) in y)
+    decide-renewed (a .pool) (a .pressed) (hasId (a .textures .now) (a .pool .tracked) (a .i) (a .v .id))
+    (recordAt 19 readTexture (a .textures .now) (a .i)) (a .v)
+    q (t .result) (t .ensures) (λ same. let y : ⊥ = omega (arith, same, c .if2 .taken) in y)
 
 shape-bytes-requires : tie.Need-shape-bytes-requires
 shape-bytes-requires c κs =
     let a = c .before .before .before .before .before .before .before .args in
+    let h = c .before .before .before .before .before .has-id in
+    let q = says-here (a .textures .now) (a .pool .tracked) (a .i) (a .v .id) (h .result) (h .ensures)
+    (c .before .before .before .before .if1 .left) in
     ap (λ t. isShape (t .shape)) (c .before .before .before .texture-at .ensures)
-    ∙ c .before .before .before .before .before .before .before .pre .1 (says-here (a .textures .now) (a .pool .tracked) (a .i) (a .v .id) (c .before .before .before .before .before .has-id .result) (c .before .before .before .before .before .has-id .ensures) (c .before .before .before .before .if1 .left))
+    ∙ c .before .before .before .before .before .before .before .pre .1 q
 
 sub-if3 : tie.Need-sub-if3
 sub-if3 c = c .before .before .before .before .before .before .before .before .before .pre .2
@@ -44,20 +53,28 @@ sub-if3 c = c .before .before .before .before .before .before .before .before .b
 returns-3 : tie.Need-returns-3
 returns-3 c =
     let a = c .before .before .before .before .before .before .before .before .before .before .args in
+    let h = c .before .before .before .before .before .before .before .before .has-id in
+    let q = says-here (a .textures .now) (a .pool .tracked) (a .i) (a .v .id) (h .result) (h .ensures)
+    (c .before .before .before .before .before .before .before .if1 .left) in
     let t = c .before .before .before .before .before .before .texture-at in
     let n = c .before .before .shape-bytes in
-    decide-full (a .pool) (a .pressed) (hasId (a .textures .now) (a .pool .tracked) (a .i) (a .v .id)) (recordAt 19 readTexture (a .textures .now) (a .i)) (a .v)
-    (says-here (a .textures .now) (a .pool .tracked) (a .i) (a .v .id) (c .before .before .before .before .before .before .before .before .has-id .result) (c .before .before .before .before .before .before .before .before .has-id .ensures) (c .before .before .before .before .before .before .before .if1 .left)) (t .result) (t .ensures)
-    (omega (arith, c .before .before .before .if2 .left)) (n .result) (n .ensures) (c .before .before .before .before .before .before .before .before .before .before .pre .2) (c .if3 .taken)
+    let within = c .before .before .before .before .before .before .before .before .before .before .pre .2 in
+    decide-full (a .pool) (a .pressed) (hasId (a .textures .now) (a .pool .tracked) (a .i) (a .v .id))
+    (recordAt 19 readTexture (a .textures .now) (a .i)) (a .v)
+    q (t .result) (t .ensures) (omega (arith, c .before .before .before .if2 .left)) (n .result) (n .ensures) within (c .if3 .taken)
 
 returns-4 : tie.Need-returns-4
 returns-4 c =
     let a = c .before .before .before .before .before .before .before .before .before .before .args in
+    let h = c .before .before .before .before .before .before .before .before .has-id in
+    let q = says-here (a .textures .now) (a .pool .tracked) (a .i) (a .v .id) (h .result) (h .ensures)
+    (c .before .before .before .before .before .before .before .if1 .left) in
     let t = c .before .before .before .before .before .before .texture-at in
     let n = c .before .before .shape-bytes in
-    decide-kept (a .pool) (a .pressed) (hasId (a .textures .now) (a .pool .tracked) (a .i) (a .v .id)) (recordAt 19 readTexture (a .textures .now) (a .i)) (a .v)
-    (says-here (a .textures .now) (a .pool .tracked) (a .i) (a .v .id) (c .before .before .before .before .before .before .before .before .has-id .result) (c .before .before .before .before .before .before .before .before .has-id .ensures) (c .before .before .before .before .before .before .before .if1 .left)) (t .result) (t .ensures)
-    (omega (arith, c .before .before .before .if2 .left)) (n .result) (n .ensures) (c .before .before .before .before .before .before .before .before .before .before .pre .2) (c .if3 .left)
+    let within = c .before .before .before .before .before .before .before .before .before .before .pre .2 in
+    decide-kept (a .pool) (a .pressed) (hasId (a .textures .now) (a .pool .tracked) (a .i) (a .v .id))
+    (recordAt 19 readTexture (a .textures .now) (a .i)) (a .v)
+    q (t .result) (t .ensures) (omega (arith, c .before .before .before .if2 .left)) (n .result) (n .ensures) within (c .if3 .left)
 
 pub park-or-destroy-spec : {M : Type 1} → statement M
 park-or-destroy-spec =

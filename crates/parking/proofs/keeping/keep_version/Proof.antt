@@ -17,27 +17,34 @@ add-end : tie.Need-add-end
 add-end c =
     let a = c .before .before .before .before .before .before .args in
     let pre = c .before .before .before .before .before .before .pre in
-    let f = end-fits (a .textures .now) (a .i) (c .before .before .texture-at .result) (c .before .before .texture-at .ensures) (c .spares-before .result) (c .spares-before .ensures) (a .kept) (pre .2) (pre .3) in
+    let t = c .before .before .texture-at in
+    let m = c .spares-before in
+    let f = end-fits (a .textures .now) (a .i) (t .result) (t .ensures) (m .result) (m .ensures) (a .kept) (pre .2) (pre .3) in
     omega (arith, f .0, pre .3)
 
 insert-spare-requires : tie.Need-insert-spare-requires
 insert-spare-requires c κs =
     let a = c .before .before .before .before .before .before .before .args in
     let pre = c .before .before .before .before .before .before .before .pre in
-    let f = end-fits (a .textures .now) (a .i) (c .before .before .before .texture-at .result) (c .before .before .before .texture-at .ensures) (c .before .spares-before .result) (c .before .spares-before .ensures) (a .kept) (pre .2) (pre .3) in
+    let t = c .before .before .before .texture-at in
+    let m = c .before .spares-before in
+    let f = end-fits (a .textures .now) (a .i) (t .result) (t .ensures) (m .result) (m .ensures) (a .kept) (pre .2) (pre .3) in
     (pre .4, f .0, pre .5)
 
 one-more-requires : tie.Need-one-more-requires
 one-more-requires c κs =
     let a = c .before .before .before .before .before .before .before .before .before .before .before .args in
     let pre = c .before .before .before .before .before .before .before .before .before .before .before .pre in
-    end-fits (a .textures .now) (a .i) (c .before .before .before .before .before .before .before .texture-at .result) (c .before .before .before .before .before .before .before .texture-at .ensures) (c .before .before .before .before .before .spares-before .result) (c .before .before .before .before .before .spares-before .ensures) (a .kept) (pre .2) (pre .3) .1
+    let t = c .before .before .before .before .before .before .before .texture-at in
+    let m = c .before .before .before .before .before .spares-before in
+    end-fits (a .textures .now) (a .i) (t .result) (t .ensures) (m .result) (m .ensures) (a .kept) (pre .2) (pre .3) .1
 
 put-texture-requires : tie.Need-put-texture-requires
 put-texture-requires c κs =
     let a = c .before .before .before .before .before .before .before .before .before .before .before .before .args in
     let pre = c .before .before .before .before .before .before .before .before .before .before .before .before .pre in
-    (pre .0, keep-history (a .textures .now) (a .i) (c .before .before .before .before .before .before .before .before .texture-at .result) (c .before .before .before .before .before .before .before .before .texture-at .ensures) (c .one-more .result) (c .one-more .ensures) (pre .1))
+    let t = c .before .before .before .before .before .before .before .before .texture-at in
+    (pre .0, keep-history (a .textures .now) (a .i) (t .result) (t .ensures) (c .one-more .result) (c .one-more .ensures) (pre .1))
 
 same-length : tie.Need-same-length
 same-length c = search needs
@@ -47,9 +54,13 @@ same-length-2 c = search needs
 
 returns : tie.Need-returns
 returns c =
-    let a = c .before .before .before .before .before .before .before .before .before .before .before .before .before .before .before .args in (
-      keep-record (a .textures .now) (a .i) (c .before .before .before .before .before .before .before .before .before .before .before .texture-at .result) (c .before .before .before .before .before .before .before .before .before .before .before .texture-at .ensures) (c .before .before .before .one-more .result) (c .before .before .before .one-more .ensures) _ (c .before .before .put-texture .ensures),
-      keep-spare (a .textures .now) (a .i) (c .before .before .before .before .before .before .before .before .before .before .before .texture-at .result) (c .before .before .before .before .before .before .before .before .before .before .before .texture-at .ensures) (c .before .before .before .before .before .before .before .before .before .spares-before .result) (c .before .before .before .before .before .before .before .before .before .spares-before .ensures) (a .spares .now) (a .kept) (a .x) _ (c .before .before .before .before .before .before .before .insert-spare .ensures),
+    let a = c .before .before .before .before .before .before .before .before .before .before .before .before .before .before .before .args in
+    let t = c .before .before .before .before .before .before .before .before .before .before .before .texture-at in
+    let m = c .before .before .before .before .before .before .before .before .before .spares-before in
+    let more = c .before .before .before .one-more in (
+      keep-record (a .textures .now) (a .i) (t .result) (t .ensures) (more .result) (more .ensures) _ (c .before .before .put-texture .ensures),
+      keep-spare (a .textures .now) (a .i) (t .result) (t .ensures) (m .result) (m .ensures) (a .spares .now) (a .kept) (a .x) _
+          (c .before .before .before .before .before .before .before .insert-spare .ensures),
     )
 
 pub keep-version-spec : {M : Type 1} → statement M

@@ -17,13 +17,17 @@ same-length c = search needs
 returns : tie.Need-returns
 returns c =
     let a = c .before .before .before .before .args in
-    birth-untracked (hasId (a .textures .now) (a .tracked) (a .i) (a .id)) (a .textures .now) (a .i) (a .seq) (recordAt 19 readTexture (a .textures .now) (a .i))
-    (says-nowhere (a .textures .now) (a .tracked) (a .i) (a .id) (c .before .has-id .result) (c .before .has-id .ensures) (c .if1 .taken))
+    let h = c .before .has-id in
+    birth-untracked (hasId (a .textures .now) (a .tracked) (a .i) (a .id)) (a .textures .now) (a .i) (a .seq)
+    (recordAt 19 readTexture (a .textures .now) (a .i))
+    (says-nowhere (a .textures .now) (a .tracked) (a .i) (a .id) (h .result) (h .ensures) (c .if1 .taken))
 
 texture-at-requires : tie.Need-texture-at-requires
 texture-at-requires c κs =
     let a = c .before .before .before .before .before .args in
-    record-fits (a .textures .now) (a .tracked) (a .i) (a .id) (c .before .before .has-id .result) (c .before .before .has-id .ensures) (c .before .if1 .left) (c .before .before .before .before .before .pre .0)
+    let h = c .before .before .has-id in
+    record-fits (a .textures .now) (a .tracked) (a .i) (a .id) (h .result) (h .ensures) (c .before .if1 .left)
+    (c .before .before .before .before .before .pre .0)
 
 born-at-requires : tie.Need-born-at-requires
 born-at-requires c κs = search needs
@@ -31,9 +35,13 @@ born-at-requires c κs = search needs
 put-texture-requires : tie.Need-put-texture-requires
 put-texture-requires c κs =
     let a = c .before .before .before .before .before .before .before .before .args in
-    let h = c .before .before .before .before .before in (
-      record-fits (a .textures .now) (a .tracked) (a .i) (a .id) (h .has-id .result) (h .has-id .ensures) (c .before .before .before .before .if1 .left) (c .before .before .before .before .before .before .before .before .pre .0),
-      birth-fits (c .before .before .texture-at .result) (recordAt 19 readTexture (a .textures .now) (a .i)) (c .born-at .result) (a .seq) (c .before .before .texture-at .ensures) (c .born-at .ensures) (c .before .before .before .before .before .before .before .before .pre .1 (says-here (a .textures .now) (a .tracked) (a .i) (a .id) (h .has-id .result) (h .has-id .ensures) (c .before .before .before .before .if1 .left))),
+    let pre = c .before .before .before .before .before .before .before .before .pre in
+    let h = c .before .before .before .before .before .has-id in
+    let q = says-here (a .textures .now) (a .tracked) (a .i) (a .id) (h .result) (h .ensures) (c .before .before .before .before .if1 .left) in
+    let t = c .before .before .texture-at in (
+      record-fits (a .textures .now) (a .tracked) (a .i) (a .id) (h .result) (h .ensures) (c .before .before .before .before .if1 .left) (pre .0),
+      birth-fits (t .result) (recordAt 19 readTexture (a .textures .now) (a .i)) (c .born-at .result) (a .seq) (t .ensures) (c .born-at .ensures)
+          (pre .1 q),
     )
 
 same-length-2 : tie.Need-same-length-2
@@ -42,9 +50,14 @@ same-length-2 c = search needs
 returns-2 : tie.Need-returns-2
 returns-2 c =
     let a = c .before .before .before .before .before .before .before .before .before .before .before .args in
-    birth-tracked (hasId (a .textures .now) (a .tracked) (a .i) (a .id)) (a .textures .now) (a .i) (a .seq) (recordAt 19 readTexture (a .textures .now) (a .i))
-    (says-here (a .textures .now) (a .tracked) (a .i) (a .id) (c .before .before .before .before .before .before .before .before .has-id .result) (c .before .before .before .before .before .before .before .before .has-id .ensures) (c .before .before .before .before .before .before .before .if1 .left)) (c .before .before .before .before .before .texture-at .result) (c .before .before .before .born-at .result) (c .before .before .before .before .before .texture-at .ensures) (c .before .before .before .born-at .ensures)
-    _ (c .before .before .put-texture .ensures)
+    let h = c .before .before .before .before .before .before .before .before .has-id in
+    let q = says-here (a .textures .now) (a .tracked) (a .i) (a .id) (h .result) (h .ensures)
+    (c .before .before .before .before .before .before .before .if1 .left) in
+    let t = c .before .before .before .before .before .texture-at in
+    let born = c .before .before .before .born-at in
+    birth-tracked (hasId (a .textures .now) (a .tracked) (a .i) (a .id)) (a .textures .now) (a .i) (a .seq)
+    (recordAt 19 readTexture (a .textures .now) (a .i))
+    q (t .result) (born .result) (t .ensures) (born .ensures) _ (c .before .before .put-texture .ensures)
 
 pub note-birth-spec : {M : Type 1} → statement M
 note-birth-spec =

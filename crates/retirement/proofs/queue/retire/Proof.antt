@@ -66,7 +66,8 @@ push-retiring-requires c κs =
     let a = b .args in
     let l = lent (a .pool) (a .book) (a .textures .now) (a .retiring .now) (a .doomed .now) (a .spares .now) (a .newest .now) (a .stamps .now) in
     let r = c .before .before .before .before .before .before .before .before .before .before .before .retire-refusal in
-    let p = push-fits l (b .pre) (a .id) (a .view) (a .seq) (r .result) (r .ensures) (omega (arith, c .before .before .before .before .before .before .before .before .before .before .if1 .left)) in
+    let p = push-fits l (b .pre) (a .id) (a .view) (a .seq) (r .result) (r .ensures)
+    (omega (arith, c .before .before .before .before .before .before .before .before .before .before .if1 .left)) in
     (p .0, p .1, omega (arith, p .2, c .ring-count .ensures))
 
 one-queued-requires : tie.Need-one-queued-requires
@@ -91,8 +92,11 @@ returns-2 c =
     let s = c .before .before .before .before .before .before .before .before .before .before .before .before .find-texture in
     let v = c .before .before .before .before .before .before .before .before .before .before .retired-version in
     let n = c .before .before .before .before .ring-count in
-    retire-accepted l (b .pre) (a .id) (a .view) (a .seq) (r .result) (r .ensures) (omega (arith, c .before .before .before .before .before .before .before .before .before .before .before .before .before .before .if1 .left)) (s .result) (s .ensures) (v .result) (n .result) (c .one-queued .result)
-    _ _ (v .ensures) (c .before .before .before .before .before .before .before .before .note-birth .ensures) (n .ensures) (c .before .before .before .push-retiring .ensures) (c .one-queued .ensures)
+    retire-accepted l (b .pre) (a .id) (a .view) (a .seq) (r .result) (r .ensures)
+    (omega (arith, c .before .before .before .before .before .before .before .before .before .before .before .before .before .before .if1 .left))
+    (s .result) (s .ensures) (v .result) (n .result) (c .one-queued .result)
+    _ _ (v .ensures) (c .before .before .before .before .before .before .before .before .note-birth .ensures) (n .ensures)
+    (c .before .before .before .push-retiring .ensures) (c .one-queued .ensures)
 
 pub retire-spec : {M : Type 1} → statement M
 retire-spec =

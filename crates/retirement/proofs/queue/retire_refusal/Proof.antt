@@ -23,13 +23,15 @@ returns-2 : tie.Need-returns-2
 returns-2 c =
     let a = c .before .before .before .before .before .before .args in
     let n = c .before .before .before .ring-count in
-    refused-full (a .pool) (a .retiring .now) (a .places) (a .seq) (c .before .before .before .before .if1 .left) (n .result) (n .ensures) (omega (arith, c .if2 .taken))
+    refused-full (a .pool) (a .retiring .now) (a .places) (a .seq) (c .before .before .before .before .if1 .left) (n .result) (n .ensures)
+    (omega (arith, c .if2 .taken))
 
 returns-3 : tie.Need-returns-3
 returns-3 c =
-    let a = c .before .before .before .before .before .before .before .before .args in
-    let n = c .before .before .before .before .before .ring-count in
-    nothing-queued (a .pool) (a .retiring .now) (a .places) (a .seq) (c .before .before .before .before .before .before .if1 .left) (n .result) (n .ensures) (omega (arith, c .before .before .if2 .left)) (omega (arith, n .ensures, c .if3 .taken))
+    let a = c .before .before .before .before .before .before .before .args in
+    let n = c .before .before .before .before .ring-count in
+    nothing-queued (a .pool) (a .retiring .now) (a .places) (a .seq) (c .before .before .before .before .before .if1 .left) (n .result) (n .ensures)
+    (omega (arith, c .before .if2 .left)) (omega (arith, n .ensures, c .if3 .taken))
 
 sub-retiring-at : tie.Need-sub-retiring-at
 sub-retiring-at c = search needs
@@ -39,18 +41,20 @@ retiring-at-requires c κs = search needs
 
 returns-4 : tie.Need-returns-4
 returns-4 c =
-    let a = c .before .before .before .before .before .before .before .before .before .before .before .args in
-    let n = c .before .before .before .before .before .before .before .before .ring-count in
+    let a = c .before .before .before .before .before .before .before .before .before .before .args in
+    let n = c .before .before .before .before .before .before .before .ring-count in
     let x = c .before .before .retiring-at in
-    refused-behind (a .pool) (a .retiring .now) (a .places) (a .seq) (c .before .before .before .before .before .before .before .before .before .if1 .left) (n .result) (n .ensures) (omega (arith, c .before .before .before .before .before .if2 .left))
+    refused-behind (a .pool) (a .retiring .now) (a .places) (a .seq) (c .before .before .before .before .before .before .before .before .if1 .left)
+    (n .result) (n .ensures) (omega (arith, c .before .before .before .before .if2 .left))
     (omega (arith, n .ensures, c .before .before .before .if3 .left)) (x .result) (x .ensures) (omega (arith, c .if4 .taken))
 
 returns-5 : tie.Need-returns-5
 returns-5 c =
-    let a = c .before .before .before .before .before .before .before .before .before .before .before .args in
-    let n = c .before .before .before .before .before .before .before .before .ring-count in
+    let a = c .before .before .before .before .before .before .before .before .before .before .args in
+    let n = c .before .before .before .before .before .before .before .ring-count in
     let x = c .before .before .retiring-at in
-    in-order (a .pool) (a .retiring .now) (a .places) (a .seq) (c .before .before .before .before .before .before .before .before .before .if1 .left) (n .result) (n .ensures) (omega (arith, c .before .before .before .before .before .if2 .left))
+    in-order (a .pool) (a .retiring .now) (a .places) (a .seq) (c .before .before .before .before .before .before .before .before .if1 .left)
+    (n .result) (n .ensures) (omega (arith, c .before .before .before .before .if2 .left))
     (omega (arith, n .ensures, c .before .before .before .if3 .left)) (x .result) (x .ensures) (omega (arith, c .if4 .left))
 
 pub retire-refusal-spec : {M : Type 1} → statement M

@@ -16,13 +16,16 @@ has-id-requires c κs = c .before .pre .0
 returns : tie.Need-returns
 returns c =
     let a = c .before .before .before .args in
-    note-untracked (hasId (a .textures .now) (a .tracked) (a .i) (a .id)) (recordAt 19 readTexture (a .textures .now) (a .i)) (a .id) (a .view) (a .seq)
-    (says-nowhere (a .textures .now) (a .tracked) (a .i) (a .id) (c .before .has-id .result) (c .before .has-id .ensures) (c .if1 .taken))
+    let h = c .before .has-id in
+    note-untracked (hasId (a .textures .now) (a .tracked) (a .i) (a .id)) (recordAt 19 readTexture (a .textures .now) (a .i)) (a .id) (a .view)
+    (a .seq)
+    (says-nowhere (a .textures .now) (a .tracked) (a .i) (a .id) (h .result) (h .ensures) (c .if1 .taken))
 
 texture-at-requires : tie.Need-texture-at-requires
 texture-at-requires c κs =
     let a = c .before .before .before .args in
-    record-fits (a .textures .now) (a .tracked) (a .i) (a .id) (c .before .has-id .result) (c .before .has-id .ensures) (c .if1 .left) (c .before .before .before .pre .0)
+    let h = c .before .has-id in
+    record-fits (a .textures .now) (a .tracked) (a .i) (a .id) (h .result) (h .ensures) (c .if1 .left) (c .before .before .before .pre .0)
 
 writes-counted-requires : tie.Need-writes-counted-requires
 writes-counted-requires c κs = search needs
@@ -30,15 +33,19 @@ writes-counted-requires c κs = search needs
 shape-bytes-requires : tie.Need-shape-bytes-requires
 shape-bytes-requires c κs =
     let a = c .before .before .before .before .before .before .args in
-    ap (λ t. isShape (t .shape)) (c .before .before .texture-at .ensures)
-    ∙ c .before .before .before .before .before .before .pre .1 (says-here (a .textures .now) (a .tracked) (a .i) (a .id) (c .before .before .before .before .has-id .result) (c .before .before .before .before .has-id .ensures) (c .before .before .before .if1 .left))
+    let h = c .before .before .before .before .has-id in
+    let q = says-here (a .textures .now) (a .tracked) (a .i) (a .id) (h .result) (h .ensures) (c .before .before .before .if1 .left) in
+    ap (λ t. isShape (t .shape)) (c .before .before .texture-at .ensures) ∙ c .before .before .before .before .before .before .pre .1 q
 
 returns-2 : tie.Need-returns-2
 returns-2 c =
     let a = c .before .before .before .before .before .before .before .args in
+    let h = c .before .before .before .before .before .has-id in
+    let q = says-here (a .textures .now) (a .tracked) (a .i) (a .id) (h .result) (h .ensures) (c .before .before .before .before .if1 .left) in
+    let t = c .before .before .before .texture-at in
+    let w = c .before .writes-counted in
     note-tracked (hasId (a .textures .now) (a .tracked) (a .i) (a .id)) (recordAt 19 readTexture (a .textures .now) (a .i)) (a .id) (a .view) (a .seq)
-    (says-here (a .textures .now) (a .tracked) (a .i) (a .id) (c .before .before .before .before .before .has-id .result) (c .before .before .before .before .before .has-id .ensures) (c .before .before .before .before .if1 .left)) (c .before .before .before .texture-at .result) (c .before .before .before .texture-at .ensures)
-    (c .before .writes-counted .result) (c .shape-bytes .result) (c .before .writes-counted .ensures) (c .shape-bytes .ensures)
+    q (t .result) (t .ensures) (w .result) (c .shape-bytes .result) (w .ensures) (c .shape-bytes .ensures)
 
 pub retired-version-spec : {M : Type 1} → statement M
 retired-version-spec =
