@@ -9,8 +9,6 @@ use crate::answer::TakeAnswer;
 use crate::answer::Taken;
 use crate::newest::take_newest;
 use crate::refusal::take_refusal;
-use crate::renewal::renew_tracking;
-use crate::start::start_tracking;
 use access::has_id;
 use access::texture_at;
 use layout::PacingBook;
@@ -18,6 +16,8 @@ use layout::Pool;
 use records::find_texture;
 use shapes::VersionShape;
 use shapes::same_shape;
+use trackings::renew_tracking;
+use trackings::start_tracking;
 
 // The lent stores form a pool. A texture that is not tracked, or tracked with another shape, has a tracking begun and no spare.
 pub fn take_spare(
@@ -61,7 +61,7 @@ pub fn take_spare(
         };
     }
     if !has_id(textures, pool.tracked, i, id) {
-        return start_tracking(
+        let after = start_tracking(
             pool,
             book,
             textures,
@@ -76,6 +76,10 @@ pub fn take_spare(
             records,
             seq,
         );
+        return TakeAnswer {
+            pool: after,
+            taken: Taken::NoSpare,
+        };
     }
     let t = texture_at(textures, i);
     if same_shape(t.shape, shape) {
@@ -95,7 +99,7 @@ pub fn take_spare(
             seq,
         );
     }
-    renew_tracking(
+    let after = renew_tracking(
         pool,
         book,
         textures,
@@ -109,5 +113,9 @@ pub fn take_spare(
         shape,
         records,
         seq,
-    )
+    );
+    TakeAnswer {
+        pool: after,
+        taken: Taken::NoSpare,
+    }
 }
