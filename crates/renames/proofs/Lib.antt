@@ -1,2 +1,3 @@
 pub mod Said
+pub mod LookedUp
 pub mod TakenNewest

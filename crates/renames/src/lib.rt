@@ -1,5 +1,6 @@
 // The call that starts a rename: `take_spare`.
 mod answer;
+mod look;
 mod newest;
 mod refusal;
 mod take;
