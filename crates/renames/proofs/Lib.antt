@@ -1,8 +1,3 @@
-pub mod Refusals
-pub mod Counts
-pub mod Tracked
 pub mod Said
+pub mod LookedUp
 pub mod TakenNewest
-pub mod Trackings
-pub mod Started
-pub mod Renewed

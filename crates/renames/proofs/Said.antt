@@ -29,10 +29,10 @@ use Rattle.access.proofs.Ids as ids
 use Rattle.access.proofs.Fields.{pages-bound, claims-bound}
 use Rattle.layout.specs.Calls.{Told, refusal, takenOf, takeSpareCall}
 use Rattle.layout.proofs.Asked.{asked-refused}
-use Rattle.renames.specs.Refusal.{trackingRefusal, begunRefusal, foundRefusal, takeRefusal}
-use Rattle.renames.specs.Cases.{recordOf, TrackedAt}
-use Rattle.renames.proofs.Refusals.{take-refused}
-use Rattle.renames.proofs.Tracked.{shape-state, shape-passes, record-fits, found-there, not-there, pages-counted}
+use Rattle.trackings.specs.Refusal.{trackingRefusal, begunRefusal, foundRefusal, takeRefusal}
+use Rattle.trackings.specs.Cases.{recordOf, TrackedAt}
+use Rattle.trackings.proofs.Refusals.{take-refused}
+use Rattle.trackings.proofs.Tracked.{shape-state, shape-passes, record-fits, found-there, not-there, pages-counted}
 
 -- ---- a tracking begun
 

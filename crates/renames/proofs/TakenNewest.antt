@@ -22,6 +22,7 @@ use Rattle.stores.proofs.States.{length-change, total-change, total-unchanged}
 use Rattle.records.specs.declared.texture.TextureRecord.{TextureRecord}
 use Rattle.records.specs.declared.spare.SpareRecord.{SpareRecord}
 use Rattle.records.specs.Texture.{readTexture, writeTexture}
+use Rattle.records.specs.Recorded.{RecordedFits}
 use Rattle.records.specs.Spare.{readSpare}
 use Rattle.records.specs.Views.{spareOf}
 use Rattle.records.specs.Find.{below}
@@ -41,11 +42,12 @@ use Rattle.layout.proofs.Stays.{put-together, book-stays, ids-ascend, textures-
 use Rattle.layout.proofs.Places.{changed}
 use Rattle.layout.proofs.Changes.{textures-set, sparesBefore, sparesAt, count-state, every-taken, every-kept, spares-removed, newest-at, others-taken}
 use Rattle.layout.proofs.Asked.{asked-accepted}
-use Rattle.renames.specs.Refusal.{takeRefusal}
-use Rattle.renames.specs.Cases.{Accepted, recordOf, TrackedAt, renamedRecord}
-use Rattle.renames.proofs.Refusals.{take-tracked}
-use Rattle.renames.proofs.Counts.{counted, counts-after}
-use Rattle.renames.proofs.Tracked.{same-record, spares-from, spares-within, kept-fits, shape-state, is-there, found-there}
+use Rattle.trackings.specs.Refusal.{takeRefusal}
+use Rattle.trackings.specs.Cases.{Accepted, recordOf, TrackedAt}
+use Rattle.renames.specs.Renamed.{renamedRecord}
+use Rattle.trackings.proofs.Refusals.{take-tracked}
+use Rattle.trackings.proofs.Counts.{counted, counts-after}
+use Rattle.trackings.proofs.Tracked.{same-record, spares-from, spares-within, kept-fits, shape-state, is-there, found-there}
 
 -- ---- lists
 
@@ -73,6 +75,10 @@ fewer (s ∷ t ∷ ts) = ap suc (fewer (t ∷ ts)) ∙ (let e : suc (suc (length
 
 renamed-record : (seq : ℕ) (u : VersionState ℕ) → textureRecord (renamedState seq u) ≡ renamedRecord seq (length (u .spares) - 1) (textureRecord u)
 renamed-record seq u = ap (λ (n : ℕ). renamedRecord seq n (textureRecord u)) (fewer (u .spares))
+
+-- a renamed record has its history still
+pub renamed-fits : (x t u : TextureRecord) (seq left : ℕ) → RecordedFits (u .history) → x ≡ renamedRecord seq left t → t ≡ u → RecordedFits (x .history)
+renamed-fits x t u seq left fits e q = rw (sym (ap (λ (r : TextureRecord). r .history) e ∙ ap (λ (r : TextureRecord). r .history) q)) at fits
 
 -- ---- the rule
 

@@ -1,5 +1,3 @@
 pub mod Answer
-pub mod Refusal
-pub mod Cases
-pub mod Begun
-pub mod Holdings
+pub mod Renamed
+pub mod Looked

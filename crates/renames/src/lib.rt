@@ -1,12 +1,8 @@
-// The call that starts a rename.
+// The call that starts a rename: `take_spare`.
 mod answer;
-mod begun;
-mod holding;
+mod look;
 mod newest;
-mod pages;
 mod refusal;
-mod renewal;
-mod start;
 mod take;
 
 pub use answer::TakeAnswer;

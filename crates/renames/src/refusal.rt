@@ -7,7 +7,7 @@ ghost use Rattle.records.specs.Find.{textures as textures′, below};
 ghost use Rattle.layout.specs.Lent.{lent};
 ghost use Rattle.layout.specs.Reading.{modelOf};
 ghost use Rattle.layout.specs.IsPool.{isPool};
-ghost use Rattle.renames.specs.Refusal.{trackingRefusal, takeRefusal};
+ghost use Rattle.trackings.specs.Refusal.{trackingRefusal, takeRefusal};
 use access::has_id;
 use access::history_pages;
 use access::shape_pages;

@@ -7,17 +7,13 @@ ghost use Rattle.layout.specs.Calls.{takeSpareCall};
 ghost use Rattle.renames.specs.Answer.{takenTold};
 use crate::answer::TakeAnswer;
 use crate::answer::Taken;
+use crate::look::look_up;
 use crate::newest::take_newest;
-use crate::refusal::take_refusal;
-use crate::renewal::renew_tracking;
-use crate::start::start_tracking;
-use access::has_id;
-use access::texture_at;
 use layout::PacingBook;
 use layout::Pool;
-use records::find_texture;
 use shapes::VersionShape;
-use shapes::same_shape;
+use trackings::renew_tracking;
+use trackings::start_tracking;
 
 // The lent stores form a pool. A texture that is not tracked, or tracked with another shape, has a tracking begun and no spare.
 pub fn take_spare(
@@ -38,8 +34,7 @@ pub fn take_spare(
     ensures { λ r. ⌜ (takenTold (r .taken), lent (r .pool) book (now (textures .exit)) (now (retiring .entry)) (now (doomed .exit)) (now (spares .exit)) (now (newest .exit)) (now (stamps .exit)))
         ≡ takeSpareCall (lent pool book (now (textures .entry)) (now (retiring .entry)) (now (doomed .entry)) (now (spares .entry)) (now (newest .entry)) (now (stamps .entry))) id shape records seq ⌝ }
 {
-    let i = find_texture(textures, pool.tracked, id);
-    let why = take_refusal(
+    let look = look_up(
         pool,
         book,
         textures,
@@ -48,20 +43,20 @@ pub fn take_spare(
         spares,
         newest,
         stamps,
-        i,
         id,
         shape,
         records,
         seq,
     );
-    if why != 0 {
+    if look.outcome != 0 {
         return TakeAnswer {
             pool,
-            taken: Taken::Refused(why),
+            taken: Taken::Refused(look.outcome),
         };
     }
-    if !has_id(textures, pool.tracked, i, id) {
-        return start_tracking(
+    let i = look.place;
+    if !look.tracked {
+        let after = start_tracking(
             pool,
             book,
             textures,
@@ -76,9 +71,12 @@ pub fn take_spare(
             records,
             seq,
         );
+        return TakeAnswer {
+            pool: after,
+            taken: Taken::NoSpare,
+        };
     }
-    let t = texture_at(textures, i);
-    if same_shape(t.shape, shape) {
+    if look.same {
         return take_newest(
             pool,
             book,
@@ -95,7 +93,7 @@ pub fn take_spare(
             seq,
         );
     }
-    renew_tracking(
+    let after = renew_tracking(
         pool,
         book,
         textures,
@@ -109,5 +107,9 @@ pub fn take_spare(
         shape,
         records,
         seq,
-    )
+    );
+    TakeAnswer {
+        pool: after,
+        taken: Taken::NoSpare,
+    }
 }

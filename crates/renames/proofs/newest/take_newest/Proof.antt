@@ -5,8 +5,8 @@ use borrow.Author.Needs.{needs}
 use Rattle.shapes.specs.Shapes.{isShape, bytesOf}
 use Rattle.records.specs.declared.texture.TextureRecord.{TextureRecord}
 use Rattle.layout.proofs.Runs.{sparesOf}
-use Rattle.renames.proofs.Tracked.{here, renamed-fits}
-use Rattle.renames.proofs.TakenNewest.{left-without, left-with}
+use Rattle.trackings.proofs.Tracked.{here}
+use Rattle.renames.proofs.TakenNewest.{renamed-fits, left-without, left-with}
 use Rattle.renames.proofs.newest.take_newest.Statement.{statement}
 use Rattle.renames.proofs.newest.take_newest.Tie as tie
 

@@ -1,20 +1,14 @@
 -- `take_spare` meets its contract: each case has it from the function that does it. Assumes nothing.
 use mathlib.Core.Path.{sym, _∙_}
+use borrow.Author.Tests.{not-true, not-false}
+use Rattle.renames.proofs.Said.{refused-call}
+use Rattle.renames.proofs.LookedUp.{look-accepted}
 use borrow.Author.Needs.{needs}
-use Rattle.layout.proofs.FromPool.{pool-fits}
-use Rattle.layout.proofs.Stays.{textures-fit, ids-ascend}
-use Rattle.renames.proofs.Said.{tracked-at, tracked-fits, untracked-at, shape-as, refused-call}
 use Rattle.renames.proofs.take.take_spare.Statement.{statement}
 use Rattle.renames.proofs.take.take_spare.Tie as tie
 
-find-texture-requires : tie.Need-find-texture-requires
-find-texture-requires c κs =
-    let f = pool-fits _ (c .before .before .before .before .before .before .before .pre) in
-    (textures-fit _ f, ids-ascend _ f)
-
-take-refusal-requires : tie.Need-take-refusal-requires
-take-refusal-requires c κs =
-    (c .before .before .before .before .before .before .before .before .before .before .before .before .before .pre, c .before .before .before .before .before .find-texture .ensures)
+look-up-requires : tie.Need-look-up-requires
+look-up-requires c κs = search needs
 
 same-length : tie.Need-same-length
 same-length c = search needs
@@ -33,17 +27,13 @@ same-length-5 c = search needs
 
 returns : tie.Need-returns
 returns c =
-    let b = c .before .before .before .before .before .before .before .before .before .before .before .before .before .before .before in
-    refused-call _ _ _ _ _ _ (b .pre) (c .before .before .before .before .before .before .before .find-texture .ensures) _ (c .before .take-refusal .ensures) (c .if1 .taken)
-
-has-id-requires : tie.Need-has-id-requires
-has-id-requires c κs =
-    textures-fit _ (pool-fits _ (c .before .before .before .before .before .before .before .before .before .before .before .before .before .before .before .before .pre))
+    let look = c .before .before .look-up .ensures in
+    refused-call _ _ _ _ _ _ (c .before .before .before .before .before .before .before .before .before .before .before .before .before .before .pre) (look .place) _ (look .outcome) (c .if1 .taken)
 
 start-tracking-requires : tie.Need-start-tracking-requires
 start-tracking-requires c κs =
-    let b = c .before .before .before .before .before .before .before .before .before .before .before .before .before .before .before .before .before .before .before .before .before .before .before in
-    ((b .pre, (c .before .before .before .before .before .before .before .before .before .before .before .before .before .before .before .find-texture .ensures, sym (c .before .before .before .before .before .before .before .before .before .take-refusal .ensures) ∙ c .before .before .before .before .before .before .before .before .if1 .left)), untracked-at _ _ _ (b .pre) (c .before .before .before .before .before .before .before .before .before .before .before .before .before .before .before .find-texture .ensures) _ (c .before .before .before .before .before .before .has-id .ensures) (c .before .before .before .before .before .if2 .taken))
+    let look = c .before .before .before .before .before .before .before .before .before .look-up .ensures in
+    (look-accepted _ _ _ _ _ _ (c .before .before .before .before .before .before .before .before .before .before .before .before .before .before .before .before .before .before .before .before .before .pre) (c .before .before .before .before .before .before .before .before .before .look-up .ensures) (c .before .before .before .before .before .before .before .if1 .left), look .untracked (not-true _ (c .before .before .before .before .before .if2 .taken)))
 
 same-length-6 : tie.Need-same-length-6
 same-length-6 c = search needs
@@ -64,17 +54,11 @@ returns-2 : tie.Need-returns-2
 returns-2 c =
     c .before .before .before .before .before .before .start-tracking .ensures
 
-texture-at-requires : tie.Need-texture-at-requires
-texture-at-requires c κs =
-    tracked-fits _ _ _ (c .before .before .before .before .before .before .before .before .before .before .before .before .before .before .before .before .before .before .before .pre) _ (c .before .before .has-id .ensures) (c .before .if2 .left)
-
-same-shape-requires : tie.Need-same-shape-requires
-same-shape-requires c κs = search needs
-
 take-newest-requires : tie.Need-take-newest-requires
 take-newest-requires c κs =
-    let b = c .before .before .before .before .before .before .before .before .before .before .before .before .before .before .before .before .before .before .before .before .before .before .before .before .before .before .before in
-    ((b .pre, (c .before .before .before .before .before .before .before .before .before .before .before .before .before .before .before .before .before .before .before .find-texture .ensures, sym (c .before .before .before .before .before .before .before .before .before .before .before .before .before .take-refusal .ensures) ∙ c .before .before .before .before .before .before .before .before .before .before .before .before .if1 .left)), tracked-at _ _ _ _ _ (c .before .before .before .before .before .before .before .before .before .before .has-id .ensures) (c .before .before .before .before .before .before .before .before .before .if2 .left), shape-as _ _ _ _ _ (c .before .before .before .before .before .before .before .texture-at .ensures) (c .before .before .before .before .before .before .same-shape .ensures) (c .before .before .before .before .before .if3 .taken))
+    let look = c .before .before .before .before .before .before .before .before .before .before .look-up .ensures in
+    let y = not-false _ (c .before .before .before .before .before .before .if2 .left) in
+    (look-accepted _ _ _ _ _ _ (c .before .before .before .before .before .before .before .before .before .before .before .before .before .before .before .before .before .before .before .before .before .before .pre) (c .before .before .before .before .before .before .before .before .before .before .look-up .ensures) (c .before .before .before .before .before .before .before .before .if1 .left), look .tracked y, sym (look .same y) ∙ c .before .before .before .before .before .if3 .taken)
 
 same-length-11 : tie.Need-same-length-11
 same-length-11 c = search needs
@@ -97,8 +81,9 @@ returns-3 c =
 
 renew-tracking-requires : tie.Need-renew-tracking-requires
 renew-tracking-requires c κs =
-    let b = c .before .before .before .before .before .before .before .before .before .before .before .before .before .before .before .before .before .before .before .before .before .before .before .before .before .before .before in
-    ((b .pre, (c .before .before .before .before .before .before .before .before .before .before .before .before .before .before .before .before .before .before .before .find-texture .ensures, sym (c .before .before .before .before .before .before .before .before .before .before .before .before .before .take-refusal .ensures) ∙ c .before .before .before .before .before .before .before .before .before .before .before .before .if1 .left)), tracked-at _ _ _ _ _ (c .before .before .before .before .before .before .before .before .before .before .has-id .ensures) (c .before .before .before .before .before .before .before .before .before .if2 .left), shape-as _ _ _ _ _ (c .before .before .before .before .before .before .before .texture-at .ensures) (c .before .before .before .before .before .before .same-shape .ensures) (c .before .before .before .before .before .if3 .left))
+    let look = c .before .before .before .before .before .before .before .before .before .before .look-up .ensures in
+    let y = not-false _ (c .before .before .before .before .before .before .if2 .left) in
+    (look-accepted _ _ _ _ _ _ (c .before .before .before .before .before .before .before .before .before .before .before .before .before .before .before .before .before .before .before .before .before .before .pre) (c .before .before .before .before .before .before .before .before .before .before .look-up .ensures) (c .before .before .before .before .before .before .before .before .if1 .left), look .tracked y, sym (look .same y) ∙ c .before .before .before .before .before .if3 .left)
 
 same-length-16 : tie.Need-same-length-16
 same-length-16 c = search needs
@@ -123,15 +108,13 @@ pub take-spare-spec : {M : Type 1} → statement M
 take-spare-spec =
     tie.close
     (tie.spec
-    find-texture-requires
-    take-refusal-requires
+    look-up-requires
     same-length
     same-length-2
     same-length-3
     same-length-4
     same-length-5
     returns
-    has-id-requires
     start-tracking-requires
     same-length-6
     same-length-7
@@ -139,8 +122,6 @@ take-spare-spec =
     same-length-9
     same-length-10
     returns-2
-    texture-at-requires
-    same-shape-requires
     take-newest-requires
     same-length-11
     same-length-12

@@ -1,0 +1,137 @@
+-- What is known of a tracked texture of a pool, by its record. Assumes nothing.
+use mathlib.Core.Path.{_≡_, sym, ap, ap₂, _∙_}
+use mathlib.Core.Bool.{Bool, true}
+use mathlib.Core.Option.{some}
+use mathlib.Core.List.{[]}
+use Prim.Native.Nat.{ℕ, suc, _+_, _*_, _^_, _≤_, _<_}
+use native.Mathlib.Nat.{mul-one, mul-le-mul-left}
+use native.Mathlib.Omega.{arith}
+use lib.ListN.{length, getD}
+use Rattle.blocks.specs.Lists.{total}
+use Rattle.blocks.proofs.All.{all-at}
+use Rattle.tables.specs.Records.{table}
+use Rattle.tables.proofs.Records.{getD-table, take-table}
+use Rattle.shapes.specs.declared.shape.VersionShape.{VersionShape}
+use Rattle.shapes.specs.Shapes.{isShape, bytesOf}
+use Rattle.stores.specs.Model.{VersionState, find, limit, pagesUsed, spareBytes}
+use Rattle.stores.specs.Formed.{StateFormed, Given, HistoryFormed}
+use Rattle.stores.proofs.States.{find-part}
+use Rattle.records.specs.declared.recorded.Recorded.{Recorded}
+use Rattle.records.specs.declared.recorded.Recorded.the-variants.{Writes, NoHistory}
+use Rattle.records.specs.declared.texture.TextureRecord.{TextureRecord}
+use Rattle.records.specs.Recorded.{RecordedFits}
+use Rattle.records.specs.Texture.{readTexture}
+use Rattle.records.specs.Find.{below}
+use Rattle.layout.specs.Lent.{Lent, versionPlaces}
+use Rattle.layout.specs.Reading.{trackedRecords, recordPages, historyRead, stateRead, modelOf}
+use Rattle.layout.proofs.Fits.{Fits}
+use Rattle.layout.proofs.FromPool.{pool-fits}
+use Rattle.layout.proofs.Runs.{sparesOf, firstSpare, firstPageOf, stateOf, pages-state, tracked-model, model-at}
+use Rattle.layout.proofs.Stays.{ids-ascend}
+use Rattle.layout.proofs.Places.{IsTracked, found}
+use Rattle.layout.proofs.Changes.{sparesAt, count-state, spares-in}
+use Rattle.trackings.specs.Cases.{Accepted, recordOf, TrackedAt}
+
+module _ (l : Lent) (f : Fits l) (i : ℕ) (h : i < l .pool .tracked) where
+  -- the record, as the model's laws read it
+  pub same-record : getD (trackedRecords l) i (readTexture []) ≡ recordOf l i
+  same-record = getD-table 19 readTexture (l .pool .tracked) i (l .textures) (readTexture []) h
+
+  pub record-fits : 19 * i + 19 ≤ length (l .textures)
+  record-fits = omega (arith, f .textures, f .tracked)
+
+  -- its spares begin behind those of the textures before it
+  pub spares-from : total sparesOf (table 19 readTexture i (l .textures)) ≡ firstSpare l i
+  unfolding firstSpare
+  spares-from = ap (total sparesOf) (sym (take-table 19 readTexture i (l .pool .tracked) (l .textures) (omega arith)))
+
+  -- and so do its pages
+  pub pages-from : total recordPages (table 19 readTexture i (l .textures)) ≡ firstPageOf l i
+  unfolding firstPageOf
+  pages-from = ap (total recordPages) (sym (take-table 19 readTexture i (l .pool .tracked) (l .textures) (omega arith)))
+
+  pub spares-within : firstSpare l i + recordOf l i .spares ≤ l .pool .kept
+  spares-within = omega (arith, spares-in l i h, f .kept, ap sparesOf same-record)
+
+  pub kept-bound : l .pool .kept ≤ 4096
+  kept-bound = omega (arith, f .versions, f .most)
+
+  pub kept-fits : 3 * l .pool .kept ≤ length (l .spares)
+  kept-fits = omega (arith, f .versions, f .spares)
+
+  state-formed : StateFormed (stateOf l i)
+  state-formed = rw (model-at l i (stateOf l 0) h) at (all-at (modelOf l .textures) i (stateOf l 0) (omega (arith, tracked-model l)) (f .formed .textures))
+
+  pub shape-state : stateOf l i .shape ≡ recordOf l i .shape
+  unfolding stateOf stateRead
+  shape-state = ap (λ (t : TextureRecord). t .shape) same-record
+
+  pub shape-passes : isShape (recordOf l i .shape) ≡ true
+  shape-passes = ap isShape (sym shape-state) ∙ state-formed .shape
+
+  pub pages-counted : pagesUsed (stateOf l i) ≡ recordPages (recordOf l i)
+  unfolding stateOf
+  pages-counted = pages-state l (firstSpare l i) (firstPageOf l i) (getD (trackedRecords l) i (readTexture [])) ∙ ap recordPages same-record
+
+  pub history-fits : RecordedFits (recordOf l i .history)
+  unfolding stateOf stateRead
+  history-fits = rw (ap (λ (t : TextureRecord). t .history) same-record) at (go (getD (trackedRecords l) i (readTexture []) .history) (state-formed .history))
+    where
+      go : (r : Recorded) → Given (HistoryFormed (stateOf l i .shape)) (historyRead l (stateOf l i .shape) (firstPageOf l i) r) → RecordedFits r
+      go (Writes n) g = omega (arith, g .writes)
+      go NoHistory g = omega arith
+
+  -- ---- bytes
+
+  module _ (id : ℕ) (at : i ≡ below id (trackedRecords l)) (e : recordOf l i .id ≡ id) where
+    pub is-there : IsTracked l id (ids-ascend l f)
+    is-there =
+        (omega (arith, at, h), ap (λ (k : ℕ). getD (trackedRecords l) k (readTexture []) .id) (sym at) ∙ ap (λ (t : TextureRecord). t .id) same-record ∙ e)
+
+    pub found-there : find id (modelOf l .textures) ≡ some (stateOf l i)
+    found-there = found l id (ids-ascend l f) is-there ∙ ap (λ (k : ℕ). some (stateOf l k)) (sym at)
+
+    -- its spares' bytes are part of the parked ones
+    pub spares-parked : bytesOf (recordOf l i .shape) * recordOf l i .spares ≤ l .pool .parked
+    unfolding modelOf
+    spares-parked =
+        omega (arith, find-part spareBytes id (stateOf l i) (modelOf l .textures) found-there, f .formed .parked, both)
+      where
+        both : spareBytes (stateOf l i) ≡ bytesOf (recordOf l i .shape) * recordOf l i .spares
+        both = ap₂ (λ (a b : ℕ). a * b) (ap bytesOf shape-state) (count-state l i ∙ ap sparesOf same-record)
+
+    pub spare-parked : 0 < recordOf l i .spares → bytesOf (recordOf l i .shape) ≤ l .pool .parked
+    spare-parked q = omega (arith, spares-parked, mul-one (bytesOf (recordOf l i .shape)), mul-le-mul-left (bytesOf (recordOf l i .shape)) q)
+
+-- the id is not at its place: it is not tracked
+pub not-there : (l : Lent) (f : Fits l) (i id : ℕ) → i ≡ below id (trackedRecords l) → (TrackedAt l i id → ⊥) → IsTracked l id (ids-ascend l f) → ⊥
+not-there l f i id at untracked (h, e) =
+    let k : i < l .pool .tracked = omega (arith, at, h) in
+    untracked (k, sym (ap (λ (t : TextureRecord). t .id) (same-record l f i k)) ∙ ap (λ (j : ℕ). getD (trackedRecords l) j (readTexture []) .id) at ∙ e)
+
+-- what the calls' code asks of a tracked texture's record
+pub record Here (l : Lent) (i : ℕ) : Type 0 where
+  pub textures : 19 * i + 19 ≤ length (l .textures)
+  pub history : RecordedFits (recordOf l i .history)
+  pub shape : isShape (recordOf l i .shape) ≡ true
+  pub first : total sparesOf (table 19 readTexture i (l .textures)) ≡ firstSpare l i
+  pub within : firstSpare l i + recordOf l i .spares ≤ l .pool .kept
+  pub kept : l .pool .kept ≤ 4096
+  pub spares : 3 * l .pool .kept ≤ length (l .spares)
+  pub parked : bytesOf (recordOf l i .shape) * recordOf l i .spares ≤ l .pool .parked
+  pub one : 0 < recordOf l i .spares → bytesOf (recordOf l i .shape) ≤ l .pool .parked
+
+pub here : (l : Lent) (i id : ℕ) (shape : VersionShape) (records : Bool) (seq : ℕ) → Accepted l i id shape records seq → TrackedAt l i id → Here l i
+here l i id shape records seq ok (h, e) =
+    let f = pool-fits l (ok .0) in
+    record {
+      textures = record-fits l f i h;
+      history = history-fits l f i h;
+      shape = shape-passes l f i h;
+      first = spares-from l f i h;
+      within = spares-within l f i h;
+      kept = kept-bound l f i h;
+      spares = kept-fits l f i h;
+      parked = spares-parked l f i h id (ok .1 .0) e;
+      one = spare-parked l f i h id (ok .1 .0) e;
+    }

@@ -1,0 +1,4 @@
+pub mod Refusal
+pub mod Cases
+pub mod Begun
+pub mod Holdings

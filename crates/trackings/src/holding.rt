@@ -1,0 +1,43 @@
+// What a tracked texture holds in the lent slices.
+ghost use mathlib.Core.Path.{_≡_};
+ghost use mathlib.Core.Bool.{true};
+ghost use Prim.Native.Nat.{_+_, _*_, _≤_};
+ghost use lib.ListN.{length};
+ghost use Rattle.blocks.specs.Lists.{total};
+ghost use Rattle.tables.specs.Records.{recordAt, table};
+ghost use Rattle.shapes.specs.Shapes.{isShape};
+ghost use Rattle.records.specs.Texture.{readTexture};
+ghost use Rattle.layout.specs.Reading.{recordPages};
+ghost use Rattle.trackings.specs.Holdings.{holdingAt};
+use access::history_pages;
+use access::pages_before;
+use access::spares_before;
+use access::texture_at;
+use shapes::shape_bytes;
+
+// Where its spares begin, how many there are and the bytes of each; where its pages begin and how many there are.
+pub struct Holding {
+    pub first: usize,
+    pub spares: usize,
+    pub bytes: u64,
+    pub page: usize,
+    pub pages: usize,
+}
+
+pub fn holding_at(textures: &[u64], i: usize) -> Holding
+    requires { ⌜ (19 * i + 19 ≤ length (now textures))
+        × (isShape (recordAt 19 readTexture (now textures) i .shape) ≡ true)
+        × (total (λ t. t .spares) (table 19 readTexture i (now textures)) ≤ 4096)
+        × (total recordPages (table 19 readTexture i (now textures)) ≤ 4096)
+        × (recordPages (recordAt 19 readTexture (now textures) i) ≤ 4096) ⌝ }
+    ensures { λ r. ⌜ r ≡ holdingAt (now (textures .entry)) i ⌝ }
+{
+    let t = texture_at(textures, i);
+    Holding {
+        first: spares_before(textures, i),
+        spares: t.spares as usize,
+        bytes: shape_bytes(t.shape),
+        page: pages_before(textures, i),
+        pages: history_pages(t),
+    }
+}
