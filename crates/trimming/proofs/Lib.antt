@@ -1,5 +1,3 @@
-pub mod TextureRuns
-pub mod Forgotten
 pub mod Ages
 pub mod Looks
 pub mod Steps

@@ -29,10 +29,10 @@ use Rattle.layout.proofs.Kept.{Paged, pagedOf}
 use Rattle.destruction.specs.Given.{givenRecords}
 use Rattle.destruction.proofs.Pushed.{given-spares}
 use Rattle.trimming.specs.declared.look.Look.{Look}
-use Rattle.trimming.specs.Owned.{textureIn, sparesTo}
+use Rattle.forgetting.specs.Owned.{textureIn, sparesTo}
 use Rattle.trimming.specs.Look.{isIdle, dueAfter, bytesGiven, lookOf, lookedRecord}
 use Rattle.trimming.specs.Pass.{givenOne}
-use Rattle.trimming.proofs.TextureRuns.{record-of, shape-in, spares-in, count-in, shape-passes}
+use Rattle.forgetting.proofs.TextureRuns.{record-of, shape-in, spares-in, count-in, shape-passes}
 use Rattle.trimming.proofs.Ages.{aged-most}
 
 -- ---- any state

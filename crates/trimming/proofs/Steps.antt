@@ -37,10 +37,10 @@ use Rattle.layout.proofs.Stays.{ids-ascend}
 use Rattle.layout.proofs.Passes.{texture-packed, spares-packed, newest-packed, stamps-packed}
 use Rattle.destruction.specs.Given.{givenRecords}
 use Rattle.trimming.specs.declared.look.Look.{Look}
-use Rattle.trimming.specs.Owned.{textureIn, sparesTo, pagesTo}
+use Rattle.forgetting.specs.Owned.{textureIn, sparesTo, pagesTo}
 use Rattle.trimming.specs.Look.{bytesGiven, lookedRecord}
 use Rattle.trimming.specs.Pass.{trimmedOne, givenOne, trimmed}
-use Rattle.trimming.proofs.TextureRuns.{record-in, spares-to, pages-to, pages-in, spares-within, pages-within}
+use Rattle.forgetting.proofs.TextureRuns.{record-in, spares-to, pages-to, pages-in, spares-within, pages-within}
 use Rattle.trimming.proofs.Looks.{count, looked, looked-paged, looked-spares, lookHere, few, left-count, none-left, record-here, given-records}
 
 -- what a call leaves of the packed slices depends on the textures alone

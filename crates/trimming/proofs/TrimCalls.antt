@@ -41,9 +41,9 @@ use Rattle.layout.proofs.Counts.{count-spares}
 use Rattle.access.proofs.Totals.{total-first}
 use Rattle.trimming.specs.declared.look.Look.{Look}
 use Rattle.trimming.specs.declared.pass.Pass.{Pass}
-use Rattle.trimming.specs.Owned.{textureIn, sparesTo}
+use Rattle.forgetting.specs.Owned.{textureIn, sparesTo}
 use Rattle.trimming.specs.Pass.{trimmedOne, givenOne, trimmed, countsAfter}
-use Rattle.trimming.proofs.TextureRuns.{doomed-bound, record-in, shape-passes, spares-within, pages-within}
+use Rattle.forgetting.proofs.TextureRuns.{doomed-bound, record-in, shape-passes, spares-within, pages-within}
 use Rattle.trimming.proofs.Steps.{givenTo, keptTo}
 use Rattle.trimming.proofs.Trimmed.{Sofar, Seen, record-now}
 

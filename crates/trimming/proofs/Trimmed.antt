@@ -34,10 +34,10 @@ use Rattle.destruction.specs.Given.{givenRecords}
 use Rattle.access.proofs.Totals.{total-none, total-next}
 use Rattle.trimming.specs.declared.look.Look.{Look}
 use Rattle.trimming.specs.declared.pass.Pass.{Pass}
-use Rattle.trimming.specs.Owned.{textureIn, sparesTo, pagesTo}
+use Rattle.forgetting.specs.Owned.{textureIn, sparesTo, pagesTo}
 use Rattle.trimming.specs.Look.{spareIn, bytesGiven, lookOf, lookAt, lookedRecord, lookedPut}
 use Rattle.trimming.specs.Pass.{noPass, passOn, givenOne, trimmed}
-use Rattle.trimming.proofs.TextureRuns.{spares-in, spares-within, pages-within}
+use Rattle.forgetting.proofs.TextureRuns.{spares-in, spares-within, pages-within}
 use Rattle.trimming.proofs.Looks.{count, lookHere, few, idle-here, none-left, given-count, given-bytes, bytes-few, given-records}
 use Rattle.trimming.proofs.Steps.{textures-as, spares-as, newest-as, stamps-as, givenTo, keptTo, given-next, dropped-next, doomed-next, textures-stay, spares-stay, newest-stays, stamps-stay, tracked-stays, kept-stay, pages-stay}
 

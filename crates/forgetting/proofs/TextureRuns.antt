@@ -26,7 +26,7 @@ use Rattle.layout.specs.Writing.{textureRecord}
 use Rattle.layout.proofs.Runs.{sparesOf, firstSpare, firstPageOf, stateOf, tracked-model, model-at, record-state, pages-state}
 use Rattle.layout.proofs.Changes.{count-state}
 use Rattle.access.proofs.Totals.{total-with}
-use Rattle.trimming.specs.Owned.{textureIn, sparesTo, pagesTo}
+use Rattle.forgetting.specs.Owned.{textureIn, sparesTo, pagesTo}
 
 -- a sum without the element at i
 pub total-removed : {A : Type 0} (f : A → ℕ) (xs : List A) (i : ℕ) (d : A) → i < length xs → total f (removed i 1 xs) ≡ total f xs - f (getD xs i d)

@@ -8,9 +8,9 @@ use Rattle.records.specs.declared.texture.TextureRecord.{TextureRecord}
 use Rattle.records.specs.Texture.{readTexture}
 use Rattle.layout.specs.Reading.{recordPages}
 use Rattle.access.proofs.Totals.{total-next}
-use Rattle.trimming.specs.Owned.{ownedAt}
-use Rattle.trimming.proofs.owned.owned_at.Statement.{statement}
-use Rattle.trimming.proofs.owned.owned_at.Tie as tie
+use Rattle.forgetting.specs.Owned.{ownedAt}
+use Rattle.forgetting.proofs.owned.owned_at.Statement.{statement}
+use Rattle.forgetting.proofs.owned.owned_at.Tie as tie
 
 texture-at-requires : tie.Need-texture-at-requires
 texture-at-requires c κs = search needs

@@ -9,9 +9,9 @@ use lib.ListN.{length}
 use Rattle.layout.specs.Lent.{lent}
 use Rattle.layout.proofs.FromPool.{pool-fits}
 use Rattle.layout.proofs.Stays.{ids-ascend, textures-fit}
-use Rattle.trimming.proofs.Forgotten.{owned-fits, own-spares, own-pages, push-fits, counts-fit, left-behind, there, forget-tracked, forget-untracked}
-use Rattle.trimming.proofs.forget.forget_texture.Statement.{statement}
-use Rattle.trimming.proofs.forget.forget_texture.Tie as tie
+use Rattle.forgetting.proofs.Forgotten.{owned-fits, own-spares, own-pages, push-fits, counts-fit, left-behind, there, forget-tracked, forget-untracked}
+use Rattle.forgetting.proofs.forget.forget_texture.Statement.{statement}
+use Rattle.forgetting.proofs.forget.forget_texture.Tie as tie
 
 find-texture-requires : tie.Need-find-texture-requires
 find-texture-requires c κs =

@@ -39,9 +39,9 @@ use Rattle.destruction.specs.Given.{givenRecords}
 use Rattle.destruction.proofs.Pushed.{given-spares}
 use Rattle.access.proofs.Totals.{total-next}
 use Rattle.access.proofs.Ids.{hasId, found, not-found}
-use Rattle.trimming.specs.declared.owned.Owned.{Owned}
-use Rattle.trimming.specs.Owned.{textureIn, sparesTo, pagesTo, ownedAt, without}
-use Rattle.trimming.proofs.TextureRuns.{total-removed, doomed-bound, record-in, spares-to, pages-to, shape-in, spares-in, count-in, pages-in, shape-passes, spares-within, pages-within, bytes-within}
+use Rattle.forgetting.specs.declared.owned.Owned.{Owned}
+use Rattle.forgetting.specs.Owned.{textureIn, sparesTo, pagesTo, ownedAt, without}
+use Rattle.forgetting.proofs.TextureRuns.{total-removed, doomed-bound, record-in, spares-to, pages-to, shape-in, spares-in, count-in, pages-in, shape-passes, spares-within, pages-within, bytes-within}
 
 -- the pool without texture i, whose spares wait to be destroyed
 abbrev given : Lent → ℕ → List (Doomed ℕ)
