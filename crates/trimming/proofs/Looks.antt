@@ -2,7 +2,7 @@
 use mathlib.Core.Path.{_≡_, refl, sym, ap, ap₂, _∙_}
 use mathlib.Core.Bool.{Bool, true, false, cond, _&&_}
 use mathlib.Core.List.{List, [], _∷_, map}
-use Prim.Native.Nat.{ℕ, zero, suc, _+_, _-_, _*_, _≤_, _<_}
+use Prim.Native.Nat.{ℕ, zero, suc, _-_, _*_, _≤_, _<_}
 use native.Mathlib.Nat.{mul-zero, mul-le-mul-right}
 use native.Mathlib.Omega.{arith}
 use borrow.Author.Tests.{eqb-true, ne-eqb}
@@ -14,18 +14,17 @@ use Rattle.blocks.proofs.Lists.{either, and-both}
 use Rattle.blocks.proofs.Listed.{take-listed}
 use Rattle.shapes.specs.Shapes.{bytesOf}
 use Rattle.shapes.proofs.ShapeBytes.{bytes-bound}
-use Rattle.stores.specs.Model.{Spare, Doomed, VersionState, doomedBytes}
-use Rattle.stores.specs.Updates.{withDue, withSpares, asDoomed}
+use Rattle.stores.specs.Model.{Spare, VersionState, doomedBytes}
+use Rattle.stores.specs.Updates.{withDue, asDoomed}
 use Rattle.stores.specs.Trim.{aged, agedCount, thinned, isEmpty, idle, lookedAt}
 use Rattle.stores.proofs.Moves.{as-doomed-bytes, as-doomed-length}
 use Rattle.records.specs.declared.texture.TextureRecord.{TextureRecord}
-use Rattle.records.specs.declared.doomed.DoomedRecord.{DoomedRecord}
 use Rattle.layout.specs.Lent.{Lent}
 use Rattle.layout.specs.Reading.{recordPages, spareRead}
 use Rattle.layout.specs.Writing.{textureRecord, doomedRecord}
 use Rattle.layout.proofs.Fits.{Fits}
 use Rattle.layout.proofs.Runs.{stateOf}
-use Rattle.layout.proofs.Kept.{Paged, pagedOf}
+use Rattle.layout.proofs.Kept.{pagedOf}
 use Rattle.destruction.specs.Given.{givenRecords}
 use Rattle.destruction.proofs.Pushed.{given-spares}
 use Rattle.trimming.specs.declared.look.Look.{Look}
@@ -59,15 +58,6 @@ module _ (now : ℕ) (t : VersionState ℕ) where
   looked-spares = either (λ (u : VersionState ℕ). u .spares ≡ drop count (t .spares)) (aged now (t .due)) _ _ (λ q. refl) (λ q. refl)
 
   -- its record, by that of the texture
-  looked-due : textureRecord looked .due ≡ dueAfter now (textureRecord t)
-  unfolding dueAfter
-  looked-due = go (aged now (t .due))
-    where
-      go : (b : Bool) → textureRecord (cond b (withDue (cond (aged now (t .rename)) now (t .rename)) (thinned now t)) (thinned now t)) .due
-          ≡ cond b (cond (aged now (t .rename)) now (t .rename)) (t .due)
-      go true = refl
-      go false = refl
-
   pub looked-record : textureRecord looked ≡ record {
     id = t .id;
     shape = t .shape;

@@ -1,25 +1,22 @@
 -- One texture more of a trim's pass: the textures, what is given up, and the slices. Assumes nothing.
-use mathlib.Core.Path.{_≡_, refl, sym, ap, ap₂, _∙_}
+use mathlib.Core.Path.{_≡_, sym, ap, ap₂, _∙_}
 use mathlib.Core.Bool.{Bool, true, false, cond}
 use mathlib.Core.List.{List, [], _∷_, _++_, map, flatMap, map-append, append-nil}
-use Prim.Native.Nat.{ℕ, suc, _+_, _-_, _*_, _/_, _≤_, _<_}
+use Prim.Native.Nat.{ℕ, _+_, _-_, _*_, _≤_, _<_}
 use native.Mathlib.Numerals.{add-one}
-use native.Mathlib.Nat.{mul-zero}
 use native.Mathlib.Omega.{arith}
-use lib.Dec.{eqb}
-use lib.ListN.{length, take, drop, getD, length-append, length-map}
+use lib.ListN.{length, take, drop, length-append, length-map}
 use lib.Seq.{sets}
-use Rattle.blocks.specs.Lists.{over, total, listed}
+use Rattle.blocks.specs.Lists.{over, total}
 use Rattle.blocks.specs.Blocks.{moved}
 use Rattle.blocks.proofs.Lists.{total-append}
-use Rattle.blocks.proofs.Blocks.{moved-none}
-use Rattle.tables.specs.Records.{recordAt, flat}
+use Rattle.tables.specs.Records.{flat}
 use Rattle.tables.specs.Rings.{laid}
-use Rattle.stores.specs.Model.{Spare, Doomed, VersionState, Pool, pagesUsed}
+use Rattle.stores.specs.Model.{Doomed, VersionState, Pool, pagesUsed}
 use Rattle.stores.specs.Trim.{idle, thinned}
 use Rattle.records.specs.declared.texture.TextureRecord.{TextureRecord}
 use Rattle.records.specs.declared.doomed.DoomedRecord.{DoomedRecord}
-use Rattle.records.specs.Texture.{readTexture, writeTexture}
+use Rattle.records.specs.Texture.{writeTexture}
 use Rattle.records.specs.Spare.{writeSpare}
 use Rattle.records.specs.Doomed.{writeDoomed}
 use Rattle.layout.specs.Lent.{Lent}
@@ -30,18 +27,15 @@ use Rattle.layout.proofs.Parts.{flat-append}
 use Rattle.layout.proofs.Packed.{flat-step}
 use Rattle.layout.proofs.Runs.{firstSpare, firstPageOf, stateOf, tracked-model, model-at}
 use Rattle.layout.proofs.Rings.{laid-append}
-use Rattle.layout.proofs.Kept.{pagedOf, used-paged}
-use Rattle.layout.proofs.Changes.{sparesAt, spares-rest}
-use Rattle.layout.proofs.Pages.{pagesAt}
+use Rattle.layout.proofs.Kept.{used-paged}
+use Rattle.layout.proofs.Changes.{spares-rest}
 use Rattle.layout.proofs.Stays.{ids-ascend}
 use Rattle.layout.proofs.Passes.{texture-packed, spares-packed, newest-packed, stamps-packed}
-use Rattle.destruction.specs.Given.{givenRecords}
-use Rattle.trimming.specs.declared.look.Look.{Look}
 use Rattle.forgetting.specs.Owned.{textureIn, sparesTo, pagesTo}
-use Rattle.trimming.specs.Look.{bytesGiven, lookedRecord}
+use Rattle.trimming.specs.Look.{lookedRecord}
 use Rattle.trimming.specs.Pass.{trimmedOne, givenOne, trimmed}
-use Rattle.forgetting.proofs.TextureRuns.{record-in, spares-to, pages-to, pages-in, spares-within, pages-within}
-use Rattle.trimming.proofs.Looks.{count, looked, looked-paged, looked-spares, lookHere, few, left-count, none-left, record-here, given-records}
+use Rattle.forgetting.proofs.TextureRuns.{record-in, spares-to, pages-to, pages-in, spares-within}
+use Rattle.trimming.proofs.Looks.{count, looked, looked-paged, looked-spares, lookHere, few, left-count, record-here}
 
 -- what a call leaves of the packed slices depends on the textures alone
 module _ (l : Lent) (p q : Pool ℕ) (e : p .textures ≡ q .textures) where

@@ -2,7 +2,7 @@
 use mathlib.Core.Path.{_≡_, refl, sym, ap, ap₂, _∙_}
 use mathlib.Core.Bool.{Bool, true, false, cond, not}
 use mathlib.Core.List.{List, [], _∷_, _++_, map, flatMap}
-use Prim.Native.Nat.{ℕ, suc, _+_, _-_, _*_, _/_, _≤_, _<_, _^_}
+use Prim.Native.Nat.{ℕ, _+_, _-_, _*_, _/_, _≤_, _<_, _^_}
 use native.Mathlib.Omega.{arith}
 use borrow.Author.Tests.{lt-ltb, le-ltb}
 use lib.Dec.{ltb}
@@ -13,7 +13,7 @@ use Rattle.blocks.proofs.All.{all-at}
 use Rattle.tables.specs.Records.{recordAt}
 use Rattle.shapes.specs.declared.shape.VersionShape.{VersionShape}
 use Rattle.shapes.specs.Shapes.{isShape}
-use Rattle.stores.specs.Model.{Doomed, VersionState, Pool, refused, accepted, guard, limit, spareBytes, doomedBytes}
+use Rattle.stores.specs.Model.{Doomed, VersionState, Pool, refused, accepted, limit, spareBytes, doomedBytes}
 use Rattle.stores.specs.Updates.{withTextures, doomSpares}
 use Rattle.stores.specs.Trim.{agedCount, thinned, idle, lookedAt, trim}
 use Rattle.stores.specs.Formed.{Given, HistoryFormed}
@@ -28,9 +28,9 @@ use Rattle.layout.specs.Lent.{Lent, lent, versionPlaces}
 use Rattle.layout.specs.Reading.{trackedRecords, recordPages, historyRead, stateRead, modelOf}
 use Rattle.layout.specs.Writing.{poolAfter, bookAfter, retiringAfter, doomedAfter, after}
 use Rattle.layout.specs.IsPool.{isPool}
-use Rattle.layout.specs.Calls.{Told, refusal, answer, trimCall}
+use Rattle.layout.specs.Calls.{refusal, answer, trimCall}
 use Rattle.layout.proofs.Fits.{Fits}
-use Rattle.layout.proofs.FromPool.{pool-fits, enough}
+use Rattle.layout.proofs.FromPool.{enough}
 use Rattle.layout.proofs.Asked.{guard-passed, guard-refused, asked-refused, asked-accepted}
 use Rattle.layout.proofs.Parts.{total-cut}
 use Rattle.layout.proofs.Runs.{firstPageOf, stateOf, tracked-model, model-at}
@@ -41,7 +41,7 @@ use Rattle.layout.proofs.Counts.{count-spares}
 use Rattle.access.proofs.Totals.{total-first}
 use Rattle.trimming.specs.declared.look.Look.{Look}
 use Rattle.trimming.specs.declared.pass.Pass.{Pass}
-use Rattle.forgetting.specs.Owned.{textureIn, sparesTo}
+use Rattle.forgetting.specs.Owned.{textureIn}
 use Rattle.trimming.specs.Pass.{trimmedOne, givenOne, trimmed, countsAfter}
 use Rattle.forgetting.proofs.TextureRuns.{doomed-bound, record-in, shape-passes, spares-within, pages-within}
 use Rattle.trimming.proofs.Steps.{givenTo, keptTo}

@@ -1,11 +1,10 @@
 -- A trim's pass over the textures: where it stands after i of them, one more, and the call. Assumes nothing.
 use mathlib.Core.Path.{_≡_, refl, sym, ap, ap₂, _∙_}
 use mathlib.Core.Bool.{Bool, true, false, cond}
-use mathlib.Core.List.{List, [], _∷_, _++_, map, flatMap}
-use Prim.Native.Nat.{ℕ, suc, _+_, _-_, _*_, _/_, _≤_, _<_}
+use mathlib.Core.List.{List, map, flatMap}
+use Prim.Native.Nat.{ℕ, _+_, _-_, _*_, _/_, _≤_, _<_}
 use native.Mathlib.Omega.{arith}
 use borrow.Author.Tests.{eq-eqb, ne-eqb}
-use lib.Dec.{eqb}
 use lib.ListN.{length, length-append}
 use lib.Seq.{sets}
 use Rattle.blocks.specs.Lists.{listed, total}
@@ -24,7 +23,7 @@ use Rattle.records.specs.Spare.{readSpare}
 use Rattle.records.specs.Doomed.{writeDoomed}
 use Rattle.records.specs.Views.{spareOf}
 use Rattle.layout.specs.Lent.{Lent}
-use Rattle.layout.specs.Reading.{recordPages, spareRead, modelOf}
+use Rattle.layout.specs.Reading.{recordPages, spareRead}
 use Rattle.layout.specs.Writing.{doomedRecord, everySpare, newestOf, texturesAfter, sparesAfter, newestAfter, pagesAfter, stampsAfter}
 use Rattle.layout.proofs.Fits.{Fits}
 use Rattle.layout.proofs.Runs.{stateOf}

@@ -1,5 +1,4 @@
 -- `counts_without` meets its contract. Assumes nothing.
-use borrow.Author.Needs.{needs}
 use mathlib.Core.Path.{refl}
 use native.Mathlib.Omega.{arith}
 use Rattle.forgetting.specs.Owned.{without}

@@ -1,7 +1,6 @@
 -- `owned_at` meets its contract: each number is what its part answers. Assumes nothing.
 use borrow.Author.Needs.{needs}
-use mathlib.Core.Path.{_≡_, sym, ap, _∙_}
-use mathlib.Core.Bool.{true}
+use mathlib.Core.Path.{ap, _∙_}
 use native.Mathlib.Omega.{arith}
 use Rattle.shapes.specs.Shapes.{isShape, bytesOf}
 use Rattle.records.specs.declared.texture.TextureRecord.{TextureRecord}
