@@ -1,4 +1,5 @@
 pub mod Ages
+pub mod Puts
 pub mod Looks
 pub mod Steps
 pub mod Trimmed

@@ -26,7 +26,8 @@ use layout::DoneAnswer;
 use layout::PacingBook;
 use layout::Pool;
 
-// Record i written at place `to` as it is after the look; nothing where it is dropped.
+// Record i written at place `to` as it is after the look. Nothing is written where the texture is dropped, nor where the record stands
+// there already.
 fn put_looked(textures: &mut [u64], to: usize, i: usize, look: Look)
     requires { ⌜ (19 * i + 19 ≤ length (now textures)) × (19 * to + 19 ≤ length (now textures))
         × RecordedFits (recordAt 19 readTexture (now textures) i .history) × (look .aged ≤ look .own) ⌝ }
@@ -35,9 +36,13 @@ fn put_looked(textures: &mut [u64], to: usize, i: usize, look: Look)
     if look.staying == 0 {
         return;
     }
+    let left = (look.own - look.aged) as u64;
+    if (to == i) & (textures[19 * i + 17] == look.due) & (textures[19 * i + 18] == left) {
+        return;
+    }
     let mut t = texture_at(textures, i);
     t.due = look.due;
-    t.spares = (look.own - look.aged) as u64;
+    t.spares = left;
     put_texture(textures, to, t);
 }
 
