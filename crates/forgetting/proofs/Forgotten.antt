@@ -118,7 +118,8 @@ module _ (l : Lent) (f : Fits l) (i : ℕ) (h : i < l .pool .tracked) where
         × (l .pool .since ≤ 4096) × (own .bytes * own .spares ≤ l .pool .parked) × (l .pool .dooming + own .bytes * own .spares < 2 ^ 64)
     unfolding modelOf
     counts-fit =
-        let dooming : l .pool .dooming ≤ 17592186044416 * length (modelOf l .doomed) = omega (arith, f .formed .dooming, doomed-bound (f .formed .doomed)) in (
+        let dooming : l .pool .dooming ≤ 17592186044416 * length (modelOf l .doomed) =
+        omega (arith, f .formed .dooming, doomed-bound (f .formed .doomed)) in (
           omega arith,
           omega (arith, own-spares),
           omega (arith, own-pages),
@@ -153,7 +154,8 @@ module _ (l : Lent) (f : Fits l) (i : ℕ) (h : i < l .pool .tracked) where
   unfolding without ownedAt poolAfter modelOf
   counts-left = λ j. record {
     tracked = sym (tracked-removed l left i 1 (omega arith) refl) j;
-    kept = sym (kept-removed l left (f .kept) (firstSpare l i) (sparesAt l i) spares-there (every-removed l i h) ∙ ap (λ (n : ℕ). l .pool .kept - n) own-spares-are) j;
+    kept = sym (kept-removed l left (f .kept) (firstSpare l i) (sparesAt l i) spares-there (every-removed l i h)
+        ∙ ap (λ (n : ℕ). l .pool .kept - n) own-spares-are) j;
     pages = sym (used-removed l left (f .claimed) i h refl ∙ ap (λ (n : ℕ). l .pool .pages - n) (ap recordPages (record-in l i h))) j;
     head = sym (head-stays l left (f .head) (omega (arith, hand-model l))) j;
     popped = sym (held-same l) j;
@@ -174,14 +176,16 @@ module _ (l : Lent) (f : Fits l) (i : ℕ) (h : i < l .pool .tracked) where
       ap (λ rs. laid 2 writeDoomed (versionPlaces l) (l .pool .first) (l .pool .doomed) rs (l .doomed)) (sym out-records)
       ∙ doomed-pushed l left (f .first) (omega (arith, f .doomed)) (doomed-fit l f) out refl
 
-  spares-left : moved (l .spares) (3 * sparesTo T i) (3 * sparesTo T i + 3 * textureIn T i .spares) (3 * (l .pool .kept - (sparesTo T i + textureIn T i .spares)))
+  spares-left : moved (l .spares) (3 * sparesTo T i) (3 * sparesTo T i + 3 * textureIn T i .spares)
+      (3 * (l .pool .kept - (sparesTo T i + textureIn T i .spares)))
       ≡ sparesAfter left l
   spares-left =
       sym (ap₂ (λ (k n : ℕ). moved (l .spares) (3 * k) (3 * k + 3 * n) (3 * (l .pool .kept - (k + n)))) (spares-to l i h) own-spares-are)
       ∙ spares-removed l left (f .kept) (omega (arith, f .spares, f .versions)) (firstSpare l i) (sparesAt l i)
       spares-there (every-removed l i h)
 
-  newest-left : moved (l .newest) (pagesTo T i) (pagesTo T i + recordPages (textureIn T i)) (l .pool .pages - (pagesTo T i + recordPages (textureIn T i)))
+  newest-left : moved (l .newest) (pagesTo T i) (pagesTo T i + recordPages (textureIn T i))
+      (l .pool .pages - (pagesTo T i + recordPages (textureIn T i)))
       ≡ newestAfter left l
   newest-left =
       sym (ap₂ (λ (k n : ℕ). moved (l .newest) k (k + n) (l .pool .pages - (k + n))) (pages-to l i h) (ap recordPages (record-in l i h)))
@@ -190,7 +194,8 @@ module _ (l : Lent) (f : Fits l) (i : ℕ) (h : i < l .pool .tracked) where
   stamps-left : moved (l .stamps) (1024 * pagesTo T i) (1024 * pagesTo T i + 1024 * recordPages (textureIn T i))
       (1024 * (l .pool .pages - (pagesTo T i + recordPages (textureIn T i)))) ≡ stampsAfter left l
   stamps-left =
-      sym (ap₂ (λ (k n : ℕ). moved (l .stamps) (1024 * k) (1024 * k + 1024 * n) (1024 * (l .pool .pages - (k + n)))) (pages-to l i h) (ap recordPages (record-in l i h)))
+      sym (ap₂ (λ (k n : ℕ). moved (l .stamps) (1024 * k) (1024 * k + 1024 * n) (1024 * (l .pool .pages - (k + n)))) (pages-to l i h)
+      (ap recordPages (record-in l i h)))
       ∙ stamps-removed l left (f .claimed) i h refl (ids-ascend l f) (omega (arith, f .stamps, f .pages))
 
   book-left : l .book ≡ bookAfter left
@@ -200,7 +205,8 @@ module _ (l : Lent) (f : Fits l) (i : ℕ) (h : i < l .pool .tracked) where
   pub left-behind : (own : Owned) → own ≡ ownedAt T i → (c : Counts) (textures doomed spares newest stamps : List ℕ)
       → c ≡ without (l .pool) own
       → textures ≡ moved T (19 * i) (19 * i + 19 * 1) (19 * (l .pool .tracked - (i + 1)))
-      → doomed ≡ laid 2 writeDoomed (places l) (l .pool .first) (l .pool .doomed) (givenRecords (l .spares) (own .bytes) (own .first) (own .spares)) (l .doomed)
+      → doomed ≡ laid 2 writeDoomed (places l) (l .pool .first) (l .pool .doomed) (givenRecords (l .spares) (own .bytes) (own .first) (own .spares))
+      (l .doomed)
       → spares ≡ moved (l .spares) (3 * own .first) (3 * own .first + 3 * own .spares) (3 * (l .pool .kept - (own .first + own .spares)))
       → newest ≡ moved (l .newest) (own .page) (own .page + own .pages) (l .pool .pages - (own .page + own .pages))
       → stamps ≡ moved (l .stamps) (1024 * own .page) (1024 * own .page + 1024 * own .pages) (1024 * (l .pool .pages - (own .page + own .pages)))
@@ -212,11 +218,14 @@ module _ (l : Lent) (f : Fits l) (i : ℕ) (h : i < l .pool .tracked) where
       book-left
       (e2 ∙ textures-removed l left (textures-fit l f) i 1 (omega arith) refl)
       (retiring-stay l f left refl refl)
-      (e3 ∙ ap (λ (o : Owned). laid 2 writeDoomed (versionPlaces l) (l .pool .first) (l .pool .doomed) (givenRecords (l .spares) (o .bytes) (o .first) (o .spares)) (l .doomed)) e
+      (e3 ∙ ap (λ (o : Owned). laid 2 writeDoomed (versionPlaces l) (l .pool .first) (l .pool .doomed)
+      (givenRecords (l .spares) (o .bytes) (o .first) (o .spares)) (l .doomed)) e
       ∙ doomed-left)
-      (e4 ∙ ap (λ (o : Owned). moved (l .spares) (3 * o .first) (3 * o .first + 3 * o .spares) (3 * (l .pool .kept - (o .first + o .spares)))) e ∙ spares-left)
+      (e4 ∙ ap (λ (o : Owned). moved (l .spares) (3 * o .first) (3 * o .first + 3 * o .spares) (3 * (l .pool .kept - (o .first + o .spares)))) e
+      ∙ spares-left)
       (e5 ∙ ap (λ (o : Owned). moved (l .newest) (o .page) (o .page + o .pages) (l .pool .pages - (o .page + o .pages))) e ∙ newest-left)
-      (e6 ∙ ap (λ (o : Owned). moved (l .stamps) (1024 * o .page) (1024 * o .page + 1024 * o .pages) (1024 * (l .pool .pages - (o .page + o .pages)))) e ∙ stamps-left)
+      (e6 ∙ ap (λ (o : Owned). moved (l .stamps) (1024 * o .page) (1024 * o .page + 1024 * o .pages)
+      (1024 * (l .pool .pages - (o .page + o .pages)))) e ∙ stamps-left)
 
 -- ---- the call
 
@@ -269,7 +278,8 @@ module _ (l : Lent) (pool : isPool l ≡ true) (id : ℕ) where
     is-nowhere : hasId (l .textures) (l .pool .tracked) i id ≡ false → IsTracked l id up → ⊥
     is-nowhere q (h, e) = not-found (l .textures) (l .pool .tracked) i id up at q (place l id up) h (ap idOf (sym (record-in l (place l id up) h)) ∙ e)
 
-    pub forget-tracked : hasId (l .textures) (l .pool .tracked) i id ≡ true → (r : Lent) → r ≡ after (forgotten l i) l → (answer tt, r) ≡ forgetTextureCall l id
+    pub forget-tracked : hasId (l .textures) (l .pool .tracked) i id ≡ true → (r : Lent) → r ≡ after (forgotten l i) l
+        → (answer tt, r) ≡ forgetTextureCall l id
     unfolding forgetTextureCall
     forget-tracked q r e =
         ap (λ (s : Lent). (answer tt, s)) (e ∙ ap (λ (k : ℕ). after (forgotten l k) l) at)

@@ -106,7 +106,8 @@ module _ (textures : List ℕ) (i : ℕ) where
         sym (ap (λ (b : Bool). cond b (cond (aged now (texture .rename)) now (texture .rename)) (texture .due))
         (sym (age (texture .due) _ due-at) ∙ le-ltb (getD textures (19 * i + 17) 0) bound h) ∙ due-at)
 
-    pub due-renamed : getD textures (19 * i + 17) 0 < bound → bound ≤ getD textures (19 * i + 16) 0 → getD textures (19 * i + 16) 0 ≡ dueAfter now texture
+    pub due-renamed : getD textures (19 * i + 17) 0 < bound → bound ≤ getD textures (19 * i + 16) 0
+        → getD textures (19 * i + 16) 0 ≡ dueAfter now texture
     unfolding dueAfter
     due-renamed d h =
         sym (ap₂ (λ (a b : Bool). cond a (cond b now (texture .rename)) (texture .due))

@@ -106,7 +106,9 @@ module _ (l : Lent) (now i : ℕ) (h : i < l .pool .tracked) where
   left-count = length-drop (count now (stateOf l i)) (stateOf l i .spares) ∙ ap (λ (n : ℕ). n - count now (stateOf l i)) (count-in l i h)
 
   pub idle-here : idle now (thinned now (stateOf l i)) ≡ isIdle now t₀ (t₀ .spares - count now (stateOf l i))
-  idle-here = idle-record now (stateOf l i) ∙ ap₂ (λ (t : TextureRecord) (n : ℕ). isIdle now t (n - count now (stateOf l i))) (record-of l i h) (count-in l i h)
+  idle-here =
+      idle-record now (stateOf l i)
+      ∙ ap₂ (λ (t : TextureRecord) (n : ℕ). isIdle now t (n - count now (stateOf l i))) (record-of l i h) (count-in l i h)
 
   pub none-left : idle now (thinned now (stateOf l i)) ≡ true → t₀ .spares - count now (stateOf l i) ≡ 0
   unfolding isIdle
@@ -158,7 +160,8 @@ module _ (l : Lent) (now i : ℕ) (h : i < l .pool .tracked) where
   bytes-few f =
       omega (arith, by-count (count now (stateOf l i)), mul-le-mul-right (count now (stateOf l i)) (bytes-bound (t₀ .shape) (shape-passes l i h f)))
 
-  records-by-count : (n : ℕ) → givenRecords (l .spares) (bytesGiven t₀ n) (sparesTo (l .textures) i) n ≡ givenRecords (l .spares) (bytesOf (t₀ .shape)) (sparesTo (l .textures) i) n
+  records-by-count : (n : ℕ) → givenRecords (l .spares) (bytesGiven t₀ n) (sparesTo (l .textures) i) n
+      ≡ givenRecords (l .spares) (bytesOf (t₀ .shape)) (sparesTo (l .textures) i) n
   unfolding bytesGiven givenRecords listed
   records-by-count zero = refl
   records-by-count (suc n) =

@@ -96,7 +96,8 @@ module _ (l : Lent) (now i : ℕ) (h : i < l .pool .tracked) where
       ap₂ (λ (m : ℕ) (s : List ℕ). laid 2 writeDoomed places first (n + m) (map doomedRecord (givenOne now (stateOf l i))) s)
       (e ∙ sym (length-map (givenTo l now i) doomedRecord)) q
       ∙ sym (ap (λ (ds : List (Doomed ℕ)). laid 2 writeDoomed places first n (map doomedRecord ds) (l .doomed)) given-next
-      ∙ ap (λ (rs : List DoomedRecord). laid 2 writeDoomed places first n rs (l .doomed)) (map-append doomedRecord (givenTo l now i) (givenOne now (stateOf l i)))
+      ∙ ap (λ (rs : List DoomedRecord). laid 2 writeDoomed places first n rs (l .doomed))
+      (map-append doomedRecord (givenTo l now i) (givenOne now (stateOf l i)))
       ∙ laid-append 2 writeDoomed places first (map doomedRecord (givenTo l now i)) (map doomedRecord (givenOne now (stateOf l i))) n (l .doomed))
 
   module _ (f : Fits l) where
@@ -132,7 +133,8 @@ module _ (l : Lent) (now i : ℕ) (h : i < l .pool .tracked) where
           let fewer = few l now i h in
           let within = spares-within l i h f in
           ap₂ (λ (n m : ℕ). moved (sparesAfter p l) (3 * n) (3 * (m + k₀)) (3 * (t₀ .spares - k₀))) at (sym first)
-          ∙ spares-packed l p q (looked now (stateOf l i)) more (f .kept) (omega (arith, f .spares, f .versions)) (firstSpare l i + k₀) (t₀ .spares - k₀)
+          ∙ spares-packed l p q (looked now (stateOf l i)) more (f .kept) (omega (arith, f .spares, f .versions)) (firstSpare l i + k₀)
+          (t₀ .spares - k₀)
           (looked-spares now (stateOf l i) ∙ spares-rest l i h k₀ (omega (arith, own, fewer))
           ∙ ap (λ (n : ℕ). take (n - k₀) (drop (firstSpare l i + k₀) (everySpare (modelOf l .textures)))) own)
           (omega (arith, at, first, low)) (omega (arith, first, fewer, within))
@@ -154,8 +156,10 @@ module _ (l : Lent) (now i : ℕ) (h : i < l .pool .tracked) where
             → (moved (stampsAfter p l) (1024 * used) (1024 * pagesTo (l .textures) i) (1024 * recordPages t₀) ≡ stampsAfter q l)
             × (length (flatMap (pagesAfter l) (keptTo l now (i + 1))) ≡ 1024 * (used + recordPages t₀))
         stamps-stay n =
-            let w = stamps-packed l p q (looked now (stateOf l i)) more (f .claimed) i h (looked-paged now (stateOf l i)) used before (ids-ascend l f) (omega (arith, f .stamps, f .pages)) n in (
-              ap₂ (λ (a b : ℕ). moved (stampsAfter p l) (1024 * used) (1024 * a) (1024 * b)) (sym (pages-to l i h)) (sym (ap recordPages (record-in l i h))) ∙ w .0,
+            let w = stamps-packed l p q (looked now (stateOf l i)) more (f .claimed) i h (looked-paged now (stateOf l i)) used before
+            (ids-ascend l f) (omega (arith, f .stamps, f .pages)) n in (
+              ap₂ (λ (a b : ℕ). moved (stampsAfter p l) (1024 * used) (1024 * a) (1024 * b)) (sym (pages-to l i h))
+                  (sym (ap recordPages (record-in l i h))) ∙ w .0,
               w .1 ∙ ap (λ (m : ℕ). 1024 * (used + m)) (ap recordPages (record-in l i h)),
             )
 

@@ -145,7 +145,8 @@ module _ (l : Lent) (now i : ℕ) (w : Pass) (T D S N P : List ℕ) (f : Fits l)
   given-now : (b k : ℕ) → givenRecords S b (w .first) k ≡ givenRecords (l .spares) b (sparesTo (l .textures) i) k
   unfolding givenRecords
   given-now b k =
-      listed-same (λ j. record { view = recordAt 3 readSpare S j .view; bytes = b }) (λ j. record { view = recordAt 3 readSpare (l .spares) j .view; bytes = b })
+      listed-same (λ j. record { view = recordAt 3 readSpare S j .view; bytes = b })
+      (λ j. record { view = recordAt 3 readSpare (l .spares) j .view; bytes = b })
       k (w .first) (sparesTo (l .textures) i)
       (λ j q. ap (λ (x : SpareRecord). record { view = x .view; bytes = b }) (spare-now (w .first + j) (omega arith))
       ∙ ap (λ (n : ℕ). record { view = recordAt 3 readSpare (l .spares) (n + j) .view; bytes = b }) (s .first))
@@ -195,11 +196,13 @@ module _ (l : Lent) (now i : ℕ) (w : Pass) (T D S N P : List ℕ) (f : Fits l)
     -- ---- one texture more
 
     module _ (v : Pass) (T′ D′ S′ N′ P′ : List ℕ) (ev : v ≡ passOn w look) (eT : T′ ≡ lookedPut T (w .tracked) i look)
-        (eD : D′ ≡ laid 2 writeDoomed (length (l .retiring) / 7) (l .pool .first) (l .pool .doomed + w .count) (givenRecords S (look .bytes) (w .first) (look .aged)) D)
+        (eD : D′ ≡ laid 2 writeDoomed (length (l .retiring) / 7) (l .pool .first) (l .pool .doomed + w .count)
+        (givenRecords S (look .bytes) (w .first) (look .aged)) D)
         (eS : S′ ≡ moved S (3 * w .kept) (3 * w .kept + 3 * (w .first + look .aged - w .kept)) (3 * (look .own - look .aged)))
         (eN : N′ ≡ moved N (w .pages) (w .pages + (w .page - w .pages)) (look .paged))
         (eP : P′ ≡ moved P (1024 * w .pages) (1024 * w .pages + 1024 * (w .page - w .pages)) (1024 * look .paged))
-        (lT : length T′ ≡ length T) (lD : length D′ ≡ length D) (lS : length S′ ≡ length S) (lN : length N′ ≡ length N) (lP : length P′ ≡ length P) where
+        (lT : length T′ ≡ length T) (lD : length D′ ≡ length D) (lS : length S′ ≡ length S) (lN : length N′ ≡ length N)
+        (lP : length P′ ≡ length P) where
       first-on : v .first ≡ w .first + look .own
       unfolding passOn
       first-on = ap (λ (x : Pass). x .first) ev
@@ -228,7 +231,8 @@ module _ (l : Lent) (now i : ℕ) (w : Pass) (T D S N P : List ℕ) (f : Fits l)
       unfolding passOn
       freed-on = ap (λ (x : Pass). x .freed) ev
 
-      doomed-on : D′ ≡ laid 2 writeDoomed (length (l .retiring) / 7) (l .pool .first) (l .pool .doomed) (map doomedRecord (givenTo l now (i + 1))) (l .doomed)
+      doomed-on : D′ ≡ laid 2 writeDoomed (length (l .retiring) / 7) (l .pool .first) (l .pool .doomed) (map doomedRecord (givenTo l now (i + 1)))
+          (l .doomed)
       unfolding lookOf
       doomed-on =
           eD
@@ -238,7 +242,8 @@ module _ (l : Lent) (now i : ℕ) (w : Pass) (T D S N P : List ℕ) (f : Fits l)
 
       -- what the two cases share
       further : (tracked : v .tracked ≡ length (keptTo l now (i + 1))) → v .kept ≡ length (everySpare (keptTo l now (i + 1)))
-          → v .pages ≡ total pagesUsed (keptTo l now (i + 1)) → T′ ≡ texturesAfter (trimmed l now (i + 1)) l → S′ ≡ sparesAfter (trimmed l now (i + 1)) l
+          → v .pages ≡ total pagesUsed (keptTo l now (i + 1)) → T′ ≡ texturesAfter (trimmed l now (i + 1)) l
+          → S′ ≡ sparesAfter (trimmed l now (i + 1)) l
           → N′ ≡ newestAfter (trimmed l now (i + 1)) l → P′ ≡ stampsAfter (trimmed l now (i + 1)) l
           → length (flatMap newestOf (keptTo l now (i + 1))) ≡ v .pages → length (flatMap (pagesAfter l) (keptTo l now (i + 1))) ≡ 1024 * v .pages
           → Sofar l now (i + 1) v T′ D′ S′ N′ P′
@@ -249,7 +254,16 @@ module _ (l : Lent) (now i : ℕ) (w : Pass) (T D S N P : List ℕ) (f : Fits l)
         tracked = tracked;
         kept = kept;
         pages = pages;
-        count = omega (arith, count-on, aged-is, s .count, ap length (given-next l now i h), length-append (givenTo l now i) (givenOne now (stateOf l i)), given-count l now i h);
+        count =
+            omega (
+              arith,
+              count-on,
+              aged-is,
+              s .count,
+              ap length (given-next l now i h),
+              length-append (givenTo l now i) (givenOne now (stateOf l i)),
+              given-count l now i h,
+            );
         freed = omega (
           arith,
           freed-on,
@@ -291,14 +305,18 @@ module _ (l : Lent) (now i : ℕ) (w : Pass) (T D S N P : List ℕ) (f : Fits l)
           (omega (arith, kept-on, empty, s .kept, ap (λ (ts : List (VersionState ℕ)). length (everySpare ts)) same))
           (omega (arith, pages-on, unpaged, s .pages, ap (total pagesUsed) same))
           (eT
-          ∙ ap (λ (c : Bool). cond c T (sets T (19 * w .tracked) (writeTexture (lookedRecord look (recordAt 19 readTexture T i))))) (eq-eqb (look .staying) 0 gone)
+          ∙ ap (λ (c : Bool). cond c T (sets T (19 * w .tracked) (writeTexture (lookedRecord look (recordAt 19 readTexture T i)))))
+          (eq-eqb (look .staying) 0 gone)
           ∙ s .textures ∙ textures-as l (trimmed l now i) (trimmed l now (i + 1)) back)
-          (eS ∙ ap (λ (n : ℕ). moved S (3 * w .kept) (3 * w .kept + 3 * (w .first + look .aged - w .kept)) n) (let z : 3 * (look .own - look .aged) ≡ 0 = omega (arith, empty) in z)
+          (eS ∙ ap (λ (n : ℕ). moved S (3 * w .kept) (3 * w .kept + 3 * (w .first + look .aged - w .kept)) n)
+          (let z : 3 * (look .own - look .aged) ≡ 0 = omega (arith, empty) in z)
           ∙ sym (moved-none S (3 * w .kept) (3 * w .kept + 3 * (w .first + look .aged - w .kept)))
           ∙ s .spares ∙ spares-as l (trimmed l now i) (trimmed l now (i + 1)) back)
-          (eN ∙ ap (λ (n : ℕ). moved N (w .pages) (w .pages + (w .page - w .pages)) n) unpaged ∙ sym (moved-none N (w .pages) (w .pages + (w .page - w .pages)))
+          (eN ∙ ap (λ (n : ℕ). moved N (w .pages) (w .pages + (w .page - w .pages)) n) unpaged
+          ∙ sym (moved-none N (w .pages) (w .pages + (w .page - w .pages)))
           ∙ s .newest ∙ newest-as l (trimmed l now i) (trimmed l now (i + 1)) back)
-          (eP ∙ ap (λ (n : ℕ). moved P (1024 * w .pages) (1024 * w .pages + 1024 * (w .page - w .pages)) n) (let z : 1024 * look .paged ≡ 0 = omega (arith, unpaged) in z)
+          (eP ∙ ap (λ (n : ℕ). moved P (1024 * w .pages) (1024 * w .pages + 1024 * (w .page - w .pages)) n)
+          (let z : 1024 * look .paged ≡ 0 = omega (arith, unpaged) in z)
           ∙ sym (moved-none P (1024 * w .pages) (1024 * w .pages + 1024 * (w .page - w .pages)))
           ∙ s .stamps ∙ stamps-as l (trimmed l now i) (trimmed l now (i + 1)) back)
           (omega (arith, pages-on, unpaged, s .newest-long, ap (λ (ts : List (VersionState ℕ)). length (flatMap newestOf ts)) same))
@@ -327,11 +345,13 @@ module _ (l : Lent) (now i : ℕ) (w : Pass) (T D S N P : List ℕ) (f : Fits l)
           (eS
           ∙ ap (λ (x : List ℕ). moved x (3 * w .kept) (3 * w .kept + 3 * (w .first + look .aged - w .kept)) (3 * (look .own - look .aged))) (s .spares)
           ∙ ap₂ (λ (m n : ℕ). moved (sparesAfter p l) (3 * w .kept) m n)
-          (let z : 3 * w .kept + 3 * (w .first + look .aged - w .kept) ≡ 3 * (sparesTo (l .textures) i + k₀) = omega (arith, s .first, s .all, aged-is) in z)
+          (let z : 3 * w .kept + 3 * (w .first + look .aged - w .kept)
+          ≡ 3 * (sparesTo (l .textures) i + k₀) = omega (arith, s .first, s .all, aged-is) in z)
           (let z : 3 * (look .own - look .aged) ≡ 3 * (t₀ .spares - k₀) = omega (arith, own-is, aged-is) in z)
           ∙ spares-stay l now i h f b (w .kept) (s .kept) (omega (arith, s .first, s .all)))
           (eN ∙ ap (λ (x : List ℕ). moved x (w .pages) (w .pages + (w .page - w .pages)) (look .paged)) (s .newest)
-          ∙ ap₂ (λ (m n : ℕ). moved (newestAfter p l) (w .pages) m n) (let z : w .pages + (w .page - w .pages) ≡ pagesTo (l .textures) i = omega (arith, s .low, s .page) in z) pages
+          ∙ ap₂ (λ (m n : ℕ). moved (newestAfter p l) (w .pages) m n)
+          (let z : w .pages + (w .page - w .pages) ≡ pagesTo (l .textures) i = omega (arith, s .low, s .page) in z) pages
           ∙ new .0)
           (eP ∙ ap (λ (x : List ℕ). moved x (1024 * w .pages) (1024 * w .pages + 1024 * (w .page - w .pages)) (1024 * look .paged)) (s .stamps)
           ∙ ap₂ (λ (m n : ℕ). moved (stampsAfter p l) (1024 * w .pages) m (1024 * n))
