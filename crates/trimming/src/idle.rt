@@ -61,8 +61,10 @@ fn trim_textures(
     requires { ⌜ isPool (lent pool book (now textures) (now retiring) (now doomed) (now spares) (now newest) (now stamps)) ≡ true ⌝ }
     ensures { λ r. ⌜
         lent r book (now (textures .exit)) (now (retiring .entry)) (now (doomed .exit)) (now (spares .exit)) (now (newest .exit)) (now (stamps .exit))
-        ≡ after (trimmed (lent pool book (now (textures .entry)) (now (retiring .entry)) (now (doomed .entry)) (now (spares .entry)) (now (newest .entry)) (now (stamps .entry))) current (pool .tracked))
-        (lent pool book (now (textures .entry)) (now (retiring .entry)) (now (doomed .entry)) (now (spares .entry)) (now (newest .entry)) (now (stamps .entry))) ⌝ }
+        ≡ after (trimmed (lent pool book (now (textures .entry)) (now (retiring .entry)) (now (doomed .entry)) (now (spares .entry))
+        (now (newest .entry)) (now (stamps .entry))) current (pool .tracked))
+        (lent pool book (now (textures .entry)) (now (retiring .entry)) (now (doomed .entry)) (now (spares .entry))
+        (now (newest .entry)) (now (stamps .entry))) ⌝ }
 {
     let places = retiring.len() / 7;
     let tracked = pool.tracked;
@@ -102,6 +104,7 @@ fn trim_textures(
     counts_after(pool, pass)
 }
 
+// `current` is 01's now, the submission that is being built.
 pub fn trim(
     pool: Pool,
     book: PacingBook,
@@ -114,9 +117,13 @@ pub fn trim(
     current: u64,
 ) -> DoneAnswer
     requires { ⌜ isPool (lent pool book (now textures) (now retiring) (now doomed) (now spares) (now newest) (now stamps)) ≡ true ⌝ }
-    ensures { λ r. ⌜
-        (toldNumber (r .outcome), lent (r .pool) book (now (textures .exit)) (now (retiring .entry)) (now (doomed .exit)) (now (spares .exit)) (now (newest .exit)) (now (stamps .exit)))
-        ≡ trimCall (lent pool book (now (textures .entry)) (now (retiring .entry)) (now (doomed .entry)) (now (spares .entry)) (now (newest .entry)) (now (stamps .entry))) current ⌝ }
+    ensures { λ r. ⌜ (
+      toldNumber (r .outcome),
+      lent (r .pool) book (now (textures .exit)) (now (retiring .entry)) (now (doomed .exit)) (now (spares .exit))
+          (now (newest .exit)) (now (stamps .exit)),
+    )
+        ≡ trimCall (lent pool book (now (textures .entry)) (now (retiring .entry)) (now (doomed .entry)) (now (spares .entry))
+        (now (newest .entry)) (now (stamps .entry))) current ⌝ }
 {
     if current > 281474976710656 {
         return DoneAnswer { pool, outcome: 3 };
