@@ -1,14 +1,14 @@
 -- Laws of ages: a spare idle past the bound, the oldest of them counted, and a texture looked at. Assumes nothing.
-use mathlib.Core.Path.{_≡_, refl, sym, ap, ap₂, _∙_}
+use mathlib.Core.Path.{_≡_, sym, ap, ap₂, _∙_}
 use mathlib.Core.Bool.{Bool, true, false, cond, _&&_}
 use mathlib.Core.List.{List, [], _∷_}
-use Prim.Native.Nat.{ℕ, zero, suc, _+_, _-_, _*_, _≤_, _<_}
+use Prim.Native.Nat.{ℕ, suc, _+_, _-_, _*_, _≤_, _<_}
 use native.Mathlib.Nat.{add-zero, zero-add, sub-zero}
 use native.Mathlib.Decide.{decLt}
 use native.Mathlib.Omega.{arith}
 use borrow.Author.Tests.{lt-ltb, le-ltb}
 use lib.Dec.{ltb, eqb}
-use lib.ListN.{length, getD, drop}
+use lib.ListN.{length, getD}
 use lib.Seq.{getD-drop}
 use Rattle.blocks.specs.Lists.{listed}
 use Rattle.tables.specs.Records.{recordAt}
@@ -106,7 +106,8 @@ module _ (textures : List ℕ) (i : ℕ) where
         sym (ap (λ (b : Bool). cond b (cond (aged now (texture .rename)) now (texture .rename)) (texture .due))
         (sym (age (texture .due) _ due-at) ∙ le-ltb (getD textures (19 * i + 17) 0) bound h) ∙ due-at)
 
-    pub due-renamed : getD textures (19 * i + 17) 0 < bound → bound ≤ getD textures (19 * i + 16) 0 → getD textures (19 * i + 16) 0 ≡ dueAfter now texture
+    pub due-renamed : getD textures (19 * i + 17) 0 < bound → bound ≤ getD textures (19 * i + 16) 0
+        → getD textures (19 * i + 16) 0 ≡ dueAfter now texture
     unfolding dueAfter
     due-renamed d h =
         sym (ap₂ (λ (a b : Bool). cond a (cond b now (texture .rename)) (texture .due))

@@ -1,6 +1,5 @@
-pub mod TextureRuns
-pub mod Forgotten
 pub mod Ages
+pub mod Puts
 pub mod Looks
 pub mod Steps
 pub mod Trimmed

@@ -2,7 +2,7 @@
 use mathlib.Core.Path.{_≡_, refl, sym, ap, ap₂, _∙_}
 use mathlib.Core.Bool.{Bool, true, false, cond, _&&_}
 use mathlib.Core.List.{List, [], _∷_, map}
-use Prim.Native.Nat.{ℕ, zero, suc, _+_, _-_, _*_, _≤_, _<_}
+use Prim.Native.Nat.{ℕ, zero, suc, _-_, _*_, _≤_, _<_}
 use native.Mathlib.Nat.{mul-zero, mul-le-mul-right}
 use native.Mathlib.Omega.{arith}
 use borrow.Author.Tests.{eqb-true, ne-eqb}
@@ -14,25 +14,24 @@ use Rattle.blocks.proofs.Lists.{either, and-both}
 use Rattle.blocks.proofs.Listed.{take-listed}
 use Rattle.shapes.specs.Shapes.{bytesOf}
 use Rattle.shapes.proofs.ShapeBytes.{bytes-bound}
-use Rattle.stores.specs.Model.{Spare, Doomed, VersionState, doomedBytes}
-use Rattle.stores.specs.Updates.{withDue, withSpares, asDoomed}
+use Rattle.stores.specs.Model.{Spare, VersionState, doomedBytes}
+use Rattle.stores.specs.Updates.{withDue, asDoomed}
 use Rattle.stores.specs.Trim.{aged, agedCount, thinned, isEmpty, idle, lookedAt}
 use Rattle.stores.proofs.Moves.{as-doomed-bytes, as-doomed-length}
 use Rattle.records.specs.declared.texture.TextureRecord.{TextureRecord}
-use Rattle.records.specs.declared.doomed.DoomedRecord.{DoomedRecord}
 use Rattle.layout.specs.Lent.{Lent}
 use Rattle.layout.specs.Reading.{recordPages, spareRead}
 use Rattle.layout.specs.Writing.{textureRecord, doomedRecord}
 use Rattle.layout.proofs.Fits.{Fits}
 use Rattle.layout.proofs.Runs.{stateOf}
-use Rattle.layout.proofs.Kept.{Paged, pagedOf}
+use Rattle.layout.proofs.Kept.{pagedOf}
 use Rattle.destruction.specs.Given.{givenRecords}
 use Rattle.destruction.proofs.Pushed.{given-spares}
 use Rattle.trimming.specs.declared.look.Look.{Look}
-use Rattle.trimming.specs.Owned.{textureIn, sparesTo}
+use Rattle.forgetting.specs.Owned.{textureIn, sparesTo}
 use Rattle.trimming.specs.Look.{isIdle, dueAfter, bytesGiven, lookOf, lookedRecord}
 use Rattle.trimming.specs.Pass.{givenOne}
-use Rattle.trimming.proofs.TextureRuns.{record-of, shape-in, spares-in, count-in, shape-passes}
+use Rattle.forgetting.proofs.TextureRuns.{record-of, shape-in, spares-in, count-in, shape-passes}
 use Rattle.trimming.proofs.Ages.{aged-most}
 
 -- ---- any state
@@ -59,15 +58,6 @@ module _ (now : ℕ) (t : VersionState ℕ) where
   looked-spares = either (λ (u : VersionState ℕ). u .spares ≡ drop count (t .spares)) (aged now (t .due)) _ _ (λ q. refl) (λ q. refl)
 
   -- its record, by that of the texture
-  looked-due : textureRecord looked .due ≡ dueAfter now (textureRecord t)
-  unfolding dueAfter
-  looked-due = go (aged now (t .due))
-    where
-      go : (b : Bool) → textureRecord (cond b (withDue (cond (aged now (t .rename)) now (t .rename)) (thinned now t)) (thinned now t)) .due
-          ≡ cond b (cond (aged now (t .rename)) now (t .rename)) (t .due)
-      go true = refl
-      go false = refl
-
   pub looked-record : textureRecord looked ≡ record {
     id = t .id;
     shape = t .shape;
@@ -116,7 +106,9 @@ module _ (l : Lent) (now i : ℕ) (h : i < l .pool .tracked) where
   left-count = length-drop (count now (stateOf l i)) (stateOf l i .spares) ∙ ap (λ (n : ℕ). n - count now (stateOf l i)) (count-in l i h)
 
   pub idle-here : idle now (thinned now (stateOf l i)) ≡ isIdle now t₀ (t₀ .spares - count now (stateOf l i))
-  idle-here = idle-record now (stateOf l i) ∙ ap₂ (λ (t : TextureRecord) (n : ℕ). isIdle now t (n - count now (stateOf l i))) (record-of l i h) (count-in l i h)
+  idle-here =
+      idle-record now (stateOf l i)
+      ∙ ap₂ (λ (t : TextureRecord) (n : ℕ). isIdle now t (n - count now (stateOf l i))) (record-of l i h) (count-in l i h)
 
   pub none-left : idle now (thinned now (stateOf l i)) ≡ true → t₀ .spares - count now (stateOf l i) ≡ 0
   unfolding isIdle
@@ -168,7 +160,8 @@ module _ (l : Lent) (now i : ℕ) (h : i < l .pool .tracked) where
   bytes-few f =
       omega (arith, by-count (count now (stateOf l i)), mul-le-mul-right (count now (stateOf l i)) (bytes-bound (t₀ .shape) (shape-passes l i h f)))
 
-  records-by-count : (n : ℕ) → givenRecords (l .spares) (bytesGiven t₀ n) (sparesTo (l .textures) i) n ≡ givenRecords (l .spares) (bytesOf (t₀ .shape)) (sparesTo (l .textures) i) n
+  records-by-count : (n : ℕ) → givenRecords (l .spares) (bytesGiven t₀ n) (sparesTo (l .textures) i) n
+      ≡ givenRecords (l .spares) (bytesOf (t₀ .shape)) (sparesTo (l .textures) i) n
   unfolding bytesGiven givenRecords listed
   records-by-count zero = refl
   records-by-count (suc n) =

@@ -1,25 +1,22 @@
 -- One texture more of a trim's pass: the textures, what is given up, and the slices. Assumes nothing.
-use mathlib.Core.Path.{_≡_, refl, sym, ap, ap₂, _∙_}
+use mathlib.Core.Path.{_≡_, sym, ap, ap₂, _∙_}
 use mathlib.Core.Bool.{Bool, true, false, cond}
 use mathlib.Core.List.{List, [], _∷_, _++_, map, flatMap, map-append, append-nil}
-use Prim.Native.Nat.{ℕ, suc, _+_, _-_, _*_, _/_, _≤_, _<_}
+use Prim.Native.Nat.{ℕ, _+_, _-_, _*_, _≤_, _<_}
 use native.Mathlib.Numerals.{add-one}
-use native.Mathlib.Nat.{mul-zero}
 use native.Mathlib.Omega.{arith}
-use lib.Dec.{eqb}
-use lib.ListN.{length, take, drop, getD, length-append, length-map}
+use lib.ListN.{length, take, drop, length-append, length-map}
 use lib.Seq.{sets}
-use Rattle.blocks.specs.Lists.{over, total, listed}
+use Rattle.blocks.specs.Lists.{over, total}
 use Rattle.blocks.specs.Blocks.{moved}
 use Rattle.blocks.proofs.Lists.{total-append}
-use Rattle.blocks.proofs.Blocks.{moved-none}
-use Rattle.tables.specs.Records.{recordAt, flat}
+use Rattle.tables.specs.Records.{flat}
 use Rattle.tables.specs.Rings.{laid}
-use Rattle.stores.specs.Model.{Spare, Doomed, VersionState, Pool, pagesUsed}
+use Rattle.stores.specs.Model.{Doomed, VersionState, Pool, pagesUsed}
 use Rattle.stores.specs.Trim.{idle, thinned}
 use Rattle.records.specs.declared.texture.TextureRecord.{TextureRecord}
 use Rattle.records.specs.declared.doomed.DoomedRecord.{DoomedRecord}
-use Rattle.records.specs.Texture.{readTexture, writeTexture}
+use Rattle.records.specs.Texture.{writeTexture}
 use Rattle.records.specs.Spare.{writeSpare}
 use Rattle.records.specs.Doomed.{writeDoomed}
 use Rattle.layout.specs.Lent.{Lent}
@@ -30,18 +27,15 @@ use Rattle.layout.proofs.Parts.{flat-append}
 use Rattle.layout.proofs.Packed.{flat-step}
 use Rattle.layout.proofs.Runs.{firstSpare, firstPageOf, stateOf, tracked-model, model-at}
 use Rattle.layout.proofs.Rings.{laid-append}
-use Rattle.layout.proofs.Kept.{pagedOf, used-paged}
-use Rattle.layout.proofs.Changes.{sparesAt, spares-rest}
-use Rattle.layout.proofs.Pages.{pagesAt}
+use Rattle.layout.proofs.Kept.{used-paged}
+use Rattle.layout.proofs.Changes.{spares-rest}
 use Rattle.layout.proofs.Stays.{ids-ascend}
 use Rattle.layout.proofs.Passes.{texture-packed, spares-packed, newest-packed, stamps-packed}
-use Rattle.destruction.specs.Given.{givenRecords}
-use Rattle.trimming.specs.declared.look.Look.{Look}
-use Rattle.trimming.specs.Owned.{textureIn, sparesTo, pagesTo}
-use Rattle.trimming.specs.Look.{bytesGiven, lookedRecord}
+use Rattle.forgetting.specs.Owned.{textureIn, sparesTo, pagesTo}
+use Rattle.trimming.specs.Look.{lookedRecord}
 use Rattle.trimming.specs.Pass.{trimmedOne, givenOne, trimmed}
-use Rattle.trimming.proofs.TextureRuns.{record-in, spares-to, pages-to, pages-in, spares-within, pages-within}
-use Rattle.trimming.proofs.Looks.{count, looked, looked-paged, looked-spares, lookHere, few, left-count, none-left, record-here, given-records}
+use Rattle.forgetting.proofs.TextureRuns.{record-in, spares-to, pages-to, pages-in, spares-within}
+use Rattle.trimming.proofs.Looks.{count, looked, looked-paged, looked-spares, lookHere, few, left-count, record-here}
 
 -- what a call leaves of the packed slices depends on the textures alone
 module _ (l : Lent) (p q : Pool ℕ) (e : p .textures ≡ q .textures) where
@@ -102,7 +96,8 @@ module _ (l : Lent) (now i : ℕ) (h : i < l .pool .tracked) where
       ap₂ (λ (m : ℕ) (s : List ℕ). laid 2 writeDoomed places first (n + m) (map doomedRecord (givenOne now (stateOf l i))) s)
       (e ∙ sym (length-map (givenTo l now i) doomedRecord)) q
       ∙ sym (ap (λ (ds : List (Doomed ℕ)). laid 2 writeDoomed places first n (map doomedRecord ds) (l .doomed)) given-next
-      ∙ ap (λ (rs : List DoomedRecord). laid 2 writeDoomed places first n rs (l .doomed)) (map-append doomedRecord (givenTo l now i) (givenOne now (stateOf l i)))
+      ∙ ap (λ (rs : List DoomedRecord). laid 2 writeDoomed places first n rs (l .doomed))
+      (map-append doomedRecord (givenTo l now i) (givenOne now (stateOf l i)))
       ∙ laid-append 2 writeDoomed places first (map doomedRecord (givenTo l now i)) (map doomedRecord (givenOne now (stateOf l i))) n (l .doomed))
 
   module _ (f : Fits l) where
@@ -138,7 +133,8 @@ module _ (l : Lent) (now i : ℕ) (h : i < l .pool .tracked) where
           let fewer = few l now i h in
           let within = spares-within l i h f in
           ap₂ (λ (n m : ℕ). moved (sparesAfter p l) (3 * n) (3 * (m + k₀)) (3 * (t₀ .spares - k₀))) at (sym first)
-          ∙ spares-packed l p q (looked now (stateOf l i)) more (f .kept) (omega (arith, f .spares, f .versions)) (firstSpare l i + k₀) (t₀ .spares - k₀)
+          ∙ spares-packed l p q (looked now (stateOf l i)) more (f .kept) (omega (arith, f .spares, f .versions)) (firstSpare l i + k₀)
+          (t₀ .spares - k₀)
           (looked-spares now (stateOf l i) ∙ spares-rest l i h k₀ (omega (arith, own, fewer))
           ∙ ap (λ (n : ℕ). take (n - k₀) (drop (firstSpare l i + k₀) (everySpare (modelOf l .textures)))) own)
           (omega (arith, at, first, low)) (omega (arith, first, fewer, within))
@@ -160,8 +156,10 @@ module _ (l : Lent) (now i : ℕ) (h : i < l .pool .tracked) where
             → (moved (stampsAfter p l) (1024 * used) (1024 * pagesTo (l .textures) i) (1024 * recordPages t₀) ≡ stampsAfter q l)
             × (length (flatMap (pagesAfter l) (keptTo l now (i + 1))) ≡ 1024 * (used + recordPages t₀))
         stamps-stay n =
-            let w = stamps-packed l p q (looked now (stateOf l i)) more (f .claimed) i h (looked-paged now (stateOf l i)) used before (ids-ascend l f) (omega (arith, f .stamps, f .pages)) n in (
-              ap₂ (λ (a b : ℕ). moved (stampsAfter p l) (1024 * used) (1024 * a) (1024 * b)) (sym (pages-to l i h)) (sym (ap recordPages (record-in l i h))) ∙ w .0,
+            let w = stamps-packed l p q (looked now (stateOf l i)) more (f .claimed) i h (looked-paged now (stateOf l i)) used before
+            (ids-ascend l f) (omega (arith, f .stamps, f .pages)) n in (
+              ap₂ (λ (a b : ℕ). moved (stampsAfter p l) (1024 * used) (1024 * a) (1024 * b)) (sym (pages-to l i h))
+                  (sym (ap recordPages (record-in l i h))) ∙ w .0,
               w .1 ∙ ap (λ (m : ℕ). 1024 * (used + m)) (ap recordPages (record-in l i h)),
             )
 

@@ -2,7 +2,7 @@
 use mathlib.Core.Path.{_≡_, refl, sym, ap, ap₂, _∙_}
 use mathlib.Core.Bool.{Bool, true, false, cond, not}
 use mathlib.Core.List.{List, [], _∷_, _++_, map, flatMap}
-use Prim.Native.Nat.{ℕ, suc, _+_, _-_, _*_, _/_, _≤_, _<_, _^_}
+use Prim.Native.Nat.{ℕ, _+_, _-_, _*_, _/_, _≤_, _<_, _^_}
 use native.Mathlib.Omega.{arith}
 use borrow.Author.Tests.{lt-ltb, le-ltb}
 use lib.Dec.{ltb}
@@ -13,7 +13,7 @@ use Rattle.blocks.proofs.All.{all-at}
 use Rattle.tables.specs.Records.{recordAt}
 use Rattle.shapes.specs.declared.shape.VersionShape.{VersionShape}
 use Rattle.shapes.specs.Shapes.{isShape}
-use Rattle.stores.specs.Model.{Doomed, VersionState, Pool, refused, accepted, guard, limit, spareBytes, doomedBytes}
+use Rattle.stores.specs.Model.{Doomed, VersionState, Pool, refused, accepted, limit, spareBytes, doomedBytes}
 use Rattle.stores.specs.Updates.{withTextures, doomSpares}
 use Rattle.stores.specs.Trim.{agedCount, thinned, idle, lookedAt, trim}
 use Rattle.stores.specs.Formed.{Given, HistoryFormed}
@@ -28,9 +28,9 @@ use Rattle.layout.specs.Lent.{Lent, lent, versionPlaces}
 use Rattle.layout.specs.Reading.{trackedRecords, recordPages, historyRead, stateRead, modelOf}
 use Rattle.layout.specs.Writing.{poolAfter, bookAfter, retiringAfter, doomedAfter, after}
 use Rattle.layout.specs.IsPool.{isPool}
-use Rattle.layout.specs.Calls.{Told, refusal, answer, trimCall}
+use Rattle.layout.specs.Calls.{refusal, answer, trimCall}
 use Rattle.layout.proofs.Fits.{Fits}
-use Rattle.layout.proofs.FromPool.{pool-fits, enough}
+use Rattle.layout.proofs.FromPool.{enough}
 use Rattle.layout.proofs.Asked.{guard-passed, guard-refused, asked-refused, asked-accepted}
 use Rattle.layout.proofs.Parts.{total-cut}
 use Rattle.layout.proofs.Runs.{firstPageOf, stateOf, tracked-model, model-at}
@@ -41,9 +41,9 @@ use Rattle.layout.proofs.Counts.{count-spares}
 use Rattle.access.proofs.Totals.{total-first}
 use Rattle.trimming.specs.declared.look.Look.{Look}
 use Rattle.trimming.specs.declared.pass.Pass.{Pass}
-use Rattle.trimming.specs.Owned.{textureIn, sparesTo}
+use Rattle.forgetting.specs.Owned.{textureIn}
 use Rattle.trimming.specs.Pass.{trimmedOne, givenOne, trimmed, countsAfter}
-use Rattle.trimming.proofs.TextureRuns.{doomed-bound, record-in, shape-passes, spares-within, pages-within}
+use Rattle.forgetting.proofs.TextureRuns.{doomed-bound, record-in, shape-passes, spares-within, pages-within}
 use Rattle.trimming.proofs.Steps.{givenTo, keptTo}
 use Rattle.trimming.proofs.Trimmed.{Sofar, Seen, record-now}
 
@@ -61,7 +61,8 @@ module _ (l : Lent) (f : Fits l) (i : ℕ) (h : i < l .pool .tracked) where
   history-counted : RecordedFits (textureIn (l .textures) i .history)
   unfolding stateOf stateRead
   history-counted =
-      let formed = rw (model-at l i (stateOf l 0) h) at (all-at (modelOf l .textures) i (stateOf l 0) (omega (arith, tracked-model l)) (f .formed .textures)) in
+      let formed = rw (model-at l i (stateOf l 0) h) at
+      (all-at (modelOf l .textures) i (stateOf l 0) (omega (arith, tracked-model l)) (f .formed .textures)) in
       let t = getD (trackedRecords l) i (readTexture []) in
       rw (sym (record-in l i h)) (counted l (t .shape) (firstPageOf l i) (t .history) (formed .history))
 
@@ -87,7 +88,8 @@ module _ (l : Lent) (f : Fits l) (i : ℕ) (h : i < l .pool .tracked) where
         omega (arith, s .S-long, n .few, n .spares, f .versions, f .spares),
       )
 
-      pub put-fits : (19 * i + 19 ≤ length T) × (19 * w .tracked + 19 ≤ length T) × RecordedFits (recordAt 19 readTexture T i .history) × (look .aged ≤ look .own)
+      pub put-fits : (19 * i + 19 ≤ length T) × (19 * w .tracked + 19 ≤ length T) × RecordedFits (recordAt 19 readTexture T i .history)
+          × (look .aged ≤ look .own)
       put-fits = (
         omega (arith, s .T-long, textures-fit l f),
         omega (arith, s .T-long, s .fewer, textures-fit l f),
@@ -117,7 +119,8 @@ module _ (l : Lent) (f : Fits l) (now i : ℕ) (w : Pass) (T D S N P : List ℕ)
   given-parked : doomedBytes (givenTo l now i) ≤ total spareBytes (modelOf l .textures)
   unfolding givenOne
   given-parked =
-      omega (arith, given-bytes (λ (t : VersionState ℕ). agedCount now (t .spares)) (take i (modelOf l .textures)), total-cut spareBytes (modelOf l .textures) i)
+      let sum = given-bytes (λ (t : VersionState ℕ). agedCount now (t .spares)) (take i (modelOf l .textures)) in
+      omega (arith, sum, total-cut spareBytes (modelOf l .textures) i)
 
   few-given : w .count ≤ l .pool .kept
   few-given = omega (arith, s .all, s .first, f .kept, total-first 19 readTexture (λ t. t .spares) (l .textures) i (l .pool .tracked) (s .at))
@@ -125,7 +128,8 @@ module _ (l : Lent) (f : Fits l) (now i : ℕ) (w : Pass) (T D S N P : List ℕ)
   pub counts-fit : (l .pool .doomed + w .count ≤ 4096) × (l .pool .since ≤ 4096) × (w .freed ≤ l .pool .parked) × (l .pool .dooming + w .freed < 2 ^ 64)
   unfolding modelOf
   counts-fit =
-      let dooming : l .pool .dooming ≤ 17592186044416 * length (modelOf l .doomed) = omega (arith, f .formed .dooming, doomed-bound (f .formed .doomed)) in
+      let dooming : l .pool .dooming ≤ 17592186044416 * length (modelOf l .doomed) =
+      omega (arith, f .formed .dooming, doomed-bound (f .formed .doomed)) in
       let few : w .count ≤ 4096 = omega (arith, few-given, f .versions, f .most) in (
         omega (arith, few-given, f .versions, f .most),
         omega (arith, f .formed .since, doomed-model l, doomed-fit l f, f .most),
@@ -167,7 +171,8 @@ module _ (l : Lent) (f : Fits l) (now i : ℕ) (w : Pass) (T D S N P : List ℕ)
   pub pass-done : l .pool .tracked ≤ i → (c : Counts) → c ≡ countsAfter (l .pool) w
       → lent c (l .book) T (l .retiring) D S N P ≡ after (trimmed l now (l .pool .tracked)) l
   pass-done end c e =
-      put-together (trimmed l now i) l c (l .book) T (l .retiring) D S N P (e ∙ counts-left) book-left (s .textures) retiring-left doomed-left (s .spares) (s .newest) (s .stamps)
+      put-together (trimmed l now i) l c (l .book) T (l .retiring) D S N P (e ∙ counts-left) book-left (s .textures) retiring-left doomed-left
+      (s .spares) (s .newest) (s .stamps)
       ∙ ap (λ (n : ℕ). after (trimmed l now n) l) (let q : i ≡ l .pool .tracked = omega (arith, s .at) in q)
 
 -- ---- the call
@@ -180,7 +185,8 @@ trimmed-all now [] = refl
 trimmed-all now (t ∷ ts) = go (idle now (thinned now t)) (trimmed-all now ts)
   where
     go : (b : Bool) → map (lookedAt now) (keep (λ (u : VersionState ℕ). not (idle now u)) (map (thinned now) ts)) ≡ flatMap (trimmedOne now) ts
-        → map (lookedAt now) (cond (not b) (thinned now t ∷ keep (λ (u : VersionState ℕ). not (idle now u)) (map (thinned now) ts)) (keep (λ (u : VersionState ℕ). not (idle now u)) (map (thinned now) ts)))
+        → map (lookedAt now) (cond (not b) (thinned now t ∷ keep (λ (u : VersionState ℕ). not (idle now u)) (map (thinned now) ts))
+        (keep (λ (u : VersionState ℕ). not (idle now u)) (map (thinned now) ts)))
         ≡ cond b [] (lookedAt now (thinned now t) ∷ []) ++ flatMap (trimmedOne now) ts
     go true e = e
     go false e = ap (λ (us : List (VersionState ℕ)). lookedAt now (thinned now t) ∷ us) e

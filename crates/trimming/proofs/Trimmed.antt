@@ -1,11 +1,10 @@
 -- A trim's pass over the textures: where it stands after i of them, one more, and the call. Assumes nothing.
 use mathlib.Core.Path.{_≡_, refl, sym, ap, ap₂, _∙_}
 use mathlib.Core.Bool.{Bool, true, false, cond}
-use mathlib.Core.List.{List, [], _∷_, _++_, map, flatMap}
-use Prim.Native.Nat.{ℕ, suc, _+_, _-_, _*_, _/_, _≤_, _<_}
+use mathlib.Core.List.{List, map, flatMap}
+use Prim.Native.Nat.{ℕ, _+_, _-_, _*_, _/_, _≤_, _<_}
 use native.Mathlib.Omega.{arith}
 use borrow.Author.Tests.{eq-eqb, ne-eqb}
-use lib.Dec.{eqb}
 use lib.ListN.{length, length-append}
 use lib.Seq.{sets}
 use Rattle.blocks.specs.Lists.{listed, total}
@@ -24,7 +23,7 @@ use Rattle.records.specs.Spare.{readSpare}
 use Rattle.records.specs.Doomed.{writeDoomed}
 use Rattle.records.specs.Views.{spareOf}
 use Rattle.layout.specs.Lent.{Lent}
-use Rattle.layout.specs.Reading.{recordPages, spareRead, modelOf}
+use Rattle.layout.specs.Reading.{recordPages, spareRead}
 use Rattle.layout.specs.Writing.{doomedRecord, everySpare, newestOf, texturesAfter, sparesAfter, newestAfter, pagesAfter, stampsAfter}
 use Rattle.layout.proofs.Fits.{Fits}
 use Rattle.layout.proofs.Runs.{stateOf}
@@ -34,10 +33,10 @@ use Rattle.destruction.specs.Given.{givenRecords}
 use Rattle.access.proofs.Totals.{total-none, total-next}
 use Rattle.trimming.specs.declared.look.Look.{Look}
 use Rattle.trimming.specs.declared.pass.Pass.{Pass}
-use Rattle.trimming.specs.Owned.{textureIn, sparesTo, pagesTo}
+use Rattle.forgetting.specs.Owned.{textureIn, sparesTo, pagesTo}
 use Rattle.trimming.specs.Look.{spareIn, bytesGiven, lookOf, lookAt, lookedRecord, lookedPut}
 use Rattle.trimming.specs.Pass.{noPass, passOn, givenOne, trimmed}
-use Rattle.trimming.proofs.TextureRuns.{spares-in, spares-within, pages-within}
+use Rattle.forgetting.proofs.TextureRuns.{spares-in, spares-within, pages-within}
 use Rattle.trimming.proofs.Looks.{count, lookHere, few, idle-here, none-left, given-count, given-bytes, bytes-few, given-records}
 use Rattle.trimming.proofs.Steps.{textures-as, spares-as, newest-as, stamps-as, givenTo, keptTo, given-next, dropped-next, doomed-next, textures-stay, spares-stay, newest-stays, stamps-stay, tracked-stays, kept-stay, pages-stay}
 
@@ -146,7 +145,8 @@ module _ (l : Lent) (now i : ℕ) (w : Pass) (T D S N P : List ℕ) (f : Fits l)
   given-now : (b k : ℕ) → givenRecords S b (w .first) k ≡ givenRecords (l .spares) b (sparesTo (l .textures) i) k
   unfolding givenRecords
   given-now b k =
-      listed-same (λ j. record { view = recordAt 3 readSpare S j .view; bytes = b }) (λ j. record { view = recordAt 3 readSpare (l .spares) j .view; bytes = b })
+      listed-same (λ j. record { view = recordAt 3 readSpare S j .view; bytes = b })
+      (λ j. record { view = recordAt 3 readSpare (l .spares) j .view; bytes = b })
       k (w .first) (sparesTo (l .textures) i)
       (λ j q. ap (λ (x : SpareRecord). record { view = x .view; bytes = b }) (spare-now (w .first + j) (omega arith))
       ∙ ap (λ (n : ℕ). record { view = recordAt 3 readSpare (l .spares) (n + j) .view; bytes = b }) (s .first))
@@ -196,11 +196,13 @@ module _ (l : Lent) (now i : ℕ) (w : Pass) (T D S N P : List ℕ) (f : Fits l)
     -- ---- one texture more
 
     module _ (v : Pass) (T′ D′ S′ N′ P′ : List ℕ) (ev : v ≡ passOn w look) (eT : T′ ≡ lookedPut T (w .tracked) i look)
-        (eD : D′ ≡ laid 2 writeDoomed (length (l .retiring) / 7) (l .pool .first) (l .pool .doomed + w .count) (givenRecords S (look .bytes) (w .first) (look .aged)) D)
+        (eD : D′ ≡ laid 2 writeDoomed (length (l .retiring) / 7) (l .pool .first) (l .pool .doomed + w .count)
+        (givenRecords S (look .bytes) (w .first) (look .aged)) D)
         (eS : S′ ≡ moved S (3 * w .kept) (3 * w .kept + 3 * (w .first + look .aged - w .kept)) (3 * (look .own - look .aged)))
         (eN : N′ ≡ moved N (w .pages) (w .pages + (w .page - w .pages)) (look .paged))
         (eP : P′ ≡ moved P (1024 * w .pages) (1024 * w .pages + 1024 * (w .page - w .pages)) (1024 * look .paged))
-        (lT : length T′ ≡ length T) (lD : length D′ ≡ length D) (lS : length S′ ≡ length S) (lN : length N′ ≡ length N) (lP : length P′ ≡ length P) where
+        (lT : length T′ ≡ length T) (lD : length D′ ≡ length D) (lS : length S′ ≡ length S) (lN : length N′ ≡ length N)
+        (lP : length P′ ≡ length P) where
       first-on : v .first ≡ w .first + look .own
       unfolding passOn
       first-on = ap (λ (x : Pass). x .first) ev
@@ -229,7 +231,8 @@ module _ (l : Lent) (now i : ℕ) (w : Pass) (T D S N P : List ℕ) (f : Fits l)
       unfolding passOn
       freed-on = ap (λ (x : Pass). x .freed) ev
 
-      doomed-on : D′ ≡ laid 2 writeDoomed (length (l .retiring) / 7) (l .pool .first) (l .pool .doomed) (map doomedRecord (givenTo l now (i + 1))) (l .doomed)
+      doomed-on : D′ ≡ laid 2 writeDoomed (length (l .retiring) / 7) (l .pool .first) (l .pool .doomed) (map doomedRecord (givenTo l now (i + 1)))
+          (l .doomed)
       unfolding lookOf
       doomed-on =
           eD
@@ -239,7 +242,8 @@ module _ (l : Lent) (now i : ℕ) (w : Pass) (T D S N P : List ℕ) (f : Fits l)
 
       -- what the two cases share
       further : (tracked : v .tracked ≡ length (keptTo l now (i + 1))) → v .kept ≡ length (everySpare (keptTo l now (i + 1)))
-          → v .pages ≡ total pagesUsed (keptTo l now (i + 1)) → T′ ≡ texturesAfter (trimmed l now (i + 1)) l → S′ ≡ sparesAfter (trimmed l now (i + 1)) l
+          → v .pages ≡ total pagesUsed (keptTo l now (i + 1)) → T′ ≡ texturesAfter (trimmed l now (i + 1)) l
+          → S′ ≡ sparesAfter (trimmed l now (i + 1)) l
           → N′ ≡ newestAfter (trimmed l now (i + 1)) l → P′ ≡ stampsAfter (trimmed l now (i + 1)) l
           → length (flatMap newestOf (keptTo l now (i + 1))) ≡ v .pages → length (flatMap (pagesAfter l) (keptTo l now (i + 1))) ≡ 1024 * v .pages
           → Sofar l now (i + 1) v T′ D′ S′ N′ P′
@@ -250,7 +254,16 @@ module _ (l : Lent) (now i : ℕ) (w : Pass) (T D S N P : List ℕ) (f : Fits l)
         tracked = tracked;
         kept = kept;
         pages = pages;
-        count = omega (arith, count-on, aged-is, s .count, ap length (given-next l now i h), length-append (givenTo l now i) (givenOne now (stateOf l i)), given-count l now i h);
+        count =
+            omega (
+              arith,
+              count-on,
+              aged-is,
+              s .count,
+              ap length (given-next l now i h),
+              length-append (givenTo l now i) (givenOne now (stateOf l i)),
+              given-count l now i h,
+            );
         freed = omega (
           arith,
           freed-on,
@@ -292,14 +305,18 @@ module _ (l : Lent) (now i : ℕ) (w : Pass) (T D S N P : List ℕ) (f : Fits l)
           (omega (arith, kept-on, empty, s .kept, ap (λ (ts : List (VersionState ℕ)). length (everySpare ts)) same))
           (omega (arith, pages-on, unpaged, s .pages, ap (total pagesUsed) same))
           (eT
-          ∙ ap (λ (c : Bool). cond c T (sets T (19 * w .tracked) (writeTexture (lookedRecord look (recordAt 19 readTexture T i))))) (eq-eqb (look .staying) 0 gone)
+          ∙ ap (λ (c : Bool). cond c T (sets T (19 * w .tracked) (writeTexture (lookedRecord look (recordAt 19 readTexture T i)))))
+          (eq-eqb (look .staying) 0 gone)
           ∙ s .textures ∙ textures-as l (trimmed l now i) (trimmed l now (i + 1)) back)
-          (eS ∙ ap (λ (n : ℕ). moved S (3 * w .kept) (3 * w .kept + 3 * (w .first + look .aged - w .kept)) n) (let z : 3 * (look .own - look .aged) ≡ 0 = omega (arith, empty) in z)
+          (eS ∙ ap (λ (n : ℕ). moved S (3 * w .kept) (3 * w .kept + 3 * (w .first + look .aged - w .kept)) n)
+          (let z : 3 * (look .own - look .aged) ≡ 0 = omega (arith, empty) in z)
           ∙ sym (moved-none S (3 * w .kept) (3 * w .kept + 3 * (w .first + look .aged - w .kept)))
           ∙ s .spares ∙ spares-as l (trimmed l now i) (trimmed l now (i + 1)) back)
-          (eN ∙ ap (λ (n : ℕ). moved N (w .pages) (w .pages + (w .page - w .pages)) n) unpaged ∙ sym (moved-none N (w .pages) (w .pages + (w .page - w .pages)))
+          (eN ∙ ap (λ (n : ℕ). moved N (w .pages) (w .pages + (w .page - w .pages)) n) unpaged
+          ∙ sym (moved-none N (w .pages) (w .pages + (w .page - w .pages)))
           ∙ s .newest ∙ newest-as l (trimmed l now i) (trimmed l now (i + 1)) back)
-          (eP ∙ ap (λ (n : ℕ). moved P (1024 * w .pages) (1024 * w .pages + 1024 * (w .page - w .pages)) n) (let z : 1024 * look .paged ≡ 0 = omega (arith, unpaged) in z)
+          (eP ∙ ap (λ (n : ℕ). moved P (1024 * w .pages) (1024 * w .pages + 1024 * (w .page - w .pages)) n)
+          (let z : 1024 * look .paged ≡ 0 = omega (arith, unpaged) in z)
           ∙ sym (moved-none P (1024 * w .pages) (1024 * w .pages + 1024 * (w .page - w .pages)))
           ∙ s .stamps ∙ stamps-as l (trimmed l now i) (trimmed l now (i + 1)) back)
           (omega (arith, pages-on, unpaged, s .newest-long, ap (λ (ts : List (VersionState ℕ)). length (flatMap newestOf ts)) same))
@@ -328,11 +345,13 @@ module _ (l : Lent) (now i : ℕ) (w : Pass) (T D S N P : List ℕ) (f : Fits l)
           (eS
           ∙ ap (λ (x : List ℕ). moved x (3 * w .kept) (3 * w .kept + 3 * (w .first + look .aged - w .kept)) (3 * (look .own - look .aged))) (s .spares)
           ∙ ap₂ (λ (m n : ℕ). moved (sparesAfter p l) (3 * w .kept) m n)
-          (let z : 3 * w .kept + 3 * (w .first + look .aged - w .kept) ≡ 3 * (sparesTo (l .textures) i + k₀) = omega (arith, s .first, s .all, aged-is) in z)
+          (let z : 3 * w .kept + 3 * (w .first + look .aged - w .kept)
+          ≡ 3 * (sparesTo (l .textures) i + k₀) = omega (arith, s .first, s .all, aged-is) in z)
           (let z : 3 * (look .own - look .aged) ≡ 3 * (t₀ .spares - k₀) = omega (arith, own-is, aged-is) in z)
           ∙ spares-stay l now i h f b (w .kept) (s .kept) (omega (arith, s .first, s .all)))
           (eN ∙ ap (λ (x : List ℕ). moved x (w .pages) (w .pages + (w .page - w .pages)) (look .paged)) (s .newest)
-          ∙ ap₂ (λ (m n : ℕ). moved (newestAfter p l) (w .pages) m n) (let z : w .pages + (w .page - w .pages) ≡ pagesTo (l .textures) i = omega (arith, s .low, s .page) in z) pages
+          ∙ ap₂ (λ (m n : ℕ). moved (newestAfter p l) (w .pages) m n)
+          (let z : w .pages + (w .page - w .pages) ≡ pagesTo (l .textures) i = omega (arith, s .low, s .page) in z) pages
           ∙ new .0)
           (eP ∙ ap (λ (x : List ℕ). moved x (1024 * w .pages) (1024 * w .pages + 1024 * (w .page - w .pages)) (1024 * look .paged)) (s .stamps)
           ∙ ap₂ (λ (m n : ℕ). moved (stampsAfter p l) (1024 * w .pages) m (1024 * n))

@@ -1,3 +1,2 @@
-pub mod Owned
 pub mod Look
 pub mod Pass

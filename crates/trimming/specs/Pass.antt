@@ -59,4 +59,5 @@ givenOne now t = asDoomed (bytesOf (t .shape)) (take (agedCount now (t .spares))
 -- the pool with the first i textures trimmed and the others left out
 unfoldable pub trimmed : Lent → ℕ → ℕ → Pool ℕ
 trimmed l now i =
-    doomSpares (flatMap (givenOne now) (take i (modelOf l .textures))) (withTextures (flatMap (trimmedOne now) (take i (modelOf l .textures))) (modelOf l))
+    doomSpares (flatMap (givenOne now) (take i (modelOf l .textures)))
+    (withTextures (flatMap (trimmedOne now) (take i (modelOf l .textures))) (modelOf l))

@@ -14,19 +14,20 @@ ghost use Rattle.trimming.specs.Look.{lookedPut};
 ghost use Rattle.trimming.specs.Pass.{trimmed};
 use crate::look::Look;
 use crate::look::look_at;
-use crate::pages::move_down;
-use crate::pages::move_pages;
 use crate::pass::counts_after;
 use crate::pass::no_pass;
 use crate::pass::pass_on;
 use access::put_texture;
 use access::texture_at;
 use destruction::push_spares;
+use forgetting::move_down;
+use forgetting::move_pages;
 use layout::DoneAnswer;
 use layout::PacingBook;
 use layout::Pool;
 
-// Record i written at place `to` as it is after the look; nothing where it is dropped.
+// Record i written at place `to` as it is after the look. Nothing is written where the texture is dropped, nor where the record stands
+// there already.
 fn put_looked(textures: &mut [u64], to: usize, i: usize, look: Look)
     requires { ⌜ (19 * i + 19 ≤ length (now textures)) × (19 * to + 19 ≤ length (now textures))
         × RecordedFits (recordAt 19 readTexture (now textures) i .history) × (look .aged ≤ look .own) ⌝ }
@@ -35,9 +36,13 @@ fn put_looked(textures: &mut [u64], to: usize, i: usize, look: Look)
     if look.staying == 0 {
         return;
     }
+    let left = (look.own - look.aged) as u64;
+    if (to == i) & (textures[19 * i + 17] == look.due) & (textures[19 * i + 18] == left) {
+        return;
+    }
     let mut t = texture_at(textures, i);
     t.due = look.due;
-    t.spares = (look.own - look.aged) as u64;
+    t.spares = left;
     put_texture(textures, to, t);
 }
 
@@ -56,8 +61,10 @@ fn trim_textures(
     requires { ⌜ isPool (lent pool book (now textures) (now retiring) (now doomed) (now spares) (now newest) (now stamps)) ≡ true ⌝ }
     ensures { λ r. ⌜
         lent r book (now (textures .exit)) (now (retiring .entry)) (now (doomed .exit)) (now (spares .exit)) (now (newest .exit)) (now (stamps .exit))
-        ≡ after (trimmed (lent pool book (now (textures .entry)) (now (retiring .entry)) (now (doomed .entry)) (now (spares .entry)) (now (newest .entry)) (now (stamps .entry))) current (pool .tracked))
-        (lent pool book (now (textures .entry)) (now (retiring .entry)) (now (doomed .entry)) (now (spares .entry)) (now (newest .entry)) (now (stamps .entry))) ⌝ }
+        ≡ after (trimmed (lent pool book (now (textures .entry)) (now (retiring .entry)) (now (doomed .entry)) (now (spares .entry))
+        (now (newest .entry)) (now (stamps .entry))) current (pool .tracked))
+        (lent pool book (now (textures .entry)) (now (retiring .entry)) (now (doomed .entry)) (now (spares .entry))
+        (now (newest .entry)) (now (stamps .entry))) ⌝ }
 {
     let places = retiring.len() / 7;
     let tracked = pool.tracked;
@@ -97,6 +104,7 @@ fn trim_textures(
     counts_after(pool, pass)
 }
 
+// `current` is 01's now, the submission that is being built.
 pub fn trim(
     pool: Pool,
     book: PacingBook,
@@ -109,9 +117,13 @@ pub fn trim(
     current: u64,
 ) -> DoneAnswer
     requires { ⌜ isPool (lent pool book (now textures) (now retiring) (now doomed) (now spares) (now newest) (now stamps)) ≡ true ⌝ }
-    ensures { λ r. ⌜
-        (toldNumber (r .outcome), lent (r .pool) book (now (textures .exit)) (now (retiring .entry)) (now (doomed .exit)) (now (spares .exit)) (now (newest .exit)) (now (stamps .exit)))
-        ≡ trimCall (lent pool book (now (textures .entry)) (now (retiring .entry)) (now (doomed .entry)) (now (spares .entry)) (now (newest .entry)) (now (stamps .entry))) current ⌝ }
+    ensures { λ r. ⌜ (
+      toldNumber (r .outcome),
+      lent (r .pool) book (now (textures .exit)) (now (retiring .entry)) (now (doomed .exit)) (now (spares .exit))
+          (now (newest .exit)) (now (stamps .exit)),
+    )
+        ≡ trimCall (lent pool book (now (textures .entry)) (now (retiring .entry)) (now (doomed .entry)) (now (spares .entry))
+        (now (newest .entry)) (now (stamps .entry))) current ⌝ }
 {
     if current > 281474976710656 {
         return DoneAnswer { pool, outcome: 3 };

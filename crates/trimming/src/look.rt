@@ -57,8 +57,8 @@ fn is_idle(textures: &[u64], i: usize, left: usize, current: u64) -> bool
     requires { ⌜ 19 * i + 19 ≤ length (now textures) ⌝ }
     ensures { λ r. ⌜ r ≡ isIdle current (recordAt 19 readTexture (now (textures .entry)) i) left ⌝ }
 {
-    let bound = before(current, 120);
-    (textures[19 * i + 17] < bound) & ((textures[19 * i + 16] < bound) & (left == 0))
+    let oldest = before(current, 120);
+    (textures[19 * i + 17] < oldest) & ((textures[19 * i + 16] < oldest) & (left == 0))
 }
 
 // The number by which the next trims look at texture i.

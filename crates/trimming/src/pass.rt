@@ -33,7 +33,8 @@ pub fn no_pass() -> Pass
 
 // One texture more.
 pub fn pass_on(pass: Pass, look: Look) -> Pass
-    requires { ⌜ (look .aged ≤ look .own) × (pass .first + look .own ≤ 4096) × (pass .page + look .claimed ≤ 4096) × (pass .tracked + look .staying ≤ 4096)
+    requires { ⌜ (look .aged ≤ look .own) × (pass .first + look .own ≤ 4096) × (pass .page + look .claimed ≤ 4096)
+        × (pass .tracked + look .staying ≤ 4096)
         × (pass .kept + (look .own - look .aged) ≤ 4096) × (pass .pages + look .paged ≤ 4096) × (pass .count + look .aged ≤ 4096)
         × (pass .freed + look .bytes * look .aged < 2 ^ 64) ⌝ }
     ensures { λ r. ⌜ r ≡ passOn pass look ⌝ }

@@ -1,10 +1,9 @@
 -- `trim_textures` meets its contract: the pass goes on texture by texture, and ends with the call's memory. Assumes nothing.
 use borrow.Author.Needs.{needs}
-use mathlib.Core.Path.{_≡_, sym, ap, _∙_}
+use mathlib.Core.Path.{_≡_}
 use mathlib.Core.Bool.{true}
-use Prim.Native.Nat.{ℕ, _+_, _-_, _*_, _≤_, _<_}
+use Prim.Native.Nat.{_-_}
 use native.Mathlib.Omega.{arith}
-use lib.ListN.{length}
 use Rattle.layout.specs.declared.book.PacingBook.{PacingBook}
 use Rattle.layout.specs.Lent.{lent}
 use Rattle.layout.specs.IsPool.{isPool}

@@ -1,9 +1,8 @@
 -- `aged_count` meets its contract: it counts on while the next is aged. Assumes nothing.
 use borrow.Author.Needs.{needs}
-use mathlib.Core.Path.{_≡_, sym, ap, _∙_}
-use Prim.Native.Nat.{_+_, _-_, _*_, _≤_, _<_}
+use mathlib.Core.Path.{_≡_, sym, _∙_}
+use Prim.Native.Nat.{_+_, _-_, _≤_, _<_}
 use native.Mathlib.Omega.{arith}
-use lib.ListN.{getD}
 use Rattle.blocks.specs.Lists.{listed}
 use Rattle.stores.specs.Trim.{agedCount}
 use Rattle.trimming.specs.Look.{spareIn}

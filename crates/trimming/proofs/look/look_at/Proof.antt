@@ -1,10 +1,9 @@
 -- `look_at` meets its contract: each number is what its part answers. Assumes nothing.
 use borrow.Author.Needs.{needs}
-use mathlib.Core.Path.{_≡_, sym, ap, _∙_}
+use mathlib.Core.Path.{sym, ap, _∙_}
 use mathlib.Core.Bool.{true, false}
-use Prim.Native.Nat.{ℕ, _+_, _*_, _≤_}
+use Prim.Native.Nat.{ℕ}
 use native.Mathlib.Omega.{arith}
-use lib.ListN.{length}
 use Rattle.blocks.specs.Lists.{listed}
 use Rattle.tables.specs.Records.{recordAt}
 use Rattle.records.specs.Texture.{readTexture}

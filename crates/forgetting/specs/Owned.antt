@@ -8,7 +8,7 @@ use Rattle.records.specs.declared.texture.TextureRecord.{TextureRecord}
 use Rattle.records.specs.Texture.{readTexture}
 use Rattle.layout.specs.declared.pool.Pool.{Pool as Counts}
 use Rattle.layout.specs.Reading.{recordPages}
-use Rattle.trimming.specs.declared.owned.Owned.{Owned}
+use Rattle.forgetting.specs.declared.owned.Owned.{Owned}
 
 -- the record of texture i
 abbrev pub textureIn : List ℕ → ℕ → TextureRecord

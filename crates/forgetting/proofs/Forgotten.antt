@@ -1,18 +1,17 @@
 -- `forget_texture` on a pool: what it leaves of a tracked texture, slice by slice, and nothing changed where none is tracked. Assumes nothing.
 use mathlib.Core.Path.{_≡_, refl, sym, ap, ap₂, _∙_}
 use mathlib.Core.Bool.{true, false}
-use mathlib.Core.List.{List, [], _∷_, _++_, map, append-nil}
-use Prim.Native.Nat.{ℕ, suc, _+_, _-_, _*_, _/_, _≤_, _<_, _^_}
+use mathlib.Core.List.{List, [], map, append-nil}
+use Prim.Native.Nat.{ℕ, _+_, _-_, _*_, _/_, _≤_, _<_, _^_}
 use native.Mathlib.Nat.{add-zero, sub-zero}
 use native.Mathlib.Omega.{arith}
 use lib.ListN.{length, getD, length-append}
 use Rattle.blocks.specs.Lists.{total, removed, ascending}
 use Rattle.blocks.specs.Blocks.{moved}
-use Rattle.blocks.proofs.Lists.{length-removed, total-get}
+use Rattle.blocks.proofs.Lists.{total-get}
 use Rattle.tables.specs.Rings.{laid}
-use Rattle.tables.specs.Records.{table}
 use Rattle.shapes.specs.Shapes.{isShape, bytesOf}
-use Rattle.stores.specs.Model.{Spare, Doomed, VersionState, Pool, accepted, pagesUsed, spareBytes, doomedBytes}
+use Rattle.stores.specs.Model.{Spare, Doomed, VersionState, Pool, accepted, spareBytes, doomedBytes}
 use Rattle.stores.specs.Updates.{withTextures, asDoomed, doomSpares}
 use Rattle.stores.specs.ForgetTexture.{forgetTexture}
 use Rattle.stores.proofs.Moves.{as-doomed-bytes, as-doomed-length}
@@ -22,26 +21,27 @@ use Rattle.records.specs.Find.{idOf}
 use Rattle.layout.specs.declared.pool.Pool.{Pool as Counts}
 use Rattle.layout.specs.Lent.{Lent, lent, versionPlaces}
 use Rattle.layout.specs.Reading.{trackedRecords, recordPages, modelOf}
-use Rattle.layout.specs.Writing.{doomedRecord, poolAfter, bookAfter, texturesAfter, doomedAfter, sparesAfter, newestAfter, stampsAfter, after}
+use Rattle.layout.specs.Writing.{doomedRecord, poolAfter, bookAfter, doomedAfter, sparesAfter, newestAfter, stampsAfter, after}
 use Rattle.layout.specs.IsPool.{isPool}
-use Rattle.layout.specs.Calls.{Told, answer, forgetTextureCall}
+use Rattle.layout.specs.Calls.{answer, forgetTextureCall}
 use Rattle.layout.proofs.Fits.{Fits}
 use Rattle.layout.proofs.FromPool.{pool-fits}
 use Rattle.layout.proofs.Asked.{asked-accepted}
-use Rattle.layout.proofs.Runs.{spareCount, firstSpare, firstPageOf, stateOf, tracked-model, model-at, kept-model, pages-model}
+use Rattle.layout.proofs.Runs.{firstSpare, stateOf, tracked-model, model-at}
 use Rattle.layout.proofs.Rings.{hand-model, head-stays, first-stays, doomed-pushed}
 use Rattle.layout.proofs.Same.{book-same, held-same, queued-model, doomed-model}
 use Rattle.layout.proofs.Places.{IsTracked, place, taken-out, given as given′, not-taken-out, not-given}
 use Rattle.layout.proofs.Stays.{put-together, ids-ascend, textures-fit, doomed-fit, nothing-changed, retiring-stay}
+use Rattle.layout.proofs.Counts.{tracked-removed, kept-removed, used-removed}
 use Rattle.layout.proofs.Changes.{sparesAt, every-removed, textures-removed, spares-removed}
-use Rattle.layout.proofs.Pages.{pagesAt, newest-removed, stamps-removed}
+use Rattle.layout.proofs.Pages.{newest-removed, stamps-removed}
 use Rattle.destruction.specs.Given.{givenRecords}
 use Rattle.destruction.proofs.Pushed.{given-spares}
 use Rattle.access.proofs.Totals.{total-next}
 use Rattle.access.proofs.Ids.{hasId, found, not-found}
-use Rattle.trimming.specs.declared.owned.Owned.{Owned}
-use Rattle.trimming.specs.Owned.{textureIn, sparesTo, pagesTo, ownedAt, without}
-use Rattle.trimming.proofs.TextureRuns.{total-removed, doomed-bound, record-in, spares-to, pages-to, shape-in, spares-in, count-in, pages-in, shape-passes, spares-within, pages-within, bytes-within}
+use Rattle.forgetting.specs.declared.owned.Owned.{Owned}
+use Rattle.forgetting.specs.Owned.{textureIn, sparesTo, pagesTo, ownedAt, without}
+use Rattle.forgetting.proofs.TextureRuns.{doomed-bound, record-in, spares-to, pages-to, shape-in, spares-in, count-in, shape-passes, spares-within, pages-within, bytes-within}
 
 -- the pool without texture i, whose spares wait to be destroyed
 abbrev given : Lent → ℕ → List (Doomed ℕ)
@@ -118,7 +118,8 @@ module _ (l : Lent) (f : Fits l) (i : ℕ) (h : i < l .pool .tracked) where
         × (l .pool .since ≤ 4096) × (own .bytes * own .spares ≤ l .pool .parked) × (l .pool .dooming + own .bytes * own .spares < 2 ^ 64)
     unfolding modelOf
     counts-fit =
-        let dooming : l .pool .dooming ≤ 17592186044416 * length (modelOf l .doomed) = omega (arith, f .formed .dooming, doomed-bound (f .formed .doomed)) in (
+        let dooming : l .pool .dooming ≤ 17592186044416 * length (modelOf l .doomed) =
+        omega (arith, f .formed .dooming, doomed-bound (f .formed .doomed)) in (
           omega arith,
           omega (arith, own-spares),
           omega (arith, own-pages),
@@ -143,17 +144,19 @@ module _ (l : Lent) (f : Fits l) (i : ℕ) (h : i < l .pool .tracked) where
       ap₂ (λ (b : ℕ) (ss : List (Spare ℕ)). map doomedRecord (asDoomed b ss)) (ap bytesOf (shape-in l i h)) (spares-in l i h)
       ∙ sym (given-spares l (bytesOf (textureIn T i .shape)) (sparesTo T i) (textureIn T i .spares))
 
-  inside : i < length (modelOf l .textures)
-  inside = omega (arith, tracked-model l)
+  own-spares-are : sparesAt l i ≡ textureIn T i .spares
+  own-spares-are = ap (λ t. t .spares) (record-in l i h)
+
+  spares-there : firstSpare l i + sparesAt l i ≤ l .pool .kept
+  spares-there = omega (arith, spares-to l i h, own-spares-are, spares-within l i h f)
 
   counts-left : without (l .pool) (ownedAt T i) ≡ poolAfter left l
   unfolding without ownedAt poolAfter modelOf
   counts-left = λ j. record {
-    tracked = sym (length-removed i (modelOf l .textures) 1 (omega (arith, tracked-model l)) ∙ ap (λ (n : ℕ). n - 1) (tracked-model l)) j;
-    kept = sym (total-removed spareCount (modelOf l .textures) i (stateOf l 0) inside
-        ∙ ap₂ (λ (m n : ℕ). m - n) (kept-model l ∙ f .kept) (ap spareCount (model-at l i (stateOf l 0) h) ∙ count-in l i h)) j;
-    pages = sym (total-removed pagesUsed (modelOf l .textures) i (stateOf l 0) inside
-        ∙ ap₂ (λ (m n : ℕ). m - n) (pages-model l ∙ f .claimed) (ap pagesUsed (model-at l i (stateOf l 0) h) ∙ pages-in l i h)) j;
+    tracked = sym (tracked-removed l left i 1 (omega arith) refl) j;
+    kept = sym (kept-removed l left (f .kept) (firstSpare l i) (sparesAt l i) spares-there (every-removed l i h)
+        ∙ ap (λ (n : ℕ). l .pool .kept - n) own-spares-are) j;
+    pages = sym (used-removed l left (f .claimed) i h refl ∙ ap (λ (n : ℕ). l .pool .pages - n) (ap recordPages (record-in l i h))) j;
     head = sym (head-stays l left (f .head) (omega (arith, hand-model l))) j;
     popped = sym (held-same l) j;
     queued = sym (queued-model l) j;
@@ -173,16 +176,16 @@ module _ (l : Lent) (f : Fits l) (i : ℕ) (h : i < l .pool .tracked) where
       ap (λ rs. laid 2 writeDoomed (versionPlaces l) (l .pool .first) (l .pool .doomed) rs (l .doomed)) (sym out-records)
       ∙ doomed-pushed l left (f .first) (omega (arith, f .doomed)) (doomed-fit l f) out refl
 
-  spares-left : moved (l .spares) (3 * sparesTo T i) (3 * sparesTo T i + 3 * textureIn T i .spares) (3 * (l .pool .kept - (sparesTo T i + textureIn T i .spares)))
+  spares-left : moved (l .spares) (3 * sparesTo T i) (3 * sparesTo T i + 3 * textureIn T i .spares)
+      (3 * (l .pool .kept - (sparesTo T i + textureIn T i .spares)))
       ≡ sparesAfter left l
   spares-left =
-      let first = spares-to l i h in
-      let count = ap (λ t. t .spares) (record-in l i h) in
-      sym (ap₂ (λ (k n : ℕ). moved (l .spares) (3 * k) (3 * k + 3 * n) (3 * (l .pool .kept - (k + n)))) first count)
+      sym (ap₂ (λ (k n : ℕ). moved (l .spares) (3 * k) (3 * k + 3 * n) (3 * (l .pool .kept - (k + n)))) (spares-to l i h) own-spares-are)
       ∙ spares-removed l left (f .kept) (omega (arith, f .spares, f .versions)) (firstSpare l i) (sparesAt l i)
-      (omega (arith, first, count, spares-within l i h f)) (every-removed l i h)
+      spares-there (every-removed l i h)
 
-  newest-left : moved (l .newest) (pagesTo T i) (pagesTo T i + recordPages (textureIn T i)) (l .pool .pages - (pagesTo T i + recordPages (textureIn T i)))
+  newest-left : moved (l .newest) (pagesTo T i) (pagesTo T i + recordPages (textureIn T i))
+      (l .pool .pages - (pagesTo T i + recordPages (textureIn T i)))
       ≡ newestAfter left l
   newest-left =
       sym (ap₂ (λ (k n : ℕ). moved (l .newest) k (k + n) (l .pool .pages - (k + n))) (pages-to l i h) (ap recordPages (record-in l i h)))
@@ -191,7 +194,8 @@ module _ (l : Lent) (f : Fits l) (i : ℕ) (h : i < l .pool .tracked) where
   stamps-left : moved (l .stamps) (1024 * pagesTo T i) (1024 * pagesTo T i + 1024 * recordPages (textureIn T i))
       (1024 * (l .pool .pages - (pagesTo T i + recordPages (textureIn T i)))) ≡ stampsAfter left l
   stamps-left =
-      sym (ap₂ (λ (k n : ℕ). moved (l .stamps) (1024 * k) (1024 * k + 1024 * n) (1024 * (l .pool .pages - (k + n)))) (pages-to l i h) (ap recordPages (record-in l i h)))
+      sym (ap₂ (λ (k n : ℕ). moved (l .stamps) (1024 * k) (1024 * k + 1024 * n) (1024 * (l .pool .pages - (k + n)))) (pages-to l i h)
+      (ap recordPages (record-in l i h)))
       ∙ stamps-removed l left (f .claimed) i h refl (ids-ascend l f) (omega (arith, f .stamps, f .pages))
 
   book-left : l .book ≡ bookAfter left
@@ -201,7 +205,8 @@ module _ (l : Lent) (f : Fits l) (i : ℕ) (h : i < l .pool .tracked) where
   pub left-behind : (own : Owned) → own ≡ ownedAt T i → (c : Counts) (textures doomed spares newest stamps : List ℕ)
       → c ≡ without (l .pool) own
       → textures ≡ moved T (19 * i) (19 * i + 19 * 1) (19 * (l .pool .tracked - (i + 1)))
-      → doomed ≡ laid 2 writeDoomed (places l) (l .pool .first) (l .pool .doomed) (givenRecords (l .spares) (own .bytes) (own .first) (own .spares)) (l .doomed)
+      → doomed ≡ laid 2 writeDoomed (places l) (l .pool .first) (l .pool .doomed) (givenRecords (l .spares) (own .bytes) (own .first) (own .spares))
+      (l .doomed)
       → spares ≡ moved (l .spares) (3 * own .first) (3 * own .first + 3 * own .spares) (3 * (l .pool .kept - (own .first + own .spares)))
       → newest ≡ moved (l .newest) (own .page) (own .page + own .pages) (l .pool .pages - (own .page + own .pages))
       → stamps ≡ moved (l .stamps) (1024 * own .page) (1024 * own .page + 1024 * own .pages) (1024 * (l .pool .pages - (own .page + own .pages)))
@@ -213,11 +218,14 @@ module _ (l : Lent) (f : Fits l) (i : ℕ) (h : i < l .pool .tracked) where
       book-left
       (e2 ∙ textures-removed l left (textures-fit l f) i 1 (omega arith) refl)
       (retiring-stay l f left refl refl)
-      (e3 ∙ ap (λ (o : Owned). laid 2 writeDoomed (versionPlaces l) (l .pool .first) (l .pool .doomed) (givenRecords (l .spares) (o .bytes) (o .first) (o .spares)) (l .doomed)) e
+      (e3 ∙ ap (λ (o : Owned). laid 2 writeDoomed (versionPlaces l) (l .pool .first) (l .pool .doomed)
+      (givenRecords (l .spares) (o .bytes) (o .first) (o .spares)) (l .doomed)) e
       ∙ doomed-left)
-      (e4 ∙ ap (λ (o : Owned). moved (l .spares) (3 * o .first) (3 * o .first + 3 * o .spares) (3 * (l .pool .kept - (o .first + o .spares)))) e ∙ spares-left)
+      (e4 ∙ ap (λ (o : Owned). moved (l .spares) (3 * o .first) (3 * o .first + 3 * o .spares) (3 * (l .pool .kept - (o .first + o .spares)))) e
+      ∙ spares-left)
       (e5 ∙ ap (λ (o : Owned). moved (l .newest) (o .page) (o .page + o .pages) (l .pool .pages - (o .page + o .pages))) e ∙ newest-left)
-      (e6 ∙ ap (λ (o : Owned). moved (l .stamps) (1024 * o .page) (1024 * o .page + 1024 * o .pages) (1024 * (l .pool .pages - (o .page + o .pages)))) e ∙ stamps-left)
+      (e6 ∙ ap (λ (o : Owned). moved (l .stamps) (1024 * o .page) (1024 * o .page + 1024 * o .pages)
+      (1024 * (l .pool .pages - (o .page + o .pages)))) e ∙ stamps-left)
 
 -- ---- the call
 
@@ -270,7 +278,8 @@ module _ (l : Lent) (pool : isPool l ≡ true) (id : ℕ) where
     is-nowhere : hasId (l .textures) (l .pool .tracked) i id ≡ false → IsTracked l id up → ⊥
     is-nowhere q (h, e) = not-found (l .textures) (l .pool .tracked) i id up at q (place l id up) h (ap idOf (sym (record-in l (place l id up) h)) ∙ e)
 
-    pub forget-tracked : hasId (l .textures) (l .pool .tracked) i id ≡ true → (r : Lent) → r ≡ after (forgotten l i) l → (answer tt, r) ≡ forgetTextureCall l id
+    pub forget-tracked : hasId (l .textures) (l .pool .tracked) i id ≡ true → (r : Lent) → r ≡ after (forgotten l i) l
+        → (answer tt, r) ≡ forgetTextureCall l id
     unfolding forgetTextureCall
     forget-tracked q r e =
         ap (λ (s : Lent). (answer tt, s)) (e ∙ ap (λ (k : ℕ). after (forgotten l k) l) at)

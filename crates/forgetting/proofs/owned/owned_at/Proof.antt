@@ -1,16 +1,15 @@
 -- `owned_at` meets its contract: each number is what its part answers. Assumes nothing.
 use borrow.Author.Needs.{needs}
-use mathlib.Core.Path.{_≡_, sym, ap, _∙_}
-use mathlib.Core.Bool.{true}
+use mathlib.Core.Path.{ap, _∙_}
 use native.Mathlib.Omega.{arith}
 use Rattle.shapes.specs.Shapes.{isShape, bytesOf}
 use Rattle.records.specs.declared.texture.TextureRecord.{TextureRecord}
 use Rattle.records.specs.Texture.{readTexture}
 use Rattle.layout.specs.Reading.{recordPages}
 use Rattle.access.proofs.Totals.{total-next}
-use Rattle.trimming.specs.Owned.{ownedAt}
-use Rattle.trimming.proofs.owned.owned_at.Statement.{statement}
-use Rattle.trimming.proofs.owned.owned_at.Tie as tie
+use Rattle.forgetting.specs.Owned.{ownedAt}
+use Rattle.forgetting.proofs.owned.owned_at.Statement.{statement}
+use Rattle.forgetting.proofs.owned.owned_at.Tie as tie
 
 texture-at-requires : tie.Need-texture-at-requires
 texture-at-requires c κs = search needs

@@ -2,14 +2,12 @@
 use mathlib.Core.Path.{_≡_, sym, ap, ap₂, _∙_}
 use mathlib.Core.Bool.{true}
 use mathlib.Core.List.{List, []}
-use Prim.Native.Nat.{ℕ, suc, _+_, _-_, _*_, _≤_, _<_}
-use native.Mathlib.Numerals.{add-one}
+use Prim.Native.Nat.{ℕ, _+_, _*_, _≤_, _<_}
 use native.Mathlib.Nat.{mul-le-mul}
 use native.Mathlib.Omega.{arith}
-use lib.ListN.{length, take, drop, getD}
-use Rattle.blocks.specs.Lists.{listed, total, removed}
+use lib.ListN.{length, getD}
+use Rattle.blocks.specs.Lists.{listed, total}
 use Rattle.blocks.specs.All.{All, nil, cons}
-use Rattle.blocks.proofs.Lists.{total-append}
 use Rattle.blocks.proofs.All.{all-at}
 use Rattle.tables.proofs.Records.{take-table, getD-table}
 use Rattle.shapes.specs.Shapes.{isShape, bytesOf}
@@ -21,20 +19,11 @@ use Rattle.records.specs.Texture.{readTexture}
 use Rattle.layout.specs.Lent.{Lent}
 use Rattle.layout.specs.Reading.{trackedRecords, recordPages, spareRead, stateRead, modelOf}
 use Rattle.layout.proofs.Fits.{Fits}
-use Rattle.layout.proofs.Parts.{total-next, total-cut}
 use Rattle.layout.specs.Writing.{textureRecord}
 use Rattle.layout.proofs.Runs.{sparesOf, firstSpare, firstPageOf, stateOf, tracked-model, model-at, record-state, pages-state}
 use Rattle.layout.proofs.Changes.{count-state}
 use Rattle.access.proofs.Totals.{total-with}
-use Rattle.trimming.specs.Owned.{textureIn, sparesTo, pagesTo}
-
--- a sum without the element at i
-pub total-removed : {A : Type 0} (f : A → ℕ) (xs : List A) (i : ℕ) (d : A) → i < length xs → total f (removed i 1 xs) ≡ total f xs - f (getD xs i d)
-unfolding removed
-total-removed f xs i d h =
-    total-append f (take i xs) (drop (i + 1) xs)
-    ∙ ap (λ (k : ℕ). total f (take i xs) + total f (drop k xs)) (add-one i)
-    ∙ (let e : total f (take i xs) + total f (drop (suc i) xs) ≡ total f xs - f (getD xs i d) = omega (arith, total-next f xs i d h, total-cut f xs (suc i)) in e)
+use Rattle.forgetting.specs.Owned.{textureIn, sparesTo, pagesTo}
 
 -- the bytes of formed versions
 pub doomed-bound : {ds : List (Doomed ℕ)} → All DoomedFormed ds → doomedBytes ds ≤ 17592186044416 * length ds

@@ -5,8 +5,8 @@ use Prim.Native.Nat.{ℕ, _+_}
 use native.Mathlib.Omega.{arith}
 use Rattle.blocks.specs.Blocks.{moved}
 use Rattle.layout.proofs.Parts.{moved-self}
-use Rattle.trimming.proofs.pages.move_down.Statement.{statement}
-use Rattle.trimming.proofs.pages.move_down.Tie as tie
+use Rattle.forgetting.proofs.pages.move_down.Statement.{statement}
+use Rattle.forgetting.proofs.pages.move_down.Tie as tie
 
 returns : tie.Need-returns
 returns c =

@@ -8,7 +8,7 @@ ghost use Rattle.tables.specs.Records.{recordAt, table};
 ghost use Rattle.shapes.specs.Shapes.{isShape};
 ghost use Rattle.records.specs.Texture.{readTexture};
 ghost use Rattle.layout.specs.Reading.{recordPages};
-ghost use Rattle.trimming.specs.Owned.{ownedAt, without};
+ghost use Rattle.forgetting.specs.Owned.{ownedAt, without};
 use access::history_pages;
 use access::pages_before;
 use access::spares_before;

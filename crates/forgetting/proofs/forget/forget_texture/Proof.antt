@@ -1,17 +1,14 @@
 -- `forget_texture` meets its contract: an untracked id changes nothing, and of a tracked one every slice is what its part leaves. Assumes nothing.
 use borrow.Author.Needs.{needs}
-use mathlib.Core.Path.{_≡_, sym, ap, _∙_}
-use mathlib.Core.List.{List}
-use Prim.Native.Nat.{ℕ, _*_}
+use mathlib.Core.Path.{sym, _∙_}
 use native.Mathlib.Omega.{arith}
 use borrow.Author.Tests.{not-true, not-false}
-use lib.ListN.{length}
 use Rattle.layout.specs.Lent.{lent}
 use Rattle.layout.proofs.FromPool.{pool-fits}
 use Rattle.layout.proofs.Stays.{ids-ascend, textures-fit}
-use Rattle.trimming.proofs.Forgotten.{owned-fits, own-spares, own-pages, push-fits, counts-fit, left-behind, there, forget-tracked, forget-untracked}
-use Rattle.trimming.proofs.forget.forget_texture.Statement.{statement}
-use Rattle.trimming.proofs.forget.forget_texture.Tie as tie
+use Rattle.forgetting.proofs.Forgotten.{owned-fits, own-spares, own-pages, push-fits, counts-fit, left-behind, there, forget-tracked, forget-untracked}
+use Rattle.forgetting.proofs.forget.forget_texture.Statement.{statement}
+use Rattle.forgetting.proofs.forget.forget_texture.Tie as tie
 
 find-texture-requires : tie.Need-find-texture-requires
 find-texture-requires c κs =
@@ -85,7 +82,7 @@ remove-records-requires c κs =
     let h = there l (b .pre) (a .id) i at q in
     let own = o .owned-at .result in
     let is = o .owned-at .ensures in
-    (omega (arith, f .spares, f .versions), own-spares l f i h own is)
+    (omega (arith, f .spares, f .versions), omega (arith, own-spares l f i h own is))
 
 add-later : tie.Need-add-later
 add-later c =

@@ -29,9 +29,13 @@ pub fn forget_texture(
     id: u64,
 ) -> DoneAnswer
     requires { ⌜ isPool (lent pool book (now textures) (now retiring) (now doomed) (now spares) (now newest) (now stamps)) ≡ true ⌝ }
-    ensures { λ r. ⌜
-        (toldNumber (r .outcome), lent (r .pool) book (now (textures .exit)) (now (retiring .entry)) (now (doomed .exit)) (now (spares .exit)) (now (newest .exit)) (now (stamps .exit)))
-        ≡ forgetTextureCall (lent pool book (now (textures .entry)) (now (retiring .entry)) (now (doomed .entry)) (now (spares .entry)) (now (newest .entry)) (now (stamps .entry))) id ⌝ }
+    ensures { λ r. ⌜ (
+      toldNumber (r .outcome),
+      lent (r .pool) book (now (textures .exit)) (now (retiring .entry)) (now (doomed .exit)) (now (spares .exit))
+          (now (newest .exit)) (now (stamps .exit)),
+    )
+        ≡ forgetTextureCall (lent pool book (now (textures .entry)) (now (retiring .entry)) (now (doomed .entry)) (now (spares .entry))
+        (now (newest .entry)) (now (stamps .entry))) id ⌝ }
 {
     let tracked = pool.tracked;
     let i = find_texture(textures, tracked, id);

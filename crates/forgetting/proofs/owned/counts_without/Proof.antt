@@ -1,10 +1,9 @@
 -- `counts_without` meets its contract. Assumes nothing.
-use borrow.Author.Needs.{needs}
 use mathlib.Core.Path.{refl}
 use native.Mathlib.Omega.{arith}
-use Rattle.trimming.specs.Owned.{without}
-use Rattle.trimming.proofs.owned.counts_without.Statement.{statement}
-use Rattle.trimming.proofs.owned.counts_without.Tie as tie
+use Rattle.forgetting.specs.Owned.{without}
+use Rattle.forgetting.proofs.owned.counts_without.Statement.{statement}
+use Rattle.forgetting.proofs.owned.counts_without.Tie as tie
 
 mul-freed : tie.Need-mul-freed
 mul-freed c = omega (arith, c .before .pre)

@@ -1,0 +1,2 @@
+pub mod TextureRuns
+pub mod Forgotten
