@@ -1,1 +1,2 @@
 pub mod NoPool
+pub mod Asking

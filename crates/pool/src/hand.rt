@@ -1,8 +1,9 @@
 // A retired version, taken and parked.
 ghost use mathlib.Core.Path.{_≡_};
 ghost use Rattle.layout.specs.Lent.{lent};
-ghost use Rattle.layout.specs.Calls.{popRetiredCall};
+ghost use Rattle.layout.specs.Calls.{toldNumber, parkCall, popRetiredCall};
 ghost use Rattle.retirement.specs.Answers.{poppedTold};
+use layout::DoneAnswer;
 use layout::PacingBook;
 use layout::Pool;
 use pool_test::is_pool;
@@ -49,5 +50,47 @@ pub fn pop_retired(
         newest,
         stamps,
         settled,
+    )
+}
+
+// The version in the hand becomes its texture's newest spare, or is queued for destruction.
+pub fn park(
+    pool: Pool,
+    book: PacingBook,
+    textures: &mut [u64],
+    retiring: &[u64],
+    doomed: &mut [u64],
+    spares: &mut [u64],
+    newest: &[u64],
+    stamps: &[u64],
+    failed: u64,
+    current: u64,
+) -> DoneAnswer
+    ensures { λ r. ⌜ (toldNumber (r .outcome), lent (r .pool) book (now (textures .exit)) (now (retiring .entry)) (now (doomed .exit)) (now (spares .exit)) (now (newest .entry)) (now (stamps .entry)))
+        ≡ parkCall (lent pool book (now (textures .entry)) (now (retiring .entry)) (now (doomed .entry)) (now (spares .entry)) (now (newest .entry)) (now (stamps .entry))) failed current ⌝ }
+{
+    if !is_pool(
+        pool,
+        book,
+        textures,
+        retiring,
+        doomed,
+        spares,
+        newest,
+        stamps,
+    ) {
+        return DoneAnswer { pool, outcome: 1 };
+    }
+    parking::park(
+        pool,
+        book,
+        textures,
+        retiring,
+        doomed,
+        spares,
+        newest,
+        stamps,
+        failed,
+        current,
     )
 }

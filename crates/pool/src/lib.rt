@@ -3,6 +3,7 @@
 // that, a call tests all the memory that is in use, so it costs what that memory costs. The same calls without the test, for
 // callers who are proved to pass a pool (or who keep the memory to themselves), are those of `renames`, `plans`, `retirement`,
 // `parking`, `writes`, `relief`, `destruction` and `trimming`.
+mod ageing;
 mod destroying;
 mod hand;
 mod opening;
@@ -10,9 +11,12 @@ mod queries;
 mod renaming;
 mod writing;
 
+pub use ageing::forget_texture;
+pub use ageing::trim;
 pub use destroying::drain_versions;
 pub use destroying::note_allocated;
 pub use destroying::take_doomed;
+pub use hand::park;
 pub use hand::pop_retired;
 pub use opening::OpenAnswer;
 pub use opening::open;
@@ -25,5 +29,6 @@ pub use queries::pending_destroy_bytes;
 pub use queries::records_writes;
 pub use renaming::preserve_plan;
 pub use renaming::retire;
+pub use renaming::take_spare;
 pub use writing::note_mip_regeneration;
 pub use writing::note_write;

@@ -1,15 +1,67 @@
 // The calls of a rename.
 ghost use mathlib.Core.Path.{_≡_};
 ghost use Rattle.layout.specs.Lent.{lent};
-ghost use Rattle.layout.specs.Calls.{toldNumber, preservePlanCall, retireCall};
+ghost use Rattle.layout.specs.Calls.{toldNumber, preservePlanCall, retireCall, takeSpareCall};
+ghost use Rattle.renames.specs.Answer.{takenTold};
 ghost use Rattle.plans.specs.Plan.{plannedTold};
 use layout::DoneAnswer;
 use layout::PacingBook;
 use layout::Pool;
 use plans::PlanAnswer;
 use pool_test::is_pool;
+use renames::TakeAnswer;
+use renames::Taken;
 use shapes::VersionShape;
 use stores::Held;
+
+// Starts a rename: the texture's newest spare, if it has one.
+pub fn take_spare(
+    pool: Pool,
+    book: PacingBook,
+    textures: &mut [u64],
+    retiring: &[u64],
+    doomed: &mut [u64],
+    spares: &mut [u64],
+    newest: &mut [u64],
+    stamps: &mut [u64],
+    id: u64,
+    shape: VersionShape,
+    records: bool,
+    seq: u64,
+) -> TakeAnswer
+    ensures { λ r. ⌜ (takenTold (r .taken), lent (r .pool) book (now (textures .exit)) (now (retiring .entry)) (now (doomed .exit)) (now (spares .exit)) (now (newest .exit)) (now (stamps .exit)))
+        ≡ takeSpareCall (lent pool book (now (textures .entry)) (now (retiring .entry)) (now (doomed .entry)) (now (spares .entry)) (now (newest .entry)) (now (stamps .entry))) id shape records seq ⌝ }
+{
+    if !is_pool(
+        pool,
+        book,
+        textures,
+        retiring,
+        doomed,
+        spares,
+        newest,
+        stamps,
+    ) {
+        return TakeAnswer {
+            pool,
+            taken: Taken::Refused(1),
+        };
+    }
+    renames::take_spare(
+        pool,
+        book,
+        textures,
+        retiring,
+        doomed,
+        spares,
+        newest,
+        stamps,
+        id,
+        shape,
+        records,
+        seq,
+    )
+}
 
 // The copies that bring a rename's new version up to the live one, written to the buffer.
 pub fn preserve_plan(

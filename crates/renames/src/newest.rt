@@ -4,7 +4,7 @@ ghost use mathlib.Core.Bool.{true};
 ghost use Rattle.shapes.specs.Shapes.{sameShape};
 ghost use Rattle.layout.specs.Lent.{lent};
 ghost use Rattle.layout.specs.Calls.{takeSpareCall};
-ghost use Rattle.renames.specs.Answer.{taken};
+ghost use Rattle.renames.specs.Answer.{takenTold};
 ghost use Rattle.trackings.specs.Cases.{Accepted, recordOf, TrackedAt};
 ghost use Rattle.renames.specs.Renamed.{renamedRecord};
 use crate::answer::TakeAnswer;
@@ -48,7 +48,7 @@ pub fn take_newest(
     requires { ⌜ Accepted (lent pool book (now textures) (now retiring) (now doomed) (now spares) (now newest) (now stamps)) i id shape records seq
         × TrackedAt (lent pool book (now textures) (now retiring) (now doomed) (now spares) (now newest) (now stamps)) i id
         × (sameShape (recordOf (lent pool book (now textures) (now retiring) (now doomed) (now spares) (now newest) (now stamps)) i .shape) shape ≡ true) ⌝ }
-    ensures { λ r. ⌜ (taken (r .taken), lent (r .pool) book (now (textures .exit)) (now (retiring .entry)) (now (doomed .entry)) (now (spares .exit)) (now (newest .entry)) (now (stamps .entry)))
+    ensures { λ r. ⌜ (takenTold (r .taken), lent (r .pool) book (now (textures .exit)) (now (retiring .entry)) (now (doomed .entry)) (now (spares .exit)) (now (newest .entry)) (now (stamps .entry)))
         ≡ takeSpareCall (lent pool book (now (textures .entry)) (now (retiring .entry)) (now (doomed .entry)) (now (spares .entry)) (now (newest .entry)) (now (stamps .entry))) id shape records seq ⌝ }
 {
     let t = texture_at(textures, i);

@@ -1,31 +1,40 @@
+-- `open` meets its contract: the slices' sizes decide. Assumes nothing.
 use borrow.Author.Needs.{needs}
+use mathlib.Core.Path.{sym, _∙_}
+use Rattle.layout.specs.Lent.{lent}
+use Rattle.layout.specs.Calls.{openedPool, openedBook}
+use Rattle.pool.proofs.Asking.{opened, not-opened}
 use Rattle.pool.proofs.opening.open.Statement.{statement}
 use Rattle.pool.proofs.opening.open.Tie as tie
-use Rattle.pool.proofs.opening.open.Reads as reads
-use Rattle.pool.proofs.opening.open.Lts as lts
-use Rattle.pool.proofs.opening.opened_book.Reads as opened-book-reads
-use Rattle.pool.proofs.opening.opened_pool.Reads as opened-pool-reads
-use Rattle.pool_test.proofs.sizes_fit.Reads as sizes-fit-reads
 
--- src/opening.rt:67:9
 sizes-fit-requires : tie.Need-sizes-fit-requires
 sizes-fit-requires c κs = search needs
 
--- src/opening.rt:68:9
 opened-pool-requires : tie.Need-opened-pool-requires
 opened-pool-requires c κs = search needs
 
--- src/opening.rt:69:9
 opened-book-requires : tie.Need-opened-book-requires
 opened-book-requires c κs = search needs
 
--- src/opening.rt:52:1
 returns : tie.Need-returns
-returns c = search needs
+returns c =
+    let a = c .before .before .before .before .before .before .before .before .before .before .args in
+    let fits = c .before .before .before .sizes-fit in
+    λ i. record {
+      outcome = opened (lent (openedPool (a .working)) openedBook (a .textures .now) (a .retiring .now) (a .doomed .now) (a .spares .now) (a .newest .now) (a .stamps .now)) (sym (fits .ensures (openedPool (a .working)) openedBook) ∙ c .if1 .taken) i;
+      pool = c .before .before .opened-pool .ensures i;
+      book = c .before .opened-book .ensures i;
+    }
 
--- src/opening.rt:52:1
 returns-2 : tie.Need-returns-2
-returns-2 c = search needs
+returns-2 c =
+    let a = c .before .before .before .before .before .before .before .before .before .before .args in
+    let fits = c .before .before .before .sizes-fit in
+    λ i. record {
+      outcome = not-opened (lent (openedPool (a .working)) openedBook (a .textures .now) (a .retiring .now) (a .doomed .now) (a .spares .now) (a .newest .now) (a .stamps .now)) (sym (fits .ensures (openedPool (a .working)) openedBook) ∙ c .if1 .left) i;
+      pool = c .before .before .opened-pool .ensures i;
+      book = c .before .opened-book .ensures i;
+    }
 
 pub open-spec : {M : Type 1} → statement M
 open-spec =

@@ -1,17 +1,31 @@
+-- `opened_pool` meets its contract. Assumes nothing.
 use borrow.Author.Needs.{needs}
+use mathlib.Core.Bool.{false}
+use Rattle.layout.specs.Calls.{openedPool}
 use Rattle.pool.proofs.opening.opened_pool.Statement.{statement}
 use Rattle.pool.proofs.opening.opened_pool.Tie as tie
-use Rattle.pool.proofs.opening.opened_pool.Reads as reads
-use Rattle.pool.proofs.opening.opened_pool.Lts as lts
-use Rattle.stores.proofs.budget.VersionBudget.from_working_set.Reads as from-working-set-reads
 
--- src/opening.rt:21:9
 from-working-set-requires : tie.Need-from-working-set-requires
 from-working-set-requires c κs = search needs
 
--- src/opening.rt:18:1
 returns : tie.Need-returns
-returns c = search needs
+unfolding openedPool
+returns c = λ i. record {
+  tracked = 0;
+  kept = 0;
+  pages = 0;
+  head = 0;
+  popped = false;
+  queued = 0;
+  first = 0;
+  doomed = 0;
+  since = 0;
+  trackings = 0;
+  parked = 0;
+  dooming = 0;
+  cap = c .from-working-set .ensures i .cap;
+  line = c .from-working-set .ensures i .line;
+}
 
 pub opened-pool-spec : {M : Type 1} → statement M
 opened-pool-spec = tie.close (tie.spec from-working-set-requires returns)

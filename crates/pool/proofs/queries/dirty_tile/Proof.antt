@@ -1,38 +1,40 @@
+-- `dirty_tile` meets its contract. Assumes nothing.
 use borrow.Author.Needs.{needs}
+use borrow.Author.Tests.{not-true, not-false}
+use mathlib.Core.Path.{sym, _∙_}
+use Rattle.layout.specs.Lent.{lent}
+use Rattle.pool.proofs.Asking.{no-tile, tile-as}
 use Rattle.pool.proofs.queries.dirty_tile.Statement.{statement}
 use Rattle.pool.proofs.queries.dirty_tile.Tie as tie
-use Rattle.pool.proofs.queries.dirty_tile.Reads as reads
-use Rattle.pool.proofs.queries.dirty_tile.Lts as lts
-use Rattle.pool_test.proofs.is_pool.Reads as is-pool-reads
-use Rattle.writes.proofs.dirty_tile.Reads as dirty-tile-reads
 
--- src/queries.rt:139:9
 is-pool-requires : tie.Need-is-pool-requires
 is-pool-requires c κs = search needs
 
--- src/queries.rt:149:9
 returns : tie.Need-returns
-returns c = search needs
+returns c =
+    let a = c .before .before .before .before .before .before .before .before .args in
+    no-tile (lent (a .pool) (a .book) (a .textures .now) (a .retiring .now) (a .doomed .now) (a .spares .now) (a .newest .now) (a .stamps .now)) (sym (c .before .is-pool .ensures) ∙ not-true _ (c .if1 .taken)) (a .id) (a .slice) (a .level) (a .held)
 
--- src/queries.rt:151:9
 dirty-tile-requires : tie.Need-dirty-tile-requires
-dirty-tile-requires c κs = search needs
+dirty-tile-requires c κs = sym (c .before .is-pool .ensures) ∙ not-false _ (c .if1 .left)
 
--- src/queries.rt:166:25
 enum-known-tile : tie.Need-enum-known-tile
 enum-known-tile c = search needs
 
--- src/queries.rt:167:30
 enum-told : tie.Need-enum-told
 enum-told c = search needs
 
--- src/queries.rt:123:1
 returns-2 : tie.Need-returns-2
-returns-2 c = search needs
+returns-2 c =
+    let a = c .before .before .before .before .before .before .before .before .before .before .before .before .args in
+    let d = c .before .before .before in
+    tile-as (lent (a .pool) (a .book) (a .textures .now) (a .retiring .now) (a .doomed .now) (a .spares .now) (a .newest .now) (a .stamps .now)) (sym (d .before .before .is-pool .ensures) ∙ not-false _ (d .before .if1 .left)) (a .id) (a .slice) (a .level) (a .held) (d .dirty-tile .result) _ (c .before .tile .given .1) (d .dirty-tile .ensures)
 
--- src/queries.rt:123:1
 returns-3 : tie.Need-returns-3
-returns-3 c = search needs
+returns-3 c =
+    let a = c .before .before .before .before .before .before .before .before .before .before .before .args in
+    let d = c .before .before in
+    tile-as (lent (a .pool) (a .book) (a .textures .now) (a .retiring .now) (a .doomed .now) (a .spares .now) (a .newest .now) (a .stamps .now)) (sym (d .before .before .is-pool .ensures) ∙ not-false _ (d .before .if1 .left)) (a .id) (a .slice) (a .level) (a .held) (d .dirty-tile .result) _ (c .enum-told .given .1) (d .dirty-tile .ensures)
 
 pub dirty-tile-spec : {M : Type 1} → statement M
 dirty-tile-spec =

@@ -1,0 +1,58 @@
+-- The queries and opening, case by case. Assumes nothing.
+use mathlib.Core.Path.{_≡_, refl, sym, ap, _∙_}
+use mathlib.Core.Bool.{Bool, true, false, cond}
+use Prim.Native.Nat.{ℕ}
+use Rattle.grids.specs.declared.dirty.DirtyTile.{DirtyTile}
+use Rattle.stores.specs.NoteWrite.{recordsWrites, IsDirtyTileOf}
+use Rattle.layout.specs.Lent.{Lent}
+use Rattle.layout.specs.Reading.{modelOf}
+use Rattle.layout.specs.IsPool.{isPool, sizesFit}
+use Rattle.layout.specs.Calls.{Told, refusal, answer, openNumber}
+use Rattle.pool.specs.Queries.{recordsWritesCall, parkedBytesCall, pendingDestroyBytesCall, IsTile, DirtyTileCall}
+
+module _ (l : Lent) where
+  pub opened : sizesFit l ≡ true → 0 ≡ openNumber l
+  unfolding openNumber
+  opened e = sym (ap (λ (b : Bool). cond b 0 1) e)
+
+  pub not-opened : sizesFit l ≡ false → 1 ≡ openNumber l
+  unfolding openNumber
+  not-opened e = sym (ap (λ (b : Bool). cond b 0 1) e)
+
+  module _ (e : isPool l ≡ false) where
+    pub no-records : (id : ℕ) → refusal 1 ≡ recordsWritesCall l id
+    unfolding recordsWritesCall
+    no-records id = sym (ap (λ (b : Bool). cond b (answer (recordsWrites (modelOf l) id)) (refusal 1)) e)
+
+    pub no-parked : refusal 1 ≡ parkedBytesCall l
+    unfolding parkedBytesCall
+    no-parked = sym (ap (λ (b : Bool). cond b (answer (modelOf l .parked)) (refusal 1)) e)
+
+    pub no-pending : refusal 1 ≡ pendingDestroyBytesCall l
+    unfolding pendingDestroyBytesCall
+    no-pending = sym (ap (λ (b : Bool). cond b (answer (modelOf l .dooming)) (refusal 1)) e)
+
+    pub no-tile : (id slice level held : ℕ) → DirtyTileCall l id slice level held (refusal 1)
+    unfolding DirtyTileCall
+    no-tile id slice level held = rw e refl
+
+  module _ (e : isPool l ≡ true) where
+    pub records-said : (id : ℕ) (b : Bool) → b ≡ recordsWrites (modelOf l) id → answer b ≡ recordsWritesCall l id
+    unfolding recordsWritesCall
+    records-said id b q = ap answer q ∙ sym (ap (λ (b : Bool). cond b (answer (recordsWrites (modelOf l) id)) (refusal 1)) e)
+
+    pub parked-said : answer (l .pool .parked) ≡ parkedBytesCall l
+    unfolding parkedBytesCall modelOf
+    parked-said = sym (ap (λ (b : Bool). cond b (answer (l .pool .parked)) (refusal 1)) e)
+
+    pub pending-said : answer (l .pool .dooming) ≡ pendingDestroyBytesCall l
+    unfolding pendingDestroyBytesCall modelOf
+    pending-said = sym (ap (λ (b : Bool). cond b (answer (l .pool .dooming)) (refusal 1)) e)
+
+    pub tile-said : (id slice level held : ℕ) (t : DirtyTile) → IsDirtyTileOf (modelOf l) id slice level held t → DirtyTileCall l id slice level held (answer t)
+    unfolding DirtyTileCall
+    tile-said id slice level held t q = rw e q
+
+    -- by what the answer was matched with
+    pub tile-as : (id slice level held : ℕ) (r t : DirtyTile) → r ≡ t → IsDirtyTileOf (modelOf l) id slice level held r → DirtyTileCall l id slice level held (answer t)
+    tile-as id slice level held r t e q = rw (sym e) (tile-said id slice level held r q)

@@ -1,0 +1,88 @@
+// Spares and textures that are idle or gone.
+ghost use mathlib.Core.Path.{_≡_};
+ghost use Rattle.layout.specs.Lent.{lent};
+ghost use Rattle.layout.specs.Calls.{toldNumber, forgetTextureCall, trimCall};
+use layout::DoneAnswer;
+use layout::PacingBook;
+use layout::Pool;
+use pool_test::is_pool;
+
+// Queues for destruction every spare that was idle too long, and forgets idle textures.
+pub fn trim(
+    pool: Pool,
+    book: PacingBook,
+    textures: &mut [u64],
+    retiring: &[u64],
+    doomed: &mut [u64],
+    spares: &mut [u64],
+    newest: &mut [u64],
+    stamps: &mut [u64],
+    current: u64,
+) -> DoneAnswer
+    ensures { λ r. ⌜ (toldNumber (r .outcome), lent (r .pool) book (now (textures .exit)) (now (retiring .entry)) (now (doomed .exit)) (now (spares .exit)) (now (newest .exit)) (now (stamps .exit)))
+        ≡ trimCall (lent pool book (now (textures .entry)) (now (retiring .entry)) (now (doomed .entry)) (now (spares .entry)) (now (newest .entry)) (now (stamps .entry))) current ⌝ }
+{
+    if !is_pool(
+        pool,
+        book,
+        textures,
+        retiring,
+        doomed,
+        spares,
+        newest,
+        stamps,
+    ) {
+        return DoneAnswer { pool, outcome: 1 };
+    }
+    trimming::trim(
+        pool,
+        book,
+        textures,
+        retiring,
+        doomed,
+        spares,
+        newest,
+        stamps,
+        current,
+    )
+}
+
+// Stops tracking a released texture.
+pub fn forget_texture(
+    pool: Pool,
+    book: PacingBook,
+    textures: &mut [u64],
+    retiring: &[u64],
+    doomed: &mut [u64],
+    spares: &mut [u64],
+    newest: &mut [u64],
+    stamps: &mut [u64],
+    id: u64,
+) -> DoneAnswer
+    ensures { λ r. ⌜ (toldNumber (r .outcome), lent (r .pool) book (now (textures .exit)) (now (retiring .entry)) (now (doomed .exit)) (now (spares .exit)) (now (newest .exit)) (now (stamps .exit)))
+        ≡ forgetTextureCall (lent pool book (now (textures .entry)) (now (retiring .entry)) (now (doomed .entry)) (now (spares .entry)) (now (newest .entry)) (now (stamps .entry))) id ⌝ }
+{
+    if !is_pool(
+        pool,
+        book,
+        textures,
+        retiring,
+        doomed,
+        spares,
+        newest,
+        stamps,
+    ) {
+        return DoneAnswer { pool, outcome: 1 };
+    }
+    forgetting::forget_texture(
+        pool,
+        book,
+        textures,
+        retiring,
+        doomed,
+        spares,
+        newest,
+        stamps,
+        id,
+    )
+}
