@@ -4,7 +4,7 @@ use mathlib.Core.Bool.{Bool, true, false, cond, _&&_}
 use mathlib.Core.List.{List, [], _∷_}
 use Prim.Native.Nat.{ℕ, zero, suc, _+_, _-_, _≤_, _<_}
 use native.Mathlib.Numerals.{add-one}
-use native.Mathlib.Nat.{add-zero}
+use native.Mathlib.Nat.{add-zero, zero-add}
 use native.Mathlib.Omega.{arith}
 use borrow.Author.Tests.{eq-eqb, ne-eqb, eqb-true}
 use lib.Dec.{eqb}
@@ -73,6 +73,15 @@ first-length (b ∷ bs) = go (eqb b comma) (first-length bs)
     go : (t : Bool) → length (firstField bs) ≤ length bs → length (cond t [] (b ∷ firstField bs)) ≤ suc (length bs)
     go true h = omega arith
     go false h = omega arith
+
+-- of a whole line
+pub line-first : (line : List ℕ) → take (fieldEnd line 0) line ≡ firstField line
+unfolding fieldEnd
+line-first line = ap (λ (k : ℕ). take k line) (zero-add (length (firstField line))) ∙ sym (first-take line)
+
+pub line-fields : (line : List ℕ) → fieldsOf line ≡ firstField line ∷ behind (drop (fieldEnd line 0) line)
+unfolding fieldEnd
+line-fields line = fields-first line ∙ ap (λ (k : ℕ). firstField line ∷ behind (drop k line)) (sym (zero-add (length (firstField line))))
 
 module _ (line : List ℕ) (at : ℕ) where
   -- the field from `at` on, as a part of the line

@@ -1,0 +1,193 @@
+// One line to its event: the word, the fields that the word asks for, and the event made of them.
+ghost use mathlib.Core.Path.{_≡_};
+ghost use Prim.Native.Nat.{_≤_};
+ghost use lib.ListN.{getD, length, take};
+ghost use Rattle.event_lines.specs.Grammar.{kindsOf, shapeOf, made, heldBy, eventOf};
+ghost use Rattle.event_lines.specs.Reading.{kindsFor};
+use crate::event::Event;
+use crate::event::Word;
+use crate::fields::FLAG;
+use crate::fields::HELD;
+use crate::fields::NUMBER;
+use crate::fields::SMALL;
+use crate::fields::read_fields;
+use crate::words::word_of;
+use event_text::field_end;
+use rects::TexelRect;
+use shapes::VersionShape;
+use stores::Held;
+
+// The limits of a word's fields: the first `count`.
+struct Form {
+    limits: [u64; 9],
+    count: usize,
+}
+
+fn form_of(word: Word) -> Form
+    ensures { λ r. ⌜ (length (r .limits) ≡ 9) × (r .count ≤ 9) × (kindsFor (take (r .count) (r .limits)) ≡ kindsOf word) ⌝ }
+{
+    match word {
+        Word::Open => Form {
+            limits: [NUMBER, 0, 0, 0, 0, 0, 0, 0, 0],
+            count: 1,
+        },
+        Word::Take => Form {
+            limits: [
+                NUMBER,
+                NUMBER,
+                SMALL,
+                SMALL,
+                SMALL,
+                SMALL,
+                NUMBER,
+                FLAG,
+                NUMBER,
+            ],
+            count: 9,
+        },
+        Word::Plan => Form {
+            limits: [NUMBER, HELD, SMALL, SMALL, FLAG, 0, 0, 0, 0],
+            count: 5,
+        },
+        Word::Retire => Form {
+            limits: [NUMBER, NUMBER, NUMBER, 0, 0, 0, 0, 0, 0],
+            count: 3,
+        },
+        Word::Write => Form {
+            limits: [NUMBER, SMALL, SMALL, SMALL, SMALL, SMALL, SMALL, 0, 0],
+            count: 7,
+        },
+        Word::Regen => Form {
+            limits: [NUMBER, 0, 0, 0, 0, 0, 0, 0, 0],
+            count: 1,
+        },
+        Word::Pop => Form {
+            limits: [NUMBER, 0, 0, 0, 0, 0, 0, 0, 0],
+            count: 1,
+        },
+        Word::Park => Form {
+            limits: [NUMBER, NUMBER, 0, 0, 0, 0, 0, 0, 0],
+            count: 2,
+        },
+        Word::Note => Form {
+            limits: [NUMBER, 0, 0, 0, 0, 0, 0, 0, 0],
+            count: 1,
+        },
+        Word::Doomed => Form {
+            limits: [0, 0, 0, 0, 0, 0, 0, 0, 0],
+            count: 0,
+        },
+        Word::Drain => Form {
+            limits: [0, 0, 0, 0, 0, 0, 0, 0, 0],
+            count: 0,
+        },
+        Word::Trim => Form {
+            limits: [NUMBER, 0, 0, 0, 0, 0, 0, 0, 0],
+            count: 1,
+        },
+        Word::Forget => Form {
+            limits: [NUMBER, 0, 0, 0, 0, 0, 0, 0, 0],
+            count: 1,
+        },
+        Word::Other => Form {
+            limits: [0, 0, 0, 0, 0, 0, 0, 0, 0],
+            count: 0,
+        },
+    }
+}
+
+fn held_of(dash: bool, value: u64) -> Held
+    ensures { λ r. ⌜ r ≡ heldBy dash value ⌝ }
+{
+    if dash {
+        return Held::Unknown;
+    }
+    Held::Known(value)
+}
+
+// Format, width, height, depth, levels and kind are the fields behind the id; the rest of the shape is 0.
+fn shape_of(n: [u64; 9]) -> VersionShape
+    ensures { λ r. ⌜ r ≡ shapeOf (λ k. getD n k 0) ⌝ }
+{
+    VersionShape {
+        format: n[1],
+        width: n[2],
+        height: n[3],
+        depth: n[4],
+        levels: n[5],
+        kind: n[6],
+        storage: 0,
+        usage: 0,
+        red: 0,
+        green: 0,
+        blue: 0,
+        alpha: 0,
+    }
+}
+
+// The event of a word whose fields are these numbers.
+fn event_of(word: Word, n: [u64; 9], held: Held) -> Event
+    ensures { λ r. ⌜ r ≡ made word (λ k. getD n k 0) held ⌝ }
+{
+    match word {
+        Word::Open => Event::Open(n[0]),
+        Word::Take => Event::Take {
+            id: n[0],
+            shape: shape_of(n),
+            records: n[7] == 1,
+            seq: n[8],
+        },
+        Word::Plan => Event::Plan {
+            id: n[0],
+            held,
+            slice: n[2],
+            level: n[3],
+            cover: n[4] == 1,
+        },
+        Word::Retire => Event::Retire {
+            id: n[0],
+            view: n[1],
+            seq: n[2],
+        },
+        Word::Write => Event::Write {
+            id: n[0],
+            slice: n[1],
+            level: n[2],
+            rect: TexelRect {
+                x: n[3],
+                y: n[4],
+                width: n[5],
+                height: n[6],
+            },
+        },
+        Word::Regen => Event::Regen(n[0]),
+        Word::Pop => Event::Pop(n[0]),
+        Word::Park => Event::Park {
+            failed: n[0],
+            now: n[1],
+        },
+        Word::Note => Event::Note(n[0]),
+        Word::Doomed => Event::Doomed,
+        Word::Drain => Event::Drain,
+        Word::Trim => Event::Trim(n[0]),
+        Word::Forget => Event::Forget(n[0]),
+        Word::Other => Event::Unread,
+    }
+}
+
+pub fn parse_line(line: &[u8]) -> Event
+    ensures { λ r. ⌜ r ≡ eventOf (now (line .entry)) ⌝ }
+{
+    let end = field_end(line, 0);
+    let word = word_of(&line[..end]);
+    let form = form_of(word);
+    let limits = form.limits;
+    let count = form.count;
+    let read = read_fields(line, end, &limits[..count]);
+    if !read.formed {
+        return Event::Unread;
+    }
+    let values = read.values;
+    let held = held_of(read.dash, values[1]);
+    event_of(word, values, held)
+}
