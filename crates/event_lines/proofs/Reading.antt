@@ -2,13 +2,13 @@
 use mathlib.Core.Path.{_≡_, refl, sym, ap, ap₂, _∙_}
 use mathlib.Core.Bool.{Bool, true, false, cond, not, _&&_, _||_}
 use mathlib.Core.List.{List, [], _∷_}
-use Prim.Native.Nat.{ℕ, suc, _+_, _-_, _≤_, _<_}
+use Prim.Native.Nat.{ℕ, suc, _+_, _-_, _^_, _≤_, _<_}
 use native.Mathlib.Numerals.{add-one}
 use native.Mathlib.Decide.{decLt}
 use native.Mathlib.Omega.{arith}
 use borrow.Author.Tests.{eq-eqb, ne-eqb, eqb-true, eqb-false, lt-ltb, le-ltb, ltb-true, ltb-false, not-true}
 use lib.Dec.{eqb, ltb}
-use lib.ListN.{length, take, drop, getD, set}
+use lib.ListN.{length, take, drop, getD, set, replicate}
 use Rattle.blocks.specs.Lists.{all, tests, after}
 use Rattle.blocks.proofs.Lists.{and-both, not-passed}
 use Rattle.blocks.proofs.Scans.{from, from-step, from-none}
@@ -19,8 +19,17 @@ use Rattle.event_text.proofs.Fields.{field-at, fields-at, behind-comma, behind-
 use Rattle.event_text.proofs.Numbers.{number-ends, number-none}
 use Rattle.event_lines.specs.declared.fields.Field.{Field}
 use Rattle.event_lines.specs.declared.fields.Fields.{Fields}
+use Rattle.event_lines.specs.declared.line.Form.{Form}
 use Rattle.event_lines.specs.Grammar.{Kind, below, held, dash, isKind}
-use Rattle.event_lines.specs.Reading.{kindOf, kindsFor, fieldAs, fieldAt, dashAs, dashAt, left, readAll}
+use Rattle.event_lines.specs.Reading.{kindOf, kindsFor, numbersForm, fieldAs, fieldAt, dashAs, dashAt, left, readAll}
+
+-- ---- the limits of a word
+
+pub numbers-form : (f : Form) (n : ℕ) (ks : List Kind) → f ≡ numbersForm n → n ≤ 9 → kindsFor (take n (replicate 9 (2 ^ 64 - 1))) ≡ ks
+    → (length (f .limits) ≡ 9) × (f .count ≤ 9) × (kindsFor (take (f .count) (f .limits)) ≡ ks)
+unfolding numbersForm
+numbers-form f n ks e h k =
+    (ap (λ (x : Form). length (x .limits)) e, (let c : f .count ≡ n = ap (λ (x : Form). x .count) e in omega arith), ap (λ (x : Form). kindsFor (take (x .count) (x .limits))) e ∙ k)
 
 -- ---- one field
 

@@ -6,6 +6,7 @@ use lib.Dec.{ltb, eqb}
 use lib.ListN.{getD}
 use Rattle.event_text.specs.Fields.{fieldsOf, same}
 use Rattle.event_text.specs.Numbers.{isNumber, decimal}
+use Rattle.rects.specs.declared.rect.TexelRect.{TexelRect}
 use Rattle.shapes.specs.declared.shape.VersionShape.{VersionShape}
 use Rattle.stores.specs.declared.held.Held.{Held}
 use Rattle.stores.specs.declared.held.Held.the-variants.{Known, Unknown}
@@ -81,14 +82,17 @@ shapeOf n = record {
   alpha = 0;
 }
 
+-- the rectangle of a write line: left, top, width and height
+unfoldable pub rectOf : (ℕ → ℕ) → TexelRect
+rectOf n = record { x = n 3; y = n 4; width = n 5; height = n 6 }
+
 -- the event of a word whose fields are the numbers n 0, n 1, ..; of a plan the second field is its held writes
 unfoldable pub made : Word → (ℕ → ℕ) → Held → Event
-unfolding shapeOf
 made Word.Open n h = Event.Open (n 0)
 made Word.Take n h = Event.Take (n 0) (shapeOf n) (eqb (n 7) 1) (n 8)
 made Word.Plan n h = Event.Plan (n 0) h (n 2) (n 3) (eqb (n 4) 1)
 made Word.Retire n h = Event.Retire (n 0) (n 1) (n 2)
-made Word.Write n h = Event.Write (n 0) (n 1) (n 2) (record { x = n 3; y = n 4; width = n 5; height = n 6 })
+made Word.Write n h = Event.Write (n 0) (n 1) (n 2) (rectOf n)
 made Word.Regen n h = Event.Regen (n 0)
 made Word.Pop n h = Event.Pop (n 0)
 made Word.Park n h = Event.Park (n 0) (n 1)

@@ -1,13 +1,14 @@
 -- What the functions that read a line's fields answer: the grammar field by field.
-use Prim.Native.Nat.{ℕ, suc, _+_}
+use Prim.Native.Nat.{ℕ, suc, _+_, _-_, _^_}
 use mathlib.Core.Bool.{Bool, true, false, cond, _||_}
 use mathlib.Core.List.{List, [], _∷_}
 use lib.Dec.{eqb}
-use lib.ListN.{drop, set}
+use lib.ListN.{drop, set, replicate}
 use Rattle.event_text.specs.Fields.{firstField, fieldEnd, behind, same}
 use Rattle.event_text.specs.Numbers.{decimal}
 use Rattle.event_lines.specs.declared.fields.Field.{Field}
 use Rattle.event_lines.specs.declared.fields.Fields.{Fields}
+use Rattle.event_lines.specs.declared.line.Form.{Form}
 use Rattle.event_lines.specs.Grammar.{Kind, below, held, dash, isKind}
 
 -- the kind of fields with this limit: 0 stands for held writes
@@ -17,6 +18,10 @@ kindOf limit = cond (eqb limit 0) held (below (limit + 1))
 unfoldable pub kindsFor : List ℕ → List Kind
 kindsFor [] = []
 kindsFor (limit ∷ limits) = kindOf limit ∷ kindsFor limits
+
+-- the limits of n numbers
+unfoldable pub numbersForm : ℕ → Form
+numbersForm n = record { limits = replicate 9 (2 ^ 64 - 1); count = n }
 
 -- a field of this kind, and where it ends
 unfoldable pub fieldAs : Kind → List ℕ → ℕ → Field

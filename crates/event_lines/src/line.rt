@@ -2,8 +2,8 @@
 ghost use mathlib.Core.Path.{_≡_};
 ghost use Prim.Native.Nat.{_≤_};
 ghost use lib.ListN.{getD, length, take};
-ghost use Rattle.event_lines.specs.Grammar.{kindsOf, shapeOf, made, heldBy, eventOf};
-ghost use Rattle.event_lines.specs.Reading.{kindsFor};
+ghost use Rattle.event_lines.specs.Grammar.{kindsOf, shapeOf, rectOf, made, heldBy, eventOf};
+ghost use Rattle.event_lines.specs.Reading.{kindsFor, numbersForm};
 use crate::event::Event;
 use crate::event::Word;
 use crate::fields::FLAG;
@@ -23,14 +23,21 @@ struct Form {
     count: usize,
 }
 
+// Numbers alone, so many of them.
+fn numbers(count: usize) -> Form
+    ensures { λ r. ⌜ r ≡ numbersForm count ⌝ }
+{
+    Form {
+        limits: [NUMBER; 9],
+        count,
+    }
+}
+
 fn form_of(word: Word) -> Form
     ensures { λ r. ⌜ (length (r .limits) ≡ 9) × (r .count ≤ 9) × (kindsFor (take (r .count) (r .limits)) ≡ kindsOf word) ⌝ }
 {
     match word {
-        Word::Open => Form {
-            limits: [NUMBER, 0, 0, 0, 0, 0, 0, 0, 0],
-            count: 1,
-        },
+        Word::Open => numbers(1),
         Word::Take => Form {
             limits: [
                 NUMBER,
@@ -49,50 +56,20 @@ fn form_of(word: Word) -> Form
             limits: [NUMBER, HELD, SMALL, SMALL, FLAG, 0, 0, 0, 0],
             count: 5,
         },
-        Word::Retire => Form {
-            limits: [NUMBER, NUMBER, NUMBER, 0, 0, 0, 0, 0, 0],
-            count: 3,
-        },
+        Word::Retire => numbers(3),
         Word::Write => Form {
             limits: [NUMBER, SMALL, SMALL, SMALL, SMALL, SMALL, SMALL, 0, 0],
             count: 7,
         },
-        Word::Regen => Form {
-            limits: [NUMBER, 0, 0, 0, 0, 0, 0, 0, 0],
-            count: 1,
-        },
-        Word::Pop => Form {
-            limits: [NUMBER, 0, 0, 0, 0, 0, 0, 0, 0],
-            count: 1,
-        },
-        Word::Park => Form {
-            limits: [NUMBER, NUMBER, 0, 0, 0, 0, 0, 0, 0],
-            count: 2,
-        },
-        Word::Note => Form {
-            limits: [NUMBER, 0, 0, 0, 0, 0, 0, 0, 0],
-            count: 1,
-        },
-        Word::Doomed => Form {
-            limits: [0, 0, 0, 0, 0, 0, 0, 0, 0],
-            count: 0,
-        },
-        Word::Drain => Form {
-            limits: [0, 0, 0, 0, 0, 0, 0, 0, 0],
-            count: 0,
-        },
-        Word::Trim => Form {
-            limits: [NUMBER, 0, 0, 0, 0, 0, 0, 0, 0],
-            count: 1,
-        },
-        Word::Forget => Form {
-            limits: [NUMBER, 0, 0, 0, 0, 0, 0, 0, 0],
-            count: 1,
-        },
-        Word::Other => Form {
-            limits: [0, 0, 0, 0, 0, 0, 0, 0, 0],
-            count: 0,
-        },
+        Word::Regen => numbers(1),
+        Word::Pop => numbers(1),
+        Word::Park => numbers(2),
+        Word::Note => numbers(1),
+        Word::Doomed => numbers(0),
+        Word::Drain => numbers(0),
+        Word::Trim => numbers(1),
+        Word::Forget => numbers(1),
+        Word::Other => numbers(0),
     }
 }
 
@@ -125,6 +102,18 @@ fn shape_of(n: [u64; 9]) -> VersionShape
     }
 }
 
+// Left, top, width and height are the last fields of a write line.
+fn rect_of(n: [u64; 9]) -> TexelRect
+    ensures { λ r. ⌜ r ≡ rectOf (λ k. getD n k 0) ⌝ }
+{
+    TexelRect {
+        x: n[3],
+        y: n[4],
+        width: n[5],
+        height: n[6],
+    }
+}
+
 // The event of a word whose fields are these numbers.
 fn event_of(word: Word, n: [u64; 9], held: Held) -> Event
     ensures { λ r. ⌜ r ≡ made word (λ k. getD n k 0) held ⌝ }
@@ -153,12 +142,7 @@ fn event_of(word: Word, n: [u64; 9], held: Held) -> Event
             id: n[0],
             slice: n[1],
             level: n[2],
-            rect: TexelRect {
-                x: n[3],
-                y: n[4],
-                width: n[5],
-                height: n[6],
-            },
+            rect: rect_of(n),
         },
         Word::Regen => Event::Regen(n[0]),
         Word::Pop => Event::Pop(n[0]),
@@ -175,6 +159,7 @@ fn event_of(word: Word, n: [u64; 9], held: Held) -> Event
     }
 }
 
+// The event that a line is. The word comes first, because it says of what kinds the fields behind it are.
 pub fn parse_line(line: &[u8]) -> Event
     ensures { λ r. ⌜ r ≡ eventOf (now (line .entry)) ⌝ }
 {

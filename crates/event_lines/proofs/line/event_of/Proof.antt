@@ -68,44 +68,35 @@ array-read-t48 c = search needs
 array-read-t51 : tie.Need-array-read-t51
 array-read-t51 c = search needs
 
-array-read-t54 : tie.Need-array-read-t54
-array-read-t54 c = search needs
-
-array-read-t57 : tie.Need-array-read-t57
-array-read-t57 c = search needs
-
-array-read-t60 : tie.Need-array-read-t60
-array-read-t60 c = search needs
-
-array-read-t63 : tie.Need-array-read-t63
-array-read-t63 c = search needs
+rect-of-requires : tie.Need-rect-of-requires
+rect-of-requires c κs = search needs
 
 enum-told-6 : tie.Need-enum-told-6
 enum-told-6 c = search needs
 
-array-read-t67 : tie.Need-array-read-t67
-array-read-t67 c = search needs
+array-read-t56 : tie.Need-array-read-t56
+array-read-t56 c = search needs
 
 enum-told-7 : tie.Need-enum-told-7
 enum-told-7 c = search needs
 
-array-read-t70 : tie.Need-array-read-t70
-array-read-t70 c = search needs
+array-read-t59 : tie.Need-array-read-t59
+array-read-t59 c = search needs
 
 enum-told-8 : tie.Need-enum-told-8
 enum-told-8 c = search needs
 
-array-read-t73 : tie.Need-array-read-t73
-array-read-t73 c = search needs
+array-read-t62 : tie.Need-array-read-t62
+array-read-t62 c = search needs
 
-array-read-t76 : tie.Need-array-read-t76
-array-read-t76 c = search needs
+array-read-t65 : tie.Need-array-read-t65
+array-read-t65 c = search needs
 
 enum-told-9 : tie.Need-enum-told-9
 enum-told-9 c = search needs
 
-array-read-t79 : tie.Need-array-read-t79
-array-read-t79 c = search needs
+array-read-t68 : tie.Need-array-read-t68
+array-read-t68 c = search needs
 
 enum-told-10 : tie.Need-enum-told-10
 enum-told-10 c = search needs
@@ -116,14 +107,14 @@ enum-told-11 c = search needs
 enum-told-12 : tie.Need-enum-told-12
 enum-told-12 c = search needs
 
-array-read-t82 : tie.Need-array-read-t82
-array-read-t82 c = search needs
+array-read-t71 : tie.Need-array-read-t71
+array-read-t71 c = search needs
 
 enum-told-13 : tie.Need-enum-told-13
 enum-told-13 c = search needs
 
-array-read-t85 : tie.Need-array-read-t85
-array-read-t85 c = search needs
+array-read-t74 : tie.Need-array-read-t74
+array-read-t74 c = search needs
 
 enum-told-14 : tie.Need-enum-told-14
 enum-told-14 c = search needs
@@ -135,8 +126,9 @@ returns c = sym (ap (λ w. made w (λ k. getD (c .before .before .args .t2) k 0)
 returns-2 : tie.Need-returns-2
 unfolding made
 returns-2 c =
-    ap (λ s. Event.Take (getD (c .before .before .before .args .t2) 0 0) s (eqb (getD (c .before .before .before .args .t2) 7 0) 1) (getD (c .before .before .before .args .t2) 8 0)) (c .shape-of .ensures)
-    ∙ sym (ap (λ w. made w (λ k. getD (c .before .before .before .args .t2) k 0) (c .before .before .before .args .held)) (c .before .enum-told2 .given .1))
+    let n = c .before .before .before .args .t2 in
+    ap (λ s. Event.Take (getD n 0 0) s (eqb (getD n 7 0) 1) (getD n 8 0)) (c .shape-of .ensures)
+    ∙ sym (ap (λ w. made w (λ k. getD n k 0) (c .before .before .before .args .held)) (c .before .enum-told2 .given .1))
 
 returns-3 : tie.Need-returns-3
 unfolding made
@@ -148,7 +140,10 @@ returns-4 c = sym (ap (λ w. made w (λ k. getD (c .before .before .args .t2) k 
 
 returns-5 : tie.Need-returns-5
 unfolding made
-returns-5 c = sym (ap (λ w. made w (λ k. getD (c .before .before .args .t2) k 0) (c .before .before .args .held)) (c .enum-told5 .given .1))
+returns-5 c =
+    let n = c .before .before .before .args .t2 in
+    ap (λ s. Event.Write (getD n 0 0) (getD n 1 0) (getD n 2 0) s) (c .rect-of .ensures)
+    ∙ sym (ap (λ w. made w (λ k. getD n k 0) (c .before .before .before .args .held)) (c .before .enum-told5 .given .1))
 
 returns-6 : tie.Need-returns-6
 unfolding made
@@ -210,25 +205,22 @@ event-of-spec =
     array-read-t45
     array-read-t48
     array-read-t51
-    array-read-t54
-    array-read-t57
-    array-read-t60
-    array-read-t63
+    rect-of-requires
     enum-told-6
-    array-read-t67
+    array-read-t56
     enum-told-7
-    array-read-t70
+    array-read-t59
     enum-told-8
-    array-read-t73
-    array-read-t76
+    array-read-t62
+    array-read-t65
     enum-told-9
-    array-read-t79
+    array-read-t68
     enum-told-10
     enum-told-11
     enum-told-12
-    array-read-t82
+    array-read-t71
     enum-told-13
-    array-read-t85
+    array-read-t74
     enum-told-14
     returns
     returns-2
