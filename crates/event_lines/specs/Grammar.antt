@@ -86,13 +86,26 @@ shapeOf n = record {
 unfoldable pub rectOf : (ℕ → ℕ) → TexelRect
 rectOf n = record { x = n 3; y = n 4; width = n 5; height = n 6 }
 
--- the event of a word whose fields are the numbers n 0, n 1, ..; of a plan the second field is its held writes
+-- the events whose fields are the numbers n 0, n 1, ..; of a plan the second field is its held writes
+unfoldable pub takeEvent : (ℕ → ℕ) → Event
+takeEvent n = Event.Take (n 0) (shapeOf n) (eqb (n 7) 1) (n 8)
+
+unfoldable pub planEvent : (ℕ → ℕ) → Held → Event
+planEvent n h = Event.Plan (n 0) h (n 2) (n 3) (eqb (n 4) 1)
+
+unfoldable pub retireEvent : (ℕ → ℕ) → Event
+retireEvent n = Event.Retire (n 0) (n 1) (n 2)
+
+unfoldable pub writeEvent : (ℕ → ℕ) → Event
+writeEvent n = Event.Write (n 0) (n 1) (n 2) (rectOf n)
+
+-- the event of each word
 unfoldable pub made : Word → (ℕ → ℕ) → Held → Event
 made Word.Open n h = Event.Open (n 0)
-made Word.Take n h = Event.Take (n 0) (shapeOf n) (eqb (n 7) 1) (n 8)
-made Word.Plan n h = Event.Plan (n 0) h (n 2) (n 3) (eqb (n 4) 1)
-made Word.Retire n h = Event.Retire (n 0) (n 1) (n 2)
-made Word.Write n h = Event.Write (n 0) (n 1) (n 2) (rectOf n)
+made Word.Take n h = takeEvent n
+made Word.Plan n h = planEvent n h
+made Word.Retire n h = retireEvent n
+made Word.Write n h = writeEvent n
 made Word.Regen n h = Event.Regen (n 0)
 made Word.Pop n h = Event.Pop (n 0)
 made Word.Park n h = Event.Park (n 0) (n 1)

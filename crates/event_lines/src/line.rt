@@ -2,7 +2,7 @@
 ghost use mathlib.Core.Path.{_≡_};
 ghost use Prim.Native.Nat.{_≤_};
 ghost use lib.ListN.{getD, length, take};
-ghost use Rattle.event_lines.specs.Grammar.{kindsOf, shapeOf, rectOf, made, heldBy, eventOf};
+ghost use Rattle.event_lines.specs.Grammar.{kindsOf, shapeOf, rectOf, takeEvent, planEvent, retireEvent, writeEvent, made, heldBy, eventOf};
 ghost use Rattle.event_lines.specs.Reading.{kindsFor, numbersForm};
 use crate::event::Event;
 use crate::event::Word;
@@ -114,47 +114,73 @@ fn rect_of(n: [u64; 9]) -> TexelRect
     }
 }
 
+fn take_event(n: [u64; 9]) -> Event
+    ensures { λ r. ⌜ r ≡ takeEvent (λ k. getD n k 0) ⌝ }
+{
+    Event::Take {
+        id: n[0],
+        shape: shape_of(n),
+        records: n[7] == 1,
+        seq: n[8],
+    }
+}
+
+fn plan_event(n: [u64; 9], held: Held) -> Event
+    ensures { λ r. ⌜ r ≡ planEvent (λ k. getD n k 0) held ⌝ }
+{
+    Event::Plan {
+        id: n[0],
+        held,
+        slice: n[2],
+        level: n[3],
+        cover: n[4] == 1,
+    }
+}
+
+fn retire_event(n: [u64; 9]) -> Event
+    ensures { λ r. ⌜ r ≡ retireEvent (λ k. getD n k 0) ⌝ }
+{
+    Event::Retire {
+        id: n[0],
+        view: n[1],
+        seq: n[2],
+    }
+}
+
+fn write_event(n: [u64; 9]) -> Event
+    ensures { λ r. ⌜ r ≡ writeEvent (λ k. getD n k 0) ⌝ }
+{
+    Event::Write {
+        id: n[0],
+        slice: n[1],
+        level: n[2],
+        rect: rect_of(n),
+    }
+}
+
 // The event of a word whose fields are these numbers.
 fn event_of(word: Word, n: [u64; 9], held: Held) -> Event
     ensures { λ r. ⌜ r ≡ made word (λ k. getD n k 0) held ⌝ }
 {
+    let first = n[0];
+    let second = n[1];
     match word {
-        Word::Open => Event::Open(n[0]),
-        Word::Take => Event::Take {
-            id: n[0],
-            shape: shape_of(n),
-            records: n[7] == 1,
-            seq: n[8],
-        },
-        Word::Plan => Event::Plan {
-            id: n[0],
-            held,
-            slice: n[2],
-            level: n[3],
-            cover: n[4] == 1,
-        },
-        Word::Retire => Event::Retire {
-            id: n[0],
-            view: n[1],
-            seq: n[2],
-        },
-        Word::Write => Event::Write {
-            id: n[0],
-            slice: n[1],
-            level: n[2],
-            rect: rect_of(n),
-        },
-        Word::Regen => Event::Regen(n[0]),
-        Word::Pop => Event::Pop(n[0]),
+        Word::Open => Event::Open(first),
+        Word::Take => take_event(n),
+        Word::Plan => plan_event(n, held),
+        Word::Retire => retire_event(n),
+        Word::Write => write_event(n),
+        Word::Regen => Event::Regen(first),
+        Word::Pop => Event::Pop(first),
         Word::Park => Event::Park {
-            failed: n[0],
-            now: n[1],
+            failed: first,
+            now: second,
         },
-        Word::Note => Event::Note(n[0]),
+        Word::Note => Event::Note(first),
         Word::Doomed => Event::Doomed,
         Word::Drain => Event::Drain,
-        Word::Trim => Event::Trim(n[0]),
-        Word::Forget => Event::Forget(n[0]),
+        Word::Trim => Event::Trim(first),
+        Word::Forget => Event::Forget(first),
         Word::Other => Event::Unread,
     }
 }
