@@ -7,7 +7,7 @@ use native.Mathlib.Nat.{add-zero, mod-eq-of-lt, pow-suc, div-lt-iff-lt-mul}
 use native.Mathlib.Omega.{arith}
 use borrow.Author.Tests.{lt-ltb, le-ltb, ltb-true, ltb-false, le-leb}
 use lib.Dec.{leb, ltb}
-use lib.ListN.{length, set, length-append}
+use lib.ListN.{length, getD, set, length-append, List·getD-append}
 use lib.Seq.{sets, set-comm}
 use Rattle.blocks.specs.Lists.{all, tests, after}
 use Rattle.blocks.proofs.Lists.{all-append}
@@ -185,3 +185,25 @@ unfolding numberOf isNumber decimal digitsOf tests after
 digits-number n h =
     let v : value 0 (digits 20 n) ≡ n = digits-value 20 n (omega arith) in
     rw (digits-are 20 n, le-leb 1 (length (digits 20 n)) (digits-some 19 n), le-leb (length (digits 20 n)) 20 (digits-length 20 n), v, lt-ltb n (2 ^ 64) h)
+
+-- ---- no leading zero
+
+digits-first : (k n : ℕ) → 0 < n → n < 10 ^ k → (1 ≤ length (digits k n)) × (getD (digits k n) 0 0 ≡ 48 → ⊥)
+unfolding digits
+digits-first zero n h q = absurd (let y : ⊥ = omega arith in y)
+digits-first (suc k) n h q = (digits-some k n, go (ltb n 10) refl (digits-first k (n / 10)))
+  where
+    xs : List ℕ
+    xs = digits k (n / 10)
+
+    go : (t : Bool) → ltb n 10 ≡ t → (0 < n / 10 → n / 10 < 10 ^ k → (1 ≤ length xs) × (getD xs 0 0 ≡ 48 → ⊥))
+        → getD (cond t ((48 + n) ∷ []) (xs ++ ((48 + n % 10) ∷ []))) 0 0 ≡ 48 → ⊥
+    go true e r z = let y : ⊥ = omega arith in y
+    go false e r z =
+        let m = ltb-false n 10 e in
+        let p = r (omega arith) (div-lt-iff-lt-mul {k = 10} {x = n} {y = 10 ^ k} (omega arith) .1 (rw (pow-suc 10 k) at q)) in
+        p .1 (sym (List·getD-append xs ((48 + n % 10) ∷ []) 0 0 (p .0)) ∙ z)
+
+pub digits-lead : (n : ℕ) → 0 < n → n < 2 ^ 64 → getD (digitsOf n) 0 0 ≡ 48 → ⊥
+unfolding digitsOf
+digits-lead n h q = digits-first 20 n h (omega arith) .1

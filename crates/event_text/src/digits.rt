@@ -1,4 +1,4 @@
-// Numbers printed.
+// Numbers and text put into a buffer.
 ghost use mathlib.Core.Path.{_≡_};
 ghost use Prim.Native.Nat.{_+_, _≤_};
 ghost use lib.ListN.{length};
@@ -31,8 +31,21 @@ pub fn put_number(out: &mut [u8], at: usize, n: u64) -> usize
     let mut rest = n;
     while at < i {
         i -= 1;
-        out[i] = 48 + (rest % 10) as u8;
+        out[i] = b'0' + (rest % 10) as u8;
         rest /= 10;
     }
     end
+}
+
+// Text put from `at` on. Answers where it ends.
+pub fn put_text(out: &mut [u8], at: usize, text: &[u8]) -> usize
+    requires { ⌜ at + length (now text) ≤ length (now out) ⌝ }
+    ensures { λ r. ⌜ (r ≡ at + length (now (text .entry))) × (now (out .exit) ≡ sets (now (out .entry)) at (now (text .entry))) ⌝ }
+{
+    let mut i = 0;
+    while i < text.len() {
+        out[at + i] = text[i];
+        i += 1;
+    }
+    at + text.len()
 }

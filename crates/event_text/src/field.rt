@@ -11,7 +11,7 @@ pub fn field_end(line: &[u8], at: usize) -> usize
 {
     let mut i = at;
     while i < line.len() {
-        if line[i] == 44 {
+        if line[i] == b',' {
             return i;
         }
         i += 1;

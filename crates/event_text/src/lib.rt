@@ -4,6 +4,7 @@ mod field;
 mod number;
 
 pub use digits::put_number;
+pub use digits::put_text;
 pub use field::field_end;
 pub use field::is_word;
 pub use number::Number;

@@ -4,6 +4,13 @@ ghost use Prim.Native.Nat.{_≤_};
 ghost use lib.ListN.{length};
 ghost use Rattle.event_text.specs.Numbers.{numberOf, numberAt, numberEnding};
 
+// The bytes that a number's field is read by.
+const COMMA: u64 = 44;
+
+const ZERO: u64 = 48;
+
+const NINE: u64 = 57;
+
 // The largest number that a digit may follow.
 const MOST: u64 = u64::MAX / 10;
 
@@ -45,19 +52,19 @@ pub fn number_at(line: &[u8], at: usize) -> NumberAt
     let mut i = at;
     while i < line.len() {
         let byte = wide(line[i]);
-        if byte == 44 {
+        if byte == COMMA {
             return ended(value, at, i);
         }
-        if byte < 48 {
+        if byte < ZERO {
             return NumberAt::Malformed;
         }
-        if 57 < byte {
+        if NINE < byte {
             return NumberAt::Malformed;
         }
         if MOST < value {
             return NumberAt::Malformed;
         }
-        let digit = byte - 48;
+        let digit = byte - ZERO;
         let tens = value * 10;
         if u64::MAX - tens < digit {
             return NumberAt::Malformed;
