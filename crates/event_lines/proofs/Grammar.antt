@@ -51,7 +51,8 @@ read-formed i vs d (k ∷ ks) (f ∷ fs) = go (isKind k f) (read-formed (suc i) 
     go true e = e
     go false e = refl
 
-pub read-values : (i : ℕ) (vs : List ℕ) (d : Bool) (ks : List Kind) (fs : List (List ℕ)) → areKinds ks fs ≡ true → readAll i vs d ks fs .values ≡ sets vs i (numbers fs)
+pub read-values : (i : ℕ) (vs : List ℕ) (d : Bool) (ks : List Kind) (fs : List (List ℕ)) → areKinds ks fs ≡ true
+    → readAll i vs d ks fs .values ≡ sets vs i (numbers fs)
 unfolding readAll areKinds numbers
 read-values i vs d [] [] e = refl
 read-values i vs d [] (f ∷ fs) e = no-way e
@@ -61,7 +62,8 @@ read-values i vs d (k ∷ ks) (f ∷ fs) e =
     ap (λ (t : Bool). (cond t (readAll (suc i) (set vs i (decimal f)) (d || same f dash) ks fs) (record { formed = false; values = vs; dash = d })) .values) (q .0)
     ∙ read-values (suc i) (set vs i (decimal f)) (d || same f dash) ks fs (q .1)
 
-pub read-dash : (i : ℕ) (vs : List ℕ) (d : Bool) (ks : List Kind) (fs : List (List ℕ)) → areKinds ks fs ≡ true → readAll i vs d ks fs .dash ≡ anyDash d fs
+pub read-dash : (i : ℕ) (vs : List ℕ) (d : Bool) (ks : List Kind) (fs : List (List ℕ)) → areKinds ks fs ≡ true
+    → readAll i vs d ks fs .dash ≡ anyDash d fs
 unfolding readAll areKinds anyDash
 read-dash i vs d [] [] e = refl
 read-dash i vs d [] (f ∷ fs) e = no-way e

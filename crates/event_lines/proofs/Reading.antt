@@ -29,7 +29,8 @@ pub numbers-form : (f : Form) (n : ℕ) (ks : List Kind) → f ≡ numbersForm n
     → (length (f .limits) ≡ 9) × (f .count ≤ 9) × (kindsFor (take (f .count) (f .limits)) ≡ ks)
 unfolding numbersForm
 numbers-form f n ks e h k =
-    (ap (λ (x : Form). length (x .limits)) e, (let c : f .count ≡ n = ap (λ (x : Form). x .count) e in omega arith), ap (λ (x : Form). kindsFor (take (x .count) (x .limits))) e ∙ k)
+    let c : f .count ≡ n = ap (λ (x : Form). x .count) e in
+    (ap (λ (x : Form). length (x .limits)) e, omega arith, ap (λ (x : Form). kindsFor (take (x .count) (x .limits))) e ∙ k)
 
 -- ---- one field
 
@@ -48,24 +49,22 @@ number-no-dash f h =
     (λ e. let q : true ≡ false = sym h ∙ ap isNumber (same-true f dash e) ∙ dash-none in let z : _≡_ {A = ℕ} 0 1 = cc in let y : ⊥ = omega arith in y)
 
 module _ (line : List ℕ) (at limit : ℕ) where
-  f : List ℕ
-  f = firstField (drop at line)
-
   pub dash-limited : (limit ≡ 0 → ⊥) → dashAt line at (kindOf limit) ≡ Field.Malformed
   unfolding dashAt dashAs kindOf
   dash-limited h = rw (ne-eqb limit 0 h)
 
-  pub dash-is : (end : ℕ) → limit ≡ 0 → end ≡ fieldEnd line at → same (take (end - at) (drop at line)) dash ≡ true → dashAt line at (kindOf limit) ≡ Field.Ends 0 true end
-  unfolding dashAt dashAs kindOf
-  dash-is end h e t =
-      let q : same (firstField (drop at line)) dash ≡ true = ap (λ (l : List ℕ). same l dash) (sym (field-at line at) ∙ ap (λ (k : ℕ). take (k - at) (drop at line)) (sym e)) ∙ t in
-      rw (eq-eqb limit 0 h, q) (ap (λ (k : ℕ). Field.Ends 0 true k) (sym e))
+  -- the part of the line that is looked at is the field
+  part : (end : ℕ) → end ≡ fieldEnd line at → same (firstField (drop at line)) dash ≡ same (take (end - at) (drop at line)) dash
+  part end e = ap (λ (l : List ℕ). same l dash) (sym (field-at line at) ∙ ap (λ (k : ℕ). take (k - at) (drop at line)) (sym e))
 
-  pub dash-not : (end : ℕ) → limit ≡ 0 → end ≡ fieldEnd line at → same (take (end - at) (drop at line)) dash ≡ false → dashAt line at (kindOf limit) ≡ Field.Malformed
-  unfolding dashAt dashAs kindOf
-  dash-not end h e t =
-      let q : same (firstField (drop at line)) dash ≡ false = ap (λ (l : List ℕ). same l dash) (sym (field-at line at) ∙ ap (λ (k : ℕ). take (k - at) (drop at line)) (sym e)) ∙ t in
-      rw (eq-eqb limit 0 h, q)
+  module _ (end : ℕ) (free : limit ≡ 0) (e : end ≡ fieldEnd line at) where
+    pub dash-is : same (take (end - at) (drop at line)) dash ≡ true → dashAt line at (kindOf limit) ≡ Field.Ends 0 true end
+    unfolding dashAt dashAs kindOf
+    dash-is t = rw (eq-eqb limit 0 free, part end e ∙ t) (ap (λ (k : ℕ). Field.Ends 0 true k) (sym e))
+
+    pub dash-not : same (take (end - at) (drop at line)) dash ≡ false → dashAt line at (kindOf limit) ≡ Field.Malformed
+    unfolding dashAt dashAs kindOf
+    dash-not t = rw (eq-eqb limit 0 free, part end e ∙ t)
 
 -- a field that is no number is as "-" or not at all
 dash-as : (k : Kind) (f : List ℕ) (end : ℕ) → isNumber f ≡ false → dashAs k f end ≡ fieldAs k f end
@@ -170,7 +169,8 @@ module _ (line limits : List ℕ) (i end : ℕ) (vs : List ℕ) (d : Bool) where
         f : List ℕ
         f = firstField (drop (end + 1) line)
 
-        go : (r : Fields) (t : Bool) → cond t (Field.Ends (decimal f) (same f dash) (fieldEnd line (end + 1))) Field.Malformed ≡ Field.Malformed → cond t r (stopped vs d) ≡ stopped vs d
+        go : (r : Fields) (t : Bool) → cond t (Field.Ends (decimal f) (same f dash) (fieldEnd line (end + 1))) Field.Malformed ≡ Field.Malformed
+            → cond t r (stopped vs d) ≡ stopped vs d
         go r true q = absurd (let z : _≡_ {A = ℕ} 0 1 = cc in let y : ⊥ = omega arith in y)
         go r false q = refl
 
@@ -198,10 +198,14 @@ module _ (line limits : List ℕ) (i end : ℕ) (vs : List ℕ) (d : Bool) where
         go false q = absurd (let z : _≡_ {A = ℕ} 0 1 = cc in let y : ⊥ = omega arith in y)
 
 -- a field ends within the line
-pub field-room : (line : List ℕ) (at : ℕ) (k : Kind) (v : ℕ) (h : Bool) (next : ℕ) → at ≤ length line → fieldAt line at k ≡ Field.Ends v h next → next ≤ length line
+pub field-room : (line : List ℕ) (at : ℕ) (k : Kind) (v : ℕ) (h : Bool) (next : ℕ) → at ≤ length line → fieldAt line at k ≡ Field.Ends v h next
+    → next ≤ length line
 unfolding fieldAt fieldAs
 field-room line at k v h next w e = go (isKind k (firstField (drop at line))) e
   where
-    go : (t : Bool) → cond t (Field.Ends (decimal (firstField (drop at line))) (same (firstField (drop at line)) dash) (fieldEnd line at)) Field.Malformed ≡ Field.Ends v h next → next ≤ length line
+    f : List ℕ
+    f = firstField (drop at line)
+
+    go : (t : Bool) → cond t (Field.Ends (decimal f) (same f dash) (fieldEnd line at)) Field.Malformed ≡ Field.Ends v h next → next ≤ length line
     go true q = let n : fieldEnd line at ≡ next = cc in let m = end-within line at w in omega arith
     go false q = absurd (let z : _≡_ {A = ℕ} 0 1 = cc in let y : ⊥ = omega arith in y)

@@ -44,7 +44,7 @@ trimWord = 116 ∷ 114 ∷ 105 ∷ 109 ∷ []
 abbrev pub forgetWord : List ℕ
 forgetWord = 102 ∷ 111 ∷ 114 ∷ 103 ∷ 101 ∷ 116 ∷ []
 
--- the word that a field is; any other field is `Other`
+-- the word that a field is: those of the calls that a program makes most come first, and any other field is `Other`
 unfoldable pub laterWord : List ℕ → Word
 laterWord s =
     cond (same s noteWord) Word.Note

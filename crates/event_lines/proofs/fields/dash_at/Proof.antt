@@ -35,10 +35,14 @@ is-word-requires : tie.Need-is-word-requires
 is-word-requires c κs = search needs
 
 returns-2 : tie.Need-returns-2
-returns-2 c = sym (dash-is _ _ _ _ (c .before .before .before .before .before .if1 .left) (c .before .before .before .before .field-end .ensures) (sym (c .before .is-word .ensures) ∙ c .if2 .taken))
+returns-2 c =
+    let e = c .before .before .before .before in
+    sym (dash-is _ _ _ _ (e .before .if1 .left) (e .field-end .ensures) (sym (c .before .is-word .ensures) ∙ c .if2 .taken))
 
 returns-3 : tie.Need-returns-3
-returns-3 c = sym (dash-not _ _ _ _ (c .before .before .before .before .before .if1 .left) (c .before .before .before .before .field-end .ensures) (sym (c .before .is-word .ensures) ∙ c .if2 .left))
+returns-3 c =
+    let e = c .before .before .before .before in
+    sym (dash-not _ _ _ _ (e .before .if1 .left) (e .field-end .ensures) (sym (c .before .is-word .ensures) ∙ c .if2 .left))
 
 pub dash-at-spec : {M : Type 1} → statement M
 dash-at-spec =

@@ -12,13 +12,17 @@ use Rattle.event_lines.proofs.fields.read_fields.Statement.{statement}
 use Rattle.event_lines.proofs.fields.read_fields.Tie as tie
 
 abbrev Inv-loop : tie.InvT-loop
-Inv-loop line at limits values₀ dash₀ end₀ i₀ values dash end i = (i ≤ length limits) × (end ≤ length line) × (readAll i values dash (kindsFor (from i limits)) (left line end) ≡ readAll 0 (replicate 9 0) false (kindsFor limits) (left line at))
+Inv-loop line at limits values₀ dash₀ end₀ i₀ values dash end i =
+    (i ≤ length limits) × (end ≤ length line)
+    × (readAll i values dash (kindsFor (from i limits)) (left line end) ≡ readAll 0 (replicate 9 0) false (kindsFor limits) (left line at))
 
 abbrev μ-loop : tie.MeasureT-loop
 μ-loop line at limits values₀ dash₀ end₀ i₀ values dash end i = length limits - i
 
 loop-holds : tie.Need-loop-holds Inv-loop μ-loop
-loop-holds c = (search needs, search needs, ap (λ ks. readAll 0 (replicate 9 0) false (kindsFor ks) (left (c .before .before .args .line .now) (c .before .before .args .at))) (from-all _))
+loop-holds c =
+    let a = c .before .before .args in
+    (search needs, search needs, ap (λ ks. readAll 0 (replicate 9 0) false (kindsFor ks) (left (a .line .now) (a .at))) (from-all _))
 
 returns : tie.Need-returns Inv-loop μ-loop
 returns c =
@@ -45,8 +49,9 @@ enum-told c = search needs
 
 returns-2 : tie.Need-returns-2 Inv-loop μ-loop
 returns-2 c =
-    let l = c .before .before .before .before .before .before in
-    sym (read-bad _ _ _ _ _ _ (c .before .before .before .before .before .loop-test .taken) (omega arith) (sym (c .before .before .field-at .ensures) ∙ c .enum-told .given .1)) ∙ l .loop .inv .2
+    let t = c .before .before .before .before .before in
+    let e = sym (c .before .before .field-at .ensures) ∙ c .enum-told .given .1 in
+    sym (read-bad _ _ _ _ _ _ (t .loop-test .taken) (omega arith) e) ∙ t .before .loop .inv .2
 
 mul-values : tie.Need-mul-values Inv-loop μ-loop
 mul-values c = search needs
@@ -62,9 +67,10 @@ loop-less c = search needs
 
 loop-again : tie.Need-loop-again Inv-loop μ-loop
 loop-again c =
-    let l = c .before .before .before .before .before .before .before in
+    let t = c .before .before .before .before .before .before in
     let e = sym (c .before .before .before .field-at .ensures) ∙ c .before .value .given .1 in
-    (search needs, field-room _ _ _ _ _ _ (omega arith) e, sym (read-good _ _ _ _ _ _ (c .before .before .before .before .before .before .loop-test .taken) (omega arith) _ _ _ e) ∙ l .loop .inv .2)
+    let r = sym (read-good _ _ _ _ _ _ (t .loop-test .taken) (omega arith) _ _ _ e) ∙ t .before .loop .inv .2 in
+    (search needs, field-room _ _ _ _ _ _ (omega arith) e, r)
 
 returns-3 : tie.Need-returns-3 Inv-loop μ-loop
 returns-3 c =

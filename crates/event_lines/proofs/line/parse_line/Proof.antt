@@ -1,4 +1,4 @@
--- `parse_line` meets its contract. Assumes nothing.
+-- `parse_line` meets its contract: what was found of the line is its event by the grammar. Assumes nothing.
 use borrow.Author.Needs.{needs}
 use mathlib.Core.Path.{_≡_, sym, ap, _∙_}
 use native.Mathlib.Omega.{arith}
@@ -16,8 +16,8 @@ field-end-requires c κs = search needs
 slice-aggregate-word-of : tie.Need-slice-aggregate-word-of
 slice-aggregate-word-of c =
     let l = c .before .before .before .args .line .now in
-    let e = c .before .field-end .ensures in
-    sym (length-take-le (c .before .field-end .result) l (omega (arith, e, end-within l 0 (omega arith))))
+    let e = c .before .field-end in
+    sym (length-take-le (e .result) l (omega (arith, e .ensures, end-within l 0 (omega arith))))
 
 word-of-requires : tie.Need-word-of-requires
 word-of-requires c κs = search needs
@@ -41,7 +41,12 @@ read-fields-requires c κs =
     (omega (arith, c .before .before .before .before .before .field-end .ensures, end-within l 0 (omega arith)), omega (arith, q, f .ensures .1))
 
 returns : tie.Need-returns
-returns c = parse-unread _ _ _ _ _ (c .before .before .before .before .before .before .before .before .field-end .ensures) (c .before .before .before .before .before .before .word-of .ensures) (c .before .before .before .before .before .form-of .ensures .2) (c .before .before .read-fields .ensures) (not-true _ (c .if1 .taken))
+returns c =
+    let r = c .before .before in
+    let f = r .before .before .before in
+    let w = f .before in
+    let e = w .before .before in
+    parse-unread _ _ _ _ _ (e .field-end .ensures) (w .word-of .ensures) (f .form-of .ensures .2) (r .read-fields .ensures) (not-true _ (c .if1 .taken))
 
 array-read-held-of : tie.Need-array-read-held-of
 array-read-held-of c = search needs
@@ -54,9 +59,14 @@ event-of-requires c κs = search needs
 
 returns-2 : tie.Need-returns-2
 returns-2 c =
+    let i = c .before .before .before in
+    let r = i .before .before in
+    let f = r .before .before .before in
+    let w = f .before in
+    let e = w .before .before in
     c .event-of .ensures
-    ∙ parse-made _ _ _ _ _ (c .before .before .before .before .before .before .before .before .before .before .before .field-end .ensures) (c .before .before .before .before .before .before .before .before .before .word-of .ensures) (c .before .before .before .before .before .before .before .before .form-of .ensures .2) (c .before .before .before .before .before .read-fields .ensures) _
-    (not-false _ (c .before .before .before .if1 .left)) (c .before .held-of .ensures)
+    ∙ parse-made _ _ _ _ _ (e .field-end .ensures) (w .word-of .ensures) (f .form-of .ensures .2) (r .read-fields .ensures) _
+    (not-false _ (i .if1 .left)) (c .before .held-of .ensures)
 
 pub parse-line-spec : {M : Type 1} → statement M
 parse-line-spec =

@@ -30,27 +30,29 @@ ended-requires c κs = search needs
 
 returns : tie.Need-returns Inv-loop μ-loop
 returns c =
-    let l = c .before .before .before .before .before in
+    let t = c .before .before .before .before in
+    let l = t .before .loop in
     let w = c .before .before .wide .ensures in
-    c .ended .ensures ∙ sym (read-comma _ _ _ _ _ (c .before .before .before .before .loop-test .taken) w (c .before .if1 .taken) (l .loop .inv .2)) ∙ l .loop .inv .3
+    c .ended .ensures ∙ sym (read-comma _ _ _ _ _ (t .loop-test .taken) w (c .before .if1 .taken) (l .inv .2)) ∙ l .inv .3
 
 returns-2 : tie.Need-returns-2 Inv-loop μ-loop
 returns-2 c =
-    let l = c .before .before .before .before .before in
-    let w = c .before .before .wide .ensures in
-    sym (read-low _ _ _ _ _ (c .before .before .before .before .loop-test .taken) w (c .before .if1 .left) (c .if2 .taken)) ∙ l .loop .inv .3
+    let t = c .before .before .before .before in
+    let l = t .before .loop in
+    sym (read-low _ _ _ _ _ (t .loop-test .taken) (c .before .before .wide .ensures) (c .before .if1 .left) (c .if2 .taken)) ∙ l .inv .3
 
 returns-3 : tie.Need-returns-3 Inv-loop μ-loop
 returns-3 c =
-    let l = c .before .before .before .before .before .before in
-    let w = c .before .before .before .wide .ensures in
-    sym (read-high _ _ _ _ _ (c .before .before .before .before .before .loop-test .taken) w (c .if3 .taken)) ∙ l .loop .inv .3
+    let t = c .before .before .before .before .before in
+    let l = t .before .loop in
+    sym (read-high _ _ _ _ _ (t .loop-test .taken) (c .before .before .before .wide .ensures) (c .if3 .taken)) ∙ l .inv .3
 
 returns-4 : tie.Need-returns-4 Inv-loop μ-loop
 returns-4 c =
-    let l = c .before .before .before .before .before .before .before in
+    let t = c .before .before .before .before .before .before in
+    let l = t .before .loop in
     let w = c .before .before .before .before .wide .ensures in
-    sym (read-over _ _ _ _ _ (c .before .before .before .before .before .before .loop-test .taken) w (l .loop .inv .0) (c .before .before .if2 .left) (c .before .if3 .left) (omega arith)) ∙ l .loop .inv .3
+    sym (read-over _ _ _ _ _ (t .loop-test .taken) w (l .inv .0) (c .before .before .if2 .left) (c .before .if3 .left) (omega arith)) ∙ l .inv .3
 
 mul-tens : tie.Need-mul-tens Inv-loop μ-loop
 mul-tens c = search needs
@@ -60,9 +62,11 @@ sub-if5 c = search needs
 
 returns-5 : tie.Need-returns-5 Inv-loop μ-loop
 returns-5 c =
-    let l = c .before .before .before .before .before .before .before .before in
-    let w = c .before .before .before .before .before .wide .ensures in
-    sym (read-over _ _ _ _ _ (c .before .before .before .before .before .before .before .loop-test .taken) w (l .loop .inv .0) (c .before .before .before .if2 .left) (c .before .before .if3 .left) (omega arith)) ∙ l .loop .inv .3
+    let t = c .before .before .before .before .before .before .before in
+    let l = t .before .loop in
+    let s = c .before .before .before in
+    let w = s .before .before .wide .ensures in
+    sym (read-over _ _ _ _ _ (t .loop-test .taken) w (l .inv .0) (s .if2 .left) (c .before .before .if3 .left) (omega arith)) ∙ l .inv .3
 
 add-value : tie.Need-add-value Inv-loop μ-loop
 add-value c = search needs
@@ -75,9 +79,15 @@ loop-less c = search needs
 
 loop-again : tie.Need-loop-again Inv-loop μ-loop
 loop-again c =
-    let l = c .before .before .before .before .before .before .before .before in
-    let w = c .before .before .before .before .before .wide .ensures in
-    (search needs, search needs, search needs, sym (read-more _ _ _ _ _ (c .before .before .before .before .before .before .before .loop-test .taken) w (l .loop .inv .0) (c .before .before .before .if2 .left) (c .before .before .if3 .left)) ∙ l .loop .inv .3)
+    let t = c .before .before .before .before .before .before .before in
+    let l = t .before .loop in
+    let s = c .before .before .before in
+    let w = s .before .before .wide .ensures in (
+      search needs,
+      search needs,
+      search needs,
+      sym (read-more _ _ _ _ _ (t .loop-test .taken) w (l .inv .0) (s .if2 .left) (c .before .before .if3 .left)) ∙ l .inv .3,
+    )
 
 ended-requires-2 : tie.Need-ended-requires-2 Inv-loop μ-loop
 ended-requires-2 c κs = search needs
