@@ -1,18 +1,17 @@
 -- Laws of what was read against the grammar. Assumes nothing.
-use mathlib.Core.Path.{_≡_, refl, sym, ap, ap₂, _∙_}
+use mathlib.Core.Path.{_≡_, refl, sym, ap, _∙_}
 use mathlib.Core.Bool.{Bool, true, false, cond, _&&_, _||_}
 use mathlib.Core.List.{List, [], _∷_, _++_}
 use Prim.Native.Nat.{ℕ, zero, suc, _+_, _≤_, _<_}
 use native.Mathlib.Nat.{zero-add}
 use native.Mathlib.Decide.{decLt}
 use native.Mathlib.Omega.{arith}
-use borrow.Author.Tests.{not-true}
 use lib.Dec.{ltb}
 use lib.ListN.{length, getD, take, drop, set, replicate, List·getD-eq-default}
-use lib.Seq.{sets, sets-eq, getD-drop, drop-nil}
+use lib.Seq.{sets, sets-eq, getD-drop}
 use Rattle.blocks.specs.Lists.{over}
 use Rattle.blocks.proofs.Lists.{and-both, getD-over-in, getD-over-past}
-use Rattle.event_text.specs.Fields.{same, fieldsOf, firstField, fieldEnd, behind}
+use Rattle.event_text.specs.Fields.{same, fieldEnd, behind}
 use Rattle.event_text.specs.Numbers.{isNumber, decimal, value}
 use Rattle.event_text.proofs.Fields.{line-fields, line-first}
 use Rattle.stores.specs.declared.held.Held.{Held}
@@ -21,7 +20,7 @@ use Rattle.event_lines.specs.declared.event.Event.{Event}
 use Rattle.event_lines.specs.declared.fields.Fields.{Fields}
 use Rattle.event_lines.specs.Words.{wordOf}
 use Rattle.event_lines.specs.Grammar.{Kind, below, held, dash, isKind, areKinds, kindsOf, made, heldBy, num, eventBy, event, eventOf}
-use Rattle.event_lines.specs.Reading.{kindsFor, left, readAll}
+use Rattle.event_lines.specs.Reading.{left, readAll}
 use Rattle.event_lines.proofs.Reading.{number-no-dash}
 
 -- ---- what `readAll` leaves

@@ -6,14 +6,14 @@ use Prim.Native.Nat.{ℕ, suc, _+_, _-_, _^_, _≤_, _<_}
 use native.Mathlib.Numerals.{add-one}
 use native.Mathlib.Decide.{decLt}
 use native.Mathlib.Omega.{arith}
-use borrow.Author.Tests.{eq-eqb, ne-eqb, eqb-true, eqb-false, lt-ltb, le-ltb, ltb-true, ltb-false, not-true}
+use borrow.Author.Tests.{eq-eqb, ne-eqb, eqb-true, eqb-false, lt-ltb, le-ltb, ltb-true, ltb-false}
 use lib.Dec.{eqb, ltb}
 use lib.ListN.{length, take, drop, getD, set, replicate}
 use Rattle.blocks.specs.Lists.{all, tests, after}
-use Rattle.blocks.proofs.Lists.{and-both, not-passed}
+use Rattle.blocks.proofs.Lists.{not-passed}
 use Rattle.blocks.proofs.Scans.{from, from-step, from-none}
 use Rattle.event_text.specs.declared.number.NumberAt.{NumberAt}
-use Rattle.event_text.specs.Fields.{firstField, fieldEnd, behind, fieldsOf, same}
+use Rattle.event_text.specs.Fields.{firstField, fieldEnd, same}
 use Rattle.event_text.specs.Numbers.{isDigit, isNumber, value, decimal, numberAt}
 use Rattle.event_text.proofs.Fields.{field-at, fields-at, behind-comma, behind-end, end-within, same-true}
 use Rattle.event_text.proofs.Numbers.{number-ends, number-none}

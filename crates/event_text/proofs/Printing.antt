@@ -6,12 +6,12 @@ use Prim.Native.Nat.{ℕ, zero, suc, _+_, _*_, _-_, _/_, _%_, _^_, _≤_, _<_}
 use native.Mathlib.Nat.{add-zero, mod-eq-of-lt, pow-suc, div-lt-iff-lt-mul}
 use native.Mathlib.Omega.{arith}
 use borrow.Author.Tests.{lt-ltb, le-ltb, ltb-true, ltb-false, le-leb}
-use lib.Dec.{leb, ltb}
+use lib.Dec.{ltb}
 use lib.ListN.{length, getD, set, length-append, List·getD-append}
 use lib.Seq.{sets, set-comm}
 use Rattle.blocks.specs.Lists.{all, tests, after}
 use Rattle.blocks.proofs.Lists.{all-append}
-use Rattle.event_text.specs.declared.number.Number.the-variants.{Is, NoNumber}
+use Rattle.event_text.specs.declared.number.Number.the-variants.{Is}
 use Rattle.event_text.specs.Numbers.{isDigit, value, decimal, isNumber, numberOf, digits, digitsOf}
 
 -- ---- how many there are: `count` with the last, and those before it are of what is left

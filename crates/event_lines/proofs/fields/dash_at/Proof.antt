@@ -1,6 +1,6 @@
 -- `dash_at` meets its contract. Assumes nothing.
 use borrow.Author.Needs.{needs}
-use mathlib.Core.Path.{_≡_, sym, _∙_}
+use mathlib.Core.Path.{sym, _∙_}
 use native.Mathlib.Omega.{arith}
 use Rattle.event_text.proofs.Fields.{end-after, end-within}
 use Rattle.event_lines.proofs.Reading.{dash-limited, dash-is, dash-not}

@@ -1,6 +1,6 @@
 -- `field_at` meets its contract. Assumes nothing.
 use borrow.Author.Needs.{needs}
-use mathlib.Core.Path.{_≡_, sym, _∙_}
+use mathlib.Core.Path.{sym, _∙_}
 use Rattle.event_lines.proofs.Reading.{field-none, field-past, field-within}
 use Rattle.event_lines.proofs.fields.field_at.Statement.{statement}
 use Rattle.event_lines.proofs.fields.field_at.Tie as tie

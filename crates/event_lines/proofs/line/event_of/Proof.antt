@@ -1,6 +1,6 @@
 -- `event_of` meets its contract: each word makes its event. Assumes nothing.
 use borrow.Author.Needs.{needs}
-use mathlib.Core.Path.{_≡_, sym, ap, _∙_}
+use mathlib.Core.Path.{sym, ap, _∙_}
 use lib.ListN.{getD}
 use Rattle.event_lines.specs.Grammar.{made}
 use Rattle.event_lines.proofs.line.event_of.Statement.{statement}

@@ -1,6 +1,6 @@
 -- `form_of` meets its contract: the limits of each word are those of its kinds. Assumes nothing.
 use borrow.Author.Needs.{needs}
-use mathlib.Core.Path.{_≡_, refl, sym, ap}
+use mathlib.Core.Path.{refl, sym, ap}
 use native.Mathlib.Omega.{arith}
 use Rattle.event_lines.specs.Grammar.{kindsOf}
 use Rattle.event_lines.specs.Reading.{kindOf, kindsFor}

@@ -1,5 +1,4 @@
 -- `held_of` meets its contract. Assumes nothing.
-use borrow.Author.Needs.{needs}
 use Rattle.event_lines.specs.Grammar.{heldBy}
 use Rattle.event_lines.proofs.line.held_of.Statement.{statement}
 use Rattle.event_lines.proofs.line.held_of.Tie as tie

@@ -1,5 +1,4 @@
 -- `numbers` meets its contract. Assumes nothing.
-use borrow.Author.Needs.{needs}
 use mathlib.Core.Path.{refl}
 use Rattle.event_lines.specs.Reading.{numbersForm}
 use Rattle.event_lines.proofs.line.numbers.Statement.{statement}

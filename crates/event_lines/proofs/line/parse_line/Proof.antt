@@ -1,9 +1,8 @@
 -- `parse_line` meets its contract: what was found of the line is its event by the grammar. Assumes nothing.
 use borrow.Author.Needs.{needs}
-use mathlib.Core.Path.{_≡_, sym, ap, _∙_}
+use mathlib.Core.Path.{sym, _∙_}
 use native.Mathlib.Omega.{arith}
 use borrow.Author.Tests.{not-true, not-false}
-use lib.ListN.{length}
 use lib.Seq.{length-take-le}
 use Rattle.event_text.proofs.Fields.{end-within}
 use Rattle.event_lines.proofs.Grammar.{parse-unread, parse-made}

@@ -1,6 +1,6 @@
 -- `word_of` meets its contract: the first word that is the field decides. Assumes nothing.
 use borrow.Author.Needs.{needs}
-use mathlib.Core.Path.{_≡_, sym, _∙_}
+use mathlib.Core.Path.{sym, _∙_}
 use Rattle.event_lines.specs.Words.{wordOf}
 use Rattle.event_lines.proofs.words.word_of.Statement.{statement}
 use Rattle.event_lines.proofs.words.word_of.Tie as tie

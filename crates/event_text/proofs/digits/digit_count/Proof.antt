@@ -1,8 +1,7 @@
 -- `digit_count` meets its contract: those counted and those of what is left are all. Assumes nothing.
 use borrow.Author.Needs.{needs}
-use mathlib.Core.Path.{_≡_, sym, ap, _∙_}
+use mathlib.Core.Path.{_≡_}
 use Prim.Native.Nat.{_+_, _-_, _≤_}
-use native.Mathlib.Omega.{arith}
 use lib.ListN.{length}
 use Rattle.event_text.specs.Numbers.{digits, digitsOf}
 use Rattle.event_text.proofs.Printing.{count-start, count-last, count-more, count-full}

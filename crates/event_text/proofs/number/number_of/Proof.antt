@@ -1,6 +1,6 @@
 -- `number_of` meets its contract: a field that ends with s is all of s. Assumes nothing.
 use borrow.Author.Needs.{needs}
-use mathlib.Core.Path.{_≡_, sym, ap, _∙_}
+use mathlib.Core.Path.{sym, ap, _∙_}
 use borrow.Author.Tests.{eq-eqb, ne-eqb}
 use Rattle.event_text.proofs.Numbers.{wholeOf, number-whole}
 use Rattle.event_text.proofs.number.number_of.Statement.{statement}
