@@ -1,0 +1,3 @@
+pub mod Words
+pub mod Grammar
+pub mod Reading

@@ -1,0 +1,48 @@
+-- Numbers of a line: 1 to 20 digits, below 2^64. Leading zeros are digits.
+use Prim.Native.Nat.{ℕ, zero, suc, _+_, _*_, _-_, _/_, _%_, _^_}
+use mathlib.Core.Bool.{Bool, cond, _&&_}
+use mathlib.Core.List.{List, [], _∷_, _++_}
+use lib.Dec.{leb, ltb}
+use lib.ListN.{length, drop}
+use Rattle.blocks.specs.Lists.{all, tests}
+use Rattle.event_text.specs.declared.number.Number.{Number}
+use Rattle.event_text.specs.declared.number.Number.the-variants.{Is, NoNumber}
+use Rattle.event_text.specs.declared.number.NumberAt.{NumberAt}
+use Rattle.event_text.specs.declared.number.NumberAt.the-variants.{Ends, Malformed}
+use Rattle.event_text.specs.Fields.{firstField, fieldEnd}
+
+-- "0" to "9"
+unfoldable pub isDigit : ℕ → Bool
+isDigit b = leb 48 b && leb b 57
+
+-- the number that digits are when they follow those of v
+unfoldable pub value : ℕ → List ℕ → ℕ
+value v [] = v
+value v (b ∷ bs) = value (v * 10 + (b - 48)) bs
+
+-- the number that digits are
+unfoldable pub decimal : List ℕ → ℕ
+decimal s = value 0 s
+
+unfoldable pub isNumber : List ℕ → Bool
+isNumber s = tests (all isDigit s ∷ leb 1 (length s) ∷ leb (length s) 20 ∷ ltb (decimal s) (2 ^ 64) ∷ [])
+
+unfoldable pub numberOf : List ℕ → Number
+numberOf s = cond (isNumber s) (Is (decimal s)) NoNumber
+
+-- the number that the field from `at` on is, and where the field ends
+unfoldable pub numberAt : List ℕ → ℕ → NumberAt
+numberAt line at = cond (isNumber (firstField (drop at line))) (Ends (decimal (firstField (drop at line))) (fieldEnd line at)) Malformed
+
+-- v, if its digits stand from `at` to `end`
+unfoldable pub numberEnding : ℕ → ℕ → ℕ → NumberAt
+numberEnding v at end = cond (leb 1 (end - at) && leb (end - at) 20) (Ends v end) Malformed
+
+-- the digits of a number, at most k: its last digit behind those of what is left without it
+unfoldable pub digits : ℕ → ℕ → List ℕ
+digits zero n = []
+digits (suc k) n = cond (ltb n 10) ((48 + n) ∷ []) (digits k (n / 10) ++ ((48 + n % 10) ∷ []))
+
+-- a number below 2^64 has at most 20; there is no leading zero, and 0 is "0"
+unfoldable pub digitsOf : ℕ → List ℕ
+digitsOf n = digits 20 n

@@ -1,0 +1,13 @@
+// The text of the event program: numbers read and printed, and the fields of a line.
+mod digits;
+mod field;
+mod number;
+
+pub use digits::put_number;
+pub use digits::put_text;
+pub use field::field_end;
+pub use field::is_word;
+pub use number::Number;
+pub use number::NumberAt;
+pub use number::number_at;
+pub use number::number_of;

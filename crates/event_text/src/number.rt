@@ -1,0 +1,89 @@
+// Numbers read from a line, digit by digit.
+ghost use mathlib.Core.Path.{_≡_};
+ghost use Prim.Native.Nat.{_≤_};
+ghost use lib.ListN.{length};
+ghost use Rattle.event_text.specs.Numbers.{numberOf, numberAt, numberEnding};
+
+// The bytes that a number's field is read by.
+const COMMA: u64 = 44;
+
+const ZERO: u64 = 48;
+
+const NINE: u64 = 57;
+
+// The largest number that a digit may follow.
+const MOST: u64 = u64::MAX / 10;
+
+pub enum Number {
+    Is(u64),
+    NoNumber,
+}
+
+// The number that a field of a line is, and where the field ends.
+pub enum NumberAt {
+    Ends(u64, usize),
+    Malformed,
+}
+
+fn wide(byte: u8) -> u64
+    ensures { λ r. ⌜ r ≡ byte ⌝ }
+{
+    byte as u64
+}
+
+// A number whose digits stand from `at` to `end`: 1 to 20 of them.
+fn ended(value: u64, at: usize, end: usize) -> NumberAt
+    requires { ⌜ at ≤ end ⌝ }
+    ensures { λ r. ⌜ r ≡ numberEnding value at end ⌝ }
+{
+    let count = end - at;
+    if (1 <= count) & (count <= 20) {
+        return NumberAt::Ends(value, end);
+    }
+    NumberAt::Malformed
+}
+
+// The number that the field from `at` on is. One pass finds the digits, the overflow and the comma.
+pub fn number_at(line: &[u8], at: usize) -> NumberAt
+    requires { ⌜ at ≤ length (now line) ⌝ }
+    ensures { λ r. ⌜ r ≡ numberAt (now (line .entry)) at ⌝ }
+{
+    let mut value: u64 = 0;
+    let mut i = at;
+    while i < line.len() {
+        let byte = wide(line[i]);
+        if byte == COMMA {
+            return ended(value, at, i);
+        }
+        if byte < ZERO {
+            return NumberAt::Malformed;
+        }
+        if NINE < byte {
+            return NumberAt::Malformed;
+        }
+        if MOST < value {
+            return NumberAt::Malformed;
+        }
+        let digit = byte - ZERO;
+        let tens = value * 10;
+        if u64::MAX - tens < digit {
+            return NumberAt::Malformed;
+        }
+        value = tens + digit;
+        i += 1;
+    }
+    ended(value, at, i)
+}
+
+// The number that all of s is.
+pub fn number_of(s: &[u8]) -> Number
+    ensures { λ r. ⌜ r ≡ numberOf (now (s .entry)) ⌝ }
+{
+    let NumberAt::Ends(value, end) = number_at(s, 0) else {
+        return Number::NoNumber;
+    };
+    if end == s.len() {
+        return Number::Is(value);
+    }
+    Number::NoNumber
+}
