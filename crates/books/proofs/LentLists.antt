@@ -27,12 +27,12 @@ use Rattle.layout.specs.Reading.{modelOf}
 use Rattle.layout.specs.Writing.{after}
 use Rattle.layout.specs.Calls.{writtenBack, asked, inBuffer, takenOf, poppedOf, copyNumbers, viewNumbers, takeSpareCall, retireCall, noteWriteCall, noteMipRegenerationCall, popRetiredCall, parkCall, noteAllocatedCall, trimCall, forgetTextureCall, preservePlanCall, takeDoomedCall, drainVersionsCall}
 use Rattle.layout.proofs.Fits.{Fits}
-use Rattle.layout.proofs.FromPool.{are-places}
+use Rattle.layout.proofs.FromPool.{pool-fits, are-places}
 use Rattle.layout.proofs.FitsOpened.{opened-model, opened-fits}
 use Rattle.layout.proofs.ToPool.{fits-pool}
 use Rattle.layout.proofs.ReadBack.{read-back, after-fits}
 use Rattle.books.specs.Demand3.{Reply, answered, perform, performBetween, call, done, copiesPlanned, viewsHanded, spareReply, poppedReply as popReply, viewsReply as handedReply}
-use Rattle.books.specs.LentLists.{LentCall, lentTake, lentPlan, lentRetire, lentWrite, lentRegen, lentPop, lentPark, lentNote, lentDoomed, lentDrain, lentTrim, lentForget, roomOf, takenReply, poppedReply, copiesReply, viewsReply, said, filled, lentCall, openedLent, Demand3Lent}
+use Rattle.books.specs.LentLists.{LentCall, lentTake, lentPlan, lentRetire, lentWrite, lentRegen, lentPop, lentPark, lentNote, lentDoomed, lentDrain, lentTrim, lentForget, roomOf, takenReply, poppedReply, copiesReply, viewsReply, said, filled, lentCall, openedLent, Demand3Lent, EveryCallKeepsPool, OpenedIsPool}
 use Rattle.books.proofs.End.{demand3-of}
 use Rattle.books.proofs.Places.{SamePlaces, take-spare-places, preserve-plan-places, retire-places, note-write-places, note-mip-regeneration-places, pop-retired-places, park-places, note-allocated-places, take-doomed-places, drain-versions-places, trim-places, forget-texture-places}
 use Rattle.books.proofs.Answers.{copies-read, views-read}
@@ -140,3 +140,16 @@ demand3-lent working textures retiring doomed spares newest stamps sized cs list
     let l = openedLent working textures retiring doomed spares newest stamps in
     demand3-of roomOf lentCall Represents simulates (modelOf l .places) (are-places l sized) working l
     (opened-fits working textures retiring doomed spares newest stamps sized, opened-model working textures retiring doomed spares newest stamps) cs list
+
+-- ---- a pool stays a pool
+
+pub calls-keep-pool : EveryCallKeepsPool
+unfolding EveryCallKeepsPool
+calls-keep-pool l e c =
+    let f = pool-fits l e in
+    fits-pool (lentCall l c .1) (simulates l (modelOf l) c (f .formed) (f, refl) .1 .0)
+
+pub opened-is-pool : OpenedIsPool
+unfolding OpenedIsPool
+opened-is-pool working textures retiring doomed spares newest stamps sized =
+    fits-pool (openedLent working textures retiring doomed spares newest stamps) (opened-fits working textures retiring doomed spares newest stamps sized)

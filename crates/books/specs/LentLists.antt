@@ -21,7 +21,7 @@ use Rattle.stores.specs.declared.held.Held.the-variants.{Unknown}
 use Rattle.stores.specs.Model.{PreserveCopy, UploadFootprint}
 use Rattle.layout.specs.Lent.{Lent, lent}
 use Rattle.layout.specs.Reading.{modelOf}
-use Rattle.layout.specs.IsPool.{sizesFit}
+use Rattle.layout.specs.IsPool.{isPool, sizesFit}
 use Rattle.layout.specs.Calls.{openedPool, openedBook, Told, refusal as refusedWith, answer, TakenVersion, PoppedVersion, takeSpareCall, retireCall as retireLent, noteWriteCall, noteMipRegenerationCall, popRetiredCall, parkCall as parkLent, noteAllocatedCall, trimCall as trimLent, forgetTextureCall, preservePlanCall, takeDoomedCall, drainVersionsCall}
 use Rattle.books.specs.Lists.{writeCall, regenCall, popCall, parkCall, noteCall, doomedCall, drainCall, trimCall, forgetCall, Call, takeCall, planCall, retireCall, between, Renames, start}
 use Rattle.books.specs.Demand3.{Reply, refusal, done, spareTaken, copiesPlanned, versionPopped, viewsHanded, ThroughoutOf}
@@ -126,3 +126,13 @@ Demand3From l working =
 unfoldable pub Demand3Lent : Type 0
 Demand3Lent = (working : ℕ) (textures retiring doomed spares newest stamps : List ℕ)
     → Demand3From (openedLent working textures retiring doomed spares newest stamps) working
+
+-- ---- "No accepted call on a pool leaves anything else": nor does a refused one, which leaves the stores as they were
+
+unfoldable pub EveryCallKeepsPool : Type 0
+EveryCallKeepsPool = (l : Lent) → isPool l ≡ true → (c : LentCall) → isPool (lentCall l c .1) ≡ true
+
+unfoldable pub OpenedIsPool : Type 0
+OpenedIsPool = (working : ℕ) (textures retiring doomed spares newest stamps : List ℕ)
+    → sizesFit (openedLent working textures retiring doomed spares newest stamps) ≡ true
+    → isPool (openedLent working textures retiring doomed spares newest stamps) ≡ true
