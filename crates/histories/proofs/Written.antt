@@ -22,7 +22,7 @@ use Rattle.grids.proofs.Tilings.{tiling-ok, count-bound}
 use Rattle.grids.proofs.Stamps.{length-stamped}
 use Rattle.layout.specs.Reading.{pageAt}
 use Rattle.layout.specs.Writing.{pagesFrom}
-use Rattle.layout.proofs.Parts.{sets-self}
+use Rattle.layout.proofs.Rewritten.{sets-self}
 use Rattle.layout.proofs.Stamped.{length-pages}
 use Rattle.histories.specs.Written.{gridOn, newestStamp, newestWritten, pagesWritten}
 

@@ -26,7 +26,7 @@ use Rattle.layout.specs.Lent.{Lent}
 use Rattle.layout.specs.Reading.{trackedRecords, recordPages, modelOf}
 use Rattle.layout.specs.IsPool.{stateId}
 use Rattle.layout.specs.Writing.{gridsOf, newestOf, newestAfter, firstPage, pageBefore, pagesFrom, pagesAfter, stampsAfter}
-use Rattle.layout.proofs.Parts.{length-zeros, replicate-add, over-replicate, moved-self}
+use Rattle.layout.proofs.Rewritten.{length-zeros, replicate-add, over-replicate, moved-self}
 use Rattle.layout.proofs.Runs.{firstPageOf, stateOf, tracked-model, model-at}
 use Rattle.layout.proofs.Kept.{isHere, not-here, no-page, apart}
 use Rattle.layout.proofs.Places.{IsTracked, nowhere}

@@ -18,7 +18,8 @@ use Rattle.records.specs.Find.{idOf}
 use Rattle.layout.specs.Lent.{Lent}
 use Rattle.layout.specs.Reading.{trackedRecords, recordPages, modelOf}
 use Rattle.layout.specs.Writing.{gridsOf, newestOf, newestAfter, firstPage, pageBefore, pagesFrom, pagesAfter, stampsAfter}
-use Rattle.layout.proofs.Parts.{total-next, total-cut, flat-append, repacked}
+use Rattle.layout.proofs.Parts.{total-next, total-cut, flat-append}
+use Rattle.layout.proofs.Rewritten.{repacked}
 use Rattle.layout.proofs.Runs.{sparesOf, newestAt, firstPageOf, stateOf, tracked-records, tracked-model, pages-model, newest-states, take-states, drop-states}
 use Rattle.layout.proofs.Kept.{page-of, pages-before, pages-from}
 use Rattle.layout.proofs.Same.{listed-run}

@@ -20,7 +20,7 @@ use Rattle.records.specs.Texture.{readTexture}
 use Rattle.layout.specs.Lent.{Lent}
 use Rattle.layout.specs.Reading.{trackedRecords, recordedPages, pageAt, gridRead, historyRead, stateRead}
 use Rattle.layout.specs.Writing.{gridsOf, pageBefore, pagesFrom}
-use Rattle.layout.proofs.Parts.{sets-self, part-sets, sets-part}
+use Rattle.layout.proofs.Rewritten.{sets-self, part-sets, sets-part}
 use Rattle.layout.proofs.Runs.{firstSpare, firstPageOf, stateOf, pages-state}
 use Rattle.layout.proofs.Kept.{pages-of}
 use Rattle.layout.proofs.Same.{over-front}

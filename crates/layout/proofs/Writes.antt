@@ -24,7 +24,8 @@ use Rattle.records.specs.Find.{idOf}
 use Rattle.layout.specs.Lent.{Lent}
 use Rattle.layout.specs.Reading.{trackedRecords, recordPages, pageAt, modelOf, gridRead}
 use Rattle.layout.specs.Writing.{gridsOf, newestAfter, pagesFrom, stampsAfter}
-use Rattle.layout.proofs.Parts.{mixed, mixed-same, mixed-next, length-mixed, sets-self, set-sets, map-set, mixed-at, mixed-end}
+use Rattle.layout.proofs.Parts.{map-set}
+use Rattle.layout.proofs.Rewritten.{mixed, mixed-same, mixed-next, length-mixed, sets-self, set-sets, mixed-at, mixed-end}
 use Rattle.layout.proofs.Runs.{firstSpare, firstPageOf, stateOf, newest-state}
 use Rattle.layout.proofs.Same.{listed-run}
 use Rattle.layout.proofs.Pages.{pagesAt, pages-in}

@@ -24,7 +24,8 @@ use Rattle.records.specs.Texture.{readTexture}
 use Rattle.layout.specs.Lent.{Lent}
 use Rattle.layout.specs.Reading.{trackedRecords, recordPages, pageAt, gridRead, modelOf}
 use Rattle.layout.specs.Writing.{gridsOf, newestOf, newestAfter, firstPage, pageBefore, pagesFrom, pagesAfter, stampsAfter}
-use Rattle.layout.proofs.Parts.{map-set, moved-self, sets-self, set-sets}
+use Rattle.layout.proofs.Parts.{map-set}
+use Rattle.layout.proofs.Rewritten.{moved-self, sets-self, set-sets}
 use Rattle.layout.proofs.Runs.{firstSpare, firstPageOf, stateOf, newest-state, model-at}
 use Rattle.layout.proofs.Kept.{isHere, found-at}
 use Rattle.layout.proofs.Same.{listed-run}

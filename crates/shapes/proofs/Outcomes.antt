@@ -6,8 +6,8 @@ use lib.ListN.{getD}
 use borrow.Author.Tests.{eqb-false}
 use Rattle.shapes.specs.declared.shape.BytesAnswer.{BytesAnswer}
 use Rattle.shapes.specs.declared.shape.BytesAnswer.the-variants.{Bytes, NoShape}
-use Rattle.shapes.specs.declared.records.RecordsAnswer.{RecordsAnswer}
-use Rattle.shapes.specs.declared.records.RecordsAnswer.the-variants.{Records, Shapeless}
+use Rattle.shapes.specs.declared.recording.RecordsAnswer.{RecordsAnswer}
+use Rattle.shapes.specs.declared.recording.RecordsAnswer.the-variants.{Records, Shapeless}
 use Rattle.shapes.specs.Outcomes.{Outcome, ofBytes, ofRecords}
 
 -- equal outcomes agree in each field

@@ -4,8 +4,8 @@ use mathlib.Core.Bool.{cond}
 use mathlib.Core.List.{List, [], _∷_}
 use Rattle.shapes.specs.declared.shape.BytesAnswer.{BytesAnswer}
 use Rattle.shapes.specs.declared.shape.BytesAnswer.the-variants.{Bytes, NoShape}
-use Rattle.shapes.specs.declared.records.RecordsAnswer.{RecordsAnswer}
-use Rattle.shapes.specs.declared.records.RecordsAnswer.the-variants.{Records, Shapeless}
+use Rattle.shapes.specs.declared.recording.RecordsAnswer.{RecordsAnswer}
+use Rattle.shapes.specs.declared.recording.RecordsAnswer.the-variants.{Records, Shapeless}
 
 -- the number, and the answer's fields where it is 0
 pub record Outcome : Type 0 where

@@ -3,13 +3,13 @@
 // Functions for callers outside the pool have no `requires` and answer or refuse every input: `is_shape`, `same_shape`,
 // `slices`, `level_extent`, `level_depth`, `bytes` and `records_every_write`. `shape_bytes` is the pool's own.
 mod format;
-mod records;
+mod recording;
 mod shape;
 
 pub use format::block_bytes;
 pub use format::block_edge;
-pub use records::RecordsAnswer;
-pub use records::records_every_write;
+pub use recording::RecordsAnswer;
+pub use recording::records_every_write;
 pub use shape::BytesAnswer;
 pub use shape::VersionShape;
 pub use shape::bytes;

@@ -3,7 +3,7 @@ ghost use mathlib.Core.Path.{_≡_};
 ghost use Prim.Native.Nat.{_*_, _≤_};
 ghost use lib.ListN.{length};
 ghost use Rattle.texture_test.specs.Textures.{texturesFit};
-use crate::histories::histories_fit;
+use crate::history::histories_fit;
 use crate::record::ids_ascend;
 use crate::record::records_fit;
 use crate::runs::parked_bytes;

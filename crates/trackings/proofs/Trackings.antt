@@ -20,7 +20,7 @@ use Rattle.layout.specs.Lent.{Lent}
 use Rattle.layout.specs.Reading.{modelOf}
 use Rattle.layout.specs.Writing.{textureRecord, newestOf, newestAfter, firstPage, pagesFrom, pageBefore, pagesAfter, stampsAfter}
 use Rattle.layout.proofs.Fits.{Fits}
-use Rattle.layout.proofs.Parts.{length-zeros}
+use Rattle.layout.proofs.Rewritten.{length-zeros}
 use Rattle.layout.proofs.Runs.{firstPageOf}
 use Rattle.layout.proofs.Stays.{ids-ascend}
 use Rattle.layout.proofs.Pages.{page-bound, newest-repacked, stamps-repacked}

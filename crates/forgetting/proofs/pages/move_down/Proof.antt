@@ -4,7 +4,7 @@ use mathlib.Core.Path.{_≡_, sym, ap, _∙_}
 use Prim.Native.Nat.{ℕ, _+_}
 use native.Mathlib.Omega.{arith}
 use Rattle.blocks.specs.Blocks.{moved}
-use Rattle.layout.proofs.Parts.{moved-self}
+use Rattle.layout.proofs.Rewritten.{moved-self}
 use Rattle.forgetting.proofs.pages.move_down.Statement.{statement}
 use Rattle.forgetting.proofs.pages.move_down.Tie as tie
 

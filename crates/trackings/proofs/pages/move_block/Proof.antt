@@ -3,7 +3,7 @@ use mathlib.Core.Path.{_≡_, sym, ap, _∙_}
 use Prim.Native.Nat.{ℕ, _+_, _-_}
 use native.Mathlib.Omega.{arith}
 use Rattle.blocks.specs.Blocks.{moved}
-use Rattle.layout.proofs.Parts.{moved-self}
+use Rattle.layout.proofs.Rewritten.{moved-self}
 use borrow.Author.Needs.{needs}
 use Rattle.trackings.proofs.pages.move_block.Statement.{statement}
 use Rattle.trackings.proofs.pages.move_block.Tie as tie

@@ -14,8 +14,8 @@ use Rattle.texture_test.specs.Textures.{historyFits, historiesFit}
 use Rattle.texture_test.proofs.RecordTests.{textureAt, texture-read, read-shape}
 use Rattle.texture_test.proofs.HistoryTests.{histories-more, histories-stop, histories-done}
 use borrow.Author.Needs.{needs}
-use Rattle.texture_test.proofs.histories.histories_fit.Statement.{statement}
-use Rattle.texture_test.proofs.histories.histories_fit.Tie as tie
+use Rattle.texture_test.proofs.history.histories_fit.Statement.{statement}
+use Rattle.texture_test.proofs.history.histories_fit.Tie as tie
 
 abbrev Inv-loop : tie.InvT-loop
 Inv-loop textures n newest stamps page₀ i₀ page i =

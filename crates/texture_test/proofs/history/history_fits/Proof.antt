@@ -5,8 +5,8 @@ use Rattle.shapes.specs.Shapes.{isShape}
 use Rattle.records.specs.declared.texture.TextureRecord.{TextureRecord}
 use Rattle.texture_test.proofs.HistoryTests.{history-writes, history-none, pages-writes}
 use borrow.Author.Needs.{needs}
-use Rattle.texture_test.proofs.histories.history_fits.Statement.{statement}
-use Rattle.texture_test.proofs.histories.history_fits.Tie as tie
+use Rattle.texture_test.proofs.history.history_fits.Statement.{statement}
+use Rattle.texture_test.proofs.history.history_fits.Tie as tie
 
 read-texture-requires : tie.Need-read-texture-requires
 read-texture-requires c κs = search needs

@@ -7,8 +7,8 @@ use Rattle.grids.specs.Grids.{gridIn, tilingOf}
 use Rattle.layout.specs.IsPool.{isGrid}
 use Rattle.texture_test.proofs.HistoryTests.{grid-ready, grid-test, grid-ahead}
 use borrow.Author.Needs.{needs}
-use Rattle.texture_test.proofs.histories.grid_fits.Statement.{statement}
-use Rattle.texture_test.proofs.histories.grid_fits.Tie as tie
+use Rattle.texture_test.proofs.history.grid_fits.Statement.{statement}
+use Rattle.texture_test.proofs.history.grid_fits.Tie as tie
 
 mul-stamp : tie.Need-mul-stamp
 mul-stamp c = search needs

@@ -9,8 +9,8 @@ use Rattle.shapes.proofs.Shapes.{shape-bounds}
 use Rattle.layout.specs.IsPool.{isGrid}
 use Rattle.texture_test.specs.Textures.{gridAt, gridsFit}
 use borrow.Author.Needs.{needs}
-use Rattle.texture_test.proofs.histories.grids_fit.Statement.{statement}
-use Rattle.texture_test.proofs.histories.grids_fit.Tie as tie
+use Rattle.texture_test.proofs.history.grids_fit.Statement.{statement}
+use Rattle.texture_test.proofs.history.grids_fit.Tie as tie
 
 abbrev Inv-loop : tie.InvT-loop
 Inv-loop s writes newest stamps page n k₀ k = (k ≤ n) × (all (isGrid writes) (left (gridAt newest stamps s page) n k) ≡ all (isGrid writes) (listed (gridAt newest stamps s page) 0 n))

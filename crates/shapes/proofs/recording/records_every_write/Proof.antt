@@ -1,4 +1,4 @@
--- `shapes::records::records_every_write` meets its contract. By the shape; the tests are the definition's, in its order.
+-- `shapes::recording::records_every_write` meets its contract. By the shape; the tests are the definition's, in its order.
 use borrow.Author.Needs.{needs}
 use mathlib.Core.Path.{sym, _∙_}
 use borrow.Author.Tests.{not-true, not-false}
@@ -6,8 +6,8 @@ use Rattle.blocks.specs.Lists.{after, tests}
 use Rattle.shapes.specs.Outcomes.{ofRecords}
 use Rattle.shapes.specs.Shapes.{recordsEveryWrite}
 use Rattle.shapes.proofs.Answers.{records-refused, records-accepted}
-use Rattle.shapes.proofs.records.records_every_write.Statement.{statement}
-use Rattle.shapes.proofs.records.records_every_write.Tie as tie
+use Rattle.shapes.proofs.recording.records_every_write.Statement.{statement}
+use Rattle.shapes.proofs.recording.records_every_write.Tie as tie
 
 is-shape-requires : tie.Need-is-shape-requires
 is-shape-requires c κs = search needs

@@ -1,0 +1,203 @@
+-- Part of a list of numbers written anew: a block replaced, a run set, a list made anew element by element. Assumes nothing.
+use mathlib.Core.Path.{_≡_, refl, sym, ap, ap₂, _∙_}
+use mathlib.Core.List.{List, [], _∷_, _++_, append-assoc, append-nil}
+use Prim.Native.Nat.{ℕ, zero, suc, _+_, _-_, _≤_, _<_}
+use native.Mathlib.Nat.{add-zero, zero-add, suc-add, add-assoc}
+use native.Mathlib.Omega.{arith}
+use lib.ListN.{length, take, drop, getD, set, replicate, length-replicate, length-append, length-drop, length-set, take-append-drop}
+use lib.Seq.{sets, sets-eq, take-add, take-take, take-append-le, take-append-add, take-at, take-all, drop-at, drop-drop, drop-append-le, drop-append-add, length-take-le, set-append-left, take-suc, drop-cons, drop-nil, getD-at, set-at, set-getD, append-snoc}
+use Rattle.blocks.specs.Lists.{over}
+use Rattle.blocks.specs.Blocks.{moved}
+use Rattle.blocks.proofs.Lists.{over-self, over-over, length-over, take-over}
+
+-- ---- packed in one list of numbers
+
+-- the block between a and b replaced by y, and b moved behind it
+pub repacked : (s y : List ℕ) (a b r : ℕ) → a ≤ b → b + r ≤ length s → a + length y + r ≤ length s
+    → sets (moved s (a + length y) b r) a y ≡ over (take a s ++ (y ++ take r (drop b s))) s
+unfolding moved over
+repacked s y a b r h k room =
+    let n = length y in
+    let z = drop (a + n + r) s in
+    let m = take r (drop b s) in
+    let front = take (a + n) s in
+    let lf : length front ≡ a + n = length-take-le (a + n) s (omega arith) in
+    let lm : length m ≡ r = length-take-le r (drop b s) (omega (arith, length-drop b s)) in
+    let la : length (take a s) ≡ a = length-take-le a s (omega arith) in
+    let form : front ++ m ++ z ≡ front ++ (m ++ z) = append-assoc front m z in
+    let long : length (front ++ (m ++ z)) ≡ length s =
+    length-append front (m ++ z) ∙ ap (λ (i : ℕ). length front + i) (length-append m z)
+    ∙ (let e : length front + (length m + length z) ≡ length s = omega (arith, length-drop (a + n + r) s) in e) in
+    let whole : length (take a s ++ (y ++ m)) ≡ a + n + r =
+    length-append (take a s) (y ++ m) ∙ ap (λ (i : ℕ). length (take a s) + i) (length-append y m)
+    ∙ (let e : length (take a s) + (length y + length m) ≡ a + n + r = omega arith in e) in
+    ap (λ (l : List ℕ). sets l a y) form
+    ∙ sets-eq y (front ++ (m ++ z)) a (omega arith)
+    ∙ ap₂ (λ (l q : List ℕ). l ++ y ++ q)
+    (take-append-le a front (m ++ z) (omega arith) ∙ take-take a (a + n) s (omega arith))
+    (drop-at front (m ++ z) (a + n) lf)
+    ∙ (let e : (take a s ++ y) ++ (m ++ z) ≡ (take a s ++ (y ++ m)) ++ z = simp append-assoc in e)
+    ∙ ap (λ (i : ℕ). (take a s ++ (y ++ m)) ++ drop i s) (sym whole)
+
+-- moved to where it stands
+pub moved-self : (s : List ℕ) (at n : ℕ) → moved s at at n ≡ s
+unfolding moved
+moved-self s at n =
+    append-assoc (take at s) (take n (drop at s)) (drop (at + n) s)
+    ∙ ap (λ (l : List ℕ). take at s ++ (take n (drop at s) ++ l)) (sym (drop-drop n at s))
+    ∙ ap (λ (l : List ℕ). take at s ++ l) (take-append-drop n (drop at s))
+    ∙ take-append-drop at s
+
+drop-within : (x s : List ℕ) (a : ℕ) → a ≤ length x → drop a (over x s) ≡ drop a x ++ drop (length x) s
+unfolding over
+drop-within x s a q = drop-append-le a x (drop (length x) s) q
+
+-- in two moves: the block taken out, and then y put in
+pub repacked-twice : (s y : List ℕ) (a n r : ℕ) → a + n + r ≤ length s → a + length y + r ≤ length s
+    → sets (moved (moved s a (a + n) r) (a + length y) a r) a y ≡ sets (moved s (a + length y) (a + n) r) a y
+repacked-twice s y a n r h room =
+    let b = take r (drop (a + n) s) in
+    let x = take a s ++ b in
+    let la : length (take a s) ≡ a = length-take-le a s (omega arith) in
+    let lb : length b ≡ r = length-take-le r (drop (a + n) s) (omega (arith, length-drop (a + n) s)) in
+    let lx : length x ≡ a + r = length-append (take a s) b ∙ ap₂ (λ (i j : ℕ). i + j) la lb in
+    let one : moved s a (a + n) r ≡ over x s =
+    ap (λ (k : ℕ). moved s k (a + n) r) (sym (add-zero a)) ∙ repacked s [] a (a + n) r (omega arith) h (omega arith) in
+    let long : length (over x s) ≡ length s = length-over x s (omega arith) in
+    let front : take a (over x s) ≡ take a s = take-over x s a (omega arith) ∙ take-at (take a s) b a la in
+    let back : take r (drop a (over x s)) ≡ b =
+    take-drop-over x s a r (omega arith) ∙ ap (take r) (drop-at (take a s) b a la) ∙ take-all r b (omega arith) in
+    ap (λ (q : List ℕ). sets (moved q (a + length y) a r) a y) one
+    ∙ repacked (over x s) y a a r (omega arith) (omega arith) (omega arith)
+    ∙ ap₂ (λ (p q : List ℕ). over (p ++ (y ++ q)) (over x s)) front back
+    ∙ over-over x (take a s ++ (y ++ b)) s (omega (arith, lx, la, lb, length-append (take a s) (y ++ b), length-append y b))
+    ∙ sym (repacked s y a (a + n) r (omega arith) h room)
+  where
+    -- within what is laid over
+    take-drop-over : (x s : List ℕ) (a r : ℕ) → a + r ≤ length x → take r (drop a (over x s)) ≡ take r (drop a x)
+    take-drop-over x s a r q =
+        ap (take r) (drop-within x s a (omega arith)) ∙ take-append-le r (drop a x) (drop (length x) s) (omega (arith, length-drop a x))
+
+-- ---- runs of one number
+
+pub length-zeros : (n : ℕ) → length (replicate {A = ℕ} n 0) ≡ n
+length-zeros n = length-replicate n 0
+
+pub replicate-add {ℓ} : {A : Type ℓ} (a b : ℕ) (x : A) → replicate (a + b) x ≡ replicate a x ++ replicate b x
+replicate-add zero b x = ap (λ (n : ℕ). replicate n x) (zero-add b)
+replicate-add {A = A} (suc a) b x = ap (λ (n : ℕ). replicate n x) (suc-add a b) ∙ ap (λ (l : List A). x ∷ l) (replicate-add a b x)
+
+-- the same number laid over a longer run
+pub over-replicate {ℓ} : {A : Type ℓ} (n m : ℕ) (x : A) → n ≤ m → over (replicate n x) (replicate m x) ≡ replicate m x
+over-replicate n m x h =
+    over-self (replicate n x) (replicate m x) (replicate (m - n) x)
+    (ap (λ (k : ℕ). replicate k x) (let e : m ≡ n + (m - n) = omega arith in e) ∙ replicate-add n (m - n) x)
+
+-- ---- a run written anew
+
+pub set-append-add {ℓ} : {A : Type ℓ} (xs ys : List A) (k : ℕ) (a : A) → set (xs ++ ys) (length xs + k) a ≡ xs ++ set ys k a
+set-append-add [] ys k a = ap (λ (n : ℕ). set ys n a) (zero-add k)
+set-append-add {A = A} (x ∷ xs) ys k a =
+    ap (λ (n : ℕ). set (x ∷ (xs ++ ys)) n a) (suc-add (length xs) k) ∙ ap (λ (l : List A). x ∷ l) (set-append-add xs ys k a)
+
+module _ {A : Type 0} (s : List A) (at : ℕ) where
+  -- what stands there
+  pub sets-self : (n : ℕ) → at + n ≤ length s → sets s at (take n (drop at s)) ≡ s
+  sets-self n h =
+      let l : length (take n (drop at s)) ≡ n = length-take-le n (drop at s) (omega (arith, length-drop at s)) in
+      sets-eq (take n (drop at s)) s at (omega arith)
+      ∙ ap₂ (λ (q : List A) (m : ℕ). q ++ drop (at + m) s) (sym (take-add at n s)) l
+      ∙ take-append-drop (at + n) s
+
+  module _ (ys : List A) (fits : at + length ys ≤ length s) where
+    long-front : length (take at s) ≡ at
+    long-front = length-take-le at s (omega arith)
+
+    -- one element of the run
+    pub set-sets : (k : ℕ) (a : A) → k < length ys → set (sets s at ys) (at + k) a ≡ sets s at (set ys k a)
+    set-sets k a h =
+        let f = long-front in
+        let rest = drop (at + length ys) s in
+        ap (λ (q : List A). set q (at + k) a) (sets-eq ys s at fits)
+        ∙ set-append-left (take at s ++ ys) rest (at + k) a (omega (arith, length-append (take at s) ys))
+        ∙ ap (λ (q : List A). q ++ rest) (ap (λ (n : ℕ). set (take at s ++ ys) (n + k) a) (sym f) ∙ set-append-add (take at s) ys k a)
+        ∙ ap (λ (n : ℕ). take at s ++ set ys k a ++ drop (at + n) s) (sym (length-set ys k a))
+        ∙ sym (sets-eq (set ys k a) s at (omega (arith, length-set ys k a)))
+
+    take-sets : (m : ℕ) → m ≤ length ys → take (at + m) (sets s at ys) ≡ take at s ++ take m ys
+    take-sets m h =
+        let f = long-front in
+        let rest = drop (at + length ys) s in
+        ap₂ (λ (n : ℕ) (q : List A). take (n + m) q) (sym f) (sets-eq ys s at fits ∙ append-assoc (take at s) ys rest)
+        ∙ take-append-add (take at s) (ys ++ rest) m
+        ∙ ap (λ (q : List A). take at s ++ q) (take-append-le m ys rest h)
+
+    drop-sets : (m : ℕ) → m ≤ length ys → drop (at + m) (sets s at ys) ≡ drop m ys ++ drop (at + length ys) s
+    drop-sets m h =
+        let f = long-front in
+        let rest = drop (at + length ys) s in
+        ap₂ (λ (n : ℕ) (q : List A). drop (n + m) q) (sym f) (sets-eq ys s at fits ∙ append-assoc (take at s) ys rest)
+        ∙ drop-append-add (take at s) (ys ++ rest) m
+        ∙ drop-append-le m ys rest h
+
+    -- the w elements from m on in the run
+    pub part-sets : (m w : ℕ) → m + w ≤ length ys → take w (drop (at + m) (sets s at ys)) ≡ take w (drop m ys)
+    part-sets m w h =
+        ap (take w) (drop-sets m (omega arith)) ∙ take-append-le w (drop m ys) (drop (at + length ys) s) (omega (arith, length-drop m ys))
+
+    pub sets-part : (x : List A) (m w : ℕ) → length x ≡ w → m + w ≤ length ys
+        → take (at + m) (sets s at ys) ++ (x ++ drop (at + m + w) (sets s at ys)) ≡ sets s at (take m ys ++ (x ++ drop (m + w) ys))
+    sets-part x m w lx h =
+        let new = take m ys ++ (x ++ drop (m + w) ys) in
+        let rest = drop (at + length ys) s in
+        let lm : length (take m ys) ≡ m = length-take-le m ys (omega arith) in
+        let long : length new ≡ length ys =
+        length-append (take m ys) (x ++ drop (m + w) ys) ∙ ap (λ (n : ℕ). length (take m ys) + n) (length-append x (drop (m + w) ys))
+        ∙ (let q : length (take m ys) + (length x + length (drop (m + w) ys)) ≡ length ys = omega (arith, length-drop (m + w) ys) in q) in
+        ap₂ (λ (p q : List A). p ++ (x ++ q)) (take-sets m (omega arith))
+        (ap (λ (n : ℕ). drop n (sets s at ys)) (add-assoc at m w) ∙ drop-sets (m + w) h)
+        ∙ (let e : (take at s ++ take m ys) ++ (x ++ (drop (m + w) ys ++ rest)) ≡ take at s ++ new ++ rest = simp append-assoc in e)
+        ∙ ap (λ (n : ℕ). take at s ++ new ++ drop (at + n) s) (sym long)
+        ∙ sym (sets-eq new s at (omega arith))
+
+-- ---- a list made anew element by element: the first k are new
+
+abbrev pub mixed {ℓ} : {A : Type ℓ} → ℕ → List A → List A → List A
+mixed k new old = take k new ++ drop k old
+
+module _ {A : Type 0} (new old : List A) (long : length new ≡ length old) where
+  pub mixed-start : mixed 0 new old ≡ old
+  mixed-start = refl
+
+  pub mixed-end : (k : ℕ) → length old ≤ k → mixed k new old ≡ new
+  mixed-end k h = ap₂ (λ (a b : List A). a ++ b) (take-all k new (omega arith)) (drop-all k old h) ∙ append-nil new
+    where
+      drop-all : (k : ℕ) (xs : List A) → length xs ≤ k → drop k xs ≡ []
+      drop-all k [] q = drop-nil k
+      drop-all zero (x ∷ xs) q = absurd (let y : ⊥ = omega arith in y)
+      drop-all (suc k) (x ∷ xs) q = drop-all k xs (omega arith)
+
+  module _ (k : ℕ) (d : A) (h : k < length old) where
+    front : length (take k new) ≡ k
+    front = length-take-le k new (omega arith)
+
+    -- the next is still the old one
+    pub mixed-at : getD (mixed k new old) k d ≡ getD old k d
+    mixed-at =
+        ap (λ (l : List A). getD (take k new ++ l) k d) (drop-cons old k d h) ∙ getD-at (take k new) (getD old k d) (drop (suc k) old) d k front
+
+    pub mixed-next : mixed (suc k) new old ≡ set (mixed k new old) k (getD new k d)
+    mixed-next =
+        ap (λ (l : List A). l ++ drop (suc k) old) (take-suc new k d (omega arith))
+        ∙ append-snoc (take k new) (getD new k d) (drop (suc k) old)
+        ∙ sym (ap (λ (l : List A). set (take k new ++ l) k (getD new k d)) (drop-cons old k d h)
+        ∙ set-at (take k new) (getD old k d) (drop (suc k) old) (getD new k d) k front)
+
+    -- one that does not change
+    pub mixed-same : getD new k d ≡ getD old k d → mixed (suc k) new old ≡ mixed k new old
+    mixed-same e = mixed-next ∙ ap (set (mixed k new old) k) (e ∙ sym mixed-at) ∙ set-getD (mixed k new old) k d
+
+  pub length-mixed : (k : ℕ) → k ≤ length old → length (mixed k new old) ≡ length old
+  length-mixed k h =
+      length-append (take k new) (drop k old)
+      ∙ (let e : length (take k new) + length (drop k old) ≡ length old = omega (arith, length-take-le k new (omega arith), length-drop k old) in e)
