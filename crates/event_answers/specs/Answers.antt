@@ -1,0 +1,45 @@
+-- What an answer says, with the answer buffers: the reply of a call, or none where no call was made.
+use Prim.Native.Nat.{ℕ, _*_, _≤_}
+use mathlib.Core.Option.{Option, none, some}
+use mathlib.Core.List.{List}
+use lib.ListN.{length}
+use Rattle.stores.specs.declared.held.Held.the-variants.{Unknown}
+use Rattle.books.specs.Demand3.{Reply, refusal, done, spareTaken, versionPopped}
+use Rattle.books.specs.LentLists.{copiesReply, viewsReply}
+use Rattle.event_answers.specs.declared.answer.Answer.{Answer}
+use Rattle.event_answers.specs.declared.answer.Answer.the-variants.{Question, Refused, Done, Spare, NoSpare, Version, NothingSettled, Views, Copies}
+
+unfoldable pub replyOf : Answer → List ℕ → List ℕ → Option Reply
+replyOf Question copies views = none
+replyOf (Refused n) copies views = some (refusal n)
+replyOf Done copies views = some done
+replyOf (Spare view held) copies views = some (spareTaken (some view) held)
+replyOf NoSpare copies views = some (spareTaken none Unknown)
+replyOf (Version id view) copies views = some (versionPopped (some (id, view)))
+replyOf NothingSettled copies views = some (versionPopped none)
+replyOf (Views n) copies views = some (viewsReply n views)
+replyOf (Copies n) copies views = some (copiesReply n copies)
+
+-- how many entries of a buffer the answer has
+unfoldable pub entries : Answer → ℕ
+entries Question = 0
+entries (Refused n) = 0
+entries Done = 0
+entries (Spare view held) = 0
+entries NoSpare = 0
+entries (Version id view) = 0
+entries NothingSettled = 0
+entries (Views n) = n
+entries (Copies n) = n
+
+-- they stand in the buffer
+unfoldable pub InBuffers : Answer → List ℕ → List ℕ → Type 0
+InBuffers Question copies views = Unit {0}
+InBuffers (Refused n) copies views = Unit {0}
+InBuffers Done copies views = Unit {0}
+InBuffers (Spare view held) copies views = Unit {0}
+InBuffers NoSpare copies views = Unit {0}
+InBuffers (Version id view) copies views = Unit {0}
+InBuffers NothingSettled copies views = Unit {0}
+InBuffers (Views n) copies views = n ≤ length views
+InBuffers (Copies n) copies views = 7 * n ≤ length copies

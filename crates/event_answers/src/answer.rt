@@ -1,0 +1,20 @@
+// What a line is answered with.
+use stores::Held;
+
+// Views and copies stand in the answer buffers: so many view numbers, and so many copies of seven numbers each.
+pub enum Answer {
+    // No call was made.
+    Question,
+    // 01's number of a refusal.
+    Refused(u64),
+    // Accepted, with nothing but the outcome to say.
+    Done,
+    // A spare: its view number and its held writes.
+    Spare(u64, Held),
+    NoSpare,
+    // A popped version: its id and its view number.
+    Version(u64, u64),
+    NothingSettled,
+    Views(usize),
+    Copies(usize),
+}

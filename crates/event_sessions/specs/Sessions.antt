@@ -1,0 +1,91 @@
+-- What a line does (01, "Upload rectangle, event program"): the call that its event asks for, on the pool as the lines before left it.
+use Prim.Native.Nat.{ℕ}
+use mathlib.Core.Path.{_≡_}
+use mathlib.Core.Bool.{Bool, true, false, cond}
+use mathlib.Core.Option.{Option, none, some}
+use mathlib.Core.List.{List}
+use lib.ListN.{replicate}
+use Rattle.shapes.specs.declared.shape.VersionShape.{VersionShape}
+use Rattle.stores.specs.Model.{UploadFootprint}
+use Rattle.layout.specs.Lent.{Lent, lent}
+use Rattle.layout.specs.IsPool.{isPool, sizesFit}
+use Rattle.books.specs.Demand3.{Reply, refusal, done}
+use Rattle.books.specs.LentLists.{LentCall, lentCall, lentTake, lentPlan, lentRetire, lentWrite, lentRegen, lentPop, lentPark, lentNote, lentDoomed, lentDrain, lentTrim, lentForget, openedLent}
+use Rattle.event_lines.specs.declared.event.Event.{Event}
+use Rattle.event_sessions.specs.declared.session.Session.{Session}
+
+-- ---- between two lines
+
+pub record State : Type 0 where
+  -- an `open` was accepted
+  pub opened : Bool
+  -- a take line came after it
+  pub taken : Bool
+  -- the latest take line's shape
+  pub shape : VersionShape
+  -- the pool and the lent stores
+  pub lent : Lent
+
+abbrev pub stateOf : Session → List ℕ → List ℕ → List ℕ → List ℕ → List ℕ → List ℕ → State
+stateOf s textures retiring doomed spares newest stamps = record {
+  opened = s .opened;
+  taken = s .taken;
+  shape = s .shape;
+  lent = lent (s .pool) (s .book) textures retiring doomed spares newest stamps;
+}
+
+-- once opened, the stores form a pool
+abbrev pub HoldsPool : State → Type 0
+HoldsPool s = s .opened ≡ true → isPool (s .lent) ≡ true
+
+-- ---- an event
+
+-- a call's reply, and the state with the stores as the call left them
+abbrev pub called : State → LentCall → Option Reply × State
+called s c =
+    (some (lentCall (s .lent) c .0), record { opened = s .opened; taken = s .taken; shape = s .shape; lent = lentCall (s .lent) c .1 })
+
+-- no call is made, and the outcome is "?"
+abbrev pub notCalled : State → Option Reply × State
+notCalled s = (none, s)
+
+abbrev pub takeLine : State → VersionShape → State
+takeLine s shape = record { opened = s .opened; taken = true; shape = shape; lent = s .lent }
+
+abbrev pub openedState : State → ℕ → State
+openedState s working =
+    let l = s .lent in
+    record {
+      opened = true;
+      taken = s .taken;
+      shape = s .shape;
+      lent = openedLent working (l .textures) (l .retiring) (l .doomed) (l .spares) (l .newest) (l .stamps);
+    }
+
+-- lent memory that is too small or too large for a pool is refused with 1
+unfoldable pub opens : State → ℕ → Option Reply × State
+opens s working = cond (sizesFit (s .lent)) (some done, openedState s working) (some (refusal 1), s)
+
+-- a call before `open` is none
+abbrev pub ifOpened : State → Option Reply × State → Option Reply × State
+ifOpened s r = cond (s .opened) r (notCalled s)
+
+-- Answer buffers of so many numbers for copies and for views. What they hold before a call does not show in its reply (law `any-buffer`),
+-- so they are all 0 here.
+unfoldable pub step : ℕ → ℕ → State → Event → Option Reply × State
+step copies views s (Event.Open working) = cond (s .opened) (notCalled s) (opens s working)
+step copies views s (Event.Take id shape records seq) = ifOpened s (called (takeLine s shape) (lentTake id shape records seq))
+step copies views s (Event.Plan id held slice level cover) =
+    let upload : UploadFootprint = record { slice = slice; level = level; cover = cover } in
+    ifOpened s (cond (s .taken) (called s (lentPlan id (s .shape) held upload (replicate copies 0))) (notCalled s))
+step copies views s (Event.Retire id view seq) = ifOpened s (called s (lentRetire id view seq))
+step copies views s (Event.Write id slice level rect) = ifOpened s (called s (lentWrite id slice level rect))
+step copies views s (Event.Regen id) = ifOpened s (called s (lentRegen id))
+step copies views s (Event.Pop settled) = ifOpened s (called s (lentPop settled))
+step copies views s (Event.Park failed now) = ifOpened s (called s (lentPark failed now))
+step copies views s (Event.Note allocated) = ifOpened s (called s (lentNote allocated))
+step copies views s Event.Doomed = ifOpened s (called s (lentDoomed (replicate views 0)))
+step copies views s Event.Drain = ifOpened s (called s (lentDrain (replicate views 0)))
+step copies views s (Event.Trim now) = ifOpened s (called s (lentTrim now))
+step copies views s (Event.Forget id) = ifOpened s (called s (lentForget id))
+step copies views s Event.Unread = notCalled s
