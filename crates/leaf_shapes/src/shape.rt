@@ -99,7 +99,7 @@ pub fn shape_records(fields: &[u8]) -> Answer
     if !((n.count == 7) & are_shape_fields(v)) {
         return Answer::Malformed;
     }
-    match shapes::recording_every_write(shape_of(v), v[6]) {
+    match shapes::records_every_write(shape_of(v), v[6]) {
         RecordsAnswer::Records(records) => yes_or_no(records),
         RecordsAnswer::Shapeless => Answer::Numbers(REFUSED, Rest::End),
     }
