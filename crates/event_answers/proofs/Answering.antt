@@ -1,5 +1,5 @@
 -- Each answer's lines, as they are put. Assumes nothing.
-use mathlib.Core.Path.{_≡_, refl, sym, ap, ap₂, _∙_}
+use mathlib.Core.Path.{_≡_, sym, ap, subst}
 use mathlib.Core.List.{List, [], _∷_, _++_, flatMap}
 use Prim.Native.Nat.{ℕ, _+_, _*_, _-_, _≤_}
 use native.Mathlib.Omega.{arith}
@@ -15,7 +15,7 @@ use Rattle.books.specs.LentLists.{readCopy}
 use Rattle.event_text.specs.Numbers.{digitsOf}
 use Rattle.event_answers.specs.declared.answer.Answer.{Answer}
 use Rattle.event_answers.specs.declared.answer.Answer.the-variants.{Question, Refused, Done, Spare, NoSpare, Version, NothingSettled, Views, Copies}
-use Rattle.event_answers.specs.Answers.{replyOf}
+use Rattle.event_answers.specs.Answers.{replyOf, entries, InBuffers}
 use Rattle.event_answers.specs.Printed.{question, dash, accepted, row, acceptedRow, optional, heldField, regionFields, copyRow, viewRow, replyRows, printed}
 use Rattle.event_answers.specs.Put.{Put, fieldsEnded}
 use Rattle.event_answers.proofs.Puts.{put-as, put-then, row-ended, put-row, put-field, put-accepted}
@@ -112,3 +112,13 @@ pub show-unknown : {a b c d : List ℕ} {i j k l : ℕ} (n view : ℕ) → Put a
     → Put c k (44 ∷ 45 ∷ 10 ∷ []) l d → Put a i (acceptedRow n (digitsOf view ∷ dash ∷ [])) l d
 unfolding fieldsEnded
 show-unknown n view p q r = put-accepted n (digitsOf view ∷ dash ∷ []) p (put-field (digitsOf view) (dash ∷ []) q r)
+
+-- the entries of views and copies
+module _ {answer : Answer} (m : ℕ) (copies views : List ℕ) where
+  pub views-fit : answer ≡ Views m → InBuffers answer copies views → (entries answer ≡ m) × (m ≤ length views)
+  unfolding entries InBuffers
+  views-fit e h = (ap entries e, subst (λ (x : Answer). InBuffers x copies views) e h)
+
+  pub copies-fit : answer ≡ Copies m → InBuffers answer copies views → (entries answer ≡ m) × (7 * m ≤ length copies)
+  unfolding entries InBuffers
+  copies-fit e h = (ap entries e, subst (λ (x : Answer). InBuffers x copies views) e h)

@@ -33,7 +33,14 @@ fn put_spare(out: &mut [u8], at: usize, number: u64, view: u64, held: Held) -> u
 }
 
 // Puts the lines from `at` on, and answers where they end.
-pub fn put_answer(out: &mut [u8], at: usize, number: u64, answer: Answer, copies: &[u64], views: &[u64]) -> usize
+pub fn put_answer(
+    out: &mut [u8],
+    at: usize,
+    number: u64,
+    answer: Answer,
+    copies: &[u64],
+    views: &[u64],
+) -> usize
     requires { ⌜ (at + mostBytes (entries answer) ≤ length (now out)) × InBuffers answer (now copies) (now views) ⌝ }
     ensures { λ r. ⌜ (r ≡ at + length (printed number (replyOf answer (now (copies .entry)) (now (views .entry)))))
         × (now (out .exit) ≡ sets (now (out .entry)) at (printed number (replyOf answer (now (copies .entry)) (now (views .entry))))) ⌝ }

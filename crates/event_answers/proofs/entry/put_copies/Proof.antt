@@ -53,10 +53,13 @@ loop-again : tie.Need-loop-again Inv-loop μ-loop
 loop-again c =
     let l = c .before .before .before .before .before .before .loop in
     let a = c .before .before .before .before .before .before .before .before .before .args in
-    let p = c .before .before .put-copy in
-    (search needs, omega (arith, p .ensures .0, l .inv .1), search needs,
-    put-next (copyRow (a .number)) (recordAt 7 readCopy (a .copies .now)) (a .n) (c .before .before .before .before .before .loop-test .taken) (l .inv .3)
-    (put-as (ap (copyRow (a .number)) (copy-from (a .copies .now) (l .i))) (p .ensures .1)))
+    let p = c .before .before .put-copy in (
+      search needs,
+      omega (arith, p .ensures .0, l .inv .1),
+      search needs,
+      put-next (copyRow (a .number)) (recordAt 7 readCopy (a .copies .now)) (a .n) (c .before .before .before .before .before .loop-test .taken) (l .inv .3)
+          (put-as (ap (copyRow (a .number)) (copy-from (a .copies .now) (l .i))) (p .ensures .1)),
+    )
 
 same-length : tie.Need-same-length Inv-loop μ-loop
 same-length c = search needs

@@ -43,7 +43,7 @@ returns c =
     let t = c .before .before .put-text .ensures in (
       omega (arith, number-most _ _ _ (f .put-number .ensures .0), p .put-field .ensures .0, q .put-field2 .ensures .0, t .0),
       whole-copy (a .copy .now) _ (number-put _ _ _ (f .put-number .ensures)) (p .put-field .ensures .1) (q .put-field2 .ensures .1) (c .before .before .before .before .before .if1 .taken)
-      (text-put _ _ (44 ∷ 45 ∷ 44 ∷ 45 ∷ 44 ∷ 45 ∷ 44 ∷ 45 ∷ 10 ∷ []) t),
+          (text-put _ _ (44 ∷ 45 ∷ 44 ∷ 45 ∷ 44 ∷ 45 ∷ 44 ∷ 45 ∷ 10 ∷ []) t),
     )
 
 shared-slice-read-put-box : tie.Need-shared-slice-read-put-box

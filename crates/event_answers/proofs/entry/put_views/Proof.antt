@@ -41,9 +41,12 @@ unfolding viewRow
 loop-again c =
     let l = c .before .before .before .before .before .before .loop in
     let a = c .before .before .before .before .before .before .before .before .before .args in
-    let p = c .before .before .put-row in
-    (search needs, omega (arith, p .ensures .0, l .inv .1), search needs,
-    put-next (viewRow (a .number)) (λ (k : ℕ). getD (a .views .now) k 0) (a .n) (c .before .before .before .before .before .loop-test .taken) (l .inv .3) (p .ensures .1))
+    let p = c .before .before .put-row in (
+      search needs,
+      omega (arith, p .ensures .0, l .inv .1),
+      search needs,
+      put-next (viewRow (a .number)) (λ (k : ℕ). getD (a .views .now) k 0) (a .n) (c .before .before .before .before .before .loop-test .taken) (l .inv .3) (p .ensures .1),
+    )
 
 same-length : tie.Need-same-length Inv-loop μ-loop
 same-length c = search needs
