@@ -26,7 +26,7 @@ use denote.Laws.{Is, Are, Ises, shows}
 use denote.Builtin.{u64}
 use denote.Plain.{uint-vals, uint-tells}
 use denote.Ref.{RefT, ptr-vals, mut-tells, now}
-use denote.Signature.{plain, typesAt, shrSliceOf, mutSliceOf}
+use denote.Signature.{plain, typesAt, shrSliceOf}
 use denote.Slice.{sliceVal, finally, slice-vals, shr-slice-tells, mut-slice-tells}
 use denote.Steps.{only, opens, closes, owned, peeks, heard, nothing}
 use denote.Struct.Steps.{spelt}
