@@ -64,7 +64,7 @@ fn dirty_subresource(
     let e = a + 1024;
     let across = across_axis(shape, level);
     let down = down_axis(shape, level);
-    grids::dirty_tile(&stamps[a..e], across, down, held)
+    grid_views::dirty_tile(&stamps[a..e], across, down, held)
 }
 
 // Some tile of a subresource stamped above `held`, or none if there is none. Which one is left open.

@@ -1,0 +1,44 @@
+// A view of a grid's page, and what is read through it.
+ghost use mathlib.Core.Path.{_≡_};
+ghost use Prim.Native.Nat.{_≤_};
+ghost use lib.ListN.{length};
+ghost use Rattle.tiles.specs.Axes.{AxisOk};
+ghost use Rattle.grids.specs.Grids.{tiled, stampCount, gridIn, boxSince, IsDirtyTile};
+use grids::Dirty;
+use grids::DirtyTile;
+use tiles::Axis;
+
+// The page's slice, and the columns and rows of its grid, each with its tiles' edge.
+pub struct GridView<'a> {
+    pub page: &'a [u64],
+    pub columns: Axis,
+    pub rows: Axis,
+}
+
+pub fn view_of<'a>(page: &'a [u64], columns: Axis, rows: Axis) -> GridView<'a>
+    ensures { λ r. ⌜ (r .page ≡ page .entry) × (r .columns ≡ columns) × (r .rows ≡ rows) ⌝ }
+{
+    GridView {
+        page,
+        columns,
+        rows,
+    }
+}
+
+impl<'a> GridView<'a> {
+    // The smallest box of whole tiles around those stamped above `held`, cut to the level.
+    pub fn written_since(self, newest: u64, held: u64) -> Dirty
+        requires { ⌜ AxisOk (self .columns) × AxisOk (self .rows) × (stampCount (tiled (self .columns) (self .rows)) ≤ length (now (self .page))) ⌝ }
+        ensures { λ r. ⌜ r ≡ boxSince (tiled (self .entry .columns) (self .entry .rows)) held (gridIn (tiled (self .entry .columns) (self .entry .rows)) newest (now (self .entry .page))) ⌝ }
+    {
+        grids::written_since(self.page, self.columns, self.rows, newest, held)
+    }
+
+    // Some tile stamped above `held`, or none if there is none. Which one is left open.
+    pub fn dirty_tile(self, held: u64) -> DirtyTile
+        requires { ⌜ AxisOk (self .columns) × AxisOk (self .rows) × (stampCount (tiled (self .columns) (self .rows)) ≤ length (now (self .page))) ⌝ }
+        ensures { λ r. ⌜ IsDirtyTile (tiled (self .entry .columns) (self .entry .rows)) held (now (self .entry .page)) r ⌝ }
+    {
+        grids::dirty_tile(self.page, self.columns, self.rows, held)
+    }
+}
