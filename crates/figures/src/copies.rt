@@ -1,4 +1,4 @@
-// Bytes of a copy.
+// Bytes of a copy, in a shape of 5 by 5 by 3 texels and two levels.
 ghost use Prim.Native.Nat.{_≤_};
 ghost use lib.ListN.{length};
 use crate::limits::shape;
@@ -8,65 +8,40 @@ use rects::Region;
 use rects::TexelRect;
 use rects::copy_bytes;
 use shapes::BytesAnswer;
-use shapes::VersionShape;
 
 // The outcome, and the bytes if it is 0.
-fn print_bytes(name: &[u8], answer: BytesAnswer)
+fn print_copy(name: &[u8], format: u64, kind: u64, level: u64, region: Region)
     requires { ⌜ length (now name) ≤ 64 ⌝ }
 {
-    match answer {
+    match copy_bytes(shape(format, 5, 5, 3, 2, kind), level, region) {
         BytesAnswer::Bytes(bytes) => figure_of(name, 0, bytes),
         BytesAnswer::NoShape => figure(name, 2),
     }
 }
 
-// So many texels from a corner on.
-fn part(x: u64, y: u64, width: u64, height: u64) -> Region {
+// A square of so many texels both ways, from that one on both ways.
+fn square(start: u64, size: u64) -> Region {
     Region::Part(TexelRect {
-        x,
-        y,
-        width,
-        height,
+        x: start,
+        y: start,
+        width: size,
+        height: size,
     })
 }
 
-// 5 by 5, format 5, two levels: half a byte a texel.
-fn print_blocks() {
-    let s = shape(5, 5, 5, 1, 2, 0);
-    print_bytes(b"copy_25_texels", copy_bytes(s, 0, Region::Whole));
-    print_bytes(b"copy_1_texel", copy_bytes(s, 0, part(0, 0, 1, 1)));
-    print_bytes(b"copy_2_texels", copy_bytes(s, 0, part(0, 0, 2, 1)));
-    print_bytes(b"copy_3_texels", copy_bytes(s, 0, part(0, 0, 3, 1)));
-    print_bytes(b"copy_cut_to_4_texels", copy_bytes(s, 0, part(3, 3, 9, 9)));
-    print_bytes(b"copy_past_the_level", copy_bytes(s, 0, part(5, 0, 9, 9)));
-    print_bytes(b"copy_level_1", copy_bytes(s, 1, Region::Whole));
-    print_bytes(b"copy_level_2_of_2", copy_bytes(s, 2, Region::Whole));
-}
-
-// 4 by 4 by 3, four bytes a texel, two levels. The depth is a volume's.
-fn print_depths() {
-    let volume = shape(2, 4, 4, 3, 2, 2);
-    print_bytes(b"copy_volume", copy_bytes(volume, 0, Region::Whole));
-    print_bytes(b"copy_volume_level_1", copy_bytes(volume, 1, Region::Whole));
-    print_bytes(
-        b"copy_flat",
-        copy_bytes(shape(2, 4, 4, 3, 2, 0), 0, Region::Whole),
-    );
-    print_bytes(
-        b"copy_cube",
-        copy_bytes(shape(2, 4, 4, 3, 2, 1), 0, Region::Whole),
-    );
-}
-
 pub fn print_copies() {
-    print_blocks();
-    print_depths();
-    print_bytes(
-        b"copy_bad_shape",
-        copy_bytes(shape(9, 4, 4, 1, 1, 0), 0, Region::Whole),
-    );
-    print_bytes(
-        b"copy_bad_shape_no_level",
-        copy_bytes(shape(9, 4, 4, 1, 1, 0), 1, Region::Whole),
-    );
+    // Half a byte a texel.
+    print_copy(b"copy_25_texels", 5, 0, 0, Region::Whole);
+    print_copy(b"copy_1_texel", 5, 0, 0, square(0, 1));
+    print_copy(b"copy_9_texels", 5, 0, 0, square(0, 3));
+    print_copy(b"copy_cut_to_4_texels", 5, 0, 0, square(3, 9));
+    print_copy(b"copy_past_the_level", 5, 0, 0, square(5, 9));
+    print_copy(b"copy_level_1", 5, 0, 1, Region::Whole);
+    print_copy(b"copy_level_2_of_2", 5, 0, 2, Region::Whole);
+    // Four bytes a texel; the depth is a volume's.
+    print_copy(b"copy_flat", 2, 0, 0, Region::Whole);
+    print_copy(b"copy_cube", 2, 1, 0, Region::Whole);
+    print_copy(b"copy_volume", 2, 2, 0, Region::Whole);
+    print_copy(b"copy_volume_level_1", 2, 2, 1, Region::Whole);
+    print_copy(b"copy_bad_shape", 9, 0, 2, Region::Whole);
 }

@@ -1,7 +1,6 @@
 // Document 01's figures, each computed by the proved functions: a line for each, `name value`, or `name argument value` where a
 // figure is that of an argument. The lines are held to `stdout`, which is written from 01's text; docs/FIGURES.md has 01's sentence for each.
-mod ages;
-mod answers;
+mod calls;
 mod copies;
 mod extents;
 mod formats;
@@ -9,19 +8,16 @@ mod forming;
 mod limits;
 mod opening;
 mod print;
-mod submissions;
 mod texts;
 mod uploads;
 
 fn main() {
     limits::print_limits();
-    submissions::print_submissions();
     opening::print_sizes();
     forming::print_numbers();
+    calls::print_calls();
     extents::print_extents();
     formats::print_formats();
-    ages::print_ages();
-    answers::print_answers();
     uploads::print_uploads();
     texts::print_texts();
     copies::print_copies();
