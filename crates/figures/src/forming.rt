@@ -1,8 +1,9 @@
 // The limits of the numbers that a pool may hold, on both sides.
 use crate::print::figure_of;
+use crate::print::outcome_1;
 use layout::PacingBook;
 use layout::Pool;
-use pool::BytesAnswer;
+use pool_test::is_pool;
 
 // A pool of one texture place, one version place and one page. Nothing is tracked, and one version of so many bytes is in the destroy queue.
 fn pool_with(bytes: u64, since: u64, trackings: u64) -> Pool {
@@ -33,7 +34,7 @@ fn book_with(arrivals: u64, slot: usize) -> PacingBook {
     }
 }
 
-// The outcome of a query, which refuses with 1 only.
+// The outcome of every call on memory that forms no pool is 1.
 fn outcome(pool: Pool, book: PacingBook) -> u64 {
     let textures = [0u64; 19];
     let retiring = [0u64; 7];
@@ -41,7 +42,7 @@ fn outcome(pool: Pool, book: PacingBook) -> u64 {
     let spares = [0u64; 3];
     let newest = [0u64; 1];
     let stamps = [0u64; 1024];
-    let answer = pool::parked_bytes(
+    let formed = is_pool(
         pool,
         book,
         &textures,
@@ -51,10 +52,7 @@ fn outcome(pool: Pool, book: PacingBook) -> u64 {
         &newest,
         &stamps,
     );
-    match answer {
-        BytesAnswer::Bytes(_) => 0,
-        BytesAnswer::NoPool => 1,
-    }
+    outcome_1(formed)
 }
 
 fn print_trackings(trackings: u64) {

