@@ -1,5 +1,5 @@
-// The sizes that a pool may be opened with. 4,096 pages have 2^22 stamps, more than a program's stack holds: their number is tried
-// from below only.
+// The sizes that a pool may be opened with. 4,096 pages have 2^22 stamps, more than a program's stack holds, so that
+// limit is not tried.
 ghost use Prim.Native.Nat.{_≤_};
 ghost use lib.ListN.{length};
 use crate::print::figure_of;

@@ -1,24 +1,18 @@
+-- The axis is a good one. Assumes nothing.
 use Rattle.tiles.proofs.Axes.{axis-ok}
 use borrow.Author.Needs.{needs}
 use Rattle.figures.proofs.extents.tile_count.Statement.{statement}
 use Rattle.figures.proofs.extents.tile_count.Tie as tie
-use Rattle.figures.proofs.extents.tile_count.Reads as reads
-use Rattle.figures.proofs.extents.tile_count.Lts as lts
-use Rattle.tiles.proofs.axis_of.Reads as axis-of-reads
-use Rattle.tiles.proofs.tiles.Reads as tiles-reads
 
--- src/extents.rt:36:18
 axis-of-requires : tie.Need-axis-of-requires
 axis-of-requires c κs = search needs
 
--- src/extents.rt:36:5
 tiles-requires : tie.Need-tiles-requires
 tiles-requires c κs =
     let a = c .before .args in
     let p = c .before .pre in
     rw (c .axis-of .ensures) (axis-ok (a .extent) (a .block) (p .1) (p .0) (p .2))
 
--- src/extents.rt:33:1
 returns : tie.Need-returns
 returns c = search needs
 

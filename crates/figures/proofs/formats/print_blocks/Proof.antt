@@ -1,12 +1,8 @@
+-- The nine formats, one after the other. Assumes nothing.
 use Prim.Native.Nat.{_-_, _≤_}
 use borrow.Author.Needs.{needs}
 use Rattle.figures.proofs.formats.print_blocks.Statement.{statement}
 use Rattle.figures.proofs.formats.print_blocks.Tie as tie
-use Rattle.figures.proofs.formats.print_blocks.Reads as reads
-use Rattle.figures.proofs.formats.print_blocks.Lts as lts
-use Rattle.figures.proofs.print.figure_of.Reads as figure-of-reads
-use Rattle.shapes.proofs.block_bytes.Reads as block-bytes-reads
-use Rattle.shapes.proofs.block_edge.Reads as block-edge-reads
 
 abbrev Inv-loop : tie.InvT-loop
 Inv-loop format₀ t2 t3 format = format ≤ 9
@@ -14,47 +10,36 @@ Inv-loop format₀ t2 t3 format = format ≤ 9
 abbrev μ-loop : tie.MeasureT-loop
 μ-loop format₀ t2 t3 format = 9 - format
 
--- src/formats.rt:10:5
 loop-holds : tie.Need-loop-holds Inv-loop μ-loop
 loop-holds c = search needs
 
--- src/formats.rt:11:19
 slice-aggregate-figure-of : tie.Need-slice-aggregate-figure-of Inv-loop μ-loop
 slice-aggregate-figure-of c = search needs
 
--- src/formats.rt:11:42
 block-edge-requires : tie.Need-block-edge-requires Inv-loop μ-loop
 block-edge-requires c κs = search needs
 
--- src/formats.rt:11:9
 figure-of-requires : tie.Need-figure-of-requires Inv-loop μ-loop
 figure-of-requires c κs = search needs
 
--- src/formats.rt:12:19
 slice-aggregate-figure-of-2 : tie.Need-slice-aggregate-figure-of-2 Inv-loop μ-loop
 slice-aggregate-figure-of-2 c = search needs
 
--- src/formats.rt:12:43
 block-bytes-requires : tie.Need-block-bytes-requires Inv-loop μ-loop
 block-bytes-requires c κs = search needs
 
--- src/formats.rt:12:9
 figure-of-requires-2 : tie.Need-figure-of-requires-2 Inv-loop μ-loop
 figure-of-requires-2 c κs = search needs
 
--- src/formats.rt:13:9
 add-format : tie.Need-add-format Inv-loop μ-loop
 add-format c = search needs
 
--- src/formats.rt:10:5
 loop-less : tie.Need-loop-less Inv-loop μ-loop
 loop-less c = search needs
 
--- src/formats.rt:10:5
 loop-again : tie.Need-loop-again Inv-loop μ-loop
 loop-again c = search needs
 
--- src/formats.rt:8:1
 returns : tie.Need-returns Inv-loop μ-loop
 returns c = search needs
 

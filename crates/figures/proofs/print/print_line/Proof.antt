@@ -1,14 +1,10 @@
+-- Every number takes at most 21 bytes, so the line fits. Assumes nothing.
 use Prim.Native.Nat.{_+_, _-_, _*_, _≤_}
 use mathlib.Core.Path.{_≡_}
 use lib.ListN.{length}
 use borrow.Author.Needs.{needs}
 use Rattle.figures.proofs.print.print_line.Statement.{statement}
 use Rattle.figures.proofs.print.print_line.Tie as tie
-use Rattle.figures.proofs.print.print_line.Reads as reads
-use Rattle.figures.proofs.print.print_line.Lts as lts
-use Rattle.event_text.proofs.put_text.Reads as put-text-reads
-use Rattle.figures.proofs.print.put_value.Reads as put-value-reads
-use Rattle.io.proofs.write_all.Reads as write-all-reads
 
 abbrev Inv-loop : tie.InvT-loop
 Inv-loop name values out₀ at₀ i₀ t7 out at i = (i ≤ length values) × (at ≤ 64 + 21 * i) × (length out ≡ 256)
@@ -16,75 +12,57 @@ Inv-loop name values out₀ at₀ i₀ t7 out at i = (i ≤ length values) × (a
 abbrev μ-loop : tie.MeasureT-loop
 μ-loop name values out₀ at₀ i₀ t7 out at i = length values - i
 
--- src/print.rt:22:27
 slice-aggregate-put-text : tie.Need-slice-aggregate-put-text Inv-loop μ-loop
 slice-aggregate-put-text c = search needs
 
--- src/print.rt:22:9
 put-text-requires : tie.Need-put-text-requires Inv-loop μ-loop
 put-text-requires c κs = search needs
 
--- src/print.rt:24:5
 loop-holds : tie.Need-loop-holds Inv-loop μ-loop
 loop-holds c = search needs
 
--- src/print.rt:25:24
 slice-aggregate-put-value : tie.Need-slice-aggregate-put-value Inv-loop μ-loop
 slice-aggregate-put-value c = search needs
 
--- src/print.rt:25:38
 mul-put-value : tie.Need-mul-put-value Inv-loop μ-loop
 mul-put-value c = search needs
 
--- src/print.rt:25:38
 shared-slice-read-put-value : tie.Need-shared-slice-read-put-value Inv-loop μ-loop
 shared-slice-read-put-value c = search needs
 
--- src/print.rt:25:9
 put-value-requires : tie.Need-put-value-requires Inv-loop μ-loop
 put-value-requires c κs = search needs
 
--- src/print.rt:26:9
 add-i : tie.Need-add-i Inv-loop μ-loop
 add-i c = search needs
 
--- src/print.rt:24:5
 loop-less : tie.Need-loop-less Inv-loop μ-loop
 loop-less c = search needs
 
--- src/print.rt:24:5
 loop-again : tie.Need-loop-again Inv-loop μ-loop
 loop-again c = search needs
 
--- src/print.rt:28:24
 slice-aggregate-put-text-2 : tie.Need-slice-aggregate-put-text-2 Inv-loop μ-loop
 slice-aggregate-put-text-2 c = search needs
 
--- src/print.rt:28:38
 slice-aggregate-put-text-3 : tie.Need-slice-aggregate-put-text-3 Inv-loop μ-loop
 slice-aggregate-put-text-3 c = search needs
 
--- src/print.rt:28:9
 put-text-requires-2 : tie.Need-put-text-requires-2 Inv-loop μ-loop
 put-text-requires-2 c κs = search needs
 
--- src/print.rt:29:34
 sub-write-all : tie.Need-sub-write-all Inv-loop μ-loop
 sub-write-all c = search needs
 
--- src/print.rt:29:34
 part-write-all-start : tie.Need-part-write-all-start Inv-loop μ-loop
 part-write-all-start c = search needs
 
--- src/print.rt:29:34
 part-write-all-end : tie.Need-part-write-all-end Inv-loop μ-loop
 part-write-all-end c = search needs
 
--- src/print.rt:29:5
 write-all-requires : tie.Need-write-all-requires Inv-loop μ-loop
 write-all-requires c κs = search needs
 
--- src/print.rt:18:1
 returns : tie.Need-returns Inv-loop μ-loop
 returns c = search needs
 
