@@ -1,0 +1,22 @@
+// Document 01's figures, each computed by the proved functions: a line for each, `name value`, or `name argument value` where a
+// figure is that of an argument. The lines are held to `stdout`, which is written from 01's text; docs/FIGURES.md has 01's sentence for each.
+mod copies;
+mod extents;
+mod formats;
+mod forming;
+mod limits;
+mod opening;
+mod print;
+mod texts;
+mod uploads;
+
+fn main() {
+    limits::print_limits();
+    opening::print_sizes();
+    forming::print_numbers();
+    extents::print_extents();
+    formats::print_formats();
+    uploads::print_uploads();
+    texts::print_texts();
+    copies::print_copies();
+}
