@@ -1,0 +1,116 @@
+//! Bursts of versions to destroy, and batches between them: by arrivals over eight takes, by an excess, refused ones.
+
+use super::List;
+use super::driver::Driver;
+use super::texture::{self, Texture};
+
+pub fn fill(list: &mut List) {
+    let places = (list.limits.textures as u64).min(20);
+    let pages = list.limits.pages as u64;
+    let textures = (0..places)
+        .map(|number| Texture {
+            id: number * 3,
+            shape: texture::shape(&mut list.random, 40, pages / places + 1),
+            records: !list.random.once_in(3),
+            live: 0,
+        })
+        .collect();
+    // Caps of nothing, of some, of all.
+    let working_set = list.random.one_of(&[0, 7, 200_000, 4_000_000]);
+    let mut driver = Driver::open(list, working_set, textures);
+    let line = if working_set == 0 {
+        u64::MAX
+    } else {
+        working_set / 4 * 3
+    };
+    while !driver.list.is_full() {
+        let count = driver.list.limits.versions as u64;
+        match driver.below(10) {
+            0..=3 => burst(&mut driver, count),
+            4 => burst(&mut driver, count / 8 + 1),
+            5 => give_back(&mut driver, line),
+            6 => steady(&mut driver),
+            7 => renew(&mut driver),
+            _ => {}
+        }
+        batches(&mut driver);
+    }
+}
+
+/// Retires up to `most` versions, tracked or not, and pops and parks them.
+fn burst(driver: &mut Driver, most: u64) {
+    let count = driver.list.random.within(1, most);
+    let tracked = driver.once_in(2);
+    for _ in 0..count {
+        if tracked {
+            let at = driver.any();
+            driver.rename(at);
+        } else {
+            let (view, now) = (driver.fresh_view(), driver.now);
+            driver.say(&format!("retire,1,{view},{now}"));
+        }
+    }
+    driver.submit(9);
+    driver.settle();
+}
+
+/// Takes batches, a few or until none is left, with few arrivals between them.
+fn batches(driver: &mut Driver) {
+    let count = driver.list.random.within(1, 12);
+    for _ in 0..count {
+        let batch = driver.say("doomed");
+        if batch.accepted() && batch.field(0) == Some(0) && driver.once_in(2) {
+            break;
+        }
+        if driver.once_in(4) {
+            let some = driver.list.random.within(1, 9);
+            burst(driver, some);
+        }
+    }
+    if driver.once_in(12) {
+        driver.say("drain");
+    }
+}
+
+/// Past the line by some versions' bytes.
+fn give_back(driver: &mut Driver, line: u64) {
+    let at = driver.any();
+    let (width, height) = driver.textures[at].shape.level(0);
+    let excess = u64::from(width) * u64::from(height) * driver.below(300);
+    let allocated = line.saturating_add(excess);
+    driver.say(&format!("note,{allocated}"));
+    if driver.once_in(3) {
+        driver.say("note,0");
+    }
+}
+
+/// About as many arrivals between batches, many times.
+fn steady(driver: &mut Driver) {
+    let most = driver.list.random.within(1, 60);
+    for _ in 0..10 {
+        burst(driver, most);
+        driver.say("doomed");
+    }
+}
+
+/// Spares queued by trims, by forgetting and by other shapes.
+fn renew(driver: &mut Driver) {
+    let at = driver.any();
+    match driver.below(3) {
+        0 => {
+            driver.submit(10);
+            let now = driver.now;
+            driver.say(&format!("trim,{now}"));
+        }
+        1 => driver.forget(at),
+        _ => {
+            driver.reshape(at, 40);
+            driver.rename(at);
+        }
+    }
+    for _ in 0..6 {
+        driver.regen(at);
+        driver.rename(at);
+        driver.write(at);
+    }
+}

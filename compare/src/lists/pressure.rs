@@ -1,0 +1,142 @@
+//! Working sets, caps and notes around the pressure line and the line below which parking resumes.
+
+use super::List;
+use super::driver::Driver;
+use super::texture::Texture;
+use crate::shape::RawShape;
+
+/// A flat texture of `edge` times `edge` bytes.
+const fn square(id: u64, edge: u32) -> Texture {
+    let shape = RawShape {
+        format: 0,
+        width: edge,
+        height: edge,
+        depth: 1,
+        levels: 1,
+        kind: 0,
+    };
+    Texture {
+        id,
+        shape,
+        records: id.is_multiple_of(2),
+        live: 0,
+    }
+}
+
+/// The numbers around which things change.
+struct Lines {
+    cap: u64,
+    line: u64,
+    resume: u64,
+}
+
+impl Lines {
+    fn of(working_set: u64) -> Self {
+        if working_set == 0 {
+            let cap = 1 << 30;
+            return Self {
+                cap,
+                line: u64::MAX,
+                resume: u64::MAX - cap,
+            };
+        }
+        let (cap, line) = ((working_set / 8).min(1 << 30), working_set / 4 * 3);
+        Self {
+            cap,
+            line,
+            resume: line.saturating_sub(cap),
+        }
+    }
+}
+
+/// Bytes of a version: small, so that many fit a cap, and two of 2^30 that do or do not fit the largest.
+fn edges(list: &mut List) -> Vec<u32> {
+    let large = list.random.once_in(4);
+    let count = list.limits.textures as u64;
+    (0..count)
+        .map(|_| {
+            if large {
+                list.random.one_of(&[4, 8_192, 11_585, 16_384]) as u32
+            } else {
+                list.random.one_of(&[1, 4, 5, 6, 10, 30]) as u32
+            }
+        })
+        .collect()
+}
+
+pub fn fill(list: &mut List) {
+    let edges = edges(list);
+    let textures = (0..)
+        .zip(edges)
+        .map(|(id, edge)| square(id, edge))
+        .collect();
+    let working_set = match list.random.below(9) {
+        0 => 0,
+        1 => 7,
+        2 => list.random.within(1, 300),
+        3 | 4 => list.random.within(800, 20_000),
+        5 | 6 => 8_000,
+        7 => (1 << 33) + list.random.within(0, 16) - 8,
+        _ => u64::MAX - list.random.below(9),
+    };
+    let lines = Lines::of(working_set);
+    let mut driver = Driver::open(list, working_set, textures);
+    while !driver.list.is_full() {
+        step(&mut driver, &lines);
+    }
+}
+
+fn step(driver: &mut Driver, lines: &Lines) {
+    let at = driver.any();
+    match driver.below(100) {
+        0..=49 => {
+            driver.rename(at);
+        }
+        50..=57 => driver.write(at),
+        58..=69 => {
+            let allocated = allocated(driver, lines);
+            driver.say(&format!("note,{allocated}"));
+        }
+        70..=80 => {
+            driver.submit(1);
+            driver.settle();
+        }
+        81..=90 => {
+            driver.say("doomed");
+        }
+        91 => {
+            driver.say("drain");
+        }
+        92 => driver.forget(at),
+        93 => {
+            let now = driver.now;
+            driver.say(&format!("trim,{now}"));
+        }
+        94 => driver.submit(3),
+        _ => {
+            // A parking number out of the order of parking.
+            if driver.pop() {
+                let now = driver.now.saturating_sub(driver.below(20));
+                driver.hand = !driver.say(&format!("park,0,{now}")).accepted();
+            }
+        }
+    }
+}
+
+/// Bytes allocated: close to one of the lines, or past the first by some versions' bytes.
+fn allocated(driver: &mut Driver, lines: &Lines) -> u64 {
+    let base = match driver.below(10) {
+        0 | 1 => lines.resume,
+        2 | 3 => lines.line,
+        4 => lines.cap,
+        5 if driver.once_in(4) => u64::MAX,
+        5 => 0,
+        _ => {
+            let at = driver.any();
+            let edge = u64::from(driver.textures[at].shape.width);
+            let bytes = edge * edge * driver.below(12);
+            lines.line.saturating_add(bytes)
+        }
+    };
+    base.saturating_add(driver.below(3)).saturating_sub(1)
+}
