@@ -52,13 +52,14 @@ fn outcomes(call: &str, limits: &Limits) -> Vec<usize> {
 }
 
 /// Accepted answers that differ in kind, each of which is to occur.
-const ANSWERS: [&str; 13] = [
+const ANSWERS: [&str; 14] = [
     "take: fresh",
     "take: spare, known",
     "take: spare, unknown",
     "plan: no copy",
     "plan: a box",
     "plan: a whole level",
+    "plan: regenerated slices",
     "pop: nothing settled",
     "pop: a version",
     "doomed: none",
@@ -70,6 +71,9 @@ const ANSWERS: [&str; 13] = [
 
 /// The answer that only a pool with more than 64 versions can give, and a buffer that holds it.
 const LARGE_BATCH: &str = "doomed: more than 64";
+
+/// Levels of several slices, but not the first one of each: a history of at least twelve pages.
+const SLICES: &str = "plan: regenerated slices";
 
 /// Counts over the lists that were read.
 #[derive(Default)]
@@ -116,8 +120,13 @@ impl Counts {
         if self.outcomes.keys().any(|(_, outcome)| *outcome > QUESTION) {
             faults.push("an outcome past 12".to_string());
         }
-        let large = limits.versions.min(limits.answers) > 64;
-        for answer in ANSWERS.iter().filter(|name| large || **name != LARGE_BATCH) {
+        let can = |answer: &str| match answer {
+            LARGE_BATCH => limits.versions.min(limits.answers) > 64,
+            "plan: a box" => limits.pages > 0,
+            SLICES => limits.pages >= 12 && limits.answers >= 6,
+            _ => true,
+        };
+        for answer in ANSWERS.iter().filter(|answer| can(answer)) {
             if !self.answers.contains_key(answer) {
                 faults.push(format!("no answer of the sort \"{answer}\""));
             }
@@ -167,6 +176,7 @@ fn answer(call: &str, reply: &Reply) -> Option<&'static str> {
         "take" if reply.field(1).is_some() => "take: spare, known",
         "take" => "take: spare, unknown",
         "plan" if none => "plan: no copy",
+        "plan" if is_regenerated(&reply.entries) => SLICES,
         "plan" if reply.entries.iter().any(|copy| copy.last() != Some(&None)) => "plan: a box",
         "plan" => "plan: a whole level",
         "pop" if reply.field(0).is_none() => "pop: nothing settled",
@@ -178,4 +188,11 @@ fn answer(call: &str, reply: &Reply) -> Option<&'static str> {
         "drain" => "drain: some",
         _ => return None,
     })
+}
+
+/// Whether a plan copies levels of several slices and no first level of any.
+fn is_regenerated(copies: &[Vec<Option<u64>>]) -> bool {
+    let later = |copy: &Vec<Option<u64>>| copy.get(1).copied().flatten() != Some(0);
+    copies.iter().all(later)
+        && copies.first().map(|copy| copy[0]) != copies.last().map(|copy| copy[0])
 }

@@ -2,18 +2,11 @@
 
 use super::List;
 use super::driver::{Driver, MOST};
-use super::texture::{self, Texture};
+use super::texture;
 
 pub fn fill(list: &mut List) {
     let (places, pages) = (list.limits.textures as u64, list.limits.pages as u64);
-    let textures = (0..places + 1)
-        .map(|number| Texture {
-            id: number * 7,
-            shape: texture::shape(&mut list.random, 100, (pages / 4).max(1)),
-            records: list.random.once_in(2),
-            live: 0,
-        })
-        .collect();
+    let textures = texture::textures(&mut list.random, places + 1, pages, 100);
     let mut driver = Driver::open(list, 0, textures);
     while !driver.list.is_full() {
         step(&mut driver);

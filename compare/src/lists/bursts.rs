@@ -1,20 +1,13 @@
 //! Bursts of versions to destroy, and batches between them: by arrivals over eight takes, by an excess, refused ones.
 
 use super::List;
-use super::driver::Driver;
-use super::texture::{self, Texture};
+use super::driver::{Driver, MOST};
+use super::texture;
 
 pub fn fill(list: &mut List) {
     let places = (list.limits.textures as u64).min(20);
     let pages = list.limits.pages as u64;
-    let textures = (0..places)
-        .map(|number| Texture {
-            id: number * 3,
-            shape: texture::shape(&mut list.random, 40, pages / places + 1),
-            records: !list.random.once_in(3),
-            live: 0,
-        })
-        .collect();
+    let textures = texture::textures(&mut list.random, places, pages, 40);
     // Caps of nothing, of some, of all.
     let working_set = list.random.one_of(&[0, 7, 200_000, 4_000_000]);
     let mut driver = Driver::open(list, working_set, textures);
@@ -24,10 +17,11 @@ pub fn fill(list: &mut List) {
         working_set / 4 * 3
     };
     while !driver.list.is_full() {
-        let count = driver.list.limits.versions as u64;
+        let all = driver.list.limits.versions as u64;
         match driver.below(10) {
-            0..=3 => burst(&mut driver, count),
-            4 => burst(&mut driver, count / 8 + 1),
+            0 => burst(&mut driver, all),
+            1 | 2 => burst(&mut driver, (all / 4).max(16)),
+            3 | 4 => burst(&mut driver, (all / 12).max(8)),
             5 => give_back(&mut driver, line),
             6 => steady(&mut driver),
             7 => renew(&mut driver),
@@ -37,21 +31,29 @@ pub fn fill(list: &mut List) {
     }
 }
 
-/// Retires up to `most` versions, tracked or not, and pops and parks them.
+/// Retires up to `most` versions, tracked or not, and pops and parks them all.
 fn burst(driver: &mut Driver, most: u64) {
     let count = driver.list.random.within(1, most);
-    let tracked = driver.once_in(2);
+    let tracked = driver.once_in(3);
     for _ in 0..count {
         if tracked {
             let at = driver.any();
             driver.rename(at);
         } else {
             let (view, now) = (driver.fresh_view(), driver.now);
-            driver.say(&format!("retire,1,{view},{now}"));
+            let retired = driver.say(&format!("retire,1,{view},{now}"));
+            if !retired.accepted() {
+                break;
+            }
         }
     }
-    driver.submit(9);
-    driver.settle();
+    driver.submit(1);
+    let now = driver.now;
+    while driver.say(&format!("pop,{MOST}")).field(0).is_some() {
+        driver.say(&format!("park,0,{now}"));
+    }
+    // In case one was in the hand before.
+    driver.say(&format!("park,0,{now}"));
 }
 
 /// Takes batches, a few or until none is left, with few arrivals between them.

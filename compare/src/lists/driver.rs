@@ -98,7 +98,8 @@ impl<'d, 'a> Driver<'d, 'a> {
             .field(1)
             .map_or("-".to_string(), |held| held.to_string());
         let (slice, level) = texture::place(&mut self.list.random, &shape);
-        let covers = self.once_in(3);
+        let calm = self.textures[at].calm;
+        let covers = self.once_in(if calm { 20 } else { 3 });
         let cover = u64::from(covers);
         let planned = self.say(&format!("plan,{id},{held},{slice},{level},{cover}"));
         if !planned.accepted() {
@@ -122,7 +123,10 @@ impl<'d, 'a> Driver<'d, 'a> {
 
     /// The next rename has this texture in another shape: its live version is then another one.
     pub fn reshape(&mut self, at: usize, most: u32) {
-        let pages = self.list.limits.pages as u64;
+        let all = self.list.limits.pages as u64;
+        let own = self.textures[at].shape.pages();
+        let pages = if self.once_in(4) { all } else { own };
+        self.textures[at].writes = 0;
         self.textures[at].shape = texture::shape(&mut self.list.random, most, pages);
         self.textures[at].live = self.fresh_view();
         self.owed.retain(|owed| owed.0 != at);
@@ -153,8 +157,9 @@ impl<'d, 'a> Driver<'d, 'a> {
             1 => level = shape.levels,
             _ => {}
         }
-        let [x, y, width, height] = texture::rect(&mut self.list.random, shape.level(level));
+        let [x, y, width, height] = texture::rect(&mut self.list.random, &self.textures[at], level);
         let id = self.textures[at].id;
+        self.textures[at].writes += 1;
         self.say(&format!(
             "write,{id},{slice},{level},{x},{y},{width},{height}"
         ));
@@ -162,11 +167,13 @@ impl<'d, 'a> Driver<'d, 'a> {
 
     pub fn regen(&mut self, at: usize) {
         let id = self.textures[at].id;
+        self.textures[at].writes += 1;
         self.say(&format!("regen,{id}"));
     }
 
     pub fn forget(&mut self, at: usize) {
         let id = self.textures[at].id;
+        self.textures[at].writes = 0;
         self.say(&format!("forget,{id}"));
     }
 

@@ -30,6 +30,8 @@ pub fn fill(list: &mut List) {
             shape: texture::shape(&mut list.random, 64, 1),
             records: false,
             live: 0,
+            writes: 0,
+            calm: true,
         })
         .collect();
     let working_set = list.random.one_of(&[0, 0, 7, 40_000]);

@@ -20,6 +20,8 @@ const fn square(id: u64, edge: u32) -> Texture {
         shape,
         records: id.is_multiple_of(2),
         live: 0,
+        writes: 0,
+        calm: true,
     }
 }
 

@@ -3,29 +3,12 @@
 
 use super::List;
 use super::driver::Driver;
-use super::texture::{self, Texture};
+use super::texture;
 use crate::random::Random;
 
 /// The largest extents: any, or so small that books can be kept of every texel.
 pub const EXTENTS: u32 = 16_384;
 pub const SMALL_EXTENTS: u32 = 64;
-
-/// A few more textures than there are places, with histories for some.
-fn textures(random: &mut Random, places: u64, pages: u64, most: u32) -> Vec<Texture> {
-    let each = (pages / places).max(1);
-    (0..places + 2)
-        .map(|number| Texture {
-            id: if number == 1 {
-                u64::MAX
-            } else {
-                number * number
-            },
-            shape: texture::shape(random, most, if number < 2 { each.max(3) } else { each }),
-            records: !random.once_in(4),
-            live: 0,
-        })
-        .collect()
-}
 
 fn working_set(random: &mut Random, most: u32) -> u64 {
     if random.once_in(2) {
@@ -37,7 +20,8 @@ fn working_set(random: &mut Random, most: u32) -> u64 {
 
 pub fn fill(list: &mut List, most: u32) {
     let (places, pages) = (list.limits.textures as u64, list.limits.pages as u64);
-    let textures = textures(&mut list.random, places, pages, most);
+    // A few more textures than there are places.
+    let textures = texture::textures(&mut list.random, places + 2, pages, most);
     let working_set = working_set(&mut list.random, most);
     let line = working_set / 4 * 3;
     let mut driver = Driver::open(list, working_set, textures);
@@ -56,8 +40,8 @@ fn step(driver: &mut Driver, most: u32, line: u64) {
         145..=152 => driver.regen(at),
         153..=164 => driver.write_owed(),
         165..=190 => end_submission(driver, line),
-        191 | 192 => driver.forget(at),
-        193 => driver.reshape(at, most),
+        191 => driver.forget(at),
+        192 | 193 => driver.reshape(at, most),
         194 if driver.once_in(4) => {
             driver.say("drain");
         }
@@ -81,8 +65,12 @@ fn end_submission(driver: &mut Driver, line: u64) {
     };
     driver.submit(count);
     if line > 0 && driver.once_in(3) {
-        let about = line / 16 + 1;
-        let allocated = (line - line / 8) + driver.below(3 * about);
+        // Parking resumes below five sixths of the line.
+        let allocated = match driver.below(5) {
+            0 => line + driver.below(line / 8 + 1),
+            1 => line / 6 * 5 + driver.below(line / 6),
+            _ => driver.below(line / 6 * 5),
+        };
         driver.say(&format!("note,{allocated}"));
     }
     driver.settle();

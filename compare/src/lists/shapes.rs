@@ -3,7 +3,7 @@
 
 use super::List;
 use super::driver::Driver;
-use super::texture::{self, Texture};
+use super::texture;
 use crate::random::Random;
 use crate::shape::RawShape;
 
@@ -11,14 +11,7 @@ const MOST_EXTENT: u32 = 16_384;
 
 pub fn fill(list: &mut List) {
     let (places, pages) = (list.limits.textures as u64, list.limits.pages as u64);
-    let textures = (0..places)
-        .map(|number| Texture {
-            id: u64::MAX - number,
-            shape: texture::shape(&mut list.random, MOST_EXTENT, pages),
-            records: !list.random.once_in(3),
-            live: 0,
-        })
-        .collect();
+    let textures = texture::textures(&mut list.random, places, pages, MOST_EXTENT);
     let working_set = list.random.one_of(&[0, 0, 1 << 33, 1 << 28]);
     let mut driver = Driver::open(list, working_set, textures);
     while !driver.list.is_full() {
@@ -64,6 +57,7 @@ fn step(driver: &mut Driver) {
 fn plan(driver: &mut Driver, at: usize) {
     let texture = &driver.textures[at];
     let (id, shape, records) = (texture.id, texture.shape, u64::from(texture.records));
+    let writes = texture.writes;
     let now = driver.now;
     if !driver.once_in(4) {
         driver.say(&format!("take,{id},{shape},{records},{now}"));
@@ -71,8 +65,8 @@ fn plan(driver: &mut Driver, at: usize) {
     let held = match driver.below(12) {
         0 => "-".to_string(),
         1 => u64::MAX.to_string(),
-        2..=5 => driver.below(4).to_string(),
-        _ => driver.below(60).to_string(),
+        2 => driver.below(4).to_string(),
+        _ => writes.saturating_sub(driver.below(8)).to_string(),
     };
     let (slice, level) = texture::place(&mut driver.list.random, &shape);
     let cover = driver.below(2);
