@@ -30,17 +30,18 @@ cargo test --release --offline -q >"$log" 2>&1 || {
 }
 COUNT=${COUNT:-5000} ./leaf_live.sh ../target/bin/leaf_answers || exit 1
 
-# compare_program NAME OPTION ..: each kind of list has LINES lines in each of four seeds.
+# compare_program NAME LINES OPTION ..: each kind of list has LINES lines in each of four seeds.
 compare_program() {
-    local program=../target/bin/$1
-    shift
+    local program=../target/bin/$1 lines=$2
+    shift 2
     if [ -x "$program" ]; then
-        LINES=${LINES:-5000} ./events_live.sh "$@" "$program" 1 2 3 4 || exit 1
+        LINES=${LINES:-$lines} ./events_live.sh "$@" "$program" 1 2 3 4 || exit 1
     elif [ -d "../crates/${program##*/}" ]; then
         printf '%s is missing: its crate is there, so build it first\n' "$program"
         exit 1
     fi
 }
 
-compare_program event_program
-compare_program event_program_large --large
+compare_program event_program 5000
+# It takes more lines to fill 2,000 places.
+compare_program event_program_large 12000 --large

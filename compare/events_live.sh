@@ -60,7 +60,7 @@ compare_list() {
     local list=$work/$1.$2.list output=$work/$1.$2.output
     "$built/lists" "${sizes[@]+"${sizes[@]}"}" "$1" "$2" "$lines" >"$list" || fail "$1 $2: no list"
     "$built/events" "${sizes[@]+"${sizes[@]}"}" <"$list" >"$output" || fail "$1 $2: the Rust did not answer"
-    timeout 600 "$program" <"$list" >"$work/other"
+    timeout 120 "$program" <"$list" >"$work/other"
     local ended=$?
     if [ "$ended" -ne 0 ] || ! cmp -s "$output" "$work/other"; then
         printf '%s, seed %s: outputs differ (the program ended with %s)\n' "$1" "$2" "$ended"

@@ -18,13 +18,15 @@ pub fn fill(list: &mut List) {
     };
     while !driver.list.is_full() {
         let all = driver.list.limits.versions as u64;
-        match driver.below(10) {
-            0 => burst(&mut driver, all),
-            1 | 2 => burst(&mut driver, (all / 4).max(16)),
-            3 | 4 => burst(&mut driver, (all / 12).max(8)),
+        match driver.below(12) {
+            0 if driver.once_in(2) => burst(&mut driver, all),
+            0 | 1 => burst(&mut driver, (all / 4).max(16)),
+            2..=4 => burst(&mut driver, (all / 12).max(8)),
             5 => give_back(&mut driver, line),
             6 => steady(&mut driver),
             7 => renew(&mut driver),
+            8 | 9 => drained(&mut driver, line, (all / 16).max(8)),
+            10 => drained(&mut driver, line, (all / 6).max(8)),
             _ => {}
         }
         batches(&mut driver);
@@ -34,6 +36,10 @@ pub fn fill(list: &mut List) {
 /// Retires up to `most` versions, tracked or not, and pops and parks them all.
 fn burst(driver: &mut Driver, most: u64) {
     let count = driver.list.random.within(1, most);
+    burst_of(driver, count);
+}
+
+fn burst_of(driver: &mut Driver, count: u64) {
     let tracked = driver.once_in(3);
     for _ in 0..count {
         if tracked {
@@ -81,9 +87,27 @@ fn give_back(driver: &mut Driver, line: u64) {
     let excess = u64::from(width) * u64::from(height) * driver.below(300);
     let allocated = line.saturating_add(excess);
     driver.say(&format!("note,{allocated}"));
-    if driver.once_in(3) {
+    if driver.once_in(5) {
         driver.say("note,0");
     }
+}
+
+/// A batch and a drain between bursts, with an excess before: what they clear and leave shows in the batches.
+fn drained(driver: &mut Driver, line: u64, some: u64) {
+    burst_of(driver, some);
+    if driver.once_in(2) {
+        driver.say("doomed");
+    }
+    if !driver.once_in(3) {
+        let allocated = line.saturating_add(driver.below(5_000));
+        driver.say(&format!("note,{allocated}"));
+    }
+    if !driver.once_in(4) {
+        driver.say("drain");
+    }
+    burst_of(driver, some);
+    driver.say("doomed");
+    burst_of(driver, some / 2);
 }
 
 /// About as many arrivals between batches, many times.

@@ -51,36 +51,39 @@ impl Lines {
     }
 }
 
-/// Bytes of a version: small, so that many fit a cap, and two of 2^30 that do or do not fit the largest.
-fn edges(list: &mut List) -> Vec<u32> {
-    let large = list.random.once_in(4);
-    let count = list.limits.textures as u64;
-    (0..count)
-        .map(|_| {
-            if large {
-                list.random.one_of(&[4, 8_192, 11_585, 16_384]) as u32
-            } else {
-                list.random.one_of(&[1, 4, 5, 6, 10, 30]) as u32
-            }
-        })
-        .collect()
+/// The edges of the textures and the working set.
+fn sizes(list: &mut List) -> (Vec<u32>, u64) {
+    let count = list.limits.textures;
+    let random = &mut list.random;
+    if random.once_in(3) {
+        // A cap of a whole number of versions, so that one just fits.
+        return (vec![4; count], 8 * 16 * random.within(1, 40));
+    }
+    // Small ones, of which many fit a cap, or some of 2^26 to 2^28 bytes for the largest caps.
+    let edges: &[u64] = if random.once_in(4) {
+        &[4, 8_192, 11_585, 16_384]
+    } else {
+        &[1, 4, 5, 6, 10, 30]
+    };
+    let edges = (0..count).map(|_| random.one_of(edges) as u32).collect();
+    let working_set = match random.below(9) {
+        0 => 0,
+        1 => 7,
+        2 => random.within(1, 300),
+        3 | 4 => random.within(800, 20_000),
+        5 | 6 => 8_000,
+        7 => (1 << 33) + random.within(0, 16) - 8,
+        _ => u64::MAX - random.below(9),
+    };
+    (edges, working_set)
 }
 
 pub fn fill(list: &mut List) {
-    let edges = edges(list);
+    let (edges, working_set) = sizes(list);
     let textures = (0..)
         .zip(edges)
         .map(|(id, edge)| square(id, edge))
         .collect();
-    let working_set = match list.random.below(9) {
-        0 => 0,
-        1 => 7,
-        2 => list.random.within(1, 300),
-        3 | 4 => list.random.within(800, 20_000),
-        5 | 6 => 8_000,
-        7 => (1 << 33) + list.random.within(0, 16) - 8,
-        _ => u64::MAX - list.random.below(9),
-    };
     let lines = Lines::of(working_set);
     let mut driver = Driver::open(list, working_set, textures);
     while !driver.list.is_full() {
