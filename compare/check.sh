@@ -6,6 +6,8 @@
 #   compare/check.sh          builds what is missing, tests and compares
 #   compare/check.sh build    builds only
 set -u
+# Otherwise a shell in a terminal puts that one's height in LINES.
+shopt -u checkwinsize
 cd -- "$(dirname -- "${BASH_SOURCE[0]}")" || exit 1
 
 source_folder=${YEGUDO_SOURCE:-../../shared/docs/src}

@@ -10,6 +10,9 @@
 # call can have occurred (asked only if KINDS is not set), or if the Rust's source is not at hand; else with another
 # number. A list that is answered differently is shortened and printed, and left in difference.events in the build folder.
 set -u
+# Otherwise a shell in a terminal puts that one's height in LINES.
+shopt -u checkwinsize
+lines=${LINES:-20000}
 
 fail() {
     printf 'events_live: %s\n' "$*" >&2
@@ -37,7 +40,6 @@ program=$(realpath -e -- "$1" 2>/dev/null) || fail "$1: there is no such program
 shift
 seeds=("$@")
 [ $# -gt 0 ] || seeds=(1 2 3 4 5 6 7 8)
-lines=${LINES:-20000}
 
 cd -- "$(dirname -- "${BASH_SOURCE[0]}")" || fail 'the folder of this script cannot be entered'
 

@@ -39,16 +39,23 @@ struct Retired {
 /// A rename that is under way, between two of its three calls.
 enum Rename {
     None,
-    Taken {
-        id: u64,
-        held: Option<u64>,
-        version: Texels,
-    },
-    Planned {
-        id: u64,
-        version: Texels,
-        covered: Option<(u32, u32)>,
-    },
+    Taken(Taken),
+    Planned(Planned),
+}
+
+/// The version that a rename is to make live, after its take.
+struct Taken {
+    id: u64,
+    held: Option<u64>,
+    version: Texels,
+}
+
+/// The same after its plan.
+struct Planned {
+    id: u64,
+    version: Texels,
+    /// The slice and level that the plan skipped as covered.
+    covered: Option<(u32, u32)>,
 }
 
 /// The plain book and the live version of one id, and the levels left out.
@@ -91,45 +98,25 @@ impl Books {
     /// Books one line with its answer, and compares what it touched: nothing else has changed.
     pub fn step(&mut self, line: &[u8], reply: &Reply) -> Result<(), Fault> {
         // A line that calls nothing interrupts no rename.
-        let (Some(event), Some(outcome)) = (event::parse(line), reply.outcome) else {
+        let (Some(event), Some(_)) = (event::parse(line), reply.outcome) else {
             return Ok(());
         };
-        let accepted = outcome == 0;
         let rename = std::mem::replace(&mut self.rename, Rename::None);
         let touched = match (event, rename) {
+            (Event::Open { .. }, Rename::None) => None,
             (Event::Take(take), Rename::None) => self.take(&take, reply)?,
-            (Event::Plan(plan), Rename::Taken { id, held, version }) => {
-                if (plan.id, plan.held) != (id, held) {
-                    return list_fault("a plan that is not of its rename");
-                }
-                if accepted {
-                    self.plan(&plan, version, reply)?;
-                }
-                None
-            }
-            (
-                Event::Other(Call::Retire { id, view, seq }),
-                Rename::Planned {
-                    id: planned,
-                    version,
-                    covered,
-                },
-            ) => {
-                if id != planned {
+            (Event::Plan(plan), Rename::Taken(taken)) => self.plan(&plan, taken, reply)?,
+            (Event::Other(Call::Retire { id, view, seq }), Rename::Planned(planned)) => {
+                if id != planned.id {
                     return list_fault("a retirement that is not of its rename");
                 }
-                if accepted {
-                    self.retire(id, view, seq, version, covered)?;
+                if reply.accepted() {
+                    self.retire(view, seq, planned)?;
                 }
                 Some(id)
             }
-            (Event::Open { .. }, _) => None,
             (Event::Other(call), Rename::None) if !matches!(call, Call::Retire { .. }) => {
-                if accepted {
-                    self.other(call, reply)?
-                } else {
-                    None
-                }
+                self.other(call, reply)?
             }
             _ => return list_fault("take, plan and retire do not stand in a row"),
         };
@@ -166,12 +153,19 @@ impl Books {
             },
         };
         let held = reply.field(1);
-        self.rename = Rename::Taken { id, held, version };
+        self.rename = Rename::Taken(Taken { id, held, version });
         Ok(Some(id))
     }
 
-    fn plan(&mut self, plan: &Plan, mut version: Texels, reply: &Reply) -> Result<(), Fault> {
-        let book = &self.textures[&plan.id];
+    fn plan(&mut self, plan: &Plan, taken: Taken, reply: &Reply) -> Result<Option<u64>, Fault> {
+        if (plan.id, plan.held) != (taken.id, taken.held) {
+            return list_fault("a plan that is not of its rename");
+        }
+        if !reply.accepted() {
+            return Ok(None);
+        }
+        let (id, mut version) = (taken.id, taken.version);
+        let book = &self.textures[&id];
         let mut copied = BTreeSet::new();
         for copy in &reply.entries {
             let Some((slice, level, rect)) = copy_of(copy, &version) else {
@@ -181,37 +175,29 @@ impl Books {
             copied.insert((slice, level));
         }
         let named = (plan.slice, plan.level);
-        let covered = plan.full_cover && version.has(named.0, named.1) && !copied.contains(&named);
-        self.rename = Rename::Planned {
-            id: plan.id,
+        let skipped = plan.full_cover && version.has(named.0, named.1) && !copied.contains(&named);
+        let covered = skipped.then_some(named);
+        self.rename = Rename::Planned(Planned {
+            id,
             version,
-            covered: covered.then_some(named),
-        };
-        Ok(())
+            covered,
+        });
+        Ok(None)
     }
 
-    fn retire(
-        &mut self,
-        id: u64,
-        view: u64,
-        seq: u64,
-        version: Texels,
-        covered: Option<(u32, u32)>,
-    ) -> Result<(), Fault> {
+    fn retire(&mut self, view: u64, seq: u64, planned: Planned) -> Result<(), Fault> {
+        let id = planned.id;
         let book = self
             .textures
             .get_mut(&id)
             .expect("its take started the book");
-        let texels = std::mem::replace(&mut book.live, version);
-        let before = std::mem::replace(&mut book.retired, seq);
-        book.left_out.extend(covered);
-        let stage = Stage::Queue;
         let retired = Retired {
             id,
-            texels,
-            before,
-            stage,
+            texels: std::mem::replace(&mut book.live, planned.version),
+            before: std::mem::replace(&mut book.retired, seq),
+            stage: Stage::Queue,
         };
+        book.left_out.extend(planned.covered);
         if self.versions.insert(view, retired).is_some() {
             return list_fault("a view number that another version has");
         }
@@ -220,6 +206,9 @@ impl Books {
 
     /// The accepted calls that stand outside renames; tells which texture they touched.
     fn other(&mut self, call: Call, reply: &Reply) -> Result<Option<u64>, Fault> {
+        if !reply.accepted() {
+            return Ok(None);
+        }
         match call {
             Call::Write(write) => Ok(self.write(&write)),
             Call::Regen { id } => {
@@ -233,7 +222,8 @@ impl Books {
             }
             Call::Pop { .. } => self.pop(reply),
             Call::Park { failed, .. } => self.park(failed),
-            Call::Doomed | Call::Drain => self.destroy(reply),
+            Call::Doomed => self.destroy(reply, |stage| *stage == Stage::Parked),
+            Call::Drain => self.destroy(reply, |stage| *stage != Stage::Hand),
             Call::Retire { .. } | Call::Note { .. } | Call::Trim { .. } | Call::Forget { .. } => {
                 Ok(None)
             }
@@ -280,10 +270,12 @@ impl Books {
         Ok(None)
     }
 
-    fn destroy(&mut self, reply: &Reply) -> Result<Option<u64>, Fault> {
+    /// The versions handed out to be destroyed, which must have been where the call takes them from.
+    fn destroy(&mut self, reply: &Reply, from: fn(&Stage) -> bool) -> Result<Option<u64>, Fault> {
         for entry in &reply.entries {
             let view = entry.first().copied().flatten();
-            if view.and_then(|view| self.versions.remove(&view)).is_none() {
+            let version = view.and_then(|view| self.versions.remove(&view));
+            if !version.is_some_and(|version| from(&version.stage)) {
                 return answer_fault(format!("version {view:?} is not there"));
             }
         }
