@@ -36,7 +36,9 @@ while [ $# -ge 1 ]; do
 done
 [ $# -ge 1 ] || fail 'usage: events_live.sh [--large | SIZES] PROGRAM [SEED ...]'
 program=$(realpath -e -- "$1" 2>/dev/null) || fail "$1: there is no such program"
-[ -f "$program" ] && [ -x "$program" ] || fail "$1: not a program"
+if [ ! -f "$program" ] || [ ! -x "$program" ]; then
+    fail "$1: not a program"
+fi
 shift
 seeds=("$@")
 [ $# -gt 0 ] || seeds=(1 2 3 4 5 6 7 8)

@@ -2,6 +2,7 @@
 
 use std::env;
 use std::fs;
+use std::io::{self, Write};
 use std::process::ExitCode;
 
 use compare::coverage::Counts;
@@ -12,11 +13,13 @@ use compare::replies::Replies;
 fn main() -> ExitCode {
     match counted(env::args().skip(1).collect()) {
         Ok((counts, limits)) => {
-            print!("{}", counts.table(&limits));
             let faults = counts.faults(&limits);
-            faults
-                .iter()
-                .for_each(|fault| println!("coverage: {fault}"));
+            let mut report = counts.table(&limits);
+            for fault in &faults {
+                report += &format!("coverage: {fault}\n");
+            }
+            // If nobody listens any more, there is nothing to tell.
+            let _ = io::stdout().write_all(report.as_bytes());
             ExitCode::from(u8::from(!faults.is_empty()))
         }
         Err(fault) => {

@@ -40,7 +40,7 @@ fn burst(driver: &mut Driver, most: u64) {
 }
 
 fn burst_of(driver: &mut Driver, count: u64) {
-    let tracked = driver.once_in(3);
+    let tracked = driver.once_in(5);
     for _ in 0..count {
         if tracked {
             let at = driver.any();
@@ -110,11 +110,12 @@ fn drained(driver: &mut Driver, line: u64, some: u64) {
     burst_of(driver, some / 2);
 }
 
-/// About as many arrivals between batches, many times.
+/// About as many arrivals between batches, some times.
 fn steady(driver: &mut Driver) {
-    let most = driver.list.random.within(1, 60);
-    for _ in 0..10 {
-        burst(driver, most);
+    let most = (driver.list.limits.versions as u64 / 10).max(6);
+    let count = driver.list.random.within(most / 2, most);
+    for _ in 0..5 {
+        burst_of(driver, count);
         driver.say("doomed");
     }
 }

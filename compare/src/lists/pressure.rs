@@ -2,8 +2,10 @@
 
 use super::List;
 use super::driver::Driver;
-use super::texture::Texture;
+use super::texture::{self, Texture};
+use crate::random::Random;
 use crate::shape::RawShape;
+use crate::texture_versions::VersionShape;
 
 /// A flat texture of `edge` times `edge` bytes.
 const fn square(id: u64, edge: u32) -> Texture {
@@ -51,22 +53,46 @@ impl Lines {
     }
 }
 
-/// The edges of the textures and the working set.
-fn sizes(list: &mut List) -> (Vec<u32>, u64) {
-    let count = list.limits.textures;
-    let random = &mut list.random;
-    if random.once_in(3) {
+/// The bytes of one version of the texture.
+fn bytes(texture: &Texture) -> u64 {
+    let desc = texture.shape.desc().expect("the shape is not bad");
+    VersionShape::of(&desc).bytes()
+}
+
+/// Squares of these edges, one of them for each texture place.
+fn squares(list: &mut List, edges: &[u64]) -> Vec<Texture> {
+    (0..list.limits.textures as u64)
+        .map(|id| square(id, list.random.one_of(edges) as u32))
+        .collect()
+}
+
+/// The textures and the working set.
+fn sizes(list: &mut List) -> (Vec<Texture>, u64) {
+    match list.random.below(4) {
         // A cap of a whole number of versions, so that one just fits.
-        return (vec![4; count], 8 * 16 * random.within(1, 40));
+        0 => (squares(list, &[4]), 8 * 16 * list.random.within(1, 40)),
+        1 => {
+            // Shapes of any sort, and a cap that some versions of two textures just fill.
+            let (places, pages) = (list.limits.textures as u64, list.limits.pages as u64);
+            let textures = texture::textures(&mut list.random, places, pages, 40);
+            let filled = bytes(&textures[0]) * list.random.within(1, 6)
+                + bytes(&textures[textures.len() - 1]) * list.random.below(6);
+            (textures, 8 * filled)
+        }
+        kind => {
+            // Small ones, of which many fit a cap, or some of 2^26 to 2^28 bytes for the largest caps.
+            let edges: &[u64] = if kind == 2 && list.random.once_in(2) {
+                &[4, 8_192, 11_585, 16_384]
+            } else {
+                &[1, 4, 5, 6, 10, 30]
+            };
+            (squares(list, edges), working_set(&mut list.random))
+        }
     }
-    // Small ones, of which many fit a cap, or some of 2^26 to 2^28 bytes for the largest caps.
-    let edges: &[u64] = if random.once_in(4) {
-        &[4, 8_192, 11_585, 16_384]
-    } else {
-        &[1, 4, 5, 6, 10, 30]
-    };
-    let edges = (0..count).map(|_| random.one_of(edges) as u32).collect();
-    let working_set = match random.below(9) {
+}
+
+fn working_set(random: &mut Random) -> u64 {
+    match random.below(9) {
         0 => 0,
         1 => 7,
         2 => random.within(1, 300),
@@ -74,16 +100,11 @@ fn sizes(list: &mut List) -> (Vec<u32>, u64) {
         5 | 6 => 8_000,
         7 => (1 << 33) + random.within(0, 16) - 8,
         _ => u64::MAX - random.below(9),
-    };
-    (edges, working_set)
+    }
 }
 
 pub fn fill(list: &mut List) {
-    let (edges, working_set) = sizes(list);
-    let textures = (0..)
-        .zip(edges)
-        .map(|(id, edge)| square(id, edge))
-        .collect();
+    let (textures, working_set) = sizes(list);
     let lines = Lines::of(working_set);
     let mut driver = Driver::open(list, working_set, textures);
     while !driver.list.is_full() {
@@ -138,9 +159,8 @@ fn allocated(driver: &mut Driver, lines: &Lines) -> u64 {
         5 => 0,
         _ => {
             let at = driver.any();
-            let edge = u64::from(driver.textures[at].shape.width);
-            let bytes = edge * edge * driver.below(12);
-            lines.line.saturating_add(bytes)
+            let excess = bytes(&driver.textures[at]) * driver.below(12);
+            lines.line.saturating_add(excess)
         }
     };
     base.saturating_add(driver.below(3)).saturating_sub(1)

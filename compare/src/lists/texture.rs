@@ -22,7 +22,13 @@ pub fn textures(random: &mut Random, count: u64, pages: u64, most: u32) -> Vec<T
     let mut left = pages;
     (0..count)
         .map(|number| {
-            let room = if number < 3 { (left / 2).max(1) } else { 1 };
+            // Those without a history may have more levels and slices than there are pages.
+            let bare = number >= 3 && random.once_in(2);
+            let room = match number {
+                _ if bare => 20,
+                0..3 => (left / 2).max(1),
+                _ => 1,
+            };
             let mut shape = shape(random, most, room);
             if number == 2 && room >= 12 {
                 // Several slices with levels to regenerate, where the pages allow it.
@@ -30,11 +36,7 @@ pub fn textures(random: &mut Random, count: u64, pages: u64, most: u32) -> Vec<T
                 shape.levels = random.within(2, (room / 6).min(15)) as u32;
             }
             let fits = shape.pages() <= left;
-            let records = if fits {
-                !random.once_in(8)
-            } else {
-                random.once_in(8)
-            };
+            let records = random.once_in(8) != (fits && !bare);
             if fits && records {
                 left -= shape.pages();
             }
