@@ -1,10 +1,13 @@
 #!/usr/bin/env bash
-# The gate's share of the comparison with the Rust: the oracle's own tests, then the leaf questions on fixed seeds.
+# The gate's share of the comparison with the Rust: the oracle's own tests, the leaf questions on fixed seeds, then the
+# event programs on lists of events from fixed seeds, with the coverage of outcomes and the two books.
 # Without the Rust's source, or without cargo, it says so and ends with 0: the stored answers are checked by rt ci all the same.
 #
 #   compare/check.sh          builds what is missing, tests and compares
 #   compare/check.sh build    builds only
 set -u
+# Otherwise a shell in a terminal puts that one's height in LINES.
+shopt -u checkwinsize
 cd -- "$(dirname -- "${BASH_SOURCE[0]}")" || exit 1
 
 source_folder=${YEGUDO_SOURCE:-../../shared/docs/src}
@@ -27,4 +30,20 @@ cargo test --release --offline -q >"$log" 2>&1 || {
     cat -- "$log"
     exit 1
 }
-COUNT=${COUNT:-5000} ./leaf_live.sh ../target/bin/leaf_answers
+COUNT=${COUNT:-5000} ./leaf_live.sh ../target/bin/leaf_answers || exit 1
+
+# compare_program NAME LINES OPTION ..: each kind of list has LINES lines in each of four seeds.
+compare_program() {
+    local program=../target/bin/$1 lines=$2
+    shift 2
+    if [ -x "$program" ]; then
+        LINES=${LINES:-$lines} ./events_live.sh "$@" "$program" 1 2 3 4 || exit 1
+    elif [ -d "../crates/${program##*/}" ]; then
+        printf '%s is missing: its crate is there, so build it first\n' "$program"
+        exit 1
+    fi
+}
+
+compare_program event_program 5000
+# It takes more lines to fill 2,000 places.
+compare_program event_program_large 12000 --large

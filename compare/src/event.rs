@@ -2,7 +2,7 @@
 
 use crate::shape::RawShape;
 use crate::text::Fields;
-use crate::texture_versions::{TexelRect, UploadFootprint};
+use crate::texture_versions::TexelRect;
 
 /// A well-formed line.
 pub enum Event {
@@ -24,7 +24,10 @@ pub struct Take {
 pub struct Plan {
     pub id: u64,
     pub held: Option<u64>,
-    pub upload: UploadFootprint,
+    /// The upload's slice and level, and whether it rewrites that whole level.
+    pub slice: u32,
+    pub level: u32,
+    pub full_cover: bool,
 }
 
 /// The lines that need an open pool and nothing else.
@@ -77,7 +80,9 @@ fn plan(f: &mut Fields) -> Option<Plan> {
     Some(Plan {
         id: f.next_u64()?,
         held: f.next_or_none()?,
-        upload: UploadFootprint::new(f.next_u32()?, f.next_u32()?, f.next_flag()?),
+        slice: f.next_u32()?,
+        level: f.next_u32()?,
+        full_cover: f.next_flag()?,
     })
 }
 

@@ -5,15 +5,21 @@
 
 #![forbid(unsafe_code)]
 
+pub mod books;
+pub mod coverage;
 pub mod event;
 pub mod leaf;
 pub mod limited;
 pub mod lines;
+pub mod lists;
+pub mod options;
 pub mod program;
 pub mod questions;
 pub mod random;
 pub mod refusal;
+pub mod replies;
 pub mod shape;
+pub mod shrink;
 pub mod standins;
 pub mod text;
 

@@ -36,6 +36,13 @@ pub fn answer_bytes(input: &[u8], mut answer: impl FnMut(&[u8], &mut Vec<u8>)) -
     }
 }
 
+/// The lines of a whole input, without their line feeds.
+pub fn lines_of(input: &[u8]) -> impl Iterator<Item = &[u8]> {
+    input
+        .split_inclusive(|byte| *byte == b'\n')
+        .map(|line| line.strip_suffix(b"\n").unwrap_or(line))
+}
+
 fn answer_all(
     mut from: impl Read,
     mut to: impl Write,

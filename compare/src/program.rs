@@ -1,11 +1,11 @@
 //! Document 01's event program over the published pool.
 
-use crate::event::{self, Call, Event, Take};
+use crate::event::{self, Call, Event, Plan, Take};
 use crate::limited::{LimitedPool, Limits};
 use crate::refusal::Refusal;
 use crate::shape::RawShape;
 use crate::text::{push_field, push_number, push_optional};
-use crate::texture_versions::PreserveCopy;
+use crate::texture_versions::{PreserveCopy, UploadFootprint};
 
 /// The program between two lines.
 pub struct Program {
@@ -75,9 +75,7 @@ impl Program {
             }
             (Event::Plan(plan), Some(pool)) => match &self.latest {
                 None => Ok(Answer::Question),
-                Some(shape) => pool
-                    .preserve_plan(plan.id, shape, plan.held, &plan.upload)
-                    .map(Answer::Copies),
+                Some(shape) => call_plan(pool, shape, &plan),
             },
             (Event::Other(call), Some(pool)) => call_other(pool, call),
         };
@@ -98,6 +96,12 @@ fn call_take(pool: &mut LimitedPool, take: &Take) -> Result<Answer, Refusal> {
     let spare = pool.take_spare(take.id, &take.shape, take.records, take.seq)?;
     let view = spare.map(|(view, _)| view);
     Ok(Answer::Pair(view, spare.and_then(|(_, held)| held)))
+}
+
+fn call_plan(pool: &LimitedPool, shape: &RawShape, plan: &Plan) -> Result<Answer, Refusal> {
+    let upload = UploadFootprint::new(plan.slice, plan.level, plan.full_cover);
+    pool.preserve_plan(plan.id, shape, plan.held, &upload)
+        .map(Answer::Copies)
 }
 
 fn call_other(pool: &mut LimitedPool, call: Call) -> Result<Answer, Refusal> {
