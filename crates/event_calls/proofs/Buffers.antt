@@ -19,11 +19,11 @@ use Rattle.stores.specs.DrainVersions.{drainVersions}
 use Rattle.layout.specs.Lent.{Lent}
 use Rattle.layout.specs.Calls.{Told, refusal, answer, asked, inBuffer, regionNumbers, copyNumbers, viewNumbers, preservePlanCall, takeDoomedCall, drainVersionsCall}
 use Rattle.books.specs.Demand3.{Reply, copiesPlanned, viewsHanded}
-use Rattle.books.specs.LentLists.{lentPlan, lentDoomed, lentDrain, said, filled, replyOf as toldReply, copiesReply, viewsReply, lentCall}
+use Rattle.books.specs.LentLists.{LentCall, lentTake, lentPlan, lentRetire, lentWrite, lentRegen, lentPop, lentPark, lentNote, lentDoomed, lentDrain, lentTrim, lentForget, said, filled, replyOf as toldReply, copiesReply, viewsReply, lentCall}
 use Rattle.books.proofs.Answers.{copies-read, views-read}
 use Rattle.event_answers.specs.Answers.{replyOf, InBuffers}
 use Rattle.event_answers.specs.declared.answer.Answer.{Answer}
-use Rattle.event_calls.specs.Calls.{Says, MadeCopies, MadeViews, blank, viewsAnswer, copiesAnswer}
+use Rattle.event_calls.specs.Calls.{Says, MadeCopies, MadeViews, blank, blanked, viewsAnswer, copiesAnswer}
 
 -- ---- the reply, without the buffer
 
@@ -38,24 +38,42 @@ views-said b (answer vs, l) = ap (λ (x : List ℕ). (viewsHanded x, l)) (views-
 -- ---- two buffers of one length give one reply, and leave the same stores
 
 module _ (l : Lent) (b c : List ℕ) (same : length b ≡ length c) where
-  pub any-buffer-plan : (id : ℕ) (shape : VersionShape) (held : Held) (u : UploadFootprint)
+  any-buffer-plan : (id : ℕ) (shape : VersionShape) (held : Held) (u : UploadFootprint)
       → lentCall l (lentPlan id shape held u b) ≡ lentCall l (lentPlan id shape held u c)
   unfolding lentCall preservePlanCall
   any-buffer-plan id shape held u =
       let o : ℕ → Told (List PreserveCopy) × Lent = λ n. asked (λ a. a) l (λ (p : Pool ℕ). preservePlan p id shape held u (n / 7)) in
       copies-said b (o (length b)) ∙ ap (λ (n : ℕ). said copiesPlanned (o n)) same ∙ sym (copies-said c (o (length c)))
 
-  pub any-buffer-doomed : lentCall l (lentDoomed b) ≡ lentCall l (lentDoomed c)
+  any-buffer-doomed : lentCall l (lentDoomed b) ≡ lentCall l (lentDoomed c)
   unfolding lentCall takeDoomedCall
   any-buffer-doomed =
       let o : ℕ → Told (List ℕ) × Lent = λ n. asked (λ a. a) l (λ (p : Pool ℕ). takeDoomed p n) in
       views-said b (o (length b)) ∙ ap (λ (n : ℕ). said viewsHanded (o n)) same ∙ sym (views-said c (o (length c)))
 
-  pub any-buffer-drain : lentCall l (lentDrain b) ≡ lentCall l (lentDrain c)
+  any-buffer-drain : lentCall l (lentDrain b) ≡ lentCall l (lentDrain c)
   unfolding lentCall drainVersionsCall
   any-buffer-drain =
       let o : ℕ → Told (List ℕ) × Lent = λ n. asked (λ a. a) l (λ (p : Pool ℕ). drainVersions p n) in
       views-said b (o (length b)) ∙ ap (λ (n : ℕ). said viewsHanded (o n)) same ∙ sym (views-said c (o (length c)))
+
+blank-long : (b : List ℕ) → length b ≡ length (blank b)
+blank-long b = sym (length-replicate (length b) 0)
+
+-- a call says and leaves the same with a buffer of as many zeros
+pub any-buffer : (l : Lent) (c : LentCall) → lentCall l c ≡ lentCall l (blanked c)
+any-buffer l (lentTake id shape records seq) = refl
+any-buffer l (lentPlan id shape held u b) = any-buffer-plan l b (blank b) (blank-long b) id shape held u
+any-buffer l (lentRetire id view seq) = refl
+any-buffer l (lentWrite id slice level r) = refl
+any-buffer l (lentRegen id) = refl
+any-buffer l (lentPop settled) = refl
+any-buffer l (lentPark failed now) = refl
+any-buffer l (lentNote allocated) = refl
+any-buffer l (lentDoomed b) = any-buffer-doomed l b (blank b) (blank-long b)
+any-buffer l (lentDrain b) = any-buffer-drain l b (blank b) (blank-long b)
+any-buffer l (lentTrim now) = refl
+any-buffer l (lentForget id) = refl
 
 -- ---- the entries stand in the buffer
 
@@ -109,9 +127,6 @@ unfolding replyOf
 views-answered (refusal n) copies exit = refl
 views-answered (answer n) copies exit = refl
 
-blank-long : (b : List ℕ) → length b ≡ length (blank b)
-blank-long b = sym (length-replicate (length b) 0)
-
 module _ (l after : Lent) (b exit : List ℕ) (t : Told ℕ) where
   pub made-plan : (id : ℕ) (shape : VersionShape) (held : Held) (u : UploadFootprint) → (t, (exit, after)) ≡ preservePlanCall l b id shape held u
       → (a : Answer) → a ≡ copiesAnswer t → MadeCopies l (lentPlan id shape held u (blank b)) a exit after
@@ -119,7 +134,7 @@ module _ (l after : Lent) (b exit : List ℕ) (t : Told ℕ) where
   made-plan id shape held u e a q =
       let o = asked (λ a. a) l (λ (p : Pool ℕ). preservePlan p id shape held u (length b / 7)) in
       let k : (toldReply (λ (n : ℕ). copiesReply n exit) t, after) ≡ lentCall l (lentPlan id shape held u (blank b)) =
-      ap (filled copiesReply) e ∙ any-buffer-plan l b (blank b) (blank-long b) id shape held u in
+      ap (filled copiesReply) e ∙ any-buffer l (lentPlan id shape held u b) in
       rw q (
         λ views. (subst (CopiesStand views) (sym e) (copies-stand views b o), copies-answered t exit views ∙ ap (λ (x : Reply × Lent). some (x .0)) k),
         ap (λ (x : Reply × Lent). x .1) k,
@@ -131,7 +146,7 @@ module _ (l after : Lent) (b exit : List ℕ) (t : Told ℕ) where
     made-doomed e =
         let o = asked (λ a. a) l (λ (p : Pool ℕ). takeDoomed p (length b)) in
         let k : (toldReply (λ (n : ℕ). viewsReply n exit) t, after) ≡ lentCall l (lentDoomed (blank b)) =
-        ap (filled viewsReply) e ∙ any-buffer-doomed l b (blank b) (blank-long b) in
+        ap (filled viewsReply) e ∙ any-buffer l (lentDoomed b) in
         rw q (
           λ copies. (subst (ViewsStand copies) (sym e) (views-stand copies b o), views-answered t copies exit ∙ ap (λ (x : Reply × Lent). some (x .0)) k),
           ap (λ (x : Reply × Lent). x .1) k,
@@ -142,7 +157,7 @@ module _ (l after : Lent) (b exit : List ℕ) (t : Told ℕ) where
     made-drain e =
         let o = asked (λ a. a) l (λ (p : Pool ℕ). drainVersions p (length b)) in
         let k : (toldReply (λ (n : ℕ). viewsReply n exit) t, after) ≡ lentCall l (lentDrain (blank b)) =
-        ap (filled viewsReply) e ∙ any-buffer-drain l b (blank b) (blank-long b) in
+        ap (filled viewsReply) e ∙ any-buffer l (lentDrain b) in
         rw q (
           λ copies. (subst (ViewsStand copies) (sym e) (views-stand copies b o), views-answered t copies exit ∙ ap (λ (x : Reply × Lent). some (x .0)) k),
           ap (λ (x : Reply × Lent). x .1) k,

@@ -7,7 +7,7 @@ use lib.ListN.{length, replicate}
 use Rattle.layout.specs.Lent.{Lent}
 use Rattle.layout.specs.Calls.{Told, refusal, answer, TakenVersion, PoppedVersion}
 use Rattle.books.specs.Demand3.{Reply}
-use Rattle.books.specs.LentLists.{LentCall, lentCall}
+use Rattle.books.specs.LentLists.{LentCall, lentTake, lentPlan, lentRetire, lentWrite, lentRegen, lentPop, lentPark, lentNote, lentDoomed, lentDrain, lentTrim, lentForget, lentCall}
 use Rattle.event_answers.specs.Answers.{replyOf, InBuffers}
 use Rattle.event_answers.specs.declared.answer.Answer.{Answer}
 use Rattle.event_answers.specs.declared.answer.Answer.the-variants.{Refused, Done, Spare, NoSpare, Version, NothingSettled, Views, Copies}
@@ -29,6 +29,20 @@ Made l c a exit = SaysAlone a (lentCall l c .0) × (exit ≡ lentCall l c .1)
 -- (law `any-buffer`), so the call is that with as many zeros.
 abbrev pub blank : List ℕ → List ℕ
 blank buffer = replicate (length buffer) 0
+
+abbrev pub blanked : LentCall → LentCall
+blanked (lentPlan id shape held upload buffer) = lentPlan id shape held upload (blank buffer)
+blanked (lentDoomed buffer) = lentDoomed (blank buffer)
+blanked (lentDrain buffer) = lentDrain (blank buffer)
+blanked (lentTake id shape records seq) = lentTake id shape records seq
+blanked (lentRetire id view seq) = lentRetire id view seq
+blanked (lentWrite id slice level rect) = lentWrite id slice level rect
+blanked (lentRegen id) = lentRegen id
+blanked (lentPop settled) = lentPop settled
+blanked (lentPark failed now) = lentPark failed now
+blanked (lentNote allocated) = lentNote allocated
+blanked (lentTrim now) = lentTrim now
+blanked (lentForget id) = lentForget id
 
 unfoldable pub MadeCopies : Lent → LentCall → Answer → List ℕ → Lent → Type 0
 MadeCopies l c a copies exit = ((views : List ℕ) → Says a copies views (lentCall l c .0)) × (exit ≡ lentCall l c .1)
