@@ -1,9 +1,9 @@
 -- `call_plain` meets its contract: the event names the call. Assumes nothing.
 use borrow.Author.Needs.{needs}
 use mathlib.Core.Path.{refl}
-use Rattle.event_sessions.proofs.Steps.{made-if, made, none-made}
-use Rattle.event_sessions.proofs.plain.call_plain.Statement.{statement}
-use Rattle.event_sessions.proofs.plain.call_plain.Tie as tie
+use Rattle.event_plain.proofs.Asked.{made-if, made, none-made}
+use Rattle.event_plain.proofs.plain.call_plain.Statement.{statement}
+use Rattle.event_plain.proofs.plain.call_plain.Tie as tie
 
 enum-known-event : tie.Need-enum-known-event
 enum-known-event c = search needs
