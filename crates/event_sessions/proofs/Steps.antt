@@ -1,16 +1,15 @@
 -- What an event's call says and leaves is what its step has. Assumes nothing.
 use Prim.Native.Nat.{ℕ}
-use mathlib.Core.Path.{_≡_, refl, sym, ap, _∙_}
-use mathlib.Core.Bool.{Bool, true, false, cond}
-use mathlib.Core.Option.{Option, none, some}
+use mathlib.Core.Path.{_≡_, refl, sym, _∙_}
+use mathlib.Core.Bool.{Bool, true, false}
+use mathlib.Core.Option.{none, some}
 use mathlib.Core.List.{List, [], _∷_}
-use lib.ListN.{length, replicate}
+use lib.ListN.{length}
 use types.Run.{OneOf, miss}
 use denote.Enum.Declared.{tagOf}
 use Rattle.shapes.specs.declared.shape.VersionShape.{VersionShape}
 use Rattle.stores.specs.declared.held.Held.{Held}
 use Rattle.layout.specs.Lent.{Lent}
-use Rattle.books.specs.Demand3.{Reply}
 use Rattle.books.specs.LentLists.{LentCall, lentCall, lentPlan, lentDoomed, lentDrain}
 use Rattle.event_lines.specs.declared.event.Event.{Event}
 use Rattle.event_lines.proofs.event.Event.{the-type}
