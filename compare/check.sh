@@ -32,18 +32,18 @@ cargo test --release --offline -q >"$log" 2>&1 || {
 }
 COUNT=${COUNT:-5000} ./leaf_live.sh ../target/bin/leaf_answers || exit 1
 
-# compare_program NAME LINES OPTION ..: each kind of list has LINES lines in each of four seeds.
+# compare_program NAME LINES OPTION ..: each kind of list has LINES lines in each of eight seeds.
 compare_program() {
     local program=../target/bin/$1 lines=$2
     shift 2
     if [ -x "$program" ]; then
-        LINES=${LINES:-$lines} ./events_live.sh "$@" "$program" 1 2 3 4 || exit 1
+        LINES=${LINES:-$lines} ./events_live.sh "$@" "$program" 1 2 3 4 5 6 7 8 || exit 1
     elif [ -d "../crates/${program##*/}" ]; then
         printf '%s is missing: its crate is there, so build it first\n' "$program"
         exit 1
     fi
 }
 
-compare_program event_program 5000
+compare_program event_program 2500
 # It takes more lines to fill 2,000 places.
-compare_program event_program_large 12000 --large
+compare_program event_program_large 8000 --large

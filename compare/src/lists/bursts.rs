@@ -9,7 +9,7 @@ pub fn fill(list: &mut List) {
     let pages = list.limits.pages as u64;
     let textures = texture::textures(&mut list.random, places, pages, 40);
     // Caps of nothing, of some, of all.
-    let working_set = list.random.one_of(&[0, 7, 200_000, 4_000_000]);
+    let working_set = [0, 7, 200_000, 4_000_000][list.seed as usize % 4];
     let mut driver = Driver::open(list, working_set, textures);
     let line = if working_set == 0 {
         u64::MAX

@@ -27,6 +27,8 @@ pub type Answering<'a> = Box<dyn FnMut(&[u8], &mut Vec<u8>) + 'a>;
 
 /// A list being written.
 pub struct List<'a> {
+    /// The seed as it was given: eight seeds in a row give each sort of list that a kind has.
+    pub seed: u64,
     pub random: Random,
     pub limits: Limits,
     text: Vec<u8>,
@@ -38,9 +40,16 @@ pub struct List<'a> {
 }
 
 impl<'a> List<'a> {
-    fn new(seed: u64, wanted: u64, limits: Limits, answering: Answering<'a>) -> Self {
+    fn new(
+        seed: u64,
+        random: Random,
+        wanted: u64,
+        limits: Limits,
+        answering: Answering<'a>,
+    ) -> Self {
         Self {
-            random: Random::new(seed),
+            seed,
+            random,
             limits,
             text: Vec::new(),
             lines: 0,
@@ -98,8 +107,8 @@ pub fn list_beside(
 ) -> Option<Vec<u8>> {
     let number = KINDS.iter().position(|name| *name == kind)?;
     // Kinds of one seed are to differ in their numbers too.
-    let seed = Random::new(seed).next().wrapping_add(number as u64);
-    let mut list = List::new(seed, wanted, limits, answering);
+    let random = Random::new(Random::new(seed).next().wrapping_add(number as u64));
+    let mut list = List::new(seed, random, wanted, limits, answering);
     match kind {
         "renames" => renames::fill(&mut list, renames::EXTENTS),
         "texels" => renames::fill(&mut list, renames::SMALL_EXTENTS),

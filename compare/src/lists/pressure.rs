@@ -3,7 +3,6 @@
 use super::List;
 use super::driver::Driver;
 use super::texture::{self, Texture};
-use crate::random::Random;
 use crate::shape::RawShape;
 use crate::texture_versions::VersionShape;
 
@@ -66,41 +65,39 @@ fn squares(list: &mut List, edges: &[u64]) -> Vec<Texture> {
         .collect()
 }
 
-/// The textures and the working set.
+/// The textures and the working set, of eight sorts.
 fn sizes(list: &mut List) -> (Vec<Texture>, u64) {
-    match list.random.below(4) {
+    const SMALL: &[u64] = &[1, 4, 5, 6, 10, 30];
+    // Of 2^26 to 2^28 bytes, for the largest caps.
+    const LARGE: &[u64] = &[8_192, 16_384, 16_384, 16_384];
+    match list.seed % 8 {
+        0 => (squares(list, LARGE), 0),
         // A cap of a whole number of versions, so that one just fits.
-        0 => (squares(list, &[4]), 8 * 16 * list.random.within(1, 40)),
-        1 => {
-            // Shapes of any sort, and a cap that some versions of two textures just fill.
-            let (places, pages) = (list.limits.textures as u64, list.limits.pages as u64);
-            let textures = texture::textures(&mut list.random, places, pages, 40);
-            let filled = bytes(&textures[0]) * list.random.within(1, 6)
-                + bytes(&textures[textures.len() - 1]) * list.random.below(6);
-            (textures, 8 * filled)
-        }
-        kind => {
-            // Small ones, of which many fit a cap, or some of 2^26 to 2^28 bytes for the largest caps.
-            let edges: &[u64] = if kind == 2 && list.random.once_in(2) {
-                &[4, 8_192, 11_585, 16_384]
-            } else {
-                &[1, 4, 5, 6, 10, 30]
-            };
-            (squares(list, edges), working_set(&mut list.random))
-        }
+        1 => (squares(list, &[4]), 8 * 16 * list.random.within(1, 40)),
+        2 => any_shapes(list),
+        // Numbers that four and eight do not divide.
+        3 => (
+            squares(list, &[1, 1, 2]),
+            list.random.one_of(&[7, 43, 59, 103]),
+        ),
+        4 => (squares(list, SMALL), list.random.within(800, 20_000)),
+        // About where the cap becomes the largest.
+        5 => (
+            squares(list, LARGE),
+            (1 << 33) + 8 * list.random.below(3) - 8,
+        ),
+        6 => (squares(list, LARGE), u64::MAX - list.random.below(9)),
+        _ => (squares(list, SMALL), 8_000),
     }
 }
 
-fn working_set(random: &mut Random) -> u64 {
-    match random.below(9) {
-        0 => 0,
-        1 => 7,
-        2 => random.within(1, 300),
-        3 | 4 => random.within(800, 20_000),
-        5 | 6 => 8_000,
-        7 => (1 << 33) + random.within(0, 16) - 8,
-        _ => u64::MAX - random.below(9),
-    }
+/// Shapes of any sort, and a cap that some versions of two textures just fill.
+fn any_shapes(list: &mut List) -> (Vec<Texture>, u64) {
+    let (places, pages) = (list.limits.textures as u64, list.limits.pages as u64);
+    let textures = texture::textures(&mut list.random, places, pages, 40);
+    let filled = bytes(&textures[0]) * list.random.within(1, 6)
+        + bytes(&textures[textures.len() - 1]) * list.random.below(6);
+    (textures, 8 * filled)
 }
 
 pub fn fill(list: &mut List) {
@@ -139,6 +136,7 @@ fn step(driver: &mut Driver, lines: &Lines) {
             driver.say(&format!("trim,{now}"));
         }
         94 => driver.submit(3),
+        95..=97 => squeeze(driver, lines),
         _ => {
             // A parking number out of the order of parking.
             if driver.pop() {
@@ -147,6 +145,31 @@ fn step(driver: &mut Driver, lines: &Lines) {
             }
         }
     }
+}
+
+/// Just past the line, some versions destroyed at once, then past it by about the bytes that wait: the next spare goes
+/// or stays.
+fn squeeze(driver: &mut Driver, lines: &Lines) {
+    let some = driver.list.random.within(1, 3);
+    let mut waiting = 0;
+    driver.submit(9);
+    driver.settle();
+    driver.say("doomed");
+    for _ in 0..some {
+        let at = driver.any();
+        driver.rename(at);
+        waiting += bytes(&driver.textures[at]);
+    }
+    driver.submit(9);
+    let line = lines.line;
+    driver.say(&format!("note,{}", line.saturating_add(1)));
+    driver.settle();
+    let at = driver.any();
+    let one = bytes(&driver.textures[at]) * driver.below(3);
+    let excess = (waiting + one + driver.below(4)).saturating_sub(1);
+    driver.say(&format!("note,{}", line.saturating_add(excess)));
+    driver.say("doomed");
+    driver.say(&format!("note,{}", lines.resume.saturating_sub(1)));
 }
 
 /// Bytes allocated: close to one of the lines, or past the first by some versions' bytes.

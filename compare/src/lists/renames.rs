@@ -4,25 +4,24 @@
 use super::List;
 use super::driver::Driver;
 use super::texture;
-use crate::random::Random;
 
 /// The largest extents: any, or so small that books can be kept of every texel.
 pub const EXTENTS: u32 = 16_384;
 pub const SMALL_EXTENTS: u32 = 64;
 
-fn working_set(random: &mut Random, most: u32) -> u64 {
-    if random.once_in(2) {
+fn working_set(list: &mut List, most: u32) -> u64 {
+    if list.seed.is_multiple_of(2) {
         return 0;
     }
     // A cap of some versions.
-    u64::from(most) * u64::from(most) * random.within(8, 400)
+    u64::from(most) * u64::from(most) * list.random.within(8, 400)
 }
 
 pub fn fill(list: &mut List, most: u32) {
     let (places, pages) = (list.limits.textures as u64, list.limits.pages as u64);
     // A few more textures than there are places.
     let textures = texture::textures(&mut list.random, places + 2, pages, most);
-    let working_set = working_set(&mut list.random, most);
+    let working_set = working_set(list, most);
     let line = working_set / 4 * 3;
     let mut driver = Driver::open(list, working_set, textures);
     while !driver.list.is_full() {
