@@ -4,7 +4,7 @@
 #   compare/events_live.sh [--large | --textures N --versions N --pages N --answers N] PROGRAM [SEED ...]
 #
 # PROGRAM is document 01's event program with these sizes (8, 64, 6 and 90 without options; --large: 64, 2000, 256 and
-# 4096). In the environment: LINES, the lines of each list (20000), and KINDS, the kinds of lists (all). Without seeds a
+# 300). In the environment: LINES, the lines of each list (20000), and KINDS, the kinds of lists (all). Without seeds a
 # fixed set is used.
 # Ends with 0 if every output is equal, the two books agree on the lists that are made for them and every outcome that a
 # call can have occurred (asked only if KINDS is not set), or if the Rust's source is not at hand; else with another
@@ -23,7 +23,7 @@ sizes=()
 while [ $# -ge 1 ]; do
     case $1 in
     --large)
-        sizes+=(--textures 64 --versions 2000 --pages 256 --answers 4096)
+        sizes+=(--textures 64 --versions 2000 --pages 256 --answers 300)
         shift
         ;;
     --*)

@@ -18,7 +18,7 @@ seeded_list() { # KIND SEED LINES TEXTURES VERSIONS PAGES ANSWERS
     cat stored/sample.events stored/traps.events stored/refusals.events stored/pacing.events
     for kind in $("$built/lists" kinds); do
         seeded_list "$kind" 1 400 8 64 6 90
-        seeded_list "$kind" 2 400 64 2000 256 4096
+        seeded_list "$kind" 2 400 64 2000 256 300
         seeded_list "$kind" 3 400 8 64 6 5
     done
 } >"$replay/stdin"
