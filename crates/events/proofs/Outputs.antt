@@ -51,17 +51,17 @@ lines-behind input line lines e = go (decLt (indexOf lineFeed input) (length inp
         b ∙ ap (λ (i : ℕ). wholeLines (drop i input)) n
     go (no h) = absurd (let f = no-line input (omega arith) in let z : _≡_ {A = ℕ} 0 1 = cc in let y : ⊥ = omega arith in y)
 
+-- ---- what a caller that runs the next lines needs
+
+pub record Left (bytes : ℕ) (p q : Progress) : Type 0 where
+  -- no more bytes were run than there are
+  pub least : p .from ≤ q .from
+  pub most : q .from ≤ p .from + bytes
+  -- and no more lines than bytes
+  pub counted : q .number + p .from ≤ p .number + q .from
+  pub pool : HoldsPool (q .state)
+
 module _ (cs vs : ℕ) where
-  -- ---- what a caller that runs the next lines needs
-
-  pub record Left (bytes : ℕ) (p q : Progress) : Type 0 where
-    -- no more bytes were run than there are
-    pub least : p .from ≤ q .from
-    pub most : q .from ≤ p .from + bytes
-    -- and no more lines than bytes
-    pub counted : q .number + p .from ≤ p .number + q .from
-    pub pool : HoldsPool (q .state)
-
   state-kept : (s : State) (line : List ℕ) → HoldsPool s → HoldsPool (lineState cs vs s line)
   unfolding lineState
   state-kept s line h = step-keeps ?stub cs vs s (eventOf line) h

@@ -14,7 +14,7 @@ use Rattle.event_answers.specs.declared.answer.Answer.{Answer}
 use Rattle.event_answers.specs.declared.answer.Answer.the-variants.{Question, Refused, Done, Spare, NoSpare, Version, NothingSettled, Views, Copies}
 use Rattle.event_answers.specs.Answers.{replyOf, entries, InBuffers}
 use Rattle.event_answers.specs.Printed.{lineFeed, printed, mostBytes}
-use Rattle.event_answers.proofs.StubLaws.{printed-most}
+use Rattle.event_answers.proofs.Most.{printed-most}
 use Rattle.events.specs.Lines.{longestAnswer}
 use Rattle.events.specs.Ends.{lineEnd, nextEnd}
 
@@ -58,5 +58,5 @@ pub output-fits : (a : Answer) (copies views : List ℕ) (m n filled size number
     → filled + longestAnswer m n ≤ size → end ≡ filled + length (printed number (replyOf a copies views)) → end ≤ size
 output-fits a copies views m n filled size number end h p q r e =
     let k = answer-fits a copies views m n filled size h p q r in
-    let o = printed-most ?stub a copies views number in
+    let o = printed-most a copies views number in
     omega arith

@@ -27,7 +27,7 @@ put-answer-requires c κs =
     let s = c .before .before .before .before .before .before .before .before .before .before .before .before .before .before .before .before .before .before .before .before .before .before .before .before .before .before .before .before .before .before .before .before .before .before .before .before .before .before .before in
     let a = c .before .before .before .before .before .before .before .before .before .before .before .before .before .before .before .before .before .before .before .answer-event in
     let n = a .kept .1 .1 .1 .1 .1 .1 .1 in
-    (answer-fits (a .result .answer) _ _ _ _ (s .args .filled) _ (a .ensures .0) (n .0) (n .1 .0) (s .pre .1), a .ensures .0, ?stub2)
+    (answer-fits (a .result .answer) _ _ _ _ (s .args .filled) _ (a .ensures .0) (n .0) (n .1 .0) (s .pre .1), a .ensures .0)
 
 -- src/line.rt:20:1
 same-length : tie.Need-same-length
