@@ -90,14 +90,27 @@ module _ (s : List ℕ) (h : 6 < length s) where
   later-other : laterWord s ≡ Word.Other
   unfolding laterWord
   later-other =
-      rw (other noteWord (omega arith), other doomedWord (omega arith), other drainWord (omega arith), other trimWord (omega arith),
-      other forgetWord (omega arith), other openWord (omega arith))
+      rw (
+        other noteWord (omega arith),
+        other doomedWord (omega arith),
+        other drainWord (omega arith),
+        other trimWord (omega arith),
+        other forgetWord (omega arith),
+        other openWord (omega arith),
+      )
 
   long-word : wordOf s ≡ Word.Other
   unfolding wordOf
   long-word =
-      rw (other takeWord (omega arith), other planWord (omega arith), other retireWord (omega arith), other writeWord (omega arith),
-      other popWord (omega arith), other parkWord (omega arith), other regenWord (omega arith)) later-other
+      rw (
+        other takeWord (omega arith),
+        other planWord (omega arith),
+        other retireWord (omega arith),
+        other writeWord (omega arith),
+        other popWord (omega arith),
+        other parkWord (omega arith),
+        other regenWord (omega arith),
+      ) later-other
 
 -- ---- a line
 

@@ -35,17 +35,26 @@ pub fn run_line(
     requires { ⌜ HoldsPool (stateOf session (now textures) (now retiring) (now doomed) (now spares) (now newest) (now stamps))
         × (filled + longestAnswer (length (now copies)) (length (now views)) ≤ length (now out)) ⌝ }
     ensures { λ r. ⌜ (stateOf (r .session) (now (textures .exit)) (now (retiring .exit)) (now (doomed .exit)) (now (spares .exit)) (now (newest .exit)) (now (stamps .exit))
-            ≡ lineState (length (now (copies .entry))) (length (now (views .entry)))
-                (stateOf session (now (textures .entry)) (now (retiring .entry)) (now (doomed .entry)) (now (spares .entry)) (now (newest .entry)) (now (stamps .entry))) (now (line .entry)))
+        ≡ lineState (length (now (copies .entry))) (length (now (views .entry)))
+        (stateOf session (now (textures .entry)) (now (retiring .entry)) (now (doomed .entry)) (now (spares .entry)) (now (newest .entry)) (now (stamps .entry))) (now (line .entry)))
         × (r .filled ≡ filled + length (lineOutput (length (now (copies .entry))) (length (now (views .entry))) number
-                (stateOf session (now (textures .entry)) (now (retiring .entry)) (now (doomed .entry)) (now (spares .entry)) (now (newest .entry)) (now (stamps .entry))) (now (line .entry))))
+        (stateOf session (now (textures .entry)) (now (retiring .entry)) (now (doomed .entry)) (now (spares .entry)) (now (newest .entry)) (now (stamps .entry))) (now (line .entry))))
         × (now (out .exit) ≡ sets (now (out .entry)) filled (lineOutput (length (now (copies .entry))) (length (now (views .entry))) number
-                (stateOf session (now (textures .entry)) (now (retiring .entry)) (now (doomed .entry)) (now (spares .entry)) (now (newest .entry)) (now (stamps .entry))) (now (line .entry))))
+        (stateOf session (now (textures .entry)) (now (retiring .entry)) (now (doomed .entry)) (now (spares .entry)) (now (newest .entry)) (now (stamps .entry))) (now (line .entry))))
         × (r .filled ≤ length (now (out .entry))) ⌝ }
 {
     let event = parse_line(line);
     let answered = answer_event(
-        session, textures, retiring, doomed, spares, newest, stamps, copies, views, event,
+        session,
+        textures,
+        retiring,
+        doomed,
+        spares,
+        newest,
+        stamps,
+        copies,
+        views,
+        event,
     );
     let answer = answered.answer;
     let end = put_answer(out, filled, number, answer, copies, views);

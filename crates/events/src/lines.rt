@@ -52,9 +52,9 @@ pub fn run_lines(
     requires { ⌜ HoldsPool (stateOf session (now textures) (now retiring) (now doomed) (now spares) (now newest) (now stamps))
         × (number + length (now input) < 2 ^ 64) ⌝ }
     ensures { λ r. ⌜ (progressOf r (now (textures .exit)) (now (retiring .exit)) (now (doomed .exit)) (now (spares .exit)) (now (newest .exit)) (now (stamps .exit)) (now (out .exit))
-            ≡ ranAll (length (now (copies .entry))) (length (now (views .entry)))
-                (start (stateOf session (now (textures .entry)) (now (retiring .entry)) (now (doomed .entry)) (now (spares .entry)) (now (newest .entry)) (now (stamps .entry))) number (now (out .entry)))
-                (wholeLines (now (input .entry))))
+        ≡ ranAll (length (now (copies .entry))) (length (now (views .entry)))
+        (start (stateOf session (now (textures .entry)) (now (retiring .entry)) (now (doomed .entry)) (now (spares .entry)) (now (newest .entry)) (now (stamps .entry))) number (now (out .entry)))
+        (wholeLines (now (input .entry))))
         × (r .filled ≤ length (now (out .entry))) ⌝ }
 {
     let most = most_entries(copies.len(), views.len());

@@ -1,12 +1,10 @@
+-- `keep` meets its contract: bytes moved to the front, in ascending order. Assumes nothing.
 use borrow.Author.Needs.{needs}
 use mathlib.Core.Path.{_≡_}
 use Prim.Native.Nat.{_-_, _≤_}
 use lib.ListN.{length}
 use Rattle.event_program.proofs.input.keep.Statement.{statement}
 use Rattle.event_program.proofs.input.keep.Tie as tie
-use Rattle.event_program.proofs.input.keep.Reads as reads
-use Rattle.event_program.proofs.input.keep.Lts as lts
-use Rattle.event_program.proofs.input.kept_bytes.Reads as kept-bytes-reads
 
 abbrev Inv-loop : tie.InvT-loop
 Inv-loop buf₀ from end kept i₀ buf i = (i ≤ kept) × (length buf ≡ length buf₀)
@@ -14,47 +12,36 @@ Inv-loop buf₀ from end kept i₀ buf i = (i ≤ kept) × (length buf ≡ lengt
 abbrev μ-loop : tie.MeasureT-loop
 μ-loop buf₀ from end kept i₀ buf i = kept - i
 
--- src/input.rt:29:27
 sub-kept-bytes : tie.Need-sub-kept-bytes Inv-loop μ-loop
 sub-kept-bytes c = search needs
 
--- src/input.rt:29:9
 kept-bytes-requires : tie.Need-kept-bytes-requires Inv-loop μ-loop
 kept-bytes-requires c κs = search needs
 
--- src/input.rt:31:5
 loop-holds : tie.Need-loop-holds Inv-loop μ-loop
 loop-holds c = search needs
 
--- src/input.rt:32:22
 add-buf : tie.Need-add-buf Inv-loop μ-loop
 add-buf c = search needs
 
--- src/input.rt:32:18
 slice-read-buf : tie.Need-slice-read-buf Inv-loop μ-loop
 slice-read-buf c = search needs
 
--- src/input.rt:32:9
 slice-write-buf : tie.Need-slice-write-buf Inv-loop μ-loop
 slice-write-buf c = search needs
 
--- src/input.rt:33:9
 add-i : tie.Need-add-i Inv-loop μ-loop
 add-i c = search needs
 
--- src/input.rt:31:5
 loop-less : tie.Need-loop-less Inv-loop μ-loop
 loop-less c = search needs
 
--- src/input.rt:31:5
 loop-again : tie.Need-loop-again Inv-loop μ-loop
 loop-again c = search needs
 
--- src/input.rt:25:1
 same-length : tie.Need-same-length Inv-loop μ-loop
 same-length c = search needs
 
--- src/input.rt:25:1
 returns : tie.Need-returns Inv-loop μ-loop
 returns c = search needs
 

@@ -1,3 +1,5 @@
+-- Blocks of input until it ends: the stores form a pool once they are opened, and what is still to be run stands inside the buffer. The measure is the
+-- number of turns that are left. Assumes nothing.
 use borrow.Author.Needs.{needs}
 use mathlib.Core.Path.{_≡_, refl, sym, ap, _∙_}
 use Prim.Native.Nat.{_+_, _-_, _^_, _≤_, _<_}
@@ -8,13 +10,6 @@ use Rattle.events.proofs.Outputs.{ran-left}
 use Rattle.event_program.proofs.Blocks.{unopened, part-length}
 use Rattle.event_program.proofs.program.run_all.Statement.{statement}
 use Rattle.event_program.proofs.program.run_all.Tie as tie
-use Rattle.event_program.proofs.program.run_all.Reads as reads
-use Rattle.event_program.proofs.program.run_all.Lts as lts
-use Rattle.event_program.proofs.program.next_input.Reads as next-input-reads
-use Rattle.event_program.proofs.program.turns_left.Reads as turns-left-reads
-use Rattle.event_program.proofs.program.write_out.Reads as write-out-reads
-use Rattle.event_sessions.proofs.fresh.Reads as fresh-reads
-use Rattle.events.proofs.run_lines.Reads as run-lines-reads
 
 abbrev Inv-loop : tie.InvT-loop
 Inv-loop buf₀ textures₀ retiring₀ doomed₀ spares₀ newest₀ stamps₀ copies₀ views₀ out₀ session₀ number₀ input₀ turns₀ buf textures retiring doomed spares newest stamps copies views out session number input turns =
@@ -28,71 +23,58 @@ abbrev μ-loop : tie.MeasureT-loop
 μ-loop buf₀ textures₀ retiring₀ doomed₀ spares₀ newest₀ stamps₀ copies₀ views₀ out₀ session₀ number₀ input₀ turns₀ buf textures retiring doomed spares newest stamps copies views out session number input turns =
     turns
 
--- src/program.rt:66:9
 fresh-requires : tie.Need-fresh-requires Inv-loop μ-loop
 fresh-requires c κs = search needs
 
--- src/program.rt:75:5
 loop-holds : tie.Need-loop-holds Inv-loop μ-loop
 loop-holds c = (search needs, search needs, (λ h. omega arith), unopened (c .fresh .ensures), refl, refl, refl, refl, refl, refl, refl, refl, refl, refl)
 
--- src/program.rt:79:13
 sub-run-lines : tie.Need-sub-run-lines Inv-loop μ-loop
 sub-run-lines c = search needs
 
--- src/program.rt:79:13
 part-run-lines-start : tie.Need-part-run-lines-start Inv-loop μ-loop
 part-run-lines-start c = search needs
 
--- src/program.rt:79:13
 part-run-lines-end : tie.Need-part-run-lines-end Inv-loop μ-loop
 part-run-lines-end c = search needs
 
--- src/program.rt:78:13
 run-lines-requires : tie.Need-run-lines-requires Inv-loop μ-loop
 run-lines-requires c κs =
     let l = c .before .before .before .before .before .before .before .before .before .before .before .before in
     let i = l .loop .inv in
-    let s = l  .before .before .before .before .before .before .before .before .before .before .before .before in
+    let s = l .before .before .before .before .before .before .before .before .before .before .before .before in
     let n = i .2 (c .before .before .before .before .before .before .before .before .before .before .before .loop-test .taken) in
     (i .3, omega (arith, part-length (l .loop .buf) (l .loop .input .from) (l .loop .input .end) (omega (arith, i .1, i .4)), n, i .1, s .pre .1))
 
--- src/program.rt:92:13
 write-out-requires : tie.Need-write-out-requires Inv-loop μ-loop
 write-out-requires c κs =
     let r = c .before .before .before .before .before .before .before .before .before .before .before .before .before .before .before .before .before .before .before .run-lines in
     omega (arith, r .ensures .1, r .kept .1 .1 .1 .1 .1 .1 .1 .1 .1 .1 .1 .0)
 
--- src/program.rt:97:9
 turns-left-requires : tie.Need-turns-left-requires Inv-loop μ-loop
 turns-left-requires c κs = c .before .before .before .before .before .before .before .before .before .before .before .before .before .before .before .before .before .before .before .before .before .before .before .before .before .before .before .before .before .before .before .before .before .before .before .loop-test .taken
 
--- src/program.rt:98:9
 next-input-requires : tie.Need-next-input-requires Inv-loop μ-loop
 next-input-requires c κs =
     let l = c .before .before .before .before .before .before .before .before .before .before .before .before .before .before .before .before .before .before .before .before .before .before .before .before .before .before .before .before .before .before .before .before .before .before .before .before .before .before in
     let i = l .loop .inv in
-    let s = l  .before .before .before .before .before .before .before .before .before .before .before .before in
-    let r = c .before .before .before .before .before .before .before .before .before .before .before .before .before .before .before .before .before .before .before .before .before .before .before .before .before .run-lines in
-    (
+    let s = l .before .before .before .before .before .before .before .before .before .before .before .before in
+    let r = c .before .before .before .before .before .before .before .before .before .before .before .before .before .before .before .before .before .before .before .before .before .before .before .before .before .run-lines in (
       omega (arith, part-length (l .loop .buf) (l .loop .input .from) (l .loop .input .end) (omega (arith, i .1, i .4)), ran-left _ _ _ _ _ (r .ensures .0) (i .3) .most, i .0),
       omega (arith, i .1, i .4),
       omega (arith, i .4, s .pre .0),
     )
 
--- src/program.rt:75:5
 loop-less : tie.Need-loop-less Inv-loop μ-loop
 loop-less c = c .before .before .before .before .turns-left .ensures .0
 
--- src/program.rt:75:5
 loop-again : tie.Need-loop-again Inv-loop μ-loop
 loop-again c =
     let l = c .before .before .before .before .before .before .before .before .before .before .before .before .before .before .before .before .before .before .before .before .before .before .before .before .before .before .before .before .before .before .before .before .before .before .before .before .before .before .before .before .before in
     let i = l .loop .inv in
     let r = c .before .before .before .before .before .before .before .before .before .before .before .before .before .before .before .before .before .before .before .before .before .before .before .before .before .before .before .before .run-lines in
     let n = c .before .before .next-input in
-    let k = r .kept .1 .1 .1 in
-    (
+    let k = r .kept .1 .1 .1 in (
       n .ensures .0,
       omega (arith, n .ensures .1, i .4),
       c .before .before .before .before .turns-left .ensures .1,
@@ -109,47 +91,36 @@ loop-again c =
       k .1 .1 .1 .1 .1 .1 .1 .1 .0 ∙ i .13,
     )
 
--- src/program.rt:52:1
 same-length : tie.Need-same-length Inv-loop μ-loop
 same-length c = search needs
 
--- src/program.rt:52:1
 same-length-2 : tie.Need-same-length-2 Inv-loop μ-loop
 same-length-2 c = search needs
 
--- src/program.rt:52:1
 same-length-3 : tie.Need-same-length-3 Inv-loop μ-loop
 same-length-3 c = search needs
 
--- src/program.rt:52:1
 same-length-4 : tie.Need-same-length-4 Inv-loop μ-loop
 same-length-4 c = search needs
 
--- src/program.rt:52:1
 same-length-5 : tie.Need-same-length-5 Inv-loop μ-loop
 same-length-5 c = search needs
 
--- src/program.rt:52:1
 same-length-6 : tie.Need-same-length-6 Inv-loop μ-loop
 same-length-6 c = search needs
 
--- src/program.rt:52:1
 same-length-7 : tie.Need-same-length-7 Inv-loop μ-loop
 same-length-7 c = search needs
 
--- src/program.rt:52:1
 same-length-8 : tie.Need-same-length-8 Inv-loop μ-loop
 same-length-8 c = search needs
 
--- src/program.rt:52:1
 same-length-9 : tie.Need-same-length-9 Inv-loop μ-loop
 same-length-9 c = search needs
 
--- src/program.rt:52:1
 same-length-10 : tie.Need-same-length-10 Inv-loop μ-loop
 same-length-10 c = search needs
 
--- src/program.rt:52:1
 returns : tie.Need-returns Inv-loop μ-loop
 returns c = search needs
 

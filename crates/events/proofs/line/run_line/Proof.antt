@@ -1,3 +1,4 @@
+-- `run_line` meets its contract: the line's event, its answer, and the answer's output. Assumes nothing.
 use borrow.Author.Needs.{needs}
 use mathlib.Core.Path.{ap, _∙_}
 use Prim.Native.Nat.{_+_}
@@ -7,21 +8,13 @@ use Rattle.events.proofs.Rooms.{answer-fits, output-fits}
 use Rattle.events.proofs.Runs.{line-state, line-output}
 use Rattle.events.proofs.line.run_line.Statement.{statement}
 use Rattle.events.proofs.line.run_line.Tie as tie
-use Rattle.events.proofs.line.run_line.Reads as reads
-use Rattle.events.proofs.line.run_line.Lts as lts
-use Rattle.event_answers.proofs.put_answer.Reads as put-answer-reads
-use Rattle.event_lines.proofs.parse_line.Reads as parse-line-reads
-use Rattle.event_sessions.proofs.answer_event.Reads as answer-event-reads
 
--- src/line.rt:46:9
 parse-line-requires : tie.Need-parse-line-requires
 parse-line-requires c κs = search needs
 
--- src/line.rt:47:9
 answer-event-requires : tie.Need-answer-event-requires
 answer-event-requires c κs = (c .before .before .before .before .before .before .before .before .before .before .before .before .before .before .before .before .before .before .before .pre .0, ?stub)
 
--- src/line.rt:51:9
 put-answer-requires : tie.Need-put-answer-requires
 put-answer-requires c κs =
     let s = c .before .before .before .before .before .before .before .before .before .before .before .before .before .before .before .before .before .before .before .before .before .before .before .before .before .before .before .before .before .before .before .before .before .before .before .before .before .before .before in
@@ -29,43 +22,33 @@ put-answer-requires c κs =
     let n = a .kept .1 .1 .1 .1 .1 .1 .1 in
     (answer-fits (a .result .answer) _ _ _ _ (s .args .filled) _ (a .ensures .0) (n .0) (n .1 .0) (s .pre .1), a .ensures .0)
 
--- src/line.rt:20:1
 same-length : tie.Need-same-length
 same-length c = search needs
 
--- src/line.rt:20:1
 same-length-2 : tie.Need-same-length-2
 same-length-2 c = search needs
 
--- src/line.rt:20:1
 same-length-3 : tie.Need-same-length-3
 same-length-3 c = search needs
 
--- src/line.rt:20:1
 same-length-4 : tie.Need-same-length-4
 same-length-4 c = search needs
 
--- src/line.rt:20:1
 same-length-5 : tie.Need-same-length-5
 same-length-5 c = search needs
 
--- src/line.rt:20:1
 same-length-6 : tie.Need-same-length-6
 same-length-6 c = search needs
 
--- src/line.rt:20:1
 same-length-7 : tie.Need-same-length-7
 same-length-7 c = search needs
 
--- src/line.rt:20:1
 same-length-8 : tie.Need-same-length-8
 same-length-8 c = search needs
 
--- src/line.rt:20:1
 same-length-9 : tie.Need-same-length-9
 same-length-9 c = search needs
 
--- src/line.rt:20:1
 returns : tie.Need-returns
 returns c =
     let s = c .before .before .before .before .before .before .before .before .before .before .before .before .before .before .before .before .before .before .before .before .before .before .before .before .before .before .before .before .before .before .before .before .before .before .before .before .before .before .before .before .before .before .before in
@@ -73,8 +56,7 @@ returns c =
     let a = c .before .before .before .before .before .before .before .before .before .before .before .before .before .before .before .before .before .before .before .before .before .before .before .answer-event in
     let n = a .kept .1 .1 .1 .1 .1 .1 .1 in
     let p = c .before .before .before .put-answer in
-    let t = line-output _ _ _ _ _ _ (a .result .answer) _ _ (v .ensures) (a .ensures .1) (s .args .number) in
-    (
+    let t = line-output _ _ _ _ _ _ (a .result .answer) _ _ (v .ensures) (a .ensures .1) (s .args .number) in (
       line-state _ _ _ _ _ _ (a .result .answer) _ _ (v .ensures) (a .ensures .1),
       p .ensures .0 ∙ ap (λ l. s .args .filled + length l) t,
       p .ensures .1 ∙ ap (sets (s .args .out .now) (s .args .filled)) t,
