@@ -1,15 +1,75 @@
--- What the answer of a call that fills no buffer says, whatever the buffers hold.
+-- What a call of the pool says as the answer of a line, and what it leaves.
 use Prim.Native.Nat.{ℕ}
 use mathlib.Core.Path.{_≡_}
-use mathlib.Core.Option.{some}
+use mathlib.Core.Option.{Option, none, some}
 use mathlib.Core.List.{List}
+use lib.ListN.{length, replicate}
+use Rattle.layout.specs.Lent.{Lent}
+use Rattle.layout.specs.Calls.{Told, refusal, answer, TakenVersion, PoppedVersion}
 use Rattle.books.specs.Demand3.{Reply}
+use Rattle.books.specs.LentLists.{LentCall, lentTake, lentPlan, lentRetire, lentWrite, lentRegen, lentPop, lentPark, lentNote, lentDoomed, lentDrain, lentTrim, lentForget, lentCall}
 use Rattle.event_answers.specs.Answers.{replyOf, InBuffers}
 use Rattle.event_answers.specs.declared.answer.Answer.{Answer}
+use Rattle.event_answers.specs.declared.answer.Answer.the-variants.{Refused, Done, Spare, NoSpare, Version, NothingSettled, Views, Copies}
 
 -- the answer and the buffers say this reply
 abbrev pub Says : Answer → List ℕ → List ℕ → Reply → Type 0
 Says a copies views r = InBuffers a copies views × (replyOf a copies views ≡ some r)
 
+-- the answer says it, whatever the buffers hold
 abbrev pub SaysAlone : Answer → Reply → Type 0
 SaysAlone a r = (copies views : List ℕ) → Says a copies views r
+
+-- ---- a call made on lent stores: what the answer says, and the stores at exit
+
+unfoldable pub Made : Lent → LentCall → Answer → Lent → Type 0
+Made l c a exit = SaysAlone a (lentCall l c .0) × (exit ≡ lentCall l c .1)
+
+-- Of the calls that fill a buffer, the buffer at exit is part of the answer. What a buffer held before does not show in the reply or in the stores
+-- (law `any-buffer`), so the call is that with as many zeros.
+abbrev pub blank : List ℕ → List ℕ
+blank buffer = replicate (length buffer) 0
+
+abbrev pub blanked : LentCall → LentCall
+blanked (lentPlan id shape held upload buffer) = lentPlan id shape held upload (blank buffer)
+blanked (lentDoomed buffer) = lentDoomed (blank buffer)
+blanked (lentDrain buffer) = lentDrain (blank buffer)
+blanked (lentTake id shape records seq) = lentTake id shape records seq
+blanked (lentRetire id view seq) = lentRetire id view seq
+blanked (lentWrite id slice level rect) = lentWrite id slice level rect
+blanked (lentRegen id) = lentRegen id
+blanked (lentPop settled) = lentPop settled
+blanked (lentPark failed now) = lentPark failed now
+blanked (lentNote allocated) = lentNote allocated
+blanked (lentTrim now) = lentTrim now
+blanked (lentForget id) = lentForget id
+
+unfoldable pub MadeCopies : Lent → LentCall → Answer → List ℕ → Lent → Type 0
+MadeCopies l c a copies exit = ((views : List ℕ) → Says a copies views (lentCall l c .0)) × (exit ≡ lentCall l c .1)
+
+unfoldable pub MadeViews : Lent → LentCall → Answer → List ℕ → Lent → Type 0
+MadeViews l c a views exit = ((copies : List ℕ) → Says a copies views (lentCall l c .0)) × (exit ≡ lentCall l c .1)
+
+-- ---- what each call's answer is as a line's
+
+abbrev pub doneAnswer : Told (Unit {0}) → Answer
+doneAnswer (refusal n) = Refused n
+doneAnswer (answer a) = Done
+
+abbrev pub takenAnswer : Told (Option TakenVersion) → Answer
+takenAnswer (refusal n) = Refused n
+takenAnswer (answer none) = NoSpare
+takenAnswer (answer (some v)) = Spare (v .view) (v .held)
+
+abbrev pub poppedAnswer : Told (Option PoppedVersion) → Answer
+poppedAnswer (refusal n) = Refused n
+poppedAnswer (answer none) = NothingSettled
+poppedAnswer (answer (some v)) = Version (v .id) (v .view)
+
+abbrev pub viewsAnswer : Told ℕ → Answer
+viewsAnswer (refusal n) = Refused n
+viewsAnswer (answer n) = Views n
+
+abbrev pub copiesAnswer : Told ℕ → Answer
+copiesAnswer (refusal n) = Refused n
+copiesAnswer (answer n) = Copies n

@@ -1,4 +1,7 @@
 // What the event program keeps between two lines.
+ghost use mathlib.Core.Path.{_≡_};
+ghost use Rattle.event_sessions.specs.Parts.{sessionAfter};
+use event_lines::Event;
 use layout::PacingBook;
 use layout::Pool;
 use shapes::VersionShape;
@@ -11,4 +14,38 @@ pub struct Session {
     pub pool: Pool,
     pub book: PacingBook,
     pub shape: VersionShape,
+}
+
+// An opened session after an event, with the pool and the book that its call left. A take line's shape is noted, whatever the call
+// says.
+pub fn session_after(
+    taken: bool,
+    latest: VersionShape,
+    pool: Pool,
+    book: PacingBook,
+    event: Event,
+) -> Session
+    ensures { λ r. ⌜ r ≡ sessionAfter taken latest pool book event ⌝ }
+{
+    match event {
+        Event::Take {
+            id: _,
+            shape,
+            records: _,
+            seq: _,
+        } => Session {
+            opened: true,
+            taken: true,
+            pool,
+            book,
+            shape,
+        },
+        _ => Session {
+            opened: true,
+            taken,
+            pool,
+            book,
+            shape: latest,
+        },
+    }
 }

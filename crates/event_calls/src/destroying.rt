@@ -1,0 +1,110 @@
+// Memory pressure, and versions handed back to be destroyed.
+ghost use mathlib.Core.Path.{_≡_};
+ghost use mathlib.Core.Bool.{true};
+ghost use Rattle.layout.specs.Lent.{lent};
+ghost use Rattle.layout.specs.IsPool.{isPool};
+ghost use Rattle.books.specs.LentLists.{lentDoomed, lentDrain, lentNote};
+ghost use Rattle.event_calls.specs.Calls.{Made, MadeViews, blank};
+use crate::answers::answer_done;
+use crate::answers::answer_handed;
+use crate::called::Called;
+use layout::PacingBook;
+use layout::Pool;
+
+// Notes how much memory the process has allocated.
+pub fn call_note(
+    pool: Pool,
+    book: PacingBook,
+    textures: &mut [u64],
+    retiring: &[u64],
+    doomed: &mut [u64],
+    spares: &mut [u64],
+    newest: &[u64],
+    stamps: &[u64],
+    allocated: u64,
+) -> Called
+    requires { ⌜ isPool (lent pool book (now textures) (now retiring) (now doomed) (now spares) (now newest) (now stamps)) ≡ true ⌝ }
+    ensures { λ r. ⌜ Made (lent pool book (now (textures .entry)) (now (retiring .entry)) (now (doomed .entry)) (now (spares .entry)) (now (newest .entry)) (now (stamps .entry))) (lentNote allocated) (r .answer) (lent (r .pool) (r .book) (now (textures .exit)) (now (retiring .entry)) (now (doomed .exit)) (now (spares .exit)) (now (newest .entry)) (now (stamps .entry))) ⌝ }
+{
+    let said = relief::note_allocated(
+        pool,
+        book,
+        textures,
+        retiring,
+        doomed,
+        spares,
+        newest,
+        stamps,
+        allocated,
+    );
+    let answer = answer_done(said.outcome);
+    let pool = said.pool;
+    let book = said.book;
+    Called { pool, book, answer }
+}
+
+// Hands back the next batch of versions to destroy.
+pub fn call_doomed(
+    pool: Pool,
+    book: PacingBook,
+    textures: &[u64],
+    retiring: &[u64],
+    doomed: &[u64],
+    spares: &[u64],
+    newest: &[u64],
+    stamps: &[u64],
+    views: &mut [u64],
+) -> Called
+    requires { ⌜ isPool (lent pool book (now textures) (now retiring) (now doomed) (now spares) (now newest) (now stamps)) ≡ true ⌝ }
+    ensures { λ r. ⌜ MadeViews (lent pool book (now (textures .entry)) (now (retiring .entry)) (now (doomed .entry)) (now (spares .entry)) (now (newest .entry)) (now (stamps .entry))) (lentDoomed (blank (now (views .entry)))) (r .answer) (now (views .exit)) (lent (r .pool) (r .book) (now (textures .entry)) (now (retiring .entry)) (now (doomed .entry)) (now (spares .entry)) (now (newest .entry)) (now (stamps .entry))) ⌝ }
+{
+    let said = destruction::take_doomed(
+        pool,
+        book,
+        textures,
+        retiring,
+        doomed,
+        spares,
+        newest,
+        stamps,
+        views,
+    );
+    let handed = said.handed;
+    let answer = answer_handed(handed);
+    let pool = said.pool;
+    let book = said.book;
+    Called { pool, book, answer }
+}
+
+// Hands back every version but the one in the hand.
+pub fn call_drain(
+    pool: Pool,
+    book: PacingBook,
+    textures: &mut [u64],
+    retiring: &[u64],
+    doomed: &[u64],
+    spares: &[u64],
+    newest: &[u64],
+    stamps: &[u64],
+    views: &mut [u64],
+) -> Called
+    requires { ⌜ isPool (lent pool book (now textures) (now retiring) (now doomed) (now spares) (now newest) (now stamps)) ≡ true ⌝ }
+    ensures { λ r. ⌜ MadeViews (lent pool book (now (textures .entry)) (now (retiring .entry)) (now (doomed .entry)) (now (spares .entry)) (now (newest .entry)) (now (stamps .entry))) (lentDrain (blank (now (views .entry)))) (r .answer) (now (views .exit)) (lent (r .pool) (r .book) (now (textures .exit)) (now (retiring .entry)) (now (doomed .entry)) (now (spares .entry)) (now (newest .entry)) (now (stamps .entry))) ⌝ }
+{
+    let said = destruction::drain_versions(
+        pool,
+        book,
+        textures,
+        retiring,
+        doomed,
+        spares,
+        newest,
+        stamps,
+        views,
+    );
+    let handed = said.handed;
+    let answer = answer_handed(handed);
+    let pool = said.pool;
+    let book = said.book;
+    Called { pool, book, answer }
+}

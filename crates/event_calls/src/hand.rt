@@ -1,0 +1,77 @@
+// A retired version, taken and parked.
+ghost use mathlib.Core.Path.{_≡_};
+ghost use mathlib.Core.Bool.{true};
+ghost use Rattle.layout.specs.Lent.{lent};
+ghost use Rattle.layout.specs.IsPool.{isPool};
+ghost use Rattle.books.specs.LentLists.{lentPark, lentPop};
+ghost use Rattle.event_calls.specs.Calls.{Made};
+use crate::answers::answer_done;
+use crate::answers::answer_popped;
+use crate::called::Called;
+use layout::PacingBook;
+use layout::Pool;
+
+// Puts the queue's front in the hand if its submission is settled.
+pub fn call_pop(
+    pool: Pool,
+    book: PacingBook,
+    textures: &[u64],
+    retiring: &[u64],
+    doomed: &[u64],
+    spares: &[u64],
+    newest: &[u64],
+    stamps: &[u64],
+    settled: u64,
+) -> Called
+    requires { ⌜ isPool (lent pool book (now textures) (now retiring) (now doomed) (now spares) (now newest) (now stamps)) ≡ true ⌝ }
+    ensures { λ r. ⌜ Made (lent pool book (now (textures .entry)) (now (retiring .entry)) (now (doomed .entry)) (now (spares .entry)) (now (newest .entry)) (now (stamps .entry))) (lentPop settled) (r .answer) (lent (r .pool) (r .book) (now (textures .entry)) (now (retiring .entry)) (now (doomed .entry)) (now (spares .entry)) (now (newest .entry)) (now (stamps .entry))) ⌝ }
+{
+    let said = retirement::pop_retired(
+        pool,
+        book,
+        textures,
+        retiring,
+        doomed,
+        spares,
+        newest,
+        stamps,
+        settled,
+    );
+    let popped = said.popped;
+    let answer = answer_popped(popped);
+    let pool = said.pool;
+    Called { pool, book, answer }
+}
+
+// Parks the version in the hand, or queues it for destruction.
+pub fn call_park(
+    pool: Pool,
+    book: PacingBook,
+    textures: &mut [u64],
+    retiring: &[u64],
+    doomed: &mut [u64],
+    spares: &mut [u64],
+    newest: &[u64],
+    stamps: &[u64],
+    failed: u64,
+    current: u64,
+) -> Called
+    requires { ⌜ isPool (lent pool book (now textures) (now retiring) (now doomed) (now spares) (now newest) (now stamps)) ≡ true ⌝ }
+    ensures { λ r. ⌜ Made (lent pool book (now (textures .entry)) (now (retiring .entry)) (now (doomed .entry)) (now (spares .entry)) (now (newest .entry)) (now (stamps .entry))) (lentPark failed current) (r .answer) (lent (r .pool) (r .book) (now (textures .exit)) (now (retiring .entry)) (now (doomed .exit)) (now (spares .exit)) (now (newest .entry)) (now (stamps .entry))) ⌝ }
+{
+    let said = parking::park(
+        pool,
+        book,
+        textures,
+        retiring,
+        doomed,
+        spares,
+        newest,
+        stamps,
+        failed,
+        current,
+    );
+    let answer = answer_done(said.outcome);
+    let pool = said.pool;
+    Called { pool, book, answer }
+}

@@ -1,0 +1,80 @@
+// What was written.
+ghost use mathlib.Core.Path.{_≡_};
+ghost use mathlib.Core.Bool.{true};
+ghost use Rattle.layout.specs.Lent.{lent};
+ghost use Rattle.layout.specs.IsPool.{isPool};
+ghost use Rattle.books.specs.LentLists.{lentRegen, lentWrite};
+ghost use Rattle.event_calls.specs.Calls.{Made};
+use crate::answers::answer_done;
+use crate::called::Called;
+use layout::PacingBook;
+use layout::Pool;
+use rects::TexelRect;
+
+// Notes a write to one subresource.
+pub fn call_write(
+    pool: Pool,
+    book: PacingBook,
+    textures: &mut [u64],
+    retiring: &[u64],
+    doomed: &[u64],
+    spares: &[u64],
+    newest: &mut [u64],
+    stamps: &mut [u64],
+    id: u64,
+    slice: u64,
+    level: u64,
+    rect: TexelRect,
+) -> Called
+    requires { ⌜ isPool (lent pool book (now textures) (now retiring) (now doomed) (now spares) (now newest) (now stamps)) ≡ true ⌝ }
+    ensures { λ r. ⌜ Made (lent pool book (now (textures .entry)) (now (retiring .entry)) (now (doomed .entry)) (now (spares .entry)) (now (newest .entry)) (now (stamps .entry))) (lentWrite id slice level rect) (r .answer) (lent (r .pool) (r .book) (now (textures .exit)) (now (retiring .entry)) (now (doomed .entry)) (now (spares .entry)) (now (newest .exit)) (now (stamps .exit))) ⌝ }
+{
+    let said = writes::note_write(
+        pool,
+        book,
+        textures,
+        retiring,
+        doomed,
+        spares,
+        newest,
+        stamps,
+        id,
+        slice,
+        level,
+        rect,
+    );
+    let answer = answer_done(said.outcome);
+    let pool = said.pool;
+    Called { pool, book, answer }
+}
+
+// Notes that every level but the first was made anew.
+pub fn call_regen(
+    pool: Pool,
+    book: PacingBook,
+    textures: &mut [u64],
+    retiring: &[u64],
+    doomed: &[u64],
+    spares: &[u64],
+    newest: &mut [u64],
+    stamps: &mut [u64],
+    id: u64,
+) -> Called
+    requires { ⌜ isPool (lent pool book (now textures) (now retiring) (now doomed) (now spares) (now newest) (now stamps)) ≡ true ⌝ }
+    ensures { λ r. ⌜ Made (lent pool book (now (textures .entry)) (now (retiring .entry)) (now (doomed .entry)) (now (spares .entry)) (now (newest .entry)) (now (stamps .entry))) (lentRegen id) (r .answer) (lent (r .pool) (r .book) (now (textures .exit)) (now (retiring .entry)) (now (doomed .entry)) (now (spares .entry)) (now (newest .exit)) (now (stamps .exit))) ⌝ }
+{
+    let said = writes::note_mip_regeneration(
+        pool,
+        book,
+        textures,
+        retiring,
+        doomed,
+        spares,
+        newest,
+        stamps,
+        id,
+    );
+    let answer = answer_done(said.outcome);
+    let pool = said.pool;
+    Called { pool, book, answer }
+}

@@ -1,0 +1,81 @@
+-- Once opened, the stores form a pool after every line. Assumes nothing.
+use Prim.Native.Nat.{ℕ}
+use mathlib.Core.Path.{_≡_, refl, _∙_}
+use mathlib.Core.Bool.{Bool, true, false, cond, false≢true}
+use mathlib.Core.Option.{Option, some}
+use mathlib.Core.List.{List}
+use lib.ListN.{replicate}
+use Rattle.layout.specs.IsPool.{isPool, sizesFit}
+use Rattle.layout.specs.Calls.{openedPool, openedBook}
+use Rattle.books.specs.Demand3.{Reply, refusal, done}
+use Rattle.books.specs.LentLists.{LentCall, lentTake, lentPlan, openedLent, EveryCallKeepsPool, OpenedIsPool}
+use Rattle.books.proofs.LentLists.{calls-keep-pool, opened-is-pool}
+use Rattle.event_lines.specs.declared.event.Event.{Event}
+use Rattle.event_sessions.specs.Sessions.{State, stateOf, HoldsPool, opens, openedState, called, notCalled, takeLine, ifOpened, step}
+use Rattle.event_sessions.specs.Parts.{freshSession}
+use Rattle.event_sessions.proofs.Opened.{same-sizes}
+
+-- nothing is opened in a fresh session
+pub fresh-holds : (textures retiring doomed spares newest stamps : List ℕ) → HoldsPool (stateOf freshSession textures retiring doomed spares newest stamps)
+unfolding freshSession
+fresh-holds textures retiring doomed spares newest stamps e = absurd (false≢true e)
+
+opened-holds : (s : State) (working : ℕ) → sizesFit (s .lent) ≡ true → isPool (openedState s working .lent) ≡ true
+unfolding OpenedIsPool
+opened-holds s working q =
+    let l = s .lent in
+    opened-is-pool working (l .textures) (l .retiring) (l .doomed) (l .spares) (l .newest) (l .stamps)
+    (same-sizes (openedPool working) (l .pool) openedBook (l .book) (l .textures) (l .retiring) (l .doomed) (l .spares) (l .newest) (l .stamps) ∙ q)
+
+call-keeps : (s : State) → HoldsPool s → (c : LentCall) → HoldsPool (called s c .1)
+unfolding EveryCallKeepsPool
+call-keeps s h c e = calls-keep-pool (s .lent) (h e) c
+
+module _ (s : State) (h : HoldsPool s) where
+  if-keeps : (r : Option Reply × State) → HoldsPool (r .1) → HoldsPool (ifOpened s r .1)
+  if-keeps r k = go (s .opened)
+    where
+      go : (b : Bool) → HoldsPool (cond b r (notCalled s) .1)
+      go true = k
+      go false = h
+
+  opens-keeps : (working : ℕ) → HoldsPool (opens s working .1)
+  unfolding opens
+  opens-keeps working = go (sizesFit (s .lent)) refl
+    where
+      go : (b : Bool) → sizesFit (s .lent) ≡ b → HoldsPool (cond {A = Option Reply × State} b (some done, openedState s working) (some (refusal 1), s) .1)
+      go true q = λ e. opened-holds s working q
+      go false q = h
+
+  -- a call between `open` and the end
+  made-keeps : (c : LentCall) → HoldsPool (ifOpened s (called s c) .1)
+  made-keeps c = if-keeps (called s c) (call-keeps s h c)
+
+pub step-keeps : (copies views : ℕ) (s : State) (e : Event) → HoldsPool s → HoldsPool (step copies views s e .1)
+unfolding step
+step-keeps copies views s (Event.Open working) h = go (s .opened)
+  where
+    go : (b : Bool) → HoldsPool (cond b (notCalled s) (opens s working) .1)
+    go true = h
+    go false = opens-keeps s h working
+step-keeps copies views s (Event.Take id shape records seq) h =
+    if-keeps s h (called (takeLine s shape) (lentTake id shape records seq)) (call-keeps (takeLine s shape) h (lentTake id shape records seq))
+step-keeps copies views s (Event.Plan id held slice level cover) h = if-keeps s h (cond (s .taken) (called s plan) (notCalled s)) (go (s .taken))
+  where
+    plan : LentCall
+    plan = lentPlan id (s .shape) held (record { slice = slice; level = level; cover = cover }) (replicate copies 0)
+
+    go : (b : Bool) → HoldsPool (cond b (called s plan) (notCalled s) .1)
+    go true = call-keeps s h plan
+    go false = h
+step-keeps copies views s (Event.Retire id view seq) h = made-keeps s h _
+step-keeps copies views s (Event.Write id slice level rect) h = made-keeps s h _
+step-keeps copies views s (Event.Regen id) h = made-keeps s h _
+step-keeps copies views s (Event.Pop settled) h = made-keeps s h _
+step-keeps copies views s (Event.Park failed now) h = made-keeps s h _
+step-keeps copies views s (Event.Note allocated) h = made-keeps s h _
+step-keeps copies views s Event.Doomed h = made-keeps s h _
+step-keeps copies views s Event.Drain h = made-keeps s h _
+step-keeps copies views s (Event.Trim now) h = made-keeps s h _
+step-keeps copies views s (Event.Forget id) h = made-keeps s h _
+step-keeps copies views s Event.Unread h = h

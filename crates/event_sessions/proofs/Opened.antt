@@ -1,0 +1,137 @@
+-- A session before and after `open`: its answers, and the state that they come with. Assumes nothing.
+use Prim.Native.Nat.{ℕ}
+use mathlib.Core.Path.{_≡_, refl, sym, ap, ap₂, _∙_, subst}
+use mathlib.Core.Bool.{Bool, true, false, cond}
+use mathlib.Core.Option.{Option, none, some}
+use mathlib.Core.List.{List, [], _∷_}
+use native.Mathlib.Omega.{arith}
+use types.Run.{OneOf, miss}
+use denote.Enum.Declared.{tagOf}
+use Rattle.shapes.specs.declared.shape.VersionShape.{VersionShape}
+use Rattle.layout.specs.declared.pool.Pool.{Pool}
+use Rattle.layout.specs.declared.book.PacingBook.{PacingBook}
+use Rattle.layout.specs.Lent.{Lent, lent, versionPlaces}
+use Rattle.layout.specs.Reading.{modelOf}
+use Rattle.layout.specs.IsPool.{sizesFit}
+use Rattle.layout.specs.Calls.{openNumber, openedPool, openedBook}
+use Rattle.books.specs.Demand3.{Reply, refusal, done}
+use Rattle.books.specs.LentLists.{openedLent}
+use Rattle.event_lines.specs.declared.event.Event.{Event}
+use Rattle.event_lines.proofs.event.Event.{the-type}
+use Rattle.event_answers.specs.Answers.{replyOf, InBuffers}
+use Rattle.event_answers.specs.declared.answer.Answer.{Answer}
+use Rattle.event_answers.specs.declared.answer.Answer.the-variants.{Question, Refused, Done}
+use Rattle.event_sessions.specs.declared.session.Session.{Session}
+use Rattle.event_sessions.specs.Sessions.{State, stateOf, opens, openedState, notCalled, ifOpened, step}
+use Rattle.event_sessions.specs.Parts.{opened, sessionAfter, takenAfter, shapeAfter, Stepped, SaysOnly, AnsweredAlone}
+use Rattle.event_sessions.proofs.Steps.{step-notes}
+
+-- ---- `open`
+
+-- the sizes are those of the slices
+pub same-sizes : (p q : Pool) (b c : PacingBook) (textures retiring doomed spares newest stamps : List ℕ)
+    → sizesFit (lent p b textures retiring doomed spares newest stamps) ≡ sizesFit (lent q c textures retiring doomed spares newest stamps)
+unfolding sizesFit modelOf versionPlaces
+same-sizes p q b c textures retiring doomed spares newest stamps = refl
+
+module _ (s : Session) (textures retiring doomed spares newest stamps : List ℕ) (working outcome : ℕ)
+    (e : outcome ≡ openNumber (openedLent working textures retiring doomed spares newest stamps)) where
+  abbrev before : State
+  before = stateOf s textures retiring doomed spares newest stamps
+
+  outcome-here : outcome ≡ cond (sizesFit (before .lent)) 0 1
+  unfolding openNumber
+  outcome-here =
+      e ∙ ap (λ (b : Bool). cond b 0 1) (same-sizes (openedPool working) (s .pool) openedBook (s .book) textures retiring doomed spares newest stamps)
+
+  pub open-refused : (outcome ≡ 0 → ⊥) → SaysOnly (Refused 1) before (opens before working)
+  unfolding SaysOnly opens InBuffers replyOf
+  open-refused n copies views = (tt, go (sizesFit (before .lent)) outcome-here)
+    where
+      go : (b : Bool) → outcome ≡ cond b 0 1
+          → _≡_ {A = Option Reply × State} (some (refusal 1), before) (cond b (some done, openedState before working) (some (refusal 1), before))
+      go true q = absurd (n q)
+      go false q = refl
+
+  pub open-done : outcome ≡ 0 → (p : Pool) (b : PacingBook) → p ≡ openedPool working → b ≡ openedBook
+      → SaysOnly Done (stateOf (record { opened = true; taken = s .taken; pool = p; book = b; shape = s .shape }) textures retiring doomed spares newest stamps) (opens before working)
+  unfolding SaysOnly opens InBuffers replyOf
+  open-done z p b ep eb copies views = (tt, ap (λ (x : State). (some done, x)) same ∙ go (sizesFit (before .lent)) outcome-here)
+    where
+      same : stateOf (record { opened = true; taken = s .taken; pool = p; book = b; shape = s .shape }) textures retiring doomed spares newest stamps ≡ openedState before working
+      same = λ i. record {
+        opened = true;
+        taken = s .taken;
+        shape = s .shape;
+        lent = lent (ep i) (eb i) textures retiring doomed spares newest stamps;
+      }
+
+      go : (b : Bool) → outcome ≡ cond b 0 1
+          → _≡_ {A = Option Reply × State} (some done, openedState before working) (cond b (some done, openedState before working) (some (refusal 1), before))
+      go true q = refl
+      go false q = absurd (let y : ⊥ = omega (arith, z, q) in y)
+
+-- ---- before it
+
+abbrev notOpen : List ℕ
+notOpen = 1 ∷ 2 ∷ 3 ∷ 4 ∷ 5 ∷ 6 ∷ 7 ∷ 8 ∷ 9 ∷ 10 ∷ 11 ∷ 12 ∷ 13 ∷ []
+
+module _ (s : State) (e : s .opened ≡ false) where
+  pub open-alone : (a : Answer) (exit : State) (f : Event) (working : ℕ) → f ≡ Event.Open working → SaysOnly a exit (opens s working) → AnsweredAlone a exit s f
+  unfolding AnsweredAlone step
+  open-alone a exit f working q m copies views =
+      rw q (subst (SaysOnly a exit) (sym (ap (λ (b : Bool). cond b (notCalled s) (opens s working)) e)) m)
+
+  none-answered : SaysOnly Question s (notCalled s)
+  unfolding SaysOnly InBuffers replyOf
+  none-answered copies views = (tt, refl)
+
+  not-called : (r : Option Reply × State) → SaysOnly Question s (ifOpened s r)
+  not-called r = subst (SaysOnly Question s) (sym (ap (λ (b : Bool). cond b r (notCalled s)) e)) none-answered
+
+  pub none-alone : (f : Event) → OneOf notOpen (tagOf the-type f) → AnsweredAlone Question s s f
+  unfolding AnsweredAlone step
+  none-alone (Event.Open working) k copies views = absurd (miss notOpen 0 tt k)
+  none-alone (Event.Take id shape records seq) k copies views = not-called _
+  none-alone (Event.Plan id held slice level cover) k copies views = not-called _
+  none-alone (Event.Retire id view seq) k copies views = not-called _
+  none-alone (Event.Write id slice level rect) k copies views = not-called _
+  none-alone (Event.Regen id) k copies views = not-called _
+  none-alone (Event.Pop settled) k copies views = not-called _
+  none-alone (Event.Park failed now) k copies views = not-called _
+  none-alone (Event.Note allocated) k copies views = not-called _
+  none-alone Event.Doomed k copies views = not-called _
+  none-alone Event.Drain k copies views = not-called _
+  none-alone (Event.Trim now) k copies views = not-called _
+  none-alone (Event.Forget id) k copies views = not-called _
+  none-alone Event.Unread k copies views = none-answered
+
+-- ---- the answer of a line
+
+module _ (a : Answer) (exit s : State) (e : Event) (copies views : ℕ) (copiesExit viewsExit : List ℕ) where
+  abbrev Answers : Type 0
+  Answers = InBuffers a copiesExit viewsExit × ((replyOf a copiesExit viewsExit, exit) ≡ step copies views s e)
+
+  pub alone-answers : AnsweredAlone a exit s e → Answers
+  unfolding AnsweredAlone SaysOnly
+  alone-answers m = m copies views copiesExit viewsExit
+
+  pub stepped-answers : s .opened ≡ true → (after : Lent) → Stepped copies views (opened (s .taken) (s .shape) (s .lent)) e a copiesExit viewsExit after
+      → exit ≡ opened (takenAfter (s .taken) e) (shapeAfter (s .shape) e) after → Answers
+  unfolding Stepped
+  stepped-answers o after m x =
+      let t = s .taken in
+      let h = s .shape in
+      let l = s .lent in
+      let here : s ≡ opened t h l = λ i. record { opened = o i; taken = t; shape = h; lent = l } in (
+        m .0,
+        ap₂ (λ (r : Option Reply) (y : State). (r, y)) (m .1) (x ∙ ap (opened (takenAfter t e) (shapeAfter h e)) (m .2) ∙ sym (step-notes copies views t h l e))
+            ∙ sym (ap (λ (y : State). step copies views y e) here),
+      )
+
+-- the session after the event, in the state that it stands for
+pub session-state : (r : Session) (taken : Bool) (shape : VersionShape) (p : Pool) (b : PacingBook) (e : Event) (textures retiring doomed spares newest stamps : List ℕ)
+    → r ≡ sessionAfter taken shape p b e
+    → stateOf r textures retiring doomed spares newest stamps ≡ opened (takenAfter taken e) (shapeAfter shape e) (lent p b textures retiring doomed spares newest stamps)
+unfolding sessionAfter
+session-state r taken shape p b e textures retiring doomed spares newest stamps q = ap (λ (x : Session). stateOf x textures retiring doomed spares newest stamps) q

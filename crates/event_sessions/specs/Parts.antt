@@ -1,0 +1,119 @@
+-- What the parts of a step do.
+use Prim.Native.Nat.{ℕ}
+use mathlib.Core.Path.{_≡_}
+use mathlib.Core.Bool.{Bool, true, false}
+use mathlib.Core.Option.{Option, none, some}
+use mathlib.Core.List.{List}
+use Rattle.shapes.specs.declared.shape.VersionShape.{VersionShape}
+use Rattle.layout.specs.declared.pool.Pool.{Pool}
+use Rattle.layout.specs.declared.book.PacingBook.{PacingBook}
+use Rattle.layout.specs.Lent.{Lent}
+use Rattle.layout.specs.Calls.{openedPool, openedBook}
+use Rattle.books.specs.Demand3.{Reply}
+use Rattle.books.specs.LentLists.{LentCall, lentTake, lentRetire, lentWrite, lentRegen, lentPop, lentPark, lentNote, lentTrim, lentForget}
+use Rattle.event_lines.specs.declared.event.Event.{Event}
+use Rattle.event_answers.specs.Answers.{replyOf, InBuffers}
+use Rattle.event_answers.specs.declared.answer.Answer.{Answer}
+use Rattle.event_answers.specs.declared.answer.Answer.the-variants.{Question}
+use Rattle.event_calls.specs.Calls.{Made}
+use Rattle.event_sessions.specs.declared.session.Session.{Session}
+use Rattle.event_sessions.specs.Sessions.{State, step}
+
+-- ---- before the first line
+
+unfoldable pub noShape : VersionShape
+noShape = record {
+  format = 0;
+  width = 0;
+  height = 0;
+  depth = 0;
+  levels = 0;
+  kind = 0;
+  storage = 0;
+  usage = 0;
+  red = 0;
+  green = 0;
+  blue = 0;
+  alpha = 0;
+}
+
+-- nothing opened
+unfoldable pub freshSession : Session
+freshSession = record { opened = false; taken = false; pool = openedPool 0; book = openedBook; shape = noShape }
+
+-- ---- an opened session
+
+abbrev pub opened : Bool → VersionShape → Lent → State
+opened taken shape l = record { opened = true; taken = taken; shape = shape; lent = l }
+
+-- what is noted of the line
+abbrev pub takenAfter : Bool → Event → Bool
+takenAfter taken (Event.Take id shape records seq) = true
+takenAfter taken (Event.Open working) = taken
+takenAfter taken (Event.Plan id held slice level cover) = taken
+takenAfter taken (Event.Retire id view seq) = taken
+takenAfter taken (Event.Write id slice level rect) = taken
+takenAfter taken (Event.Regen id) = taken
+takenAfter taken (Event.Pop settled) = taken
+takenAfter taken (Event.Park failed now) = taken
+takenAfter taken (Event.Note allocated) = taken
+takenAfter taken Event.Doomed = taken
+takenAfter taken Event.Drain = taken
+takenAfter taken (Event.Trim now) = taken
+takenAfter taken (Event.Forget id) = taken
+takenAfter taken Event.Unread = taken
+
+abbrev pub shapeAfter : VersionShape → Event → VersionShape
+shapeAfter latest (Event.Take id shape records seq) = shape
+shapeAfter latest (Event.Open working) = latest
+shapeAfter latest (Event.Plan id held slice level cover) = latest
+shapeAfter latest (Event.Retire id view seq) = latest
+shapeAfter latest (Event.Write id slice level rect) = latest
+shapeAfter latest (Event.Regen id) = latest
+shapeAfter latest (Event.Pop settled) = latest
+shapeAfter latest (Event.Park failed now) = latest
+shapeAfter latest (Event.Note allocated) = latest
+shapeAfter latest Event.Doomed = latest
+shapeAfter latest Event.Drain = latest
+shapeAfter latest (Event.Trim now) = latest
+shapeAfter latest (Event.Forget id) = latest
+shapeAfter latest Event.Unread = latest
+
+unfoldable pub sessionAfter : Bool → VersionShape → Pool → PacingBook → Event → Session
+sessionAfter taken latest pool book e =
+    record { opened = true; taken = takenAfter taken e; pool = pool; book = book; shape = shapeAfter latest e }
+
+-- the call that an event asks for, if it fills no buffer
+abbrev pub plainCall : Event → Option LentCall
+plainCall (Event.Take id shape records seq) = some (lentTake id shape records seq)
+plainCall (Event.Retire id view seq) = some (lentRetire id view seq)
+plainCall (Event.Write id slice level rect) = some (lentWrite id slice level rect)
+plainCall (Event.Regen id) = some (lentRegen id)
+plainCall (Event.Pop settled) = some (lentPop settled)
+plainCall (Event.Park failed now) = some (lentPark failed now)
+plainCall (Event.Note allocated) = some (lentNote allocated)
+plainCall (Event.Trim now) = some (lentTrim now)
+plainCall (Event.Forget id) = some (lentForget id)
+plainCall (Event.Open working) = none
+plainCall (Event.Plan id held slice level cover) = none
+plainCall Event.Doomed = none
+plainCall Event.Drain = none
+plainCall Event.Unread = none
+
+-- without a call the answer is "?", and the stores stay
+unfoldable pub MadeIf : Lent → Option LentCall → Answer → Lent → Type 0
+MadeIf l none a exit = (a ≡ Question) × (exit ≡ l)
+MadeIf l (some c) a exit = Made l c a exit
+
+-- the answer of an event with buffers of so many numbers, and the stores at exit, are those of its step
+unfoldable pub Stepped : ℕ → ℕ → State → Event → Answer → List ℕ → List ℕ → Lent → Type 0
+Stepped copies views s e a copiesExit viewsExit exit =
+    InBuffers a copiesExit viewsExit × (replyOf a copiesExit viewsExit ≡ step copies views s e .0) × (exit ≡ step copies views s e .1 .lent)
+
+-- ---- a session that is not opened: its answers need no buffer
+
+unfoldable pub SaysOnly : Answer → State → Option Reply × State → Type 0
+SaysOnly a exit r = (copies views : List ℕ) → InBuffers a copies views × ((replyOf a copies views, exit) ≡ r)
+
+unfoldable pub AnsweredAlone : Answer → State → State → Event → Type 0
+AnsweredAlone a exit s e = (copies views : ℕ) → SaysOnly a exit (step copies views s e)

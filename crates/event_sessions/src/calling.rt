@@ -1,0 +1,105 @@
+// The call of an opened session's event.
+ghost use mathlib.Core.Path.{_≡_};
+ghost use mathlib.Core.Bool.{true};
+ghost use lib.ListN.{length};
+ghost use Rattle.layout.specs.Lent.{lent};
+ghost use Rattle.layout.specs.IsPool.{isPool};
+ghost use Rattle.event_sessions.specs.Parts.{opened, Stepped};
+use crate::plain::call_plain;
+use event_answers::Answer;
+use event_calls::Called;
+use event_calls::call_doomed;
+use event_calls::call_drain;
+use event_calls::call_plan;
+use event_lines::Event;
+use layout::PacingBook;
+use layout::Pool;
+use shapes::VersionShape;
+
+// A plan goes by the shape of the latest take line: without one it is no call. Nor is a second `open`.
+pub fn call_event(
+    pool: Pool,
+    book: PacingBook,
+    textures: &mut [u64],
+    retiring: &mut [u64],
+    doomed: &mut [u64],
+    spares: &mut [u64],
+    newest: &mut [u64],
+    stamps: &mut [u64],
+    copies: &mut [u64],
+    views: &mut [u64],
+    taken: bool,
+    shape: VersionShape,
+    event: Event,
+) -> Called
+    requires { ⌜ isPool (lent pool book (now textures) (now retiring) (now doomed) (now spares) (now newest) (now stamps)) ≡ true ⌝ }
+    ensures { λ r. ⌜ Stepped (length (now (copies .entry))) (length (now (views .entry))) (opened taken shape (lent pool book (now (textures .entry)) (now (retiring .entry)) (now (doomed .entry)) (now (spares .entry)) (now (newest .entry)) (now (stamps .entry)))) event (r .answer) (now (copies .exit)) (now (views .exit)) (lent (r .pool) (r .book) (now (textures .exit)) (now (retiring .exit)) (now (doomed .exit)) (now (spares .exit)) (now (newest .exit)) (now (stamps .exit))) ⌝ }
+{
+    match event {
+        Event::Plan {
+            id,
+            held,
+            slice,
+            level,
+            cover,
+        } => {
+            if !taken {
+                return Called {
+                    pool,
+                    book,
+                    answer: Answer::Question,
+                };
+            }
+            call_plan(
+                pool,
+                book,
+                textures,
+                retiring,
+                doomed,
+                spares,
+                newest,
+                stamps,
+                copies,
+                id,
+                shape,
+                held,
+                slice,
+                level,
+                cover,
+            )
+        }
+        Event::Doomed => call_doomed(
+            pool,
+            book,
+            textures,
+            retiring,
+            doomed,
+            spares,
+            newest,
+            stamps,
+            views,
+        ),
+        Event::Drain => call_drain(
+            pool,
+            book,
+            textures,
+            retiring,
+            doomed,
+            spares,
+            newest,
+            stamps,
+            views,
+        ),
+        _ => call_plain(
+            pool,
+            book,
+            textures,
+            retiring,
+            doomed,
+            spares,
+            newest,
+            stamps,
+            event,
+        ),
+    }
+}

@@ -1,0 +1,76 @@
+// `open`, and every other event before it.
+ghost use mathlib.Core.Path.{_≡_};
+ghost use mathlib.Core.Bool.{false};
+ghost use Rattle.event_sessions.specs.Sessions.{stateOf, opens};
+ghost use Rattle.event_sessions.specs.Parts.{SaysOnly, AnsweredAlone};
+use crate::answered::Answered;
+use crate::session::Session;
+use event_answers::Answer;
+use event_lines::Event;
+
+// Lent memory that is too small or too large for a pool is refused with 1.
+fn open_session(
+    session: Session,
+    textures: &[u64],
+    retiring: &[u64],
+    doomed: &[u64],
+    spares: &[u64],
+    newest: &[u64],
+    stamps: &[u64],
+    working: u64,
+) -> Answered
+    ensures { λ r. ⌜ SaysOnly (r .answer) (stateOf (r .session) (now (textures .entry)) (now (retiring .entry)) (now (doomed .entry)) (now (spares .entry)) (now (newest .entry)) (now (stamps .entry))) (opens (stateOf session (now (textures .entry)) (now (retiring .entry)) (now (doomed .entry)) (now (spares .entry)) (now (newest .entry)) (now (stamps .entry))) working) ⌝ }
+{
+    let said = pool::open(working, textures, retiring, doomed, spares, newest, stamps);
+    if said.outcome != 0 {
+        return Answered {
+            session,
+            answer: Answer::Refused(1),
+        };
+    }
+    let pool = said.pool;
+    let book = said.book;
+    let shape = session.shape;
+    Answered {
+        session: Session {
+            opened: true,
+            taken: session.taken,
+            pool,
+            book,
+            shape,
+        },
+        answer: Answer::Done,
+    }
+}
+
+// No call is made before the pool is opened.
+pub fn answer_unopened(
+    session: Session,
+    textures: &[u64],
+    retiring: &[u64],
+    doomed: &[u64],
+    spares: &[u64],
+    newest: &[u64],
+    stamps: &[u64],
+    event: Event,
+) -> Answered
+    requires { ⌜ session .opened ≡ false ⌝ }
+    ensures { λ r. ⌜ AnsweredAlone (r .answer) (stateOf (r .session) (now (textures .entry)) (now (retiring .entry)) (now (doomed .entry)) (now (spares .entry)) (now (newest .entry)) (now (stamps .entry))) (stateOf session (now (textures .entry)) (now (retiring .entry)) (now (doomed .entry)) (now (spares .entry)) (now (newest .entry)) (now (stamps .entry))) event ⌝ }
+{
+    match event {
+        Event::Open(working) => open_session(
+            session,
+            textures,
+            retiring,
+            doomed,
+            spares,
+            newest,
+            stamps,
+            working,
+        ),
+        _ => Answered {
+            session,
+            answer: Answer::Question,
+        },
+    }
+}

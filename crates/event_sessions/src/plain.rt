@@ -1,0 +1,165 @@
+// The calls that fill no buffer.
+ghost use mathlib.Core.Path.{_≡_};
+ghost use mathlib.Core.Bool.{true};
+ghost use Rattle.layout.specs.Lent.{lent};
+ghost use Rattle.layout.specs.IsPool.{isPool};
+ghost use Rattle.event_sessions.specs.Parts.{plainCall, MadeIf};
+use event_answers::Answer;
+use event_calls::Called;
+use event_calls::call_forget;
+use event_calls::call_note;
+use event_calls::call_park;
+use event_calls::call_pop;
+use event_calls::call_regen;
+use event_calls::call_retire;
+use event_calls::call_take;
+use event_calls::call_trim;
+use event_calls::call_write;
+use event_lines::Event;
+use layout::PacingBook;
+use layout::Pool;
+
+// No call for the events that fill a buffer or ask for none.
+pub fn call_plain(
+    pool: Pool,
+    book: PacingBook,
+    textures: &mut [u64],
+    retiring: &mut [u64],
+    doomed: &mut [u64],
+    spares: &mut [u64],
+    newest: &mut [u64],
+    stamps: &mut [u64],
+    event: Event,
+) -> Called
+    requires { ⌜ isPool (lent pool book (now textures) (now retiring) (now doomed) (now spares) (now newest) (now stamps)) ≡ true ⌝ }
+    ensures { λ r. ⌜ MadeIf (lent pool book (now (textures .entry)) (now (retiring .entry)) (now (doomed .entry)) (now (spares .entry)) (now (newest .entry)) (now (stamps .entry))) (plainCall event) (r .answer) (lent (r .pool) (r .book) (now (textures .exit)) (now (retiring .exit)) (now (doomed .exit)) (now (spares .exit)) (now (newest .exit)) (now (stamps .exit))) ⌝ }
+{
+    match event {
+        Event::Take {
+            id,
+            shape,
+            records,
+            seq,
+        } => call_take(
+            pool,
+            book,
+            textures,
+            retiring,
+            doomed,
+            spares,
+            newest,
+            stamps,
+            id,
+            shape,
+            records,
+            seq,
+        ),
+        Event::Retire { id, view, seq } => call_retire(
+            pool,
+            book,
+            textures,
+            retiring,
+            doomed,
+            spares,
+            newest,
+            stamps,
+            id,
+            view,
+            seq,
+        ),
+        Event::Write {
+            id,
+            slice,
+            level,
+            rect,
+        } => call_write(
+            pool,
+            book,
+            textures,
+            retiring,
+            doomed,
+            spares,
+            newest,
+            stamps,
+            id,
+            slice,
+            level,
+            rect,
+        ),
+        Event::Regen(id) => call_regen(
+            pool,
+            book,
+            textures,
+            retiring,
+            doomed,
+            spares,
+            newest,
+            stamps,
+            id,
+        ),
+        Event::Pop(settled) => call_pop(
+            pool,
+            book,
+            textures,
+            retiring,
+            doomed,
+            spares,
+            newest,
+            stamps,
+            settled,
+        ),
+        Event::Park {
+            failed,
+            now: current,
+        } => call_park(
+            pool,
+            book,
+            textures,
+            retiring,
+            doomed,
+            spares,
+            newest,
+            stamps,
+            failed,
+            current,
+        ),
+        Event::Note(allocated) => call_note(
+            pool,
+            book,
+            textures,
+            retiring,
+            doomed,
+            spares,
+            newest,
+            stamps,
+            allocated,
+        ),
+        Event::Trim(current) => call_trim(
+            pool,
+            book,
+            textures,
+            retiring,
+            doomed,
+            spares,
+            newest,
+            stamps,
+            current,
+        ),
+        Event::Forget(id) => call_forget(
+            pool,
+            book,
+            textures,
+            retiring,
+            doomed,
+            spares,
+            newest,
+            stamps,
+            id,
+        ),
+        _ => Called {
+            pool,
+            book,
+            answer: Answer::Question,
+        },
+    }
+}
