@@ -14,7 +14,7 @@ use Rattle.bytes.specs.Bytes.{indexOf}
 use Rattle.event_lines.specs.Grammar.{eventOf}
 use Rattle.event_answers.specs.Printed.{lineFeed}
 use Rattle.event_sessions.specs.Sessions.{State, HoldsPool, step}
-use Rattle.event_sessions.proofs.StubLaws.{step-keeps}
+use Rattle.event_sessions.proofs.Keeps.{step-keeps}
 use Rattle.events.specs.Lines.{inFirstLine, wholeLines, lineOutput, lineState, output, Progress, hasRoom, ran, ranAll}
 use Rattle.events.proofs.Splits.{first-line, no-line}
 
@@ -64,7 +64,7 @@ pub record Left (bytes : ℕ) (p q : Progress) : Type 0 where
 module _ (cs vs : ℕ) where
   state-kept : (s : State) (line : List ℕ) → HoldsPool s → HoldsPool (lineState cs vs s line)
   unfolding lineState
-  state-kept s line h = step-keeps ?stub cs vs s (eventOf line) h
+  state-kept s line h = step-keeps cs vs s (eventOf line) h
 
   lines-left : (p : Progress) (lines : List (List ℕ)) → HoldsPool (p .state) → Left (size lines) p (ranAll cs vs p lines)
   unfolding ranAll ran size

@@ -16,8 +16,8 @@ use Rattle.event_answers.specs.declared.answer.Answer.{Answer}
 use Rattle.event_answers.specs.Answers.{replyOf}
 use Rattle.event_answers.specs.Printed.{printed, mostBytes}
 use Rattle.event_sessions.specs.Sessions.{State, HoldsPool, step}
-use Rattle.event_sessions.proofs.StubLaws.{step-keeps}
-use Rattle.events.specs.Lines.{wholeLines, lineOutput, lineState, longestAnswer, Progress, hasRoom, ran, ranAll}
+use Rattle.event_sessions.proofs.Keeps.{step-keeps}
+use Rattle.events.specs.Lines.{wholeLines, lineOutput, lineState, LineRan, longestAnswer, Progress, hasRoom, ran, ranAll}
 use Rattle.events.specs.Ends.{lineEnd, nextEnd}
 use Rattle.events.proofs.Splits.{end-after, end-within, line-next, line-none}
 
@@ -128,30 +128,28 @@ module _ (cs vs a b : ℕ) (ea : a ≡ cs) (eb : b ≡ vs) (input : List ℕ) (p
       let m : p .filled + longestAnswer cs vs ≤ size = rw is-most at r in
       rw (ea, eb, g .sized) m
 
-  module _ (q : Progress) (s : q .state ≡ lineState a b (p .state) (take (end - p .from) (drop (p .from) input)))
-      (n : q .number ≡ p .number + 1) (f : q .from ≡ end + 1)
-      (l : q .filled ≡ p .filled + length (lineOutput a b (p .number + 1) (p .state) (take (end - p .from) (drop (p .from) input))))
-      (o : q .out ≡ sets (p .out) (p .filled) (lineOutput a b (p .number + 1) (p .state) (take (end - p .from) (drop (p .from) input)))) where
+  module _ (q : Progress) (n : q .number ≡ p .number + 1) (f : q .from ≡ end + 1)
+      (r : LineRan a b (p .number + 1) (p .state) (q .state) (take (end - p .from) (drop (p .from) input)) (p .filled) (q .filled) (p .out) (q .out)) where
     was-run : q ≡ ran cs vs p line
     was-run =
         let k = line-length in
         let m = g .begun in
         let e : q .from ≡ p .from + (length line + 1) = omega arith in
-        ran-is a b p q line s n e l o ∙ ap₂ (λ (i j : ℕ). ran i j p line) ea eb
+        ran-is a b p q line (r .state) n e (r .length-is) (r .put) ∙ ap₂ (λ (i j : ℕ). ran i j p line) ea eb
 
     kept : HoldsPool (q .state)
     unfolding lineState
-    kept = rw s (step-keeps ?stub a b (p .state) (eventOf line) (g .pool))
+    kept = rw (r .state) (step-keeps a b (p .state) (eventOf line) (g .pool))
 
-    pub going-next : (end′ : ℕ) → end′ ≡ nextEnd input (end + 1) most (q .filled) size → end + 1 ≤ end′ → end′ ≤ length input → q .filled ≤ length (p .out)
+    pub going-next : {end′ : ℕ} → end′ ≡ nextEnd input (end + 1) most (q .filled) size → end + 1 ≤ end′ → end′ ≤ length input
         → Going cs vs input p₀ q most end′ size
-    going-next end′ e x y z = record {
+    going-next e x y = record {
       begun = omega arith;
       within = y;
       next = e ∙ ap (λ (i : ℕ). nextEnd input i most (q .filled) size) (sym f);
       counted = let k = g .counted in let m = g .begun in omega arith;
-      filling = let k = g .sized in omega arith;
-      sized = ap length o ∙ length-sets (p .out) (p .filled) (lineOutput a b (p .number + 1) (p .state) line) ∙ g .sized;
+      filling = let k = g .sized in let z = r .fits in omega arith;
+      sized = ap length (r .put) ∙ length-sets (p .out) (p .filled) (lineOutput a b (p .number + 1) (p .state) line) ∙ g .sized;
       pool = kept;
       left = ap (λ (k : ℕ). ranAll cs vs q (wholeLines (drop k input))) f
           ∙ ap (λ (x : Progress). ranAll cs vs x (wholeLines (drop (end + 1) input))) was-run

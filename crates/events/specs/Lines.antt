@@ -1,5 +1,6 @@
 -- The lines of an input, run one after the other (01, "Upload rectangle, event program").
-use Prim.Native.Nat.{ℕ, _+_, _/_, max}
+use Prim.Native.Nat.{ℕ, _+_, _/_, _≤_, max}
+use mathlib.Core.Path.{_≡_}
 use mathlib.Core.Bool.{Bool, cond}
 use mathlib.Core.List.{List, [], _∷_, _++_}
 use lib.Dec.{eqb, leb}
@@ -36,6 +37,13 @@ module _ (copies views : ℕ) where
   unfoldable pub output : ℕ → State → List (List ℕ) → List ℕ
   output n s [] = []
   output n s (line ∷ lines) = lineOutput (n + 1) s line ++ output (n + 1) (lineState s line) lines
+
+  -- Line n was run: `after` is the state after it, and its output stands behind the filled bytes of the buffer, up to `end`.
+  pub record LineRan (n : ℕ) (before after : State) (line : List ℕ) (filled end : ℕ) (out exit : List ℕ) : Type 0 where
+    pub state : after ≡ lineState before line
+    pub length-is : end ≡ filled + length (lineOutput n before line)
+    pub put : exit ≡ sets out filled (lineOutput n before line)
+    pub fits : end ≤ length out
 
   -- no line's output has more bytes
   abbrev pub longestAnswer : ℕ

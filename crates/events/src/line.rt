@@ -1,10 +1,8 @@
 // One line run.
-ghost use mathlib.Core.Path.{_≡_};
 ghost use Prim.Native.Nat.{_+_, _≤_};
 ghost use lib.ListN.{length};
-ghost use lib.Seq.{sets};
 ghost use Rattle.event_sessions.specs.Sessions.{stateOf, HoldsPool};
-ghost use Rattle.events.specs.Lines.{lineOutput, lineState, longestAnswer};
+ghost use Rattle.events.specs.Lines.{LineRan, longestAnswer};
 use event_answers::put_answer;
 use event_lines::parse_line;
 use event_sessions::Session;
@@ -34,14 +32,10 @@ pub fn run_line(
 ) -> RanLine
     requires { ⌜ HoldsPool (stateOf session (now textures) (now retiring) (now doomed) (now spares) (now newest) (now stamps))
         × (filled + longestAnswer (length (now copies)) (length (now views)) ≤ length (now out)) ⌝ }
-    ensures { λ r. ⌜ (stateOf (r .session) (now (textures .exit)) (now (retiring .exit)) (now (doomed .exit)) (now (spares .exit)) (now (newest .exit)) (now (stamps .exit))
-        ≡ lineState (length (now (copies .entry))) (length (now (views .entry)))
-        (stateOf session (now (textures .entry)) (now (retiring .entry)) (now (doomed .entry)) (now (spares .entry)) (now (newest .entry)) (now (stamps .entry))) (now (line .entry)))
-        × (r .filled ≡ filled + length (lineOutput (length (now (copies .entry))) (length (now (views .entry))) number
-        (stateOf session (now (textures .entry)) (now (retiring .entry)) (now (doomed .entry)) (now (spares .entry)) (now (newest .entry)) (now (stamps .entry))) (now (line .entry))))
-        × (now (out .exit) ≡ sets (now (out .entry)) filled (lineOutput (length (now (copies .entry))) (length (now (views .entry))) number
-        (stateOf session (now (textures .entry)) (now (retiring .entry)) (now (doomed .entry)) (now (spares .entry)) (now (newest .entry)) (now (stamps .entry))) (now (line .entry))))
-        × (r .filled ≤ length (now (out .entry))) ⌝ }
+    ensures { λ r. ⌜ LineRan (length (now (copies .entry))) (length (now (views .entry))) number
+        (stateOf session (now (textures .entry)) (now (retiring .entry)) (now (doomed .entry)) (now (spares .entry)) (now (newest .entry)) (now (stamps .entry)))
+        (stateOf (r .session) (now (textures .exit)) (now (retiring .exit)) (now (doomed .exit)) (now (spares .exit)) (now (newest .exit)) (now (stamps .exit)))
+        (now (line .entry)) filled (r .filled) (now (out .entry)) (now (out .exit)) ⌝ }
 {
     let event = parse_line(line);
     let answered = answer_event(

@@ -13,7 +13,7 @@ parse-line-requires : tie.Need-parse-line-requires
 parse-line-requires c κs = search needs
 
 answer-event-requires : tie.Need-answer-event-requires
-answer-event-requires c κs = (c .before .before .before .before .before .before .before .before .before .before .before .before .before .before .before .before .before .before .before .pre .0, ?stub)
+answer-event-requires c κs = c .before .before .before .before .before .before .before .before .before .before .before .before .before .before .before .before .before .before .before .pre .0
 
 put-answer-requires : tie.Need-put-answer-requires
 put-answer-requires c κs =
@@ -56,12 +56,12 @@ returns c =
     let a = c .before .before .before .before .before .before .before .before .before .before .before .before .before .before .before .before .before .before .before .before .before .before .before .answer-event in
     let n = a .kept .1 .1 .1 .1 .1 .1 .1 in
     let p = c .before .before .before .put-answer in
-    let t = line-output _ _ _ _ _ _ (a .result .answer) _ _ (v .ensures) (a .ensures .1) (s .args .number) in (
-      line-state _ _ _ _ _ _ (a .result .answer) _ _ (v .ensures) (a .ensures .1),
-      p .ensures .0 ∙ ap (λ l. s .args .filled + length l) t,
-      p .ensures .1 ∙ ap (sets (s .args .out .now) (s .args .filled)) t,
-      output-fits (a .result .answer) _ _ _ _ (s .args .filled) _ (s .args .number) _ (a .ensures .0) (n .0) (n .1 .0) (s .pre .1) (p .ensures .0),
-    )
+    let t = line-output _ _ _ _ _ _ (a .result .answer) _ _ (v .ensures) (a .ensures .1) (s .args .number) in record {
+      state = line-state _ _ _ _ _ _ (a .result .answer) _ _ (v .ensures) (a .ensures .1);
+      length-is = p .ensures .0 ∙ ap (λ l. s .args .filled + length l) t;
+      put = p .ensures .1 ∙ ap (sets (s .args .out .now) (s .args .filled)) t;
+      fits = output-fits (a .result .answer) _ _ _ _ (s .args .filled) _ (s .args .number) _ (a .ensures .0) (n .0) (n .1 .0) (s .pre .1) (p .ensures .0);
+    }
 
 pub run-line-spec : {M : Type 1} → statement M
 run-line-spec =

@@ -58,7 +58,7 @@ next-end-requires-2 : tie.Need-next-end-requires-2 Inv-loop μ-loop
 next-end-requires-2 c κs =
     let t = c .before .before .before .before .before .before .before .before .before .before .before .before .before .before .before .before .before .before .before .before .before .before .before .before .before .before .before .before .before .before .before .before in (
       omega (arith, t .loop-test .taken),
-      omega (arith, c .before .before .before .before .before .before .before .before .before .before .before .before .before .before .before .before .before .before .before .run-line .ensures .3, t .before .loop .inv .0 .sized),
+      omega (arith, c .before .before .before .before .before .before .before .before .before .before .before .before .before .before .before .before .before .before .before .run-line .ensures .fits, t .before .loop .inv .0 .sized),
     )
 
 loop-less : tie.Need-loop-less Inv-loop μ-loop
@@ -71,7 +71,7 @@ loop-again c =
     let r = c .before .before .before .before .before .before .before .before .before .before .before .before .before .before .before .before .before .before .before .before .run-line in
     let n = c .next-end2 .ensures in
     let k = r .kept .1 .1 .1 in (
-      going-next _ _ _ _ (i .7) (i .8) _ _ _ _ _ _ (i .0) (l .before .before .most-entries .ensures) (c .before .before .before .before .before .before .before .before .before .before .before .before .before .before .before .before .before .before .before .before .before .before .before .before .before .before .before .before .before .before .before .before .before .loop-test .taken) _ (r .ensures .0) refl refl (r .ensures .1) (r .ensures .2) _ (n .0) (n .1) (n .2) (r .ensures .3),
+      going-next _ _ _ _ (i .7) (i .8) _ _ _ _ _ _ (i .0) (l .before .before .most-entries .ensures) (c .before .before .before .before .before .before .before .before .before .before .before .before .before .before .before .before .before .before .before .before .before .before .before .before .before .before .before .before .before .before .before .before .before .loop-test .taken) _ refl refl (r .ensures) (n .0) (n .1) (n .2),
       k .0 ∙ i .1,
       k .1 .0 ∙ i .2,
       k .1 .1 .0 ∙ i .3,
