@@ -1,6 +1,5 @@
 // The lines of standard input run one after the other. Their output is written when its buffer has no room for another answer, and after each
 // block that was read, so a caller may ask line by line and wait. A write that fails ends it.
-ghost use mathlib.Core.Path.{_≡_};
 ghost use Prim.Native.Nat.{_+_, _^_, _≤_, _<_};
 ghost use lib.ListN.{length};
 use crate::input::Input;

@@ -1,4 +1,4 @@
--- What running lines leaves. Assumes nothing.
+-- What running lines leaves, with answer buffers of cs and vs numbers. Assumes nothing.
 use mathlib.Core.Path.{_≡_, refl, sym, ap, _∙_}
 use mathlib.Core.Bool.{Bool, true, false, cond}
 use mathlib.Core.List.{List, [], _∷_, _++_, append-assoc}
@@ -13,7 +13,7 @@ use Rattle.histories.proofs.Written.{sets-append}
 use Rattle.bytes.specs.Bytes.{indexOf}
 use Rattle.event_lines.specs.Grammar.{eventOf}
 use Rattle.event_answers.specs.Printed.{lineFeed}
-use Rattle.event_sessions.specs.Sessions.{State, HoldsPool, step}
+use Rattle.event_sessions.specs.Sessions.{State, HoldsPool}
 use Rattle.event_sessions.proofs.Keeps.{step-keeps}
 use Rattle.events.specs.Lines.{inFirstLine, wholeLines, lineOutput, lineState, output, Progress, hasRoom, ran, ranAll}
 use Rattle.events.proofs.Splits.{first-line, no-line}

@@ -1,13 +1,13 @@
--- Laws of lines run one after the other. Assumes nothing.
+-- Laws of lines run one after the other, with answer buffers of cs and vs numbers. Assumes nothing.
 use mathlib.Core.Path.{_≡_, refl, sym, ap, ap₂, _∙_}
 use mathlib.Core.Bool.{Bool, true, false, cond}
 use mathlib.Core.Option.{Option}
 use mathlib.Core.List.{List, [], _∷_}
 use Prim.Native.Nat.{ℕ, _+_, _-_, _/_, _≤_, _<_, max}
 use native.Mathlib.Omega.{arith}
-use borrow.Author.Tests.{le-leb, lt-leb, leb-true}
+use borrow.Author.Tests.{leb-true}
 use lib.Dec.{leb}
-use lib.ListN.{length, take, drop, length-take, length-drop}
+use lib.ListN.{length, take, drop, length-drop}
 use lib.Seq.{sets, length-sets, length-take-le}
 use Rattle.books.specs.Demand3.{Reply}
 use Rattle.event_lines.specs.declared.event.Event.{Event}
@@ -19,7 +19,7 @@ use Rattle.event_sessions.specs.Sessions.{State, HoldsPool, step}
 use Rattle.event_sessions.proofs.Keeps.{step-keeps}
 use Rattle.events.specs.Lines.{wholeLines, lineOutput, lineState, LineRan, longestAnswer, Progress, hasRoom, ran, ranAll}
 use Rattle.events.specs.Ends.{lineEnd, nextEnd}
-use Rattle.events.proofs.Splits.{end-after, end-within, line-next, line-none}
+use Rattle.events.proofs.Splits.{line-next, line-none}
 
 -- ---- one line
 

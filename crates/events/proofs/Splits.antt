@@ -1,8 +1,8 @@
 -- Laws of the first line of an input and those behind it. Assumes nothing.
-use mathlib.Core.Path.{_≡_, refl, sym, ap, _∙_}
+use mathlib.Core.Path.{_≡_, refl, ap, _∙_}
 use mathlib.Core.Bool.{Bool, true, false, cond}
 use mathlib.Core.List.{List, [], _∷_}
-use Prim.Native.Nat.{ℕ, zero, suc, _+_, _-_, _≤_, _<_}
+use Prim.Native.Nat.{ℕ, suc, _+_, _-_, _≤_, _<_}
 use native.Mathlib.Omega.{arith}
 use lib.Dec.{eqb}
 use lib.ListN.{length, take, drop, length-drop}
@@ -11,15 +11,6 @@ use Rattle.bytes.specs.Bytes.{indexOf, indexAfter}
 use Rattle.event_answers.specs.Printed.{lineFeed}
 use Rattle.events.specs.Lines.{inFirstLine, wholeLines}
 use Rattle.events.specs.Ends.{lineEnd}
-
-pub index-within : (b : ℕ) (s : List ℕ) → indexOf b s ≤ length s
-unfolding indexOf indexAfter
-index-within b [] = omega arith
-index-within b (x ∷ s) = go (eqb x b) (index-within b s)
-  where
-    go : (t : Bool) → indexOf b s ≤ length s → indexAfter t (indexOf b s) ≤ suc (length s)
-    go true h = omega arith
-    go false h = omega arith
 
 pub first-line : (s : List ℕ) → indexOf lineFeed s < length s
     → wholeLines s ≡ take (indexOf lineFeed s) s ∷ wholeLines (drop (suc (indexOf lineFeed s)) s)
@@ -50,14 +41,6 @@ no-line (b ∷ bs) h = go (eqb b lineFeed) (no-line bs) h
 -- ---- the line that starts at `from`
 
 module _ (input : List ℕ) (from : ℕ) where
-  pub end-after : from ≤ lineEnd input from
-  unfolding lineEnd
-  end-after = omega arith
-
-  pub end-within : from ≤ length input → lineEnd input from ≤ length input
-  unfolding lineEnd
-  end-within h = let k = index-within lineFeed (drop from input) in omega (arith, length-drop from input)
-
   pub line-next : lineEnd input from < length input
       → wholeLines (drop from input) ≡ take (lineEnd input from - from) (drop from input) ∷ wholeLines (drop (lineEnd input from + 1) input)
   unfolding lineEnd

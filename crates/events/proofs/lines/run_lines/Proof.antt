@@ -1,8 +1,8 @@
 -- `run_lines` meets its contract: what is left to run is, at every turn, what was to run at first. The measure is what is left of the input behind the
 -- next line's end. Assumes nothing.
 use borrow.Author.Needs.{needs}
-use mathlib.Core.Path.{_≡_, refl, sym, ap, _∙_}
-use Prim.Native.Nat.{_+_, _-_}
+use mathlib.Core.Path.{_≡_, refl, _∙_}
+use Prim.Native.Nat.{_-_}
 use native.Mathlib.Omega.{arith}
 use lib.ListN.{length}
 use Rattle.events.specs.Lines.{progressOf}
