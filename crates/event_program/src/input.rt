@@ -1,10 +1,13 @@
 // Standard input, read in blocks.
-ghost use Prim.Native.Nat.{_+_, _≤_, _<_};
-ghost use lib.ListN.{length};
+ghost use mathlib.Core.List.{List, _++_};
+ghost use mathlib.Core.Path.{_≡_};
+ghost use Prim.Native.Nat.{ℕ, _-_, _≤_, _<_, min};
+ghost use lib.ListN.{length, take, drop};
+ghost use Rattle.event_lines.specs.Grammar.{eventOf};
 use libc::STDIN_FILENO;
 
 // What is kept of a line that is not whole yet: one byte more than any event has, so a longer line is none with the rest or without it
-// (law `cut-unread` of crates/events/proofs/LongLines.antt).
+// (laws `long-unread` and `cut-unread` of crates/events/proofs/LongLines.antt).
 const KEPT: usize = 196;
 
 // The bytes of the buffer from `from` to `end` are still to be run. Nothing comes behind them if the input has ended.
@@ -16,15 +19,16 @@ pub struct Input {
 
 // How many bytes of so many are kept.
 fn kept_bytes(bytes: usize) -> usize
-    ensures { λ r. ⌜ (r ≤ bytes) × (r ≤ 196) ⌝ }
+    ensures { λ r. ⌜ r ≡ min bytes 196 ⌝ }
 {
     if bytes < KEPT { bytes } else { KEPT }
 }
 
-// Moves a line that is not whole yet to the front. Answers how many of its bytes are kept.
+// Moves a line that is not whole yet to the front. Answers how many of its bytes are kept: whatever comes behind them, the line's event is the same.
 fn keep(buf: &mut [u8], from: usize, end: usize) -> usize
     requires { ⌜ (from ≤ end) × (end ≤ length (now buf)) × (196 < length (now buf)) ⌝ }
-    ensures { λ r. ⌜ r < length (now (buf .entry)) ⌝ }
+    ensures { λ r. ⌜ (r < length (now (buf .entry)))
+        × ((rest : List ℕ) → eventOf (take r (now (buf .exit)) ++ rest) ≡ eventOf (take (end - from) (drop from (now (buf .entry))) ++ rest)) ⌝ }
 {
     let kept = kept_bytes(end - from);
     let mut i = 0;

@@ -7,7 +7,8 @@ use native.Mathlib.Decide.{decLt}
 use native.Mathlib.Omega.{arith}
 use borrow.Author.Tests.{leb-true}
 use lib.Dec.{eqb, ltb}
-use lib.ListN.{length, getD, length-append}
+use lib.ListN.{length, take, getD, length-append}
+use lib.Seq.{take-all, length-take-le}
 use Rattle.blocks.proofs.Lists.{and-both, passed}
 use Rattle.event_text.specs.Fields.{comma, inFirst, fieldsOf, same}
 use Rattle.event_text.specs.Numbers.{isNumber, decimal}
@@ -145,7 +146,12 @@ pub long-unread : (line : List ℕ) → 195 < length line → eventOf line ≡ E
 unfolding eventOf
 long-unread line h = event-unread (fieldsOf line) (omega (arith, fields-bytes line))
 
--- so the rest of such a line does not matter
-pub cut-unread : (line kept rest : List ℕ) → 195 < length line → 195 < length kept → eventOf (line ++ rest) ≡ eventOf (kept ++ rest)
-cut-unread line kept rest h k =
-    long-unread (line ++ rest) (omega (arith, length-append line rest)) ∙ sym (long-unread (kept ++ rest) (omega (arith, length-append kept rest)))
+-- so a line may be cut behind its first 196 bytes: whatever comes behind, its event is the same
+pub cut-unread : (k : ℕ) → 195 < k → (line rest : List ℕ) → eventOf (take k line ++ rest) ≡ eventOf (line ++ rest)
+cut-unread k h line rest = go (decLt k (length line))
+  where
+    go : Dec (k < length line) → eventOf (take k line ++ rest) ≡ eventOf (line ++ rest)
+    go (no p) = ap (λ (l : List ℕ). eventOf (l ++ rest)) (take-all k line (omega arith))
+    go (yes p) =
+        let e = length-take-le k line (omega arith) in
+        long-unread (take k line ++ rest) (omega (arith, length-append (take k line) rest)) ∙ sym (long-unread (line ++ rest) (omega (arith, length-append line rest)))
