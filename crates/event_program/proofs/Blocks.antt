@@ -1,17 +1,20 @@
 -- Laws of a block of input run. Assumes nothing.
 use mathlib.Core.Path.{_≡_, refl, sym, ap, ap₂, _∙_}
-use mathlib.Core.Bool.{true, false}
+use mathlib.Core.Bool.{Bool, true, false, _||_}
 use mathlib.Core.List.{List, [], _∷_, _++_}
 use Prim.Native.Nat.{ℕ, _+_, _-_, _≤_, _<_, min}
 use native.Mathlib.Nat.{min-eq-left, min-eq-right}
 use native.Mathlib.Numerals.{add-one}
 use native.Mathlib.Decide.{decLt}
 use native.Mathlib.Omega.{arith}
+use borrow.Author.Tests.{ltb-false}
+use lib.Dec.{ltb}
 use lib.ListN.{length, take, drop, getD, set, length-take, length-drop, length-set}
 use lib.Seq.{length-take-le, take-all, take-take, take-suc, take-suc-set, getD-drop, drop-drop, drop-set-lt}
 use Rattle.event_lines.specs.Grammar.{eventOf}
 use Rattle.event_sessions.specs.declared.session.Session.{Session}
 use Rattle.event_sessions.specs.Parts.{freshSession}
+use Rattle.events.specs.Lines.{wholeLines, longestAnswer}
 use Rattle.events.proofs.LongLines.{cut-unread}
 
 -- before an `open` nothing is asked of the stores
@@ -22,6 +25,21 @@ fresh-holds e h = absurd (let o : false ≡ true = sym (ap (λ (s : Session). s 
 -- the bytes that are run
 pub part-length : (buf : List ℕ) (from end : ℕ) → end ≤ length buf → length (take (end - from) (drop from buf)) ≡ end - from
 part-length buf from end h = length-take-le (end - from) (drop from buf) (omega (arith, length-drop from buf))
+
+-- the buffers keep their lengths
+pub room : (a b : ℕ) {m n size k : ℕ} → a ≡ m → b ≡ n → k ≡ size → longestAnswer m n ≤ size → 0 + longestAnswer a b ≤ k
+room a b e f g h = let z = ap₂ longestAnswer e f in omega arith
+
+-- where nothing was run and more is to be read, no whole line is left
+pub not-whole : (buf : List ℕ) (from end ran : ℕ) (ended : Bool) → ltb 0 ran || ended ≡ false
+    → (ran ≡ 0 → wholeLines (take (end - from) (drop from buf)) ≡ []) → wholeLines (take (end - (from + ran)) (drop (from + ran) buf)) ≡ []
+not-whole buf from end ran ended t h =
+    let z : ran ≡ 0 = none (ltb 0 ran) refl t in
+    ap (λ (k : ℕ). wholeLines (take (end - k) (drop k buf))) (let e : from + ran ≡ from = omega arith in e) ∙ h z
+  where
+    none : (b : Bool) → ltb 0 ran ≡ b → b || ended ≡ false → ran ≡ 0
+    none true e q = absurd (let z : _≡_ {A = ℕ} 0 1 = cc in let y : ⊥ = omega arith in y)
+    none false e q = let k = ltb-false 0 ran e in omega arith
 
 -- ---- a line moved to the front
 

@@ -1,9 +1,10 @@
 // Standard input, read in blocks.
-ghost use mathlib.Core.List.{List, _++_};
+ghost use mathlib.Core.List.{List, [], _++_};
 ghost use mathlib.Core.Path.{_≡_};
 ghost use Prim.Native.Nat.{ℕ, _-_, _≤_, _<_, min};
 ghost use lib.ListN.{length, take, drop};
 ghost use Rattle.event_lines.specs.Grammar.{eventOf};
+ghost use Rattle.events.specs.Lines.{wholeLines};
 use libc::STDIN_FILENO;
 
 // What is kept of a line that is not whole yet: one byte more than any event has, so a longer line is none with the rest or without it
@@ -48,9 +49,9 @@ fn read_behind(buf: &mut [u8], held: usize) -> usize
     held + io::count(got, &buf[held..])
 }
 
-// Reads more, behind what is not run yet. A last line that lacks its line feed gets one where the input ends, or cannot be read.
+// Reads more, behind a line that is not whole yet. A last line that lacks its line feed gets one where the input ends, or cannot be read.
 pub fn read_more(buf: &mut [u8], from: usize, end: usize) -> Input
-    requires { ⌜ (from ≤ end) × (end ≤ length (now buf)) × (196 < length (now buf)) ⌝ }
+    requires { ⌜ (from ≤ end) × (end ≤ length (now buf)) × (196 < length (now buf)) × (wholeLines (take (end - from) (drop from (now buf))) ≡ []) ⌝ }
     ensures { λ r. ⌜ (r .from ≤ r .end) × (r .end ≤ length (now (buf .entry))) ⌝ }
 {
     let held = keep(buf, from, end);

@@ -1,7 +1,10 @@
 // The lines of standard input run one after the other. Their output is written when its buffer has no room for another answer, and after each
 // block that was read, so a caller may ask line by line and wait. A write that fails ends it.
-ghost use Prim.Native.Nat.{_+_, _^_, _≤_, _<_};
-ghost use lib.ListN.{length};
+ghost use mathlib.Core.List.{[]};
+ghost use mathlib.Core.Path.{_≡_};
+ghost use Prim.Native.Nat.{_+_, _-_, _^_, _≤_, _<_};
+ghost use lib.ListN.{length, take, drop};
+ghost use Rattle.events.specs.Lines.{wholeLines, longestAnswer};
 use crate::input::Input;
 use crate::input::read_more;
 use event_sessions::fresh;
@@ -34,7 +37,8 @@ fn write_out(out: &[u8], filled: usize) -> bool
 
 // What is to be run next: the rest of the block if lines of it were run, otherwise what comes behind it.
 fn next_input(buf: &mut [u8], ran: usize, input: Input) -> Input
-    requires { ⌜ (input .from + ran ≤ input .end) × (input .end ≤ length (now buf)) × (196 < length (now buf)) ⌝ }
+    requires { ⌜ (input .from + ran ≤ input .end) × (input .end ≤ length (now buf)) × (196 < length (now buf))
+        × (ran ≡ 0 → wholeLines (take (input .end - input .from) (drop (input .from) (now buf))) ≡ []) ⌝ }
     ensures { λ r. ⌜ (r .from ≤ r .end) × (r .end ≤ length (now (buf .entry))) ⌝ }
 {
     let from = input.from + ran;
@@ -60,7 +64,7 @@ pub fn run_all(
     views: &mut [u64],
     out: &mut [u8],
 )
-    requires { ⌜ (196 < length (now buf)) × (length (now buf) ≤ 65536) ⌝ }
+    requires { ⌜ (196 < length (now buf)) × (length (now buf) ≤ 65536) × (longestAnswer (length (now copies)) (length (now views)) ≤ length (now out)) ⌝ }
 {
     let mut session = fresh();
     let mut number = 0;

@@ -6,6 +6,7 @@ use Prim.Native.Nat.{ℕ, suc, _+_, _-_, _≤_, _<_}
 use native.Mathlib.Nat.{add-zero}
 use native.Mathlib.Decide.{decLt}
 use native.Mathlib.Omega.{arith}
+use borrow.Author.Tests.{le-leb}
 use lib.Dec.{eqb}
 use lib.ListN.{length, take, drop, length-append}
 use lib.Seq.{sets, drop-drop, length-take-le}
@@ -15,7 +16,7 @@ use Rattle.event_lines.specs.Grammar.{eventOf}
 use Rattle.event_answers.specs.Printed.{lineFeed}
 use Rattle.event_sessions.specs.Sessions.{State, HoldsPool}
 use Rattle.event_sessions.proofs.Keeps.{step-keeps}
-use Rattle.events.specs.Lines.{inFirstLine, wholeLines, lineOutput, lineState, output, Progress, hasRoom, ran, ranAll}
+use Rattle.events.specs.Lines.{inFirstLine, wholeLines, lineOutput, lineState, output, longestAnswer, Progress, hasRoom, ran, ranAll}
 use Rattle.events.proofs.Splits.{first-line, no-line}
 
 -- ---- the bytes of lines, each with its line feed
@@ -89,6 +90,19 @@ module _ (cs vs : ℕ) where
       let s = lines-size input in
       let g : Left (length input) p (ranAll cs vs p (wholeLines input)) = record { least = omega arith; most = omega arith; counted = omega arith; pool = r .pool } in
       rw e g
+
+  -- where there was room and nothing was run, there is no whole line
+  pub ran-none : (input : List ℕ) (p q : Progress) → q ≡ ranAll cs vs p (wholeLines input) → HoldsPool (p .state)
+      → p .filled + longestAnswer cs vs ≤ length (p .out) → q .from ≡ p .from → wholeLines input ≡ []
+  unfolding ranAll ran hasRoom
+  ran-none input p q e h room f = go (wholeLines input) (ap (λ (x : Progress). x .from) (sym e) ∙ f)
+    where
+      go : (lines : List (List ℕ)) → ranAll cs vs p lines .from ≡ p .from → lines ≡ []
+      go [] k = refl
+      go (line ∷ lines) k =
+          let r = lines-left (ran cs vs p line) lines (state-kept (p .state) line h) .least in
+          let m : ranAll cs vs (ran cs vs p line) lines .from ≡ p .from = rw (le-leb (p .filled + longestAnswer cs vs) (length (p .out)) room) at k in
+          absurd (let y : ⊥ = omega arith in y)
 
   -- ---- the output of what was run, and the lines that were not
 

@@ -6,8 +6,8 @@ use Prim.Native.Nat.{_+_, _^_, _≤_, _<_}
 use native.Mathlib.Omega.{arith}
 use lib.ListN.{length}
 use Rattle.event_sessions.specs.Sessions.{stateOf, HoldsPool}
-use Rattle.events.proofs.Outputs.{ran-left}
-use Rattle.event_program.proofs.Blocks.{fresh-holds, part-length}
+use Rattle.events.proofs.Outputs.{ran-left, ran-none}
+use Rattle.event_program.proofs.Blocks.{fresh-holds, part-length, room}
 use Rattle.event_program.proofs.program.run_all.Statement.{statement}
 use Rattle.event_program.proofs.program.run_all.Tie as tie
 
@@ -63,6 +63,7 @@ next-input-requires c κs =
       omega (arith, part-length (l .loop .buf) (l .loop .input .from) (l .loop .input .end) (omega (arith, i .1, i .4)), ran-left _ _ _ _ _ (r .ensures .0) (i .3) .most, i .0),
       omega (arith, i .1, i .4),
       omega (arith, i .4, s .pre .0),
+      λ z. ran-none _ _ _ _ _ (r .ensures .0) (i .3) (room (length (l .loop .copies)) (length (l .loop .views)) (i .11) (i .12) (i .13) (s .pre .2)) z,
     )
 
 loop-less : tie.Need-loop-less Inv-loop μ-loop
