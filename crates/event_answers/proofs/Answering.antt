@@ -8,9 +8,7 @@ use lib.ListN.{length, take, drop, getD, length-drop}
 use lib.Seq.{sets, take-all, length-take-le}
 use Rattle.tables.specs.Records.{table, recordAt}
 use Rattle.tables.proofs.Records.{length-table}
-use Rattle.rects.specs.declared.rect.Region.the-variants.{Whole, Part}
 use Rattle.stores.specs.declared.held.Held.{Held}
-use Rattle.stores.specs.declared.held.Held.the-variants.{Known, Unknown}
 use Rattle.books.specs.LentLists.{readCopy}
 use Rattle.event_text.specs.Numbers.{digitsOf}
 use Rattle.event_answers.specs.declared.answer.Answer.{Answer}

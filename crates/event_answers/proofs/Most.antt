@@ -1,6 +1,5 @@
 -- No answer has more bytes than `mostBytes` of its entries. Assumes nothing.
-use mathlib.Core.Path.{_≡_, sym, ap, _∙_, subst}
-use mathlib.Core.Option.{none, some}
+use mathlib.Core.Path.{subst}
 use mathlib.Core.List.{List, [], _∷_, _++_, flatMap}
 use Prim.Native.Nat.{ℕ, zero, suc, _+_, _*_, _≤_}
 use native.Mathlib.Omega.{arith}
@@ -13,7 +12,6 @@ use Rattle.stores.specs.declared.held.Held.{Held}
 use Rattle.stores.specs.declared.held.Held.the-variants.{Known, Unknown}
 use Rattle.stores.specs.Model.{PreserveCopy}
 use Rattle.books.specs.LentLists.{readCopy}
-use Rattle.event_text.specs.Fields.{comma}
 use Rattle.event_text.specs.Numbers.{digitsOf}
 use Rattle.event_text.proofs.Printing.{digits-room}
 use Rattle.event_answers.specs.declared.answer.Answer.{Answer}

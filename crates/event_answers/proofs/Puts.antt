@@ -1,13 +1,12 @@
 -- Laws of text put into a buffer piece by piece, and of the rows of a list. Assumes nothing.
 use mathlib.Core.Path.{_≡_, refl, sym, ap, ap₂, _∙_, subst}
-use mathlib.Core.List.{List, [], _∷_, _++_, append-assoc, append-nil, flatMap}
-use Prim.Native.Nat.{ℕ, zero, suc, _+_, _≤_, _<_}
+use mathlib.Core.List.{List, [], _∷_, _++_, append-assoc, flatMap}
+use Prim.Native.Nat.{ℕ, suc, _+_, _≤_, _<_}
 use native.Mathlib.Numerals.{add-one}
 use native.Mathlib.Nat.{add-zero, add-assoc}
 use native.Mathlib.Omega.{arith}
-use lib.ListN.{length, take, drop, getD, set, length-append}
+use lib.ListN.{length, take, getD, set, length-append}
 use lib.Seq.{sets}
-use Rattle.blocks.specs.Lists.{listed}
 use Rattle.blocks.proofs.Listed.{left, left-step, left-none, left-all, take-listed, listed-getD}
 use Rattle.event_text.specs.Fields.{comma}
 use Rattle.event_text.specs.Numbers.{digitsOf}

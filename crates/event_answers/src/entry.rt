@@ -39,7 +39,7 @@ fn put_box(out: &mut [u8], at: usize, left: u64, top: u64, width: u64, height: u
     put_last(out, fourth, height)
 }
 
-// The line of a copy, which is the first seven numbers.
+// The line of the copy that stands in the first seven numbers.
 fn put_copy(out: &mut [u8], at: usize, number: u64, copy: &[u64]) -> usize
     requires { ⌜ (at + mostRow ≤ length (now out)) × (7 ≤ length (now copy)) ⌝ }
     ensures { λ r. ⌜ (r ≤ at + mostRow) × Put (now (out .entry)) at (copyRow number (readCopy (now (copy .entry)))) r (now (out .exit)) ⌝ }

@@ -20,6 +20,7 @@ use crate::row::put_words;
 use event_text::put_text;
 use stores::Held;
 
+// The line of a spare.
 fn put_spare(out: &mut [u8], at: usize, number: u64, view: u64, held: Held) -> usize
     requires { ⌜ at + 65 ≤ length (now out) ⌝ }
     ensures { λ r. ⌜ Put (now (out .entry)) at (acceptedRow number (digitsOf view ∷ heldField held ∷ [])) r (now (out .exit)) ⌝ }

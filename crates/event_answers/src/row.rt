@@ -66,7 +66,7 @@ pub fn put_count(out: &mut [u8], at: usize, number: u64, n: u64) -> usize
     put_last(out, start, n)
 }
 
-// Of two.
+// An accepted call's line of two numbers.
 pub fn put_pair(out: &mut [u8], at: usize, number: u64, a: u64, b: u64) -> usize
     requires { ⌜ at + 65 ≤ length (now out) ⌝ }
     ensures { λ r. ⌜ Put (now (out .entry)) at (acceptedRow number (digitsOf a ∷ digitsOf b ∷ [])) r (now (out .exit)) ⌝ }

@@ -1,8 +1,7 @@
 -- `put_spare` meets its contract. Assumes nothing.
 use borrow.Author.Needs.{needs}
 use mathlib.Core.Path.{sym, ap}
-use mathlib.Core.List.{List, [], _∷_}
-use Prim.Native.Nat.{ℕ}
+use mathlib.Core.List.{[], _∷_}
 use Rattle.event_text.specs.Numbers.{digitsOf}
 use Rattle.stores.specs.declared.held.Held.{Held}
 use Rattle.event_answers.specs.Printed.{acceptedRow, heldField}

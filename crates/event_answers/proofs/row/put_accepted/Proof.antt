@@ -3,7 +3,6 @@ use borrow.Author.Needs.{needs}
 use native.Mathlib.Omega.{arith}
 use lib.ListN.{length-set}
 use Rattle.event_answers.proofs.Puts.{put-after-two, number-put, number-most}
-use Rattle.event_answers.specs.Put.{Put, fieldsEnded}
 use Rattle.event_answers.proofs.row.put_accepted.Statement.{statement}
 use Rattle.event_answers.proofs.row.put_accepted.Tie as tie
 

@@ -1,9 +1,6 @@
 -- `put_count` meets its contract. Assumes nothing.
 use borrow.Author.Needs.{needs}
 use native.Mathlib.Omega.{arith}
-use mathlib.Core.List.{[], _∷_}
-use Rattle.event_text.specs.Numbers.{digitsOf}
-use Rattle.event_answers.specs.Printed.{accepted}
 use Rattle.event_answers.proofs.Puts.{put-accepted}
 use Rattle.event_answers.proofs.row.put_count.Statement.{statement}
 use Rattle.event_answers.proofs.row.put_count.Tie as tie

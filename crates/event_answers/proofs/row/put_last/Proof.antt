@@ -1,6 +1,5 @@
 -- `put_last` meets its contract. Assumes nothing.
 use borrow.Author.Needs.{needs}
-use native.Mathlib.Omega.{arith}
 use Rattle.event_answers.specs.Put.{fieldsEnded}
 use Rattle.event_answers.proofs.Puts.{put-after}
 use Rattle.event_answers.proofs.row.put_last.Statement.{statement}
