@@ -3,7 +3,6 @@ use Prim.Native.Nat.{ℕ}
 use mathlib.Core.Path.{_≡_, refl, ap, _∙_}
 use mathlib.Core.Bool.{Bool}
 use mathlib.Core.Option.{Option, none, some}
-use mathlib.Core.List.{List}
 use Rattle.shapes.specs.declared.shape.VersionShape.{VersionShape}
 use Rattle.rects.specs.declared.rect.TexelRect.{TexelRect}
 use Rattle.layout.specs.Lent.{Lent}

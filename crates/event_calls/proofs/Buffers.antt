@@ -2,12 +2,12 @@
 use Prim.Native.Nat.{ℕ, _+_, _*_, _/_, _≤_}
 use mathlib.Core.Path.{_≡_, refl, sym, ap, ap₂, _∙_, subst}
 use mathlib.Core.Option.{some}
-use mathlib.Core.List.{List, [], _∷_, _++_}
+use mathlib.Core.List.{List, [], _∷_}
 use native.Mathlib.Nat.{mul-zero, mul-suc, add-comm}
 use native.Mathlib.Omega.{arith}
-use lib.ListN.{length, drop, replicate, length-append, length-replicate}
+use lib.ListN.{length, drop, length-append, length-replicate}
 use Rattle.blocks.specs.Lists.{over}
-use Rattle.tables.specs.Records.{table, flat}
+use Rattle.tables.specs.Records.{flat}
 use Rattle.shapes.specs.declared.shape.VersionShape.{VersionShape}
 use Rattle.rects.specs.declared.rect.Region.{Region}
 use Rattle.rects.specs.declared.rect.Region.the-variants.{Whole, Part}
@@ -23,7 +23,7 @@ use Rattle.books.specs.LentLists.{LentCall, lentTake, lentPlan, lentRetire, len
 use Rattle.books.proofs.Answers.{copies-read, views-read}
 use Rattle.event_answers.specs.Answers.{replyOf, InBuffers}
 use Rattle.event_answers.specs.declared.answer.Answer.{Answer}
-use Rattle.event_calls.specs.Calls.{Says, MadeCopies, MadeViews, blank, blanked, viewsAnswer, copiesAnswer}
+use Rattle.event_calls.specs.Calls.{MadeCopies, MadeViews, blank, blanked, viewsAnswer, copiesAnswer}
 
 -- ---- the reply, without the buffer
 

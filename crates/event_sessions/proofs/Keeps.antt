@@ -8,7 +8,7 @@ use lib.ListN.{replicate}
 use Rattle.layout.specs.IsPool.{isPool, sizesFit}
 use Rattle.layout.specs.Calls.{openedPool, openedBook}
 use Rattle.books.specs.Demand3.{Reply, refusal, done}
-use Rattle.books.specs.LentLists.{LentCall, lentTake, lentPlan, openedLent, EveryCallKeepsPool, OpenedIsPool}
+use Rattle.books.specs.LentLists.{LentCall, lentTake, lentPlan, EveryCallKeepsPool, OpenedIsPool}
 use Rattle.books.proofs.LentLists.{calls-keep-pool, opened-is-pool}
 use Rattle.event_lines.specs.declared.event.Event.{Event}
 use Rattle.event_sessions.specs.Sessions.{State, stateOf, HoldsPool, opens, openedState, called, notCalled, takeLine, ifOpened, step}

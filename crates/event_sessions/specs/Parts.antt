@@ -2,7 +2,7 @@
 use Prim.Native.Nat.{ℕ}
 use mathlib.Core.Path.{_≡_}
 use mathlib.Core.Bool.{Bool, true, false}
-use mathlib.Core.Option.{Option, none, some}
+use mathlib.Core.Option.{Option}
 use mathlib.Core.List.{List}
 use Rattle.shapes.specs.declared.shape.VersionShape.{VersionShape}
 use Rattle.layout.specs.declared.pool.Pool.{Pool}
@@ -10,12 +10,9 @@ use Rattle.layout.specs.declared.book.PacingBook.{PacingBook}
 use Rattle.layout.specs.Lent.{Lent}
 use Rattle.layout.specs.Calls.{openedPool, openedBook}
 use Rattle.books.specs.Demand3.{Reply}
-use Rattle.books.specs.LentLists.{LentCall, lentTake, lentRetire, lentWrite, lentRegen, lentPop, lentPark, lentNote, lentTrim, lentForget}
 use Rattle.event_lines.specs.declared.event.Event.{Event}
 use Rattle.event_answers.specs.Answers.{replyOf, InBuffers}
 use Rattle.event_answers.specs.declared.answer.Answer.{Answer}
-use Rattle.event_answers.specs.declared.answer.Answer.the-variants.{Question}
-use Rattle.event_calls.specs.Calls.{Made}
 use Rattle.event_sessions.specs.declared.session.Session.{Session}
 use Rattle.event_sessions.specs.Sessions.{State, step}
 
@@ -82,28 +79,6 @@ shapeAfter latest Event.Unread = latest
 unfoldable pub sessionAfter : Bool → VersionShape → Pool → PacingBook → Event → Session
 sessionAfter taken latest pool book e =
     record { opened = true; taken = takenAfter taken e; pool = pool; book = book; shape = shapeAfter latest e }
-
--- the call that an event asks for, if it fills no buffer
-abbrev pub plainCall : Event → Option LentCall
-plainCall (Event.Take id shape records seq) = some (lentTake id shape records seq)
-plainCall (Event.Retire id view seq) = some (lentRetire id view seq)
-plainCall (Event.Write id slice level rect) = some (lentWrite id slice level rect)
-plainCall (Event.Regen id) = some (lentRegen id)
-plainCall (Event.Pop settled) = some (lentPop settled)
-plainCall (Event.Park failed now) = some (lentPark failed now)
-plainCall (Event.Note allocated) = some (lentNote allocated)
-plainCall (Event.Trim now) = some (lentTrim now)
-plainCall (Event.Forget id) = some (lentForget id)
-plainCall (Event.Open working) = none
-plainCall (Event.Plan id held slice level cover) = none
-plainCall Event.Doomed = none
-plainCall Event.Drain = none
-plainCall Event.Unread = none
-
--- without a call the answer is "?", and the stores stay
-unfoldable pub MadeIf : Lent → Option LentCall → Answer → Lent → Type 0
-MadeIf l none a exit = (a ≡ Question) × (exit ≡ l)
-MadeIf l (some c) a exit = Made l c a exit
 
 -- the answer of an event with buffers of so many numbers, and the stores at exit, are those of its step
 unfoldable pub Stepped : ℕ → ℕ → State → Event → Answer → List ℕ → List ℕ → Lent → Type 0

@@ -4,7 +4,6 @@ mod answering;
 mod beginning;
 mod calling;
 mod opening;
-mod plain;
 mod session;
 
 pub use answered::Answered;

@@ -1,7 +1,6 @@
 -- `session_after` meets its contract. Assumes nothing.
 use borrow.Author.Needs.{needs}
 use mathlib.Core.Path.{sym, ap}
-use Rattle.event_lines.specs.declared.event.Event.{Event}
 use Rattle.event_sessions.specs.Parts.{sessionAfter}
 use Rattle.event_sessions.proofs.Kept.{notes-nothing}
 use Rattle.event_sessions.proofs.session.session_after.Statement.{statement}

@@ -1,9 +1,9 @@
-// The calls that fill no buffer.
+// The call that an event asks for, of those that fill no buffer.
 ghost use mathlib.Core.Path.{_≡_};
 ghost use mathlib.Core.Bool.{true};
 ghost use Rattle.layout.specs.Lent.{lent};
 ghost use Rattle.layout.specs.IsPool.{isPool};
-ghost use Rattle.event_sessions.specs.Parts.{plainCall, MadeIf};
+ghost use Rattle.event_plain.specs.Plain.{plainCall, MadeIf};
 use event_answers::Answer;
 use event_calls::Called;
 use event_calls::call_forget;
