@@ -1,0 +1,5 @@
+pub mod Splits
+pub mod Rooms
+pub mod Runs
+pub mod LongLines
+pub mod Outputs

@@ -1,5 +1,6 @@
--- The lines of an input, run one after the other.
-use Prim.Native.Nat.{ℕ, _+_, _/_, max}
+-- The lines of an input, run one after the other (01, "Upload rectangle, event program").
+use Prim.Native.Nat.{ℕ, _+_, _/_, _≤_, max}
+use mathlib.Core.Path.{_≡_}
 use mathlib.Core.Bool.{Bool, cond}
 use mathlib.Core.List.{List, [], _∷_, _++_}
 use lib.Dec.{eqb, leb}
@@ -7,7 +8,8 @@ use lib.ListN.{length}
 use lib.Seq.{sets}
 use Rattle.event_lines.specs.Grammar.{eventOf}
 use Rattle.event_answers.specs.Printed.{lineFeed, printed, mostBytes}
-use Rattle.event_sessions.specs.Sessions.{State, step}
+use Rattle.event_sessions.specs.Sessions.{State, stateOf, step}
+use Rattle.events.specs.declared.run.Run.{Run}
 
 -- ---- lines
 
@@ -21,40 +23,68 @@ unfoldable pub wholeLines : List ℕ → List (List ℕ)
 wholeLines [] = []
 wholeLines (b ∷ bs) = cond (eqb b lineFeed) ([] ∷ wholeLines bs) (inFirstLine b (wholeLines bs))
 
--- the buffers' numbers, as in `step`
-module _ (copies views : ℕ) where
-  -- ---- the output of lines, from line n + 1 on
+-- ---- what lines do; the answer buffers have so many numbers, as in `step`
 
+module _ (copies views : ℕ) where
+  -- the output of line n, and the state after it
+  unfoldable pub lineOutput : ℕ → State → List ℕ → List ℕ
+  lineOutput n s line = printed n (step copies views s (eventOf line) .0)
+
+  unfoldable pub lineState : State → List ℕ → State
+  lineState s line = step copies views s (eventOf line) .1
+
+  -- the output of the lines behind line n
   unfoldable pub output : ℕ → State → List (List ℕ) → List ℕ
   output n s [] = []
-  output n s (line ∷ lines) =
-      printed (n + 1) (step copies views s (eventOf line) .0) ++ output (n + 1) (step copies views s (eventOf line) .1) lines
+  output n s (line ∷ lines) = lineOutput (n + 1) s line ++ output (n + 1) (lineState s line) lines
 
-  -- ---- lines run as long as the output's buffer has room for the longest answer
+  -- Line n was run: `after` is the state after it, and its output stands behind the filled bytes of the buffer, up to `end`.
+  pub record LineRan (n : ℕ) (before after : State) (line : List ℕ) (filled end : ℕ) (out exit : List ℕ) : Type 0 where
+    pub state : after ≡ lineState before line
+    pub length-is : end ≡ filled + length (lineOutput n before line)
+    pub put : exit ≡ sets out filled (lineOutput n before line)
+    pub fits : end ≤ length out
 
-  pub record Progress : Type 0 where
-    pub state : State
-    -- lines run so far
-    pub number : ℕ
-    -- bytes of input behind which the next line stands
-    pub from : ℕ
-    -- bytes of output that stand in the buffer
-    pub filled : ℕ
-    pub out : List ℕ
-
-  -- the longest answer of a line
+  -- no line's output has more bytes
   abbrev pub longestAnswer : ℕ
   longestAnswer = mostBytes (max (copies / 7) views)
 
-  unfoldable pub hasRoom : Progress → Bool
-  hasRoom p = leb (p .filled + longestAnswer) (length (p .out))
+-- ---- lines run as long as the output's buffer has room for the longest answer
 
-  -- line n of the input, n - 1 having been run
+pub record Progress : Type 0 where
+  pub state : State
+  -- lines run so far
+  pub number : ℕ
+  -- bytes of the input before the next line
+  pub from : ℕ
+  -- bytes of output in the buffer
+  pub filled : ℕ
+  -- the buffer
+  pub out : List ℕ
+
+abbrev pub progressOf : Run → List ℕ → List ℕ → List ℕ → List ℕ → List ℕ → List ℕ → List ℕ → Progress
+progressOf r textures retiring doomed spares newest stamps out = record {
+  state = stateOf (r .session) textures retiring doomed spares newest stamps;
+  number = r .number;
+  from = r .from;
+  filled = r .filled;
+  out = out;
+}
+
+-- before the first line of an input, of which n lines have been run before
+abbrev pub start : State → ℕ → List ℕ → Progress
+start s n out = record { state = s; number = n; from = 0; filled = 0; out = out }
+
+module _ (copies views : ℕ) where
+  unfoldable pub hasRoom : Progress → Bool
+  hasRoom p = leb (p .filled + longestAnswer copies views) (length (p .out))
+
+  -- the next line run: its output stands behind what was in the buffer
   unfoldable pub ran : Progress → List ℕ → Progress
   ran p line =
-      let text = printed (p .number + 1) (step copies views (p .state) (eventOf line) .0) in
+      let text = lineOutput copies views (p .number + 1) (p .state) line in
       record {
-        state = step copies views (p .state) (eventOf line) .1;
+        state = lineState copies views (p .state) line;
         number = p .number + 1;
         from = p .from + (length line + 1);
         filled = p .filled + length text;

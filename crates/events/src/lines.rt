@@ -1,0 +1,99 @@
+// The whole lines of a block of input, run as long as the output has room.
+ghost use mathlib.Core.Path.{_≡_};
+ghost use Prim.Native.Nat.{_+_, _/_, _^_, _≤_, _<_, max};
+ghost use lib.ListN.{length};
+ghost use Rattle.event_sessions.specs.Sessions.{stateOf, HoldsPool};
+ghost use Rattle.events.specs.Ends.{nextEnd};
+ghost use Rattle.events.specs.Lines.{progressOf, start, wholeLines, ranAll};
+use crate::line::run_line;
+use crate::run::Run;
+use event_sessions::Session;
+
+// The most bytes of a line of output.
+const ROW: usize = 147;
+
+// The most entries of an answer in buffers of so many numbers.
+fn most_entries(copies: usize, views: usize) -> usize
+    ensures { λ r. ⌜ r ≡ max (copies / 7) views ⌝ }
+{
+    if copies / 7 < views {
+        return views;
+    }
+    copies / 7
+}
+
+// Where the next line that can be run ends. It is the end of the input where no whole line is left, or where an answer of `most` entries
+// has no room behind the `filled` bytes of a buffer of `size`.
+fn next_end(input: &[u8], from: usize, most: usize, filled: usize, size: usize) -> usize
+    requires { ⌜ (from ≤ length (now input)) × (filled ≤ size) ⌝ }
+    ensures { λ r. ⌜ (r ≡ nextEnd (now (input .entry)) from most filled size) × (from ≤ r) × (r ≤ length (now (input .entry))) ⌝ }
+{
+    if (size - filled) / ROW <= most {
+        return input.len();
+    }
+    bytes::scan::find(input, from, input.len(), b'\n')
+}
+
+// Runs whole lines from the front of `input` on, `number` lines having been run before. Their output is put at the front of `out`.
+pub fn run_lines(
+    input: &[u8],
+    number: u64,
+    session: Session,
+    textures: &mut [u64],
+    retiring: &mut [u64],
+    doomed: &mut [u64],
+    spares: &mut [u64],
+    newest: &mut [u64],
+    stamps: &mut [u64],
+    copies: &mut [u64],
+    views: &mut [u64],
+    out: &mut [u8],
+) -> Run
+    requires { ⌜ HoldsPool (stateOf session (now textures) (now retiring) (now doomed) (now spares) (now newest) (now stamps))
+        × (number + length (now input) < 2 ^ 64) ⌝ }
+    ensures { λ r. ⌜ (progressOf r (now (textures .exit)) (now (retiring .exit)) (now (doomed .exit)) (now (spares .exit)) (now (newest .exit)) (now (stamps .exit)) (now (out .exit))
+        ≡ ranAll (length (now (copies .entry))) (length (now (views .entry)))
+        (start (stateOf session (now (textures .entry)) (now (retiring .entry)) (now (doomed .entry)) (now (spares .entry)) (now (newest .entry)) (now (stamps .entry))) number (now (out .entry)))
+        (wholeLines (now (input .entry))))
+        × (r .filled ≤ length (now (out .entry))) ⌝ }
+{
+    let most = most_entries(copies.len(), views.len());
+    let size = out.len();
+    let mut run = Run {
+        session,
+        number,
+        from: 0,
+        filled: 0,
+    };
+    let mut end = next_end(input, 0, most, 0, size);
+    while end < input.len() {
+        let from = run.from;
+        let before = run.session;
+        let current = run.number + 1;
+        let next = end + 1;
+        let ran = run_line(
+            &input[from..end],
+            current,
+            before,
+            textures,
+            retiring,
+            doomed,
+            spares,
+            newest,
+            stamps,
+            copies,
+            views,
+            out,
+            run.filled,
+        );
+        let after = ran.session;
+        run = Run {
+            session: after,
+            number: current,
+            from: next,
+            filled: ran.filled,
+        };
+        end = next_end(input, next, most, ran.filled, size);
+    }
+    run
+}
