@@ -12,15 +12,8 @@ use lib.Dec.{ltb}
 use lib.ListN.{length, take, drop, getD, set, length-take, length-drop, length-set}
 use lib.Seq.{length-take-le, take-all, take-take, take-suc, take-suc-set, getD-drop, drop-drop, drop-set-lt}
 use Rattle.event_lines.specs.Grammar.{eventOf}
-use Rattle.event_sessions.specs.declared.session.Session.{Session}
-use Rattle.event_sessions.specs.Parts.{freshSession}
 use Rattle.events.specs.Lines.{wholeLines, longestAnswer}
 use Rattle.events.proofs.LongLines.{cut-unread}
-
--- before an `open` nothing is asked of the stores
-pub fresh-holds {ℓ} : {A : Type ℓ} {s : Session} → s ≡ freshSession → s .opened ≡ true → A
-unfolding freshSession
-fresh-holds e h = absurd (let o : false ≡ true = sym (ap (λ (s : Session). s .opened) e) ∙ h in let z : _≡_ {A = ℕ} 0 1 = cc in let y : ⊥ = omega arith in y)
 
 -- the bytes that are run
 pub part-length : (buf : List ℕ) (from end : ℕ) → end ≤ length buf → length (take (end - from) (drop from buf)) ≡ end - from

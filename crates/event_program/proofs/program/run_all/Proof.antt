@@ -6,8 +6,9 @@ use Prim.Native.Nat.{_+_, _^_, _≤_, _<_}
 use native.Mathlib.Omega.{arith}
 use lib.ListN.{length}
 use Rattle.event_sessions.specs.Sessions.{stateOf, HoldsPool}
+use Rattle.event_sessions.proofs.Keeps.{fresh-holds}
 use Rattle.events.proofs.Outputs.{ran-left, ran-none}
-use Rattle.event_program.proofs.Blocks.{fresh-holds, part-length, room}
+use Rattle.event_program.proofs.Blocks.{part-length, room}
 use Rattle.event_program.proofs.program.run_all.Statement.{statement}
 use Rattle.event_program.proofs.program.run_all.Tie as tie
 
@@ -27,7 +28,7 @@ fresh-requires : tie.Need-fresh-requires Inv-loop μ-loop
 fresh-requires c κs = search needs
 
 loop-holds : tie.Need-loop-holds Inv-loop μ-loop
-loop-holds c = (search needs, search needs, (λ h. omega arith), fresh-holds (c .fresh .ensures), refl, refl, refl, refl, refl, refl, refl, refl, refl, refl)
+loop-holds c = (search needs, search needs, (λ h. omega arith), rw (c .fresh .ensures) (fresh-holds _ _ _ _ _ _), refl, refl, refl, refl, refl, refl, refl, refl, refl, refl)
 
 sub-run-lines : tie.Need-sub-run-lines Inv-loop μ-loop
 sub-run-lines c = search needs
