@@ -1,0 +1,110 @@
+// The lists of standard input, one after the other.
+ghost use Prim.Native.Nat.{_≤_, _<_};
+ghost use lib.ListN.{length};
+use crate::list::run_list;
+use crate::sizes::sizes_of;
+use libc::STDIN_FILENO;
+use libc::STDOUT_FILENO;
+
+// Where the next list begins behind `from`: at a line that begins with "=,", or at `to`.
+fn next_list(input: &[u8], from: usize, to: usize) -> usize
+    requires { ⌜ (from ≤ to) × (to ≤ length (now input)) ⌝ }
+    ensures { λ r. ⌜ (from ≤ r) × (r ≤ to) ⌝ }
+{
+    let mut at = from;
+    while at + 2 < to {
+        if (input[at] == b'\n') & (input[at + 1] == b'=') & (input[at + 2] == b',') {
+            return at + 1;
+        }
+        at += 1;
+    }
+    to
+}
+
+// Behind the line that begins at `from`.
+fn line_behind(input: &[u8], from: usize, to: usize) -> usize
+    requires { ⌜ (from < to) × (to ≤ length (now input)) ⌝ }
+    ensures { λ r. ⌜ (from < r) × (r ≤ to) ⌝ }
+{
+    let end = bytes::scan::find(input, from, to, b'\n');
+    if end < to { end + 1 } else { end }
+}
+
+// Prints the line that a list begins with, and runs the list on as much of the stores as the line asks for.
+fn run_next(
+    line: &[u8],
+    list: &[u8],
+    textures: &mut [u64],
+    retiring: &mut [u64],
+    doomed: &mut [u64],
+    spares: &mut [u64],
+    newest: &mut [u64],
+    stamps: &mut [u64],
+    copies: &mut [u64],
+    views: &mut [u64],
+    out: &mut [u8],
+)
+    requires { ⌜ (1216 ≤ length (now textures)) × (14000 ≤ length (now retiring)) × (4000 ≤ length (now doomed))
+        × (6000 ≤ length (now spares)) × (256 ≤ length (now newest)) × (262144 ≤ length (now stamps)) × (28672 ≤ length (now copies)) × (4096 ≤ length (now views)) ⌝ }
+{
+    io::write_all(STDOUT_FILENO, line);
+    let sizes = sizes_of(line);
+    let versions = sizes.versions;
+    let pages = sizes.pages;
+    let answers = sizes.answers;
+    let t = 19 * sizes.textures;
+    let r = 7 * versions;
+    let d = 2 * versions;
+    let s = 3 * versions;
+    let m = 1024 * pages;
+    let c = 7 * answers;
+    run_list(
+        list,
+        &mut textures[0..t],
+        &mut retiring[0..r],
+        &mut doomed[0..d],
+        &mut spares[0..s],
+        &mut newest[0..pages],
+        &mut stamps[0..m],
+        &mut copies[0..c],
+        &mut views[0..answers],
+        out,
+    );
+}
+
+pub fn run_lists(
+    input: &mut [u8],
+    textures: &mut [u64],
+    retiring: &mut [u64],
+    doomed: &mut [u64],
+    spares: &mut [u64],
+    newest: &mut [u64],
+    stamps: &mut [u64],
+    copies: &mut [u64],
+    views: &mut [u64],
+    out: &mut [u8],
+)
+    requires { ⌜ (1216 ≤ length (now textures)) × (14000 ≤ length (now retiring)) × (4000 ≤ length (now doomed))
+        × (6000 ≤ length (now spares)) × (256 ≤ length (now newest)) × (262144 ≤ length (now stamps)) × (28672 ≤ length (now copies)) × (4096 ≤ length (now views)) ⌝ }
+{
+    let to = io::read_full(STDIN_FILENO, input);
+    let mut from = 0;
+    while from < to {
+        let behind = line_behind(input, from, to);
+        let next = next_list(input, behind, to);
+        run_next(
+            &input[from..behind],
+            &input[behind..next],
+            textures,
+            retiring,
+            doomed,
+            spares,
+            newest,
+            stamps,
+            copies,
+            views,
+            out,
+        );
+        from = next;
+    }
+}
