@@ -1,9 +1,24 @@
 // One list, run on a pool of its own.
-ghost use Prim.Native.Nat.{_+_, _^_, _≤_, _<_};
+ghost use Prim.Native.Nat.{_≤_, _<_};
 ghost use lib.ListN.{length};
 use event_sessions::fresh;
 use events::run_lines;
 use libc::STDOUT_FILENO;
+
+// The turns that are left: none where nothing more is to be done.
+fn turns_left(turns: usize, going: bool) -> usize
+    requires { ⌜ 0 < turns ⌝ }
+    ensures { λ r. ⌜ r < turns ⌝ }
+{
+    if going { turns - 1 } else { 0 }
+}
+
+// Writes the output that is in the buffer.
+fn write_out(out: &[u8], filled: usize) -> bool
+    requires { ⌜ filled ≤ length (now out) ⌝ }
+{
+    io::write_all(STDOUT_FILENO, &out[0..filled])
+}
 
 // Runs the whole lines of a list from a fresh session on, and writes their output as often as its buffer is full.
 pub fn run_list(
@@ -17,13 +32,11 @@ pub fn run_list(
     copies: &mut [u64],
     views: &mut [u64],
     out: &mut [u8],
-)
-    requires { ⌜ length (now list) ≤ 1048576 ⌝ }
-{
+) {
     let mut session = fresh();
     let mut number = 0;
     let mut from = 0;
-    // Each turn runs a line or is the last.
+    // Each turn runs a line or is the last, so there are no more turns than bytes.
     let mut turns = list.len();
     while 0 < turns {
         let run = run_lines(
@@ -40,14 +53,10 @@ pub fn run_list(
             views,
             out,
         );
-        let filled = run.filled;
-        let written = io::write_all(STDOUT_FILENO, &out[0..filled]);
-        if (run.from == 0) | !written {
-            return;
-        }
+        let written = write_out(out, run.filled);
         session = run.session;
         number = run.number;
         from += run.from;
-        turns -= 1;
+        turns = turns_left(turns, written & (0 < run.from));
     }
 }

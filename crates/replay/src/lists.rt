@@ -1,36 +1,33 @@
 // The lists of standard input, one after the other.
-ghost use Prim.Native.Nat.{_*_, _≤_, _<_};
+ghost use Prim.Native.Nat.{_≤_, _<_};
 ghost use lib.ListN.{length};
 use crate::list::run_list;
 use crate::sizes::sizes_of;
 use libc::STDIN_FILENO;
 use libc::STDOUT_FILENO;
 
-// Where the next list begins behind `from`: at a line that begins with "=,", or at the end of all.
-fn next_list(input: &[u8], from: usize) -> usize
-    requires { ⌜ from ≤ length (now input) ⌝ }
-    ensures { λ r. ⌜ (from ≤ r) × (r ≤ length (now (input .entry))) ⌝ }
+// Where the next list begins behind `from`: at a line that begins with "=,", or at `to`.
+fn next_list(input: &[u8], from: usize, to: usize) -> usize
+    requires { ⌜ (from ≤ to) × (to ≤ length (now input)) ⌝ }
+    ensures { λ r. ⌜ (from ≤ r) × (r ≤ to) ⌝ }
 {
     let mut at = from;
-    while at < input.len() {
-        if input.len() - at < 3 {
-            return input.len();
-        }
+    while at + 2 < to {
         if (input[at] == b'\n') & (input[at + 1] == b'=') & (input[at + 2] == b',') {
             return at + 1;
         }
         at += 1;
     }
-    at
+    to
 }
 
 // Behind the line that begins at `from`.
-fn line_behind(input: &[u8], from: usize) -> usize
-    requires { ⌜ from ≤ length (now input) ⌝ }
-    ensures { λ r. ⌜ (from ≤ r) × (r ≤ length (now (input .entry))) × (from < length (now (input .entry)) → from < r) ⌝ }
+fn line_behind(input: &[u8], from: usize, to: usize) -> usize
+    requires { ⌜ (from < to) × (to ≤ length (now input)) ⌝ }
+    ensures { λ r. ⌜ (from < r) × (r ≤ to) ⌝ }
 {
-    let end = bytes::scan::find(input, from, input.len(), b'\n');
-    if end < input.len() { end + 1 } else { end }
+    let end = bytes::scan::find(input, from, to, b'\n');
+    if end < to { end + 1 } else { end }
 }
 
 // Prints the line that a list begins with, and runs the list on as much of the stores as the line asks for.
@@ -47,13 +44,10 @@ fn run_next(
     views: &mut [u64],
     out: &mut [u8],
 )
-    requires { ⌜ (length (now list) ≤ 1048576) × (1216 ≤ length (now textures)) × (14000 ≤ length (now retiring)) × (4000 ≤ length (now doomed))
+    requires { ⌜ (1216 ≤ length (now textures)) × (14000 ≤ length (now retiring)) × (4000 ≤ length (now doomed))
         × (6000 ≤ length (now spares)) × (256 ≤ length (now newest)) × (262144 ≤ length (now stamps)) × (28672 ≤ length (now copies)) × (4096 ≤ length (now views)) ⌝ }
 {
     io::write_all(STDOUT_FILENO, line);
-    if line.len() < 2 {
-        return;
-    }
     let sizes = sizes_of(line);
     let versions = sizes.versions;
     let pages = sizes.pages;
@@ -90,17 +84,17 @@ pub fn run_lists(
     views: &mut [u64],
     out: &mut [u8],
 )
-    requires { ⌜ (length (now input) ≤ 1048576) × (1216 ≤ length (now textures)) × (14000 ≤ length (now retiring)) × (4000 ≤ length (now doomed))
+    requires { ⌜ (1216 ≤ length (now textures)) × (14000 ≤ length (now retiring)) × (4000 ≤ length (now doomed))
         × (6000 ≤ length (now spares)) × (256 ≤ length (now newest)) × (262144 ≤ length (now stamps)) × (28672 ≤ length (now copies)) × (4096 ≤ length (now views)) ⌝ }
 {
-    let n = io::read_full(STDIN_FILENO, input);
+    let to = io::read_full(STDIN_FILENO, input);
     let mut from = 0;
-    while from < n {
-        let behind = line_behind(&input[0..n], from);
-        let end = next_list(&input[0..n], behind);
+    while from < to {
+        let behind = line_behind(input, from, to);
+        let next = next_list(input, behind, to);
         run_next(
             &input[from..behind],
-            &input[behind..end],
+            &input[behind..next],
             textures,
             retiring,
             doomed,
@@ -111,6 +105,6 @@ pub fn run_lists(
             views,
             out,
         );
-        from = end;
+        from = next;
     }
 }

@@ -1,6 +1,5 @@
 // The line that a list begins with: =,TEXTURES,VERSIONS,PAGES,ANSWERS,NAME.
-ghost use Prim.Native.Nat.{_+_, _≤_, _<_};
-ghost use lib.ListN.{length};
+ghost use Prim.Native.Nat.{_≤_};
 use event_text::NumberAt;
 use event_text::number_at;
 
@@ -18,22 +17,26 @@ struct Size {
     next: usize,
 }
 
-// The size in the field that begins at `at`. A field that is no number, or one past the most, counts as 0, and the line's end as its next field.
+// The size in the field that begins at `at`. A field that is no number, or one past the most, or the line's last, counts as 0, and the line's end
+// as its next field.
 fn size_at(line: &[u8], at: usize, most: u64) -> Size
-    requires { ⌜ at ≤ length (now line) ⌝ }
-    ensures { λ r. ⌜ (r .next ≤ length (now (line .entry))) × (r .places ≤ most) ⌝ }
+    ensures { λ r. ⌜ r .places ≤ most ⌝ }
 {
-    let NumberAt::Ends(value, end) = number_at(line, at) else {
-        return Size {
-            places: 0,
-            next: line.len(),
-        };
+    let none = Size {
+        places: 0,
+        next: line.len(),
     };
-    if (most < value) | (line.len() <= end) {
-        return Size {
-            places: 0,
-            next: line.len(),
-        };
+    if line.len() < at {
+        return none;
+    }
+    let NumberAt::Ends(value, end) = number_at(line, at) else {
+        return none;
+    };
+    if most < value {
+        return none;
+    }
+    if line.len() <= end {
+        return none;
     }
     Size {
         places: value as usize,
@@ -41,9 +44,8 @@ fn size_at(line: &[u8], at: usize, most: u64) -> Size
     }
 }
 
-// The sizes of the line that begins at `from`, behind its first field.
+// The sizes of a line, behind its first field.
 pub fn sizes_of(line: &[u8]) -> Sizes
-    requires { ⌜ 2 ≤ length (now line) ⌝ }
     ensures { λ r. ⌜ (r .textures ≤ 64) × (r .versions ≤ 2000) × (r .pages ≤ 256) × (r .answers ≤ 4096) ⌝ }
 {
     let textures = size_at(line, 2, 64);
