@@ -1,6 +1,4 @@
 // Document 01's event program: an event a line on standard input, its outcome and answer on standard output.
-mod input;
-mod program;
 
 // 8 textures, 64 versions, 6 pages, and answers of 90 entries. The numbers of a place are those of crates/layout/specs/Lent.antt.
 fn main() {
@@ -14,7 +12,7 @@ fn main() {
     let mut views = [0; 90];
     let mut buf = io::large_buffer();
     let mut out = io::large_buffer();
-    program::run_all(
+    event_stream::run_all(
         &mut buf,
         &mut textures,
         &mut retiring,

@@ -3,9 +3,9 @@ use borrow.Author.Needs.{needs}
 use mathlib.Core.Path.{_≡_}
 use Prim.Native.Nat.{_-_, _≤_}
 use native.Mathlib.Omega.{arith}
-use Rattle.event_program.proofs.Blocks.{Moved, moved-none, moved-more, line-kept}
-use Rattle.event_program.proofs.input.keep.Statement.{statement}
-use Rattle.event_program.proofs.input.keep.Tie as tie
+use Rattle.event_stream.proofs.Blocks.{Moved, moved-none, moved-more, line-kept}
+use Rattle.event_stream.proofs.input.keep.Statement.{statement}
+use Rattle.event_stream.proofs.input.keep.Tie as tie
 
 abbrev Inv-loop : tie.InvT-loop
 Inv-loop buf₀ from end kept i₀ buf i = (i ≤ kept) × Moved from i buf₀ buf

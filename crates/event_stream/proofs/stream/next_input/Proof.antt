@@ -1,8 +1,8 @@
 -- `next_input` meets its contract: more is read only where no whole line is left. Assumes nothing.
 use borrow.Author.Needs.{needs}
-use Rattle.event_program.proofs.Blocks.{not-whole}
-use Rattle.event_program.proofs.program.next_input.Statement.{statement}
-use Rattle.event_program.proofs.program.next_input.Tie as tie
+use Rattle.event_stream.proofs.Blocks.{not-whole}
+use Rattle.event_stream.proofs.stream.next_input.Statement.{statement}
+use Rattle.event_stream.proofs.stream.next_input.Tie as tie
 
 add-from : tie.Need-add-from
 add-from c = search needs

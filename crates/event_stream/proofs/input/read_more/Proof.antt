@@ -3,8 +3,8 @@ use borrow.Author.Needs.{needs}
 use mathlib.Core.Path.{_∙_}
 use native.Mathlib.Omega.{arith}
 use lib.ListN.{length-set}
-use Rattle.event_program.proofs.input.read_more.Statement.{statement}
-use Rattle.event_program.proofs.input.read_more.Tie as tie
+use Rattle.event_stream.proofs.input.read_more.Statement.{statement}
+use Rattle.event_stream.proofs.input.read_more.Tie as tie
 
 keep-requires : tie.Need-keep-requires
 keep-requires c κs = search needs

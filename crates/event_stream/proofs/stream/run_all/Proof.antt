@@ -8,9 +8,9 @@ use lib.ListN.{length}
 use Rattle.event_sessions.specs.Sessions.{stateOf, HoldsPool}
 use Rattle.event_sessions.proofs.Keeps.{fresh-holds}
 use Rattle.events.proofs.Outputs.{ran-left, ran-none}
-use Rattle.event_program.proofs.Blocks.{part-length, room}
-use Rattle.event_program.proofs.program.run_all.Statement.{statement}
-use Rattle.event_program.proofs.program.run_all.Tie as tie
+use Rattle.event_stream.proofs.Blocks.{part-length, room}
+use Rattle.event_stream.proofs.stream.run_all.Statement.{statement}
+use Rattle.event_stream.proofs.stream.run_all.Tie as tie
 
 abbrev Inv-loop : tie.InvT-loop
 Inv-loop buf₀ textures₀ retiring₀ doomed₀ spares₀ newest₀ stamps₀ copies₀ views₀ out₀ session₀ number₀ input₀ turns₀ buf textures retiring doomed spares newest stamps copies views out session number input turns =
