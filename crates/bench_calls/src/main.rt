@@ -1,0 +1,90 @@
+// Times each kind of call of the pool, on memory that forms one: TEXTURES VERSIONS PAGES ROUNDS. bench/README.md says how it is used.
+mod clock;
+mod draining;
+mod renaming;
+mod report;
+mod rounds;
+mod run;
+mod testing;
+mod totals;
+mod workload;
+
+use std::num::wrapping_add_u64;
+
+fn digit(byte: u8) -> u64 {
+    if byte < 48 {
+        return 0;
+    }
+    if byte > 57 {
+        return 0;
+    }
+    (byte - 48) as u64
+}
+
+// Numbers of nine digits and more are not taken further.
+fn with_digit(value: u64, byte: u8) -> u64 {
+    if value > 99999999 {
+        return value;
+    }
+    wrapping_add_u64(10 * value, digit(byte))
+}
+
+fn byte_at(text: &[u8], k: usize) -> u8 {
+    if k < text.len() {
+        return text[k];
+    }
+    0
+}
+
+// The number that an argument spells.
+fn argument(i: usize) -> u64 {
+    let mut text = [0u8; 8];
+    let n = os::arg(i, &mut text);
+    let mut value = 0;
+    let mut k = 0;
+    while k < n {
+        value = with_digit(value, byte_at(&text, k));
+        k += 1;
+    }
+    value
+}
+
+// Memory for as many places as may be lent, of which those that are asked for are.
+fn bench(t: usize, v: usize, p: usize, rounds: u64) {
+    let mut textures = [0u64; 77824];
+    let mut retiring = [0u64; 28672];
+    let mut doomed = [0u64; 8192];
+    let mut spares = [0u64; 12288];
+    let mut newest = [0u64; 4096];
+    let mut stamps = [0u64; 4194304];
+    let mut copies = [0u64; 7];
+    let mut held = [0u64; 4096];
+    let mut views = [0u64; 4096];
+    if (t <= 4096) & (v <= 4096) & (p <= 4096) {
+        run::run(
+            &mut textures[..19 * t],
+            &mut retiring[..7 * v],
+            &mut doomed[..2 * v],
+            &mut spares[..3 * v],
+            &mut newest[..p],
+            &mut stamps[..1024 * p],
+            &mut copies,
+            &mut held,
+            &mut views,
+            t,
+            rounds,
+        );
+    }
+}
+
+fn main() {
+    if os::arg_count() < 5 {
+        return;
+    }
+    bench(
+        argument(1) as usize,
+        argument(2) as usize,
+        argument(3) as usize,
+        argument(4),
+    );
+}

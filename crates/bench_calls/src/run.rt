@@ -1,0 +1,162 @@
+// The rounds on a pool just opened.
+ghost use mathlib.Core.Path.{_≡_};
+ghost use mathlib.Core.Bool.{true};
+ghost use Rattle.layout.specs.Lent.{lent};
+ghost use Rattle.layout.specs.IsPool.{isPool};
+use crate::report::report;
+use crate::report::report_test;
+use crate::rounds::drain_round;
+use crate::rounds::rename_round;
+use crate::rounds::settle_round;
+use crate::testing::read_all;
+use crate::testing::test_all;
+use crate::totals::counted;
+use crate::totals::drained_in;
+use crate::totals::no_totals;
+use crate::totals::renamed_in;
+use crate::totals::settled_in;
+use layout::PacingBook;
+use layout::Pool;
+use pool::open;
+use pool_test::is_pool;
+
+// 8 calls of the last kinds a round.
+fn run_rounds(
+    pool: Pool,
+    book: PacingBook,
+    textures: &mut [u64],
+    retiring: &mut [u64],
+    doomed: &mut [u64],
+    spares: &mut [u64],
+    newest: &mut [u64],
+    stamps: &mut [u64],
+    copies: &mut [u64],
+    held: &mut [u64],
+    views: &mut [u64],
+    n: usize,
+    rounds: u64,
+)
+    requires { ⌜ isPool (lent pool book (now textures) (now retiring) (now doomed) (now spares) (now newest) (now stamps)) ≡ true ⌝ }
+{
+    let mut totals = no_totals();
+    let mut counts = pool;
+    let mut paces = book;
+    let mut seq = 0;
+    while seq < rounds {
+        seq += 1;
+        totals = counted(totals, seq);
+        let renamed = rename_round(
+            counts,
+            paces,
+            textures,
+            retiring,
+            doomed,
+            spares,
+            newest,
+            stamps,
+            copies,
+            held,
+            n,
+            seq,
+        );
+        totals = renamed_in(totals, renamed);
+        let timed = seq % 2 == 0;
+        let settled = settle_round(
+            renamed.pool,
+            paces,
+            textures,
+            retiring,
+            doomed,
+            spares,
+            newest,
+            stamps,
+            n,
+            seq,
+            timed,
+        );
+        totals = settled_in(totals, settled, timed);
+        let drained = drain_round(
+            settled.pool,
+            paces,
+            textures,
+            retiring,
+            doomed,
+            spares,
+            newest,
+            stamps,
+            views,
+            8,
+            seq,
+        );
+        totals = drained_in(totals, drained);
+        counts = drained.pool;
+        paces = drained.book;
+    }
+    report(totals, counts, n, rounds);
+    let tested = test_all(
+        counts,
+        paces,
+        textures,
+        retiring,
+        doomed,
+        spares,
+        newest,
+        stamps,
+        64,
+    );
+    let read = read_all(textures, spares, newest, stamps, 64);
+    report_test(tested, read);
+}
+
+pub fn run(
+    textures: &mut [u64],
+    retiring: &mut [u64],
+    doomed: &mut [u64],
+    spares: &mut [u64],
+    newest: &mut [u64],
+    stamps: &mut [u64],
+    copies: &mut [u64],
+    held: &mut [u64],
+    views: &mut [u64],
+    n: usize,
+    rounds: u64,
+) {
+    let opened = open(
+        17179869184,
+        textures,
+        retiring,
+        doomed,
+        spares,
+        newest,
+        stamps,
+    );
+    let pool = opened.pool;
+    let book = opened.book;
+    if !is_pool(
+        pool,
+        book,
+        textures,
+        retiring,
+        doomed,
+        spares,
+        newest,
+        stamps,
+    ) {
+        return;
+    }
+    run_rounds(
+        pool,
+        book,
+        textures,
+        retiring,
+        doomed,
+        spares,
+        newest,
+        stamps,
+        copies,
+        held,
+        views,
+        n,
+        rounds,
+    );
+}
