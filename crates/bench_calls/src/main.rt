@@ -3,6 +3,7 @@ mod clock;
 mod draining;
 mod renaming;
 mod report;
+mod room;
 mod rounds;
 mod run;
 mod testing;
@@ -49,32 +50,39 @@ fn argument(i: usize) -> u64 {
     value
 }
 
-// Memory for as many places as may be lent, of which those that are asked for are.
+// Memory for as many places as may be lent.
 fn bench(t: usize, v: usize, p: usize, rounds: u64) {
-    let mut textures = [0u64; 77824];
-    let mut retiring = [0u64; 28672];
-    let mut doomed = [0u64; 8192];
-    let mut spares = [0u64; 12288];
-    let mut newest = [0u64; 4096];
-    let mut stamps = [0u64; 4194304];
-    let mut copies = [0u64; 7];
-    let mut held = [0u64; 4096];
-    let mut views = [0u64; 4096];
-    if (t <= 4096) & (v <= 4096) & (p <= 4096) {
-        run::run(
-            &mut textures[..19 * t],
-            &mut retiring[..7 * v],
-            &mut doomed[..2 * v],
-            &mut spares[..3 * v],
-            &mut newest[..p],
-            &mut stamps[..1024 * p],
-            &mut copies,
-            &mut held,
-            &mut views,
-            t,
-            rounds,
-        );
+    if t > 4096 {
+        return;
     }
+    if v > 4096 {
+        return;
+    }
+    if p > 4096 {
+        return;
+    }
+    let mut textures = room::texture_places();
+    let mut retiring = room::retiring_places();
+    let mut doomed = room::doomed_places();
+    let mut spares = room::spare_places();
+    let mut newest = room::numbers();
+    let mut stamps = room::stamp_places();
+    let mut held = room::numbers();
+    let mut views = room::numbers();
+    run::run_part(
+        &mut textures,
+        &mut retiring,
+        &mut doomed,
+        &mut spares,
+        &mut newest,
+        &mut stamps,
+        &mut held,
+        &mut views,
+        t,
+        v,
+        p,
+        rounds,
+    );
 }
 
 fn main() {

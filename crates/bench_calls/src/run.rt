@@ -1,6 +1,8 @@
 // The rounds on a pool just opened.
 ghost use mathlib.Core.Path.{_≡_};
 ghost use mathlib.Core.Bool.{true};
+ghost use Prim.Native.Nat.{_≤_};
+ghost use lib.ListN.{length};
 ghost use Rattle.layout.specs.Lent.{lent};
 ghost use Rattle.layout.specs.IsPool.{isPool};
 use crate::report::report;
@@ -108,7 +110,7 @@ fn run_rounds(
     report_test(tested, read);
 }
 
-pub fn run(
+fn run(
     textures: &mut [u64],
     retiring: &mut [u64],
     doomed: &mut [u64],
@@ -157,6 +159,45 @@ pub fn run(
         held,
         views,
         n,
+        rounds,
+    );
+}
+
+// Of the memory given, the parts that the places asked for take are lent.
+pub fn run_part(
+    textures: &mut [u64],
+    retiring: &mut [u64],
+    doomed: &mut [u64],
+    spares: &mut [u64],
+    newest: &mut [u64],
+    stamps: &mut [u64],
+    held: &mut [u64],
+    views: &mut [u64],
+    t: usize,
+    v: usize,
+    p: usize,
+    rounds: u64,
+)
+    requires { ⌜ (t ≤ 4096) × (v ≤ 4096) × (p ≤ 4096) × (77824 ≤ length (now textures)) × (28672 ≤ length (now retiring)) × (8192 ≤ length (now doomed))
+        × (12288 ≤ length (now spares)) × (4096 ≤ length (now newest)) × (4194304 ≤ length (now stamps)) ⌝ }
+{
+    let mut copies = [0; 7];
+    let a = 19 * t;
+    let b = 7 * v;
+    let c = 2 * v;
+    let d = 3 * v;
+    let e = 1024 * p;
+    run(
+        &mut textures[..a],
+        &mut retiring[..b],
+        &mut doomed[..c],
+        &mut spares[..d],
+        &mut newest[..p],
+        &mut stamps[..e],
+        &mut copies,
+        held,
+        views,
+        t,
         rounds,
     );
 }

@@ -27,7 +27,7 @@ reading-if-requires : tie.Need-reading-if-requires Inv-loop μ-loop
 reading-if-requires c κs = search needs
 
 pop-retired-requires : tie.Need-pop-retired-requires Inv-loop μ-loop
-pop-retired-requires c κs = c .before .before .before .before .loop .inv .0
+pop-retired-requires c κs = c .before .before .before .before .before .loop .inv .0
 
 elapsed-if-requires : tie.Need-elapsed-if-requires Inv-loop μ-loop
 elapsed-if-requires c κs = search needs
@@ -36,19 +36,19 @@ wrapping-add-u64-requires : tie.Need-wrapping-add-u64-requires Inv-loop μ-loop
 wrapping-add-u64-requires c κs = search needs
 
 park-requires : tie.Need-park-requires Inv-loop μ-loop
-park-requires c κs = let m = c .before .before .before .pop-retired in pop-keeps _ _ (c .before .before .before .before .before .before .before .before .loop .inv .0) (poppedTold (m .result .popped)) _ (m .ensures)
+park-requires c κs = let m = c .before .before .before .before .before .pop-retired in pop-keeps _ _ (c .before .before .before .before .before .before .before .before .before .before .before .loop .inv .0) (poppedTold (m .result .popped)) _ (m .ensures)
 
 add-i : tie.Need-add-i Inv-loop μ-loop
-add-i c = omega (arith, c .before .before .before .before .before .before .before .before .before .before .before .before .before .before .before .loop-test .taken, c .before .before .before .before .before .before .before .before .before .before .before .before .before .before .before .before .before .before .before .before .before .before .before .fits .n)
+add-i c = omega (arith, c .before .before .before .before .before .before .before .before .before .before .before .before .before .before .before .before .before .before .loop-test .taken, c .before .before .before .before .before .before .before .before .before .before .before .before .before .before .before .before .before .before .before .before .before .before .before .before .before .before .fits .n)
 
 loop-less : tie.Need-loop-less Inv-loop μ-loop
-loop-less c = omega (arith, c .before .before .before .before .before .before .before .before .before .before .before .before .before .before .before .loop-test .taken)
+loop-less c = omega (arith, c .before .before .before .before .before .before .before .before .before .before .before .before .before .before .before .before .before .before .loop-test .taken)
 
 loop-again : tie.Need-loop-again Inv-loop μ-loop
-loop-again c = 
-    let b = c .before .before .before .before .before .before .before .before .before .before .before .before .before .before .before .before in
+loop-again c =
+    let b = c .before .before .before .before .before .before .before .before .before .before .before .before .before .before .before .before .before .before .before in
     let m = c .before .before .before .before .before .before .before .park in
-    let p = c .before .before .before .before .before .before .before .before .before .before .before .pop-retired in
+    let p = c .before .before .before .before .before .before .before .before .before .before .before .before .before .pop-retired in
     (park-keeps _ _ (pop-keeps _ _ (b .loop .inv .0) (poppedTold (p .result .popped)) _ (p .ensures)) (toldNumber (m .result .outcome)) _ _ (m .ensures), m .kept .1 .1 .0 ∙ b .loop .inv .1, m .kept .1 .1 .1 .1 .0 ∙ b .loop .inv .2, m .kept .1 .1 .1 .1 .1 .0 ∙ b .loop .inv .3)
 
 same-length : tie.Need-same-length Inv-loop μ-loop

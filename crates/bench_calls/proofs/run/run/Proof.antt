@@ -1,89 +1,67 @@
+-- `run` meets its contract: the rounds are made only on memory that forms a pool. Assumes nothing.
 use borrow.Author.Needs.{needs}
+use borrow.Author.Tests.{not-false}
+use mathlib.Core.Path.{sym, _∙_}
 use Rattle.bench_calls.proofs.run.run.Statement.{statement}
 use Rattle.bench_calls.proofs.run.run.Tie as tie
-use Rattle.bench_calls.proofs.run.run.Reads as reads
-use Rattle.bench_calls.proofs.run.run.Lts as lts
-use Rattle.bench_calls.proofs.run.run_rounds.Reads as run-rounds-reads
-use Rattle.pool.proofs.open.Reads as open-reads
-use Rattle.pool_test.proofs.is_pool.Reads as is-pool-reads
 
--- src/run.rt:124:9
 open-requires : tie.Need-open-requires
 open-requires c κs = search needs
 
--- src/run.rt:135:9
 is-pool-requires : tie.Need-is-pool-requires
 is-pool-requires c κs = search needs
 
--- src/run.rt:145:9
 same-length : tie.Need-same-length
 same-length c = search needs
 
--- src/run.rt:145:9
 same-length-2 : tie.Need-same-length-2
 same-length-2 c = search needs
 
--- src/run.rt:145:9
 same-length-3 : tie.Need-same-length-3
 same-length-3 c = search needs
 
--- src/run.rt:145:9
 same-length-4 : tie.Need-same-length-4
 same-length-4 c = search needs
 
--- src/run.rt:145:9
 same-length-5 : tie.Need-same-length-5
 same-length-5 c = search needs
 
--- src/run.rt:145:9
 same-length-6 : tie.Need-same-length-6
 same-length-6 c = search needs
 
--- src/run.rt:145:9
 returns : tie.Need-returns
 returns c = search needs
 
--- src/run.rt:147:5
 run-rounds-requires : tie.Need-run-rounds-requires
-run-rounds-requires c κs = search needs
+run-rounds-requires c κs = sym (c .before .before .before .before .before .before .before .before .before .before .is-pool .ensures) ∙ not-false _ (c .before .before .before .before .before .before .before .before .before .if1 .left)
 
--- src/run.rt:111:1
 same-length-7 : tie.Need-same-length-7
-same-length-7 c = search needs
+same-length-7 c = c .before .before .before .before .before .before .before .before .before .before .before .before .before .before .before .before .before .before .run-rounds .kept .1 .1 .0
 
--- src/run.rt:111:1
 same-length-8 : tie.Need-same-length-8
-same-length-8 c = search needs
+same-length-8 c = c .before .before .before .before .before .before .before .before .before .before .before .before .before .before .before .before .before .before .run-rounds .kept .1 .1 .1 .0
 
--- src/run.rt:111:1
 same-length-9 : tie.Need-same-length-9
-same-length-9 c = search needs
+same-length-9 c = c .before .before .before .before .before .before .before .before .before .before .before .before .before .before .before .before .before .before .run-rounds .kept .1 .1 .1 .1 .0
 
--- src/run.rt:111:1
 same-length-10 : tie.Need-same-length-10
-same-length-10 c = search needs
+same-length-10 c = c .before .before .before .before .before .before .before .before .before .before .before .before .before .before .before .before .before .before .run-rounds .kept .1 .1 .1 .1 .1 .0
 
--- src/run.rt:111:1
 same-length-11 : tie.Need-same-length-11
-same-length-11 c = search needs
+same-length-11 c = c .before .before .before .before .before .before .before .before .before .before .before .before .before .before .before .before .before .before .run-rounds .kept .1 .1 .1 .1 .1 .1 .0
 
--- src/run.rt:111:1
 same-length-12 : tie.Need-same-length-12
-same-length-12 c = search needs
+same-length-12 c = c .before .before .before .before .before .before .before .before .before .before .before .before .before .before .before .before .before .before .run-rounds .kept .1 .1 .1 .1 .1 .1 .1 .0
 
--- src/run.rt:111:1
 same-length-13 : tie.Need-same-length-13
-same-length-13 c = search needs
+same-length-13 c = c .before .before .before .before .before .before .before .before .before .before .before .before .before .before .before .before .before .before .run-rounds .kept .1 .1 .1 .1 .1 .1 .1 .1 .0
 
--- src/run.rt:111:1
 same-length-14 : tie.Need-same-length-14
-same-length-14 c = search needs
+same-length-14 c = c .before .before .before .before .before .before .before .before .before .before .before .before .before .before .before .before .before .before .run-rounds .kept .1 .1 .1 .1 .1 .1 .1 .1 .1 .0
 
--- src/run.rt:111:1
 same-length-15 : tie.Need-same-length-15
-same-length-15 c = search needs
+same-length-15 c = c .before .before .before .before .before .before .before .before .before .before .before .before .before .before .before .before .before .before .run-rounds .kept .1 .1 .1 .1 .1 .1 .1 .1 .1 .1 .0
 
--- src/run.rt:111:1
 returns-2 : tie.Need-returns-2
 returns-2 c = search needs
 

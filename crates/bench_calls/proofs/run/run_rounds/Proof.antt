@@ -1,130 +1,113 @@
+-- `run_rounds` meets its contract: one round after the other, and each leaves a pool. Assumes nothing.
 use borrow.Author.Needs.{needs}
+use mathlib.Core.Path.{_≡_, refl, _∙_}
+use mathlib.Core.Bool.{true}
+use Prim.Native.Nat.{_-_}
+use native.Mathlib.Omega.{arith}
+use lib.ListN.{length}
+use Rattle.layout.specs.Lent.{lent}
+use Rattle.layout.specs.IsPool.{isPool}
 use Rattle.bench_calls.proofs.run.run_rounds.Statement.{statement}
 use Rattle.bench_calls.proofs.run.run_rounds.Tie as tie
-use Rattle.bench_calls.proofs.run.run_rounds.Reads as reads
-use Rattle.bench_calls.proofs.run.run_rounds.Lts as lts
-use Rattle.bench_calls.proofs.report.report.Reads as report-reads
-use Rattle.bench_calls.proofs.report.report_test.Reads as report-test-reads
-use Rattle.bench_calls.proofs.rounds.drain_round.Reads as drain-round-reads
-use Rattle.bench_calls.proofs.rounds.rename_round.Reads as rename-round-reads
-use Rattle.bench_calls.proofs.rounds.settle_round.Reads as settle-round-reads
-use Rattle.bench_calls.proofs.testing.read_all.Reads as read-all-reads
-use Rattle.bench_calls.proofs.testing.test_all.Reads as test-all-reads
-use Rattle.bench_calls.proofs.totals.counted.Reads as counted-reads
-use Rattle.bench_calls.proofs.totals.drained_in.Reads as drained-in-reads
-use Rattle.bench_calls.proofs.totals.no_totals.Reads as no-totals-reads
-use Rattle.bench_calls.proofs.totals.renamed_in.Reads as renamed-in-reads
-use Rattle.bench_calls.proofs.totals.settled_in.Reads as settled-in-reads
 
 abbrev Inv-loop : tie.InvT-loop
 Inv-loop textures₀ retiring₀ doomed₀ spares₀ newest₀ stamps₀ copies₀ held₀ views₀ n rounds totals₀ counts₀ paces₀ seq₀ textures retiring doomed spares newest stamps copies held views totals counts paces seq =
-    ?
+    (isPool (lent counts paces textures retiring doomed spares newest stamps) ≡ true) × (length textures ≡ length textures₀) × (length retiring ≡ length retiring₀) × (length doomed ≡ length doomed₀) × (length spares ≡ length spares₀) × (length newest ≡ length newest₀) × (length stamps ≡ length stamps₀) × (length copies ≡ length copies₀) × (length held ≡ length held₀) × (length views ≡ length views₀)
 
 abbrev μ-loop : tie.MeasureT-loop
 μ-loop textures₀ retiring₀ doomed₀ spares₀ newest₀ stamps₀ copies₀ held₀ views₀ n rounds totals₀ counts₀ paces₀ seq₀ textures retiring doomed spares newest stamps copies held views totals counts paces seq =
-    ?
+    rounds - seq
 
--- src/run.rt:41:9
 no-totals-requires : tie.Need-no-totals-requires Inv-loop μ-loop
 no-totals-requires c κs = search needs
 
--- src/run.rt:45:5
 loop-holds : tie.Need-loop-holds Inv-loop μ-loop
-loop-holds c = search needs
+loop-holds c = (c .before .before .before .before .before .before .before .before .before .before .pre, refl, refl, refl, refl, refl, refl, refl, refl, refl)
 
--- src/run.rt:46:9
 add-seq : tie.Need-add-seq Inv-loop μ-loop
-add-seq c = search needs
+add-seq c = omega (arith, c .loop-test .taken, c .before .before .before .before .before .before .before .before .before .before .before .before .fits .rounds)
 
--- src/run.rt:47:9
 counted-requires : tie.Need-counted-requires Inv-loop μ-loop
 counted-requires c κs = search needs
 
--- src/run.rt:48:13
 rename-round-requires : tie.Need-rename-round-requires Inv-loop μ-loop
-rename-round-requires c κs = search needs
+rename-round-requires c κs = c .before .before .before .before .before .before .before .before .before .before .loop .inv .0
 
--- src/run.rt:62:9
 renamed-in-requires : tie.Need-renamed-in-requires Inv-loop μ-loop
 renamed-in-requires c κs = search needs
 
--- src/run.rt:64:13
 settle-round-requires : tie.Need-settle-round-requires Inv-loop μ-loop
-settle-round-requires c κs = search needs
+settle-round-requires c κs = c .before .before .before .before .before .before .before .before .before .before .before .before .before .before .before .before .before .before .before .before .before .before .before .rename-round .ensures
 
--- src/run.rt:77:9
 settled-in-requires : tie.Need-settled-in-requires Inv-loop μ-loop
 settled-in-requires c κs = search needs
 
--- src/run.rt:78:13
 drain-round-requires : tie.Need-drain-round-requires Inv-loop μ-loop
-drain-round-requires c κs = search needs
+drain-round-requires c κs = c .before .before .before .before .before .before .before .before .before .before .before .before .before .before .settle-round .ensures
 
--- src/run.rt:91:9
 drained-in-requires : tie.Need-drained-in-requires Inv-loop μ-loop
 drained-in-requires c κs = search needs
 
--- src/run.rt:45:5
 loop-less : tie.Need-loop-less Inv-loop μ-loop
-loop-less c = search needs
+loop-less c = omega (arith, c .before .before .before .before .before .before .before .before .before .before .before .before .before .before .before .before .before .before .before .before .before .before .before .before .before .before .before .before .before .before .before .before .before .before .before .before .before .before .before .before .before .before .before .before .before .before .before .before .before .before .before .before .before .before .before .before .before .before .before .before .before .before .before .before .loop-test .taken)
 
--- src/run.rt:45:5
 loop-again : tie.Need-loop-again Inv-loop μ-loop
-loop-again c = search needs
+loop-again c =
+    let b = c .before .before .before .before .before .before .before .before .before .before .before .before .before .before .before .before .before .before .before .before .before .before .before .before .before .before .before .before .before .before .before .before .before .before .before .before .before .before .before .before .before .before .before .before .before .before .before .before .before .before .before .before .before .before .before .before .before .before .before .before .before .before .before .before .before in
+    let r = c .before .before .before .before .before .before .before .before .before .before .before .before .before .before .before .before .before .before .before .before .before .before .before .before .before .before .before .before .before .before .before .before .before .before .before .before .before .before .before .before .before .before .before .before .before .before .before .before .before .before .before .before .before .before .rename-round in
+    let q = c .before .before .before .before .before .before .before .before .before .before .before .before .before .before .before .before .before .before .before .before .before .before .before .before .before .before .before .before .before .before .settle-round in
+    let e = c .before .before .before .before .before .before .before .before .before .before .before .before .before .before .before .drain-round in (
+      e .ensures,
+      e .kept .1 .1 .0 ∙ q .kept .1 .1 .0 ∙ r .kept .1 .1 .0 ∙ b .loop .inv .1,
+      r .kept .1 .1 .1 .0 ∙ b .loop .inv .2,
+      e .kept .1 .1 .1 .1 .0 ∙ q .kept .1 .1 .1 .1 .0 ∙ r .kept .1 .1 .1 .1 .0 ∙ b .loop .inv .3,
+      e .kept .1 .1 .1 .1 .1 .0 ∙ q .kept .1 .1 .1 .1 .1 .0 ∙ r .kept .1 .1 .1 .1 .1 .0 ∙ b .loop .inv .4,
+      e .kept .1 .1 .1 .1 .1 .1 .0 ∙ r .kept .1 .1 .1 .1 .1 .1 .0 ∙ b .loop .inv .5,
+      e .kept .1 .1 .1 .1 .1 .1 .1 .0 ∙ r .kept .1 .1 .1 .1 .1 .1 .1 .0 ∙ b .loop .inv .6,
+      r .kept .1 .1 .1 .1 .1 .1 .1 .1 .0 ∙ b .loop .inv .7,
+      r .kept .1 .1 .1 .1 .1 .1 .1 .1 .1 .0 ∙ b .loop .inv .8,
+      e .kept .1 .1 .1 .1 .1 .1 .1 .1 .0 ∙ b .loop .inv .9,
+    )
 
--- src/run.rt:95:5
 report-requires : tie.Need-report-requires Inv-loop μ-loop
 report-requires c κs = search needs
 
--- src/run.rt:96:9
 test-all-requires : tie.Need-test-all-requires Inv-loop μ-loop
 test-all-requires c κs = search needs
 
--- src/run.rt:107:9
 read-all-requires : tie.Need-read-all-requires Inv-loop μ-loop
 read-all-requires c κs = search needs
 
--- src/run.rt:108:5
 report-test-requires : tie.Need-report-test-requires Inv-loop μ-loop
 report-test-requires c κs = search needs
 
--- src/run.rt:24:1
 same-length : tie.Need-same-length Inv-loop μ-loop
-same-length c = search needs
+same-length c = c .before .before .before .before .before .before .before .before .before .before .before .before .before .before .before .loop .inv .1
 
--- src/run.rt:24:1
 same-length-2 : tie.Need-same-length-2 Inv-loop μ-loop
-same-length-2 c = search needs
+same-length-2 c = c .before .before .before .before .before .before .before .before .before .before .before .before .before .before .before .loop .inv .2
 
--- src/run.rt:24:1
 same-length-3 : tie.Need-same-length-3 Inv-loop μ-loop
-same-length-3 c = search needs
+same-length-3 c = c .before .before .before .before .before .before .before .before .before .before .before .before .before .before .before .loop .inv .3
 
--- src/run.rt:24:1
 same-length-4 : tie.Need-same-length-4 Inv-loop μ-loop
-same-length-4 c = search needs
+same-length-4 c = c .before .before .before .before .before .before .before .before .before .before .before .before .before .before .before .loop .inv .4
 
--- src/run.rt:24:1
 same-length-5 : tie.Need-same-length-5 Inv-loop μ-loop
-same-length-5 c = search needs
+same-length-5 c = c .before .before .before .before .before .before .before .before .before .before .before .before .before .before .before .loop .inv .5
 
--- src/run.rt:24:1
 same-length-6 : tie.Need-same-length-6 Inv-loop μ-loop
-same-length-6 c = search needs
+same-length-6 c = c .before .before .before .before .before .before .before .before .before .before .before .before .before .before .before .loop .inv .6
 
--- src/run.rt:24:1
 same-length-7 : tie.Need-same-length-7 Inv-loop μ-loop
-same-length-7 c = search needs
+same-length-7 c = c .before .before .before .before .before .before .before .before .before .before .before .before .before .before .before .loop .inv .7
 
--- src/run.rt:24:1
 same-length-8 : tie.Need-same-length-8 Inv-loop μ-loop
-same-length-8 c = search needs
+same-length-8 c = c .before .before .before .before .before .before .before .before .before .before .before .before .before .before .before .loop .inv .8
 
--- src/run.rt:24:1
 same-length-9 : tie.Need-same-length-9 Inv-loop μ-loop
-same-length-9 c = search needs
+same-length-9 c = c .before .before .before .before .before .before .before .before .before .before .before .before .before .before .before .loop .inv .9
 
--- src/run.rt:24:1
 returns : tie.Need-returns Inv-loop μ-loop
 returns c = search needs
 
