@@ -23,11 +23,13 @@ fn id_of(i: u64) -> TextureId {
     TextureId::from_raw(i % 65_536 * 40_503 % 65_536)
 }
 
-fn bench_shape() -> VersionShape {
+/// As crates/bench_calls has it: small textures, or such whose tiles fill a page where their number is odd.
+fn bench_shape(n: u64) -> VersionShape {
+    let (format, extent) = if n % 2 == 1 { (0, 512) } else { (2, 64) };
     let raw = RawShape {
-        format: 2,
-        width: 64,
-        height: 64,
+        format,
+        width: extent,
+        height: extent,
         depth: 1,
         levels: 1,
         kind: 0,
@@ -95,10 +97,10 @@ fn round(
     seq: u64,
     t: &mut Totals,
 ) {
-    let shape = bench_shape();
+    let shape = bench_shape(n);
     timed(&mut t.take, || {
         for i in 0..n {
-            let spare = pool.take_spare(id_of(i), bench_shape(), true, seq);
+            let spare = pool.take_spare(id_of(i), bench_shape(n), true, seq);
             held[i as usize] = spare.and_then(|s| s.into_parts().1);
         }
     });
@@ -164,9 +166,15 @@ fn settle(pool: &mut TextureVersions<u64>, n: u64, seq: u64, t: &mut Totals) {
     }
 }
 
+/// So many readings of the clock, one right after the other: what reading it costs.
+fn idle_time(readings: u64) -> i64 {
+    (0..readings).map(|_| -clock() + clock()).sum()
+}
+
 fn report(t: &Totals, pool: &TextureVersions<u64>, n: u64, rounds: u64) {
     println!("textures {n}");
     println!("rounds {rounds}");
+    println!("clock {}", idle_time(100_000));
     for (name, time) in [
         ("take_spare", t.take),
         ("preserve_plan", t.plan),

@@ -30,3 +30,14 @@ pub fn elapsed_if(asked: bool, start: u64) -> u64 {
     }
     0
 }
+
+// k readings of the clock, one right after the other: what reading it costs.
+pub fn idle_time(k: u64) -> u64 {
+    let mut sum = 0;
+    let mut i = 0;
+    while i < k {
+        sum = std::num::wrapping_add_u64(sum, elapsed(reading()));
+        i += 1;
+    }
+    sum
+}

@@ -1,4 +1,4 @@
-// Times each kind of call of the pool, on memory that forms one: TEXTURES VERSIONS PAGES ROUNDS. bench/README.md says how it is used.
+// Times each kind of call of the pool, on memory that forms one: TEXTURES ROUNDS [VERSIONS PAGES]. bench/README.md says how it is used.
 mod clock;
 mod draining;
 mod renaming;
@@ -68,7 +68,6 @@ fn bench(t: usize, v: usize, p: usize, rounds: u64) {
     let mut newest = room::numbers();
     let mut stamps = room::stamp_places();
     let mut held = room::numbers();
-    let mut views = room::numbers();
     run::run_part(
         &mut textures,
         &mut retiring,
@@ -77,7 +76,6 @@ fn bench(t: usize, v: usize, p: usize, rounds: u64) {
         &mut newest,
         &mut stamps,
         &mut held,
-        &mut views,
         t,
         v,
         p,
@@ -85,14 +83,17 @@ fn bench(t: usize, v: usize, p: usize, rounds: u64) {
     );
 }
 
+// Two arguments, for as many versions and pages as textures, or four.
 fn main() {
-    if os::arg_count() < 5 {
+    let n = os::arg_count();
+    if n < 3 {
         return;
     }
-    bench(
-        argument(1) as usize,
-        argument(2) as usize,
-        argument(3) as usize,
-        argument(4),
-    );
+    let t = argument(1) as usize;
+    let rounds = argument(2);
+    if n < 5 {
+        bench(t, t, t, rounds);
+        return;
+    }
+    bench(t, argument(3) as usize, argument(4) as usize, rounds);
 }

@@ -35,7 +35,7 @@ pub fn take_all(
     requires { ⌜ isPool (lent pool book (now textures) (now retiring) (now doomed) (now spares) (now newest) (now stamps)) ≡ true ⌝ }
     ensures { λ r. ⌜ isPool (lent r book (now (textures .exit)) (now (retiring .entry)) (now (doomed .exit)) (now (spares .exit)) (now (newest .exit)) (now (stamps .exit))) ≡ true ⌝ }
 {
-    let shape = bench_shape();
+    let shape = bench_shape(n);
     let mut counts = pool;
     let mut i = 0;
     while i < n {
@@ -78,7 +78,7 @@ pub fn plan_all(
 ) -> u64
     requires { ⌜ isPool (lent pool book (now textures) (now retiring) (now doomed) (now spares) (now newest) (now stamps)) ≡ true ⌝ }
 {
-    let shape = bench_shape();
+    let shape = bench_shape(n);
     let mut sum = 0;
     let mut i = 0;
     while i < n {

@@ -1,4 +1,5 @@
 // What is printed: a word and numbers a line.
+use crate::clock::idle_time;
 use crate::testing::Timed;
 use crate::totals::Totals;
 use layout::Pool;
@@ -13,6 +14,7 @@ fn line(word: &[u8], number: u64) {
 pub fn report(t: Totals, pool: Pool, n: usize, rounds: u64) {
     line(b"textures ", n as u64);
     line(b"rounds ", rounds);
+    line(b"clock ", idle_time(100000));
     line(b"take_spare ", t.take);
     line(b"preserve_plan ", t.plan);
     line(b"retire ", t.retire);

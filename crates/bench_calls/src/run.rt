@@ -12,6 +12,7 @@ use crate::rounds::rename_round;
 use crate::rounds::settle_round;
 use crate::testing::read_all;
 use crate::testing::test_all;
+use crate::totals::Totals;
 use crate::totals::counted;
 use crate::totals::drained_in;
 use crate::totals::no_totals;
@@ -22,7 +23,86 @@ use layout::Pool;
 use pool::open;
 use pool_test::is_pool;
 
-// 8 calls of the last kinds a round.
+struct Round {
+    pool: Pool,
+    book: PacingBook,
+    totals: Totals,
+}
+
+// Every second round has its pops timed one by one. Of the last kinds it makes 8 calls; nothing is to be destroyed, so any slice is buffer
+// enough for the views.
+fn run_round(
+    pool: Pool,
+    book: PacingBook,
+    textures: &mut [u64],
+    retiring: &mut [u64],
+    doomed: &mut [u64],
+    spares: &mut [u64],
+    newest: &mut [u64],
+    stamps: &mut [u64],
+    copies: &mut [u64],
+    held: &mut [u64],
+    n: usize,
+    seq: u64,
+    totals: Totals,
+) -> Round
+    requires { ⌜ isPool (lent pool book (now textures) (now retiring) (now doomed) (now spares) (now newest) (now stamps)) ≡ true ⌝ }
+    ensures { λ r. ⌜ isPool (lent (r .pool) (r .book) (now (textures .exit)) (now (retiring .exit)) (now (doomed .exit)) (now (spares .exit)) (now (newest .exit)) (now (stamps .exit))) ≡ true ⌝ }
+{
+    let renamed = rename_round(
+        pool,
+        book,
+        textures,
+        retiring,
+        doomed,
+        spares,
+        newest,
+        stamps,
+        copies,
+        held,
+        n,
+        seq,
+    );
+    let timed = seq % 2 == 0;
+    let settled = settle_round(
+        renamed.pool,
+        book,
+        textures,
+        retiring,
+        doomed,
+        spares,
+        newest,
+        stamps,
+        n,
+        seq,
+        timed,
+    );
+    let drained = drain_round(
+        settled.pool,
+        book,
+        textures,
+        retiring,
+        doomed,
+        spares,
+        newest,
+        stamps,
+        held,
+        8,
+        seq,
+    );
+    let sum = drained_in(
+        settled_in(renamed_in(totals, renamed), settled, timed),
+        drained,
+    );
+    let counts = drained.pool;
+    let paces = drained.book;
+    Round {
+        pool: counts,
+        book: paces,
+        totals: sum,
+    }
+}
+
 fn run_rounds(
     pool: Pool,
     book: PacingBook,
@@ -34,7 +114,6 @@ fn run_rounds(
     stamps: &mut [u64],
     copies: &mut [u64],
     held: &mut [u64],
-    views: &mut [u64],
     n: usize,
     rounds: u64,
 )
@@ -46,8 +125,7 @@ fn run_rounds(
     let mut seq = 0;
     while seq < rounds {
         seq += 1;
-        totals = counted(totals, seq);
-        let renamed = rename_round(
+        let done = run_round(
             counts,
             paces,
             textures,
@@ -60,39 +138,11 @@ fn run_rounds(
             held,
             n,
             seq,
+            counted(totals, seq),
         );
-        totals = renamed_in(totals, renamed);
-        let timed = seq % 2 == 0;
-        let settled = settle_round(
-            renamed.pool,
-            paces,
-            textures,
-            retiring,
-            doomed,
-            spares,
-            newest,
-            stamps,
-            n,
-            seq,
-            timed,
-        );
-        totals = settled_in(totals, settled, timed);
-        let drained = drain_round(
-            settled.pool,
-            paces,
-            textures,
-            retiring,
-            doomed,
-            spares,
-            newest,
-            stamps,
-            views,
-            8,
-            seq,
-        );
-        totals = drained_in(totals, drained);
-        counts = drained.pool;
-        paces = drained.book;
+        totals = done.totals;
+        counts = done.pool;
+        paces = done.book;
     }
     report(totals, counts, n, rounds);
     let tested = test_all(
@@ -119,7 +169,6 @@ fn run(
     stamps: &mut [u64],
     copies: &mut [u64],
     held: &mut [u64],
-    views: &mut [u64],
     n: usize,
     rounds: u64,
 ) {
@@ -157,7 +206,6 @@ fn run(
         stamps,
         copies,
         held,
-        views,
         n,
         rounds,
     );
@@ -172,7 +220,6 @@ pub fn run_part(
     newest: &mut [u64],
     stamps: &mut [u64],
     held: &mut [u64],
-    views: &mut [u64],
     t: usize,
     v: usize,
     p: usize,
@@ -196,7 +243,6 @@ pub fn run_part(
         &mut stamps[..e],
         &mut copies,
         held,
-        views,
         t,
         rounds,
     );

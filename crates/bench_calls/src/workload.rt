@@ -1,4 +1,4 @@
-// What the calls are asked: textures of 64 by 64 texels of four bytes each, one level, that record their writes.
+// What the calls are asked: flat textures of one level, that record their writes.
 use plans::PlanAnswer;
 use rects::TexelRect;
 use renames::Taken;
@@ -10,11 +10,11 @@ pub fn id_of(i: usize) -> u64 {
     ((i % 65536) * 40503 % 65536) as u64
 }
 
-pub fn bench_shape() -> VersionShape {
+fn square(format: u64, extent: u64) -> VersionShape {
     VersionShape {
-        format: 2,
-        width: 64,
-        height: 64,
+        format,
+        width: extent,
+        height: extent,
         depth: 1,
         levels: 1,
         kind: 0,
@@ -25,6 +25,14 @@ pub fn bench_shape() -> VersionShape {
         blue: 0,
         alpha: 0,
     }
+}
+
+// 64 by 64 texels of four bytes, sixteen tiles; where the number of textures is odd, 512 by 512 of one byte, whose tiles fill a page.
+pub fn bench_shape(n: usize) -> VersionShape {
+    if n % 2 == 1 {
+        return square(0, 512);
+    }
+    square(2, 64)
 }
 
 // Ten by ten texels, at another place for each texture and in each round.

@@ -11,62 +11,44 @@ use Rattle.bench_calls.proofs.run.run_rounds.Statement.{statement}
 use Rattle.bench_calls.proofs.run.run_rounds.Tie as tie
 
 abbrev Inv-loop : tie.InvT-loop
-Inv-loop textures₀ retiring₀ doomed₀ spares₀ newest₀ stamps₀ copies₀ held₀ views₀ n rounds totals₀ counts₀ paces₀ seq₀ textures retiring doomed spares newest stamps copies held views totals counts paces seq =
-    (isPool (lent counts paces textures retiring doomed spares newest stamps) ≡ true) × (length textures ≡ length textures₀) × (length retiring ≡ length retiring₀) × (length doomed ≡ length doomed₀) × (length spares ≡ length spares₀) × (length newest ≡ length newest₀) × (length stamps ≡ length stamps₀) × (length copies ≡ length copies₀) × (length held ≡ length held₀) × (length views ≡ length views₀)
+Inv-loop textures₀ retiring₀ doomed₀ spares₀ newest₀ stamps₀ copies₀ held₀ n rounds totals₀ counts₀ paces₀ seq₀ textures retiring doomed spares newest stamps copies held totals counts paces seq =
+    (isPool (lent counts paces textures retiring doomed spares newest stamps) ≡ true) × (length textures ≡ length textures₀) × (length retiring ≡ length retiring₀) × (length doomed ≡ length doomed₀) × (length spares ≡ length spares₀) × (length newest ≡ length newest₀) × (length stamps ≡ length stamps₀) × (length copies ≡ length copies₀) × (length held ≡ length held₀)
 
 abbrev μ-loop : tie.MeasureT-loop
-μ-loop textures₀ retiring₀ doomed₀ spares₀ newest₀ stamps₀ copies₀ held₀ views₀ n rounds totals₀ counts₀ paces₀ seq₀ textures retiring doomed spares newest stamps copies held views totals counts paces seq =
+μ-loop textures₀ retiring₀ doomed₀ spares₀ newest₀ stamps₀ copies₀ held₀ n rounds totals₀ counts₀ paces₀ seq₀ textures retiring doomed spares newest stamps copies held totals counts paces seq =
     rounds - seq
 
 no-totals-requires : tie.Need-no-totals-requires Inv-loop μ-loop
 no-totals-requires c κs = search needs
 
 loop-holds : tie.Need-loop-holds Inv-loop μ-loop
-loop-holds c = (c .before .before .before .before .before .before .before .before .before .before .pre, refl, refl, refl, refl, refl, refl, refl, refl, refl)
+loop-holds c = (c .before .before .before .before .before .before .before .before .before .pre, refl, refl, refl, refl, refl, refl, refl, refl)
 
 add-seq : tie.Need-add-seq Inv-loop μ-loop
-add-seq c = omega (arith, c .loop-test .taken, c .before .before .before .before .before .before .before .before .before .before .before .before .fits .rounds)
+add-seq c = omega (arith, c .loop-test .taken, c .before .before .before .before .before .before .before .before .before .before .before .fits .rounds)
 
 counted-requires : tie.Need-counted-requires Inv-loop μ-loop
 counted-requires c κs = search needs
 
-rename-round-requires : tie.Need-rename-round-requires Inv-loop μ-loop
-rename-round-requires c κs = c .before .before .before .before .before .before .before .before .before .before .loop .inv .0
-
-renamed-in-requires : tie.Need-renamed-in-requires Inv-loop μ-loop
-renamed-in-requires c κs = search needs
-
-settle-round-requires : tie.Need-settle-round-requires Inv-loop μ-loop
-settle-round-requires c κs = c .before .before .before .before .before .before .before .before .before .before .before .before .before .before .before .before .before .before .before .before .before .before .before .rename-round .ensures
-
-settled-in-requires : tie.Need-settled-in-requires Inv-loop μ-loop
-settled-in-requires c κs = search needs
-
-drain-round-requires : tie.Need-drain-round-requires Inv-loop μ-loop
-drain-round-requires c κs = c .before .before .before .before .before .before .before .before .before .before .before .before .before .before .settle-round .ensures
-
-drained-in-requires : tie.Need-drained-in-requires Inv-loop μ-loop
-drained-in-requires c κs = search needs
+run-round-requires : tie.Need-run-round-requires Inv-loop μ-loop
+run-round-requires c κs = c .before .before .before .before .before .before .before .before .before .before .loop .inv .0
 
 loop-less : tie.Need-loop-less Inv-loop μ-loop
-loop-less c = omega (arith, c .before .before .before .before .before .before .before .before .before .before .before .before .before .before .before .before .before .before .before .before .before .before .before .before .before .before .before .before .before .before .before .before .before .before .before .before .before .before .before .before .before .before .before .before .before .before .before .before .before .before .before .before .before .before .before .before .before .before .before .before .before .before .before .before .loop-test .taken)
+loop-less c = omega (arith, c .before .before .before .before .before .before .before .before .before .before .before .before .before .before .before .before .before .before .before .before .before .before .before .before .before .before .before .before .before .loop-test .taken)
 
 loop-again : tie.Need-loop-again Inv-loop μ-loop
 loop-again c =
-    let b = c .before .before .before .before .before .before .before .before .before .before .before .before .before .before .before .before .before .before .before .before .before .before .before .before .before .before .before .before .before .before .before .before .before .before .before .before .before .before .before .before .before .before .before .before .before .before .before .before .before .before .before .before .before .before .before .before .before .before .before .before .before .before .before .before .before in
-    let r = c .before .before .before .before .before .before .before .before .before .before .before .before .before .before .before .before .before .before .before .before .before .before .before .before .before .before .before .before .before .before .before .before .before .before .before .before .before .before .before .before .before .before .before .before .before .before .before .before .before .before .before .before .before .before .rename-round in
-    let q = c .before .before .before .before .before .before .before .before .before .before .before .before .before .before .before .before .before .before .before .before .before .before .before .before .before .before .before .before .before .before .settle-round in
-    let e = c .before .before .before .before .before .before .before .before .before .before .before .before .before .before .before .drain-round in (
-      e .ensures,
-      e .kept .1 .1 .0 ∙ q .kept .1 .1 .0 ∙ r .kept .1 .1 .0 ∙ b .loop .inv .1,
+    let b = c .before .before .before .before .before .before .before .before .before .before .before .before .before .before .before .before .before .before .before .before .before .before .before .before .before .before .before .before .before .before in
+    let r = c .before .before .before .before .before .before .before .before .before .before .before .before .before .before .before .before .before .before .before .run-round in (
+      r .ensures,
+      r .kept .1 .1 .0 ∙ b .loop .inv .1,
       r .kept .1 .1 .1 .0 ∙ b .loop .inv .2,
-      e .kept .1 .1 .1 .1 .0 ∙ q .kept .1 .1 .1 .1 .0 ∙ r .kept .1 .1 .1 .1 .0 ∙ b .loop .inv .3,
-      e .kept .1 .1 .1 .1 .1 .0 ∙ q .kept .1 .1 .1 .1 .1 .0 ∙ r .kept .1 .1 .1 .1 .1 .0 ∙ b .loop .inv .4,
-      e .kept .1 .1 .1 .1 .1 .1 .0 ∙ r .kept .1 .1 .1 .1 .1 .1 .0 ∙ b .loop .inv .5,
-      e .kept .1 .1 .1 .1 .1 .1 .1 .0 ∙ r .kept .1 .1 .1 .1 .1 .1 .1 .0 ∙ b .loop .inv .6,
+      r .kept .1 .1 .1 .1 .0 ∙ b .loop .inv .3,
+      r .kept .1 .1 .1 .1 .1 .0 ∙ b .loop .inv .4,
+      r .kept .1 .1 .1 .1 .1 .1 .0 ∙ b .loop .inv .5,
+      r .kept .1 .1 .1 .1 .1 .1 .1 .0 ∙ b .loop .inv .6,
       r .kept .1 .1 .1 .1 .1 .1 .1 .1 .0 ∙ b .loop .inv .7,
       r .kept .1 .1 .1 .1 .1 .1 .1 .1 .1 .0 ∙ b .loop .inv .8,
-      e .kept .1 .1 .1 .1 .1 .1 .1 .1 .0 ∙ b .loop .inv .9,
     )
 
 report-requires : tie.Need-report-requires Inv-loop μ-loop
@@ -105,9 +87,6 @@ same-length-7 c = c .before .before .before .before .before .before .before .bef
 same-length-8 : tie.Need-same-length-8 Inv-loop μ-loop
 same-length-8 c = c .before .before .before .before .before .before .before .before .before .before .before .before .before .before .before .loop .inv .8
 
-same-length-9 : tie.Need-same-length-9 Inv-loop μ-loop
-same-length-9 c = c .before .before .before .before .before .before .before .before .before .before .before .before .before .before .before .loop .inv .9
-
 returns : tie.Need-returns Inv-loop μ-loop
 returns c = search needs
 
@@ -121,12 +100,7 @@ run-rounds-spec =
     loop-holds
     add-seq
     counted-requires
-    rename-round-requires
-    renamed-in-requires
-    settle-round-requires
-    settled-in-requires
-    drain-round-requires
-    drained-in-requires
+    run-round-requires
     loop-less
     loop-again
     report-requires
@@ -141,5 +115,4 @@ run-rounds-spec =
     same-length-6
     same-length-7
     same-length-8
-    same-length-9
     returns)
