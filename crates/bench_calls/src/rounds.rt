@@ -1,0 +1,233 @@
+// A round in two halves, each with what its phases took.
+ghost use mathlib.Core.Path.{_≡_};
+ghost use mathlib.Core.Bool.{true};
+ghost use Rattle.layout.specs.Lent.{lent};
+ghost use Rattle.layout.specs.IsPool.{isPool};
+use crate::clock::elapsed;
+use crate::clock::reading;
+use crate::draining::doomed_all;
+use crate::draining::note_all;
+use crate::draining::settle_all;
+use crate::draining::trim_all;
+use crate::renaming::plan_all;
+use crate::renaming::retire_all;
+use crate::renaming::take_all;
+use crate::renaming::write_all;
+use layout::PacingBook;
+use layout::Pool;
+
+pub struct Renamed {
+    pub pool: Pool,
+    pub copies: u64,
+    pub take: u64,
+    pub plan: u64,
+    pub retire: u64,
+    pub write: u64,
+}
+
+pub fn rename_round(
+    pool: Pool,
+    book: PacingBook,
+    textures: &mut [u64],
+    retiring: &mut [u64],
+    doomed: &mut [u64],
+    spares: &mut [u64],
+    newest: &mut [u64],
+    stamps: &mut [u64],
+    copies: &mut [u64],
+    held: &mut [u64],
+    n: usize,
+    seq: u64,
+) -> Renamed
+    requires { ⌜ isPool (lent pool book (now textures) (now retiring) (now doomed) (now spares) (now newest) (now stamps)) ≡ true ⌝ }
+    ensures { λ r. ⌜ isPool (lent (r .pool) book (now (textures .exit)) (now (retiring .exit)) (now (doomed .exit)) (now (spares .exit)) (now (newest .exit)) (now (stamps .exit))) ≡ true ⌝ }
+{
+    let t0 = reading();
+    let taken = take_all(
+        pool,
+        book,
+        textures,
+        retiring,
+        doomed,
+        spares,
+        newest,
+        stamps,
+        held,
+        n,
+        seq,
+    );
+    let take = elapsed(t0);
+    let t1 = reading();
+    let sum = plan_all(
+        taken,
+        book,
+        textures,
+        retiring,
+        doomed,
+        spares,
+        newest,
+        stamps,
+        copies,
+        held,
+        n,
+    );
+    let plan = elapsed(t1);
+    let t2 = reading();
+    let retired = retire_all(
+        taken,
+        book,
+        textures,
+        retiring,
+        doomed,
+        spares,
+        newest,
+        stamps,
+        n,
+        seq,
+    );
+    let retire = elapsed(t2);
+    let t3 = reading();
+    let written = write_all(
+        retired,
+        book,
+        textures,
+        retiring,
+        doomed,
+        spares,
+        newest,
+        stamps,
+        n,
+        seq,
+    );
+    let write = elapsed(t3);
+    Renamed {
+        pool: written,
+        copies: sum,
+        take,
+        plan,
+        retire,
+        write,
+    }
+}
+
+// What the pops and parks of a round took, and the pops alone where they were timed.
+pub struct Settled {
+    pub pool: Pool,
+    pub whole: u64,
+    pub pops: u64,
+}
+
+pub fn settle_round(
+    pool: Pool,
+    book: PacingBook,
+    textures: &mut [u64],
+    retiring: &[u64],
+    doomed: &mut [u64],
+    spares: &mut [u64],
+    newest: &[u64],
+    stamps: &[u64],
+    n: usize,
+    seq: u64,
+    timed: bool,
+) -> Settled
+    requires { ⌜ isPool (lent pool book (now textures) (now retiring) (now doomed) (now spares) (now newest) (now stamps)) ≡ true ⌝ }
+    ensures { λ r. ⌜ isPool (lent (r .pool) book (now (textures .exit)) (now (retiring .entry)) (now (doomed .exit)) (now (spares .exit)) (now (newest .entry)) (now (stamps .entry))) ≡ true ⌝ }
+{
+    let start = reading();
+    let settled = settle_all(
+        pool,
+        book,
+        textures,
+        retiring,
+        doomed,
+        spares,
+        newest,
+        stamps,
+        n,
+        seq,
+        timed,
+    );
+    let whole = elapsed(start);
+    let counts = settled.pool;
+    Settled {
+        pool: counts,
+        whole,
+        pops: settled.time,
+    }
+}
+
+pub struct Drained {
+    pub pool: Pool,
+    pub book: PacingBook,
+    pub note: u64,
+    pub doomed: u64,
+    pub trim: u64,
+}
+
+pub fn drain_round(
+    pool: Pool,
+    book: PacingBook,
+    textures: &mut [u64],
+    retiring: &[u64],
+    doomed: &mut [u64],
+    spares: &mut [u64],
+    newest: &mut [u64],
+    stamps: &mut [u64],
+    views: &mut [u64],
+    n: usize,
+    seq: u64,
+) -> Drained
+    requires { ⌜ isPool (lent pool book (now textures) (now retiring) (now doomed) (now spares) (now newest) (now stamps)) ≡ true ⌝ }
+    ensures { λ r. ⌜ isPool (lent (r .pool) (r .book) (now (textures .exit)) (now (retiring .entry)) (now (doomed .exit)) (now (spares .exit)) (now (newest .exit)) (now (stamps .exit))) ≡ true ⌝ }
+{
+    let t0 = reading();
+    let noted = note_all(
+        pool,
+        book,
+        textures,
+        retiring,
+        doomed,
+        spares,
+        newest,
+        stamps,
+        n,
+    );
+    let note = elapsed(t0);
+    let paced = noted.book;
+    let t1 = reading();
+    let handed = doomed_all(
+        noted.pool,
+        paced,
+        textures,
+        retiring,
+        doomed,
+        spares,
+        newest,
+        stamps,
+        views,
+        n,
+    );
+    let doomed_time = elapsed(t1);
+    let book = handed.book;
+    let t2 = reading();
+    let trimmed = trim_all(
+        handed.pool,
+        book,
+        textures,
+        retiring,
+        doomed,
+        spares,
+        newest,
+        stamps,
+        n,
+        seq,
+    );
+    let trim = elapsed(t2);
+    Drained {
+        pool: trimmed,
+        book,
+        note,
+        doomed: doomed_time,
+        trim,
+    }
+}

@@ -1,0 +1,249 @@
+// The rounds on a pool just opened.
+ghost use mathlib.Core.Path.{_≡_};
+ghost use mathlib.Core.Bool.{true};
+ghost use Prim.Native.Nat.{_≤_};
+ghost use lib.ListN.{length};
+ghost use Rattle.layout.specs.Lent.{lent};
+ghost use Rattle.layout.specs.IsPool.{isPool};
+use crate::report::report;
+use crate::report::report_test;
+use crate::rounds::drain_round;
+use crate::rounds::rename_round;
+use crate::rounds::settle_round;
+use crate::testing::read_all;
+use crate::testing::test_all;
+use crate::totals::Totals;
+use crate::totals::counted;
+use crate::totals::drained_in;
+use crate::totals::no_totals;
+use crate::totals::renamed_in;
+use crate::totals::settled_in;
+use layout::PacingBook;
+use layout::Pool;
+use pool::open;
+use pool_test::is_pool;
+
+struct Round {
+    pool: Pool,
+    book: PacingBook,
+    totals: Totals,
+}
+
+// Every second round has its pops timed one by one. Of the last kinds it makes 8 calls; nothing is to be destroyed, so any slice is buffer
+// enough for the views.
+fn run_round(
+    pool: Pool,
+    book: PacingBook,
+    textures: &mut [u64],
+    retiring: &mut [u64],
+    doomed: &mut [u64],
+    spares: &mut [u64],
+    newest: &mut [u64],
+    stamps: &mut [u64],
+    copies: &mut [u64],
+    held: &mut [u64],
+    n: usize,
+    seq: u64,
+    totals: Totals,
+) -> Round
+    requires { ⌜ isPool (lent pool book (now textures) (now retiring) (now doomed) (now spares) (now newest) (now stamps)) ≡ true ⌝ }
+    ensures { λ r. ⌜ isPool (lent (r .pool) (r .book) (now (textures .exit)) (now (retiring .exit)) (now (doomed .exit)) (now (spares .exit)) (now (newest .exit)) (now (stamps .exit))) ≡ true ⌝ }
+{
+    let renamed = rename_round(
+        pool,
+        book,
+        textures,
+        retiring,
+        doomed,
+        spares,
+        newest,
+        stamps,
+        copies,
+        held,
+        n,
+        seq,
+    );
+    let timed = seq % 2 == 0;
+    let settled = settle_round(
+        renamed.pool,
+        book,
+        textures,
+        retiring,
+        doomed,
+        spares,
+        newest,
+        stamps,
+        n,
+        seq,
+        timed,
+    );
+    let drained = drain_round(
+        settled.pool,
+        book,
+        textures,
+        retiring,
+        doomed,
+        spares,
+        newest,
+        stamps,
+        held,
+        8,
+        seq,
+    );
+    let sum = drained_in(
+        settled_in(renamed_in(totals, renamed), settled, timed),
+        drained,
+    );
+    let counts = drained.pool;
+    let paces = drained.book;
+    Round {
+        pool: counts,
+        book: paces,
+        totals: sum,
+    }
+}
+
+fn run_rounds(
+    pool: Pool,
+    book: PacingBook,
+    textures: &mut [u64],
+    retiring: &mut [u64],
+    doomed: &mut [u64],
+    spares: &mut [u64],
+    newest: &mut [u64],
+    stamps: &mut [u64],
+    copies: &mut [u64],
+    held: &mut [u64],
+    n: usize,
+    rounds: u64,
+)
+    requires { ⌜ isPool (lent pool book (now textures) (now retiring) (now doomed) (now spares) (now newest) (now stamps)) ≡ true ⌝ }
+{
+    let mut totals = no_totals();
+    let mut counts = pool;
+    let mut paces = book;
+    let mut seq = 0;
+    while seq < rounds {
+        seq += 1;
+        let done = run_round(
+            counts,
+            paces,
+            textures,
+            retiring,
+            doomed,
+            spares,
+            newest,
+            stamps,
+            copies,
+            held,
+            n,
+            seq,
+            counted(totals, seq),
+        );
+        totals = done.totals;
+        counts = done.pool;
+        paces = done.book;
+    }
+    report(totals, counts, n, rounds);
+    let tested = test_all(
+        counts,
+        paces,
+        textures,
+        retiring,
+        doomed,
+        spares,
+        newest,
+        stamps,
+        64,
+    );
+    let read = read_all(textures, spares, newest, stamps, 64);
+    report_test(tested, read);
+}
+
+fn run(
+    textures: &mut [u64],
+    retiring: &mut [u64],
+    doomed: &mut [u64],
+    spares: &mut [u64],
+    newest: &mut [u64],
+    stamps: &mut [u64],
+    copies: &mut [u64],
+    held: &mut [u64],
+    n: usize,
+    rounds: u64,
+) {
+    let opened = open(
+        17179869184,
+        textures,
+        retiring,
+        doomed,
+        spares,
+        newest,
+        stamps,
+    );
+    let pool = opened.pool;
+    let book = opened.book;
+    if !is_pool(
+        pool,
+        book,
+        textures,
+        retiring,
+        doomed,
+        spares,
+        newest,
+        stamps,
+    ) {
+        return;
+    }
+    run_rounds(
+        pool,
+        book,
+        textures,
+        retiring,
+        doomed,
+        spares,
+        newest,
+        stamps,
+        copies,
+        held,
+        n,
+        rounds,
+    );
+}
+
+// Of the memory given, the parts that the places asked for take are lent.
+pub fn run_part(
+    textures: &mut [u64],
+    retiring: &mut [u64],
+    doomed: &mut [u64],
+    spares: &mut [u64],
+    newest: &mut [u64],
+    stamps: &mut [u64],
+    held: &mut [u64],
+    t: usize,
+    v: usize,
+    p: usize,
+    rounds: u64,
+)
+    requires { ⌜ (t ≤ 4096) × (v ≤ 4096) × (p ≤ 4096) × (77824 ≤ length (now textures)) × (28672 ≤ length (now retiring)) × (8192 ≤ length (now doomed))
+        × (12288 ≤ length (now spares)) × (4096 ≤ length (now newest)) × (4194304 ≤ length (now stamps)) ⌝ }
+{
+    let mut copies = [0; 7];
+    let a = 19 * t;
+    let b = 7 * v;
+    let c = 2 * v;
+    let d = 3 * v;
+    let e = 1024 * p;
+    run(
+        &mut textures[..a],
+        &mut retiring[..b],
+        &mut doomed[..c],
+        &mut spares[..d],
+        &mut newest[..p],
+        &mut stamps[..e],
+        &mut copies,
+        held,
+        t,
+        rounds,
+    );
+}
