@@ -155,9 +155,10 @@ module _ (l : List ℕ) (at : ℕ) where
         let d = of-more n h k in
         let xs : List ℕ = digitsOf (n / 10000) in
         let ys : List ℕ = lastDigits 4 (n % 10000) in
-        let c : length (digitsOf n) ≡ length xs + 4 = ap length d ∙ length-append xs ys in
-        (omega (arith, e, c),
-        p ∙ ap₂ (λ (t : List ℕ) (i : ℕ). sets t i ys) q e ∙ sets-append xs ys ∙ ap (sets l at) (sym d))
+        let c : length (digitsOf n) ≡ length xs + 4 = ap length d ∙ length-append xs ys in (
+          omega (arith, e, c),
+          p ∙ ap₂ (λ (t : List ℕ) (i : ℕ). sets t i ys) q e ∙ sets-append xs ys ∙ ap (sets l at) (sym d),
+        )
 
   -- the last four digits of any number
   pub four-last : (n a b c d : ℕ) → a ≡ 48 + n / 10 / 10 / 10 % 10 → b ≡ 48 + n / 10 / 10 % 10 → c ≡ 48 + n / 10 % 10 → d ≡ 48 + n % 10
