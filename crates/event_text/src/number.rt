@@ -124,7 +124,7 @@ pub fn number_at(line: &[u8], at: usize) -> NumberAt
     }
     let first = byte - ZERO;
     let next = at + 1;
-    if next == line.len() {
+    if line.len() <= next {
         return NumberAt::Ends(first, next);
     }
     if line[next] == b',' {

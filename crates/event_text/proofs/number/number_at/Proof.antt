@@ -28,7 +28,7 @@ returns-3 : tie.Need-returns-3
 returns-3 c =
     let w = c .before .before .wide in
     let t = c .before .if2 .left in
-    first-last _ _ (w .result) (omega arith) (w .ensures) (digit-low (w .result) t) (digit-high (w .result) t) (c .if3 .taken)
+    first-last _ _ (w .result) (omega arith) (w .ensures) (digit-low (w .result) t) (digit-high (w .result) t) (omega arith)
 
 shared-slice-read-if4 : tie.Need-shared-slice-read-if4
 shared-slice-read-if4 c = search needs
