@@ -14,6 +14,9 @@ const NINE: u64 = 57;
 // The largest number that a digit may follow.
 const MOST: u64 = u64::MAX / 10;
 
+// A number below this one is not too large with another digit behind it. It is as large as the operand of a comparison can be.
+const SHORT: u64 = 2147483647;
+
 pub enum Number {
     Is(u64),
     NoNumber,
@@ -101,7 +104,7 @@ fn longer_number(line: &[u8], at: usize, first: u64) -> NumberAt
         if (byte < ZERO) | (NINE < byte) {
             return NumberAt::Malformed;
         }
-        if MOST <= value {
+        if SHORT <= value {
             return large_number(line, at);
         }
         value = value * 10 + (byte - ZERO);
