@@ -1,7 +1,7 @@
 -- Laws of the words that are told by the first four bytes. Assumes nothing.
 use mathlib.Core.Path.{_≡_, refl, sym, ap, _∙_}
-use mathlib.Core.Bool.{Bool, true, _&&_}
-use mathlib.Core.List.{List, [], _∷_}
+use mathlib.Core.Bool.{true, _&&_}
+use mathlib.Core.List.{List, _∷_}
 use Prim.Native.Nat.{ℕ, _+_, _*_, _/_, _%_, _≤_, _<_}
 use native.Mathlib.Omega.{arith}
 use borrow.Author.Tests.{eqb-true}
@@ -11,7 +11,7 @@ use lib.Seq.{drop-cons}
 use Rattle.blocks.proofs.Lists.{and-both}
 use Rattle.event_text.specs.Fields.{comma, firstField, fieldEnd, same}
 use Rattle.event_lines.specs.declared.event.Word.{Word}
-use Rattle.event_lines.specs.Words.{wordOf, laterWord, fourOf}
+use Rattle.event_lines.specs.Words.{wordOf, fourOf}
 
 -- ---- the first four bytes
 

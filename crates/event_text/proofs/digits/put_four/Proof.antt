@@ -1,6 +1,5 @@
 -- `put_four` meets its contract. Assumes nothing.
 use borrow.Author.Needs.{needs}
-use native.Mathlib.Omega.{arith}
 use lib.ListN.{length-set}
 use Rattle.event_text.proofs.ShortNumbers.{four-last}
 use Rattle.event_text.proofs.digits.put_four.Statement.{statement}

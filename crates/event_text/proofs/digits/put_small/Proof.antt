@@ -1,6 +1,5 @@
 -- `put_small` meets its contract. Assumes nothing.
 use borrow.Author.Needs.{needs}
-use native.Mathlib.Omega.{arith}
 use lib.ListN.{length-set}
 use Rattle.event_text.proofs.ShortNumbers.{put-one, put-two, put-three, put-four}
 use Rattle.event_text.proofs.digits.put_small.Statement.{statement}
