@@ -8,7 +8,7 @@ use native.Mathlib.Decide.{decLt}
 use native.Mathlib.Omega.{arith}
 use borrow.Author.Tests.{eq-eqb, ne-eqb, eqb-true, eqb-false, lt-ltb, le-ltb, ltb-true, ltb-false}
 use lib.Dec.{eqb, ltb}
-use lib.ListN.{length, take, drop, getD, set, replicate}
+use lib.ListN.{length, take, drop, getD, set, replicate, drop-of-length-le}
 use Rattle.blocks.specs.Lists.{all, tests, after}
 use Rattle.blocks.proofs.Lists.{not-passed}
 use Rattle.blocks.proofs.Scans.{from, from-step, from-none}
@@ -110,6 +110,12 @@ module _ (line : List ℕ) (at limit v end : ℕ) (e : numberAt line at ≡ Numb
   pub field-within : not (eqb limit 0) && ltb limit v ≡ false → fieldAt line at (kindOf limit) ≡ Field.Ends v false end
   field-within t = field-number ∙ ap (λ (b : Bool). cond b Field.Malformed (Field.Ends v false end)) t
 
+-- an empty field is of no kind
+no-kind : (k : Kind) → isKind k [] ≡ false
+unfolding isKind isNumber tests after all same
+no-kind (below bound) = refl
+no-kind held = refl
+
 -- ---- all of them
 
 -- the next limit and the next field
@@ -129,7 +135,7 @@ module _ (line limits : List ℕ) (i end : ℕ) (vs : List ℕ) (d : Bool) where
   reads = readAll i vs d (kindsFor (from i limits)) (left line end)
 
   -- a field is missing
-  pub read-short : i < length limits → end ≡ length line → reads ≡ stopped vs d
+  read-short : i < length limits → end ≡ length line → reads ≡ stopped vs d
   unfolding readAll left
   read-short h e = ap₂ (λ (ks : List Kind) (fs : List (List ℕ)). readAll i vs d ks fs) (next-kind limits i h) (behind-end line end (omega arith))
 
@@ -196,6 +202,24 @@ module _ (line limits : List ℕ) (i end : ℕ) (vs : List ℕ) (d : Bool) where
             ∙ ap (λ (w : ℕ). goes (i + 1) w (same f dash) (fieldEnd line (end + 1))) a
             ∙ ap₂ (λ (u : Bool) (n : ℕ). goes (i + 1) v u n) b g
         go false q = absurd (let z : _≡_ {A = ℕ} 0 1 = cc in let y : ⊥ = omega arith in y)
+
+  -- nothing is behind the last comma, or there is none
+  pub read-empty : i < length limits → end ≤ length line → length line ≤ end + 1 → reads ≡ stopped vs d
+  unfolding firstField
+  read-empty h k m = go (decLt end (length line))
+    where
+      f : List ℕ
+      f = firstField (drop (end + 1) line)
+
+      left-out : (r : Fields) (t : Bool) → t ≡ false → cond t r (stopped vs d) ≡ stopped vs d
+      left-out r true q = absurd (let z : _≡_ {A = ℕ} 0 1 = cc in let y : ⊥ = omega arith in y)
+      left-out r false q = refl
+
+      go : Dec (end < length line) → reads ≡ stopped vs d
+      go (yes p) =
+          let e : f ≡ [] = ap firstField (drop-of-length-le line m) in
+          one h p ∙ left-out _ (isKind (kindOf (getD limits i 0)) f) (ap (isKind (kindOf (getD limits i 0))) e ∙ no-kind (kindOf (getD limits i 0)))
+      go (no p) = read-short h (omega arith)
 
 -- a field ends within the line
 pub field-room : (line : List ℕ) (at : ℕ) (k : Kind) (v : ℕ) (h : Bool) (next : ℕ) → at ≤ length line → fieldAt line at k ≡ Field.Ends v h next

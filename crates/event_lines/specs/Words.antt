@@ -1,5 +1,5 @@
 -- The words that a line starts with, as bytes.
-use Prim.Native.Nat.{ℕ}
+use Prim.Native.Nat.{ℕ, _/_, _%_}
 use mathlib.Core.Bool.{cond}
 use mathlib.Core.List.{List, [], _∷_}
 use Rattle.event_text.specs.Fields.{same}
@@ -65,3 +65,7 @@ wordOf s =
     (cond (same s parkWord) Word.Park
     (cond (same s regenWord) Word.Regen
     (laterWord s)))))))
+
+-- four bytes that are one number, the first as the lowest, and what is behind them
+unfoldable pub fourOf : ℕ → List ℕ → List ℕ
+fourOf n rest = n % 256 ∷ n / 256 % 256 ∷ n / 256 / 256 % 256 ∷ n / 256 / 256 / 256 ∷ rest

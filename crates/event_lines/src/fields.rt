@@ -69,14 +69,15 @@ pub fn read_fields(line: &[u8], at: usize, limits: &[u64]) -> Fields
     let mut end = at;
     let mut i = 0;
     while i < limits.len() {
-        if end == line.len() {
+        let start = end + 1;
+        if line.len() <= start {
             return Fields {
                 formed: false,
                 values,
                 dash,
             };
         }
-        let Field::Ends(value, held, next) = field_at(line, end + 1, limits[i]) else {
+        let Field::Ends(value, held, next) = field_at(line, start, limits[i]) else {
             return Fields {
                 formed: false,
                 values,

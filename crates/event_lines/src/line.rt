@@ -11,8 +11,7 @@ use crate::fields::HELD;
 use crate::fields::NUMBER;
 use crate::fields::SMALL;
 use crate::fields::read_fields;
-use crate::words::word_of;
-use event_text::field_end;
+use crate::words::start_of;
 use rects::TexelRect;
 use shapes::VersionShape;
 use stores::Held;
@@ -189,8 +188,9 @@ fn event_of(word: Word, n: [u64; 9], held: Held) -> Event
 pub fn parse_line(line: &[u8]) -> Event
     ensures { λ r. ⌜ r ≡ eventOf (now (line .entry)) ⌝ }
 {
-    let end = field_end(line, 0);
-    let word = word_of(&line[..end]);
+    let start = start_of(line);
+    let word = start.word;
+    let end = start.end;
     let form = form_of(word);
     let limits = form.limits;
     let count = form.count;

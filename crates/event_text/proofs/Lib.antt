@@ -1,3 +1,5 @@
 pub mod Fields
 pub mod Numbers
 pub mod Printing
+pub mod Searches
+pub mod ShortNumbers

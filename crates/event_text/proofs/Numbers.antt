@@ -1,11 +1,11 @@
 -- Laws of numbers read digit by digit. Assumes nothing.
 use mathlib.Core.Path.{_≡_, refl, sym, ap, ap₂, _∙_}
-use mathlib.Core.Bool.{Bool, true, false, cond, _&&_}
+use mathlib.Core.Bool.{Bool, true, false, cond, _&&_, _||_}
 use mathlib.Core.List.{List, [], _∷_}
 use Prim.Native.Nat.{ℕ, suc, _+_, _*_, _-_, _^_, _≤_, _<_}
 use native.Mathlib.Nat.{add-zero}
 use native.Mathlib.Omega.{arith}
-use borrow.Author.Tests.{eq-eqb, ne-eqb, eqb-true, eqb-false, le-leb, lt-leb, lt-ltb, ltb-true}
+use borrow.Author.Tests.{eq-eqb, ne-eqb, eqb-true, eqb-false, le-leb, lt-leb, lt-ltb, ltb-true, ltb-false}
 use lib.Dec.{eqb, leb, ltb}
 use lib.ListN.{length, drop, getD}
 use Rattle.blocks.specs.Lists.{all, tests, after}
@@ -119,6 +119,79 @@ module _ (line : List ℕ) (v at i b : ℕ) (inside : i < length line) (here : b
 pub read-end : (line : List ℕ) (v at i : ℕ) → length line ≤ i → v < 2 ^ 64 → reading v at i (from i line) ≡ numberEnding v at i
 unfolding reading firstField
 read-end line v at i h k = ap (λ (l : List ℕ). readAs v at i (firstField l)) (from-none i line h) ∙ read-all v at i k
+
+-- ---- a digit tested at both ends at once
+
+digit-range : (b : ℕ) → ltb b 48 || ltb 57 b ≡ false → (48 ≤ b) × (b ≤ 57)
+digit-range b e = go (ltb b 48) (ltb 57 b) refl refl e
+  where
+    go : (s t : Bool) → ltb b 48 ≡ s → ltb 57 b ≡ t → s || t ≡ false → (48 ≤ b) × (b ≤ 57)
+    go true t p q r = absurd (let z : _≡_ {A = ℕ} 0 1 = cc in let y : ⊥ = omega arith in y)
+    go false true p q r = absurd (let z : _≡_ {A = ℕ} 0 1 = cc in let y : ⊥ = omega arith in y)
+    go false false p q r = (ltb-false b 48 p, ltb-false 57 b q)
+
+pub digit-low : (b : ℕ) → ltb b 48 || ltb 57 b ≡ false → 48 ≤ b
+digit-low b e = digit-range b e .0
+
+pub digit-high : (b : ℕ) → ltb b 48 || ltb 57 b ≡ false → b ≤ 57
+digit-high b e = digit-range b e .1
+
+pub read-none-such : (line : List ℕ) (v at i b : ℕ) → i < length line → b ≡ getD line i 0 → (b ≡ comma → ⊥) → ltb b 48 || ltb 57 b ≡ true
+    → reading v at i (from i line) ≡ Malformed
+read-none-such line v at i b inside here t e = go (ltb b 48) (ltb 57 b) refl refl e
+  where
+    go : (x y : Bool) → ltb b 48 ≡ x → ltb 57 b ≡ y → x || y ≡ true → reading v at i (from i line) ≡ Malformed
+    go true y p q r = read-low line v at i b inside here t (ltb-true b 48 p)
+    go false true p q r = read-high line v at i b inside here (ltb-true 57 b q)
+    go false false p q r = absurd (let z : _≡_ {A = ℕ} 0 1 = cc in let n : ⊥ = omega arith in n)
+
+-- ---- the first digit
+
+ending-none : (v at : ℕ) → numberEnding v at at ≡ Malformed
+unfolding numberEnding
+ending-none v at = let e : at - at ≡ 0 = omega arith in rw e
+
+pub ending-some : (v at end : ℕ) → at < end → end - at ≤ 20 → numberEnding v at end ≡ Ends v end
+unfolding numberEnding
+ending-some v at end h k = rw (le-leb 1 (end - at) (omega arith), le-leb (end - at) 20 k)
+
+pub ending-long : (v at end : ℕ) → 20 < end - at → numberEnding v at end ≡ Malformed
+unfolding numberEnding
+ending-long v at end h = rw (le-leb 1 (end - at) (omega arith), lt-leb (end - at) 20 h)
+
+pub first-none : (line : List ℕ) (at : ℕ) → length line ≤ at → numberAt line at ≡ Malformed
+first-none line at h = sym (read-start line at) ∙ read-end line 0 at at h (omega arith) ∙ ending-none 0 at
+
+module _ (line : List ℕ) (at b : ℕ) (inside : at < length line) (here : b ≡ getD line at 0) where
+  pub first-bad : ltb b 48 || ltb 57 b ≡ true → numberAt line at ≡ Malformed
+  first-bad e = go (eqb b comma) refl
+    where
+      go : (t : Bool) → eqb b comma ≡ t → numberAt line at ≡ Malformed
+      go true q = sym (read-start line at) ∙ read-comma line 0 at at b inside here (eqb-true b comma q) (omega arith) ∙ ending-none 0 at
+      go false q = sym (read-start line at) ∙ read-none-such line 0 at at b inside here (eqb-false b comma q) e
+
+  pub first-digit : 48 ≤ b → b ≤ 57 → reading (b - 48) at (at + 1) (from (at + 1) line) ≡ numberAt line at
+  first-digit lo hi =
+      let e : b - 48 ≡ 0 * 10 + (b - 48) = omega arith in
+      ap (λ (v : ℕ). reading v at (at + 1) (from (at + 1) line)) e
+      ∙ sym (read-more line 0 at at b inside here (omega arith) lo hi)
+      ∙ read-start line at
+
+  -- it is the only one
+  pub first-last : 48 ≤ b → b ≤ 57 → at + 1 ≡ length line → Ends (b - 48) (at + 1) ≡ numberAt line at
+  first-last lo hi e =
+      sym (read-end line (b - 48) at (at + 1) (omega arith) (omega arith) ∙ ending-some (b - 48) at (at + 1) (omega arith) (omega arith))
+      ∙ first-digit lo hi
+
+  pub first-comma-next : 48 ≤ b → b ≤ 57 → at + 1 < length line → getD line (at + 1) 0 ≡ comma → Ends (b - 48) (at + 1) ≡ numberAt line at
+  first-comma-next lo hi h e =
+      sym (read-comma line (b - 48) at (at + 1) (getD line (at + 1) 0) h refl e (omega arith) ∙ ending-some (b - 48) at (at + 1) (omega arith) (omega arith))
+      ∙ first-digit lo hi
+
+pub first-value : (line : List ℕ) (at v : ℕ) → at < length line → v ≤ 9 → 48 + v ≡ getD line at 0 → reading v at (at + 1) (from (at + 1) line) ≡ numberAt line at
+first-value line at v h k e =
+    let q : v ≡ 48 + v - 48 = omega arith in
+    ap (λ (w : ℕ). reading w at (at + 1) (from (at + 1) line)) q ∙ first-digit line at (48 + v) h e (omega arith) (omega arith)
 
 -- ---- what a field's number says of its bytes
 

@@ -12,7 +12,7 @@ use lib.Seq.{sets, set-comm}
 use Rattle.blocks.specs.Lists.{all, tests, after}
 use Rattle.blocks.proofs.Lists.{all-append}
 use Rattle.event_text.specs.declared.number.Number.the-variants.{Is}
-use Rattle.event_text.specs.Numbers.{isDigit, value, decimal, isNumber, numberOf, digits, digitsOf}
+use Rattle.event_text.specs.Numbers.{isDigit, value, decimal, isNumber, numberOf, digits, digitsOf, lastDigits}
 
 -- ---- how many there are: `count` with the last, and those before it are of what is left
 
@@ -57,20 +57,15 @@ module _ (count rest n : ℕ) where
 
 -- ---- put from the last to the first
 
--- k digits, zeros in front where there are fewer
-unfoldable pub fixed : ℕ → ℕ → List ℕ
-fixed zero n = []
-fixed (suc k) n = fixed k (n / 10) ++ ((48 + n % 10) ∷ [])
+length-last : (k n : ℕ) → length (lastDigits k n) ≡ k
+unfolding lastDigits
+length-last zero n = refl
+length-last (suc k) n = length-append (lastDigits k (n / 10)) ((48 + n % 10) ∷ []) ∙ (let h = length-last k (n / 10) in let e : length (lastDigits k (n / 10)) + 1 ≡ suc k = omega arith in e)
 
-length-fixed : (k n : ℕ) → length (fixed k n) ≡ k
-unfolding fixed
-length-fixed zero n = refl
-length-fixed (suc k) n = length-append (fixed k (n / 10)) ((48 + n % 10) ∷ []) ∙ (let h = length-fixed k (n / 10) in let e : length (fixed k (n / 10)) + 1 ≡ suc k = omega arith in e)
-
-digits-fixed : (k n : ℕ) → digits k n ≡ fixed (length (digits k n)) n
-unfolding digits fixed
-digits-fixed zero n = refl
-digits-fixed (suc k) n = go (ltb n 10) refl (digits-fixed k (n / 10))
+digits-last : (k n : ℕ) → digits k n ≡ lastDigits (length (digits k n)) n
+unfolding digits lastDigits
+digits-last zero n = refl
+digits-last (suc k) n = go (ltb n 10) refl (digits-last k (n / 10))
   where
     xs : List ℕ
     xs = digits k (n / 10)
@@ -78,11 +73,11 @@ digits-fixed (suc k) n = go (ltb n 10) refl (digits-fixed k (n / 10))
     d : List ℕ
     d = (48 + n % 10) ∷ []
 
-    go : (t : Bool) → ltb n 10 ≡ t → xs ≡ fixed (length xs) (n / 10) → cond t ((48 + n) ∷ []) (xs ++ d) ≡ fixed (length (cond t ((48 + n) ∷ []) (xs ++ d))) n
+    go : (t : Bool) → ltb n 10 ≡ t → xs ≡ lastDigits (length xs) (n / 10) → cond t ((48 + n) ∷ []) (xs ++ d) ≡ lastDigits (length (cond t ((48 + n) ∷ []) (xs ++ d))) n
     go true q r = ap (λ (m : ℕ). (48 + m) ∷ []) (sym (mod-eq-of-lt {n = n} {m = 10} (ltb-true n 10 q)))
     go false q r =
         ap (λ (l : List ℕ). l ++ d) r
-        ∙ ap (λ (m : ℕ). fixed m n) (sym (length-append xs d ∙ (let e : length xs + 1 ≡ suc (length xs) = omega arith in e)))
+        ∙ ap (λ (m : ℕ). lastDigits m n) (sym (length-append xs d ∙ (let e : length xs + 1 ≡ suc (length xs) = omega arith in e)))
 
 -- a store behind the others can come first
 sets-last : (xs l : List ℕ) (at d : ℕ) → sets l at (xs ++ (d ∷ [])) ≡ sets (set l (at + length xs) d) at xs
@@ -93,26 +88,26 @@ sets-last (x ∷ xs) l at d =
     (set-comm l at (suc at + length xs) x d (λ e. let y : ⊥ = omega arith in y)
     ∙ ap (λ (k : ℕ). set (set l k d) at x) (let e : suc at + length xs ≡ at + suc (length xs) = omega arith in e))
 
-pub put-start : (l : List ℕ) (at c n : ℕ) → c ≡ length (digitsOf n) → sets l at (fixed (at + c - at) n) ≡ sets l at (digitsOf n)
+pub put-start : (l : List ℕ) (at c n : ℕ) → c ≡ length (digitsOf n) → sets l at (lastDigits (at + c - at) n) ≡ sets l at (digitsOf n)
 unfolding digitsOf
 put-start l at c n e =
-    ap (λ (m : ℕ). sets l at (fixed m n)) ((let q : at + c - at ≡ c = omega arith in q) ∙ e)
-    ∙ ap (sets l at) (sym (digits-fixed 20 n))
+    ap (λ (m : ℕ). sets l at (lastDigits m n)) ((let q : at + c - at ≡ c = omega arith in q) ∙ e)
+    ∙ ap (sets l at) (sym (digits-last 20 n))
 
 -- the last digit of what is left
-pub put-step : (l : List ℕ) (at i n : ℕ) → at < i → sets (set l (i - 1) (48 + n % 10)) at (fixed (i - 1 - at) (n / 10)) ≡ sets l at (fixed (i - at) n)
-unfolding fixed
+pub put-step : (l : List ℕ) (at i n : ℕ) → at < i → sets (set l (i - 1) (48 + n % 10)) at (lastDigits (i - 1 - at) (n / 10)) ≡ sets l at (lastDigits (i - at) n)
+unfolding lastDigits
 put-step l at i n h =
     let k : ℕ = i - 1 - at in
     let e : i - at ≡ suc (i - 1 - at) = omega arith in
     let p : i - 1 ≡ at + (i - 1 - at) = omega arith in
-    ap (λ (m : ℕ). sets (set l m (48 + n % 10)) at (fixed (i - 1 - at) (n / 10))) (p ∙ ap (λ (m : ℕ). at + m) (sym (length-fixed (i - 1 - at) (n / 10))))
-    ∙ sym (sets-last (fixed (i - 1 - at) (n / 10)) l at (48 + n % 10))
-    ∙ ap (λ (m : ℕ). sets l at (fixed m n)) (sym e)
+    ap (λ (m : ℕ). sets (set l m (48 + n % 10)) at (lastDigits (i - 1 - at) (n / 10))) (p ∙ ap (λ (m : ℕ). at + m) (sym (length-last (i - 1 - at) (n / 10))))
+    ∙ sym (sets-last (lastDigits (i - 1 - at) (n / 10)) l at (48 + n % 10))
+    ∙ ap (λ (m : ℕ). sets l at (lastDigits m n)) (sym e)
 
-pub put-done : (l : List ℕ) (at i n : ℕ) → i ≤ at → sets l at (fixed (i - at) n) ≡ l
-unfolding fixed
-put-done l at i n h = ap (λ (m : ℕ). sets l at (fixed m n)) (let e : i - at ≡ 0 = omega arith in e)
+pub put-done : (l : List ℕ) (at i n : ℕ) → i ≤ at → sets l at (lastDigits (i - at) n) ≡ l
+unfolding lastDigits
+put-done l at i n h = ap (λ (m : ℕ). sets l at (lastDigits m n)) (let e : i - at ≡ 0 = omega arith in e)
 
 -- ---- a number printed and read is the number
 

@@ -46,3 +46,8 @@ digits (suc k) n = cond (ltb n 10) ((48 + n) ∷ []) (digits k (n / 10) ++ ((48 
 -- a number below 2^64 has at most 20; there is no leading zero, and 0 is "0"
 unfoldable pub digitsOf : ℕ → List ℕ
 digitsOf n = digits 20 n
+
+-- the last k digits of n, zeros in front where there are fewer
+unfoldable pub lastDigits : ℕ → ℕ → List ℕ
+lastDigits zero n = []
+lastDigits (suc k) n = lastDigits k (n / 10) ++ ((48 + n % 10) ∷ [])

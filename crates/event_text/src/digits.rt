@@ -1,9 +1,9 @@
 // Numbers and text put into a buffer.
 ghost use mathlib.Core.Path.{_≡_};
-ghost use Prim.Native.Nat.{_+_, _≤_};
+ghost use Prim.Native.Nat.{_+_, _≤_, _<_};
 ghost use lib.ListN.{length};
 ghost use lib.Seq.{sets};
-ghost use Rattle.event_text.specs.Numbers.{digitsOf};
+ghost use Rattle.event_text.specs.Numbers.{digitsOf, lastDigits};
 
 // How many digits a number has.
 fn digit_count(n: u64) -> usize
@@ -21,8 +21,8 @@ fn digit_count(n: u64) -> usize
     count
 }
 
-// A number's digits put from `at` on, the last one first. Answers where they end.
-pub fn put_number(out: &mut [u8], at: usize, n: u64) -> usize
+// Any number's digits, the last one first. Answers where they end.
+fn put_large(out: &mut [u8], at: usize, n: u64) -> usize
     requires { ⌜ at + 20 ≤ length (now out) ⌝ }
     ensures { λ r. ⌜ (r ≡ at + length (digitsOf n)) × (now (out .exit) ≡ sets (now (out .entry)) at (digitsOf n)) ⌝ }
 {
@@ -35,6 +35,68 @@ pub fn put_number(out: &mut [u8], at: usize, n: u64) -> usize
         rest /= 10;
     }
     end
+}
+
+// The byte of a digit.
+fn digit(n: u64) -> u8
+    requires { ⌜ n < 10 ⌝ }
+    ensures { λ r. ⌜ r ≡ 48 + n ⌝ }
+{
+    b'0' + n as u8
+}
+
+// The last four digits of a number.
+fn put_four(out: &mut [u8], at: usize, n: u64)
+    requires { ⌜ at + 4 ≤ length (now out) ⌝ }
+    ensures { λ _. ⌜ now (out .exit) ≡ sets (now (out .entry)) at (lastDigits 4 n) ⌝ }
+{
+    let tens = n / 10;
+    let hundreds = tens / 10;
+    out[at] = digit(hundreds / 10 % 10);
+    out[at + 1] = digit(hundreds % 10);
+    out[at + 2] = digit(tens % 10);
+    out[at + 3] = digit(n % 10);
+}
+
+// The digits of a number below 10,000. Answers where they end.
+fn put_small(out: &mut [u8], at: usize, n: u64) -> usize
+    requires { ⌜ (n < 10000) × (at + 4 ≤ length (now out)) ⌝ }
+    ensures { λ r. ⌜ (r ≡ at + length (digitsOf n)) × (now (out .exit) ≡ sets (now (out .entry)) at (digitsOf n)) ⌝ }
+{
+    if n < 10 {
+        out[at] = digit(n);
+        return at + 1;
+    }
+    let tens = n / 10;
+    if n < 100 {
+        out[at] = digit(tens);
+        out[at + 1] = digit(n % 10);
+        return at + 2;
+    }
+    if n < 1000 {
+        out[at] = digit(tens / 10);
+        out[at + 1] = digit(tens % 10);
+        out[at + 2] = digit(n % 10);
+        return at + 3;
+    }
+    put_four(out, at, n);
+    at + 4
+}
+
+// A number's digits put from `at` on. Answers where they end.
+pub fn put_number(out: &mut [u8], at: usize, n: u64) -> usize
+    requires { ⌜ at + 20 ≤ length (now out) ⌝ }
+    ensures { λ r. ⌜ (r ≡ at + length (digitsOf n)) × (now (out .exit) ≡ sets (now (out .entry)) at (digitsOf n)) ⌝ }
+{
+    if n < 10000 {
+        return put_small(out, at, n);
+    }
+    if n < 100000000 {
+        let end = put_small(out, at, n / 10000);
+        put_four(out, end, n % 10000);
+        return end + 4;
+    }
+    put_large(out, at, n)
 }
 
 // Text put from `at` on. Answers where it ends.

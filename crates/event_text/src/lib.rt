@@ -1,12 +1,14 @@
 // The text of the event program: numbers read and printed, and the fields of a line.
 mod digits;
 mod field;
+mod find;
 mod number;
 
 pub use digits::put_number;
 pub use digits::put_text;
 pub use field::field_end;
 pub use field::is_word;
+pub use find::find_byte;
 pub use number::Number;
 pub use number::NumberAt;
 pub use number::number_at;

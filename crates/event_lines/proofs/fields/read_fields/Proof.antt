@@ -7,7 +7,7 @@ use native.Mathlib.Omega.{arith}
 use lib.ListN.{length, replicate}
 use Rattle.blocks.proofs.Scans.{from, from-all}
 use Rattle.event_lines.specs.Reading.{kindsFor, left, readAll}
-use Rattle.event_lines.proofs.Reading.{read-short, read-last, read-bad, read-good, field-room}
+use Rattle.event_lines.proofs.Reading.{read-empty, read-last, read-bad, read-good, field-room}
 use Rattle.event_lines.proofs.fields.read_fields.Statement.{statement}
 use Rattle.event_lines.proofs.fields.read_fields.Tie as tie
 
@@ -24,13 +24,13 @@ loop-holds c =
     let a = c .before .before .args in
     (search needs, search needs, ap (λ ks. readAll 0 (replicate 9 0) false (kindsFor ks) (left (a .line .now) (a .at))) (from-all _))
 
+add-start : tie.Need-add-start Inv-loop μ-loop
+add-start c = search needs
+
 returns : tie.Need-returns Inv-loop μ-loop
 returns c =
     let l = c .before .before in
-    sym (read-short _ _ _ _ _ _ (c .before .loop-test .taken) (c .if1 .taken)) ∙ l .loop .inv .2
-
-add-field-at : tie.Need-add-field-at Inv-loop μ-loop
-add-field-at c = search needs
+    sym (read-empty _ _ _ _ _ _ (c .before .loop-test .taken) (l .loop .inv .1) (c .if1 .taken)) ∙ l .loop .inv .2
 
 mul-field-at : tie.Need-mul-field-at Inv-loop μ-loop
 mul-field-at c = search needs
@@ -84,8 +84,8 @@ read-fields-spec =
     Inv-loop
     μ-loop
     loop-holds
+    add-start
     returns
-    add-field-at
     mul-field-at
     shared-slice-read-field-at
     field-at-requires

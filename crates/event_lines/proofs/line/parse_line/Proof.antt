@@ -9,17 +9,8 @@ use Rattle.event_lines.proofs.Grammar.{parse-unread, parse-made}
 use Rattle.event_lines.proofs.line.parse_line.Statement.{statement}
 use Rattle.event_lines.proofs.line.parse_line.Tie as tie
 
-field-end-requires : tie.Need-field-end-requires
-field-end-requires c κs = search needs
-
-slice-aggregate-word-of : tie.Need-slice-aggregate-word-of
-slice-aggregate-word-of c =
-    let l = c .before .before .before .args .line .now in
-    let e = c .before .field-end in
-    sym (length-take-le (e .result) l (omega (arith, e .ensures, end-within l 0 (omega arith))))
-
-word-of-requires : tie.Need-word-of-requires
-word-of-requires c κs = search needs
+start-of-requires : tie.Need-start-of-requires
+start-of-requires c κs = search needs
 
 form-of-requires : tie.Need-form-of-requires
 form-of-requires c κs = search needs
@@ -34,18 +25,17 @@ slice-aggregate-read-fields c =
 
 read-fields-requires : tie.Need-read-fields-requires
 read-fields-requires c κs =
-    let l = c .before .before .before .before .before .before .before .args .line .now in
+    let l = c .before .before .before .before .before .args .line .now in
     let f = c .before .before .form-of in
     let q = length-take-le (f .result .count) (f .result .limits) (omega (arith, f .ensures .0, f .ensures .1)) in
-    (omega (arith, c .before .before .before .before .before .field-end .ensures, end-within l 0 (omega arith)), omega (arith, q, f .ensures .1))
+    (omega (arith, c .before .before .before .start-of .ensures .0, end-within l 0 (omega arith)), omega (arith, q, f .ensures .1))
 
 returns : tie.Need-returns
 returns c =
     let r = c .before .before in
     let f = r .before .before .before in
-    let w = f .before in
-    let e = w .before .before in
-    parse-unread _ _ _ _ _ (e .field-end .ensures) (w .word-of .ensures) (f .form-of .ensures .2) (r .read-fields .ensures) (not-true _ (c .if1 .taken))
+    let s = f .before .start-of .ensures in
+    parse-unread _ _ _ _ _ (s .0) (s .1) (f .form-of .ensures .2) (r .read-fields .ensures) (not-true _ (c .if1 .taken))
 
 array-read-held-of : tie.Need-array-read-held-of
 array-read-held-of c = search needs
@@ -61,19 +51,16 @@ returns-2 c =
     let i = c .before .before .before in
     let r = i .before .before in
     let f = r .before .before .before in
-    let w = f .before in
-    let e = w .before .before in
+    let s = f .before .start-of .ensures in
     c .event-of .ensures
-    ∙ parse-made _ _ _ _ _ (e .field-end .ensures) (w .word-of .ensures) (f .form-of .ensures .2) (r .read-fields .ensures) _
+    ∙ parse-made _ _ _ _ _ (s .0) (s .1) (f .form-of .ensures .2) (r .read-fields .ensures) _
     (not-false _ (i .if1 .left)) (c .before .held-of .ensures)
 
 pub parse-line-spec : {M : Type 1} → statement M
 parse-line-spec =
     tie.close
     (tie.spec
-    field-end-requires
-    slice-aggregate-word-of
-    word-of-requires
+    start-of-requires
     form-of-requires
     array-share-prefix-limits
     slice-aggregate-read-fields

@@ -1,77 +1,67 @@
--- `put_number` meets its contract: with the digits of what is left put before i, all are put. Assumes nothing.
+-- `put_number` meets its contract. Assumes nothing.
 use borrow.Author.Needs.{needs}
-use mathlib.Core.Path.{_≡_, sym, ap, _∙_}
-use Prim.Native.Nat.{_+_, _-_, _≤_}
 use native.Mathlib.Omega.{arith}
-use lib.ListN.{length, length-set}
-use lib.Seq.{sets}
-use Rattle.event_text.specs.Numbers.{digitsOf}
-use Rattle.event_text.proofs.Printing.{fixed, put-start, put-step, put-done, digits-room}
+use Rattle.event_text.proofs.ShortNumbers.{put-more, room-more}
 use Rattle.event_text.proofs.digits.put_number.Statement.{statement}
 use Rattle.event_text.proofs.digits.put_number.Tie as tie
 
-abbrev Inv-loop : tie.InvT-loop
-Inv-loop out₀ at n end i₀ rest₀ out i rest = (at ≤ i) × (i ≤ at + 20) × (length out ≡ length out₀) × (sets out at (fixed (i - at) rest) ≡ sets out₀ at (digitsOf n))
+put-small-requires : tie.Need-put-small-requires
+put-small-requires c κs = search needs
 
-abbrev μ-loop : tie.MeasureT-loop
-μ-loop out₀ at n end i₀ rest₀ out i rest = i
-
-digit-count-requires : tie.Need-digit-count-requires Inv-loop μ-loop
-digit-count-requires c κs = search needs
-
-add-end : tie.Need-add-end Inv-loop μ-loop
-add-end c = omega (arith, digits-room (c .before .before .args .n), c .digit-count .ensures)
-
-loop-holds : tie.Need-loop-holds Inv-loop μ-loop
-loop-holds c =
-    let a = c .before .before .args in
-    let d = digits-room (a .n) in
-    (search needs, omega (arith, c .digit-count .ensures), search needs, put-start (a .out .now) (a .at) _ (a .n) (c .digit-count .ensures))
-
-sub-i : tie.Need-sub-i Inv-loop μ-loop
-sub-i c = search needs
-
-cast-out : tie.Need-cast-out Inv-loop μ-loop
-cast-out c = search needs
-
-add-out : tie.Need-add-out Inv-loop μ-loop
-add-out c = search needs
-
-slice-write-out : tie.Need-slice-write-out Inv-loop μ-loop
-slice-write-out c = search needs
-
-loop-less : tie.Need-loop-less Inv-loop μ-loop
-loop-less c = search needs
-
-loop-again : tie.Need-loop-again Inv-loop μ-loop
-loop-again c =
-    let l = c .before in
-    let a = l .before .before .before .args in
-    (search needs, search needs, simp length-set (search needs), put-step (l .loop .out) (a .at) (l .loop .i) (l .loop .rest) (c .loop-test .taken) ∙ l .loop .inv .3)
-
-same-length : tie.Need-same-length Inv-loop μ-loop
+same-length : tie.Need-same-length
 same-length c = search needs
 
-returns : tie.Need-returns Inv-loop μ-loop
-returns c =
-    let l = c .before in
-    let a = l .before .before .before .args in
-    (ap (λ k. a .at + k) (l .before .digit-count .ensures), sym (put-done (l .loop .out) (a .at) (l .loop .i) (l .loop .rest) (c .loop-test .left)) ∙ l .loop .inv .3)
+returns : tie.Need-returns
+returns c = c .before .before .put-small .ensures
+
+put-small-requires-2 : tie.Need-put-small-requires-2
+put-small-requires-2 c κs = search needs
+
+put-four-requires : tie.Need-put-four-requires
+put-four-requires c κs =
+    let s = c .before .before .before in
+    let i = s .before .before in
+    let r = room-more (i .before .before .before .args .n) (i .before .if1 .left) (i .if2 .taken) in
+    omega (arith, i .before .before .before .pre, s .put-small2 .ensures .0, s .put-small2 .kept .0, r)
+
+add-result : tie.Need-add-result
+add-result c =
+    let s = c .before .before .before .before .before .before in
+    let i = s .before .before in
+    let r = room-more (i .before .before .before .args .n) (i .before .if1 .left) (i .if2 .taken) in
+    omega (arith, i .before .before .before .pre, s .put-small2 .ensures .0, r)
+
+same-length-2 : tie.Need-same-length-2
+same-length-2 c = search needs
+
+returns-2 : tie.Need-returns-2
+returns-2 c =
+    let f = c .before .before in
+    let s = f .before .before .before .before in
+    let i = s .before .before in
+    put-more _ _ _ _ _ _ (s .put-small2 .ensures .0) (s .put-small2 .ensures .1) (f .put-four .ensures) (i .before .if1 .left) (i .if2 .taken)
+
+put-large-requires : tie.Need-put-large-requires
+put-large-requires c κs = search needs
+
+same-length-3 : tie.Need-same-length-3
+same-length-3 c = search needs
+
+returns-3 : tie.Need-returns-3
+returns-3 c = c .before .before .put-large .ensures
 
 pub put-number-spec : {M : Type 1} → statement M
 put-number-spec =
     tie.close
     (tie.spec
-    Inv-loop
-    μ-loop
-    digit-count-requires
-    add-end
-    loop-holds
-    sub-i
-    cast-out
-    add-out
-    slice-write-out
-    loop-less
-    loop-again
+    put-small-requires
     same-length
-    returns)
+    returns
+    put-small-requires-2
+    put-four-requires
+    add-result
+    same-length-2
+    returns-2
+    put-large-requires
+    same-length-3
+    returns-3)

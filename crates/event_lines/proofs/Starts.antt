@@ -1,0 +1,106 @@
+-- Laws of the words that are told by the first four bytes. Assumes nothing.
+use mathlib.Core.Path.{_≡_, refl, sym, ap, _∙_}
+use mathlib.Core.Bool.{true, _&&_}
+use mathlib.Core.List.{List, _∷_}
+use Prim.Native.Nat.{ℕ, _+_, _*_, _/_, _%_, _≤_, _<_}
+use native.Mathlib.Omega.{arith}
+use borrow.Author.Tests.{eqb-true}
+use lib.Dec.{eqb}
+use lib.ListN.{length, getD, take, drop}
+use lib.Seq.{drop-cons}
+use Rattle.blocks.proofs.Lists.{and-both}
+use Rattle.event_text.specs.Fields.{comma, firstField, fieldEnd, same}
+use Rattle.event_lines.specs.declared.event.Word.{Word}
+use Rattle.event_lines.specs.Words.{wordOf, fourOf}
+
+-- ---- the first four bytes
+
+byte-low : (x m : ℕ) → x < 256 → (x + m * 256) % 256 ≡ x
+byte-low x m h = omega arith
+
+byte-rest : (x m : ℕ) → x < 256 → (x + m * 256) / 256 ≡ m
+byte-rest x m h = omega arith
+
+pub four-read : (line : List ℕ) → 4 ≤ length line → (getD line 0 0 < 256) → (getD line 1 0 < 256) → (getD line 2 0 < 256) → (getD line 3 0 < 256)
+    → (n : ℕ) → n ≡ getD line 0 0 + getD line 1 0 * 256 + getD line 2 0 * 65536 + getD line 3 0 * 16777216 → line ≡ fourOf n (drop 4 line)
+unfolding fourOf
+four-read line h p q r s n e =
+    let w : ℕ = getD line 0 0 in
+    let x : ℕ = getD line 1 0 in
+    let y : ℕ = getD line 2 0 in
+    let z : ℕ = getD line 3 0 in
+    let k : n ≡ w + (x + (y + z * 256) * 256) * 256 = omega arith in
+    let k₁ : n / 256 ≡ x + (y + z * 256) * 256 = ap (λ (m : ℕ). m / 256) k ∙ byte-rest w (x + (y + z * 256) * 256) p in
+    let k₂ : n / 256 / 256 ≡ y + z * 256 = ap (λ (m : ℕ). m / 256) k₁ ∙ byte-rest x (y + z * 256) q in
+    let a : w ≡ n % 256 = sym (ap (λ (m : ℕ). m % 256) k ∙ byte-low w (x + (y + z * 256) * 256) p) in
+    let b : x ≡ n / 256 % 256 = sym (ap (λ (m : ℕ). m % 256) k₁ ∙ byte-low x (y + z * 256) q) in
+    let c : y ≡ n / 256 / 256 % 256 = sym (ap (λ (m : ℕ). m % 256) k₂ ∙ byte-low y z r) in
+    let d : z ≡ n / 256 / 256 / 256 = sym (ap (λ (m : ℕ). m / 256) k₂ ∙ byte-rest y z r) in
+    drop-cons line 0 0 (omega arith)
+    ∙ ap (λ (l : List ℕ). getD line 0 0 ∷ l) (drop-cons line 1 0 (omega arith))
+    ∙ ap (λ (l : List ℕ). getD line 0 0 ∷ getD line 1 0 ∷ l) (drop-cons line 2 0 (omega arith))
+    ∙ ap (λ (l : List ℕ). getD line 0 0 ∷ getD line 1 0 ∷ getD line 2 0 ∷ l) (drop-cons line 3 0 (omega arith))
+    ∙ (λ i. a i ∷ b i ∷ c i ∷ d i ∷ drop 4 line)
+
+-- ---- the words
+
+-- where the word of a line ends, and which it is
+abbrev pub Starts : List ℕ → ℕ → Word → Type 0
+Starts line end w = (end ≡ fieldEnd line 0) × (w ≡ wordOf (take end line))
+
+-- a line that is another
+started : (line other : List ℕ) (end : ℕ) (w : Word) → line ≡ other → Starts other end w → Starts line end w
+started line other end w e s = (s .0 ∙ sym (ap (λ (l : List ℕ). fieldEnd l 0) e), s .1 ∙ sym (ap (λ (l : List ℕ). wordOf (take end l)) e))
+
+module _ (line : List ℕ) (code : ℕ) (read : line ≡ fourOf code (drop 4 line)) where
+  known : (k : ℕ) → code ≡ k → line ≡ fourOf k (drop 4 line)
+  known k e = read ∙ ap (λ (n : ℕ). fourOf n (drop 4 line)) e
+
+  module _ (room : 5 ≤ length line) where
+    four-comma : (k : ℕ) → code ≡ k → getD line 4 0 ≡ comma → line ≡ fourOf k (comma ∷ drop 5 line)
+    four-comma k e c = known k e ∙ ap (fourOf k) (drop-cons line 4 0 (omega arith) ∙ ap (λ (b : ℕ). b ∷ drop 5 line) c)
+
+    pub take-starts : code ≡ 1701536116 → getD line 4 0 ≡ comma → Starts line 4 Word.Take
+    unfolding fourOf fieldEnd firstField wordOf same
+    take-starts e c = started line (fourOf 1701536116 (comma ∷ drop 5 line)) 4 Word.Take (four-comma 1701536116 e c) (refl, refl)
+
+    pub plan-starts : code ≡ 1851878512 → getD line 4 0 ≡ comma → Starts line 4 Word.Plan
+    unfolding fourOf fieldEnd firstField wordOf same
+    plan-starts e c = started line (fourOf 1851878512 (comma ∷ drop 5 line)) 4 Word.Plan (four-comma 1851878512 e c) (refl, refl)
+
+    pub park-starts : code ≡ 1802658160 → getD line 4 0 ≡ comma → Starts line 4 Word.Park
+    unfolding fourOf fieldEnd firstField wordOf same
+    park-starts e c = started line (fourOf 1802658160 (comma ∷ drop 5 line)) 4 Word.Park (four-comma 1802658160 e c) (refl, refl)
+
+  pub pop-starts : code ≡ 745566064 → Starts line 3 Word.Pop
+  unfolding fourOf fieldEnd firstField wordOf same
+  pop-starts e = started line (fourOf 745566064 (drop 4 line)) 3 Word.Pop (known 745566064 e) (refl, refl)
+
+  module _ (room : 7 ≤ length line) where
+    pub write-starts : eqb code 1953067639 && eqb (getD line 4 0) 101 && eqb (getD line 5 0) comma ≡ true → Starts line 5 Word.Write
+    unfolding fourOf fieldEnd firstField wordOf same
+    write-starts t =
+        let p = and-both (eqb code 1953067639 && eqb (getD line 4 0) 101) (eqb (getD line 5 0) comma) t in
+        let q = and-both (eqb code 1953067639) (eqb (getD line 4 0) 101) (p .0) in
+        started line (fourOf 1953067639 (101 ∷ comma ∷ drop 6 line)) 5 Word.Write
+        (known 1953067639 (eqb-true code 1953067639 (q .0))
+        ∙ ap (fourOf 1953067639)
+        (drop-cons line 4 0 (omega arith)
+        ∙ ap (λ (l : List ℕ). getD line 4 0 ∷ l) (drop-cons line 5 0 (omega arith))
+        ∙ (λ i. eqb-true (getD line 4 0) 101 (q .1) i ∷ eqb-true (getD line 5 0) comma (p .1) i ∷ drop 6 line)))
+        (refl, refl)
+
+    pub retire-starts : eqb code 1769235826 && eqb (getD line 4 0) 114 && eqb (getD line 5 0) 101 && eqb (getD line 6 0) comma ≡ true → Starts line 6 Word.Retire
+    unfolding fourOf fieldEnd firstField wordOf same
+    retire-starts t =
+        let o = and-both (eqb code 1769235826 && eqb (getD line 4 0) 114 && eqb (getD line 5 0) 101) (eqb (getD line 6 0) comma) t in
+        let p = and-both (eqb code 1769235826 && eqb (getD line 4 0) 114) (eqb (getD line 5 0) 101) (o .0) in
+        let q = and-both (eqb code 1769235826) (eqb (getD line 4 0) 114) (p .0) in
+        started line (fourOf 1769235826 (114 ∷ 101 ∷ comma ∷ drop 7 line)) 6 Word.Retire
+        (known 1769235826 (eqb-true code 1769235826 (q .0))
+        ∙ ap (fourOf 1769235826)
+        (drop-cons line 4 0 (omega arith)
+        ∙ ap (λ (l : List ℕ). getD line 4 0 ∷ l) (drop-cons line 5 0 (omega arith))
+        ∙ ap (λ (l : List ℕ). getD line 4 0 ∷ getD line 5 0 ∷ l) (drop-cons line 6 0 (omega arith))
+        ∙ (λ i. eqb-true (getD line 4 0) 114 (q .1) i ∷ eqb-true (getD line 5 0) 101 (p .1) i ∷ eqb-true (getD line 6 0) comma (o .1) i ∷ drop 7 line)))
+        (refl, refl)
