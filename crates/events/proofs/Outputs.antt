@@ -11,7 +11,7 @@ use lib.Dec.{eqb}
 use lib.ListN.{length, take, drop, length-append}
 use lib.Seq.{sets, drop-drop, length-take-le}
 use Rattle.histories.proofs.Written.{sets-append}
-use Rattle.bytes.specs.Bytes.{indexOf}
+use Rattle.event_text.specs.Searches.{indexOf}
 use Rattle.event_lines.specs.Grammar.{eventOf}
 use Rattle.event_answers.specs.Printed.{lineFeed}
 use Rattle.event_sessions.specs.Sessions.{State, HoldsPool}

@@ -1,13 +1,14 @@
 -- Laws of the room that an answer needs. Assumes nothing.
 use mathlib.Core.Path.{_≡_, sym, ap, _∙_}
-use mathlib.Core.List.{List}
-use Prim.Native.Nat.{ℕ, _+_, _-_, _/_, _≤_, _<_, max}
+use mathlib.Core.Bool.{Bool, true, false, cond}
+use mathlib.Core.List.{List, [], _∷_}
+use Prim.Native.Nat.{ℕ, suc, _+_, _-_, _/_, _≤_, _<_, max}
 use native.Mathlib.Nat.{le-max-left, le-max-right}
 use native.Mathlib.Omega.{arith}
 use borrow.Author.Tests.{le-leb, lt-leb}
-use lib.ListN.{length, drop}
-use lib.Seq.{take-length}
-use Rattle.bytes.specs.Bytes.{indexOf, slice}
+use lib.Dec.{eqb}
+use lib.ListN.{length, drop, length-drop}
+use Rattle.event_text.specs.Searches.{indexOf}
 use Rattle.event_answers.specs.declared.answer.Answer.{Answer}
 use Rattle.event_answers.specs.declared.answer.Answer.the-variants.{Question, Refused, Done, Spare, NoSpare, Version, NothingSettled, Views, Copies}
 use Rattle.event_answers.specs.Answers.{replyOf, entries, InBuffers}
@@ -46,10 +47,26 @@ pub answer-fits : (a : Answer) (copies views : List ℕ) (m n filled size : ℕ)
 answer-fits a copies views m n filled size h p q r =
     let e : entries a ≤ max (m / 7) n = rw (sym p, sym q) (entries-most a copies views h) in omega arith
 
--- a byte looked for up to the end of the input
-pub find-end : (input : List ℕ) (from r : ℕ) → r ≡ from + indexOf lineFeed (slice from (length input) input) → r ≡ lineEnd input from
-unfolding lineEnd slice
-find-end input from r e = e ∙ ap (λ (l : List ℕ). from + indexOf lineFeed (drop from l)) (take-length input)
+-- ---- the end of a line
+
+index-within : (b : ℕ) (s : List ℕ) → indexOf b s ≤ length s
+unfolding indexOf
+index-within b [] = omega arith
+index-within b (x ∷ xs) = go (eqb x b) (index-within b xs)
+  where
+    go : (t : Bool) → indexOf b xs ≤ length xs → cond t 0 (suc (indexOf b xs)) ≤ suc (length xs)
+    go true h = omega arith
+    go false h = omega arith
+
+pub find-end : (input : List ℕ) (from r : ℕ) → r ≡ from + indexOf lineFeed (drop from input) → r ≡ lineEnd input from
+unfolding lineEnd
+find-end input from r e = e
+
+-- it stands behind `from`, and in the input
+pub find-within : (input : List ℕ) (from r : ℕ) → from ≤ length input → r ≡ from + indexOf lineFeed (drop from input) → (from ≤ r) × (r ≤ length input)
+find-within input from r h e =
+    let w : indexOf lineFeed (drop from input) ≤ length input - from = rw (sym (length-drop from input)) (index-within lineFeed (drop from input)) in
+    (omega arith, omega arith)
 
 -- and its output ends inside the buffer
 pub output-fits : (a : Answer) (copies views : List ℕ) (m n filled size number end : ℕ) → InBuffers a copies views → length copies ≡ m → length views ≡ n

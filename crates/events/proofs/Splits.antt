@@ -7,34 +7,34 @@ use native.Mathlib.Omega.{arith}
 use lib.Dec.{eqb}
 use lib.ListN.{length, take, drop, length-drop}
 use lib.Seq.{drop-drop}
-use Rattle.bytes.specs.Bytes.{indexOf, indexAfter}
+use Rattle.event_text.specs.Searches.{indexOf}
 use Rattle.event_answers.specs.Printed.{lineFeed}
 use Rattle.events.specs.Lines.{inFirstLine, wholeLines}
 use Rattle.events.specs.Ends.{lineEnd}
 
 pub first-line : (s : List ℕ) → indexOf lineFeed s < length s
     → wholeLines s ≡ take (indexOf lineFeed s) s ∷ wholeLines (drop (suc (indexOf lineFeed s)) s)
-unfolding wholeLines inFirstLine indexOf indexAfter
+unfolding wholeLines inFirstLine indexOf
 first-line [] h = absurd (let y : ⊥ = omega arith in y)
 first-line (b ∷ bs) h = go (eqb b lineFeed) (first-line bs) h
   where
     k : ℕ
     k = indexOf lineFeed bs
 
-    go : (t : Bool) → (k < length bs → wholeLines bs ≡ take k bs ∷ wholeLines (drop (suc k) bs)) → indexAfter t k < suc (length bs)
-        → cond t ([] ∷ wholeLines bs) (inFirstLine b (wholeLines bs)) ≡ take (indexAfter t k) (b ∷ bs) ∷ wholeLines (drop (suc (indexAfter t k)) (b ∷ bs))
+    go : (t : Bool) → (k < length bs → wholeLines bs ≡ take k bs ∷ wholeLines (drop (suc k) bs)) → cond t 0 (suc k) < suc (length bs)
+        → cond t ([] ∷ wholeLines bs) (inFirstLine b (wholeLines bs)) ≡ take (cond t 0 (suc k)) (b ∷ bs) ∷ wholeLines (drop (suc (cond t 0 (suc k))) (b ∷ bs))
     go true r q = refl
     go false r q = ap (inFirstLine b) (r (omega arith))
 
 pub no-line : (s : List ℕ) → length s ≤ indexOf lineFeed s → wholeLines s ≡ []
-unfolding wholeLines inFirstLine indexOf indexAfter
+unfolding wholeLines inFirstLine indexOf
 no-line [] h = refl
 no-line (b ∷ bs) h = go (eqb b lineFeed) (no-line bs) h
   where
     k : ℕ
     k = indexOf lineFeed bs
 
-    go : (t : Bool) → (length bs ≤ k → wholeLines bs ≡ []) → suc (length bs) ≤ indexAfter t k → cond t ([] ∷ wholeLines bs) (inFirstLine b (wholeLines bs)) ≡ []
+    go : (t : Bool) → (length bs ≤ k → wholeLines bs ≡ []) → suc (length bs) ≤ cond t 0 (suc k) → cond t ([] ∷ wholeLines bs) (inFirstLine b (wholeLines bs)) ≡ []
     go true r q = absurd (let y : ⊥ = omega arith in y)
     go false r q = ap (inFirstLine b) (r (omega arith))
 

@@ -4,7 +4,7 @@ use mathlib.Core.Bool.{cond}
 use mathlib.Core.List.{List}
 use lib.Dec.{leb}
 use lib.ListN.{length, drop}
-use Rattle.bytes.specs.Bytes.{indexOf}
+use Rattle.event_text.specs.Searches.{indexOf}
 use Rattle.event_answers.specs.Printed.{lineFeed, mostBytes}
 
 -- where the line that starts at `from` ends: at its line feed, or at the end of the input

@@ -8,6 +8,7 @@ ghost use Rattle.events.specs.Lines.{progressOf, start, wholeLines, ranA
 use crate::line::run_line;
 use crate::run::Run;
 use event_sessions::Session;
+use event_text::find_byte;
 
 // The most bytes of a line of output.
 const ROW: usize = 147;
@@ -31,7 +32,7 @@ fn next_end(input: &[u8], from: usize, most: usize, filled: usize, size: usize) 
     if (size - filled) / ROW <= most {
         return input.len();
     }
-    bytes::scan::find(input, from, input.len(), b'\n')
+    find_byte(input, from, b'\n')
 }
 
 // Runs whole lines from the front of `input` on, `number` lines having been run before. Their output is put at the front of `out`.
