@@ -1,6 +1,6 @@
 -- Laws of the test of an id where a search ended. Assumes nothing.
 use mathlib.Core.Path.{_≡_, sym, ap, ap₂, _∙_}
-use mathlib.Core.Bool.{Bool, true, false, _&&_, cond}
+use mathlib.Core.Bool.{Bool, true, false, _&&_, true≢false}
 use mathlib.Core.List.{List, []}
 use Prim.Native.Nat.{ℕ, _*_, _≤_, _<_}
 use native.Mathlib.Omega.{arith}
@@ -46,5 +46,4 @@ not-found s n i id up place fails j h e =
     let same : i ≡ j =
     place ∙ below-found id (textures n s) j d (omega (arith, length-table 19 readTexture n s)) up (ap idOf (getD-table 19 readTexture n j s d h) ∙ e) in
     let passes : hasId s n i id ≡ true = ap (λ (k : ℕ). hasId s n k id) same ∙ has s n j id h e in
-    let z : _≡_ {A = ℕ} 0 1 = ap (λ (b : Bool). cond b 0 1) (sym passes ∙ fails) in
-    let y : ⊥ = omega arith in y
+    true≢false (sym passes ∙ fails)

@@ -272,14 +272,6 @@ module _ {ℓ} {A : Type ℓ} where
   quarters at n k s =
       thirds at n s ∙ sym (ap (λ (l : List A). take at s ++ (take n (drop at s) ++ l)) (ap (λ (l : List A). take k (drop (at + n) s) ++ l) (sym (drop-drop k (at + n) s)) ∙ take-append-drop k (drop (at + n) s)))
 
-  pub length-rotated : (at n k : ℕ) (s : List A) → at + n + k ≤ length s → length (rotated at n k s) ≡ length s
-  unfolding rotated
-  length-rotated at n k s h =
-      let f = length-take-le at s (omega arith) in
-      let a = length-take-le n (drop at s) (omega (arith, length-drop at s)) in
-      let b = length-take-le k (drop (at + n) s) (omega (arith, length-drop (at + n) s)) in
-      simp (length-append, length-drop, f, a, b) (omega arith)
-
   -- both blocks turned, and then the two together: the blocks change places
   pub turned-rotated : (at n k : ℕ) (s : List A) → at + n + k ≤ length s
       → turned at (n + k) (turned (at + n) k (turned at n s)) ≡ rotated at n k s

@@ -1,6 +1,6 @@
 -- Laws of what a function lists; tables and rings are both listed, so these serve both. Assumes nothing.
 use mathlib.Core.Path.{_≡_, refl, sym, ap, ap₂, _∙_}
-use mathlib.Core.List.{List, [], _∷_, _++_, map, map-append}
+use mathlib.Core.List.{List, [], _∷_, _++_, map}
 use mathlib.Core.Bool.{Bool, true, false}
 use Prim.Native.Nat.{ℕ, zero, suc, _+_, _-_, _≤_, _<_}
 use native.Mathlib.Numerals.{add-one}
@@ -8,9 +8,8 @@ use native.Mathlib.Nat.{add-zero, zero-add, sub-zero}
 use native.Mathlib.Decide.{decLt}
 use native.Mathlib.Omega.{arith}
 use lib.Dec.{ltb}
-use lib.ListN.{length, take, drop, getD, set, length-map}
-use Rattle.blocks.specs.Lists.{listed, over, all, total, ascending}
-use Rattle.blocks.proofs.Lists.{over-more}
+use lib.ListN.{length, take, drop, getD}
+use Rattle.blocks.specs.Lists.{listed, all, total, ascending}
 
 module _ {ℓ} {A : Type ℓ} (f : ℕ → A) where
   pub length-listed : (i n : ℕ) → length (listed f i n) ≡ n
@@ -149,19 +148,3 @@ module _ {ℓ} {A : Type ℓ} (f : ℕ → A) (n : ℕ) where
         go : Dec (i < n) → ascending g (left f n i) ≡ true
         go (yes q) = rw (left-step i q, left-none (i + 1) h)
         go (no q) = rw (left-none i (omega arith))
-
--- ---- an answer filled from the front with what is listed
-
-module _ {ℓ} {A : Type ℓ} (f : ℕ → A) (g : A → ℕ) (o : List ℕ) where
-  pub fills-none : o ≡ over (map g (listed f 0 0)) o
-  unfolding over listed
-  fills-none = refl
-
-  pub fills-more : (i : ℕ) → i < length o → set (over (map g (listed f 0 i)) o) i (g (f i)) ≡ over (map g (listed f 0 (i + 1))) o
-  fills-more i h =
-      over-more (map g (listed f 0 i)) o (g (f i)) i (length-map (listed f 0 i) g ∙ length-listed f 0 i) h
-      ∙ sym (ap (λ (l : List ℕ). over l o)
-      (ap (λ (k : ℕ). map g (listed f 0 k)) (add-one i)
-      ∙ ap (map g) (listed-more f 0 i)
-      ∙ map-append g (listed f 0 i) (f (0 + i) ∷ [])
-      ∙ ap (λ (k : ℕ). map g (listed f 0 i) ++ (g (f k) ∷ [])) (zero-add i)))

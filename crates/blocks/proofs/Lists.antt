@@ -1,14 +1,14 @@
 -- Laws of lists: laid over, removed, inserted, tests and sums of the elements. Assumes nothing.
 use mathlib.Core.Path.{_≡_, refl, sym, ap, ap₂, _∙_}
 use mathlib.Core.List.{List, [], _∷_, _++_, append-assoc}
-use mathlib.Core.Bool.{Bool, true, false, _&&_, cond}
-use Prim.Native.Nat.{ℕ, zero, suc, _+_, _*_, _-_, _≤_, _<_}
-use native.Mathlib.Nat.{mul-suc, add-zero, zero-add}
+use mathlib.Core.Bool.{Bool, true, false, _&&_, cond, true≢false}
+use Prim.Native.Nat.{ℕ, zero, suc, _+_, _-_, _≤_, _<_}
+use native.Mathlib.Nat.{add-zero, zero-add}
 use native.Mathlib.Omega.{arith}
 use borrow.Author.Tests.{ltb-true}
 use lib.Dec.{ltb}
-use lib.ListN.{length, take, drop, getD, set, take-append-drop, length-append, length-drop, List·getD-append}
-use lib.Seq.{take-append-le, take-at, drop-drop, drop-cons, drop-append-add, drop-append-seam, drop-append-le, set-at, append-snoc, length-take-le, getD-append-add, getD-drop, getD-take}
+use lib.ListN.{length, take, drop, getD, take-append-drop, length-append, length-drop, List·getD-append}
+use lib.Seq.{take-append-le, drop-drop, drop-append-add, drop-append-seam, length-take-le, getD-append-add, getD-drop}
 use Rattle.blocks.specs.Lists.{over, removed, inserted, all, keep, total, ascending, after, tests}
 
 -- ---- xs laid over the front of s
@@ -49,33 +49,12 @@ module _ {ℓ} {A : Type ℓ} (xs s : List A) where
   unfolding over
   over-self t e = ap (λ (l : List A). xs ++ l) (ap (drop (length xs)) e ∙ drop-append-seam xs t) ∙ sym e
 
-  -- within the first of two lists
-  pub over-within : (t : List A) → length xs ≤ length s → over xs (s ++ t) ≡ over xs s ++ t
-  unfolding over
-  over-within t h = ap (λ (l : List A). xs ++ l) (drop-append-le (length xs) s t h) ∙ sym (append-assoc xs (drop (length xs) s) t)
-
--- a longer write covers a shorter one
-pub over-over {ℓ} : {A : Type ℓ} (a b s : List A) → length a ≤ length b → over b (over a s) ≡ over b s
-unfolding over
-over-over a b s h = ap (λ l. b ++ l) (drop-over a s (length b) h)
-
 -- xs and then ys laid over: ys laid over what stands past xs
 pub over-append {ℓ} : {A : Type ℓ} (xs ys s : List A) → over (xs ++ ys) s ≡ xs ++ over ys (drop (length xs) s)
 unfolding over
 over-append {A = A} xs ys s =
     append-assoc xs ys (drop (length (xs ++ ys)) s)
     ∙ ap (λ (l : List A). xs ++ (ys ++ l)) (ap (λ (n : ℕ). drop n s) (length-append xs ys) ∙ sym (drop-drop (length ys) (length xs) s))
-
--- an answer filled from the front: one element more
-pub over-more {ℓ} : {A : Type ℓ} (xs o : List A) (x : A) (i : ℕ) → length xs ≡ i → i < length o → set (over xs o) i x ≡ over (xs ++ (x ∷ [])) o
-unfolding over
-over-more {A = A} xs o x i e h =
-    let m : length (xs ++ (x ∷ [])) ≡ suc i = length-append xs (x ∷ []) ∙ (let q : length xs + 1 ≡ suc i = omega arith in q) in
-    ap (λ (k : ℕ). set (xs ++ drop k o) i x) e
-    ∙ ap (λ (l : List A). set (xs ++ l) i x) (drop-cons o i x h)
-    ∙ set-at xs (getD o i x) (drop (suc i) o) x i e
-    ∙ sym (append-snoc xs x (drop (suc i) o))
-    ∙ ap (λ (k : ℕ). (xs ++ (x ∷ [])) ++ drop k o) (sym m)
 
 pub over-nothing {ℓ} : {A : Type ℓ} (o : List A) → over [] o ≡ o
 unfolding over
@@ -94,23 +73,6 @@ module _ {ℓ} {A : Type ℓ} (i : ℕ) (xs : List A) where
       let f = length-take-le i xs (omega arith) in
       length-append (take i xs) (drop (i + k) xs) ∙ (let e : length (take i xs) + length (drop (i + k) xs) ≡ length xs - k = omega (arith, length-drop (i + k) xs) in e)
 
-  -- those before i stay, and those past the k come down
-  pub getD-removed-before : (k j : ℕ) (d : A) → j < i → i ≤ length xs → getD (removed i k xs) j d ≡ getD xs j d
-  unfolding removed
-  getD-removed-before k j d h f =
-      let l = length-take-le i xs f in
-      List·getD-append (take i xs) (drop (i + k) xs) d j (omega arith) ∙ getD-take i xs j d h
-
-  pub getD-removed-past : (k j : ℕ) (d : A) → i ≤ j → i ≤ length xs → getD (removed i k xs) j d ≡ getD xs (j + k) d
-  unfolding removed
-  getD-removed-past k j d h f =
-      let l = length-take-le i xs f in
-      let e : j ≡ length (take i xs) + (j - i) = omega arith in
-      ap (λ (m : ℕ). getD (take i xs ++ drop (i + k) xs) m d) e
-      ∙ getD-append-add (take i xs) (drop (i + k) xs) (j - i) d
-      ∙ getD-drop (i + k) xs (j - i) d
-      ∙ ap (λ (m : ℕ). getD xs m d) (let q : i + k + (j - i) ≡ j + k = omega arith in q)
-
   module _ (ys : List A) where
     pub length-inserted : i ≤ length xs → length (inserted i ys xs) ≡ length xs + length ys
     unfolding inserted
@@ -119,48 +81,11 @@ module _ {ℓ} {A : Type ℓ} (i : ℕ) (xs : List A) where
         length-append (take i xs) (ys ++ drop i xs) ∙ ap (λ (n : ℕ). length (take i xs) + n) (length-append ys (drop i xs))
         ∙ (let e : length (take i xs) + (length ys + length (drop i xs)) ≡ length xs + length ys = omega (arith, length-drop i xs) in e)
 
-    pub getD-inserted-before : (j : ℕ) (d : A) → j < i → i ≤ length xs → getD (inserted i ys xs) j d ≡ getD xs j d
-    unfolding inserted
-    getD-inserted-before j d h f =
-        let l = length-take-le i xs f in
-        List·getD-append (take i xs) (ys ++ drop i xs) d j (omega arith) ∙ getD-take i xs j d h
-
-    pub getD-inserted-in : (j : ℕ) (d : A) → j < length ys → i ≤ length xs → getD (inserted i ys xs) (i + j) d ≡ getD ys j d
-    unfolding inserted
-    getD-inserted-in j d h f =
-        let l = length-take-le i xs f in
-        ap (λ (m : ℕ). getD (take i xs ++ (ys ++ drop i xs)) (m + j) d) (sym l)
-        ∙ getD-append-add (take i xs) (ys ++ drop i xs) j d
-        ∙ List·getD-append ys (drop i xs) d j h
-
-    pub getD-inserted-past : (j : ℕ) (d : A) → i ≤ j → i ≤ length xs → getD (inserted i ys xs) (j + length ys) d ≡ getD xs j d
-    unfolding inserted
-    getD-inserted-past j d h f =
-        let l = length-take-le i xs f in
-        let e : j + length ys ≡ length (take i xs) + (length ys + (j - i)) = omega arith in
-        ap (λ (m : ℕ). getD (take i xs ++ (ys ++ drop i xs)) m d) e
-        ∙ getD-append-add (take i xs) (ys ++ drop i xs) (length ys + (j - i)) d
-        ∙ getD-append-add ys (drop i xs) (j - i) d
-        ∙ getD-drop i xs (j - i) d
-        ∙ ap (λ (m : ℕ). getD xs m d) (let q : i + (j - i) ≡ j = omega arith in q)
-
-    -- what was put in comes out again
-    pub removed-inserted : i ≤ length xs → removed i (length ys) (inserted i ys xs) ≡ xs
-    unfolding removed inserted
-    removed-inserted h =
-        let l = length-take-le i xs h in
-        ap₂ (λ (a b : List A). a ++ b)
-        (take-at (take i xs) (ys ++ drop i xs) i l)
-        (ap (λ (m : ℕ). drop (m + length ys) (take i xs ++ (ys ++ drop i xs))) (sym l)
-        ∙ drop-append-add (take i xs) (ys ++ drop i xs) (length ys)
-        ∙ drop-append-seam ys (drop i xs))
-        ∙ take-append-drop i xs
-
 -- ---- tests of every element, and sums over them
 
 pub and-both : (a b : Bool) → a && b ≡ true → (a ≡ true) × (b ≡ true)
 and-both true b e = (refl, e)
-and-both false b e = let z : _≡_ {A = ℕ} 0 1 = cc in absurd (let y : ⊥ = omega arith in y)
+and-both false b e = absurd (true≢false (sym e))
 
 pub and-assoc : (a b c : Bool) → a && b && c ≡ a && (b && c)
 and-assoc true b c = refl
@@ -195,14 +120,6 @@ module _ {ℓ} {A : Type ℓ} (p : A → Bool) where
       go true e = ap (λ (l : List A). x ∷ l) e
       go false e = e
 
-  -- where it holds of every one, every one is kept
-  pub keep-all : (xs : List A) → all p xs ≡ true → keep p xs ≡ xs
-  unfolding keep all
-  keep-all [] e = refl
-  keep-all (x ∷ xs) e =
-      let q = and-both (p x) (all p xs) e in
-      ap₂ (λ (b : Bool) (l : List A). cond b (x ∷ l) l) (q .0) (keep-all xs (q .1))
-
   pub all-keep : (xs : List A) → all p (keep p xs) ≡ true
   unfolding keep all
   all-keep [] = refl
@@ -227,17 +144,6 @@ module _ {ℓ} {A : Type ℓ} (f : A → ℕ) where
   total-append [] ys = sym (zero-add (total f ys))
   total-append (x ∷ xs) ys = let e = total-append xs ys in omega arith
 
-  -- a sum of bounded parts is bounded
-  pub total-bound : (p : A → Bool) (b : ℕ) → ((a : A) → p a ≡ true → f a ≤ b) → (xs : List A) → all p xs ≡ true → total f xs ≤ b * length xs
-  unfolding all total
-  total-bound p b h [] e = omega arith
-  total-bound p b h (x ∷ xs) e =
-      let q = and-both (p x) (all p xs) e in
-      let m : b * suc (length xs) ≡ b * length xs + b = mul-suc b (length xs) in
-      let hx = h x (q .0) in
-      let hs = total-bound p b h xs (q .1) in
-      omega arith
-
   -- each is at most the sum
   pub total-get : (xs : List A) (i : ℕ) (d : A) → i < length xs → f (getD xs i d) ≤ total f xs
   unfolding total
@@ -248,16 +154,6 @@ module _ {ℓ} {A : Type ℓ} (f : A → ℕ) where
 -- ---- ascending
 
 module _ {ℓ} {A : Type ℓ} (f : A → ℕ) where
-  -- ascending along two lists: along each, and at the seam
-  pub ascending-append : (xs : List A) (x y : A) (ys : List A)
-      → ascending f ((xs ++ (x ∷ [])) ++ (y ∷ ys)) ≡ ascending f (xs ++ (x ∷ [])) && (ltb (f x) (f y) && ascending f (y ∷ ys))
-  unfolding ascending
-  ascending-append [] x y ys = refl
-  ascending-append (a ∷ []) x y ys = sym (and-assoc (ltb (f a) (f x)) true _)
-  ascending-append (a ∷ b ∷ xs) x y ys =
-      ap (λ (t : Bool). ltb (f a) (f b) && t) (ascending-append (b ∷ xs) x y ys)
-      ∙ sym (and-assoc (ltb (f a) (f b)) (ascending f ((b ∷ xs) ++ (x ∷ []))) (ltb (f x) (f y) && ascending f (y ∷ ys)))
-
   -- an earlier one is below a later one
   pub ascending-get : (xs : List A) (i j : ℕ) (d : A) → ascending f xs ≡ true → i < j → j < length xs → f (getD xs i d) < f (getD xs j d)
   unfolding ascending

@@ -3,23 +3,17 @@ use mathlib.Core.Path.{_≡_, refl, sym, ap, ap₂, _∙_, subst}
 use mathlib.Core.List.{List, [], _∷_, _++_, append-assoc, flatMap}
 use Prim.Native.Nat.{ℕ, suc, _+_, _≤_, _<_}
 use native.Mathlib.Numerals.{add-one}
-use native.Mathlib.Nat.{add-zero, add-assoc}
+use native.Mathlib.Nat.{add-assoc}
 use native.Mathlib.Omega.{arith}
 use lib.ListN.{length, take, getD, set, length-append}
 use lib.Seq.{sets}
 use Rattle.blocks.proofs.Listed.{left, left-step, left-none, left-all, take-listed, listed-getD}
+use Rattle.layout.proofs.Rewritten.{sets-append}
 use Rattle.event_text.specs.Fields.{comma}
 use Rattle.event_text.specs.Numbers.{digitsOf}
 use Rattle.event_text.proofs.Printing.{digits-room}
 use Rattle.event_answers.specs.Printed.{lineFeed, accepted, row, acceptedRow}
 use Rattle.event_answers.specs.Put.{Put, fieldsEnded}
-
--- one text behind another
-pub sets-append : (s : List ℕ) (at : ℕ) (xs ys : List ℕ) → sets s at (xs ++ ys) ≡ sets (sets s at xs) (at + length xs) ys
-sets-append s at [] ys = ap (λ (k : ℕ). sets s k ys) (sym (add-zero at))
-sets-append s at (x ∷ xs) ys =
-    sets-append (set s at x) (suc at) xs ys
-    ∙ ap (λ (k : ℕ). sets (sets (set s at x) (suc at) xs) k ys) (let e : suc at + length xs ≡ at + suc (length xs) = omega arith in e)
 
 module _ {a b : List ℕ} {i j : ℕ} {xs : List ℕ} where
   pub put-as : {ys : List ℕ} → xs ≡ ys → Put a i xs j b → Put a i ys j b

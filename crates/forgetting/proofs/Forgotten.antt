@@ -31,17 +31,18 @@ use Rattle.layout.proofs.Runs.{firstSpare, stateOf, tracked-model, model-at}
 use Rattle.layout.proofs.Rings.{hand-model, head-stays, first-stays, doomed-pushed}
 use Rattle.layout.proofs.Same.{book-same, held-same, queued-model, doomed-model}
 use Rattle.layout.proofs.Places.{IsTracked, place, taken-out, given as given′, not-taken-out, not-given}
-use Rattle.layout.proofs.Stays.{put-together, ids-ascend, textures-fit, doomed-fit, nothing-changed, retiring-stay}
+use Rattle.layout.proofs.Stays.{put-together, ids-ascend, textures-fit, doomed-fit, nothing-changed, retiring-stay, doomed-bound}
 use Rattle.layout.proofs.Counts.{tracked-removed, kept-removed, used-removed}
 use Rattle.layout.proofs.Changes.{sparesAt, every-removed, textures-removed, spares-removed}
 use Rattle.layout.proofs.Pages.{newest-removed, stamps-removed}
+use Rattle.layout.proofs.Tracked.{record-read, spares-to, pages-to, shape-at, count-at, shape-passes}
 use Rattle.destruction.specs.Given.{givenRecords}
 use Rattle.destruction.proofs.Pushed.{given-spares}
 use Rattle.access.proofs.Totals.{total-next}
 use Rattle.access.proofs.Ids.{hasId, found, not-found}
 use Rattle.forgetting.specs.declared.owned.Owned.{Owned}
 use Rattle.forgetting.specs.Owned.{textureIn, sparesTo, pagesTo, ownedAt, without}
-use Rattle.forgetting.proofs.TextureRuns.{doomed-bound, record-in, spares-to, pages-to, shape-in, spares-in, count-in, shape-passes, spares-within, pages-within, bytes-within}
+use Rattle.forgetting.proofs.TextureRuns.{spares-in, spares-within, pages-within, bytes-within}
 
 -- the pool without texture i, whose spares wait to be destroyed
 abbrev given : Lent → ℕ → List (Doomed ℕ)
@@ -110,7 +111,7 @@ module _ (l : Lent) (f : Fits l) (i : ℕ) (h : i < l .pool .tracked) where
     unfolding modelOf
     spare-bytes =
         let same : spareBytes (stateOf l i) ≡ own .bytes * own .spares =
-        ap₂ (λ (b n : ℕ). b * n) (ap bytesOf (shape-in l i h)) (count-in l i h) ∙ sym bytes-is in
+        ap₂ (λ (b n : ℕ). b * n) (ap bytesOf (shape-at l i h)) (count-at l i h) ∙ sym bytes-is in
         let least = total-get spareBytes (modelOf l .textures) i (stateOf l 0) (omega (arith, tracked-model l)) in
         omega (arith, same, ap spareBytes (model-at l i (stateOf l 0) h), least, f .formed .parked)
 
@@ -132,20 +133,20 @@ module _ (l : Lent) (f : Fits l) (i : ℕ) (h : i < l .pool .tracked) where
   -- ---- what is left
 
   out-count : length out ≡ textureIn T i .spares
-  out-count = as-doomed-length (bytesOf (stateOf l i .shape)) (stateOf l i .spares) ∙ count-in l i h
+  out-count = as-doomed-length (bytesOf (stateOf l i .shape)) (stateOf l i .spares) ∙ count-at l i h
 
   out-bytes : doomedBytes out ≡ bytesOf (textureIn T i .shape) * textureIn T i .spares
   out-bytes =
       as-doomed-bytes (bytesOf (stateOf l i .shape)) (stateOf l i .spares)
-      ∙ ap₂ (λ (b n : ℕ). b * n) (ap bytesOf (shape-in l i h)) (count-in l i h)
+      ∙ ap₂ (λ (b n : ℕ). b * n) (ap bytesOf (shape-at l i h)) (count-at l i h)
 
   out-records : map doomedRecord out ≡ givenRecords (l .spares) (bytesOf (textureIn T i .shape)) (sparesTo T i) (textureIn T i .spares)
   out-records =
-      ap₂ (λ (b : ℕ) (ss : List (Spare ℕ)). map doomedRecord (asDoomed b ss)) (ap bytesOf (shape-in l i h)) (spares-in l i h)
+      ap₂ (λ (b : ℕ) (ss : List (Spare ℕ)). map doomedRecord (asDoomed b ss)) (ap bytesOf (shape-at l i h)) (spares-in l i h)
       ∙ sym (given-spares l (bytesOf (textureIn T i .shape)) (sparesTo T i) (textureIn T i .spares))
 
   own-spares-are : sparesAt l i ≡ textureIn T i .spares
-  own-spares-are = ap (λ t. t .spares) (record-in l i h)
+  own-spares-are = ap (λ t. t .spares) (record-read l i h)
 
   spares-there : firstSpare l i + sparesAt l i ≤ l .pool .kept
   spares-there = omega (arith, spares-to l i h, own-spares-are, spares-within l i h f)
@@ -156,7 +157,7 @@ module _ (l : Lent) (f : Fits l) (i : ℕ) (h : i < l .pool .tracked) where
     tracked = sym (tracked-removed l left i 1 (omega arith) refl) j;
     kept = sym (kept-removed l left (f .kept) (firstSpare l i) (sparesAt l i) spares-there (every-removed l i h)
         ∙ ap (λ (n : ℕ). l .pool .kept - n) own-spares-are) j;
-    pages = sym (used-removed l left (f .claimed) i h refl ∙ ap (λ (n : ℕ). l .pool .pages - n) (ap recordPages (record-in l i h))) j;
+    pages = sym (used-removed l left (f .claimed) i h refl ∙ ap (λ (n : ℕ). l .pool .pages - n) (ap recordPages (record-read l i h))) j;
     head = sym (head-stays l left (f .head) (omega (arith, hand-model l))) j;
     popped = sym (held-same l) j;
     queued = sym (queued-model l) j;
@@ -188,14 +189,14 @@ module _ (l : Lent) (f : Fits l) (i : ℕ) (h : i < l .pool .tracked) where
       (l .pool .pages - (pagesTo T i + recordPages (textureIn T i)))
       ≡ newestAfter left l
   newest-left =
-      sym (ap₂ (λ (k n : ℕ). moved (l .newest) k (k + n) (l .pool .pages - (k + n))) (pages-to l i h) (ap recordPages (record-in l i h)))
+      sym (ap₂ (λ (k n : ℕ). moved (l .newest) k (k + n) (l .pool .pages - (k + n))) (pages-to l i h) (ap recordPages (record-read l i h)))
       ∙ newest-removed l left (f .claimed) i h refl (f .pages)
 
   stamps-left : moved (l .stamps) (1024 * pagesTo T i) (1024 * pagesTo T i + 1024 * recordPages (textureIn T i))
       (1024 * (l .pool .pages - (pagesTo T i + recordPages (textureIn T i)))) ≡ stampsAfter left l
   stamps-left =
       sym (ap₂ (λ (k n : ℕ). moved (l .stamps) (1024 * k) (1024 * k + 1024 * n) (1024 * (l .pool .pages - (k + n)))) (pages-to l i h)
-      (ap recordPages (record-in l i h)))
+      (ap recordPages (record-read l i h)))
       ∙ stamps-removed l left (f .claimed) i h refl (ids-ascend l f) (omega (arith, f .stamps, f .pages))
 
   book-left : l .book ≡ bookAfter left
@@ -273,10 +274,10 @@ module _ (l : Lent) (pool : isPool l ≡ true) (id : ℕ) where
     is-there : hasId (l .textures) (l .pool .tracked) i id ≡ true → IsTracked l id up
     is-there q =
         let w = found (l .textures) (l .pool .tracked) i id q in
-        (omega (arith, at, w .0), ap (λ (k : ℕ). getD (trackedRecords l) k (readTexture []) .id) (sym at) ∙ ap idOf (record-in l i (w .0)) ∙ w .1)
+        (omega (arith, at, w .0), ap (λ (k : ℕ). getD (trackedRecords l) k (readTexture []) .id) (sym at) ∙ ap idOf (record-read l i (w .0)) ∙ w .1)
 
     is-nowhere : hasId (l .textures) (l .pool .tracked) i id ≡ false → IsTracked l id up → ⊥
-    is-nowhere q (h, e) = not-found (l .textures) (l .pool .tracked) i id up at q (place l id up) h (ap idOf (sym (record-in l (place l id up) h)) ∙ e)
+    is-nowhere q (h, e) = not-found (l .textures) (l .pool .tracked) i id up at q (place l id up) h (ap idOf (sym (record-read l (place l id up) h)) ∙ e)
 
     pub forget-tracked : hasId (l .textures) (l .pool .tracked) i id ≡ true → (r : Lent) → r ≡ after (forgotten l i) l
         → (answer tt, r) ≡ forgetTextureCall l id

@@ -23,18 +23,13 @@ use Rattle.grids.proofs.Stamps.{length-stamped}
 use Rattle.layout.specs.Reading.{pageAt}
 use Rattle.layout.specs.Writing.{pagesFrom}
 use Rattle.layout.proofs.Rewritten.{sets-self}
+pub use Rattle.layout.proofs.Rewritten.{sets-append}
 use Rattle.layout.proofs.Stamped.{length-pages}
 use Rattle.histories.specs.Written.{gridOn, newestStamp, newestWritten, pagesWritten}
 
 -- ---- a run of numbers stored
 
 module _ {ℓ} {A : Type ℓ} where
-  -- two runs, one behind the other
-  pub sets-append : (s : List A) (at : ℕ) (xs ys : List A) → sets s at (xs ++ ys) ≡ sets (sets s at xs) (at + length xs) ys
-  sets-append s at [] ys = ap (λ (k : ℕ). sets s k ys) (sym (add-zero at))
-  sets-append s at (x ∷ xs) ys =
-      sets-append (set s at x) (suc at) xs ys ∙ ap (λ (k : ℕ). sets (sets (set s at x) (suc at) xs) k ys) (let e : suc at + length xs ≡ at + suc (length xs) = omega arith in e)
-
   -- what stands past the run stays
   pub drop-sets : (n : ℕ) (s : List A) (at : ℕ) (xs : List A) → at + length xs ≤ n → drop n (sets s at xs) ≡ drop n s
   drop-sets n s at [] h = refl

@@ -9,7 +9,7 @@ use lib.ListN.{length, take, drop, getD, set, take-append-drop}
 use lib.Seq.{sets}
 use Rattle.blocks.specs.Lists.{listed, over, total, removed, inserted}
 use Rattle.blocks.specs.Blocks.{moved}
-use Rattle.blocks.proofs.Lists.{removed-none, over-nothing}
+use Rattle.blocks.proofs.Lists.{removed-none}
 use Rattle.blocks.proofs.Listed.{length-listed, drop-listed, take-listed}
 use Rattle.tables.specs.Records.{table, flat}
 use Rattle.tables.proofs.Records.{removed-records, inserted-records, replaced-record}
@@ -193,11 +193,6 @@ module _ (l : Lent) (p : Pool ℕ) (kept : total sparesOf (trackedRecords l) ≡
       removed-records spare-codec (l .pool .kept) (l .spares) fits k n h
       ∙ sym (ap (λ (xs : List SpareRecord). over (flat writeSpare xs) (l .spares))
       (ap (map spareRecord) e ∙ map-removed spareRecord k n (sparesBefore l) ∙ ap (removed k n) table-spares))
-
--- all the spares handed out
-pub spares-none : (l : Lent) (p : Pool ℕ) → everySpare (p .textures) ≡ [] → sparesAfter p l ≡ l .spares
-unfolding sparesAfter flat
-spares-none l p e = ap (λ (xs : List (Spare ℕ)). over (flat writeSpare (map spareRecord xs)) (l .spares)) e ∙ over-nothing (l .spares)
 
 -- ---- the newest spare, and the others
 

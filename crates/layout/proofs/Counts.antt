@@ -1,20 +1,20 @@
--- The counts after one texture is changed, put in or taken out. Assumes nothing.
+-- The counts after textures are taken out, and after spares are put in or taken out. Assumes nothing.
 use mathlib.Core.Path.{_≡_, refl, sym, ap, ap₂, _∙_}
 use mathlib.Core.List.{List, [], _∷_, _++_, flatMap}
 use Prim.Native.Nat.{ℕ, suc, _+_, _-_, _≤_, _<_}
 use native.Mathlib.Omega.{arith}
-use lib.ListN.{length, take, drop, set, length-append, length-set}
+use lib.ListN.{length, take, drop, length-append}
 use Rattle.blocks.specs.Lists.{total, removed, inserted}
 use Rattle.blocks.proofs.Lists.{length-removed, length-inserted, total-append}
 use Rattle.stores.specs.Model.{Spare, VersionState, Pool, pagesUsed}
+use Rattle.stores.proofs.Lists.{total-cut}
 use Rattle.layout.specs.Lent.{Lent}
 use Rattle.layout.specs.Reading.{trackedRecords, recordPages, modelOf}
 use Rattle.layout.specs.Writing.{everySpare}
 use Rattle.layout.proofs.Runs.{sparesOf, spareCount, firstPageOf, tracked-model, pages-model}
 use Rattle.layout.proofs.Kept.{page-of}
-use Rattle.layout.proofs.Parts.{total-cut}
 use Rattle.layout.proofs.Changes.{sparesBefore, length-spares}
-use Rattle.layout.proofs.Pages.{pagesAt, next-page, page-bound, removed-parts, set-parts}
+use Rattle.layout.proofs.Pages.{pagesAt, next-page, page-bound, removed-parts}
 
 -- as many as all of them in a row
 pub count-spares : (ts : List (VersionState ℕ)) → total spareCount ts ≡ length (everySpare ts)
@@ -25,14 +25,6 @@ count-spares (t ∷ ts) = ap (λ (n : ℕ). spareCount t + n) (count-spares ts) 
 module _ (l : Lent) (p : Pool ℕ) where
   -- ---- tracked textures
 
-  pub tracked-set : (i : ℕ) (t : VersionState ℕ) → p .textures ≡ set (modelOf l .textures) i t → length (p .textures) ≡ l .pool .tracked
-  tracked-set i t e = ap length e ∙ length-set (modelOf l .textures) i t ∙ tracked-model l
-
-  pub tracked-inserted : (i : ℕ) (t : VersionState ℕ) → i ≤ l .pool .tracked → p .textures ≡ inserted i (t ∷ []) (modelOf l .textures)
-      → length (p .textures) ≡ l .pool .tracked + 1
-  tracked-inserted i t h e =
-      ap length e ∙ length-inserted i (modelOf l .textures) (t ∷ []) (omega (arith, tracked-model l)) ∙ ap (λ (n : ℕ). n + 1) (tracked-model l)
-
   pub tracked-removed : (i k : ℕ) → i + k ≤ l .pool .tracked → p .textures ≡ removed i k (modelOf l .textures)
       → length (p .textures) ≡ l .pool .tracked - k
   tracked-removed i k h e =
@@ -41,9 +33,6 @@ module _ (l : Lent) (p : Pool ℕ) where
   -- ---- kept spares
 
   module _ (kept : total sparesOf (trackedRecords l) ≡ l .pool .kept) where
-    pub kept-same : everySpare (p .textures) ≡ sparesBefore l → total spareCount (p .textures) ≡ l .pool .kept
-    kept-same e = count-spares (p .textures) ∙ ap length e ∙ length-spares l ∙ kept
-
     pub kept-inserted : (k : ℕ) (x : Spare ℕ) → k ≤ l .pool .kept → everySpare (p .textures) ≡ inserted k (x ∷ []) (sparesBefore l)
         → total spareCount (p .textures) ≡ l .pool .kept + 1
     kept-inserted k x h e =
@@ -68,27 +57,7 @@ module _ (l : Lent) (p : Pool ℕ) where
         (total-append pagesUsed between (drop j (modelOf l .textures))
         ∙ ap (λ (n : ℕ). total pagesUsed between + n)
         (let q : total pagesUsed (drop j (modelOf l .textures)) ≡ l .pool .pages - firstPageOf l j =
-        omega (arith, pages, pages-model l, page-of l j, total-cut pagesUsed (modelOf l .textures) j) in q))
-
-    one : (t : VersionState ℕ) → total pagesUsed (t ∷ []) ≡ pagesUsed t
-    unfolding total
-    one t = omega arith
-
-    pub used-set : (i : ℕ) (t : VersionState ℕ) → i < l .pool .tracked → p .textures ≡ set (modelOf l .textures) i t
-        → total pagesUsed (p .textures) ≡ l .pool .pages - pagesAt l i + pagesUsed t
-    used-set i t h e =
-        used-parts i (suc i) (t ∷ []) (set-parts l p i h t e)
-        ∙ (let q : firstPageOf l i + (total pagesUsed (t ∷ []) + (l .pool .pages - firstPageOf l (suc i)))
-        ≡ l .pool .pages - pagesAt l i + pagesUsed t =
-        omega (arith, one t, next-page l i h, page-bound l pages (suc i)) in q)
-
-    pub used-inserted : (i : ℕ) (t : VersionState ℕ) → p .textures ≡ inserted i (t ∷ []) (modelOf l .textures)
-        → total pagesUsed (p .textures) ≡ l .pool .pages + pagesUsed t
-    unfolding inserted
-    used-inserted i t e =
-        used-parts i i (t ∷ []) e
-        ∙ (let q : firstPageOf l i + (total pagesUsed (t ∷ []) + (l .pool .pages - firstPageOf l i)) ≡ l .pool .pages + pagesUsed t =
-        omega (arith, one t, page-bound l pages i) in q)
+        omega (arith, pages, pages-model l, page-of l j, total-cut pagesUsed j (modelOf l .textures)) in q))
 
     none-used : total (pagesUsed {W = ℕ}) [] ≡ 0
     unfolding total

@@ -1,10 +1,10 @@
 -- Lent memory that passes the test has every one of the facts. Assumes nothing.
 use mathlib.Core.Path.{_≡_, refl, sym, ap, ap₂, _∙_, subst}
-use mathlib.Core.Bool.{Bool, true, false, cond}
+use mathlib.Core.Bool.{Bool, true, false}
 use mathlib.Core.Option.{Option, none, some}
 use mathlib.Core.List.{List, [], _∷_}
-use Prim.Native.Nat.{ℕ, suc, _+_, _*_, _%_, _≤_, _<_}
-use native.Mathlib.Nat.{zero-add, mul-comm, mul-add-mod-self-right, mod-eq-of-lt}
+use Prim.Native.Nat.{ℕ, _+_, _*_, _%_, _≤_, _<_}
+use native.Mathlib.Nat.{zero-add, mul-comm}
 use native.Mathlib.Omega.{arith}
 use borrow.Author.Tests.{ltb-true, leb-true, eqb-true}
 use lib.Dec.{leb, eqb}
@@ -15,7 +15,6 @@ use Rattle.blocks.specs.All.{All, nil, cons}
 use Rattle.blocks.specs.Blocks.{largest}
 use Rattle.blocks.proofs.Lists.{passed, and-both, all-get}
 use Rattle.blocks.proofs.Listed.{length-listed, getD-listed}
-use Rattle.tables.proofs.Records.{length-table}
 use Rattle.shapes.specs.declared.shape.VersionShape.{VersionShape}
 use Rattle.shapes.specs.Shapes.{isShape, slicesOf}
 use Rattle.grids.specs.Grids.{Tiling, tilingOf, stampCount, StampGrid, gridIn}
@@ -23,48 +22,20 @@ use Rattle.grids.proofs.Tilings.{tiling-ok, count-bound}
 use Rattle.grids.proofs.RowByRow.{tile-place}
 use Rattle.stores.specs.declared.held.Held.{Held}
 use Rattle.stores.specs.declared.held.Held.the-variants.{Known, Unknown}
-use Rattle.stores.specs.Model.{WriteHistory, Spare, Retiring, Doomed, VersionState, Places, pagesOf, pagesUsed, hasHistory, handCount, versionsUsed}
+use Rattle.stores.specs.Model.{WriteHistory, Spare, Retiring, Doomed, Places, pagesOf, handCount, versionsUsed}
 use Rattle.stores.specs.Histories.{gridAt, gridPlace}
 use Rattle.stores.specs.Open.{arePlaces}
 use Rattle.stores.specs.Formed.{Given, HeldFormed, GridFormed, HistoryFormed, SpareFormed, RetiringFormed, DoomedFormed, StateFormed, Formed}
+use Rattle.stores.proofs.GridPlaces.{place-level}
 use Rattle.records.specs.declared.recorded.Recorded.{Recorded}
 use Rattle.records.specs.declared.recorded.Recorded.the-variants.{Writes, NoHistory}
 use Rattle.records.specs.declared.texture.TextureRecord.{TextureRecord}
-use Rattle.records.specs.Texture.{readTexture}
 use Rattle.layout.specs.Lent.{Lent, versionPlaces}
 use Rattle.layout.specs.Reading.{trackedRecords, pageAt, gridRead, historyRead, recordPages, recordedPages, spareRead, stateRead, statesRead, retiringRead, handPlaces, handRead, doomedRead, modelOf}
 use Rattle.layout.specs.IsPool.{sizesFit, countsFit, runsFit, isGrid, isHistory, isHeldCount, isSpare, isState, isRetiring, isHand, isDoomed, isArrival, isFormed, isPool}
 use Rattle.layout.proofs.FitsTests.{all-holds, ascending-holds}
 use Rattle.layout.proofs.Fits.{Fits}
-
--- ---- what is read has the sizes that the counts say
-
-module _ (l : Lent) where
-  pub length-states : (first page : ℕ) (ts : List TextureRecord) → length (statesRead l first page ts) ≡ length ts
-  unfolding statesRead
-  length-states first page [] = refl
-  length-states first page (t ∷ ts) = ap suc (length-states (first + t .spares) (page + recordPages t) ts)
-
-  pub total-spares : (first page : ℕ) (ts : List TextureRecord)
-      → total (λ (t : VersionState ℕ). length (t .spares)) (statesRead l first page ts) ≡ total (λ (t : TextureRecord). t .spares) ts
-  unfolding statesRead stateRead total
-  total-spares first page [] = refl
-  total-spares first page (t ∷ ts) =
-      ap₂ (λ (a b : ℕ). a + b) (length-listed (spareRead l) first (t .spares)) (total-spares (first + t .spares) (page + recordPages t) ts)
-
-  history-pages : (s : VersionShape) (page : ℕ) (h : Recorded) → cond (hasHistory (historyRead l s page h)) (pagesOf s) 0 ≡ recordedPages h s
-  history-pages s page NoHistory = refl
-  history-pages s page (Writes n) = refl
-
-  pub pages-read : (first page : ℕ) (t : TextureRecord) → pagesUsed (stateRead l first page t) ≡ recordPages t
-  unfolding stateRead
-  pages-read first page t = history-pages (t .shape) page (t .history)
-
-  pub total-pages : (first page : ℕ) (ts : List TextureRecord) → total pagesUsed (statesRead l first page ts) ≡ total recordPages ts
-  unfolding statesRead total
-  total-pages first page [] = refl
-  total-pages first page (t ∷ ts) =
-      ap₂ (λ (a b : ℕ). a + b) (pages-read first page t) (total-pages (first + t .spares) (page + recordPages t) ts)
+use Rattle.layout.proofs.Runs.{kept-states, tracked-model, pages-model}
 
 -- ---- 01's conditions of each part
 
@@ -107,9 +78,6 @@ module _ (l : Lent) (paged : 1024 * length (l .newest) ≡ length (l .stamps)) (
       grid-formed (tilingOf s (k % s .levels)) n (getD (l .newest) (page + k) 0) (pageAt (l .stamps) (page + k))
       (omega (arith, c, length-page l paged (page + k) (omega arith))) e
 
-  place-level : (slice level : ℕ) → level < s .levels → gridPlace s slice level % s .levels ≡ level
-  place-level slice level h = mul-add-mod-self-right slice (s .levels) level ∙ mod-eq-of-lt h
-
   length-grids : length (listed (gridRead l s page) 0 (pagesOf s)) ≡ slicesOf s * s .levels
   unfolding pagesOf
   length-grids = length-listed (gridRead l s page) 0 (slicesOf s * s .levels)
@@ -130,7 +98,7 @@ module _ (l : Lent) (paged : 1024 * length (l .newest) ≡ length (l .stamps)) (
           let f : getD (readHistory n .grids) k d ≡ gridRead l s page k =
           getD-listed (gridRead l s page) 0 (pagesOf s) k d (w .0) ∙ ap (gridRead l s page) (zero-add k) in
           let g = all-get (isGrid n) (readHistory n .grids) k d e (omega (arith, w .0, length-listed (gridRead l s page) 0 (pagesOf s))) in
-          subst (λ (m : ℕ). GridFormed (tilingOf s m) n (gridAt s (readHistory n) slice level)) (place-level slice level b)
+          subst (λ (m : ℕ). GridFormed (tilingOf s m) n (gridAt s (readHistory n) slice level)) (place-level slice level (s .levels) b)
           (subst (λ (x : StampGrid). GridFormed (tilingOf s (k % s .levels)) n x) (sym (w .1))
           (page-formed n k (w .0) (ap (isGrid n) (sym f) ∙ g)))
 
@@ -207,16 +175,8 @@ module _ (l : Lent) where
       ap₂ (λ (a b : ℕ). a + b)
       (ap₂ (λ (a b : ℕ). a + b)
       (ap₂ (λ (a b : ℕ). a + b) (length-listed (retiringRead l) (handPlaces (l .pool .popped)) (l .pool .queued)) (hand-read (l .pool .popped)))
-      (total-spares l 0 0 (trackedRecords l)))
+      (kept-states l 0 0 (trackedRecords l)))
       (length-listed (doomedRead l) 0 (l .pool .doomed))
-
-  pub textures-read : length (modelOf l .textures) ≡ l .pool .tracked
-  unfolding modelOf
-  textures-read = length-states l 0 0 (trackedRecords l) ∙ length-table 19 readTexture (l .pool .tracked) (l .textures)
-
-  pub pages-used : total pagesUsed (modelOf l .textures) ≡ total recordPages (trackedRecords l)
-  unfolding modelOf
-  pages-used = total-pages l 0 0 (trackedRecords l)
 
   pub version-places : modelOf l .places .versions ≡ versionPlaces l
   unfolding modelOf
@@ -332,9 +292,9 @@ module _ (l : Lent) (e : isPool l ≡ true) where
     hand = hand-formed (modelOf l .hand) (passed _ forming 3);
     doomed = all-holds isDoomed doomed-formed (modelOf l .doomed) (passed _ forming 4);
     trackings = leb-true _ _ (passed _ forming 5);
-    places = omega (arith, textures-read l, tracked-counted);
+    places = omega (arith, tracked-model l, tracked-counted);
     versions = omega (arith, versions-read l, versions-counted, spares-claimed, version-places l);
-    pages = omega (arith, pages-used l, pages-claimed, pages-counted, page-places l);
+    pages = omega (arith, pages-model l, pages-claimed, pages-counted, page-places l);
     parked = eqb-true _ _ (passed _ forming 6);
     dooming = eqb-true _ _ (passed _ forming 7);
     cap = leb-true _ _ (passed _ forming 8);

@@ -8,8 +8,8 @@ use native.Mathlib.Nat.{add-zero, zero-add, add-assoc, mul-zero}
 use native.Mathlib.Omega.{arith}
 use borrow.Author.Tests.{eqb-true, ne-eqb, eq-eqb}
 use lib.Dec.{eqb}
-use lib.ListN.{length, take, drop, getD, take-append-drop, set}
-use lib.Seq.{take-add, drop-drop, map-set-same}
+use lib.ListN.{length, take, drop, getD, take-append-drop}
+use lib.Seq.{take-add, drop-drop}
 use Rattle.blocks.specs.Lists.{listed, total, ascending}
 use Rattle.blocks.proofs.Lists.{over-self, and-both, ascending-get}
 use Rattle.shapes.specs.declared.shape.VersionShape.{VersionShape}
@@ -183,8 +183,3 @@ usedIn t = cond (hasHistory (t .history)) (pagesOf (t .shape)) 0
 
 pub used-paged : (ts us : List (VersionState ℕ)) → map pagedOf ts ≡ map pagedOf us → total pagesUsed ts ≡ total pagesUsed us
 used-paged ts us e = total-mapped pagedOf usedIn ts ∙ ap (total usedIn) e ∙ sym (total-mapped pagedOf usedIn us)
-
--- a texture whose id, shape and history stay
-pub paged-set : (l : Lent) (i : ℕ) (t : VersionState ℕ) → i < l .pool .tracked → pagedOf t ≡ pagedOf (stateOf l i)
-    → map pagedOf (set (modelOf l .textures) i t) ≡ map pagedOf (modelOf l .textures)
-paged-set l i t h e = map-set-same pagedOf (modelOf l .textures) i t (stateOf l 0) (e ∙ sym (ap pagedOf (model-at l i (stateOf l 0) h)))

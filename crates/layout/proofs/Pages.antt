@@ -12,13 +12,14 @@ use lib.Seq.{sets, set-split, take-take}
 use Rattle.blocks.specs.Lists.{listed, over, total, ascending, removed}
 use Rattle.blocks.specs.Blocks.{moved}
 use Rattle.stores.specs.Model.{WriteHistory, VersionState, Pool, pagesUsed}
+use Rattle.stores.proofs.Lists.{total-cut}
 use Rattle.grids.specs.Grids.{StampGrid}
 use Rattle.records.specs.Texture.{readTexture}
 use Rattle.records.specs.Find.{idOf}
 use Rattle.layout.specs.Lent.{Lent}
 use Rattle.layout.specs.Reading.{trackedRecords, recordPages, modelOf}
 use Rattle.layout.specs.Writing.{gridsOf, newestOf, newestAfter, firstPage, pageBefore, pagesFrom, pagesAfter, stampsAfter}
-use Rattle.layout.proofs.Parts.{total-next, total-cut, flat-append}
+use Rattle.layout.proofs.Parts.{total-next, flat-append}
 use Rattle.layout.proofs.Rewritten.{repacked}
 use Rattle.layout.proofs.Runs.{sparesOf, newestAt, firstPageOf, stateOf, tracked-records, tracked-model, pages-model, newest-states, take-states, drop-states}
 use Rattle.layout.proofs.Kept.{page-of, pages-before, pages-from}
@@ -37,19 +38,19 @@ module _ (l : Lent) where
     -- the pages of the textures from i on
     later : (i : ℕ) → total recordPages (drop i (trackedRecords l)) ≡ l .pool .pages - firstPageOf l i
     unfolding firstPageOf
-    later i = omega (arith, pages, total-cut recordPages (trackedRecords l) i)
+    later i = omega (arith, pages, total-cut recordPages i (trackedRecords l))
 
     later-states : (i : ℕ) → total pagesUsed (drop i (modelOf l .textures)) ≡ l .pool .pages - firstPageOf l i
-    later-states i = omega (arith, pages, pages-model l, page-of l i, total-cut pagesUsed (modelOf l .textures) i)
+    later-states i = omega (arith, pages, pages-model l, page-of l i, total-cut pagesUsed i (modelOf l .textures))
 
     pub page-bound : (i : ℕ) → firstPageOf l i ≤ l .pool .pages
     unfolding firstPageOf
-    page-bound i = omega (arith, pages, total-cut recordPages (trackedRecords l) i)
+    page-bound i = omega (arith, pages, total-cut recordPages i (trackedRecords l))
 
     pub page-order : (i j : ℕ) → i ≤ j → firstPageOf l i ≤ firstPageOf l j
     unfolding firstPageOf
     page-order i j h =
-        omega (arith, total-cut recordPages (take j (trackedRecords l)) i, ap (total recordPages) (take-take i j (trackedRecords l) h))
+        omega (arith, total-cut recordPages i (take j (trackedRecords l)), ap (total recordPages) (take-take i j (trackedRecords l) h))
 
     -- the pages of texture i lie within all of them
     pub pages-in : (i : ℕ) → i < l .pool .tracked → firstPageOf l i + pagesAt l i ≤ l .pool .pages

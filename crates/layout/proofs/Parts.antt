@@ -1,6 +1,5 @@
 -- Lists cut and joined again, under a map and as runs that stand one behind the other. Assumes nothing.
 use mathlib.Core.Path.{_≡_, refl, sym, ap, ap₂, _∙_}
-use mathlib.Core.Bool.{Bool, true, false, cond}
 use mathlib.Core.List.{List, [], _∷_, _++_, map, flatMap, map-append, append-assoc}
 use Prim.Native.Nat.{ℕ, zero, suc, _+_, _*_, _-_, _≤_, _<_}
 use native.Mathlib.Numerals.{add-one}
@@ -8,8 +7,9 @@ use native.Mathlib.Nat.{add-zero, add-assoc, mul-add, mul-zero}
 use native.Mathlib.Omega.{arith}
 use lib.ListN.{length, take, drop, getD, set, length-drop, take-append-drop}
 use lib.Seq.{set-split, take-add, take-take, take-append-add, drop-drop, drop-append-le, drop-append-add, getD-take, getD-drop, length-take-le}
-use Rattle.blocks.specs.Lists.{total, keep, removed, inserted}
+use Rattle.blocks.specs.Lists.{total, removed, inserted}
 use Rattle.blocks.proofs.Lists.{total-append}
+use Rattle.stores.proofs.Lists.{total-cut}
 
 -- ---- under a map
 
@@ -58,11 +58,8 @@ module _ {A : Type 0} (f : A → ℕ) where
   total-next (x ∷ xs) zero d h = omega arith
   total-next (x ∷ xs) (suc i) d h = omega (arith, total-next xs i d (omega arith))
 
-  pub total-cut : (xs : List A) (i : ℕ) → total f (take i xs) + total f (drop i xs) ≡ total f xs
-  total-cut xs i = sym (total-append f (take i xs) (drop i xs)) ∙ ap (total f) (take-append-drop i xs)
-
   pub total-within : (xs : List A) (i : ℕ) (d : A) → i < length xs → total f (take i xs) + f (getD xs i d) ≤ total f xs
-  total-within xs i d h = omega (arith, total-next xs i d h, total-cut xs (suc i))
+  total-within xs i d h = omega (arith, total-next xs i d h, total-cut f (suc i) xs)
 
 -- ---- what each gives, joined
 
@@ -186,23 +183,3 @@ module _ {A : Type 0} (f : A → List ℕ) (w : A → ℕ) (c : ℕ) (s : List �
       ap f (getD-drop i xs j d)
       ∙ h (i + j) (omega (arith, q, length-drop i xs))
       ∙ ap₂ (λ (x : A) (n : ℕ). take (c * w x) (drop (c * n) s)) (sym (getD-drop i xs j d)) e
-
--- ---- a pass over a list, as what each gives
-
-module _ {A : Type 0} where
-  pub map-each : {B : Type 0} (f : A → B) (xs : List A) → map f xs ≡ flatMap (λ (x : A). f x ∷ []) xs
-  unfolding flatMap
-  map-each f [] = refl
-  map-each {B = B} f (x ∷ xs) = ap (λ (l : List B). f x ∷ l) (map-each f xs)
-
-  -- changed by f, those of which p holds kept, and changed by g
-  pub keep-each : (f g : A → A) (p : A → Bool) (xs : List A) → map g (keep p (map f xs)) ≡ flatMap (λ (x : A). cond (p (f x)) (g (f x) ∷ []) []) xs
-  unfolding flatMap keep
-  keep-each f g p [] = refl
-  keep-each f g p (x ∷ xs) = go (p (f x)) (keep-each f g p xs)
-    where
-      go : (b : Bool) → map g (keep p (map f xs)) ≡ flatMap (λ (x : A). cond (p (f x)) (g (f x) ∷ []) []) xs
-          → map g (cond b (f x ∷ keep p (map f xs)) (keep p (map f xs)))
-          ≡ cond b (g (f x) ∷ []) [] ++ flatMap (λ (x : A). cond (p (f x)) (g (f x) ∷ []) []) xs
-      go true e = ap (λ (l : List A). g (f x) ∷ l) e
-      go false e = e

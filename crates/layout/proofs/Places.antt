@@ -3,7 +3,7 @@ use mathlib.Core.Path.{_≡_, refl, sym, ap, ap₂, _∙_}
 use mathlib.Core.Bool.{Bool, true, false, cond, not}
 use mathlib.Core.Option.{none, some}
 use mathlib.Core.List.{List, [], _∷_, _++_, flatMap, append-nil}
-use Prim.Native.Nat.{ℕ, zero, suc, _+_, _*_, _≤_, _<_}
+use Prim.Native.Nat.{ℕ, zero, suc, _+_, _≤_, _<_}
 use native.Mathlib.Decide.{decLt}
 use native.Mathlib.Omega.{arith}
 use borrow.Author.Tests.{lt-ltb, le-ltb, eq-eqb, ne-eqb}
@@ -14,7 +14,7 @@ use Rattle.stores.specs.Model.{VersionState, find}
 use Rattle.stores.specs.Updates.{change, insert}
 use Rattle.records.specs.Texture.{readTexture}
 use Rattle.records.specs.Find.{idOf, below}
-use Rattle.records.proofs.Places.{below-length, below-before, below-at, below-found, id-at}
+use Rattle.records.proofs.Places.{below-length, below-before, below-at, below-found}
 use Rattle.layout.specs.Lent.{Lent}
 use Rattle.layout.specs.Reading.{trackedRecords, modelOf}
 use Rattle.layout.proofs.Runs.{stateOf, tracked-records, tracked-model, model-at, id-model}
@@ -137,13 +137,6 @@ module _ (l : Lent) (id : ℕ) (up : ascending idOf (trackedRecords l) ≡ true)
   -- the texture is there
   abbrev pub IsTracked : Type 0
   IsTracked = (place < l .pool .tracked) × (idAt place ≡ id)
-
-  -- by the first number of the record at the place, as the code tests it
-  pub is-tracked : place < l .pool .tracked → getD (l .textures) (19 * place) 0 ≡ id → IsTracked
-  is-tracked h e = (h, id-at (l .pool .tracked) place (l .textures) h ∙ e)
-
-  pub not-tracked : (place < l .pool .tracked → getD (l .textures) (19 * place) 0 ≡ id → ⊥) → IsTracked → ⊥
-  not-tracked ne (h, e) = ne h (sym (id-at (l .pool .tracked) place (l .textures) h) ∙ e)
 
   -- no other place has the id
   elsewhere : (j : ℕ) → j < length (modelOf l .textures) → getD (modelOf l .textures) j (stateOf l 0) .id ≡ id

@@ -27,7 +27,8 @@ use Rattle.layout.specs.Reading.{trackedRecords, recordPages, statesRead
 use Rattle.layout.specs.Writing.{textureRecord, spareRecord, retiringRecord, doomedRecord, texturesAfter, everySpare, sparesAfter, newestAfter, stampsAfter, headAfter, handList, retiringAfter, firstAfter, doomedAfter, poolAfter, bookAfter, after}
 use Rattle.layout.specs.IsPool.{isPool}
 use Rattle.layout.proofs.Fits.{Fits}
-use Rattle.layout.proofs.FromPool.{version-places, page-places, pages-used}
+use Rattle.layout.proofs.FromPool.{version-places, page-places}
+use Rattle.layout.proofs.Runs.{pages-model}
 use Rattle.layout.proofs.ToPool.{fits-pool}
 use Rattle.layout.proofs.ReadStates.{states-back, length-every-spare, kept-recorded, pages-recorded, length-newests, length-new-pages}
 use Rattle.layout.proofs.ReadRings.{hand-back, queue-back, doomed-back}
@@ -49,7 +50,7 @@ module _ (l : Lent) (p : Pool ℕ) (fits : Fits l) (formed : Formed p) (same : p
   page-room = omega (arith, formed .pages, ap (λ (n : Places). n .pages) same, page-places l)
 
   pages-before : total pagesUsed (modelOf l .textures) ≤ length (l .newest)
-  pages-before = omega (arith, pages-used l, fits .claimed, fits .pages)
+  pages-before = omega (arith, pages-model l, fits .claimed, fits .pages)
 
   -- ---- the slices keep their lengths
 

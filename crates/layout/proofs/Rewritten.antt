@@ -1,14 +1,14 @@
--- Part of a list of numbers written anew: a block replaced, a run set, a list made anew element by element. Assumes nothing.
-use mathlib.Core.Path.{_≡_, refl, sym, ap, ap₂, _∙_}
-use mathlib.Core.List.{List, [], _∷_, _++_, append-assoc, append-nil}
+-- Part of a list of numbers written anew: a block replaced, a run set. Assumes nothing.
+use mathlib.Core.Path.{_≡_, sym, ap, ap₂, _∙_}
+use mathlib.Core.List.{List, [], _∷_, _++_, append-assoc}
 use Prim.Native.Nat.{ℕ, zero, suc, _+_, _-_, _≤_, _<_}
 use native.Mathlib.Nat.{add-zero, zero-add, suc-add, add-assoc}
 use native.Mathlib.Omega.{arith}
-use lib.ListN.{length, take, drop, getD, set, replicate, length-replicate, length-append, length-drop, length-set, take-append-drop}
-use lib.Seq.{sets, sets-eq, take-add, take-take, take-append-le, take-append-add, take-at, take-all, drop-at, drop-drop, drop-append-le, drop-append-add, length-take-le, set-append-left, take-suc, drop-cons, drop-nil, getD-at, set-at, set-getD, append-snoc}
+use lib.ListN.{length, take, drop, set, replicate, length-replicate, length-append, length-drop, length-set, take-append-drop}
+use lib.Seq.{sets, sets-eq, take-add, take-take, take-append-le, take-append-add, drop-at, drop-drop, drop-append-le, drop-append-add, length-take-le, set-append-left}
 use Rattle.blocks.specs.Lists.{over}
 use Rattle.blocks.specs.Blocks.{moved}
-use Rattle.blocks.proofs.Lists.{over-self, over-over, length-over, take-over}
+use Rattle.blocks.proofs.Lists.{over-self}
 
 -- ---- packed in one list of numbers
 
@@ -48,36 +48,6 @@ moved-self s at n =
     ∙ ap (λ (l : List ℕ). take at s ++ l) (take-append-drop n (drop at s))
     ∙ take-append-drop at s
 
-drop-within : (x s : List ℕ) (a : ℕ) → a ≤ length x → drop a (over x s) ≡ drop a x ++ drop (length x) s
-unfolding over
-drop-within x s a q = drop-append-le a x (drop (length x) s) q
-
--- in two moves: the block taken out, and then y put in
-pub repacked-twice : (s y : List ℕ) (a n r : ℕ) → a + n + r ≤ length s → a + length y + r ≤ length s
-    → sets (moved (moved s a (a + n) r) (a + length y) a r) a y ≡ sets (moved s (a + length y) (a + n) r) a y
-repacked-twice s y a n r h room =
-    let b = take r (drop (a + n) s) in
-    let x = take a s ++ b in
-    let la : length (take a s) ≡ a = length-take-le a s (omega arith) in
-    let lb : length b ≡ r = length-take-le r (drop (a + n) s) (omega (arith, length-drop (a + n) s)) in
-    let lx : length x ≡ a + r = length-append (take a s) b ∙ ap₂ (λ (i j : ℕ). i + j) la lb in
-    let one : moved s a (a + n) r ≡ over x s =
-    ap (λ (k : ℕ). moved s k (a + n) r) (sym (add-zero a)) ∙ repacked s [] a (a + n) r (omega arith) h (omega arith) in
-    let long : length (over x s) ≡ length s = length-over x s (omega arith) in
-    let front : take a (over x s) ≡ take a s = take-over x s a (omega arith) ∙ take-at (take a s) b a la in
-    let back : take r (drop a (over x s)) ≡ b =
-    take-drop-over x s a r (omega arith) ∙ ap (take r) (drop-at (take a s) b a la) ∙ take-all r b (omega arith) in
-    ap (λ (q : List ℕ). sets (moved q (a + length y) a r) a y) one
-    ∙ repacked (over x s) y a a r (omega arith) (omega arith) (omega arith)
-    ∙ ap₂ (λ (p q : List ℕ). over (p ++ (y ++ q)) (over x s)) front back
-    ∙ over-over x (take a s ++ (y ++ b)) s (omega (arith, lx, la, lb, length-append (take a s) (y ++ b), length-append y b))
-    ∙ sym (repacked s y a (a + n) r (omega arith) h room)
-  where
-    -- within what is laid over
-    take-drop-over : (x s : List ℕ) (a r : ℕ) → a + r ≤ length x → take r (drop a (over x s)) ≡ take r (drop a x)
-    take-drop-over x s a r q =
-        ap (take r) (drop-within x s a (omega arith)) ∙ take-append-le r (drop a x) (drop (length x) s) (omega (arith, length-drop a x))
-
 -- ---- runs of one number
 
 pub length-zeros : (n : ℕ) → length (replicate {A = ℕ} n 0) ≡ n
@@ -99,6 +69,13 @@ pub set-append-add {ℓ} : {A : Type ℓ} (xs ys : List A) (k : ℕ) (a : A) →
 set-append-add [] ys k a = ap (λ (n : ℕ). set ys n a) (zero-add k)
 set-append-add {A = A} (x ∷ xs) ys k a =
     ap (λ (n : ℕ). set (x ∷ (xs ++ ys)) n a) (suc-add (length xs) k) ∙ ap (λ (l : List A). x ∷ l) (set-append-add xs ys k a)
+
+-- two runs, one behind the other
+pub sets-append {ℓ} : {A : Type ℓ} (s : List A) (at : ℕ) (xs ys : List A) → sets s at (xs ++ ys) ≡ sets (sets s at xs) (at + length xs) ys
+sets-append s at [] ys = ap (λ (k : ℕ). sets s k ys) (sym (add-zero at))
+sets-append s at (x ∷ xs) ys =
+    sets-append (set s at x) (suc at) xs ys
+    ∙ ap (λ (k : ℕ). sets (sets (set s at x) (suc at) xs) k ys) (let e : suc at + length xs ≡ at + suc (length xs) = omega arith in e)
 
 module _ {A : Type 0} (s : List A) (at : ℕ) where
   -- what stands there
@@ -140,11 +117,6 @@ module _ {A : Type 0} (s : List A) (at : ℕ) where
         ∙ drop-append-add (take at s) (ys ++ rest) m
         ∙ drop-append-le m ys rest h
 
-    -- the w elements from m on in the run
-    pub part-sets : (m w : ℕ) → m + w ≤ length ys → take w (drop (at + m) (sets s at ys)) ≡ take w (drop m ys)
-    part-sets m w h =
-        ap (take w) (drop-sets m (omega arith)) ∙ take-append-le w (drop m ys) (drop (at + length ys) s) (omega (arith, length-drop m ys))
-
     pub sets-part : (x : List A) (m w : ℕ) → length x ≡ w → m + w ≤ length ys
         → take (at + m) (sets s at ys) ++ (x ++ drop (at + m + w) (sets s at ys)) ≡ sets s at (take m ys ++ (x ++ drop (m + w) ys))
     sets-part x m w lx h =
@@ -159,45 +131,3 @@ module _ {A : Type 0} (s : List A) (at : ℕ) where
         ∙ (let e : (take at s ++ take m ys) ++ (x ++ (drop (m + w) ys ++ rest)) ≡ take at s ++ new ++ rest = simp append-assoc in e)
         ∙ ap (λ (n : ℕ). take at s ++ new ++ drop (at + n) s) (sym long)
         ∙ sym (sets-eq new s at (omega arith))
-
--- ---- a list made anew element by element: the first k are new
-
-abbrev pub mixed {ℓ} : {A : Type ℓ} → ℕ → List A → List A → List A
-mixed k new old = take k new ++ drop k old
-
-module _ {A : Type 0} (new old : List A) (long : length new ≡ length old) where
-  pub mixed-start : mixed 0 new old ≡ old
-  mixed-start = refl
-
-  pub mixed-end : (k : ℕ) → length old ≤ k → mixed k new old ≡ new
-  mixed-end k h = ap₂ (λ (a b : List A). a ++ b) (take-all k new (omega arith)) (drop-all k old h) ∙ append-nil new
-    where
-      drop-all : (k : ℕ) (xs : List A) → length xs ≤ k → drop k xs ≡ []
-      drop-all k [] q = drop-nil k
-      drop-all zero (x ∷ xs) q = absurd (let y : ⊥ = omega arith in y)
-      drop-all (suc k) (x ∷ xs) q = drop-all k xs (omega arith)
-
-  module _ (k : ℕ) (d : A) (h : k < length old) where
-    front : length (take k new) ≡ k
-    front = length-take-le k new (omega arith)
-
-    -- the next is still the old one
-    pub mixed-at : getD (mixed k new old) k d ≡ getD old k d
-    mixed-at =
-        ap (λ (l : List A). getD (take k new ++ l) k d) (drop-cons old k d h) ∙ getD-at (take k new) (getD old k d) (drop (suc k) old) d k front
-
-    pub mixed-next : mixed (suc k) new old ≡ set (mixed k new old) k (getD new k d)
-    mixed-next =
-        ap (λ (l : List A). l ++ drop (suc k) old) (take-suc new k d (omega arith))
-        ∙ append-snoc (take k new) (getD new k d) (drop (suc k) old)
-        ∙ sym (ap (λ (l : List A). set (take k new ++ l) k (getD new k d)) (drop-cons old k d h)
-        ∙ set-at (take k new) (getD old k d) (drop (suc k) old) (getD new k d) k front)
-
-    -- one that does not change
-    pub mixed-same : getD new k d ≡ getD old k d → mixed (suc k) new old ≡ mixed k new old
-    mixed-same e = mixed-next ∙ ap (set (mixed k new old) k) (e ∙ sym mixed-at) ∙ set-getD (mixed k new old) k d
-
-  pub length-mixed : (k : ℕ) → k ≤ length old → length (mixed k new old) ≡ length old
-  length-mixed k h =
-      length-append (take k new) (drop k old)
-      ∙ (let e : length (take k new) + length (drop k old) ≡ length old = omega (arith, length-take-le k new (omega arith), length-drop k old) in e)

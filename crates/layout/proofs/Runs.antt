@@ -120,16 +120,6 @@ module _ (l : Lent) where
 
   -- ---- the first of them, the later ones, and one among them
 
-  pub states-append : (first page : ℕ) (ts us : List TextureRecord)
-      → statesRead l first page (ts ++ us) ≡ statesRead l first page ts ++ statesRead l (first + total sparesOf ts) (page + total recordPages ts) us
-  unfolding statesRead total
-  states-append first page [] us = ap₂ (λ (a b : ℕ). statesRead l a b us) (sym (add-zero first)) (sym (add-zero page))
-  states-append first page (t ∷ ts) us =
-      ap (λ (xs : List (VersionState ℕ)). stateRead l first page t ∷ xs)
-      (states-append (first + t .spares) (page + recordPages t) ts us
-      ∙ ap₂ (λ (a b : ℕ). statesRead l (first + t .spares) (page + recordPages t) ts ++ statesRead l a b us)
-      (add-assoc first (t .spares) (total sparesOf ts)) (add-assoc page (recordPages t) (total recordPages ts)))
-
   pub take-states : (i first page : ℕ) (ts : List TextureRecord) → take i (statesRead l first page ts) ≡ statesRead l first page (take i ts)
   unfolding statesRead
   take-states zero first page ts = refl

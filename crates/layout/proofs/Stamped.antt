@@ -7,7 +7,7 @@ use Prim.Native.Nat.{ℕ, zero, suc, _+_, _*_, _%_, _≤_, _<_}
 use native.Mathlib.Nat.{add-zero, zero-add, mul-zero}
 use native.Mathlib.Omega.{arith}
 use lib.ListN.{length, take, drop, getD, set, length-append, length-drop}
-use lib.Seq.{sets, take-at, take-append-add, drop-at, drop-append-add, length-take-le}
+use lib.Seq.{sets, take-append-add, drop-at, drop-append-add, length-take-le}
 use Rattle.blocks.specs.Lists.{over}
 use Rattle.blocks.proofs.Lists.{length-over}
 use Rattle.blocks.proofs.Listed.{length-listed, getD-listed}
@@ -20,7 +20,7 @@ use Rattle.records.specs.Texture.{readTexture}
 use Rattle.layout.specs.Lent.{Lent}
 use Rattle.layout.specs.Reading.{trackedRecords, recordedPages, pageAt, gridRead, historyRead, stateRead}
 use Rattle.layout.specs.Writing.{gridsOf, pageBefore, pagesFrom}
-use Rattle.layout.proofs.Rewritten.{sets-self, part-sets, sets-part}
+use Rattle.layout.proofs.Rewritten.{sets-self, sets-part}
 use Rattle.layout.proofs.Runs.{firstSpare, firstPageOf, stateOf, pages-state}
 use Rattle.layout.proofs.Kept.{pages-of}
 use Rattle.layout.proofs.Same.{over-front}
@@ -47,23 +47,6 @@ module _ (before : ℕ → List ℕ) (d : StampGrid) where
       length-append (over (g .stamps) (before k)) (pagesFrom before (suc k) gs)
       ∙ ap₂ (λ (a b : ℕ). a + b) (whole-head k g gs w) (length-pages (suc k) gs (whole-tail k g gs w))
       ∙ (let e : 1024 + 1024 * length gs ≡ 1024 * suc (length gs) = omega arith in e)
-
-  -- the page of grid m
-  pub page-of-grid : (k : ℕ) (gs : List StampGrid) (m : ℕ) → Whole k gs → m < length gs
-      → take 1024 (drop (1024 * m) (pagesFrom before k gs)) ≡ over (getD gs m d .stamps) (before (k + m))
-  unfolding pagesFrom
-  page-of-grid k [] m w h = absurd (let y : ⊥ = omega arith in y)
-  page-of-grid k (g ∷ gs) zero w h =
-      take-at (over (g .stamps) (before k)) (pagesFrom before (suc k) gs) 1024 (whole-head k g gs w)
-      ∙ ap (λ (j : ℕ). over (g .stamps) (before j)) (sym (add-zero k))
-  page-of-grid k (g ∷ gs) (suc m) w h =
-      let one = over (g .stamps) (before k) in
-      let rest = pagesFrom before (suc k) gs in
-      let e : 1024 * suc m ≡ length one + 1024 * m = omega (arith, whole-head k g gs w) in
-      ap (λ (n : ℕ). take 1024 (drop n (one ++ rest))) e
-      ∙ ap (take 1024) (drop-append-add one rest (1024 * m))
-      ∙ page-of-grid (suc k) gs m (whole-tail k g gs w) (omega arith)
-      ∙ ap (λ (j : ℕ). over (getD gs m d .stamps) (before j)) (let q : suc k + m ≡ k + suc m = omega arith in q)
 
   -- grid m changed
   pub pages-set : (k : ℕ) (gs : List StampGrid) (m : ℕ) (g : StampGrid) → Whole k gs → m < length gs
@@ -92,14 +75,6 @@ module _ (before : ℕ → List ℕ) (d : StampGrid) where
 module _ (s : List ℕ) (at : ℕ) (before : ℕ → List ℕ) (d : StampGrid) (gs : List StampGrid) (w : Whole before d 0 gs)
     (fits : at + 1024 * length gs ≤ length s)
     (k : ℕ) (h : k < length gs) where
-  -- page k as it stands
-  pub page-now : take 1024 (drop (at + 1024 * k) (sets s at (pagesFrom before 0 gs))) ≡ over (getD gs k d .stamps) (before k)
-  page-now =
-      let n = length-pages before d 0 gs w in
-      part-sets s at (pagesFrom before 0 gs) (omega arith) (1024 * k) 1024 (omega arith)
-      ∙ page-of-grid before d 0 gs k w h
-      ∙ ap (λ (j : ℕ). over (getD gs k d .stamps) (before j)) (zero-add k)
-
   -- and after a stamp on it
   pub page-stamped : (g : StampGrid) → length (over (g .stamps) (before k)) ≡ 1024
       → take (at + 1024 * k) (sets s at (pagesFrom before 0 gs))

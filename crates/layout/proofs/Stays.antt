@@ -7,7 +7,9 @@ use native.Mathlib.Omega.{arith}
 use lib.Dec.{ltb}
 use lib.ListN.{length}
 use Rattle.blocks.specs.Lists.{ascending, total}
-use Rattle.stores.specs.Model.{VersionState, Pool}
+use Rattle.blocks.specs.All.{All, nil, cons}
+use Rattle.stores.specs.Model.{Doomed, VersionState, Pool, doomedBytes}
+use Rattle.stores.specs.Formed.{DoomedFormed}
 use Rattle.records.specs.declared.texture.TextureRecord.{TextureRecord}
 use Rattle.records.specs.Find.{idOf}
 use Rattle.layout.specs.declared.pool.Pool.{Pool as Counts}
@@ -38,6 +40,12 @@ unfolding ascending
 ascending-records [] = refl
 ascending-records (t ∷ []) = refl
 ascending-records (t ∷ u ∷ us) = ap (λ (b : Bool). ltb (t .id) (u .id) && b) (ascending-records (u ∷ us))
+
+-- the bytes of formed versions
+pub doomed-bound : {ds : List (Doomed ℕ)} → All DoomedFormed ds → doomedBytes ds ≤ 17592186044416 * length ds
+unfolding total
+doomed-bound nil = omega arith
+doomed-bound (cons d ds) = omega (arith, d .bytes, doomed-bound ds)
 
 module _ (l : Lent) (f : Fits l) where
   pub ids-ascend : ascending idOf (trackedRecords l) ≡ true

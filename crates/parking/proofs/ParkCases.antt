@@ -11,15 +11,14 @@ use lib.Dec.{ltb, eqb}
 use lib.ListN.{length, set, length-append}
 use lib.Seq.{sets}
 use Rattle.blocks.specs.Lists.{total, inserted}
-use Rattle.blocks.specs.All.{All, nil, cons}
 use Rattle.blocks.specs.Blocks.{moved}
 use Rattle.tables.specs.Rings.{placeOf, along, laid}
 use Rattle.tables.proofs.Records.{take-table}
 use Rattle.shapes.specs.Shapes.{isShape, bytesOf}
-use Rattle.stores.specs.Model.{Spare, Retiring, Doomed, VersionState, Pool, accepted, refused, guard, find, limit, pagesUsed, doomedBytes}
+use Rattle.stores.specs.Model.{Spare, Retiring, Doomed, VersionState, Pool, accepted, refused, guard, find, limit, pagesUsed}
 use Rattle.stores.specs.Updates.{withSpares, withTextures, withRetiring, withParked, change, doom}
 use Rattle.stores.specs.Park.{asSpare, parkFound, parkHand, park}
-use Rattle.stores.specs.Formed.{Given, RetiringFormed, DoomedFormed}
+use Rattle.stores.specs.Formed.{Given, RetiringFormed}
 use Rattle.stores.proofs.States.{length-change, total-unchanged}
 use Rattle.records.specs.declared.texture.TextureRecord.{TextureRecord}
 use Rattle.records.specs.declared.spare.SpareRecord.{SpareRecord}
@@ -48,25 +47,20 @@ use Rattle.layout.proofs.Same.{queued-model, doomed-model}
 use Rattle.layout.proofs.Kept.{pagedOf}
 use Rattle.layout.proofs.Changes.{sparesBefore, sparesAt, every-appended, textures-set, spares-inserted}
 use Rattle.layout.proofs.Counts.{kept-inserted}
-use Rattle.layout.proofs.Stays.{put-together, textures-fit, ring-fits, doomed-fit, book-stays, textures-stay, spares-stay, newest-stay, stamps-stay, doomed-stay}
+use Rattle.layout.proofs.Stays.{put-together, textures-fit, ring-fits, doomed-fit, book-stays, textures-stay, spares-stay, newest-stay, stamps-stay, doomed-stay, doomed-bound}
+use Rattle.layout.proofs.Tracked.{textureAt, record-read, record-at}
 use Rattle.parking.specs.declared.decision.Parking.{Parking}
 use Rattle.parking.specs.declared.decision.Parking.the-variants.{Destroyed, Kept}
 use Rattle.parking.specs.Counts.{handKept, handDoomed}
 use Rattle.retirement.specs.Noted.{hasId}
 use Rattle.parking.specs.Parked.{parkRefusal, parkingOf, spareParked, oneMore, sparesEnd}
-use Rattle.retirement.proofs.Tracked.{map-change, textureAt, inside, record-read, record-at, found-here, found-nowhere, changed-here, shape-here, history-here}
+use Rattle.retirement.proofs.Tracked.{map-change, inside, found-here, found-nowhere, changed-here, shape-here, history-here}
 use Rattle.retirement.proofs.PopCases.{front-read}
 use Rattle.parking.proofs.Parked.{Says, decision-says, held-fits}
 
 -- as the code counts them
 abbrev places : Lent → ℕ
 places l = length (l .retiring) / 7
-
--- the bytes of formed versions
-doomed-bound : {ds : List (Doomed ℕ)} → All DoomedFormed ds → doomedBytes ds ≤ 17592186044416 * length ds
-unfolding total
-doomed-bound nil = omega arith
-doomed-bound (cons d ds) = omega (arith, d .bytes, doomed-bound ds)
 
 -- a state with one more spare
 abbrev withOne : Spare ℕ → VersionState ℕ → VersionState ℕ

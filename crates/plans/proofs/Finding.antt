@@ -17,6 +17,7 @@ use Rattle.stores.specs.declared.held.Held.the-variants.{Known, Unknown}
 use Rattle.stores.specs.Model.{WriteHistory, Out, PreserveCopy, UploadFootprint, guard, find, pagesOf}
 use Rattle.stores.specs.Histories.{spent}
 use Rattle.stores.specs.PreservePlan.{planWith, planFound}
+use Rattle.stores.proofs.Lists.{total-cut}
 use Rattle.records.specs.declared.recorded.Recorded.{Recorded}
 use Rattle.records.specs.declared.recorded.Recorded.the-variants.{Writes, NoHistory}
 use Rattle.records.specs.declared.texture.TextureRecord.{TextureRecord}
@@ -25,7 +26,7 @@ use Rattle.records.specs.Find.{idOf, below}
 use Rattle.layout.specs.Lent.{Lent}
 use Rattle.layout.specs.Reading.{trackedRecords, recordPages, recordedPages, historyRead, stateRead, modelOf}
 use Rattle.layout.proofs.Fits.{Fits}
-use Rattle.layout.proofs.Parts.{total-cut, total-within}
+use Rattle.layout.proofs.Parts.{total-within}
 use Rattle.layout.proofs.Runs.{firstSpare, firstPageOf, stateOf, tracked-records}
 use Rattle.layout.proofs.Places.{IsTracked}
 use Rattle.layout.proofs.Places as places
@@ -74,7 +75,7 @@ found-place textures tracked id shape i e = ap (foundAt textures tracked id shap
 pub pages-part : (textures : List ℕ) (tracked i : ℕ) → i ≤ tracked
     → total recordPages (table 19 readTexture i textures) ≤ total recordPages (table 19 readTexture tracked textures)
 pages-part textures tracked i h =
-    omega (arith, total-cut recordPages (table 19 readTexture tracked textures) i, ap (total recordPages) (take-table 19 readTexture i tracked textures h))
+    omega (arith, total-cut recordPages i (table 19 readTexture tracked textures), ap (total recordPages) (take-table 19 readTexture i tracked textures h))
 
 -- ---- as the model has it
 

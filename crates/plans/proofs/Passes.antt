@@ -1,10 +1,10 @@
 -- Laws of the two passes over a plan: those that are left, and copies written one behind the other. Assumes nothing.
 use mathlib.Core.Path.{_≡_, refl, sym, ap, _∙_}
 use mathlib.Core.List.{List, [], _∷_, _++_, append-nil, flatMap}
-use Prim.Native.Nat.{ℕ, suc, _+_, _*_, _≤_, _<_}
-use native.Mathlib.Nat.{add-zero, zero-add}
+use Prim.Native.Nat.{ℕ, _+_, _*_, _≤_, _<_}
+use native.Mathlib.Nat.{zero-add}
 use native.Mathlib.Omega.{arith}
-use lib.ListN.{length, drop, set, length-append}
+use lib.ListN.{length, drop, length-append}
 use lib.Seq.{sets, sets-eq}
 use Rattle.blocks.specs.Lists.{over}
 use Rattle.blocks.proofs.Listed.{left, left-all, left-step, left-none}
@@ -16,6 +16,7 @@ use Rattle.rects.specs.declared.rect.Region.{Region}
 use Rattle.rects.specs.declared.rect.Region.the-variants.{Whole, Part}
 use Rattle.stores.specs.Model.{PreserveCopy, UploadFootprint}
 use Rattle.layout.specs.Calls.{copyNumbers}
+use Rattle.layout.proofs.Rewritten.{sets-append}
 use Rattle.plans.specs.declared.copy.Planned.{Planned}
 use Rattle.plans.specs.declared.copy.Planned.the-variants.{Skipped, Copied}
 use Rattle.plans.specs.declared.since.Since.{Since}
@@ -80,12 +81,6 @@ list-one p region a b e = ap (λ (x : Planned). copyList x a b) e
 
 -- ---- copies written
 
-sets-append : (xs ys s : List ℕ) (i : ℕ) → sets s i (xs ++ ys) ≡ sets (sets s i xs) (i + length xs) ys
-sets-append [] ys s i = ap (λ (k : ℕ). sets s k ys) (sym (add-zero i))
-sets-append (x ∷ xs) ys s i =
-    sets-append xs ys (set s i x) (suc i)
-    ∙ ap (λ (k : ℕ). sets (sets (set s i x) (suc i) xs) k ys) (let e : suc i + length xs ≡ i + suc (length xs) = omega arith in e)
-
 pub copy-long : (c : PreserveCopy) → length (copyNumbers c) ≡ 7
 unfolding copyNumbers
 copy-long c = go (c .region)
@@ -111,7 +106,7 @@ pub with-append : (xs ys : List PreserveCopy) (at : ℕ) (b : List ℕ) → with
 unfolding withCopies
 with-append xs ys at b =
     ap (sets b (7 * at)) (flat-append copyNumbers xs ys)
-    ∙ sets-append (flat copyNumbers xs) (flat copyNumbers ys) b (7 * at)
+    ∙ sets-append b (7 * at) (flat copyNumbers xs) (flat copyNumbers ys)
     ∙ ap (λ (k : ℕ). sets (sets b (7 * at) (flat copyNumbers xs)) k (flat copyNumbers ys))
     (let e : 7 * at + length (flat copyNumbers xs) ≡ 7 * (at + length xs) = omega (arith, length-copies xs) in e)
 

@@ -10,16 +10,15 @@ use lib.ListN.{length, take, drop}
 use lib.Seq.{split-at}
 use Rattle.blocks.specs.Lists.{listed, keep, total}
 use Rattle.blocks.specs.All.{All, nil, cons}
-use Rattle.blocks.proofs.All.{all-map, all-at, all-keep}
+use Rattle.blocks.proofs.All.{all-map, all-keep}
 use Rattle.blocks.proofs.Lists.{keep-append, total-append}
 use Rattle.blocks.proofs.Listed.{map-listed}
 use Rattle.tables.specs.Records.{recordAt}
 use Rattle.tables.proofs.Records.{getD-table}
 use Rattle.shapes.specs.Shapes.{isShape, bytesOf}
 use Rattle.shapes.proofs.ShapeBytes.{bytes-bound}
-use Rattle.stores.specs.Model.{Doomed, VersionState, doomedBytes}
+use Rattle.stores.specs.Model.{VersionState}
 use Rattle.stores.specs.NoteAllocated.{Aged, picked, byAge, countOf, agedOf, pickedIn}
-use Rattle.stores.specs.Formed.{DoomedFormed}
 use Rattle.stores.proofs.Moves.{given}
 use Rattle.records.specs.declared.texture.TextureRecord.{TextureRecord}
 use Rattle.records.specs.Texture.{readTexture}
@@ -30,13 +29,14 @@ use Rattle.layout.proofs.Fits.{Fits}
 use Rattle.layout.proofs.Parts.{total-next, total-within}
 use Rattle.layout.proofs.Runs.{firstSpare, stateOf, tracked-records, tracked-model, records-model, model-at}
 use Rattle.layout.proofs.Same.{doomed-model}
-use Rattle.layout.proofs.Stays.{textures-fit, spares-fit}
+use Rattle.layout.proofs.Stays.{textures-fit, spares-fit, doomed-bound}
+use Rattle.layout.proofs.Tracked.{shape-at, shape-passes}
 use Rattle.relief_line.specs.Line.{bytesOfAged, isBefore, isAt, bytesBefore, IsLine, freedWith, parkedOf, countBefore, takenAt, gives}
 use Rattle.relief_line.specs.Parked.{parkedAt, parkings, bytesFrom, recordSpares, recordBytes, Countable}
 use Rattle.relief_line.proofs.Picked.{all-picked, freed-append}
 use Rattle.relief_line.proofs.ByLine.{agedAll, aged-append, before-run, at-run, gives-among, aged-bytes}
 use Rattle.relief_line.proofs.Parked.{length-parkings, gives-most, gives-sum, before-most}
-use Rattle.relief.proofs.Thinned.{state-spares, state-shape, take-next}
+use Rattle.relief.proofs.Thinned.{state-spares, take-next}
 
 -- ---- bytes of one texture's spares
 
@@ -108,11 +108,6 @@ module _ (l : Lent) where
     records-shaped : All (λ (t : TextureRecord). isShape (t .shape) ≡ true) (trackedRecords l)
     records-shaped = rw (records-model l) at (all-map {Q = λ (t : TextureRecord). isShape (t .shape) ≡ true} textureRecord (λ t q. q .shape) (f .formed .textures))
 
-    shape-at : (i : ℕ) → i < l .pool .tracked → isShape (recordAt 19 readTexture (l .textures) i .shape) ≡ true
-    shape-at i h =
-        ap (λ (t : TextureRecord). isShape (t .shape)) (sym (getD-table 19 readTexture (l .pool .tracked) i (l .textures) (readTexture []) h))
-        ∙ all-at (trackedRecords l) i (readTexture []) (omega (arith, tracked-records l)) records-shaped
-
     bytes-most : {ts : List TextureRecord} → All (λ (t : TextureRecord). isShape (t .shape) ≡ true) ts → total recordBytes ts ≤ 17592186044416 * total recordSpares ts
     unfolding total
     bytes-most nil = omega arith
@@ -123,19 +118,14 @@ module _ (l : Lent) where
     countable = record {
       fits = textures-fit l f;
       runs = spares-fit l f;
-      shapes = shape-at;
+      shapes = λ i h. shape-passes l i h f;
       bytes = omega (arith, bytes-most records-shaped, f .kept, f .versions, f .most);
     }
-
-    doomed-most : {ds : List (Doomed ℕ)} → All DoomedFormed ds → doomedBytes ds ≤ 17592186044416 * length ds
-    unfolding total
-    doomed-most nil = omega arith
-    doomed-most (cons p ps) = omega (arith, doomed-most ps, p .bytes)
 
     -- the destroy queue's bytes
     pub dooming-most : l .pool .dooming ≤ 72057594037927936
     unfolding modelOf
-    dooming-most = omega (arith, f .formed .dooming, doomed-most (f .formed .doomed), doomed-model l, f .versions, f .most)
+    dooming-most = omega (arith, f .formed .dooming, doomed-bound (f .formed .doomed), doomed-model l, f .versions, f .most)
 
     -- ---- what each texture gives
 
@@ -164,7 +154,7 @@ module _ (l : Lent) where
           sym (ap (λ (n : ℕ). countOf (t .id) (picked n excess (byAge (agedAll ts)))) dooming-model
           ∙ gives-among (take i ts) t (drop (suc i) ts) ts (parts i h) (f .formed .ids) (f .formed .textures) d excess line model-line
           ∙ ap (λ (n : ℕ). gives (freedWith (d + n) excess at) excess (bytesOf (t .shape)) line (map parkedOf (t .spares))) (sym (bytes-model line))
-          ∙ ap₂ (λ (b : ℕ) (ps : List ℕ). gives (freedTo excess line i) excess b line ps) (ap bytesOf (state-shape l i h)) (state-parkings i h))
+          ∙ ap₂ (λ (b : ℕ) (ps : List ℕ). gives (freedTo excess line i) excess b line ps) (ap bytesOf (shape-at l i h)) (state-parkings i h))
 
       pub share-most : (i : ℕ) → i < l .pool .tracked → share excess (stateOf l i) ≤ recordOf i .spares
       share-most i h =
@@ -191,7 +181,7 @@ module _ (l : Lent) where
           ∙ ap (freedWith start excess) (keep-append (isAt line) (agedAll (take i ts)) (agedOf t))
           ∙ freed-append start excess at (keep (isAt line) (agedOf t))
           ∙ state-at-line t line (freedTo excess line i) excess
-          ∙ ap₂ (λ (b : ℕ) (ps : List ℕ). freedTo excess line i + b * takenAt (freedTo excess line i) excess b line ps) (ap bytesOf (state-shape l i h)) (state-parkings i h))
+          ∙ ap₂ (λ (b : ℕ) (ps : List ℕ). freedTo excess line i + b * takenAt (freedTo excess line i) excess b line ps) (ap bytesOf (shape-at l i h)) (state-parkings i h))
 
       pub freed-start : freedTo excess line 0 ≡ l .pool .dooming + bytesFrom (l .spares) line 0 (trackedRecords l)
       unfolding freedTo freedWith keep flatMap picked total

@@ -25,11 +25,10 @@ use Rattle.layout.specs.Calls.{answer, toldNumber, noteAllocatedCall}
 use Rattle.layout.proofs.Fits.{Fits}
 use Rattle.layout.proofs.Runs.{spareCount, tracked-model, kept-model, pages-model}
 use Rattle.layout.proofs.Kept.{pagedOf}
-use Rattle.layout.proofs.Rings.{hand-model, head-stays}
+use Rattle.layout.proofs.Rings.{hand-model, head-stays, first-stays}
 use Rattle.layout.proofs.Same.{held-same, queued-model, doomed-model}
 use Rattle.layout.proofs.Stays.{put-together, nothing-changed, newest-stay, stamps-stay, retiring-stay}
 use Rattle.layout.proofs.Asked.{asked-accepted}
-use Rattle.destruction.proofs.Pushed.{first-pushed}
 use Rattle.relief.specs.Relieved.{relievedPool, givenUp, Relieves, countsAfter, notedBook}
 use Rattle.relief_line.proofs.Picked.{picked-none}
 use Rattle.relief.proofs.Chosen.{share, dooming-most}
@@ -120,7 +119,7 @@ module _ (l : Lent) (f : Fits l) (allocated : ℕ) where
       head = hand-same i;
       popped = held-same l i;
       queued = queued-model l i;
-      first = first-pushed l notedPool (givenUp excess l) refl (f .first) i;
+      first = first-stays l notedPool (f .first) (omega (arith, doomed-model l, length-append (modelOf l .doomed) (givenUp excess l))) i;
       doomed = (length-append (modelOf l .doomed) (givenUp excess l) ∙ ap₂ (λ (a b : ℕ). a + b) (doomed-model l) given-counted) i;
       since = ap (λ (n : ℕ). l .pool .since + n) given-counted i;
       trackings = l .pool .trackings;

@@ -14,6 +14,7 @@ use Rattle.tables.specs.Rings.{laid}
 use Rattle.shapes.specs.Shapes.{isShape, bytesOf}
 use Rattle.stores.specs.Model.{VersionState, spareBytes, doomedBytes}
 use Rattle.stores.proofs.Moves.{lessened, given, given-bytes}
+use Rattle.stores.proofs.Lists.{total-cut}
 use Rattle.records.specs.declared.texture.TextureRecord.{TextureRecord}
 use Rattle.records.specs.declared.spare.SpareRecord.{SpareRecord}
 use Rattle.records.specs.Texture.{readTexture, writeTexture}
@@ -23,11 +24,10 @@ use Rattle.layout.specs.Lent.{Lent, versionPlaces}
 use Rattle.layout.specs.Reading.{trackedRecords, modelOf}
 use Rattle.layout.specs.Writing.{textureRecord, spareRecord, doomedRecord, everySpare, texturesAfter, doomedAfter, sparesAfter, poolAfter}
 use Rattle.layout.proofs.Fits.{Fits}
-use Rattle.layout.proofs.Parts.{total-cut}
+use Rattle.layout.proofs.Rings.{doomed-pushed}
 use Rattle.layout.proofs.Runs.{sparesOf, spareCount, firstSpare, stateOf}
 use Rattle.layout.proofs.Stays.{textures-fit, doomed-fit}
 use Rattle.destruction.specs.Given.{givenRecords}
-use Rattle.destruction.proofs.Pushed.{doomed-pushed}
 use Rattle.relief_line.specs.Line.{IsLine, takenAt, gives}
 use Rattle.relief_line.specs.Parked.{parkedAt, parkings, bytesFrom}
 use Rattle.relief.specs.Relieved.{relievedPool, givenUp, Relieves}
@@ -81,7 +81,7 @@ module _ (l : Lent) (excess line : ℕ) where
 
     within : firstSpare l i + recordAt 19 readTexture (l .textures) i .spares ≤ l .pool .kept
     unfolding firstSpare
-    within = omega (arith, first-next l i h, total-cut sparesOf (trackedRecords l) (suc i), f .kept)
+    within = omega (arith, first-next l i h, total-cut sparesOf (suc i) (trackedRecords l), f .kept)
 
     -- what a turn asks for
     pub turn-needs : (19 * i + 19 ≤ length textures) × (isShape (here .shape) ≡ true) × (2 * versionPlaces l ≤ length doomed) × (l .pool .first < versionPlaces l)
@@ -209,7 +209,7 @@ module _ (l : Lent) (f : Fits l) (excess line : ℕ) {i from kept bytes sum : �
   unfolding doomedTo
   doomed-all =
       ap (λ (ts : List (VersionState ℕ)). laid 2 writeDoomed (versionPlaces l) (l .pool .first) (l .pool .doomed) (map doomedRecord (flatMap (given part) ts)) (l .doomed)) all-there
-      ∙ doomed-pushed l (relievedPool excess l) (givenUp excess l) refl (f .first) (omega (arith, f .doomed)) (doomed-fit l f)
+      ∙ doomed-pushed l (relievedPool excess l) (f .first) (omega (arith, f .doomed)) (doomed-fit l f) (givenUp excess l) refl
 
   pub progress-end : Relieves l excess kept bytes textures doomed spares
   progress-end = record {
@@ -227,6 +227,6 @@ given-fits l f excess i =
     omega (
       arith,
       given-bytes (share l excess) (take i (modelOf l .textures)),
-      total-cut spareBytes (modelOf l .textures) i,
+      total-cut spareBytes i (modelOf l .textures),
       f .formed .parked,
     )

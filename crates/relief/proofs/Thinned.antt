@@ -4,15 +4,14 @@ use mathlib.Core.Path.{_≡_, refl, sym, ap, ap₂, _∙_}
 use mathlib.Core.List.{List, [], _∷_, _++_, map, flatMap, map-append, append-nil}
 use Prim.Native.Nat.{ℕ, suc, _+_, _-_, _*_, _≤_, _<_}
 use native.Mathlib.Omega.{arith}
-use lib.ListN.{length, take, drop, set, length-append, length-map, length-drop}
+use lib.ListN.{length, take, drop, set, length-map, length-drop}
 use lib.Seq.{take-suc, take-all, length-take-le}
 use Rattle.blocks.specs.Lists.{listed, over, total}
 use Rattle.blocks.specs.Blocks.{moved}
 use Rattle.blocks.proofs.Lists.{total-append}
-use Rattle.blocks.proofs.Listed.{length-listed, drop-listed, take-listed, map-listed, listed-same}
+use Rattle.blocks.proofs.Listed.{drop-listed, take-listed, map-listed, listed-same}
 use Rattle.tables.specs.Records.{recordAt, flat}
 use Rattle.tables.specs.Rings.{laid}
-use Rattle.tables.proofs.Records.{getD-table}
 use Rattle.shapes.specs.Shapes.{bytesOf}
 use Rattle.stores.specs.Model.{Spare, Doomed, VersionState, doomedBytes}
 use Rattle.stores.specs.Updates.{asDoomed}
@@ -29,15 +28,13 @@ use Rattle.layout.specs.Lent.{Lent, versionPlaces}
 use Rattle.layout.specs.Reading.{trackedRecords, spareRead, stateRead, modelOf}
 use Rattle.layout.specs.Writing.{textureRecord, spareRecord, doomedRecord, everySpare}
 use Rattle.layout.proofs.Parts.{total-next, flat-append}
-use Rattle.layout.proofs.Runs.{sparesOf, spareCount, record-state, firstSpare, firstPageOf, stateOf, take-states, kept-states, tracked-model, tracked-records, model-at}
+use Rattle.layout.proofs.Runs.{sparesOf, spareCount, firstSpare, firstPageOf, stateOf, take-states, kept-states, tracked-model, tracked-records, model-at}
+use Rattle.layout.proofs.Rings.{laid-append}
+use Rattle.layout.proofs.Counts.{count-spares}
+use Rattle.layout.proofs.Tracked.{record-read, record-at, shape-at, count-at}
 use Rattle.destruction.specs.Given.{givenRecords}
 use Rattle.destruction.proofs.Pushed.{given-spares}
-use Rattle.relief.proofs.Written.{record-over, moved-run, withCount, count-set, laid-append}
-
-length-every : (ts : List (VersionState ℕ)) → length (everySpare ts) ≡ total spareCount ts
-unfolding flatMap total
-length-every [] = refl
-length-every (t ∷ ts) = length-append (t .spares) (everySpare ts) ∙ ap (λ (n : ℕ). length (t .spares) + n) (length-every ts)
+use Rattle.relief.proofs.Written.{record-over, moved-run, withCount, count-set}
 
 module _ (l : Lent) where
   -- the record of texture i
@@ -47,27 +44,17 @@ module _ (l : Lent) where
   pub state-record : (i : ℕ) → i < l .pool .tracked → stateOf l i ≡ stateRead l (firstSpare l i) (firstPageOf l i) (recordOf i)
   unfolding stateOf
   state-record i h =
-      ap (stateRead l (firstSpare l i) (firstPageOf l i)) (getD-table 19 readTexture (l .pool .tracked) i (l .textures) (readTexture []) h)
+      ap (stateRead l (firstSpare l i) (firstPageOf l i)) (record-read l i h)
 
   pub state-spares : (i : ℕ) → i < l .pool .tracked → stateOf l i .spares ≡ listed (spareRead l) (firstSpare l i) (recordOf i .spares)
   unfolding stateRead
   state-spares i h = ap (λ (t : VersionState ℕ). t .spares) (state-record i h)
 
-  pub state-count : (i : ℕ) → i < l .pool .tracked → length (stateOf l i .spares) ≡ recordOf i .spares
-  state-count i h = ap length (state-spares i h) ∙ length-listed (spareRead l) (firstSpare l i) (recordOf i .spares)
-
-  pub state-shape : (i : ℕ) → i < l .pool .tracked → stateOf l i .shape ≡ recordOf i .shape
-  unfolding stateRead
-  state-shape i h = ap (λ (t : VersionState ℕ). t .shape) (state-record i h)
-
-  pub state-textureRecord : (i : ℕ) → i < l .pool .tracked → textureRecord (stateOf l i) ≡ recordOf i
-  state-textureRecord i h = ap textureRecord (state-record i h) ∙ record-state l (firstSpare l i) (firstPageOf l i) (recordOf i)
-
   pub first-next : (i : ℕ) → i < l .pool .tracked → firstSpare l (suc i) ≡ firstSpare l i + recordOf i .spares
   unfolding firstSpare
   first-next i h =
       total-next sparesOf (trackedRecords l) i (readTexture []) (omega (arith, tracked-records l))
-      ∙ ap (λ (t : TextureRecord). total sparesOf (take i (trackedRecords l)) + t .spares) (getD-table 19 readTexture (l .pool .tracked) i (l .textures) (readTexture []) h)
+      ∙ ap (λ (t : TextureRecord). total sparesOf (take i (trackedRecords l)) + t .spares) (record-read l i h)
 
   -- how many spares the first i have
   pub first-count : (i : ℕ) → total spareCount (take i (modelOf l .textures)) ≡ firstSpare l i
@@ -126,8 +113,8 @@ module _ (l : Lent) where
       where
         thinner : textureRecord (lessened k (stateOf l i)) ≡ withCount (recordOf i .spares - gave i) (recordOf i)
         thinner =
-            ap (λ (n : ℕ). withCount n (textureRecord (stateOf l i))) (length-drop (gave i) (stateOf l i .spares) ∙ ap (λ (n : ℕ). n - gave i) (state-count i h))
-            ∙ ap (withCount (recordOf i .spares - gave i)) (state-textureRecord i h)
+            ap (λ (n : ℕ). withCount n (textureRecord (stateOf l i))) (length-drop (gave i) (stateOf l i .spares) ∙ ap (λ (n : ℕ). n - gave i) (count-at l i h))
+            ∙ ap (withCount (recordOf i .spares - gave i)) (record-at l i h)
 
     -- the record of texture i, while those before it are written
     pub record-next : (i : ℕ) → i ≤ l .pool .tracked → recordAt 19 readTexture (texturesTo i) i ≡ recordOf i
@@ -141,7 +128,7 @@ module _ (l : Lent) where
 
     kept-length : (i : ℕ) → length (map spareRecord (everySpare (map (lessened k) (first i)))) ≡ keptTo i
     unfolding keptTo
-    kept-length i = length-map (everySpare (map (lessened k) (first i))) spareRecord ∙ length-every (map (lessened k) (first i))
+    kept-length i = length-map (everySpare (map (lessened k) (first i))) spareRecord ∙ sym (count-spares (map (lessened k) (first i)))
 
     pub kept-most : (i : ℕ) → keptTo i ≤ firstSpare l i
     unfolding keptTo
@@ -158,7 +145,7 @@ module _ (l : Lent) where
         ap (total spareCount) (thin-next i h) ∙ total-append spareCount (map (lessened k) (first i)) (lessened k (stateOf l i) ∷ [])
         ∙ (let e : total spareCount (map (lessened k) (first i)) + (length (drop (gave i) (stateOf l i .spares)) + 0)
         ≡ total spareCount (map (lessened k) (first i)) + (recordOf i .spares - gave i) =
-        omega (arith, length-drop (gave i) (stateOf l i .spares), state-count i h) in e)
+        omega (arith, length-drop (gave i) (stateOf l i .spares), count-at l i h) in e)
 
     -- the spares that texture i keeps are those behind the ones that it gave
     kept-run : (i : ℕ) → i < l .pool .tracked → gave i ≤ recordOf i .spares
@@ -220,7 +207,7 @@ module _ (l : Lent) where
         → givenRecords (sparesTo i) (bytesOf (recordOf i .shape)) (firstSpare l i) (gave i) ≡ map doomedRecord (given k (stateOf l i))
     given-taken i h le =
         given-same i (bytesOf (recordOf i .shape)) (gave i) ∙ given-spares l (bytesOf (recordOf i .shape)) (firstSpare l i) (gave i)
-        ∙ ap₂ (λ (b : ℕ) (ss : List (Spare ℕ)). map doomedRecord (asDoomed b ss)) (ap bytesOf (sym (state-shape i h)))
+        ∙ ap₂ (λ (b : ℕ) (ss : List (Spare ℕ)). map doomedRecord (asDoomed b ss)) (ap bytesOf (sym (shape-at l i h)))
         (sym (ap (take (gave i)) (state-spares i h)
         ∙ take-listed (spareRead l) (gave i) (firstSpare l i) (recordOf i .spares) le))
 
@@ -246,7 +233,7 @@ module _ (l : Lent) where
         ap doomedBytes (flat-next i h) ∙ total-append (λ (d : Doomed ℕ). d .bytes) (flatMap (given k) (first i)) (given k (stateOf l i))
         ∙ ap (λ (n : ℕ). doomedBytes (flatMap (given k) (first i)) + n)
         (as-doomed-bytes (bytesOf (stateOf l i .shape)) (take (gave i) (stateOf l i .spares))
-        ∙ ap₂ (λ (a b : ℕ). a * b) (ap bytesOf (state-shape i h)) (length-take-le (gave i) (stateOf l i .spares) (omega (arith, state-count i h))))
+        ∙ ap₂ (λ (a b : ℕ). a * b) (ap bytesOf (shape-at l i h)) (length-take-le (gave i) (stateOf l i .spares) (omega (arith, count-at l i h))))
 
     -- ---- none has given, and all have
 

@@ -1,17 +1,16 @@
--- Laws of slices written from the front: one record more, one run more, some more along a ring. Assumes nothing.
+-- Laws of slices written from the front: one record more, one run more. Assumes nothing.
 use mathlib.Core.Path.{_≡_, sym, ap, ap₂, _∙_}
 use mathlib.Core.List.{List, [], _∷_, _++_}
-use Prim.Native.Nat.{ℕ, suc, _+_, _-_, _*_, _≤_}
-use native.Mathlib.Nat.{add-zero, zero-add, suc-add, mul-add, mul-le-mul-left}
+use Prim.Native.Nat.{ℕ, _+_, _-_, _*_, _≤_}
+use native.Mathlib.Nat.{zero-add, suc-add, mul-add, mul-le-mul-left}
 use native.Mathlib.Omega.{arith}
 use lib.ListN.{length, take, drop, set, length-append, length-drop, take-append-drop}
-use lib.Seq.{sets, take-at}
+use lib.Seq.{take-at}
 use Rattle.blocks.specs.Lists.{listed, over}
 use Rattle.blocks.specs.Blocks.{moved}
 use Rattle.blocks.proofs.Lists.{drop-over, over-append}
 use Rattle.blocks.proofs.Listed.{length-listed, listed-same}
 use Rattle.tables.specs.Records.{recordAt, table, flat}
-use Rattle.tables.specs.Rings.{placeOf, laid}
 use Rattle.tables.proofs.Records.{Codec, length-flat, flat-append, flat-table, length-table, record-past}
 use Rattle.records.specs.declared.texture.TextureRecord.{TextureRecord}
 use Rattle.records.specs.Texture.{readTexture, writeTexture}
@@ -85,14 +84,3 @@ count-set xs s i v e h =
     ∙ sym (over-append p (flat writeTexture (withCount v (readTexture (drop (length p) s)) ∷ [])) s)
     ∙ ap (λ (l : List ℕ). over l s) (sym (flat-append writeTexture xs (withCount v (readTexture (drop (length p) s)) ∷ [])))
     ∙ ap (λ (k : ℕ). over (flat writeTexture (xs ++ (withCount v (readTexture (drop k s)) ∷ []))) s) lp
-
--- ---- records written along a ring, then others behind them
-
-pub laid-append {ℓ} : {A : Type ℓ} (w : ℕ) (wr : A → List ℕ) (cap head : ℕ) (xs ys : List A) (i : ℕ) (s : List ℕ)
-    → laid w wr cap head i (xs ++ ys) s ≡ laid w wr cap head (i + length xs) ys (laid w wr cap head i xs s)
-unfolding laid
-laid-append w wr cap head [] ys i s = ap (λ (k : ℕ). laid w wr cap head k ys s) (sym (add-zero i))
-laid-append w wr cap head (x ∷ xs) ys i s =
-    laid-append w wr cap head xs ys (suc i) (sets s (w * placeOf cap head i) (wr x))
-    ∙ ap (λ (k : ℕ). laid w wr cap head k ys (laid w wr cap head (suc i) xs (sets s (w * placeOf cap head i) (wr x))))
-    (let e : suc i + length xs ≡ i + suc (length xs) = omega arith in e)

@@ -1,8 +1,7 @@
 -- What take_spare looks up: an id that is tracked and one that is not. Assumes nothing.
-use mathlib.Core.Path.{_≡_, refl, sym, ap, _∙_}
-use mathlib.Core.Bool.{Bool, true, false, cond, not}
+use mathlib.Core.Path.{_≡_, refl, sym, _∙_}
+use mathlib.Core.Bool.{Bool, true, false, not, true≢false}
 use Prim.Native.Nat.{ℕ}
-use native.Mathlib.Omega.{arith}
 use borrow.Author.Tests.{not-true}
 use Rattle.shapes.specs.declared.shape.VersionShape.{VersionShape}
 use Rattle.shapes.specs.Shapes.{sameShape}
@@ -18,20 +17,15 @@ use Rattle.renames.specs.declared.look.Look.{Look}
 use Rattle.renames.specs.Looked.{Looked}
 use Rattle.renames.proofs.Said.{tracked-at, untracked-at, shape-as}
 
-apart : false ≡ true → ⊥
-apart e =
-    let z : _≡_ {A = ℕ} 0 1 = ap (λ (b : Bool). cond b 1 0) e in
-    let y : ⊥ = omega arith in y
-
 module _ (l : Lent) (id : ℕ) (shape : VersionShape) (records : Bool) (seq : ℕ) (pool : isPool l ≡ true) (i n : ℕ) (at : i ≡ below id (trackedRecords l))
     (said : n ≡ takeRefusal (modelOf l) id shape records seq) (b : Bool) (has : b ≡ hasId (l .textures) (l .pool .tracked) i id) where
   pub looked-out : not b ≡ true → Looked l id shape records seq (record { place = i; outcome = n; tracked = false; same = false })
   looked-out out = record {
     place = at;
     outcome = said;
-    tracked = λ e. absurd (apart e);
+    tracked = λ e. absurd (true≢false (sym e));
     untracked = λ e. untracked-at l i id pool at b has out;
-    same = λ e. absurd (apart e);
+    same = λ e. absurd (true≢false (sym e));
   }
 
   pub looked-in : not b ≡ false → (t : TextureRecord) → t ≡ recordOf l i → (q : Bool) → q ≡ sameShape (t .shape) shape
@@ -40,7 +34,7 @@ module _ (l : Lent) (id : ℕ) (shape : VersionShape) (records : Bool) (seq : �
     place = at;
     outcome = said;
     tracked = λ y. tracked-at (l .textures) (l .pool .tracked) i id b has into;
-    untracked = λ y. absurd (apart (sym y));
+    untracked = λ y. absurd (true≢false y);
     same = λ y. sym (shape-as shape (recordOf l i) t q q is-record e refl);
   }
 

@@ -29,10 +29,11 @@ use Rattle.access.proofs.Ids as ids
 use Rattle.access.proofs.Fields.{pages-bound, claims-bound}
 use Rattle.layout.specs.Calls.{Told, refusal, takenOf, takeSpareCall}
 use Rattle.layout.proofs.Asked.{asked-refused}
+use Rattle.layout.proofs.Tracked.{shape-at, pages-at, shape-passes}
 use Rattle.trackings.specs.Refusal.{trackingRefusal, begunRefusal, foundRefusal, takeRefusal}
 use Rattle.trackings.specs.Cases.{recordOf, TrackedAt}
 use Rattle.trackings.proofs.Refusals.{take-refused}
-use Rattle.trackings.proofs.Tracked.{shape-state, shape-passes, record-fits, found-there, not-there, pages-counted}
+use Rattle.trackings.proofs.Tracked.{record-fits, found-there, not-there}
 
 -- ---- a tracking begun
 
@@ -139,12 +140,12 @@ module _ (l : Lent) (i id : ℕ) (shape : VersionShape) (records : Bool) (seq : 
 
             module _ (t : TextureRecord) (is-record : t ≡ recordOf l i) where
               pub own-pages : recordPages t ≤ 4096
-              own-pages = omega (arith, ap recordPages is-record, claims-bound (recordOf l i) (shape-passes l f i (here .0)))
+              own-pages = omega (arith, ap recordPages is-record, claims-bound (recordOf l i) (shape-passes l i (here .0) f))
 
               by-shape : (q : Bool) → q ≡ sameShape (t .shape) shape → cond q 0 (begunRefusal (modelOf l) shape records (pagesUsed (stateOf l i))) ≡ said
               by-shape q e =
                   ap (λ (c : Bool). cond c 0 (begunRefusal (modelOf l) shape records (pagesUsed (stateOf l i))))
-                  (e ∙ ap (λ (s : VersionShape). sameShape s shape) (ap (λ (v : TextureRecord). v .shape) is-record ∙ sym (shape-state l f i (here .0))))
+                  (e ∙ ap (λ (s : VersionShape). sameShape s shape) (ap (λ (v : TextureRecord). v .shape) is-record ∙ sym (shape-at l i (here .0))))
                   ∙ by-found (some (stateOf l i)) there
 
               pub said-same : (q : Bool) → q ≡ sameShape (t .shape) shape → q ≡ true → 0 ≡ said
@@ -154,7 +155,7 @@ module _ (l : Lent) (i id : ℕ) (shape : VersionShape) (records : Bool) (seq : 
                   → n ≡ trackingRefusal (length (l .newest)) own (l .pool .pages) (l .pool .trackings) shape records → n ≡ said
               said-other q e y own n eo en =
                   en ∙ begun-said own
-                  ∙ ap (begunRefusal (modelOf l) shape records) (eo ∙ ap recordPages is-record ∙ sym (pages-counted l f i (here .0)))
+                  ∙ ap (begunRefusal (modelOf l) shape records) (eo ∙ ap recordPages is-record ∙ sym (pages-at l i (here .0)))
                   ∙ sym (ap (λ (c : Bool). cond c 0 (begunRefusal (modelOf l) shape records (pagesUsed (stateOf l i)))) y) ∙ by-shape q e
 
   -- a refusal is what the call says, and nothing changes

@@ -40,14 +40,15 @@ use Rattle.layout.proofs.Same.{book-same, held-same, queued-model, doomed-model
 use Rattle.layout.proofs.Rings.{head-stays, hand-model, first-stays}
 use Rattle.layout.proofs.Stays.{put-together, book-stays, ids-ascend, textures-fit, spares-stay, newest-stay, stamps-stay, retiring-stay, doomed-stay}
 use Rattle.layout.proofs.Places.{changed}
-use Rattle.layout.proofs.Changes.{textures-set, sparesBefore, sparesAt, count-state, every-taken, every-kept, spares-removed, newest-at, others-taken}
+use Rattle.layout.proofs.Changes.{textures-set, sparesBefore, sparesAt, every-taken, every-kept, spares-removed, newest-at, others-taken}
 use Rattle.layout.proofs.Asked.{asked-accepted}
+use Rattle.layout.proofs.Tracked.{record-read, spares-to, shape-at, count-at}
 use Rattle.trackings.specs.Refusal.{takeRefusal}
 use Rattle.trackings.specs.Cases.{Accepted, recordOf, TrackedAt}
 use Rattle.renames.specs.Renamed.{renamedRecord}
 use Rattle.trackings.proofs.Refusals.{take-tracked}
 use Rattle.trackings.proofs.Counts.{counted, counts-after}
-use Rattle.trackings.proofs.Tracked.{same-record, spares-from, spares-within, kept-fits, shape-state, is-there, found-there}
+use Rattle.trackings.proofs.Tracked.{spares-within, kept-fits, is-there, found-there}
 
 -- ---- lists
 
@@ -108,7 +109,7 @@ module _ (l : Lent) (i id : ℕ) (shape : VersionShape) (records : Bool) (seq : 
   unfolding takeSpareCall
   ruled =
       asked-accepted takenOf l (λ (p : Pool ℕ). takeSpare p id shape records seq) (ok .0) (newest (u .spares)) after-take
-      (take-tracked (modelOf l) id shape records seq (ok .1 .1) u there (ap (λ (s : VersionShape). sameShape s shape) (shape-state l f i (h .0)) ∙ same))
+      (take-tracked (modelOf l) id shape records seq (ok .1 .1) u there (ap (λ (s : VersionShape). sameShape s shape) (shape-at l i (h .0)) ∙ same))
 
   changed-there : change id (renamedState seq) (modelOf l .textures) ≡ set (modelOf l .textures) i (renamedState seq u)
   changed-there =
@@ -117,14 +118,14 @@ module _ (l : Lent) (i id : ℕ) (shape : VersionShape) (records : Bool) (seq : 
 
   -- how many spares the texture has
   spares-counted : length (u .spares) ≡ count
-  spares-counted = count-state l i ∙ ap sparesOf (same-record l f i (h .0))
+  spares-counted = count-at l i (h .0)
 
   record-left : textureRecord (renamedState seq u) ≡ renamedRecord seq (count - 1) t
   unfolding stateOf
   record-left =
       renamed-record seq u
       ∙ ap₂ (λ (n : ℕ) (r : TextureRecord). renamedRecord seq (n - 1) r) spares-counted
-      (record-state l (firstSpare l i) (firstPageOf l i) (getD (trackedRecords l) i (readTexture [])) ∙ same-record l f i (h .0))
+      (record-state l (firstSpare l i) (firstPageOf l i) (getD (trackedRecords l) i (readTexture [])) ∙ record-read l i (h .0))
 
   -- the rename and the spare left, whatever the counts and the spares are
   left-as : (c : Counts) (spares : List ℕ) → c ≡ poolAfter after-take l → spares ≡ sparesAfter after-take l
@@ -185,15 +186,15 @@ module _ (l : Lent) (i id : ℕ) (shape : VersionShape) (records : Bool) (seq : 
         newest-at (u .spares) (spareRead l 0) (omega (arith, spares-counted))
         ∙ ap some
         (ap (λ (n : ℕ). getD (u .spares) (n - 1) (spareRead l 0)) spares-counted
-        ∙ getD-listed (spareRead l) (firstSpare l i) (sparesAt l i) (count - 1) (spareRead l 0) (omega (arith, ap sparesOf (same-record l f i (h .0))))
+        ∙ getD-listed (spareRead l) (firstSpare l i) (sparesAt l i) (count - 1) (spareRead l 0) (omega (arith, ap sparesOf (record-read l i (h .0))))
         ∙ ap (spareRead l) (sym at))
 
     all-but-last : everySpare (change id (renamedState seq) (modelOf l .textures)) ≡ removed k 1 (sparesBefore l)
     all-but-last =
         ap everySpare changed-there
-        ∙ every-taken l i (h .0) (renamedState seq u) (count - 1) (omega (arith, ap sparesOf (same-record l f i (h .0))))
+        ∙ every-taken l i (h .0) (renamedState seq u) (count - 1) (omega (arith, ap sparesOf (record-read l i (h .0))))
         (others-taken (u .spares) ∙ ap (λ (n : ℕ). take (n - 1) (u .spares)) spares-counted)
-        ∙ ap₂ (λ (a b : ℕ). removed a b (sparesBefore l)) (sym at) (let q : sparesAt l i - (count - 1) ≡ 1 = omega (arith, ap sparesOf (same-record l f i (h .0))) in q)
+        ∙ ap₂ (λ (a b : ℕ). removed a b (sparesBefore l)) (sym at) (let q : sparesAt l i - (count - 1) ≡ 1 = omega (arith, ap sparesOf (record-read l i (h .0))) in q)
 
     pub spare-taken : (
       answer (some (record { view = recordAt 3 readSpare (l .spares) k .view; held = recordAt 3 readSpare (l .spares) k .held })),
@@ -208,7 +209,7 @@ module _ (l : Lent) (i id : ℕ) (shape : VersionShape) (records : Bool) (seq : 
         ap₂ (λ (a : Told (Option TakenVersion)) (m : Lent). (a, m)) (ap (λ (o : Option (Spare ℕ)). answer (takenOf o)) (sym last-spare))
         (left-as _ _
         (counts-left (l .pool .kept - 1) (l .pool .parked - bytesOf (t .shape)) (omega (arith, spares-within l f i (h .0)))
-        (parked-left (some (spareRead l k)) last-spare (bytesOf (t .shape)) (ap bytesOf (sym (shape-state l f i (h .0))))))
+        (parked-left (some (spareRead l k)) last-spare (bytesOf (t .shape)) (ap bytesOf (sym (shape-at l i (h .0))))))
         (spares-removed l after-take (f .kept) (kept-fits l f i (h .0)) k 1 (omega (arith, spares-within l f i (h .0))) all-but-last))
         ∙ sym ruled
 
@@ -235,7 +236,7 @@ module _ (l : Lent) (i id : ℕ) (shape : VersionShape) (records : Bool) (seq : 
           ≡ takeSpareCall l id shape records seq
       left-with some-spare e1 e2 e3 e4 e5 e6 e7 =
           let n : t′ .spares ≡ count = ap sparesOf is-record in
-          let at : k ≡ firstSpare l i + (count - 1) = omega (arith, e1, e2, n, spares-from l f i (h .0)) in
+          let at : k ≡ firstSpare l i + (count - 1) = omega (arith, e1, e2, n, spares-to l i (h .0)) in
           let tex : textures ≡ sets (l .textures) (19 * i) (writeTexture (renamedRecord seq (count - 1) t)) =
           e6 ∙ ap (λ (y : TextureRecord). sets (l .textures) (19 * i) (writeTexture y)) (e5 ∙ ap₂ (λ (m : ℕ) (r : TextureRecord). renamedRecord seq (m - 1) r) n is-record) in
           let by : bytes ≡ bytesOf (t .shape) = e4 ∙ ap (λ (r : TextureRecord). bytesOf (r .shape)) is-record in

@@ -35,10 +35,11 @@ use Rattle.layout.proofs.Same.{held-same, queued-model, doomed-model}
 use Rattle.layout.proofs.Kept.{pagedOf}
 use Rattle.layout.proofs.Changes.{textures-set}
 use Rattle.layout.proofs.Stays.{put-together, textures-fit, book-stays, textures-stay, spares-stay, newest-stay, stamps-stay, doomed-stay}
+use Rattle.layout.proofs.Tracked.{textureAt, record-at}
 use Rattle.retirement.specs.Counts.{ringCount, oneQueued}
 use Rattle.retirement.specs.Noted.{lastQueued, retireRefusal, hasId, retiredRecord, bornAt}
 use Rattle.retirement.proofs.Noted.{model-tracked, model-untracked}
-use Rattle.retirement.proofs.Tracked.{map-change, textureAt, inside, record-at, found-here, found-nowhere, changed-here, changed-nowhere}
+use Rattle.retirement.proofs.Tracked.{map-change, inside, found-here, found-nowhere, changed-here, changed-nowhere}
 use Rattle.retirement.proofs.RetireRefusals.{place-left, guards-refused, guards-passed, last-model, used-model}
 
 -- as the code counts them

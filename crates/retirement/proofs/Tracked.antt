@@ -1,33 +1,28 @@
 -- The texture where the search for an id ended, in a pool: its record, and what the model finds and changes. Assumes nothing.
-use mathlib.Core.Path.{_≡_, refl, sym, ap, ap₂, _∙_, subst}
+use mathlib.Core.Path.{_≡_, refl, sym, ap, ap₂, _∙_}
 use mathlib.Core.Bool.{Bool, true, false, cond, not}
-use mathlib.Core.Option.{Option, none, some}
+use mathlib.Core.Option.{none, some}
 use mathlib.Core.List.{List, [], _∷_, map}
-use Prim.Native.Nat.{ℕ, _+_, _*_, _≤_, _<_, _^_}
+use Prim.Native.Nat.{ℕ, _+_, _*_, _≤_, _<_}
 use native.Mathlib.Omega.{arith}
 use borrow.Author.Tests.{not-true, not-false}
 use lib.Dec.{eqb}
 use lib.ListN.{length, getD, set}
 use Rattle.blocks.specs.Lists.{ascending}
-use Rattle.blocks.proofs.All.{all-at}
-use Rattle.tables.specs.Records.{recordAt}
-use Rattle.tables.proofs.Records.{getD-table}
 use Rattle.shapes.specs.Shapes.{isShape}
-use Rattle.stores.specs.Model.{WriteHistory, VersionState, find}
+use Rattle.stores.specs.Model.{VersionState, find}
 use Rattle.stores.specs.Updates.{change}
-use Rattle.stores.specs.Formed.{Given, HistoryFormed, StateFormed}
-use Rattle.records.specs.declared.texture.TextureRecord.{TextureRecord}
-use Rattle.records.specs.Recorded.{RecordedFits, recordedNumber}
+use Rattle.records.specs.Recorded.{RecordedFits}
 use Rattle.records.specs.Texture.{readTexture}
 use Rattle.records.specs.Find.{idOf, below}
 use Rattle.access.proofs.Ids.{hasId, found as found′, not-found as not-found′}
 use Rattle.layout.specs.Lent.{Lent}
 use Rattle.layout.specs.Reading.{trackedRecords, modelOf}
-use Rattle.layout.specs.Writing.{recordedOf, textureRecord}
 use Rattle.layout.proofs.Fits.{Fits}
-use Rattle.layout.proofs.Runs.{firstSpare, firstPageOf, stateOf, tracked-model, model-at, record-state}
+use Rattle.layout.proofs.Runs.{stateOf}
 use Rattle.layout.proofs.Places.{place, IsTracked, found, changed, not-found, not-changed}
 use Rattle.layout.proofs.Stays.{ids-ascend}
+use Rattle.layout.proofs.Tracked.{textureAt, record-read, shape-passes, history-fits}
 
 -- what every state keeps through a change
 pub map-change : {A : Type 0} (g : VersionState ℕ → A) (id : ℕ) (f : VersionState ℕ → VersionState ℕ) → ((t : VersionState ℕ) → g (f t) ≡ g t)
@@ -51,35 +46,6 @@ module _ (s : List ℕ) (n i id : ℕ) (r : Bool) (e : r ≡ hasId s n i id) whe
 
   pub record-fits : not r ≡ false → 19 * n ≤ length s → 19 * i + 19 ≤ length s
   record-fits t h = omega (arith, h, found′ s n i id (says-here t) .0)
-
--- ---- texture i
-
--- the record that the code reads
-abbrev pub textureAt : Lent → ℕ → TextureRecord
-textureAt l i = recordAt 19 readTexture (l .textures) i
-
-module _ (l : Lent) (i : ℕ) (h : i < l .pool .tracked) where
-  pub record-read : getD (trackedRecords l) i (readTexture []) ≡ textureAt l i
-  record-read = getD-table 19 readTexture (l .pool .tracked) i (l .textures) (readTexture []) h
-
-  pub record-at : textureRecord (stateOf l i) ≡ textureAt l i
-  unfolding stateOf
-  record-at = record-state l (firstSpare l i) (firstPageOf l i) (getD (trackedRecords l) i (readTexture [])) ∙ record-read
-
-  pub state-formed : Fits l → StateFormed (stateOf l i)
-  state-formed f =
-      subst StateFormed (model-at l i (stateOf l 0) h)
-      (all-at (modelOf l .textures) i (stateOf l 0) (omega (arith, h, tracked-model l)) (f .formed .textures))
-
-  pub shape-passes : Fits l → isShape (textureAt l i .shape) ≡ true
-  shape-passes f = ap (λ (t : TextureRecord). isShape (t .shape)) (sym record-at) ∙ state-formed f .shape
-
-  pub history-fits : Fits l → RecordedFits (textureAt l i .history)
-  history-fits f = subst (λ (t : TextureRecord). RecordedFits (t .history)) record-at (go (stateOf l i .history) (state-formed f .history))
-    where
-      go : (o : Option WriteHistory) → Given (HistoryFormed (stateOf l i .shape)) o → recordedNumber (recordedOf o) < 2 ^ 64
-      go none g = omega arith
-      go (some w) g = omega (arith, g .writes)
 
 -- ---- i is where the search ended
 

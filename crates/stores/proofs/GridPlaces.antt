@@ -24,7 +24,7 @@ use Rattle.stores.specs.Histories.{gridAt, gridPlace, newHistory, stampW
 place-slice : (slice level n : ℕ) → level < n → (slice * n + level) / n ≡ slice
 place-slice slice level n h = mul-add-div-right (omega arith) slice level ∙ ap (λ (q : ℕ). slice + q) (div-eq-of-lt h) ∙ add-zero slice
 
-place-level : (slice level n : ℕ) → level < n → (slice * n + level) % n ≡ level
+pub place-level : (slice level n : ℕ) → level < n → (slice * n + level) % n ≡ level
 place-level slice level n h = mul-add-mod-self-right slice n level ∙ mod-eq-of-lt h
 
 abbrev noGrid : StampGrid

@@ -2,7 +2,7 @@
 -- Assumes nothing.
 use Prim.Native.Nat.{ℕ, zero, suc, _+_, _*_, _/_, _%_, _≤_, _<_}
 use mathlib.Core.Path.{_≡_, refl, sym, _∙_, ap}
-use mathlib.Core.Bool.{Bool, true, false, cond, _&&_}
+use mathlib.Core.Bool.{Bool, true, false, cond, _&&_, true≢false}
 use mathlib.Core.Option.{Option, none, some}
 use mathlib.Core.List.{List, [], _∷_}
 use native.Mathlib.Omega.{arith}
@@ -84,9 +84,6 @@ module _ (g : Tiling) (ok : TilingOk g) (r : TexelRect) (w n : ℕ) (lt : w < n)
       let top = largest-bound (stampedBy g r n grid .stamps) (row * columnsOf g + column) in
       omega arith
 
-  clash : {A : Type 0} → true ≡ false → A
-  clash q = absurd (let z : _≡_ {A = ℕ} 0 1 = cc in let y : ⊥ = omega arith in y)
-
   -- an empty cut leaves every stamp
   stamps-kept : isCutRect g r ≡ false → stampedBy g r n grid .stamps ≡ grid .stamps
   unfolding stampCount stampOf
@@ -96,7 +93,7 @@ module _ (g : Tiling) (ok : TilingOk g) (r : TexelRect) (w n : ℕ) (lt : w < n)
       ∙ ap (λ (b : Bool). cond b n (getD (grid .stamps) (row * columnsOf g + column) 0)) (untouched column row (touches g r column row) refl))
     where
       untouched : (column row : ℕ) (b : Bool) → touches g r column row ≡ b → touches g r column row ≡ false
-      untouched column row true q = clash (sym (touches-cut g ok r column row q) ∙ e)
+      untouched column row true q = absurd (true≢false (sym (touches-cut g ok r column row q) ∙ e))
       untouched column row false q = q
 
   newest-stamped : (b : Bool) → isCutRect g r ≡ b → stampedBy g r n grid .newest ≡ cond b n (grid .newest)

@@ -1,6 +1,6 @@
 -- Laws of tables of records. Assumes nothing.
 use mathlib.Core.Path.{_≡_, refl, sym, ap, ap₂, _∙_}
-use mathlib.Core.List.{List, [], _∷_, _++_, append-assoc, map}
+use mathlib.Core.List.{List, [], _∷_, _++_, append-assoc}
 use Prim.Native.Nat.{ℕ, zero, suc, _+_, _*_, _-_, _≤_, _<_}
 use native.Mathlib.Numerals.{add-one}
 use native.Mathlib.Nat.{mul-suc, mul-zero, mul-one, add-comm, mul-add, zero-add}
@@ -8,11 +8,11 @@ use native.Mathlib.Omega.{arith}
 use lib.ListN.{length, take, drop, getD, set, length-append, length-drop, length-set, take-append-drop}
 use lib.Seq.{sets, drop-at, drop-drop, drop-cons, set-split, set-getD, length-take-le, getD-set-same, getD-set-other}
 use Rattle.blocks.specs.Lists.{listed, over, removed, inserted}
-use Rattle.blocks.specs.Blocks.{moved, rotated}
+use Rattle.blocks.specs.Blocks.{moved}
 use Rattle.tables.specs.Records.{recordAt, table, flat}
-use Rattle.blocks.proofs.Lists.{over-self, length-removed, length-inserted}
-use Rattle.blocks.proofs.Listed.{length-listed, getD-listed, take-listed, drop-listed, listed-same, left, left-all, fills-none, fills-more}
-use Rattle.blocks.proofs.Blocks.{moved-out, moved-in, stored-at, rotated-parts, length-rotated}
+use Rattle.blocks.proofs.Lists.{over-self}
+use Rattle.blocks.proofs.Listed.{length-listed, getD-listed, take-listed, drop-listed, listed-same, left, left-all}
+use Rattle.blocks.proofs.Blocks.{moved-out, moved-in, stored-at}
 
 -- What a type of record says of its reading and writing, once: all the laws below follow.
 pub record Codec {ℓ} {A : Type ℓ} (w : ℕ) (rd : List ℕ → A) (wr : A → List ℕ) : Type ℓ where
@@ -70,16 +70,6 @@ module _ {ℓ} {A : Type ℓ} (w : ℕ) (rd : List ℕ → A) where
   pub table-left : (n : ℕ) (s : List ℕ) → left (recordAt w rd s) n 0 ≡ table w rd n s
   unfolding table
   table-left n s = left-all (recordAt w rd s) n
-
-  -- an answer filled from the records
-  module _ (g : A → ℕ) (s o : List ℕ) where
-    pub table-filled-none : o ≡ over (map g (table w rd 0 s)) o
-    unfolding table
-    table-filled-none = fills-none (recordAt w rd s) g o
-
-    pub table-filled-more : (i : ℕ) → i < length o → set (over (map g (table w rd i s)) o) i (g (recordAt w rd s i)) ≡ over (map g (table w rd (i + 1) s)) o
-    unfolding table
-    table-filled-more i h = fills-more (recordAt w rd s) g o i h
 
   -- the first record, and the table of what stands past it
   table-cons : (n : ℕ) (s : List ℕ) → table w rd (suc n) s ≡ rd s ∷ table w rd n (drop w s)
@@ -227,56 +217,11 @@ module _ {ℓ} {A : Type ℓ} {w : ℕ} {rd : List ℕ → A} {wr : A → List �
       ∙ sym (append-assoc a (wr x ++ b) t)
       ∙ ap₂ (λ (l : List ℕ) (k : ℕ). l ++ drop k s) (sym new) (sym ln)
 
-  -- blocks of records that change places
-  pub rotated-records : (i c k : ℕ) → i + c + k ≤ n → rotated (w * i) (w * c) (w * k) s ≡ over (flat wr (rotated i c k xs)) s
-  unfolding rotated over
-  rotated-records i c k h =
-      let p = flat wr (take i xs) in
-      let a = flat wr (take c (drop i xs)) in
-      let b = flat wr (take k (drop (i + c) xs)) in
-      let r = flat wr (drop (i + c + k) xs) in
-      let t = drop (w * n) s in
-      let lp = length-front i (omega arith) in
-      let la = length-run i c (omega arith) in
-      let lb = length-run (i + c) k h in
-      let cut : s ≡ p ++ (a ++ (b ++ (r ++ t))) =
-      parted i ∙ ap (λ (l : List ℕ). p ++ (l ++ t)) (run-parted i c ∙ ap (λ (l : List ℕ). a ++ l) (run-parted (i + c) k))
-      ∙ (let q : p ++ ((a ++ (b ++ r)) ++ t) ≡ p ++ (a ++ (b ++ (r ++ t))) = simp append-assoc in q) in
-      let new : flat wr (take i xs ++ (take k (drop (i + c) xs) ++ (take c (drop i xs) ++ drop (i + c + k) xs))) ≡ p ++ (b ++ (a ++ r)) =
-      flat-append wr _ _ ∙ ap (λ (l : List ℕ). p ++ l) (flat-append wr _ _ ∙ ap (λ (l : List ℕ). b ++ l) (flat-append wr _ _)) in
-      let ln : length (p ++ (b ++ (a ++ r))) ≡ w * n =
-      (let q : length (p ++ (b ++ (a ++ r))) ≡ length p + (length b + (length a + length r)) = simp length-append in q)
-      ∙ (let q : length p + (length b + (length a + length r)) ≡ length s - length t = omega (arith, ap length cut ∙ lengths p a b r t) in q)
-      ∙ (let q : length s - length t ≡ w * n = omega (arith, length-drop (w * n) s) in q) in
-      ap (rotated (w * i) (w * c) (w * k)) cut
-      ∙ rotated-parts p a b (r ++ t) (w * i) (w * c) (w * k) lp la lb
-      ∙ (let q : p ++ (b ++ (a ++ (r ++ t))) ≡ (p ++ (b ++ (a ++ r))) ++ t = sym (simp append-assoc) in q)
-      ∙ ap₂ (λ (l : List ℕ) (j : ℕ). l ++ drop j s) (sym new) (sym (ap length new ∙ ln))
-    where
-      lengths : (p a b r t : List ℕ) → length (p ++ (a ++ (b ++ (r ++ t)))) ≡ length p + (length a + (length b + (length r + length t)))
-      lengths p a b r t = simp length-append
-
   -- ---- the table after such a change
-
-  pub table-removed : (i k : ℕ) → i + k ≤ n → table w rd (n - k) (moved s (w * i) (w * i + w * k) (w * (n - (i + k)))) ≡ removed i k xs
-  table-removed i k h =
-      ap (table w rd (n - k)) (removed-records i k h)
-      ∙ reread C (removed i k xs) (n - k) s (length-removed i xs k (omega (arith, length-table w rd n s)) ∙ ap (λ (m : ℕ). m - k) (length-table w rd n s))
-
-  pub table-inserted : (i : ℕ) (x : A) → w * n + w ≤ length s → i ≤ n
-      → table w rd (n + 1) (sets (moved s (w * i + w) (w * i) (w * (n - i))) (w * i) (wr x)) ≡ inserted i (x ∷ []) xs
-  table-inserted i x room h =
-      ap (table w rd (n + 1)) (inserted-records i x room h)
-      ∙ reread C (inserted i (x ∷ []) xs) (n + 1) s (length-inserted i xs (x ∷ []) (omega (arith, length-table w rd n s)) ∙ ap (λ (m : ℕ). m + 1) (length-table w rd n s))
 
   pub table-replaced : (i : ℕ) (x : A) → i < n → table w rd n (sets s (w * i) (wr x)) ≡ set xs i x
   table-replaced i x h =
       ap (table w rd n) (replaced-record i x h) ∙ reread C (set xs i x) n s (length-set xs i x ∙ length-table w rd n s)
-
-  pub table-rotated : (i c k : ℕ) → i + c + k ≤ n → table w rd n (rotated (w * i) (w * c) (w * k) s) ≡ rotated i c k xs
-  table-rotated i c k h =
-      ap (table w rd n) (rotated-records i c k h)
-      ∙ reread C (rotated i c k xs) n s (length-rotated i c k xs (omega (arith, length-table w rd n s)) ∙ length-table w rd n s)
 
   -- the record at the place written, and that at any other place
   pub read-same : (p : ℕ) (x : A) → p < n → recordAt w rd (sets s (w * p) (wr x)) p ≡ x

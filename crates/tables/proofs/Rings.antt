@@ -1,19 +1,18 @@
 -- Laws of rings of records. Assumes nothing.
 use mathlib.Core.Path.{_≡_, refl, sym, ap, ap₂, _∙_}
-use mathlib.Core.List.{List, [], _∷_, _++_, map}
+use mathlib.Core.List.{List, [], _∷_, _++_}
 use mathlib.Core.Logic.{_⊎_, inl, inr, ⊎-elim}
 use Prim.Native.Nat.{ℕ, zero, suc, _+_, _*_, _-_, _≤_, _<_}
-use native.Mathlib.Numerals.{add-one}
-use native.Mathlib.Nat.{add-zero, zero-add}
+use native.Mathlib.Nat.{add-zero}
 use native.Mathlib.Decide.{decLt}
 use native.Mathlib.Omega.{arith}
 use borrow.Author.Tests.{lt-ltb, le-ltb}
-use lib.ListN.{length, take, drop, getD, set}
+use lib.ListN.{length, take, drop}
 use lib.Seq.{sets, length-sets}
-use Rattle.blocks.specs.Lists.{listed, over}
+use Rattle.blocks.specs.Lists.{listed}
 use Rattle.tables.specs.Records.{recordAt}
 use Rattle.tables.specs.Rings.{placeOf, along, ring, laid}
-use Rattle.blocks.proofs.Listed.{length-listed, listed-more, drop-listed, take-listed, getD-listed, listed-same, left, left-all, fills-none, fills-more}
+use Rattle.blocks.proofs.Listed.{length-listed, drop-listed, listed-same}
 use Rattle.tables.proofs.Records.{Codec, record-part, read-same, read-other, rewritten}
 
 -- ---- places
@@ -68,14 +67,6 @@ module _ {ℓ} {A : Type ℓ} (w : ℕ) (rd : List ℕ → A) (cap head : ℕ) w
   unfolding ring
   length-ring n s = length-listed (along w rd cap head s) 0 n
 
-  pub getD-ring : (n i : ℕ) (s : List ℕ) (d : A) → i < n → getD (ring w rd cap head n s) i d ≡ along w rd cap head s i
-  unfolding ring
-  getD-ring n i s d h = getD-listed (along w rd cap head s) 0 n i d h ∙ ap (along w rd cap head s) (zero-add i)
-
-  pub take-ring : (k n : ℕ) (s : List ℕ) → k ≤ n → take k (ring w rd cap head n s) ≡ ring w rd cap head k s
-  unfolding ring
-  take-ring k n s h = take-listed (along w rd cap head s) k 0 n h
-
   -- k dropped: the head moves on
   pub popped : (k n : ℕ) (s : List ℕ) → head < cap → k ≤ n → n ≤ cap
       → ring w rd cap (placeOf cap head k) (n - k) s ≡ drop k (ring w rd cap head n s)
@@ -85,22 +76,6 @@ module _ {ℓ} {A : Type ℓ} (w : ℕ) (rd : List ℕ → A) (cap head : ℕ) w
       ∙ listed-same (along w rd cap head s) (along w rd cap (placeOf cap head k) s) (n - k) (0 + k) 0
       (λ j q. ap (recordAt w rd s)
       (ap (placeOf cap head) (let e : 0 + k + j ≡ k + (0 + j) = omega arith in e) ∙ sym (place-place cap head k (0 + j) h (omega arith)))))
-
-  -- the loops over a ring
-  pub ring-left : (n : ℕ) (s : List ℕ) → left (along w rd cap head s) n 0 ≡ ring w rd cap head n s
-  unfolding ring
-  ring-left n s = left-all (along w rd cap head s) n
-
-  -- an answer filled from the ring
-  module _ (g : A → ℕ) (s o : List ℕ) where
-    pub filled-none : o ≡ over (map g (ring w rd cap head 0 s)) o
-    unfolding ring
-    filled-none = fills-none (along w rd cap head s) g o
-
-    pub filled-more : (i : ℕ) → i < length o
-        → set (over (map g (ring w rd cap head i s)) o) i (g (along w rd cap head s i)) ≡ over (map g (ring w rd cap head (i + 1) s)) o
-    unfolding ring
-    filled-more i h = fills-more (along w rd cap head s) g o i h
 
 -- ---- a ring written
 
@@ -127,21 +102,6 @@ ring-part C cap head s i = record-part C s (placeOf cap head i)
 
 module _ {ℓ} {A : Type ℓ} {w : ℕ} {rd : List ℕ → A} {wr : A → List ℕ} (C : Codec w rd wr) (cap head : ℕ) (h : head < cap) where
   module _ (s : List ℕ) (fits : w * cap ≤ length s) where
-    -- one pushed at the back: the others stay
-    pub pushed : (n : ℕ) (x : A) → n < cap
-        → ring w rd cap head (n + 1) (sets s (w * placeOf cap head n) (wr x)) ≡ ring w rd cap head n s ++ (x ∷ [])
-    unfolding ring along
-    pushed n x k =
-        let p = placeOf cap head n in
-        let f = along w rd cap head (sets s (w * p) (wr x)) in
-        ap (listed f 0) (add-one n)
-        ∙ listed-more f 0 n
-        ∙ ap₂ (λ (l : List A) (y : A). l ++ (y ∷ []))
-        (listed-same f (along w rd cap head s) n 0 0
-        (λ j q. read-other C cap s fits p (placeOf cap head (0 + j)) x (place-in cap head n h (omega arith)) (place-in cap head (0 + j) h (omega arith))
-        (place-apart cap head (0 + j) n h (omega arith) k)))
-        (ap (λ (i : ℕ). f i) (zero-add n) ∙ read-same C cap s fits p x (place-in cap head n h (omega arith)))
-
     laid-listed : (n i : ℕ) → i + n ≤ cap → laid w wr cap head i (listed (along w rd cap head s) i n) s ≡ s
     unfolding laid listed along
     laid-listed zero i k = refl
@@ -153,13 +113,6 @@ module _ {ℓ} {A : Type ℓ} {w : ℕ} {rd : List ℕ → A} {wr : A → List �
     pub laid-ring : (n : ℕ) → n ≤ cap → laid w wr cap head 0 (ring w rd cap head n s) s ≡ s
     unfolding ring
     laid-ring n k = laid-listed n 0 (omega arith)
-
-    -- the list after a push is the ring with one more, written back
-    pub laid-pushed : (n : ℕ) → n < cap → (x : A)
-        → sets s (w * placeOf cap head n) (wr x) ≡ laid w wr cap head 0 (ring w rd cap head n s ++ (x ∷ [])) s
-    laid-pushed n k x =
-        sym (laid-more w wr cap head (ring w rd cap head n s) x 0 s
-        ∙ ap₂ (λ (l : List ℕ) (m : ℕ). sets l (w * placeOf cap head m) (wr x)) (laid-ring n (omega arith)) (zero-add (length (ring w rd cap head n s)) ∙ length-ring w rd cap head n s))
 
   -- records written further along leave the k-th
   laid-other : (xs : List A) (j k : ℕ) (s : List ℕ) → w * cap ≤ length s → k < j → j + length xs ≤ cap

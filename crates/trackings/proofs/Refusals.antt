@@ -76,9 +76,6 @@ module _ (p : Pool ℕ) (id : ℕ) (shape : VersionShape) (records : Bool) (seq 
     pub shape-passed : isShape shape ≡ true
     shape-passed = not-false (isShape shape) (passed-two .0)
 
-    pub seq-passed : seq ≤ limit
-    seq-passed = ltb-false limit seq (passed-three .0)
-
     pub found-passed : foundRefusal p shape records (find id (p .textures)) ≡ 0
     found-passed = passed-three .1
 

@@ -4,13 +4,12 @@ use mathlib.Core.Bool.{Bool, true, false}
 use mathlib.Core.Option.{Option, none, some}
 use mathlib.Core.List.{List, [], _∷_, _++_, map}
 use Prim.Native.Nat.{ℕ, suc, _+_, _*_, _-_, _^_, _/_, _≤_, _<_}
-use native.Mathlib.Nat.{add-zero, mul-suc, mul-le-mul}
+use native.Mathlib.Nat.{add-zero, mul-le-mul}
 use native.Mathlib.Numerals.{add-one}
 use native.Mathlib.Omega.{arith}
 use lib.ListN.{length, take, drop, getD, set, replicate, length-append}
 use lib.Seq.{sets}
 use Rattle.blocks.specs.Lists.{listed, total, removed}
-use Rattle.blocks.specs.All.{All, nil, cons}
 use Rattle.blocks.specs.Blocks.{moved}
 use Rattle.tables.specs.Records.{table}
 use Rattle.tables.specs.Rings.{laid}
@@ -18,7 +17,6 @@ use Rattle.shapes.specs.declared.shape.VersionShape.{VersionShape}
 use Rattle.shapes.specs.Shapes.{isShape, sameShape, bytesOf}
 use Rattle.shapes.proofs.ShapeBytes.{bytes-bound}
 use Rattle.stores.specs.Model.{Spare, Doomed, VersionState, Pool, find, limit, pagesOf, pagesUsed, doomedBytes}
-use Rattle.stores.specs.Formed.{DoomedFormed}
 use Rattle.stores.specs.Updates.{withTextures, withTrackings, change, asDoomed, doomSpares}
 use Rattle.stores.specs.TakeSpare.{takeSpare}
 use Rattle.stores.proofs.States.{length-change, total-change}
@@ -37,12 +35,13 @@ use Rattle.layout.proofs.FromPool.{pool-fits, page-places}
 use Rattle.layout.proofs.Runs.{sparesOf, spareCount, firstSpare, firstPageOf, stateOf, tracked-model, kept-model, pages-model}
 use Rattle.layout.proofs.Same.{doomed-model}
 use Rattle.layout.proofs.Rings.{doomed-pushed}
-use Rattle.layout.proofs.Stays.{put-together, book-stays, ids-ascend, textures-fit, retiring-stay, doomed-fit}
+use Rattle.layout.proofs.Stays.{put-together, book-stays, ids-ascend, textures-fit, retiring-stay, doomed-fit, doomed-bound}
 use Rattle.layout.proofs.Places.{changed}
-use Rattle.layout.proofs.Changes.{textures-set, sparesBefore, sparesAt, count-state, every-emptied, spares-removed}
+use Rattle.layout.proofs.Changes.{textures-set, sparesBefore, sparesAt, every-emptied, spares-removed}
 use Rattle.layout.proofs.Pages.{pagesAt, next-page, pages-in, set-parts}
 use Rattle.layout.proofs.Fresh.{no-page-reshaped}
 use Rattle.layout.proofs.Asked.{asked-accepted}
+use Rattle.layout.proofs.Tracked.{record-read, spares-to, pages-to, shape-at, count-at, pages-at}
 use Rattle.access.proofs.Fields.{pages-bound, claims-bound}
 use Rattle.destruction.specs.Given.{givenRecords}
 use Rattle.destruction.proofs.Pushed.{given-spares}
@@ -52,14 +51,8 @@ use Rattle.trackings.specs.Cases.{Accepted, recordOf, TrackedAt}
 use Rattle.trackings.specs.Holdings.{holdingAt, givenUp}
 use Rattle.trackings.proofs.Refusals.{shape-passed, counter-left, pages-left, renewed-begun, take-renewed}
 use Rattle.trackings.proofs.Counts.{counted, begunCounts, counts-after}
-use Rattle.trackings.proofs.Tracked.{same-record, pages-counted, spares-from, pages-from, spares-within, kept-fits, shape-state, is-there, found-there, Here, here}
+use Rattle.trackings.proofs.Tracked.{spares-within, kept-fits, is-there, found-there, Here, here}
 use Rattle.trackings.proofs.Trackings.{begun, begun-record, begun-pages, newest-begun, stamps-begun}
-
--- the bytes of versions in the destroy queue
-doomed-most : {ds : List (Doomed ℕ)} → All DoomedFormed ds → doomedBytes ds ≤ 17592186044416 * length ds
-unfolding total
-doomed-most nil = omega arith
-doomed-most (cons {x = d} {xs = ds} p ps) = omega (arith, doomed-most ps, p .bytes, mul-suc 17592186044416 (length ds))
 
 -- what the code asks of a pool in which a texture's tracking is renewed
 pub record Renewable (l : Lent) (hold : Holding) (shape : VersionShape) (records : Bool) : Type 0 where
@@ -113,7 +106,7 @@ module _ (l : Lent) (i id : ℕ) (shape : VersionShape) (records : Bool) (seq : 
   renewed = withTrackings epoch (withTextures (change id (λ (v : VersionState ℕ). new) (modelOf l .textures)) (doomSpares given (modelOf l)))
 
   other-state : sameShape (u .shape) shape ≡ false
-  other-state = ap (λ (s : VersionShape). sameShape s shape) (shape-state l f i (h .0)) ∙ other
+  other-state = ap (λ (s : VersionShape). sameShape s shape) (shape-at l i (h .0)) ∙ other
 
   ruled : takeSpareCall l id shape records seq ≡ (answer none, after renewed l)
   unfolding takeSpareCall
@@ -129,17 +122,17 @@ module _ (l : Lent) (i id : ℕ) (shape : VersionShape) (records : Bool) (seq : 
   -- ---- what the texture has
 
   spares-counted : length (u .spares) ≡ t .spares
-  spares-counted = count-state l i ∙ ap sparesOf (same-record l f i (h .0))
+  spares-counted = count-at l i (h .0)
 
   spares-listed : u .spares ≡ listed (spareRead l) (firstSpare l i) (t .spares)
   unfolding stateOf stateRead
-  spares-listed = ap (λ (r : TextureRecord). listed (spareRead l) (firstSpare l i) (r .spares)) (same-record l f i (h .0))
+  spares-listed = ap (λ (r : TextureRecord). listed (spareRead l) (firstSpare l i) (r .spares)) (record-read l i (h .0))
 
   pages-there : pagesAt l i ≡ recordPages t
-  pages-there = ap recordPages (same-record l f i (h .0))
+  pages-there = ap recordPages (record-read l i (h .0))
 
   given-bytes : doomedBytes given ≡ bytesOf (t .shape) * t .spares
-  given-bytes = as-doomed-bytes (bytesOf (u .shape)) (u .spares) ∙ ap₂ (λ (a b : ℕ). a * b) (ap bytesOf (shape-state l f i (h .0))) spares-counted
+  given-bytes = as-doomed-bytes (bytesOf (u .shape)) (u .spares) ∙ ap₂ (λ (a b : ℕ). a * b) (ap bytesOf (shape-at l i (h .0))) spares-counted
 
   given-length : length given ≡ t .spares
   given-length = as-doomed-length (bytesOf (u .shape)) (u .spares) ∙ spares-counted
@@ -147,7 +140,7 @@ module _ (l : Lent) (i id : ℕ) (shape : VersionShape) (records : Bool) (seq : 
   given-records : givenRecords (l .spares) (bytesOf (t .shape)) (firstSpare l i) (t .spares) ≡ map doomedRecord given
   given-records =
       given-spares l (bytesOf (t .shape)) (firstSpare l i) (t .spares)
-      ∙ sym (ap₂ (λ (b : ℕ) (ss : List (Spare ℕ)). map doomedRecord (asDoomed b ss)) (ap bytesOf (shape-state l f i (h .0))) spares-listed)
+      ∙ sym (ap₂ (λ (b : ℕ) (ss : List (Spare ℕ)). map doomedRecord (asDoomed b ss)) (ap bytesOf (shape-at l i (h .0))) spares-listed)
 
   -- ---- what is left
 
@@ -169,7 +162,7 @@ module _ (l : Lent) (i id : ℕ) (shape : VersionShape) (records : Bool) (seq : 
         total-change pagesUsed id (λ (v : VersionState ℕ). new) u (modelOf l .textures) (f .formed .ids) there,
         pages-model l,
         f .claimed,
-        pages-counted l f i (h .0),
+        pages-at l i (h .0),
         begun-pages id shape records epoch seq,
         pages-in l (f .claimed) i (h .0),
         pages-there,
@@ -199,7 +192,7 @@ module _ (l : Lent) (i id : ℕ) (shape : VersionShape) (records : Bool) (seq : 
         pages-model l,
         f .claimed,
         page-places l,
-        pages-counted l f i (h .0),
+        pages-at l i (h .0),
       )
 
   next : firstPageOf l (suc i) ≡ firstPageOf l i + recordPages t
@@ -208,7 +201,7 @@ module _ (l : Lent) (i id : ℕ) (shape : VersionShape) (records : Bool) (seq : 
   no-page : firstPage id shape 0 (modelOf l .textures) ≡ none
   unfolding stateOf stateRead
   no-page =
-      ap (λ (k : ℕ). firstPage k shape 0 (modelOf l .textures)) (sym (ap (λ (r : TextureRecord). r .id) (same-record l f i (h .0)) ∙ h .1))
+      ap (λ (k : ℕ). firstPage k shape 0 (modelOf l .textures)) (sym (ap (λ (r : TextureRecord). r .id) (record-read l i (h .0)) ∙ h .1))
       ∙ no-page-reshaped l (ids-ascend l f) i shape (h .0) other-state
 
   pub readable : Readable l i
@@ -217,7 +210,7 @@ module _ (l : Lent) (i id : ℕ) (shape : VersionShape) (records : Bool) (seq : 
       let b = pages-in l (f .claimed) i (h .0) in
       record {
         spares = omega (arith, k .first, k .within, k .kept);
-        pages = omega (arith, pages-from l f i (h .0), b, f .pages, f .newest);
+        pages = omega (arith, pages-to l i (h .0), b, f .pages, f .newest);
         own = omega (arith, claims-bound t (k .shape));
       }
 
@@ -226,7 +219,7 @@ module _ (l : Lent) (i id : ℕ) (shape : VersionShape) (records : Bool) (seq : 
   module _ (hold : Holding) (is-held : hold ≡ holdingAt (l .textures) i) where
     first-is : hold .first ≡ firstSpare l i
     unfolding holdingAt
-    first-is = ap (λ (a : Holding). a .first) is-held ∙ spares-from l f i (h .0)
+    first-is = ap (λ (a : Holding). a .first) is-held ∙ sym (spares-to l i (h .0))
 
     spares-is : hold .spares ≡ t .spares
     unfolding holdingAt
@@ -238,7 +231,7 @@ module _ (l : Lent) (i id : ℕ) (shape : VersionShape) (records : Bool) (seq : 
 
     page-is : hold .page ≡ firstPageOf l i
     unfolding holdingAt
-    page-is = ap (λ (a : Holding). a .page) is-held ∙ pages-from l f i (h .0)
+    page-is = ap (λ (a : Holding). a .page) is-held ∙ sym (pages-to l i (h .0))
 
     pages-is : hold .pages ≡ recordPages t
     unfolding holdingAt
@@ -251,7 +244,7 @@ module _ (l : Lent) (i id : ℕ) (shape : VersionShape) (records : Bool) (seq : 
     unfolding versionPlaces modelOf
     renewable =
         let k = here l i id shape records seq ok h in
-        let dooming : l .pool .dooming ≤ 17592186044416 * length (modelOf l .doomed) = omega (arith, f .formed .dooming, doomed-most (f .formed .doomed)) in
+        let dooming : l .pool .dooming ≤ 17592186044416 * length (modelOf l .doomed) = omega (arith, f .formed .dooming, doomed-bound (f .formed .doomed)) in
         let all : bytesOf (t .shape) * t .spares ≤ 17592186044416 * 4096 =
         mul-le-mul (bytes-bound (t .shape) (k .shape)) (let q : t .spares ≤ 4096 = omega (arith, k .within, k .kept) in q) in
         record {
@@ -300,7 +293,7 @@ module _ (l : Lent) (i id : ℕ) (shape : VersionShape) (records : Bool) (seq : 
         q
         ∙ ap₂ (λ (a b : ℕ). moved (l .spares) (3 * a) (3 * a + 3 * b) (3 * (l .pool .kept - (a + b)))) first-is spares-is
         ∙ spares-removed l renewed (f .kept) (kept-fits l f i (h .0)) (firstSpare l i) (t .spares) (spares-within l f i (h .0))
-        (ap everySpare changed-there ∙ every-emptied l i (h .0) new refl ∙ ap (λ (k : ℕ). removed (firstSpare l i) k (sparesBefore l)) (ap sparesOf (same-record l f i (h .0))))
+        (ap everySpare changed-there ∙ every-emptied l i (h .0) new refl ∙ ap (λ (k : ℕ). removed (firstSpare l i) k (sparesBefore l)) (ap sparesOf (record-read l i (h .0))))
 
     pub left-renewed : (places fresh : ℕ) (g : Counts) (x : TextureRecord) (textures doomed spares newest stamps : List ℕ)
         → places ≡ length (l .retiring) / 7 → fresh ≡ n → g ≡ givenUp (l .pool) (hold .spares) (hold .bytes)

@@ -8,50 +8,32 @@ use native.Mathlib.Nat.{mul-one, mul-le-mul-left}
 use native.Mathlib.Omega.{arith}
 use lib.ListN.{length, getD}
 use Rattle.blocks.specs.Lists.{total}
-use Rattle.blocks.proofs.All.{all-at}
 use Rattle.tables.specs.Records.{table}
-use Rattle.tables.proofs.Records.{getD-table, take-table}
 use Rattle.shapes.specs.declared.shape.VersionShape.{VersionShape}
 use Rattle.shapes.specs.Shapes.{isShape, bytesOf}
-use Rattle.stores.specs.Model.{VersionState, find, limit, pagesUsed, spareBytes}
-use Rattle.stores.specs.Formed.{StateFormed, Given, HistoryFormed}
+use Rattle.stores.specs.Model.{VersionState, find, limit, spareBytes}
 use Rattle.stores.proofs.States.{find-part}
-use Rattle.records.specs.declared.recorded.Recorded.{Recorded}
-use Rattle.records.specs.declared.recorded.Recorded.the-variants.{Writes, NoHistory}
 use Rattle.records.specs.declared.texture.TextureRecord.{TextureRecord}
 use Rattle.records.specs.Recorded.{RecordedFits}
 use Rattle.records.specs.Texture.{readTexture}
 use Rattle.records.specs.Find.{below}
 use Rattle.layout.specs.Lent.{Lent, versionPlaces}
-use Rattle.layout.specs.Reading.{trackedRecords, recordPages, historyRead, stateRead, modelOf}
+use Rattle.layout.specs.Reading.{trackedRecords, modelOf}
 use Rattle.layout.proofs.Fits.{Fits}
 use Rattle.layout.proofs.FromPool.{pool-fits}
-use Rattle.layout.proofs.Runs.{sparesOf, firstSpare, firstPageOf, stateOf, pages-state, tracked-model, model-at}
+use Rattle.layout.proofs.Runs.{sparesOf, firstSpare, stateOf}
 use Rattle.layout.proofs.Stays.{ids-ascend}
 use Rattle.layout.proofs.Places.{IsTracked, found}
-use Rattle.layout.proofs.Changes.{sparesAt, count-state, spares-in}
+use Rattle.layout.proofs.Changes.{sparesAt, spares-in}
+use Rattle.layout.proofs.Tracked.{record-read, spares-to, shape-at, count-at, shape-passes, history-fits}
 use Rattle.trackings.specs.Cases.{Accepted, recordOf, TrackedAt}
 
 module _ (l : Lent) (f : Fits l) (i : ℕ) (h : i < l .pool .tracked) where
-  -- the record, as the model's laws read it
-  pub same-record : getD (trackedRecords l) i (readTexture []) ≡ recordOf l i
-  same-record = getD-table 19 readTexture (l .pool .tracked) i (l .textures) (readTexture []) h
-
   pub record-fits : 19 * i + 19 ≤ length (l .textures)
   record-fits = omega (arith, f .textures, f .tracked)
 
-  -- its spares begin behind those of the textures before it
-  pub spares-from : total sparesOf (table 19 readTexture i (l .textures)) ≡ firstSpare l i
-  unfolding firstSpare
-  spares-from = ap (total sparesOf) (sym (take-table 19 readTexture i (l .pool .tracked) (l .textures) (omega arith)))
-
-  -- and so do its pages
-  pub pages-from : total recordPages (table 19 readTexture i (l .textures)) ≡ firstPageOf l i
-  unfolding firstPageOf
-  pages-from = ap (total recordPages) (sym (take-table 19 readTexture i (l .pool .tracked) (l .textures) (omega arith)))
-
   pub spares-within : firstSpare l i + recordOf l i .spares ≤ l .pool .kept
-  spares-within = omega (arith, spares-in l i h, f .kept, ap sparesOf same-record)
+  spares-within = omega (arith, spares-in l i h, f .kept, ap sparesOf (record-read l i h))
 
   pub kept-bound : l .pool .kept ≤ 4096
   kept-bound = omega (arith, f .versions, f .most)
@@ -59,34 +41,12 @@ module _ (l : Lent) (f : Fits l) (i : ℕ) (h : i < l .pool .tracked) where
   pub kept-fits : 3 * l .pool .kept ≤ length (l .spares)
   kept-fits = omega (arith, f .versions, f .spares)
 
-  state-formed : StateFormed (stateOf l i)
-  state-formed = rw (model-at l i (stateOf l 0) h) at (all-at (modelOf l .textures) i (stateOf l 0) (omega (arith, tracked-model l)) (f .formed .textures))
-
-  pub shape-state : stateOf l i .shape ≡ recordOf l i .shape
-  unfolding stateOf stateRead
-  shape-state = ap (λ (t : TextureRecord). t .shape) same-record
-
-  pub shape-passes : isShape (recordOf l i .shape) ≡ true
-  shape-passes = ap isShape (sym shape-state) ∙ state-formed .shape
-
-  pub pages-counted : pagesUsed (stateOf l i) ≡ recordPages (recordOf l i)
-  unfolding stateOf
-  pages-counted = pages-state l (firstSpare l i) (firstPageOf l i) (getD (trackedRecords l) i (readTexture [])) ∙ ap recordPages same-record
-
-  pub history-fits : RecordedFits (recordOf l i .history)
-  unfolding stateOf stateRead
-  history-fits = rw (ap (λ (t : TextureRecord). t .history) same-record) at (go (getD (trackedRecords l) i (readTexture []) .history) (state-formed .history))
-    where
-      go : (r : Recorded) → Given (HistoryFormed (stateOf l i .shape)) (historyRead l (stateOf l i .shape) (firstPageOf l i) r) → RecordedFits r
-      go (Writes n) g = omega (arith, g .writes)
-      go NoHistory g = omega arith
-
   -- ---- bytes
 
   module _ (id : ℕ) (at : i ≡ below id (trackedRecords l)) (e : recordOf l i .id ≡ id) where
     pub is-there : IsTracked l id (ids-ascend l f)
     is-there =
-        (omega (arith, at, h), ap (λ (k : ℕ). getD (trackedRecords l) k (readTexture []) .id) (sym at) ∙ ap (λ (t : TextureRecord). t .id) same-record ∙ e)
+        (omega (arith, at, h), ap (λ (k : ℕ). getD (trackedRecords l) k (readTexture []) .id) (sym at) ∙ ap (λ (t : TextureRecord). t .id) (record-read l i h) ∙ e)
 
     pub found-there : find id (modelOf l .textures) ≡ some (stateOf l i)
     found-there = found l id (ids-ascend l f) is-there ∙ ap (λ (k : ℕ). some (stateOf l k)) (sym at)
@@ -98,7 +58,7 @@ module _ (l : Lent) (f : Fits l) (i : ℕ) (h : i < l .pool .tracked) where
         omega (arith, find-part spareBytes id (stateOf l i) (modelOf l .textures) found-there, f .formed .parked, both)
       where
         both : spareBytes (stateOf l i) ≡ bytesOf (recordOf l i .shape) * recordOf l i .spares
-        both = ap₂ (λ (a b : ℕ). a * b) (ap bytesOf shape-state) (count-state l i ∙ ap sparesOf same-record)
+        both = ap₂ (λ (a b : ℕ). a * b) (ap bytesOf (shape-at l i h)) (count-at l i h)
 
     pub spare-parked : 0 < recordOf l i .spares → bytesOf (recordOf l i .shape) ≤ l .pool .parked
     spare-parked q = omega (arith, spares-parked, mul-one (bytesOf (recordOf l i .shape)), mul-le-mul-left (bytesOf (recordOf l i .shape)) q)
@@ -107,7 +67,7 @@ module _ (l : Lent) (f : Fits l) (i : ℕ) (h : i < l .pool .tracked) where
 pub not-there : (l : Lent) (f : Fits l) (i id : ℕ) → i ≡ below id (trackedRecords l) → (TrackedAt l i id → ⊥) → IsTracked l id (ids-ascend l f) → ⊥
 not-there l f i id at untracked (h, e) =
     let k : i < l .pool .tracked = omega (arith, at, h) in
-    untracked (k, sym (ap (λ (t : TextureRecord). t .id) (same-record l f i k)) ∙ ap (λ (j : ℕ). getD (trackedRecords l) j (readTexture []) .id) at ∙ e)
+    untracked (k, sym (ap (λ (t : TextureRecord). t .id) (record-read l i k)) ∙ ap (λ (j : ℕ). getD (trackedRecords l) j (readTexture []) .id) at ∙ e)
 
 -- what the calls' code asks of a tracked texture's record
 pub record Here (l : Lent) (i : ℕ) : Type 0 where
@@ -126,9 +86,9 @@ here l i id shape records seq ok (h, e) =
     let f = pool-fits l (ok .0) in
     record {
       textures = record-fits l f i h;
-      history = history-fits l f i h;
-      shape = shape-passes l f i h;
-      first = spares-from l f i h;
+      history = history-fits l i h f;
+      shape = shape-passes l i h f;
+      first = sym (spares-to l i h);
       within = spares-within l f i h;
       kept = kept-bound l f i h;
       spares = kept-fits l f i h;

@@ -25,13 +25,14 @@ use Rattle.layout.specs.Writing.{textureRecord, doomedRecord}
 use Rattle.layout.proofs.Fits.{Fits}
 use Rattle.layout.proofs.Runs.{stateOf}
 use Rattle.layout.proofs.Kept.{pagedOf}
+use Rattle.layout.proofs.Tracked.{record-at, shape-at, count-at, shape-passes}
 use Rattle.destruction.specs.Given.{givenRecords}
 use Rattle.destruction.proofs.Pushed.{given-spares}
 use Rattle.trimming.specs.declared.look.Look.{Look}
 use Rattle.forgetting.specs.Owned.{textureIn, sparesTo}
 use Rattle.trimming.specs.Look.{isIdle, dueAfter, bytesGiven, lookOf, lookedRecord}
 use Rattle.trimming.specs.Pass.{givenOne}
-use Rattle.forgetting.proofs.TextureRuns.{record-of, shape-in, spares-in, count-in, shape-passes}
+use Rattle.forgetting.proofs.TextureRuns.{spares-in}
 use Rattle.trimming.proofs.Ages.{aged-most}
 
 -- ---- any state
@@ -100,15 +101,15 @@ module _ (l : Lent) (now i : ℕ) (h : i < l .pool .tracked) where
   lookHere = lookOf now t₀ (count now (stateOf l i))
 
   pub few : count now (stateOf l i) ≤ t₀ .spares
-  few = omega (arith, aged-most now (stateOf l i .spares), count-in l i h)
+  few = omega (arith, aged-most now (stateOf l i .spares), count-at l i h)
 
   pub left-count : length (drop (count now (stateOf l i)) (stateOf l i .spares)) ≡ t₀ .spares - count now (stateOf l i)
-  left-count = length-drop (count now (stateOf l i)) (stateOf l i .spares) ∙ ap (λ (n : ℕ). n - count now (stateOf l i)) (count-in l i h)
+  left-count = length-drop (count now (stateOf l i)) (stateOf l i .spares) ∙ ap (λ (n : ℕ). n - count now (stateOf l i)) (count-at l i h)
 
   pub idle-here : idle now (thinned now (stateOf l i)) ≡ isIdle now t₀ (t₀ .spares - count now (stateOf l i))
   idle-here =
       idle-record now (stateOf l i)
-      ∙ ap₂ (λ (t : TextureRecord) (n : ℕ). isIdle now t (n - count now (stateOf l i))) (record-of l i h) (count-in l i h)
+      ∙ ap₂ (λ (t : TextureRecord) (n : ℕ). isIdle now t (n - count now (stateOf l i))) (record-at l i h) (count-at l i h)
 
   pub none-left : idle now (thinned now (stateOf l i)) ≡ true → t₀ .spares - count now (stateOf l i) ≡ 0
   unfolding isIdle
@@ -130,7 +131,7 @@ module _ (l : Lent) (now i : ℕ) (h : i < l .pool .tracked) where
         rename = t .rename;
         due = dueAfter now t;
         spares = n;
-      }) (record-of l i h) left-count
+      }) (record-at l i h) left-count
 
   -- ---- what it gives up
 
@@ -154,7 +155,7 @@ module _ (l : Lent) (now i : ℕ) (h : i < l .pool .tracked) where
   unfolding givenOne
   given-bytes =
       by-count (count now (stateOf l i))
-      ∙ sym (as-doomed-bytes (bytesOf (stateOf l i .shape)) given ∙ ap₂ (λ (b n : ℕ). b * n) (ap bytesOf (shape-in l i h)) given-length)
+      ∙ sym (as-doomed-bytes (bytesOf (stateOf l i .shape)) given ∙ ap₂ (λ (b n : ℕ). b * n) (ap bytesOf (shape-at l i h)) given-length)
 
   pub bytes-few : Fits l → bytesGiven t₀ (count now (stateOf l i)) * count now (stateOf l i) ≤ 17592186044416 * count now (stateOf l i)
   bytes-few f =
@@ -174,7 +175,7 @@ module _ (l : Lent) (now i : ℕ) (h : i < l .pool .tracked) where
       let k = count now (stateOf l i) in
       records-by-count k
       ∙ given-spares l (bytesOf (t₀ .shape)) (sparesTo (l .textures) i) k
-      ∙ sym (ap₂ (λ (b : ℕ) (ss : List (Spare ℕ)). map doomedRecord (asDoomed b ss)) (ap bytesOf (shape-in l i h))
+      ∙ sym (ap₂ (λ (b : ℕ) (ss : List (Spare ℕ)). map doomedRecord (asDoomed b ss)) (ap bytesOf (shape-at l i h))
       (ap (take k) (spares-in l i h) ∙ take-listed (spareRead l) k (sparesTo (l .textures) i) (t₀ .spares) few))
 
 -- ---- the look put together from its parts; b is whether the texture is dropped

@@ -31,10 +31,11 @@ use Rattle.layout.proofs.Kept.{used-paged}
 use Rattle.layout.proofs.Changes.{spares-rest}
 use Rattle.layout.proofs.Stays.{ids-ascend}
 use Rattle.layout.proofs.Passes.{texture-packed, spares-packed, newest-packed, stamps-packed}
+use Rattle.layout.proofs.Tracked.{record-read, spares-to, pages-to, pages-at}
 use Rattle.forgetting.specs.Owned.{textureIn, sparesTo, pagesTo}
 use Rattle.trimming.specs.Look.{lookedRecord}
 use Rattle.trimming.specs.Pass.{trimmedOne, givenOne, trimmed}
-use Rattle.forgetting.proofs.TextureRuns.{record-in, spares-to, pages-to, pages-in, spares-within}
+use Rattle.forgetting.proofs.TextureRuns.{spares-within}
 use Rattle.trimming.proofs.Looks.{count, looked, looked-paged, looked-spares, lookHere, few, left-count, record-here}
 
 -- what a call leaves of the packed slices depends on the textures alone
@@ -129,7 +130,7 @@ module _ (l : Lent) (now i : ℕ) (h : i < l .pool .tracked) where
           → moved (sparesAfter p l) (3 * to) (3 * (sparesTo (l .textures) i + k₀)) (3 * (t₀ .spares - k₀)) ≡ sparesAfter q l
       spares-stay to at low =
           let first = spares-to l i h in
-          let own = ap (λ (t : TextureRecord). t .spares) (record-in l i h) in
+          let own = ap (λ (t : TextureRecord). t .spares) (record-read l i h) in
           let fewer = few l now i h in
           let within = spares-within l i h f in
           ap₂ (λ (n m : ℕ). moved (sparesAfter p l) (3 * n) (3 * (m + k₀)) (3 * (t₀ .spares - k₀))) at (sym first)
@@ -148,8 +149,8 @@ module _ (l : Lent) (now i : ℕ) (h : i < l .pool .tracked) where
             × (length (flatMap newestOf (keptTo l now (i + 1))) ≡ used + recordPages t₀)
         newest-stays n =
             let w = newest-packed l p q (looked now (stateOf l i)) more (f .claimed) i h (looked-paged now (stateOf l i)) used before (f .pages) n in (
-              ap₂ (λ (a b : ℕ). moved (newestAfter p l) used a b) (sym (pages-to l i h)) (sym (ap recordPages (record-in l i h))) ∙ w .0,
-              w .1 ∙ ap (λ (m : ℕ). used + m) (ap recordPages (record-in l i h)),
+              ap₂ (λ (a b : ℕ). moved (newestAfter p l) used a b) (sym (pages-to l i h)) (sym (ap recordPages (record-read l i h))) ∙ w .0,
+              w .1 ∙ ap (λ (m : ℕ). used + m) (ap recordPages (record-read l i h)),
             )
 
         pub stamps-stay : length (flatMap (pagesAfter l) (keptTo l now i)) ≡ 1024 * used
@@ -159,8 +160,8 @@ module _ (l : Lent) (now i : ℕ) (h : i < l .pool .tracked) where
             let w = stamps-packed l p q (looked now (stateOf l i)) more (f .claimed) i h (looked-paged now (stateOf l i)) used before
             (ids-ascend l f) (omega (arith, f .stamps, f .pages)) n in (
               ap₂ (λ (a b : ℕ). moved (stampsAfter p l) (1024 * used) (1024 * a) (1024 * b)) (sym (pages-to l i h))
-                  (sym (ap recordPages (record-in l i h))) ∙ w .0,
-              w .1 ∙ ap (λ (m : ℕ). 1024 * (used + m)) (ap recordPages (record-in l i h)),
+                  (sym (ap recordPages (record-read l i h))) ∙ w .0,
+              w .1 ∙ ap (λ (m : ℕ). 1024 * (used + m)) (ap recordPages (record-read l i h)),
             )
 
       -- ---- the counts
@@ -187,4 +188,4 @@ module _ (l : Lent) (now i : ℕ) (h : i < l .pool .tracked) where
           ∙ total-append pagesUsed (keptTo l now i) (looked now (stateOf l i) ∷ [])
           ∙ ap (λ (n : ℕ). total pagesUsed (keptTo l now i) + n)
           (used-paged (looked now (stateOf l i) ∷ []) (stateOf l i ∷ []) (ap (λ x. x ∷ []) (looked-paged now (stateOf l i)))
-          ∙ one-used (stateOf l i) ∙ pages-in l i h)
+          ∙ one-used (stateOf l i) ∙ pages-at l i h)

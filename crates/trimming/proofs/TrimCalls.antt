@@ -18,6 +18,7 @@ use Rattle.stores.specs.Updates.{withTextures, doomSpares}
 use Rattle.stores.specs.Trim.{agedCount, thinned, idle, lookedAt, trim}
 use Rattle.stores.specs.Formed.{Given, HistoryFormed}
 use Rattle.stores.proofs.Moves.{given-bytes}
+use Rattle.stores.proofs.Lists.{total-cut}
 use Rattle.records.specs.declared.recorded.Recorded.{Recorded}
 use Rattle.records.specs.declared.recorded.Recorded.the-variants.{Writes, NoHistory}
 use Rattle.records.specs.declared.texture.TextureRecord.{TextureRecord}
@@ -32,18 +33,18 @@ use Rattle.layout.specs.Calls.{refusal, answer, trimCall}
 use Rattle.layout.proofs.Fits.{Fits}
 use Rattle.layout.proofs.FromPool.{enough}
 use Rattle.layout.proofs.Asked.{guard-passed, guard-refused, asked-refused, asked-accepted}
-use Rattle.layout.proofs.Parts.{total-cut}
 use Rattle.layout.proofs.Runs.{firstPageOf, stateOf, tracked-model, model-at}
 use Rattle.layout.proofs.Rings.{hand-model, head-stays, first-stays, doomed-pushed}
 use Rattle.layout.proofs.Same.{book-same, held-same, queued-model, doomed-model}
-use Rattle.layout.proofs.Stays.{put-together, textures-fit, doomed-fit, retiring-stay}
+use Rattle.layout.proofs.Stays.{put-together, textures-fit, doomed-fit, retiring-stay, doomed-bound}
 use Rattle.layout.proofs.Counts.{count-spares}
+use Rattle.layout.proofs.Tracked.{record-read, shape-passes}
 use Rattle.access.proofs.Totals.{total-first}
 use Rattle.trimming.specs.declared.look.Look.{Look}
 use Rattle.trimming.specs.declared.pass.Pass.{Pass}
 use Rattle.forgetting.specs.Owned.{textureIn}
 use Rattle.trimming.specs.Pass.{trimmedOne, givenOne, trimmed, countsAfter}
-use Rattle.forgetting.proofs.TextureRuns.{doomed-bound, record-in, shape-passes, spares-within, pages-within}
+use Rattle.forgetting.proofs.TextureRuns.{spares-within, pages-within}
 use Rattle.trimming.proofs.Steps.{givenTo, keptTo}
 use Rattle.trimming.proofs.Trimmed.{Sofar, Seen, record-now}
 
@@ -64,7 +65,7 @@ module _ (l : Lent) (f : Fits l) (i : ℕ) (h : i < l .pool .tracked) where
       let formed = rw (model-at l i (stateOf l 0) h) at
       (all-at (modelOf l .textures) i (stateOf l 0) (omega (arith, tracked-model l)) (f .formed .textures)) in
       let t = getD (trackedRecords l) i (readTexture []) in
-      rw (sym (record-in l i h)) (counted l (t .shape) (firstPageOf l i) (t .history) (formed .history))
+      rw (sym (record-read l i h)) (counted l (t .shape) (firstPageOf l i) (t .history) (formed .history))
 
   module _ (now : ℕ) (w : Pass) (T D S N P : List ℕ) (s : Sofar l now i w T D S N P) where
     pub look-fits : (19 * i + 19 ≤ length T) × (isShape (recordAt 19 readTexture T i .shape) ≡ true)
@@ -120,7 +121,7 @@ module _ (l : Lent) (f : Fits l) (now i : ℕ) (w : Pass) (T D S N P : List ℕ)
   unfolding givenOne
   given-parked =
       let sum = given-bytes (λ (t : VersionState ℕ). agedCount now (t .spares)) (take i (modelOf l .textures)) in
-      omega (arith, sum, total-cut spareBytes (modelOf l .textures) i)
+      omega (arith, sum, total-cut spareBytes i (modelOf l .textures))
 
   few-given : w .count ≤ l .pool .kept
   few-given = omega (arith, s .all, s .first, f .kept, total-first 19 readTexture (λ t. t .spares) (l .textures) i (l .pool .tracked) (s .at))

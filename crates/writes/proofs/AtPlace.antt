@@ -1,6 +1,6 @@
 -- The texture where the search for an id ended, in a pool: what its record says of its history, and where its pages are. Assumes nothing.
 use mathlib.Core.Path.{_≡_, refl, sym, ap, ap₂, _∙_, subst}
-use mathlib.Core.Bool.{Bool, true, false, cond, _&&_}
+use mathlib.Core.Bool.{Bool, true, false, cond, _&&_, true≢false}
 use mathlib.Core.Option.{some}
 use mathlib.Core.List.{List, []}
 use Prim.Native.Nat.{ℕ, _+_, _*_, _≤_, _<_}
@@ -9,15 +9,12 @@ use native.Mathlib.Nat.{mul-comm}
 use borrow.Author.Tests.{lt-ltb, ltb-true, eq-eqb}
 use lib.Dec.{ltb, eqb}
 use lib.ListN.{getD}
-use Rattle.blocks.specs.Lists.{listed, total}
+use Rattle.blocks.specs.Lists.{listed}
 use Rattle.blocks.proofs.Lists.{and-both}
-use Rattle.blocks.proofs.All.{all-at}
-use Rattle.tables.proofs.Records.{getD-table, take-table}
 use Rattle.shapes.specs.Shapes.{isShape, slicesOf}
 use Rattle.stores.specs.Model.{WriteHistory, pagesOf}
 use Rattle.stores.specs.Histories.{inShape, gridPlace}
 use Rattle.grids.proofs.RowByRow.{tile-place}
-use Rattle.stores.specs.Formed.{StateFormed, Given, HistoryFormed}
 use Rattle.records.specs.declared.recorded.Recorded.{Recorded}
 use Rattle.records.specs.declared.recorded.Recorded.the-variants.{Writes, NoHistory}
 use Rattle.records.specs.declared.texture.TextureRecord.{TextureRecord}
@@ -25,9 +22,10 @@ use Rattle.records.specs.Texture.{readTexture}
 use Rattle.records.specs.Find.{idOf}
 use Rattle.access.proofs.Ids.{found}
 use Rattle.layout.specs.Lent.{Lent}
-use Rattle.layout.specs.Reading.{trackedRecords, recordedPages, recordPages, gridRead, historyRead, stateRead, modelOf}
+use Rattle.layout.specs.Reading.{trackedRecords, recordedPages, recordPages, gridRead, historyRead, stateRead}
 use Rattle.layout.proofs.Fits.{Fits}
-use Rattle.layout.proofs.Runs.{firstPageOf, stateOf, tracked-model, model-at}
+use Rattle.layout.proofs.Runs.{firstPageOf, stateOf}
+use Rattle.layout.proofs.Tracked.{record-read, pages-to, shape-passes}
 use Rattle.layout.proofs.Places.{place, IsTracked}
 use Rattle.layout.proofs.Stays.{ids-ascend, textures-fit}
 use Rattle.layout.proofs.Pages.{pagesAt, pages-in}
@@ -63,25 +61,18 @@ module _ (textures : List ℕ) (i : ℕ) (h : HistoryAt textures i) where
 -- ---- the record at a place
 
 module _ (l : Lent) (i : ℕ) (h : i < l .pool .tracked) where
-  pub record-at : getD (trackedRecords l) i (readTexture []) ≡ textureAt (l .textures) i
-  record-at = getD-table 19 readTexture (l .pool .tracked) i (l .textures) (readTexture []) h
-
   pub pages-begin : pagesUpTo (l .textures) i ≡ firstPageOf l i
-  unfolding pagesUpTo firstPageOf
-  pages-begin = ap (total recordPages) (sym (take-table 19 readTexture i (l .pool .tracked) (l .textures) (omega arith)))
+  unfolding pagesUpTo
+  pages-begin = sym (pages-to l i h)
 
   pub pages-of-record : pagesHere (l .textures) i ≡ pagesAt l i
   unfolding pagesHere
-  pages-of-record = ap recordPages (sym record-at)
-
-  pub shape-at : stateOf l i .shape ≡ textureAt (l .textures) i .shape
-  unfolding stateOf stateRead
-  shape-at = ap (λ (t : TextureRecord). t .shape) record-at
+  pages-of-record = ap recordPages (sym (record-read l i h))
 
   pub history-read : (r : Recorded) → textureAt (l .textures) i .history ≡ r → stateOf l i .history ≡ historyRead l (stateOf l i .shape) (firstPageOf l i) r
   unfolding stateOf stateRead
   history-read r e =
-      ap (historyRead l (getD (trackedRecords l) i (readTexture []) .shape) (firstPageOf l i)) (ap (λ (t : TextureRecord). t .history) record-at ∙ e)
+      ap (historyRead l (getD (trackedRecords l) i (readTexture []) .shape) (firstPageOf l i)) (ap (λ (t : TextureRecord). t .history) (record-read l i h) ∙ e)
 
 -- ---- a texture of a pool
 
@@ -112,14 +103,13 @@ module _ (l : Lent) (f : Fits l) (id : ℕ) where
   unfolding here
   tracked-here e =
       let q = found (l .textures) (l .pool .tracked) at id e in
-      (q .0, ap idOf (record-at l at (q .0)) ∙ q .1)
+      (q .0, ap idOf (record-read l at (q .0)) ∙ q .1)
 
   not-here : here ≡ false → Tracked → ⊥
   unfolding here
   not-here e (h, q) =
-      let z : here ≡ true = ap₂ (λ (a b : Bool). a && b) (lt-ltb at (l .pool .tracked) h) (eq-eqb (idOf (textureAt (l .textures) at)) id (ap idOf (sym (record-at l at h)) ∙ q)) in
-      let y : _≡_ {A = ℕ} 0 1 = ap (λ (b : Bool). cond b 0 1) (sym z ∙ e) in
-      let w : ⊥ = omega arith in w
+      let z : here ≡ true = ap₂ (λ (a b : Bool). a && b) (lt-ltb at (l .pool .tracked) h) (eq-eqb (idOf (textureAt (l .textures) at)) id (ap idOf (sym (record-read l at h)) ∙ q)) in
+      true≢false (sym z ∙ e)
 
   pub record-says : Says (recordedAt (l .textures) (l .pool .tracked) at id)
   unfolding recordedAt here
@@ -139,16 +129,8 @@ module _ (l : Lent) (f : Fits l) (id : ℕ) where
     pub has-history : stateOf l at .history ≡ some historyIs
     has-history = history-read l at (r .tracked .0) (Writes n) (r .history)
 
-    formed : StateFormed (stateOf l at)
-    formed =
-        subst StateFormed (model-at l at (stateOf l 0) (r .tracked .0))
-        (all-at (modelOf l .textures) at (stateOf l 0) (omega (arith, r .tracked .0, tracked-model l)) (f .formed .textures))
-
-    pub count-formed : n ≤ 281474976710656
-    count-formed = (subst (Given (HistoryFormed (stateOf l at .shape))) has-history (formed .history)) .writes
-
     pub shape-formed : isShape (textureAt (l .textures) at .shape) ≡ true
-    shape-formed = ap isShape (sym (shape-at l at (r .tracked .0))) ∙ formed .shape
+    shape-formed = shape-passes l at (r .tracked .0) f
 
     pub pages-inside : pagesEnd (l .textures) at ≤ l .pool .pages
     pages-inside =

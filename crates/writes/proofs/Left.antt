@@ -31,12 +31,13 @@ use Rattle.layout.proofs.Changes.{count-state, textures-set, every-kept}
 use Rattle.layout.proofs.Pages.{pagesAt, pages-in, newest-dropped, stamps-dropped}
 use Rattle.layout.proofs.Stamped.{gridsAt, used-at, whole-grids}
 use Rattle.layout.proofs.Written.{all-pages, place-page, grid-held, newest-rewritten, newest-stamped, stamps-rewritten, stamps-stamped}
+use Rattle.layout.proofs.Tracked.{record-read, shape-at}
 use Rattle.histories.specs.Written.{gridOn, newestWritten, pagesWritten, remadeGrids}
 use Rattle.histories.proofs.Written.{small-stamped, one-newest, one-page}
 use Rattle.histories.proofs.Regenerated.{regenerate-listed, length-remade, small-remade}
 use Rattle.writes.specs.History.{textureAt, recordedAs, pagesUpTo, pagesHere, pagesEnd, pageOf, stampedOn}
 use Rattle.writes.specs.Counts.{withPages}
-use Rattle.writes.proofs.AtPlace.{record-at, pages-begin, pages-of-record, shape-at}
+use Rattle.writes.proofs.AtPlace.{pages-begin, pages-of-record}
 
 -- one of a sum replaced
 total-set : {A : Type 0} (f : A → ℕ) (xs : List A) (i : ℕ) (a d : A) → i < length xs → total f (set xs i a) + f (getD xs i d) ≡ total f xs + f a
@@ -72,14 +73,14 @@ module _ (l : Lent) (f : Fits l) (i : ℕ) (h : i < l .pool .tracked) where
     other-record : textureRecord otherState ≡ recordedAs (recordedOf o) (textureAt (l .textures) i)
     unfolding stateOf stateRead
     other-record = λ j. record {
-      id = record-at l i h j .id;
-      shape = record-at l i h j .shape;
-      epoch = record-at l i h j .epoch;
+      id = record-read l i h j .id;
+      shape = record-read l i h j .shape;
+      epoch = record-read l i h j .epoch;
       history = recordedOf o;
-      birth = record-at l i h j .birth;
-      rename = record-at l i h j .rename;
-      due = record-at l i h j .due;
-      spares = (count-state l i ∙ ap (λ (t : TextureRecord). t .spares) (record-at l i h)) j;
+      birth = record-read l i h j .birth;
+      rename = record-read l i h j .rename;
+      due = record-read l i h j .due;
+      spares = (count-state l i ∙ ap (λ (t : TextureRecord). t .spares) (record-read l i h)) j;
     }
 
     textures-left : sets (l .textures) (19 * i) (writeTexture (recordedAs (recordedOf o) (textureAt (l .textures) i))) ≡ texturesAfter otherPool l

@@ -27,8 +27,9 @@ use Rattle.layout.proofs.Runs.{stateOf, firstPageOf}
 use Rattle.layout.proofs.Places.{found, not-found}
 use Rattle.layout.proofs.Stays.{ids-ascend}
 use Rattle.layout.proofs.Written.{grid-held}
+use Rattle.layout.proofs.Tracked.{shape-at}
 use Rattle.writes.specs.History.{textureAt, pagesUpTo, pageOf}
-use Rattle.writes.proofs.AtPlace.{pages-begin, shape-at, history-read, at, Unrecorded, untracked, unrecorded, Recording, historyIs, has-history}
+use Rattle.writes.proofs.AtPlace.{pages-begin, history-read, at, Unrecorded, untracked, unrecorded, Recording, historyIs, has-history}
 
 -- a tile of a page that is dirty is so in the page's grid
 dirty-grid : (g : Tiling) (held newest : ℕ) (page : List ℕ) (r : DirtyTile) → IsDirtyTile g held page r → IsDirtyTile g held (gridIn g newest page .stamps) r

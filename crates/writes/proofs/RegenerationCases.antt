@@ -25,9 +25,10 @@ use Rattle.layout.proofs.Asked.{guard-passed, guard-refused, asked-refused, ask
 use Rattle.layout.proofs.Runs.{stateOf}
 use Rattle.layout.proofs.Places.{found, changed, not-found, not-changed}
 use Rattle.layout.proofs.Stays.{ids-ascend, nothing-changed}
+use Rattle.layout.proofs.Tracked.{shape-at}
 use Rattle.histories.specs.Written.{remadeGrids}
 use Rattle.writes.specs.History.{textureAt, pagesUpTo, pagesHere}
-use Rattle.writes.proofs.AtPlace.{Unrecorded, untracked, unrecorded, Recording, at, history-read, shape-at, historyIs, has-history, shape-formed}
+use Rattle.writes.proofs.AtPlace.{Unrecorded, untracked, unrecorded, Recording, at, history-read, historyIs, has-history, shape-formed}
 use Rattle.writes.proofs.Left.{keptLent, history-regenerated}
 use Rattle.writes.proofs.WriteCases.{same-texture}
 

@@ -30,8 +30,9 @@ use Rattle.layout.proofs.Asked.{guard-passed, guard-refused, asked-refused, ask
 use Rattle.layout.proofs.Runs.{stateOf, model-at}
 use Rattle.layout.proofs.Places.{found, changed, not-found, not-changed}
 use Rattle.layout.proofs.Stays.{ids-ascend, nothing-changed}
+use Rattle.layout.proofs.Tracked.{shape-at}
 use Rattle.writes.specs.History.{textureAt, pageOf, stampedOn}
-use Rattle.writes.proofs.AtPlace.{Unrecorded, untracked, unrecorded, Recording, at, history-read, shape-at, historyIs, has-history, shape-formed}
+use Rattle.writes.proofs.AtPlace.{Unrecorded, untracked, unrecorded, Recording, at, history-read, historyIs, has-history, shape-formed}
 use Rattle.writes.proofs.Left.{droppedLent, history-dropped, keptLent, history-stamped}
 
 -- a texture of the model put back as it was

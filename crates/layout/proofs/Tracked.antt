@@ -1,0 +1,71 @@
+-- Texture i of the model by its record, as the code reads it: where its runs begin, what it has, and what holds of it in a pool. Assumes nothing.
+use mathlib.Core.Path.{_≡_, ap, sym, _∙_, subst}
+use mathlib.Core.Bool.{true}
+use mathlib.Core.Option.{Option, none, some}
+use mathlib.Core.List.{[]}
+use Prim.Native.Nat.{ℕ, _<_, _^_}
+use native.Mathlib.Omega.{arith}
+use lib.ListN.{length, getD}
+use Rattle.blocks.specs.Lists.{total}
+use Rattle.blocks.proofs.All.{all-at}
+use Rattle.tables.specs.Records.{recordAt, table}
+use Rattle.tables.proofs.Records.{getD-table, take-table}
+use Rattle.shapes.specs.Shapes.{isShape}
+use Rattle.stores.specs.Model.{WriteHistory, pagesUsed}
+use Rattle.stores.specs.Formed.{Given, HistoryFormed, StateFormed}
+use Rattle.records.specs.declared.texture.TextureRecord.{TextureRecord}
+use Rattle.records.specs.Recorded.{RecordedFits, recordedNumber}
+use Rattle.records.specs.Texture.{readTexture}
+use Rattle.layout.specs.Lent.{Lent}
+use Rattle.layout.specs.Reading.{trackedRecords, recordPages, stateRead, modelOf}
+use Rattle.layout.specs.Writing.{recordedOf, textureRecord}
+use Rattle.layout.proofs.Fits.{Fits}
+use Rattle.layout.proofs.Runs.{sparesOf, firstSpare, firstPageOf, stateOf, tracked-model, model-at, record-state, pages-state}
+use Rattle.layout.proofs.Changes.{count-state}
+
+-- the record that the code reads
+abbrev pub textureAt : Lent → ℕ → TextureRecord
+textureAt l i = recordAt 19 readTexture (l .textures) i
+
+module _ (l : Lent) (i : ℕ) (h : i < l .pool .tracked) where
+  pub record-read : getD (trackedRecords l) i (readTexture []) ≡ textureAt l i
+  record-read = getD-table 19 readTexture (l .pool .tracked) i (l .textures) (readTexture []) h
+
+  -- its spares and its pages begin behind those of the textures before it
+  pub spares-to : firstSpare l i ≡ total sparesOf (table 19 readTexture i (l .textures))
+  unfolding firstSpare
+  spares-to = ap (total sparesOf) (take-table 19 readTexture i (l .pool .tracked) (l .textures) (omega arith))
+
+  pub pages-to : firstPageOf l i ≡ total recordPages (table 19 readTexture i (l .textures))
+  unfolding firstPageOf
+  pages-to = ap (total recordPages) (take-table 19 readTexture i (l .pool .tracked) (l .textures) (omega arith))
+
+  pub record-at : textureRecord (stateOf l i) ≡ textureAt l i
+  unfolding stateOf
+  record-at = record-state l (firstSpare l i) (firstPageOf l i) (getD (trackedRecords l) i (readTexture [])) ∙ record-read
+
+  pub shape-at : stateOf l i .shape ≡ textureAt l i .shape
+  unfolding stateOf stateRead
+  shape-at = ap (λ (t : TextureRecord). t .shape) record-read
+
+  pub count-at : length (stateOf l i .spares) ≡ textureAt l i .spares
+  count-at = count-state l i ∙ ap sparesOf record-read
+
+  pub pages-at : pagesUsed (stateOf l i) ≡ recordPages (textureAt l i)
+  unfolding stateOf
+  pages-at = pages-state l (firstSpare l i) (firstPageOf l i) (getD (trackedRecords l) i (readTexture [])) ∙ ap recordPages record-read
+
+  pub state-formed : Fits l → StateFormed (stateOf l i)
+  state-formed f =
+      subst StateFormed (model-at l i (stateOf l 0) h)
+      (all-at (modelOf l .textures) i (stateOf l 0) (omega (arith, h, tracked-model l)) (f .formed .textures))
+
+  pub shape-passes : Fits l → isShape (textureAt l i .shape) ≡ true
+  shape-passes f = ap isShape (sym shape-at) ∙ state-formed f .shape
+
+  pub history-fits : Fits l → RecordedFits (textureAt l i .history)
+  history-fits f = subst (λ (t : TextureRecord). RecordedFits (t .history)) record-at (go (stateOf l i .history) (state-formed f .history))
+    where
+      go : (o : Option WriteHistory) → Given (HistoryFormed (stateOf l i .shape)) o → recordedNumber (recordedOf o) < 2 ^ 64
+      go none g = omega arith
+      go (some w) g = omega (arith, g .writes)
