@@ -10,7 +10,7 @@ use borrow.Author.Tests.{le-leb}
 use lib.Dec.{eqb}
 use lib.ListN.{length, take, drop, length-append}
 use lib.Seq.{sets, drop-drop, length-take-le}
-use Rattle.histories.proofs.Written.{sets-append}
+use Rattle.layout.proofs.Rewritten.{sets-append}
 use Rattle.event_text.specs.Searches.{indexOf}
 use Rattle.event_lines.specs.Grammar.{eventOf}
 use Rattle.event_answers.specs.Printed.{lineFeed}

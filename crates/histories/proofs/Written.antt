@@ -23,7 +23,7 @@ use Rattle.grids.proofs.Stamps.{length-stamped}
 use Rattle.layout.specs.Reading.{pageAt}
 use Rattle.layout.specs.Writing.{pagesFrom}
 use Rattle.layout.proofs.Rewritten.{sets-self}
-pub use Rattle.layout.proofs.Rewritten.{sets-append}
+use Rattle.layout.proofs.Rewritten.{sets-append}
 use Rattle.layout.proofs.Stamped.{length-pages}
 use Rattle.histories.specs.Written.{gridOn, newestStamp, newestWritten, pagesWritten}
 
