@@ -34,14 +34,14 @@ pub fn history_pages(t: TextureRecord) -> usize
 
 // The pages that record i of the textures' slice claims, by three of its numbers: history, kind and levels.
 pub fn pages_at(textures: &[u64], i: usize) -> usize
-    requires { ⌜ (19 * i + 19 ≤ length (now textures)) × (recordPages (recordAt 19 readTexture (now textures) i) ≤ 4096) ⌝ }
-    ensures { λ r. ⌜ r ≡ recordPages (recordAt 19 readTexture (now (textures .entry)) i) ⌝ }
+    requires { ⌜ (20 * i + 20 ≤ length (now textures)) × (recordPages (recordAt 20 readTexture (now textures) i) ≤ 4096) ⌝ }
+    ensures { λ r. ⌜ r ≡ recordPages (recordAt 20 readTexture (now (textures .entry)) i) ⌝ }
 {
-    if textures[19 * i + 14] == 0 {
+    if textures[20 * i + 14] == 0 {
         return 0;
     }
-    let levels = textures[19 * i + 5];
-    if textures[19 * i + 6] == 1 {
+    let levels = textures[20 * i + 5];
+    if textures[20 * i + 6] == 1 {
         return (6 * levels) as usize;
     }
     levels as usize
@@ -49,8 +49,8 @@ pub fn pages_at(textures: &[u64], i: usize) -> usize
 
 // How many pages the first i textures claim, which is where those of texture i begin.
 pub fn pages_before(textures: &[u64], i: usize) -> usize
-    requires { ⌜ (19 * i ≤ length (now textures)) × (total recordPages (table 19 readTexture i (now textures)) ≤ 4096) ⌝ }
-    ensures { λ r. ⌜ r ≡ total recordPages (table 19 readTexture i (now (textures .entry))) ⌝ }
+    requires { ⌜ (20 * i ≤ length (now textures)) × (total recordPages (table 20 readTexture i (now textures)) ≤ 4096) ⌝ }
+    ensures { λ r. ⌜ r ≡ total recordPages (table 20 readTexture i (now (textures .entry))) ⌝ }
 {
     let mut sum = 0;
     let mut j = 0;

@@ -37,13 +37,13 @@ pub fn insert_spare(s: &mut [u64], n: usize, k: usize, x: SpareRecord)
 // How many spares the first i textures have, which is where those of texture i begin. `textures` is the textures' slice, of which
 // the sum reads one number a record.
 pub fn spares_before(textures: &[u64], i: usize) -> usize
-    requires { ⌜ (19 * i ≤ length (now textures)) × (total (λ t. t .spares) (table 19 readTexture i (now textures)) ≤ 4096) ⌝ }
-    ensures { λ r. ⌜ r ≡ total (λ t. t .spares) (table 19 readTexture i (now (textures .entry))) ⌝ }
+    requires { ⌜ (20 * i ≤ length (now textures)) × (total (λ t. t .spares) (table 20 readTexture i (now textures)) ≤ 4096) ⌝ }
+    ensures { λ r. ⌜ r ≡ total (λ t. t .spares) (table 20 readTexture i (now (textures .entry))) ⌝ }
 {
     let mut sum = 0;
     let mut j = 0;
     while j < i {
-        sum += textures[19 * j + 18] as usize;
+        sum += textures[20 * j + 18] as usize;
         j += 1;
     }
     sum

@@ -1,4 +1,4 @@
-// The textures' records: nineteen numbers each, packed from the front of their slice.
+// The textures' records: twenty numbers each, packed from the front of their slice.
 ghost use mathlib.Core.Path.{_≡_};
 ghost use mathlib.Core.Bool.{_&&_};
 ghost use Prim.Native.Nat.{_+_, _*_, _-_, _≤_, _<_};
@@ -20,46 +20,46 @@ use tables::remove_records;
 
 // Record i.
 pub fn texture_at(s: &[u64], i: usize) -> TextureRecord
-    requires { ⌜ 19 * i + 19 ≤ length (now s) ⌝ }
-    ensures { λ r. ⌜ r ≡ recordAt 19 readTexture (now (s .entry)) i ⌝ }
+    requires { ⌜ 20 * i + 20 ≤ length (now s) ⌝ }
+    ensures { λ r. ⌜ r ≡ recordAt 20 readTexture (now (s .entry)) i ⌝ }
 {
-    let part = record_at(s, 19, i);
+    let part = record_at(s, 20, i);
     read_texture(part)
 }
 
 // Whether record i, where a search among n ended, is there and has the id.
 pub fn has_id(s: &[u64], n: usize, i: usize, id: u64) -> bool
-    requires { ⌜ 19 * n ≤ length (now s) ⌝ }
-    ensures { λ r. ⌜ r ≡ (ltb i n && eqb (idOf (recordAt 19 readTexture (now (s .entry)) i)) id) ⌝ }
+    requires { ⌜ 20 * n ≤ length (now s) ⌝ }
+    ensures { λ r. ⌜ r ≡ (ltb i n && eqb (idOf (recordAt 20 readTexture (now (s .entry)) i)) id) ⌝ }
 {
     if n <= i {
         return false;
     }
-    s[19 * i] == id
+    s[20 * i] == id
 }
 
 // Record i written anew.
 pub fn put_texture(s: &mut [u64], i: usize, t: TextureRecord)
-    requires { ⌜ (19 * i + 19 ≤ length (now s)) × RecordedFits (t .history) ⌝ }
-    ensures { λ _. ⌜ now (s .exit) ≡ sets (now (s .entry)) (19 * i) (writeTexture t) ⌝ }
+    requires { ⌜ (20 * i + 20 ≤ length (now s)) × RecordedFits (t .history) ⌝ }
+    ensures { λ _. ⌜ now (s .exit) ≡ sets (now (s .entry)) (20 * i) (writeTexture t) ⌝ }
 {
     let numbers = texture_numbers(t);
-    put_record(s, 19, i, &numbers);
+    put_record(s, 20, i, &numbers);
 }
 
 // Of n records, one more put in before record i.
 pub fn insert_texture(s: &mut [u64], n: usize, i: usize, t: TextureRecord)
-    requires { ⌜ (19 * n + 19 ≤ length (now s)) × (i ≤ n) × RecordedFits (t .history) ⌝ }
-    ensures { λ _. ⌜ now (s .exit) ≡ sets (moved (now (s .entry)) (19 * i + 19) (19 * i) (19 * (n - i))) (19 * i) (writeTexture t) ⌝ }
+    requires { ⌜ (20 * n + 20 ≤ length (now s)) × (i ≤ n) × RecordedFits (t .history) ⌝ }
+    ensures { λ _. ⌜ now (s .exit) ≡ sets (moved (now (s .entry)) (20 * i + 20) (20 * i) (20 * (n - i))) (20 * i) (writeTexture t) ⌝ }
 {
     let numbers = texture_numbers(t);
-    insert_record(s, 19, n, i, &numbers);
+    insert_record(s, 20, n, i, &numbers);
 }
 
 // Of n records, record i taken out.
 pub fn remove_texture(s: &mut [u64], n: usize, i: usize)
-    requires { ⌜ (19 * n ≤ length (now s)) × (i < n) ⌝ }
-    ensures { λ _. ⌜ now (s .exit) ≡ moved (now (s .entry)) (19 * i) (19 * i + 19 * 1) (19 * (n - (i + 1))) ⌝ }
+    requires { ⌜ (20 * n ≤ length (now s)) × (i < n) ⌝ }
+    ensures { λ _. ⌜ now (s .exit) ≡ moved (now (s .entry)) (20 * i) (20 * i + 20 * 1) (20 * (n - (i + 1))) ⌝ }
 {
-    remove_records(s, 19, n, i, 1);
+    remove_records(s, 20, n, i, 1);
 }

@@ -1,7 +1,7 @@
 // Memory for 4,096 places of each kind.
 
-pub fn texture_places() -> [u64; 77824] {
-    [0; 77824]
+pub fn texture_places() -> [u64; 81920] {
+    [0; 81920]
 }
 
 pub fn retiring_places() -> [u64; 28672] {

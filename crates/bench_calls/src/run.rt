@@ -225,11 +225,11 @@ pub fn run_part(
     p: usize,
     rounds: u64,
 )
-    requires { ⌜ (t ≤ 4096) × (v ≤ 4096) × (p ≤ 4096) × (77824 ≤ length (now textures)) × (28672 ≤ length (now retiring)) × (8192 ≤ length (now doomed))
+    requires { ⌜ (t ≤ 4096) × (v ≤ 4096) × (p ≤ 4096) × (81920 ≤ length (now textures)) × (28672 ≤ length (now retiring)) × (8192 ≤ length (now doomed))
         × (12288 ≤ length (now spares)) × (4096 ≤ length (now newest)) × (4194304 ≤ length (now stamps)) ⌝ }
 {
     let mut copies = [0; 7];
-    let a = 19 * t;
+    let a = 20 * t;
     let b = 7 * v;
     let c = 2 * v;
     let d = 3 * v;

@@ -32,26 +32,26 @@ pub cleared-none : (s : List ℕ) → s ≡ cleared 0 s
 unfolding cleared table listed flat over
 cleared-none s = refl
 
-module _ (s : List ℕ) (i : ℕ) (fits : 19 * i + 19 ≤ length s) where
+module _ (s : List ℕ) (i : ℕ) (fits : 20 * i + 20 ≤ length s) where
   abbrev front : List ℕ
-  front = flat writeTexture (map spareless (table 19 readTexture i s))
+  front = flat writeTexture (map spareless (table 20 readTexture i s))
 
-  length-front : length front ≡ 19 * i
+  length-front : length front ≡ 20 * i
   length-front =
-      length-flat texture-codec (map spareless (table 19 readTexture i s))
-      ∙ ap (λ (k : ℕ). 19 * k) (length-map (table 19 readTexture i s) spareless ∙ length-table 19 readTexture i s)
+      length-flat texture-codec (map spareless (table 20 readTexture i s))
+      ∙ ap (λ (k : ℕ). 20 * k) (length-map (table 20 readTexture i s) spareless ∙ length-table 20 readTexture i s)
 
   -- record i and what stands past it
-  parted : drop (19 * i) s ≡ writeTexture (recordAt 19 readTexture s i) ++ drop (19 * i + 19) s
+  parted : drop (20 * i) s ≡ writeTexture (recordAt 20 readTexture s i) ++ drop (20 * i + 20) s
   unfolding recordAt
   parted =
-      sym (take-append-drop 19 (drop (19 * i) s))
-      ∙ ap₂ (λ (a b : List ℕ). a ++ b) (sym (texture-codec .back (drop (19 * i) s) (omega (arith, length-drop (19 * i) s)))) (drop-drop 19 (19 * i) s)
+      sym (take-append-drop 20 (drop (20 * i) s))
+      ∙ ap₂ (λ (a b : List ℕ). a ++ b) (sym (texture-codec .back (drop (20 * i) s) (omega (arith, length-drop (20 * i) s)))) (drop-drop 20 (20 * i) s)
 
-  front-more : flat writeTexture (map spareless (table 19 readTexture (i + 1) s)) ≡ front ++ writeTexture (spareless (recordAt 19 readTexture s i))
+  front-more : flat writeTexture (map spareless (table 20 readTexture (i + 1) s)) ≡ front ++ writeTexture (spareless (recordAt 20 readTexture s i))
   unfolding table flat
   front-more =
-      let f = recordAt 19 readTexture s in
+      let f = recordAt 20 readTexture s in
       ap (λ (n : ℕ). flat writeTexture (map spareless (listed f 0 n))) (add-one i)
       ∙ ap (λ (ts : List TextureRecord). flat writeTexture (map spareless ts))
       (listed-more f 0 i ∙ ap (λ (k : ℕ). listed f 0 i ++ (f k ∷ [])) (zero-add i))
@@ -59,16 +59,16 @@ module _ (s : List ℕ) (i : ℕ) (fits : 19 * i + 19 ≤ length s) where
       ∙ flat-append writeTexture (map spareless (listed f 0 i)) (spareless (f i) ∷ [])
       ∙ ap (λ (l : List ℕ). flat writeTexture (map spareless (listed f 0 i)) ++ l) (append-nil (writeTexture (spareless (f i))))
 
-  pub cleared-more : set (cleared i s) (19 * i + 18) 0 ≡ cleared (i + 1) s
+  pub cleared-more : set (cleared i s) (20 * i + 18) 0 ≡ cleared (i + 1) s
   unfolding cleared over
   cleared-more =
-      let t = recordAt 19 readTexture s i in
-      let rest = drop (19 * i + 19) s in
-      let longer : length (front ++ writeTexture (spareless t)) ≡ 19 * i + 19 =
+      let t = recordAt 20 readTexture s i in
+      let rest = drop (20 * i + 20) s in
+      let longer : length (front ++ writeTexture (spareless t)) ≡ 20 * i + 20 =
       length-append front (writeTexture (spareless t)) ∙ ap₂ (λ (a b : ℕ). a + b) length-front (texture-codec .long (spareless t)) in
-      ap (λ (k : ℕ). set (front ++ drop k s) (19 * i + 18) 0) length-front
-      ∙ ap (λ (k : ℕ). set (front ++ drop (19 * i) s) (k + 18) 0) (sym length-front)
-      ∙ set-past front (drop (19 * i) s) 18 0
+      ap (λ (k : ℕ). set (front ++ drop k s) (20 * i + 18) 0) length-front
+      ∙ ap (λ (k : ℕ). set (front ++ drop (20 * i) s) (k + 18) 0) (sym length-front)
+      ∙ set-past front (drop (20 * i) s) 18 0
       ∙ ap (λ (l : List ℕ). front ++ set l 18 0) parted
       ∙ ap (λ (l : List ℕ). front ++ l) (set-spares t rest)
       ∙ sym (append-assoc front (writeTexture (spareless t)) rest)

@@ -55,4 +55,4 @@ spareless t = record {
 
 -- the first n records without their spares
 unfoldable pub cleared : ℕ → List ℕ → List ℕ
-cleared n s = over (flat writeTexture (map spareless (table 19 readTexture n s))) s
+cleared n s = over (flat writeTexture (map spareless (table 20 readTexture n s))) s

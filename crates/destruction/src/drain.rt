@@ -51,12 +51,12 @@ fn copy_views(
 
 // The first n textures have no spares any more.
 fn clear_spares(textures: &mut [u64], n: usize)
-    requires { ⌜ 19 * n ≤ length (now textures) ⌝ }
+    requires { ⌜ 20 * n ≤ length (now textures) ⌝ }
     ensures { λ _. ⌜ now (textures .exit) ≡ cleared n (now (textures .entry)) ⌝ }
 {
     let mut i = 0;
     while i < n {
-        textures[19 * i + 18] = 0;
+        textures[20 * i + 18] = 0;
         i += 1;
     }
 }

@@ -2,7 +2,7 @@
 
 // 8 textures, 64 versions, 6 pages, and answers of 90 entries. The numbers of a place are those of crates/layout/specs/Lent.antt.
 fn main() {
-    let mut textures = [0; 152];
+    let mut textures = [0; 160];
     let mut retiring = [0; 448];
     let mut doomed = [0; 128];
     let mut spares = [0; 192];

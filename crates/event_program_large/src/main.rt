@@ -3,7 +3,7 @@
 
 // 64 textures, 2,000 versions, 256 pages, and answers of 300 entries. The numbers of a place are those of crates/layout/specs/Lent.antt.
 fn main() {
-    let mut textures = [0; 1216];
+    let mut textures = [0; 1280];
     let mut retiring = [0; 14000];
     let mut doomed = [0; 4000];
     let mut spares = [0; 6000];

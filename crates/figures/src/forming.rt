@@ -36,7 +36,7 @@ fn book_with(arrivals: u64, slot: usize) -> PacingBook {
 
 // The outcome of every call on memory that forms no pool is 1.
 fn outcome(pool: Pool, book: PacingBook) -> u64 {
-    let textures = [0u64; 19];
+    let textures = [0u64; 20];
     let retiring = [0u64; 7];
     let doomed = [0, pool.dooming];
     let spares = [0u64; 3];

@@ -10,7 +10,7 @@ use pool_test::sizes_fit;
 fn opening(store: &[u64], textures: usize, versions: usize, pages: usize, stamps: usize) -> u64
     requires { ⌜ (77843 ≤ length (now store)) × (textures ≤ 4097) × (versions ≤ 4097) × (pages ≤ 64) × (stamps ≤ 65536) ⌝ }
 {
-    let t = 19 * textures;
+    let t = 20 * textures;
     let r = 7 * versions;
     let d = 2 * versions;
     let s = 3 * versions;

@@ -67,12 +67,12 @@ module _ (l : Lent) (f : Fits l) (i : ℕ) (h : i < l .pool .tracked) where
 
   -- ---- what the calls of its parts ask for
 
-  pub owned-fits : (19 * i + 19 ≤ length T) × (isShape (textureIn T i .shape) ≡ true) × (sparesTo T (i + 1) ≤ 4096) × (pagesTo T (i + 1) ≤ 4096)
+  pub owned-fits : (20 * i + 20 ≤ length T) × (isShape (textureIn T i .shape) ≡ true) × (sparesTo T (i + 1) ≤ 4096) × (pagesTo T (i + 1) ≤ 4096)
   owned-fits = (
     omega (arith, textures-fit l f),
     shape-passes l i h f,
-    omega (arith, total-next 19 readTexture (λ t. t .spares) T i, spares-within l i h f, f .versions, f .most),
-    omega (arith, total-next 19 readTexture recordPages T i, pages-within l i h f, f .pages, f .newest),
+    omega (arith, total-next 20 readTexture (λ t. t .spares) T i, spares-within l i h f, f .versions, f .most),
+    omega (arith, total-next 20 readTexture recordPages T i, pages-within l i h f, f .pages, f .newest),
   )
 
   module _ (own : Owned) (e : own ≡ ownedAt T i) where
@@ -205,7 +205,7 @@ module _ (l : Lent) (f : Fits l) (i : ℕ) (h : i < l .pool .tracked) where
 
   pub left-behind : (own : Owned) → own ≡ ownedAt T i → (c : Counts) (textures doomed spares newest stamps : List ℕ)
       → c ≡ without (l .pool) own
-      → textures ≡ moved T (19 * i) (19 * i + 19 * 1) (19 * (l .pool .tracked - (i + 1)))
+      → textures ≡ moved T (20 * i) (20 * i + 20 * 1) (20 * (l .pool .tracked - (i + 1)))
       → doomed ≡ laid 2 writeDoomed (places l) (l .pool .first) (l .pool .doomed) (givenRecords (l .spares) (own .bytes) (own .first) (own .spares))
       (l .doomed)
       → spares ≡ moved (l .spares) (3 * own .first) (3 * own .first + 3 * own .spares) (3 * (l .pool .kept - (own .first + own .spares)))

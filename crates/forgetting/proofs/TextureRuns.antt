@@ -23,10 +23,10 @@ module _ (l : Lent) (i : ℕ) (h : i < l .pool .tracked) where
   module _ (f : Fits l) where
     -- they lie within what is counted
     pub spares-within : sparesTo (l .textures) i + textureIn (l .textures) i .spares ≤ l .pool .kept
-    spares-within = omega (arith, f .kept, total-with 19 readTexture sparesOf (l .textures) i (l .pool .tracked) h)
+    spares-within = omega (arith, f .kept, total-with 20 readTexture sparesOf (l .textures) i (l .pool .tracked) h)
 
     pub pages-within : pagesTo (l .textures) i + recordPages (textureIn (l .textures) i) ≤ l .pool .pages
-    pages-within = omega (arith, f .claimed, total-with 19 readTexture recordPages (l .textures) i (l .pool .tracked) h)
+    pages-within = omega (arith, f .claimed, total-with 20 readTexture recordPages (l .textures) i (l .pool .tracked) h)
 
     -- what its spares take
     pub bytes-within : bytesOf (textureIn (l .textures) i .shape) * textureIn (l .textures) i .spares ≤ 17592186044416 * 4096

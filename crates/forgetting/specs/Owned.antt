@@ -12,14 +12,14 @@ use Rattle.forgetting.specs.declared.owned.Owned.{Owned}
 
 -- the record of texture i
 abbrev pub textureIn : List ℕ → ℕ → TextureRecord
-textureIn textures i = recordAt 19 readTexture textures i
+textureIn textures i = recordAt 20 readTexture textures i
 
 -- where the spares and the pages of texture i begin
 abbrev pub sparesTo : List ℕ → ℕ → ℕ
-sparesTo textures i = total (λ (t : TextureRecord). t .spares) (table 19 readTexture i textures)
+sparesTo textures i = total (λ (t : TextureRecord). t .spares) (table 20 readTexture i textures)
 
 abbrev pub pagesTo : List ℕ → ℕ → ℕ
-pagesTo textures i = total recordPages (table 19 readTexture i textures)
+pagesTo textures i = total recordPages (table 20 readTexture i textures)
 
 unfoldable pub ownedAt : List ℕ → ℕ → Owned
 ownedAt textures i = record {

@@ -26,9 +26,9 @@ pub struct Owned {
 }
 
 pub fn owned_at(textures: &[u64], i: usize) -> Owned
-    requires { ⌜ (19 * i + 19 ≤ length (now textures)) × (isShape (recordAt 19 readTexture (now textures) i .shape) ≡ true)
-        × (total (λ t. t .spares) (table 19 readTexture (i + 1) (now textures)) ≤ 4096)
-        × (total recordPages (table 19 readTexture (i + 1) (now textures)) ≤ 4096) ⌝ }
+    requires { ⌜ (20 * i + 20 ≤ length (now textures)) × (isShape (recordAt 20 readTexture (now textures) i .shape) ≡ true)
+        × (total (λ t. t .spares) (table 20 readTexture (i + 1) (now textures)) ≤ 4096)
+        × (total recordPages (table 20 readTexture (i + 1) (now textures)) ≤ 4096) ⌝ }
     ensures { λ r. ⌜ r ≡ ownedAt (now (textures .entry)) i ⌝ }
 {
     let t = texture_at(textures, i);

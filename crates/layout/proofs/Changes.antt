@@ -23,39 +23,43 @@ use Rattle.records.proofs.Codecs.{texture-codec, spare-codec}
 use Rattle.layout.specs.Lent.{Lent}
 use Rattle.layout.specs.Reading.{trackedRecords, spareRead, stateRead, modelOf}
 use Rattle.layout.specs.Writing.{textureRecord, spareRecord, everySpare, texturesAfter, sparesAfter}
+use Rattle.layout.proofs.Fits.{Fits}
 use Rattle.layout.proofs.Parts.{total-within, map-set, map-removed, map-inserted, upTo, flat-set, flat-removed, flat-inserted, run-longer, run-dropped, run-taken}
 use Rattle.layout.proofs.Runs.{sparesOf, spareCount, firstSpare, stateOf, tracked-records, tracked-model, records-model, model-at, spares-model, kept-states, take-states}
 use Rattle.layout.proofs.Same.{spare-records}
 
 -- ---- the textures' records
 
-module _ (l : Lent) (p : Pool ℕ) (fits : 19 * l .pool .tracked ≤ length (l .textures)) where
+module _ (l : Lent) (p : Pool ℕ) (f : Fits l) where
+  fits : 20 * l .pool .tracked ≤ length (l .textures)
+  fits = omega (arith, f .textures, f .tracked)
+
   pub textures-set : (i : ℕ) (t : VersionState ℕ) → i < l .pool .tracked → p .textures ≡ set (modelOf l .textures) i t
-      → sets (l .textures) (19 * i) (writeTexture (textureRecord t)) ≡ texturesAfter p l
+      → sets (l .textures) (20 * i) (writeTexture (textureRecord t)) ≡ texturesAfter p l
   unfolding texturesAfter
   textures-set i t h e =
       replaced-record texture-codec (l .pool .tracked) (l .textures) fits i (textureRecord t) h
       ∙ sym (ap (λ (xs : List TextureRecord). over (flat writeTexture xs) (l .textures))
       (ap (map textureRecord) e ∙ map-set textureRecord (modelOf l .textures) i t
-      ∙ ap (λ (xs : List TextureRecord). set xs i (textureRecord t)) (records-model l)))
+      ∙ ap (λ (xs : List TextureRecord). set xs i (textureRecord t)) (records-model l (f .bytes))))
 
-  pub textures-inserted : (i : ℕ) (t : VersionState ℕ) → 19 * l .pool .tracked + 19 ≤ length (l .textures) → i ≤ l .pool .tracked
+  pub textures-inserted : (i : ℕ) (t : VersionState ℕ) → 20 * l .pool .tracked + 20 ≤ length (l .textures) → i ≤ l .pool .tracked
       → p .textures ≡ inserted i (t ∷ []) (modelOf l .textures)
-      → sets (moved (l .textures) (19 * i + 19) (19 * i) (19 * (l .pool .tracked - i))) (19 * i) (writeTexture (textureRecord t)) ≡ texturesAfter p l
+      → sets (moved (l .textures) (20 * i + 20) (20 * i) (20 * (l .pool .tracked - i))) (20 * i) (writeTexture (textureRecord t)) ≡ texturesAfter p l
   unfolding texturesAfter
   textures-inserted i t room h e =
       inserted-records texture-codec (l .pool .tracked) (l .textures) fits i (textureRecord t) room h
       ∙ sym (ap (λ (xs : List TextureRecord). over (flat writeTexture xs) (l .textures))
       (ap (map textureRecord) e ∙ map-inserted textureRecord i (t ∷ []) (modelOf l .textures)
-      ∙ ap (inserted i (textureRecord t ∷ [])) (records-model l)))
+      ∙ ap (inserted i (textureRecord t ∷ [])) (records-model l (f .bytes))))
 
   pub textures-removed : (i k : ℕ) → i + k ≤ l .pool .tracked → p .textures ≡ removed i k (modelOf l .textures)
-      → moved (l .textures) (19 * i) (19 * i + 19 * k) (19 * (l .pool .tracked - (i + k))) ≡ texturesAfter p l
+      → moved (l .textures) (20 * i) (20 * i + 20 * k) (20 * (l .pool .tracked - (i + k))) ≡ texturesAfter p l
   unfolding texturesAfter
   textures-removed i k h e =
       removed-records texture-codec (l .pool .tracked) (l .textures) fits i k h
       ∙ sym (ap (λ (xs : List TextureRecord). over (flat writeTexture xs) (l .textures))
-      (ap (map textureRecord) e ∙ map-removed textureRecord i k (modelOf l .textures) ∙ ap (removed i k) (records-model l)))
+      (ap (map textureRecord) e ∙ map-removed textureRecord i k (modelOf l .textures) ∙ ap (removed i k) (records-model l (f .bytes))))
 
 -- ---- every spare, after one texture is changed
 

@@ -9,11 +9,12 @@ use Rattle.stores.specs.Formed.{Formed}
 use Rattle.records.specs.declared.texture.TextureRecord.{TextureRecord}
 use Rattle.layout.specs.Lent.{Lent, versionPlaces}
 use Rattle.layout.specs.Reading.{trackedRecords, recordPages, modelOf}
+use Rattle.layout.specs.IsPool.{bytesFit}
 
 pub record Fits (l : Lent) : Type 0 where
   -- the slices are as long as whole places, as many as may be lent
   pub places : arePlaces (modelOf l .places) ≡ true
-  pub textures : 19 * modelOf l .places .textures ≡ length (l .textures)
+  pub textures : 20 * modelOf l .places .textures ≡ length (l .textures)
   pub retiring : 7 * versionPlaces l ≡ length (l .retiring)
   pub doomed : 2 * versionPlaces l ≡ length (l .doomed)
   pub spares : 3 * versionPlaces l ≡ length (l .spares)
@@ -31,6 +32,8 @@ pub record Fits (l : Lent) : Type 0 where
   -- the records claim just the spares and pages that are counted
   pub kept : total (λ (t : TextureRecord). t .spares) (trackedRecords l) ≡ l .pool .kept
   pub claimed : total recordPages (trackedRecords l) ≡ l .pool .pages
+  -- their bytes are those of their shapes
+  pub bytes : bytesFit l ≡ true
   -- the pressure mark is 0 or 1
   pub mark : l .book .pressed ≤ 1
   -- 01's conditions

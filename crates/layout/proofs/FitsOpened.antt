@@ -4,7 +4,7 @@ use mathlib.Core.Bool.{true}
 use mathlib.Core.List.{List}
 use Prim.Native.Nat.{ℕ}
 use native.Mathlib.Omega.{arith}
-use Rattle.blocks.specs.Lists.{listed, total}
+use Rattle.blocks.specs.Lists.{listed, all, total}
 use Rattle.tables.specs.Records.{table}
 use Rattle.stores.specs.Model.{Pool}
 use Rattle.stores.specs.Open.{opened}
@@ -12,7 +12,7 @@ use Rattle.stores.specs.Formed.{Formed}
 use Rattle.stores.proofs.Closure.{opened-formed}
 use Rattle.layout.specs.Lent.{Lent, lent}
 use Rattle.layout.specs.Reading.{statesRead, modelOf}
-use Rattle.layout.specs.IsPool.{sizesFit}
+use Rattle.layout.specs.IsPool.{sizesFit, bytesFit}
 use Rattle.layout.specs.Calls.{openedPool, openedBook}
 use Rattle.layout.proofs.Fits.{Fits}
 use Rattle.layout.proofs.FromPool.{are-places, whole-textures, whole-retiring, whole-doomed, whole-spares, whole-stamps, some-version, most-versions, most-pages}
@@ -26,7 +26,7 @@ module _ (working : ℕ) (textures retiring doomed spares newest stamps : List �
   opened-model = refl
 
   pub opened-fits : sizesFit new ≡ true → Fits new
-  unfolding openedPool openedBook table listed total
+  unfolding openedPool openedBook table listed all total bytesFit
   opened-fits e = record {
     places = are-places new e;
     textures = whole-textures new e;
@@ -45,6 +45,7 @@ module _ (working : ℕ) (textures retiring doomed spares newest stamps : List �
     pages = omega arith;
     kept = refl;
     claimed = refl;
+    bytes = refl;
     mark = omega arith;
     formed = subst (λ (p : Pool ℕ). Formed p) (sym opened-model) (opened-formed (modelOf new .places) (are-places new e) working);
   }

@@ -32,7 +32,7 @@ use Rattle.records.specs.declared.recorded.Recorded.the-variants.{Writes, NoHis
 use Rattle.records.specs.declared.texture.TextureRecord.{TextureRecord}
 use Rattle.layout.specs.Lent.{Lent, versionPlaces}
 use Rattle.layout.specs.Reading.{trackedRecords, pageAt, gridRead, historyRead, recordPages, recordedPages, spareRead, stateRead, statesRead, retiringRead, handRead, doomedRead, modelOf}
-use Rattle.layout.specs.IsPool.{sizesFit, countsFit, runsFit, markFits, isGrid, isHistory, isHeldCount, isSpare, isState, isRetiring, isHand, isDoomed, isArrival, isFormed, isPool}
+use Rattle.layout.specs.IsPool.{sizesFit, countsFit, runsFit, bytesFit, markFits, isGrid, isHistory, isHeldCount, isSpare, isState, isRetiring, isHand, isDoomed, isArrival, isFormed, isPool}
 use Rattle.layout.proofs.FitsTests.{all-holds, ascending-holds}
 use Rattle.layout.proofs.Fits.{Fits}
 use Rattle.layout.proofs.Runs.{kept-states, tracked-model, pages-model}
@@ -211,7 +211,7 @@ module _ (l : Lent) (e : sizesFit l ≡ true) where
   unfolding sizesFit
   are-places = passed _ e 0
 
-  pub whole-textures : 19 * modelOf l .places .textures ≡ length (l .textures)
+  pub whole-textures : 20 * modelOf l .places .textures ≡ length (l .textures)
   unfolding sizesFit
   whole-textures = sym (eqb-true _ _ (passed _ e 1))
 
@@ -255,13 +255,17 @@ module _ (l : Lent) (e : isPool l ≡ true) where
   unfolding isPool
   claiming = passed _ e 2
 
+  bytes-hold : bytesFit l ≡ true
+  unfolding isPool
+  bytes-hold = passed _ e 3
+
   forming : isFormed (modelOf l) ≡ true
   unfolding isPool
-  forming = passed _ e 4
+  forming = passed _ e 5
 
   marked : l .book .pressed ≤ 1
   unfolding isPool markFits
-  marked = leb-true _ _ (passed _ e 3)
+  marked = leb-true _ _ (passed _ e 4)
 
   pages-claimed : total recordPages (trackedRecords l) ≡ l .pool .pages
   unfolding runsFit
@@ -333,6 +337,7 @@ module _ (l : Lent) (e : isPool l ≡ true) where
     pages = pages-counted;
     kept = spares-claimed;
     claimed = pages-claimed;
+    bytes = bytes-hold;
     mark = marked;
     formed = model-formed;
   }

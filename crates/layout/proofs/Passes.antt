@@ -52,7 +52,7 @@ module _ (l : Lent) (p : Pool ℕ) (e : p .textures ≡ []) where
 -- ---- what is not packed yet stands as it was
 
 module _ (l : Lent) (p : Pool ℕ) where
-  pub texture-unread : (j : ℕ) → length (p .textures) ≤ j → recordAt 19 readTexture (texturesAfter p l) j ≡ recordAt 19 readTexture (l .textures) j
+  pub texture-unread : (j : ℕ) → length (p .textures) ≤ j → recordAt 20 readTexture (texturesAfter p l) j ≡ recordAt 20 readTexture (l .textures) j
   unfolding texturesAfter
   texture-unread j h =
       packed-read texture-codec (l .textures) (map textureRecord (p .textures)) j (omega (arith, length-map (p .textures) textureRecord))
@@ -66,12 +66,12 @@ module _ (l : Lent) (p : Pool ℕ) where
 -- ---- one texture more
 
 module _ (l : Lent) (p q : Pool ℕ) (t : VersionState ℕ) (e : q .textures ≡ p .textures ++ (t ∷ [])) where
-  pub texture-packed : 19 * length (p .textures) + 19 ≤ length (l .textures)
-      → sets (texturesAfter p l) (19 * length (p .textures)) (writeTexture (textureRecord t)) ≡ texturesAfter q l
+  pub texture-packed : 20 * length (p .textures) + 20 ≤ length (l .textures)
+      → sets (texturesAfter p l) (20 * length (p .textures)) (writeTexture (textureRecord t)) ≡ texturesAfter q l
   unfolding texturesAfter
   texture-packed room =
       let n = length-map (p .textures) textureRecord in
-      ap (λ (k : ℕ). sets (over (flat writeTexture (map textureRecord (p .textures))) (l .textures)) (19 * k) (writeTexture (textureRecord t)))
+      ap (λ (k : ℕ). sets (over (flat writeTexture (map textureRecord (p .textures))) (l .textures)) (20 * k) (writeTexture (textureRecord t)))
       (sym n)
       ∙ packed-put texture-codec (l .textures) (map textureRecord (p .textures)) (textureRecord t) (omega arith)
       ∙ ap (λ (xs : List TextureRecord). over (flat writeTexture xs) (l .textures))

@@ -7,7 +7,7 @@ use Prim.Native.Nat.{ℕ, _+_, _-_, _*_, _/_, _≤_, _<_}
 use native.Mathlib.Omega.{arith}
 use lib.Dec.{eqb}
 use lib.ListN.{length, length-map}
-use Rattle.blocks.specs.Lists.{listed, over, total}
+use Rattle.blocks.specs.Lists.{listed, over, all, total}
 use Rattle.blocks.proofs.Lists.{length-over}
 use Rattle.tables.specs.Records.{flat}
 use Rattle.tables.specs.Rings.{laid}
@@ -25,12 +25,12 @@ use Rattle.records.proofs.Codecs.{texture-codec, spare-codec}
 use Rattle.layout.specs.Lent.{Lent, versionPlaces}
 use Rattle.layout.specs.Reading.{trackedRecords, recordPages, statesRead, retiringRead, handRead, doomedRead, modelOf}
 use Rattle.layout.specs.Writing.{textureRecord, spareRecord, retiringRecord, doomedRecord, texturesAfter, everySpare, sparesAfter, newestAfter, stampsAfter, headAfter, handList, retiringAfter, firstAfter, doomedAfter, poolAfter, markOf, bookAfter, after}
-use Rattle.layout.specs.IsPool.{isPool}
+use Rattle.layout.specs.IsPool.{bytesHold, bytesFit, isPool}
 use Rattle.layout.proofs.Fits.{Fits}
 use Rattle.layout.proofs.FromPool.{version-places, page-places}
 use Rattle.layout.proofs.Runs.{pages-model}
 use Rattle.layout.proofs.ToPool.{fits-pool}
-use Rattle.layout.proofs.ReadStates.{states-back, length-every-spare, kept-recorded, pages-recorded, length-newests, length-new-pages}
+use Rattle.layout.proofs.ReadStates.{states-back, length-every-spare, kept-recorded, pages-recorded, bytes-recorded, length-newests, length-new-pages}
 use Rattle.layout.proofs.ReadRings.{hand-back, queue-back, doomed-back}
 
 -- one version at most in the hand, and a mark is 0 or 1, whatever they are read back from
@@ -63,8 +63,8 @@ module _ (l : Lent) (p : Pool ℕ) (fits : Fits l) (formed : Formed p) (same : p
 
   -- ---- the slices keep their lengths
 
-  length-textures : length (flat writeTexture (map textureRecord (p .textures))) ≡ 19 * length (p .textures)
-  length-textures = length-flat texture-codec (map textureRecord (p .textures)) ∙ ap (λ (n : ℕ). 19 * n) (length-map (p .textures) textureRecord)
+  length-textures : length (flat writeTexture (map textureRecord (p .textures))) ≡ 20 * length (p .textures)
+  length-textures = length-flat texture-codec (map textureRecord (p .textures)) ∙ ap (λ (n : ℕ). 20 * n) (length-map (p .textures) textureRecord)
 
   textures-kept : length (texturesAfter p l) ≡ length (l .textures)
   unfolding texturesAfter
@@ -104,7 +104,7 @@ module _ (l : Lent) (p : Pool ℕ) (fits : Fits l) (formed : Formed p) (same : p
 
   pub places-kept : modelOf (after p l) .places ≡ modelOf l .places
   unfolding modelOf after
-  places-kept = λ i. record { textures = textures-kept i / 19; versions = versions-kept i; pages = newest-kept i }
+  places-kept = λ i. record { textures = textures-kept i / 20; versions = versions-kept i; pages = newest-kept i }
 
   -- ---- both rings begin inside their places
 
@@ -197,11 +197,15 @@ module _ (l : Lent) (p : Pool ℕ) (fits : Fits l) (formed : Formed p) (same : p
   unfolding after
   after-newest = newest-kept
 
+  bytes-back : bytesFit (after p l) ≡ true
+  unfolding bytesFit
+  bytes-back = ap (all bytesHold) records-back ∙ bytes-recorded (p .textures)
+
   pub after-fits : Fits (after p l)
   unfolding after poolAfter bookAfter
   after-fits = record {
     places = ap arePlaces places-kept ∙ fits .places;
-    textures = ap (λ (n : Places). 19 * n .textures) places-kept ∙ fits .textures ∙ sym textures-kept;
+    textures = ap (λ (n : Places). 20 * n .textures) places-kept ∙ fits .textures ∙ sym textures-kept;
     retiring = ap (λ (n : ℕ). 7 * n) versions-kept ∙ fits .retiring ∙ sym retiring-kept;
     doomed = ap (λ (n : ℕ). 2 * n) versions-kept ∙ fits .doomed ∙ sym doomed-kept;
     spares = ap (λ (n : ℕ). 3 * n) versions-kept ∙ fits .spares ∙ sym spares-kept;
@@ -217,6 +221,7 @@ module _ (l : Lent) (p : Pool ℕ) (fits : Fits l) (formed : Formed p) (same : p
     pages = omega (arith, page-room, newest-kept);
     kept = ap (total (λ (t : TextureRecord). t .spares)) records-back ∙ kept-recorded (p .textures);
     claimed = ap (total recordPages) records-back ∙ pages-recorded (p .textures);
+    bytes = bytes-back;
     mark = mark-few (p .pacing .pressed);
     formed = subst (λ (q : Pool ℕ). Formed q) (sym read-back) formed;
   }

@@ -1,6 +1,6 @@
 -- The textures' states read back from the slices that they were written to. Assumes nothing.
 use mathlib.Core.Path.{_≡_, refl, sym, ap, ap₂, _∙_}
-use mathlib.Core.Bool.{true, cond}
+use mathlib.Core.Bool.{Bool, true, cond, _&&_}
 use mathlib.Core.Option.{Option, none, some}
 use mathlib.Core.List.{List, [], _∷_, _++_, map, flatMap, map-append, map-map, map-id, append-assoc}
 use Prim.Native.Nat.{ℕ, _+_, _*_, _≤_}
@@ -8,13 +8,14 @@ use native.Mathlib.Nat.{mul-add}
 use native.Mathlib.Omega.{arith}
 use lib.ListN.{length, drop, length-append, length-map}
 use lib.Seq.{drop-drop, drop-append-add}
-use Rattle.blocks.specs.Lists.{listed, total}
+use borrow.Author.Tests.{eq-eqb}
+use Rattle.blocks.specs.Lists.{listed, all, total}
 use Rattle.blocks.specs.All.{All, nil, cons}
 use Rattle.blocks.proofs.Listed.{listed-same, map-listed}
 use Rattle.tables.specs.Records.{recordAt, table, flat}
 use Rattle.tables.proofs.Records.{record-past, flat-append, length-flat, table-flat}
 use Rattle.shapes.specs.declared.shape.VersionShape.{VersionShape}
-use Rattle.shapes.specs.Shapes.{isShape}
+use Rattle.shapes.specs.Shapes.{isShape, bytesOf}
 use Rattle.grids.specs.Grids.{StampGrid}
 use Rattle.stores.specs.Model.{WriteHistory, Spare, VersionState, pagesOf, pagesUsed, hasHistory}
 use Rattle.stores.specs.Formed.{Given, HistoryFormed, StateFormed}
@@ -25,6 +26,7 @@ use Rattle.records.proofs.Codecs.{spare-codec}
 use Rattle.layout.specs.Lent.{Lent}
 use Rattle.layout.specs.Reading.{historyRead, recordPages, recordedPages, spareRead, stateRead, statesRead, modelOf}
 use Rattle.layout.specs.Writing.{recordedOf, textureRecord, spareRecord, everySpare, gridsOf, newestOf, firstPage, pageBefore, pagesFrom, pagesAfter}
+use Rattle.layout.specs.IsPool.{bytesHold}
 use Rattle.layout.proofs.ReadHistories.{length-pages, grids-back, whole-pages}
 
 -- what stands past a front part, of a list that stands from place i on
@@ -154,6 +156,12 @@ pub pages-recorded : (ts : List (VersionState ℕ)) → total recordPages (map t
 unfolding total
 pages-recorded [] = refl
 pages-recorded (t ∷ ts) = ap₂ (λ (a b : ℕ). a + b) (record-pages (t .shape) (t .history)) (pages-recorded ts)
+
+-- each record is written with the bytes of its shape
+pub bytes-recorded : (ts : List (VersionState ℕ)) → all bytesHold (map textureRecord ts) ≡ true
+unfolding all bytesHold
+bytes-recorded [] = refl
+bytes-recorded (t ∷ ts) = ap₂ (λ (a b : Bool). a && b) (eq-eqb (bytesOf (t .shape)) (bytesOf (t .shape)) refl) (bytes-recorded ts)
 
 pub length-newests : (ts : List (VersionState ℕ)) → All StateFormed ts → length (flatMap newestOf ts) ≡ total pagesUsed ts
 unfolding flatMap total

@@ -1,15 +1,18 @@
 -- The model's textures are what the slices say: run by run, their records, spares and pages stand one behind the other. Assumes nothing.
 use mathlib.Core.Path.{_≡_, refl, sym, ap, ap₂, _∙_}
-use mathlib.Core.Bool.{cond}
+use mathlib.Core.Bool.{true, cond}
 use mathlib.Core.List.{List, [], _∷_, _++_, map, flatMap}
 use Prim.Native.Nat.{ℕ, zero, suc, _+_, _<_}
 use native.Mathlib.Nat.{add-zero, zero-add, add-assoc}
 use native.Mathlib.Omega.{arith}
 use lib.ListN.{length, take, drop, getD}
-use Rattle.blocks.specs.Lists.{listed, total}
+use borrow.Author.Tests.{eqb-true}
+use Rattle.blocks.specs.Lists.{listed, all, total}
+use Rattle.blocks.proofs.Lists.{and-both}
 use Rattle.blocks.proofs.Listed.{length-listed, listed-split, listed-same, map-listed}
 use Rattle.tables.proofs.Records.{length-table}
 use Rattle.shapes.specs.declared.shape.VersionShape.{VersionShape}
+use Rattle.shapes.specs.Shapes.{bytesOf}
 use Rattle.grids.specs.Grids.{StampGrid, gridIn}
 use Rattle.stores.specs.Model.{Spare, VersionState, pagesOf, hasHistory, pagesUsed}
 use Rattle.records.specs.declared.recorded.Recorded.{Recorded}
@@ -18,7 +21,7 @@ use Rattle.records.specs.declared.texture.TextureRecord.{TextureRecord}
 use Rattle.records.specs.Texture.{readTexture}
 use Rattle.layout.specs.Lent.{Lent}
 use Rattle.layout.specs.Reading.{trackedRecords, gridRead, historyRead, recordedPages, recordPages, spareRead, stateRead, statesRead, modelOf}
-use Rattle.layout.specs.IsPool.{stateId}
+use Rattle.layout.specs.IsPool.{bytesHold, bytesFit, stateId}
 use Rattle.layout.specs.Writing.{recordedOf, textureRecord, everySpare, gridsOf, newestOf}
 
 abbrev pub sparesOf : TextureRecord → ℕ
@@ -31,6 +34,10 @@ spareCount t = length (t .spares)
 abbrev pub newestAt : Lent → ℕ → ℕ
 newestAt l k = getD (l .newest) k 0
 
+pub bytes-held : (t : TextureRecord) → bytesHold t ≡ true → t .bytes ≡ bytesOf (t .shape)
+unfolding bytesHold
+bytes-held t e = eqb-true _ _ e
+
 module _ (l : Lent) where
   -- ---- one texture
 
@@ -38,10 +45,10 @@ module _ (l : Lent) where
   recorded-read s page NoHistory = refl
   recorded-read s page (Writes n) = refl
 
-  -- a texture that was read is written as its record
-  pub record-state : (first page : ℕ) (t : TextureRecord) → textureRecord (stateRead l first page t) ≡ t
+  -- a texture that was read is written as its record, where the record's bytes are those of its shape
+  pub record-state : (first page : ℕ) (t : TextureRecord) → t .bytes ≡ bytesOf (t .shape) → textureRecord (stateRead l first page t) ≡ t
   unfolding stateRead
-  record-state first page t = λ j. record {
+  record-state first page t e = λ j. record {
     id = t .id;
     shape = t .shape;
     epoch = t .epoch;
@@ -50,6 +57,7 @@ module _ (l : Lent) where
     rename = t .rename;
     due = t .due;
     spares = length-listed (spareRead l) first (t .spares) j;
+    bytes = sym e j;
   }
 
   used-read : (s : VersionShape) (page : ℕ) (h : Recorded) → cond (hasHistory (historyRead l s page h)) (pagesOf s) 0 ≡ recordedPages h s
@@ -81,12 +89,13 @@ module _ (l : Lent) where
   length-states first page (t ∷ ts) = ap suc (length-states (first + t .spares) (page + recordPages t) ts)
 
   -- their records
-  pub records-states : (first page : ℕ) (ts : List TextureRecord) → map textureRecord (statesRead l first page ts) ≡ ts
-  unfolding statesRead
-  records-states first page [] = refl
-  records-states first page (t ∷ ts) =
-      ap₂ (λ (x : TextureRecord) (xs : List TextureRecord). x ∷ xs) (record-state first page t)
-      (records-states (first + t .spares) (page + recordPages t) ts)
+  pub records-states : (first page : ℕ) (ts : List TextureRecord) → all bytesHold ts ≡ true → map textureRecord (statesRead l first page ts) ≡ ts
+  unfolding statesRead all
+  records-states first page [] e = refl
+  records-states first page (t ∷ ts) e =
+      let q = and-both (bytesHold t) (all bytesHold ts) e in
+      ap₂ (λ (x : TextureRecord) (xs : List TextureRecord). x ∷ xs) (record-state first page t (bytes-held t (q .0)))
+      (records-states (first + t .spares) (page + recordPages t) ts (q .1))
 
   -- their spares
   pub spares-states : (first page : ℕ) (ts : List TextureRecord)
@@ -161,15 +170,15 @@ module _ (l : Lent) where
   stateOf i = stateRead l (firstSpare i) (firstPageOf i) (getD (trackedRecords l) i (readTexture []))
 
   pub tracked-records : length (trackedRecords l) ≡ l .pool .tracked
-  tracked-records = length-table 19 readTexture (l .pool .tracked) (l .textures)
+  tracked-records = length-table 20 readTexture (l .pool .tracked) (l .textures)
 
   pub tracked-model : length (modelOf l .textures) ≡ l .pool .tracked
   unfolding modelOf
   tracked-model = length-states 0 0 (trackedRecords l) ∙ tracked-records
 
-  pub records-model : map textureRecord (modelOf l .textures) ≡ trackedRecords l
-  unfolding modelOf
-  records-model = records-states 0 0 (trackedRecords l)
+  pub records-model : bytesFit l ≡ true → map textureRecord (modelOf l .textures) ≡ trackedRecords l
+  unfolding modelOf bytesFit
+  records-model e = records-states 0 0 (trackedRecords l) e
 
   pub spares-model : everySpare (modelOf l .textures) ≡ listed (spareRead l) 0 (total sparesOf (trackedRecords l))
   unfolding modelOf

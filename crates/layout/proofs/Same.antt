@@ -22,6 +22,7 @@ use Rattle.records.proofs.Codecs.{texture-codec, spare-codec}
 use Rattle.layout.specs.Lent.{Lent, versionPlaces}
 use Rattle.layout.specs.Reading.{trackedRecords, recordPages, spareRead, retiringRead, doomedRead, modelOf}
 use Rattle.layout.specs.Writing.{textureRecord, spareRecord, everySpare, texturesAfter, sparesAfter, newestAfter, stampsAfter, poolAfter, markOf, bookAfter, after}
+use Rattle.layout.specs.IsPool.{bytesFit}
 use Rattle.layout.proofs.Runs.{sparesOf, stateOf, tracked-model, records-model, spares-model, kept-model, pages-model, newest-model}
 use Rattle.layout.proofs.Kept.{pagedOf, pages-all, pages-paged, newest-paged}
 use Rattle.layout.proofs.Rings.{head-stays, hand-model, retiring-same, first-stays, doomed-same}
@@ -43,7 +44,7 @@ unfolding spareRead table
 spare-records l n = map-listed spareRecord (spareRead l) 0 n
 
 module _ (l : Lent) (p : Pool ℕ) where
-  pub textures-same : 19 * l .pool .tracked ≤ length (l .textures) → map textureRecord (p .textures) ≡ trackedRecords l
+  pub textures-same : 20 * l .pool .tracked ≤ length (l .textures) → map textureRecord (p .textures) ≡ trackedRecords l
       → texturesAfter p l ≡ l .textures
   unfolding texturesAfter
   textures-same fits e =
@@ -123,17 +124,17 @@ module _ (l : Lent) where
     }
 
     -- the lent memory as it stood
-    module _ (textures : 19 * l .pool .tracked ≤ length (l .textures)) (retiring : 7 * versionPlaces l ≤ length (l .retiring))
+    module _ (textures : 20 * l .pool .tracked ≤ length (l .textures)) (retiring : 7 * versionPlaces l ≤ length (l .retiring))
         (doomed : 2 * versionPlaces l ≤ length (l .doomed)) (spares : 3 * l .pool .kept ≤ length (l .spares))
         (newest : l .pool .pages ≤ length (l .newest))
         (queue : l .pool .popped + l .pool .queued ≤ versionPlaces l) (queued : l .pool .doomed ≤ versionPlaces l)
-        (mark : l .book .pressed ≤ 1) (up : ascending idOf (trackedRecords l) ≡ true) where
+        (bytes : bytesFit l ≡ true) (mark : l .book .pressed ≤ 1) (up : ascending idOf (trackedRecords l) ≡ true) where
       pub after-same : after (modelOf l) l ≡ l
       unfolding after
       after-same = λ i. record {
         pool = pool-same i;
         book = book-same mark i;
-        textures = textures-same l (modelOf l) textures (records-model l) i;
+        textures = textures-same l (modelOf l) textures (records-model l bytes) i;
         retiring = retiring-same l (modelOf l) head retiring hand queue refl refl i;
         doomed = doomed-same l (modelOf l) first doomed queued refl i;
         spares = spares-same l (modelOf l) (omega (arith, kept)) refl i;

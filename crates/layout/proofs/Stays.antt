@@ -49,9 +49,9 @@ doomed-bound (cons d ds) = omega (arith, d .bytes, doomed-bound ds)
 
 module _ (l : Lent) (f : Fits l) where
   pub ids-ascend : ascending idOf (trackedRecords l) ≡ true
-  ids-ascend = ap (ascending idOf) (sym (records-model l)) ∙ ascending-records (modelOf l .textures) ∙ ascending-passes (f .formed .ids)
+  ids-ascend = ap (ascending idOf) (sym (records-model l (f .bytes))) ∙ ascending-records (modelOf l .textures) ∙ ascending-passes (f .formed .ids)
 
-  pub textures-fit : 19 * l .pool .tracked ≤ length (l .textures)
+  pub textures-fit : 20 * l .pool .tracked ≤ length (l .textures)
   textures-fit = omega (arith, f .textures, f .tracked)
 
   pub spares-fit : 3 * total (λ (t : TextureRecord). t .spares) (trackedRecords l) ≤ length (l .spares)
@@ -70,7 +70,7 @@ module _ (l : Lent) (f : Fits l) where
   pub nothing-changed : after (modelOf l) l ≡ l
   nothing-changed =
       after-same l (f .kept) (f .claimed) (f .head) (f .first) (f .hand) textures-fit (omega (arith, f .retiring)) (omega (arith, f .doomed))
-      (omega (arith, f .spares, f .versions)) (f .pages) ring-fits doomed-fit (f .mark) ids-ascend
+      (omega (arith, f .spares, f .versions)) (f .pages) ring-fits doomed-fit (f .bytes) (f .mark) ids-ascend
 
   module _ (p : Pool ℕ) where
     pub book-stays : p .pacing ≡ modelOf l .pacing → l .book ≡ bookAfter p
@@ -80,7 +80,7 @@ module _ (l : Lent) (f : Fits l) where
         ∙ (λ i. record { arrivals = sym e i .arrivals; slot = sym e i .slot; pressed = markOf (sym e i .pressed); excess = sym e i .excess })
 
     pub textures-stay : map textureRecord (p .textures) ≡ map textureRecord (modelOf l .textures) → l .textures ≡ texturesAfter p l
-    textures-stay e = sym (textures-same l p textures-fit (e ∙ records-model l))
+    textures-stay e = sym (textures-same l p textures-fit (e ∙ records-model l (f .bytes)))
 
     pub spares-stay : everySpare (p .textures) ≡ everySpare (modelOf l .textures) → l .spares ≡ sparesAfter p l
     spares-stay e = sym (spares-same l p spares-fit e)

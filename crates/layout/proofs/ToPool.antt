@@ -92,4 +92,4 @@ module _ (l : Lent) (f : Fits l) where
 
   pub fits-pool : isPool l ≡ true
   unfolding isPool
-  fits-pool = every (cons sizes-pass (cons counts-pass (cons runs-pass (cons mark-passes (cons (formed-passes (modelOf l) (f .formed)) nil)))))
+  fits-pool = every (cons sizes-pass (cons counts-pass (cons runs-pass (cons (f .bytes) (cons mark-passes (cons (formed-passes (modelOf l) (f .formed)) nil))))))

@@ -7,10 +7,11 @@ use Prim.Native.Nat.{ℕ, _<_, _^_}
 use native.Mathlib.Omega.{arith}
 use lib.ListN.{length, getD}
 use Rattle.blocks.specs.Lists.{total}
+use Rattle.blocks.proofs.Lists.{all-get}
 use Rattle.blocks.proofs.All.{all-at}
 use Rattle.tables.specs.Records.{recordAt, table}
 use Rattle.tables.proofs.Records.{getD-table, take-table}
-use Rattle.shapes.specs.Shapes.{isShape}
+use Rattle.shapes.specs.Shapes.{isShape, bytesOf}
 use Rattle.stores.specs.Model.{WriteHistory, pagesUsed}
 use Rattle.stores.specs.Formed.{Given, HistoryFormed, StateFormed}
 use Rattle.records.specs.declared.texture.TextureRecord.{TextureRecord}
@@ -19,30 +20,41 @@ use Rattle.records.specs.Texture.{readTexture}
 use Rattle.layout.specs.Lent.{Lent}
 use Rattle.layout.specs.Reading.{trackedRecords, recordPages, stateRead, modelOf}
 use Rattle.layout.specs.Writing.{recordedOf, textureRecord}
+use Rattle.layout.specs.IsPool.{bytesHold, bytesFit}
 use Rattle.layout.proofs.Fits.{Fits}
-use Rattle.layout.proofs.Runs.{sparesOf, firstSpare, firstPageOf, stateOf, tracked-model, model-at, record-state, pages-state}
+use Rattle.layout.proofs.Runs.{sparesOf, firstSpare, firstPageOf, stateOf, tracked-records, tracked-model, model-at, bytes-held, record-state, pages-state}
 use Rattle.layout.proofs.Changes.{count-state}
 
 -- the record that the code reads
 abbrev pub textureAt : Lent → ℕ → TextureRecord
-textureAt l i = recordAt 19 readTexture (l .textures) i
+textureAt l i = recordAt 20 readTexture (l .textures) i
 
 module _ (l : Lent) (i : ℕ) (h : i < l .pool .tracked) where
   pub record-read : getD (trackedRecords l) i (readTexture []) ≡ textureAt l i
-  record-read = getD-table 19 readTexture (l .pool .tracked) i (l .textures) (readTexture []) h
+  record-read = getD-table 20 readTexture (l .pool .tracked) i (l .textures) (readTexture []) h
 
   -- its spares and its pages begin behind those of the textures before it
-  pub spares-to : firstSpare l i ≡ total sparesOf (table 19 readTexture i (l .textures))
+  pub spares-to : firstSpare l i ≡ total sparesOf (table 20 readTexture i (l .textures))
   unfolding firstSpare
-  spares-to = ap (total sparesOf) (take-table 19 readTexture i (l .pool .tracked) (l .textures) (omega arith))
+  spares-to = ap (total sparesOf) (take-table 20 readTexture i (l .pool .tracked) (l .textures) (omega arith))
 
-  pub pages-to : firstPageOf l i ≡ total recordPages (table 19 readTexture i (l .textures))
+  pub pages-to : firstPageOf l i ≡ total recordPages (table 20 readTexture i (l .textures))
   unfolding firstPageOf
-  pages-to = ap (total recordPages) (take-table 19 readTexture i (l .pool .tracked) (l .textures) (omega arith))
+  pages-to = ap (total recordPages) (take-table 20 readTexture i (l .pool .tracked) (l .textures) (omega arith))
 
-  pub record-at : textureRecord (stateOf l i) ≡ textureAt l i
+  -- the record's bytes are those of one version of its shape
+  bytes-tracked : Fits l → getD (trackedRecords l) i (readTexture []) .bytes ≡ bytesOf (getD (trackedRecords l) i (readTexture []) .shape)
+  unfolding bytesFit
+  bytes-tracked f =
+      bytes-held (getD (trackedRecords l) i (readTexture []))
+      (all-get bytesHold (trackedRecords l) i (readTexture []) (f .bytes) (omega (arith, h, tracked-records l)))
+
+  pub bytes-at : Fits l → textureAt l i .bytes ≡ bytesOf (textureAt l i .shape)
+  bytes-at f = subst (λ (t : TextureRecord). t .bytes ≡ bytesOf (t .shape)) record-read (bytes-tracked f)
+
+  pub record-at : Fits l → textureRecord (stateOf l i) ≡ textureAt l i
   unfolding stateOf
-  record-at = record-state l (firstSpare l i) (firstPageOf l i) (getD (trackedRecords l) i (readTexture [])) ∙ record-read
+  record-at f = record-state l (firstSpare l i) (firstPageOf l i) (getD (trackedRecords l) i (readTexture [])) (bytes-tracked f) ∙ record-read
 
   pub shape-at : stateOf l i .shape ≡ textureAt l i .shape
   unfolding stateOf stateRead
@@ -64,7 +76,7 @@ module _ (l : Lent) (i : ℕ) (h : i < l .pool .tracked) where
   shape-passes f = ap isShape (sym shape-at) ∙ state-formed f .shape
 
   pub history-fits : Fits l → RecordedFits (textureAt l i .history)
-  history-fits f = subst (λ (t : TextureRecord). RecordedFits (t .history)) record-at (go (stateOf l i .history) (state-formed f .history))
+  history-fits f = subst (λ (t : TextureRecord). RecordedFits (t .history)) (record-at f) (go (stateOf l i .history) (state-formed f .history))
     where
       go : (o : Option WriteHistory) → Given (HistoryFormed (stateOf l i .shape)) o → recordedNumber (recordedOf o) < 2 ^ 64
       go none g = omega arith

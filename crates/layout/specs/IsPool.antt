@@ -7,7 +7,7 @@ use lib.Dec.{leb, ltb, eqb}
 use lib.ListN.{length}
 use Rattle.blocks.specs.Lists.{all, total, ascending, tests}
 use Rattle.shapes.specs.declared.shape.VersionShape.{VersionShape}
-use Rattle.shapes.specs.Shapes.{isShape}
+use Rattle.shapes.specs.Shapes.{isShape, bytesOf}
 use Rattle.grids.specs.Grids.{StampGrid}
 use Rattle.blocks.specs.Blocks.{largest}
 use Rattle.stores.specs.declared.held.Held.{Held}
@@ -22,7 +22,7 @@ use Rattle.layout.specs.Reading.{trackedRecords, recordPages, modelOf}
 unfoldable pub sizesFit : Lent → Bool
 sizesFit l = tests (
     arePlaces (modelOf l .places)
-    ∷ eqb (length (l .textures)) (19 * modelOf l .places .textures)
+    ∷ eqb (length (l .textures)) (20 * modelOf l .places .textures)
     ∷ eqb (length (l .retiring)) (7 * versionPlaces l)
     ∷ eqb (length (l .doomed)) (2 * versionPlaces l)
     ∷ eqb (length (l .spares)) (3 * versionPlaces l)
@@ -43,6 +43,13 @@ unfoldable pub runsFit : Lent → Bool
 runsFit l = tests (
     eqb (total (λ (t : TextureRecord). t .spares) (trackedRecords l)) (l .pool .kept)
     ∷ eqb (total recordPages (trackedRecords l)) (l .pool .pages) ∷ [])
+
+-- every record's bytes are those of one version of its shape
+unfoldable pub bytesHold : TextureRecord → Bool
+bytesHold t = eqb (t .bytes) (bytesOf (t .shape))
+
+unfoldable pub bytesFit : Lent → Bool
+bytesFit l = all bytesHold (trackedRecords l)
 
 -- the pressure mark is 0 or 1
 unfoldable pub markFits : Lent → Bool
@@ -111,4 +118,4 @@ isFormed p = tests (
     ∷ leb (p .since) (length (p .doomed)) ∷ [])
 
 unfoldable pub isPool : Lent → Bool
-isPool l = tests (sizesFit l ∷ countsFit l ∷ runsFit l ∷ markFits l ∷ isFormed (modelOf l) ∷ [])
+isPool l = tests (sizesFit l ∷ countsFit l ∷ runsFit l ∷ bytesFit l ∷ markFits l ∷ isFormed (modelOf l) ∷ [])

@@ -22,7 +22,7 @@ use Rattle.layout.specs.Lent.{Lent, versionPlaces}
 
 -- the records of the tracked textures
 abbrev pub trackedRecords : Lent → List TextureRecord
-trackedRecords l = table 19 readTexture (l .pool .tracked) (l .textures)
+trackedRecords l = table 20 readTexture (l .pool .tracked) (l .textures)
 
 -- ---- histories
 
@@ -94,7 +94,7 @@ modelOf l = record {
   trackings = l .pool .trackings;
   parked = l .pool .parked;
   dooming = l .pool .dooming;
-  places = record { textures = length (l .textures) / 19; versions = versionPlaces l; pages = length (l .newest) };
+  places = record { textures = length (l .textures) / 20; versions = versionPlaces l; pages = length (l .newest) };
   budget = record { cap = l .pool .cap; line = l .pool .line };
   pacing = record { arrivals = l .book .arrivals; slot = l .book .slot; pressed = eqb (l .book .pressed) 1; excess = l .book .excess };
 }

@@ -9,7 +9,7 @@ use Rattle.blocks.specs.Lists.{over, total}
 use Rattle.tables.specs.Records.{flat}
 use Rattle.tables.specs.Rings.{placeOf, laid}
 use Rattle.shapes.specs.declared.shape.VersionShape.{VersionShape}
-use Rattle.shapes.specs.Shapes.{sameShape}
+use Rattle.shapes.specs.Shapes.{sameShape, bytesOf}
 use Rattle.grids.specs.Grids.{StampGrid}
 use Rattle.stores.specs.Model.{WriteHistory, Spare, Retiring, Doomed, VersionState, Pool, hasHistory, pagesUsed, handCount}
 use Rattle.records.specs.declared.recorded.Recorded.{Recorded}
@@ -43,6 +43,7 @@ textureRecord t = record {
   rename = t .rename;
   due = t .due;
   spares = length (t .spares);
+  bytes = bytesOf (t .shape);
 }
 
 abbrev pub spareRecord : Spare ℕ → SpareRecord

@@ -198,7 +198,7 @@ module _ (l : Lent) (e : isPool l ≡ true) (failed current : ℕ) where
             ∙ sym (asked-accepted (λ a. a) l (λ (p : Pool ℕ). park p failed current) e tt (parked d)
             (rule-passed ∙ ap (accepted tt) (parks here refl ∙ ap parked q)))
 
-        pub decision-fits : (19 * l .pool .tracked ≤ length (l .textures)) × (here ≡ true → isShape (textureAt l i .shape) ≡ true)
+        pub decision-fits : (20 * l .pool .tracked ≤ length (l .textures)) × (here ≡ true → isShape (textureAt l i .shape) ≡ true)
             × (l .pool .parked ≤ l .pool .cap)
         unfolding modelOf
         decision-fits = (textures-fit l fits, shape-here l fits (x .id) i at, fits .formed .cap)
@@ -285,19 +285,19 @@ module _ (l : Lent) (e : isPool l ≡ true) (failed current : ℕ) where
             there = inside l fits (x .id) i at (kept-says .0)
 
             end-within : end ≤ l .pool .kept
-            end-within = omega (arith, fits .kept, total-with 19 readTexture sparesOf (l .textures) i (l .pool .tracked) there)
+            end-within = omega (arith, fits .kept, total-with 20 readTexture sparesOf (l .textures) i (l .pool .tracked) there)
 
             end-is : firstSpare l i + sparesAt l i ≡ end
             unfolding firstSpare
             end-is =
-                ap₂ (λ (m n : ℕ). m + n) (ap (total sparesOf) (take-table 19 readTexture i (l .pool .tracked) (l .textures) (omega (arith, there))))
+                ap₂ (λ (m n : ℕ). m + n) (ap (total sparesOf) (take-table 20 readTexture i (l .pool .tracked) (l .textures) (omega (arith, there))))
                 (ap sparesOf (record-read l i there))
 
             room : 3 * l .pool .kept + 3 ≤ length (l .spares)
             room = omega (arith, fits .versions, fits .spares, held)
 
             pub keep-fits : (s : SpareRecord) → s ≡ spareParked failed current x
-                → (19 * i + 19 ≤ length (l .textures)) × RecordedFits (textureAt l i .history) × (end ≤ l .pool .kept) × (l .pool .kept ≤ 4096)
+                → (20 * i + 20 ≤ length (l .textures)) × RecordedFits (textureAt l i .history) × (end ≤ l .pool .kept) × (l .pool .kept ≤ 4096)
                 × (3 * l .pool .kept + 3 ≤ length (l .spares)) × HeldFits (s .held)
             keep-fits s q = (
               omega (arith, there, textures-fit l fits),
@@ -344,9 +344,9 @@ module _ (l : Lent) (e : isPool l ≡ true) (failed current : ℕ) where
               line = l .pool .line;
             }
 
-            textures-kept : sets (l .textures) (19 * i) (writeTexture (oneMore (textureAt l i))) ≡ texturesAfter stays l
+            textures-kept : sets (l .textures) (20 * i) (writeTexture (oneMore (textureAt l i))) ≡ texturesAfter stays l
             textures-kept =
-                ap (λ (t : TextureRecord). sets (l .textures) (19 * i) (writeTexture t))
+                ap (λ (t : TextureRecord). sets (l .textures) (20 * i) (writeTexture t))
                 (ap oneMore (sym (record-at l i there)) ∙ record-one spare (stateOf l i))
                 ∙ textures-set l stays (textures-fit l fits) i (withOne spare (stateOf l i)) there grown-is
 
@@ -356,7 +356,7 @@ module _ (l : Lent) (e : isPool l ≡ true) (failed current : ℕ) where
 
             pub park-kept : (head : ℕ) (s : SpareRecord) (c : Counts) (textures spares : List ℕ) → head ≡ placeOf (places l) (l .pool .head) 1
                 → s ≡ spareParked failed current x
-                → textures ≡ sets (l .textures) (19 * i) (writeTexture (oneMore (textureAt l i)))
+                → textures ≡ sets (l .textures) (20 * i) (writeTexture (oneMore (textureAt l i)))
                 → spares ≡ sets (moved (l .spares) (3 * end + 3) (3 * end) (3 * (l .pool .kept - end))) (3 * end) (writeSpare s)
                 → c ≡ handKept head bytes (l .pool)
                 → (toldNumber 0, lent c (l .book) textures (l .retiring) (l .doomed) spares (l .newest) (l .stamps)) ≡ parkCall l failed current

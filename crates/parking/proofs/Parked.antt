@@ -125,15 +125,15 @@ held-fits failed v h = go (not (eqb failed 0) && leb (v .birth) failed)
     go false = omega (arith, h)
 
 -- a texture's record with one more spare, and the spare behind those that it has; u is the record that was read, m the spares before the texture's
-module _ (a : List ℕ) (i : ℕ) (u : TextureRecord) (read : u ≡ recordAt 19 readTexture a i) where
-  pub keep-history : (w : TextureRecord) → w ≡ oneMore u → RecordedFits (recordAt 19 readTexture a i .history) → RecordedFits (w .history)
+module _ (a : List ℕ) (i : ℕ) (u : TextureRecord) (read : u ≡ recordAt 20 readTexture a i) where
+  pub keep-history : (w : TextureRecord) → w ≡ oneMore u → RecordedFits (recordAt 20 readTexture a i .history) → RecordedFits (w .history)
   keep-history w more h = subst (λ (t : TextureRecord). RecordedFits (t .history)) (sym (more ∙ ap oneMore read)) h
 
-  pub keep-record : (w : TextureRecord) → w ≡ oneMore u → (r : List ℕ) → r ≡ sets a (19 * i) (writeTexture w)
-      → r ≡ sets a (19 * i) (writeTexture (oneMore (recordAt 19 readTexture a i)))
-  keep-record w more r put = put ∙ ap (λ (t : TextureRecord). sets a (19 * i) (writeTexture t)) (more ∙ ap oneMore read)
+  pub keep-record : (w : TextureRecord) → w ≡ oneMore u → (r : List ℕ) → r ≡ sets a (20 * i) (writeTexture w)
+      → r ≡ sets a (20 * i) (writeTexture (oneMore (recordAt 20 readTexture a i)))
+  keep-record w more r put = put ∙ ap (λ (t : TextureRecord). sets a (20 * i) (writeTexture t)) (more ∙ ap oneMore read)
 
-  module _ (m : ℕ) (before : m ≡ total (λ (t : TextureRecord). t .spares) (table 19 readTexture i a)) where
+  module _ (m : ℕ) (before : m ≡ total (λ (t : TextureRecord). t .spares) (table 20 readTexture i a)) where
     end-is : m + u .spares ≡ sparesEnd a i
     end-is = ap₂ (λ (n : ℕ) (t : TextureRecord). n + t .spares) before read
 

@@ -51,4 +51,4 @@ oneMore t = record {
 
 -- the place behind the spares of texture i
 abbrev pub sparesEnd : List ℕ → ℕ → ℕ
-sparesEnd textures i = total (λ (t : TextureRecord). t .spares) (table 19 readTexture i textures) + recordAt 19 readTexture textures i .spares
+sparesEnd textures i = total (λ (t : TextureRecord). t .spares) (table 20 readTexture i textures) + recordAt 20 readTexture textures i .spares

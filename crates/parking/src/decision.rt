@@ -44,11 +44,11 @@ pub fn park_or_destroy(
     i: usize,
     v: RetiringRecord,
 ) -> Parking
-    requires { ⌜ (19 * pool .tracked ≤ length (now textures))
-        × (hasId (now textures) (pool .tracked) i (v .id) ≡ true → isShape (recordAt 19 readTexture (now textures) i .shape) ≡ true)
+    requires { ⌜ (20 * pool .tracked ≤ length (now textures))
+        × (hasId (now textures) (pool .tracked) i (v .id) ≡ true → isShape (recordAt 20 readTexture (now textures) i .shape) ≡ true)
         × (pool .parked ≤ pool .cap) ⌝ }
     ensures { λ r. ⌜ r
-        ≡ parkingOf pool pressed (hasId (now (textures .entry)) (pool .tracked) i (v .id)) (recordAt 19 readTexture (now (textures .entry)) i) v ⌝ }
+        ≡ parkingOf pool pressed (hasId (now (textures .entry)) (pool .tracked) i (v .id)) (recordAt 20 readTexture (now (textures .entry)) i) v ⌝ }
 {
     if !has_id(textures, pool.tracked, i, v.id) {
         return Parking::Destroyed(v.bytes);

@@ -52,9 +52,9 @@ fn one_more(t: TextureRecord) -> TextureRecord
 
 // The version is the newest spare of texture i, behind those that it has.
 pub fn keep_version(textures: &mut [u64], spares: &mut [u64], kept: usize, i: usize, x: SpareRecord)
-    requires { ⌜ (19 * i + 19 ≤ length (now textures)) × RecordedFits (recordAt 19 readTexture (now textures) i .history)
+    requires { ⌜ (20 * i + 20 ≤ length (now textures)) × RecordedFits (recordAt 20 readTexture (now textures) i .history)
         × (sparesEnd (now textures) i ≤ kept) × (kept ≤ 4096) × (3 * kept + 3 ≤ length (now spares)) × HeldFits (x .held) ⌝ }
-    ensures { λ _. ⌜ (now (textures .exit) ≡ sets (now (textures .entry)) (19 * i) (writeTexture (oneMore (recordAt 19 readTexture (now (textures .entry)) i))))
+    ensures { λ _. ⌜ (now (textures .exit) ≡ sets (now (textures .entry)) (20 * i) (writeTexture (oneMore (recordAt 20 readTexture (now (textures .entry)) i))))
         × (now (spares .exit)
         ≡ sets (moved (now (spares .entry)) (3 * sparesEnd (now (textures .entry)) i + 3) (3 * sparesEnd (now (textures .entry)) i) (3 * (kept - sparesEnd (now (textures .entry)) i)))
         (3 * sparesEnd (now (textures .entry)) i) (writeSpare x)) ⌝ }

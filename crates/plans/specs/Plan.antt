@@ -38,11 +38,11 @@ foundOf page shape t = cond (sameShape (t .shape) shape) (recordedFound page (t 
 -- record i, if it is there and has the id
 unfoldable pub foundAt : List ℕ → ℕ → ℕ → VersionShape → ℕ → Found
 foundAt textures tracked id shape i =
-    cond (ltb i tracked && eqb (idOf (recordAt 19 readTexture textures i)) id)
-    (foundOf (total recordPages (table 19 readTexture i textures)) shape (recordAt 19 readTexture textures i)) NothingRecorded
+    cond (ltb i tracked && eqb (idOf (recordAt 20 readTexture textures i)) id)
+    (foundOf (total recordPages (table 20 readTexture i textures)) shape (recordAt 20 readTexture textures i)) NothingRecorded
 
 unfoldable pub historyFound : List ℕ → ℕ → ℕ → VersionShape → Found
-historyFound textures tracked id shape = foundAt textures tracked id shape (below id (table 19 readTexture tracked textures))
+historyFound textures tracked id shape = foundAt textures tracked id shape (below id (table 20 readTexture tracked textures))
 
 -- the copies are bounded where both are known
 abbrev pub sinceHeld : ℕ → Held → Since

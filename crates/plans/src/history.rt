@@ -27,8 +27,8 @@ pub enum Found {
 }
 
 pub fn find_history(textures: &[u64], tracked: usize, id: u64, shape: VersionShape) -> Found
-    requires { ⌜ (19 * tracked ≤ length (now textures)) × (ascending idOf (table 19 readTexture tracked (now textures)) ≡ true)
-        × (total recordPages (table 19 readTexture tracked (now textures)) ≤ 4096) ⌝ }
+    requires { ⌜ (20 * tracked ≤ length (now textures)) × (ascending idOf (table 20 readTexture tracked (now textures)) ≡ true)
+        × (total recordPages (table 20 readTexture tracked (now textures)) ≤ 4096) ⌝ }
     ensures { λ r. ⌜ r ≡ historyFound (now (textures .entry)) tracked id shape ⌝ }
 {
     let i = find_texture(textures, tracked, id);

@@ -29,7 +29,7 @@ pub sizes-lengths : (l : Lent) → sizesFit l
 unfolding sizesFit lengthsFit arePlaces modelOf versionPlaces tests after
 sizes-lengths l = refl
 
-pub counts-places : (l : Lent) → countsFit l ≡ placesHold (l .pool) (length (l .textures) / 19) (length (l .retiring) / 7) (length (l .newest))
+pub counts-places : (l : Lent) → countsFit l ≡ placesHold (l .pool) (length (l .textures) / 20) (length (l .retiring) / 7) (length (l .newest))
 unfolding countsFit placesHold modelOf versionPlaces
 counts-places l = refl
 
@@ -230,7 +230,7 @@ module _ (l : Lent) where
 
 pub record SizesFit (l : Lent) : Type 0 where
   pub versions : versionPlaces l ≤ 4096
-  pub textures : length (l .textures) ≡ 19 * (length (l .textures) / 19)
+  pub textures : length (l .textures) ≡ 20 * (length (l .textures) / 20)
   pub retiring : length (l .retiring) ≡ 7 * versionPlaces l
   pub doomed : length (l .doomed) ≡ 2 * versionPlaces l
   pub spares : length (l .spares) ≡ 3 * versionPlaces l
@@ -252,7 +252,7 @@ sizes l e = record {
 }
 
 pub record CountsFit (l : Lent) : Type 0 where
-  pub tracked : l .pool .tracked ≤ length (l .textures) / 19
+  pub tracked : l .pool .tracked ≤ length (l .textures) / 20
   pub head : l .pool .head < versionPlaces l
   pub first : l .pool .first < versionPlaces l
   pub used : l .pool .queued + l .pool .popped + l .pool .kept + l .pool .doomed ≤ versionPlaces l
@@ -273,7 +273,7 @@ module _ (l : Lent) (s : sizesFit l ≡ true) where
   unfolding versionPlaces
   few-versions = sizes l s .versions
 
-  module _ (p : placesHold (l .pool) (length (l .textures) / 19) (length (l .retiring) / 7) (length (l .newest)) ≡ true) where
+  module _ (p : placesHold (l .pool) (length (l .textures) / 20) (length (l .retiring) / 7) (length (l .newest)) ≡ true) where
     counted : CountsFit l
     counted = counts l (counts-places l ∙ p)
 
@@ -285,7 +285,7 @@ module _ (l : Lent) (s : sizesFit l ≡ true) where
         let z = sizes l s in
         (omega (arith, z .retiring), omega (arith, z .doomed), few-versions, counted .head, counted .first, omega (arith, counted .used), omega (arith, counted .used))
 
-    pub textures-room : (19 * l .pool .tracked ≤ length (l .textures)) × (3 * l .pool .kept ≤ length (l .spares)) × (l .pool .kept ≤ 4096)
+    pub textures-room : (20 * l .pool .tracked ≤ length (l .textures)) × (3 * l .pool .kept ≤ length (l .spares)) × (l .pool .kept ≤ 4096)
         × (l .pool .pages ≤ length (l .newest)) × (length (l .stamps) ≡ 1024 * length (l .newest))
     textures-room =
         let z = sizes l s in (

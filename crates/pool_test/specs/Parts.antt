@@ -19,12 +19,12 @@ use Rattle.layout.specs.IsPool.{isRetiring, isDoomed, isArrival}
 -- the six lengths fit together
 unfoldable pub lengthsFit : ℕ → ℕ → ℕ → ℕ → ℕ → ℕ → Bool
 lengthsFit textures retiring doomed spares newest stamps = tests (
-    leb 1 (textures / 19)
-    ∷ leb (textures / 19) 4096
+    leb 1 (textures / 20)
+    ∷ leb (textures / 20) 4096
     ∷ leb 1 (retiring / 7)
     ∷ leb (retiring / 7) 4096
     ∷ leb newest 4096
-    ∷ eqb textures (19 * (textures / 19))
+    ∷ eqb textures (20 * (textures / 20))
     ∷ eqb retiring (7 * (retiring / 7))
     ∷ eqb doomed (2 * (retiring / 7))
     ∷ eqb spares (3 * (retiring / 7))

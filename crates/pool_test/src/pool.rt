@@ -26,7 +26,7 @@ pub fn is_pool(
         return false;
     }
     let versions = retiring.len() / 7;
-    if !counts_fit(pool, textures.len() / 19, versions, newest.len()) {
+    if !counts_fit(pool, textures.len() / 20, versions, newest.len()) {
         return false;
     }
     if !numbers_fit(pool, book) {

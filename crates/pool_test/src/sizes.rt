@@ -23,14 +23,14 @@ fn lengths_fit(
     if newest > 4096 {
         return false;
     }
-    let places = textures / 19;
+    let places = textures / 20;
     let versions = retiring / 7;
     (1 <= places)
         & (places <= 4096)
         & (1 <= versions)
         & (versions <= 4096)
         & (newest <= 4096)
-        & (textures == 19 * places)
+        & (textures == 20 * places)
         & (retiring == 7 * versions)
         & (doomed == 2 * versions)
         & (spares == 3 * versions)

@@ -37,7 +37,7 @@ doomed-codec = record {
   front = λ l. simp (getD-take, lit<, tt {0});
 }
 
-pub texture-codec : Codec 19 readTexture writeTexture
+pub texture-codec : Codec 20 readTexture writeTexture
 unfolding readTexture writeTexture
 texture-codec = record {
   long = λ a. refl;
@@ -50,7 +50,8 @@ texture-codec = record {
     rename = a .rename;
     due = a .due;
     spares = a .spares;
+    bytes = a .bytes;
   };
-  back = λ l h. rw (take-tab 19 l h, number-recorded);
+  back = λ l h. rw (take-tab 20 l h, number-recorded);
   front = λ l. simp (getD-take, lit<, tt {0});
 }

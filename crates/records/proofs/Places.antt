@@ -94,19 +94,19 @@ module _ (id : ℕ) where
     below-found e = omega (arith, reached (omega arith), not-past ts i d (omega arith))
 
 -- an id is the first number of its record
-pub id-at : (n i : ℕ) (s : List ℕ) → i < n → getD (textures n s) i (readTexture []) .id ≡ getD s (19 * i) 0
+pub id-at : (n i : ℕ) (s : List ℕ) → i < n → getD (textures n s) i (readTexture []) .id ≡ getD s (20 * i) 0
 unfolding readTexture recordAt
 id-at n i s h =
-    ap idOf (getD-table 19 readTexture n i s (readTexture []) h)
-    ∙ getD-drop (19 * i) s 0 0 ∙ ap (λ (k : ℕ). getD s k 0) (add-zero (19 * i))
+    ap idOf (getD-table 20 readTexture n i s (readTexture []) h)
+    ∙ getD-drop (20 * i) s 0 0 ∙ ap (λ (k : ℕ). getD s k 0) (add-zero (20 * i))
 
 -- the search's two turns
 module _ (n i id : ℕ) (s : List ℕ) (h : i < n) where
-  pub search-past : ascending idOf (textures n s) ≡ true → getD s (19 * i) 0 < id → i < below id (textures n s)
-  search-past up q = past id (textures n s) i (readTexture []) (omega (arith, length-table 19 readTexture n s)) up (omega (arith, id-at n i s h))
+  pub search-past : ascending idOf (textures n s) ≡ true → getD s (20 * i) 0 < id → i < below id (textures n s)
+  search-past up q = past id (textures n s) i (readTexture []) (omega (arith, length-table 20 readTexture n s)) up (omega (arith, id-at n i s h))
 
-  pub search-before : id ≤ getD s (19 * i) 0 → below id (textures n s) ≤ i
+  pub search-before : id ≤ getD s (20 * i) 0 → below id (textures n s) ≤ i
   search-before q = not-past id (textures n s) i (readTexture []) (omega (arith, id-at n i s h))
 
 pub search-end : (n id : ℕ) (s : List ℕ) → below id (textures n s) ≤ n
-search-end n id s = omega (arith, below-length id (textures n s), length-table 19 readTexture n s)
+search-end n id s = omega (arith, below-length id (textures n s), length-table 20 readTexture n s)

@@ -12,7 +12,7 @@ idOf t = t .id
 
 -- the first n records of the textures' slice
 abbrev pub textures : ℕ → List ℕ → List TextureRecord
-textures n s = table 19 readTexture n s
+textures n s = table 20 readTexture n s
 
 -- how many stand before the first whose id is not below this one
 unfoldable pub below : ℕ → List TextureRecord → ℕ

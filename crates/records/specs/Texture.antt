@@ -1,4 +1,4 @@
--- A texture's record: nineteen numbers, of which the second to the thirteenth are the shape.
+-- A texture's record: twenty numbers, of which the second to the thirteenth are the shape and the last is the bytes of one version of that shape.
 use Prim.Native.Nat.{ℕ}
 use mathlib.Core.List.{List, [], _∷_, _++_}
 use lib.ListN.{getD}
@@ -36,8 +36,9 @@ readTexture s = record {
   rename = getD s 16 0;
   due = getD s 17 0;
   spares = getD s 18 0;
+  bytes = getD s 19 0;
 }
 
 unfoldable pub writeTexture : TextureRecord → List ℕ
 writeTexture x =
-    x .id ∷ (shapeNumbers (x .shape) ++ (x .epoch ∷ recordedNumber (x .history) ∷ x .birth ∷ x .rename ∷ x .due ∷ x .spares ∷ []))
+    x .id ∷ (shapeNumbers (x .shape) ++ (x .epoch ∷ recordedNumber (x .history) ∷ x .birth ∷ x .rename ∷ x .due ∷ x .spares ∷ x .bytes ∷ []))

@@ -8,14 +8,14 @@ ghost use Rattle.records.specs.Find.{textures, idOf, below};
 
 // How many of the first n records have an id below this one. Its texture is at that place, or nowhere.
 pub fn find_texture(s: &[u64], n: usize, id: u64) -> usize
-    requires { ⌜ (19 * n ≤ length (now s)) × (ascending idOf (textures n (now s)) ≡ true) ⌝ }
+    requires { ⌜ (20 * n ≤ length (now s)) × (ascending idOf (textures n (now s)) ≡ true) ⌝ }
     ensures { λ r. ⌜ r ≡ below id (textures n (now (s .entry))) ⌝ }
 {
     let mut lo = 0;
     let mut hi = n;
     while lo < hi {
         let mid = lo + (hi - lo) / 2;
-        if s[19 * mid] < id {
+        if s[20 * mid] < id {
             lo = mid + 1;
         } else {
             hi = mid;

@@ -1,4 +1,5 @@
-// A tracked texture. Nineteen numbers: the id first, so that a search reads one number a record, then the shape's twelve.
+// A tracked texture. Twenty numbers: the id first, so that a search reads one number a record, then the shape's twelve; the bytes of one version of
+// that shape last, so that no call works them out anew.
 ghost use mathlib.Core.Path.{_≡_};
 ghost use Prim.Native.Nat.{_≤_};
 ghost use lib.ListN.{length};
@@ -18,10 +19,11 @@ pub struct TextureRecord {
     pub rename: u64,
     pub due: u64,
     pub spares: u64,
+    pub bytes: u64,
 }
 
 pub fn read_texture(p: &[u64]) -> TextureRecord
-    requires { ⌜ 19 ≤ length (now p) ⌝ }
+    requires { ⌜ 20 ≤ length (now p) ⌝ }
     ensures { λ r. ⌜ r ≡ readTexture (now (p .entry)) ⌝ }
 {
     let shape = VersionShape {
@@ -48,10 +50,11 @@ pub fn read_texture(p: &[u64]) -> TextureRecord
         rename: p[16],
         due: p[17],
         spares: p[18],
+        bytes: p[19],
     }
 }
 
-pub fn texture_numbers(x: TextureRecord) -> [u64; 19]
+pub fn texture_numbers(x: TextureRecord) -> [u64; 20]
     requires { ⌜ RecordedFits (x .history) ⌝ }
     ensures { λ r. ⌜ r ≡ writeTexture x ⌝ }
 {
@@ -78,5 +81,6 @@ pub fn texture_numbers(x: TextureRecord) -> [u64; 19]
         x.rename,
         x.due,
         x.spares,
+        x.bytes,
     ]
 }

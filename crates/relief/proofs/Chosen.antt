@@ -60,7 +60,7 @@ state-at-line t line freed excess =
 
 module _ (l : Lent) where
   abbrev recordOf : ℕ → TextureRecord
-  recordOf i = recordAt 19 readTexture (l .textures) i
+  recordOf i = recordAt 20 readTexture (l .textures) i
 
   -- how many were picked of a texture
   abbrev pub share : ℕ → VersionState ℕ → ℕ
@@ -78,9 +78,9 @@ module _ (l : Lent) where
   run-parkings first n = map-listed parkedOf (spareRead l) first n
 
   pub state-parkings : (i : ℕ) → i < l .pool .tracked
-      → map parkedOf (stateOf l i .spares) ≡ parkings (l .spares) (firstSpare l i) (recordAt 19 readTexture (l .textures) i .spares)
+      → map parkedOf (stateOf l i .spares) ≡ parkings (l .spares) (firstSpare l i) (recordAt 20 readTexture (l .textures) i .spares)
   state-parkings i h =
-      ap (map parkedOf) (state-spares l i h) ∙ run-parkings (firstSpare l i) (recordAt 19 readTexture (l .textures) i .spares)
+      ap (map parkedOf) (state-spares l i h) ∙ run-parkings (firstSpare l i) (recordAt 20 readTexture (l .textures) i .spares)
 
   run-bytes : (line first page : ℕ) (t : TextureRecord)
       → bytesOf (stateRead l first page t .shape) * countBefore line (map parkedOf (stateRead l first page t .spares))
@@ -204,7 +204,7 @@ module _ (l : Lent) where
             freed-next i h,
             mul-le-mul-left {m = n} {n = recordOf i .spares} b le,
             total-next recordBytes (trackedRecords l) i (readTexture []) (omega (arith, tracked-records l)),
-            ap recordBytes (getD-table 19 readTexture (l .pool .tracked) i (l .textures) (readTexture []) h),
+            ap recordBytes (getD-table 20 readTexture (l .pool .tracked) i (l .textures) (readTexture []) h),
           )
 
       pub freed-fits : (i : ℕ) → i < l .pool .tracked → freedTo excess line i + bytesOf (recordOf i .shape) * recordOf i .spares ≤ 216172782113783808
@@ -213,7 +213,7 @@ module _ (l : Lent) where
             arith,
             freed-most i (omega arith),
             total-within recordBytes (trackedRecords l) i (readTexture []) (omega (arith, tracked-records l)),
-            ap recordBytes (getD-table 19 readTexture (l .pool .tracked) i (l .textures) (readTexture []) h),
+            ap recordBytes (getD-table 20 readTexture (l .pool .tracked) i (l .textures) (readTexture []) h),
             countable .bytes,
             dooming-most,
             before-most (l .spares) line 0 (trackedRecords l),

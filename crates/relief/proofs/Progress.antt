@@ -73,18 +73,18 @@ module _ (l : Lent) (excess line : ℕ) where
       {i from kept bytes sum : ℕ} {textures doomed spares : List ℕ} (p : Progress l excess line i from kept bytes sum textures doomed spares)
       (h : i < l .pool .tracked) where
     abbrev here : TextureRecord
-    here = recordAt 19 readTexture textures i
+    here = recordAt 20 readTexture textures i
 
     -- the record that is read is the one that stood there
-    same-record : here ≡ recordAt 19 readTexture (l .textures) i
-    same-record = ap (λ (s : List ℕ). recordAt 19 readTexture s i) (p .records) ∙ record-next l (share l excess) i (p .most)
+    same-record : here ≡ recordAt 20 readTexture (l .textures) i
+    same-record = ap (λ (s : List ℕ). recordAt 20 readTexture s i) (p .records) ∙ record-next l (share l excess) i (p .most)
 
-    within : firstSpare l i + recordAt 19 readTexture (l .textures) i .spares ≤ l .pool .kept
+    within : firstSpare l i + recordAt 20 readTexture (l .textures) i .spares ≤ l .pool .kept
     unfolding firstSpare
     within = omega (arith, first-next l i h, total-cut sparesOf (suc i) (trackedRecords l), f .kept)
 
     -- what a turn asks for
-    pub turn-needs : (19 * i + 19 ≤ length textures) × (isShape (here .shape) ≡ true) × (2 * versionPlaces l ≤ length doomed) × (l .pool .first < versionPlaces l)
+    pub turn-needs : (20 * i + 20 ≤ length textures) × (isShape (here .shape) ≡ true) × (2 * versionPlaces l ≤ length doomed) × (l .pool .first < versionPlaces l)
         × (l .pool .doomed + (from - kept) + here .spares ≤ versionPlaces l) × (3 * (from + here .spares) ≤ length spares) × (kept ≤ from)
         × (sum + bytesOf (here .shape) * here .spares < 2 ^ 64)
     turn-needs =
@@ -112,7 +112,7 @@ module _ (l : Lent) (excess line : ℕ) where
     module _ {n count given freed : ℕ} {textures′ doomed′ spares′ : List ℕ} (had : n ≡ here .spares)
         (gave : count ≡ gives sum excess (bytesOf (here .shape)) line (parkings spares from n)) (bytes-given : given ≡ bytesOf (here .shape) * count)
         (freed-by : freed ≡ sum + bytesOf (here .shape) * takenAt sum excess (bytesOf (here .shape)) line (parkings spares from n))
-        (t : textures′ ≡ set textures (19 * i + 18) (n - count))
+        (t : textures′ ≡ set textures (20 * i + 18) (n - count))
         (d : doomed′ ≡ laid 2 writeDoomed (versionPlaces l) (l .pool .first) (l .pool .doomed + (from - kept)) (givenRecords spares (bytesOf (here .shape)) from count) doomed)
         (s : spares′ ≡ moved spares (3 * kept) (3 * (from + count)) (3 * (n - count)))
         (long-t : length textures′ ≡ length textures) (long-d : length doomed′ ≡ length doomed) (long-s : length spares′ ≡ length spares) where
@@ -120,7 +120,7 @@ module _ (l : Lent) (excess line : ℕ) where
       k = share l excess
 
       abbrev stood : TextureRecord
-      stood = recordAt 19 readTexture (l .textures) i
+      stood = recordAt 20 readTexture (l .textures) i
 
       had-stood : n ≡ stood .spares
       had-stood = had ∙ ap (λ (r : TextureRecord). r .spares) same-record
@@ -168,7 +168,7 @@ module _ (l : Lent) (excess line : ℕ) where
             freed-by ∙ ap₂ (λ (b : ℕ) (ps : List ℕ). sum + b * takenAt sum excess b line ps) shape-stood numbers-stood
             ∙ ap (λ (m : ℕ). m + bytesOf (stood .shape) * takenAt m excess (bytesOf (stood .shape)) line (parkings (l .spares) (firstSpare l i) (stood .spares))) (p .freed)
             ∙ freed-next l f excess line L i h;
-        records = t ∙ ap₂ (λ (a : List ℕ) (v : ℕ). set a (19 * i + 18) v) (p .records) (ap₂ (λ (a b : ℕ). a - b) had-stood count-share) ∙ textures-next l k i h (textures-fit l f);
+        records = t ∙ ap₂ (λ (a : List ℕ) (v : ℕ). set a (20 * i + 18) v) (p .records) (ap₂ (λ (a b : ℕ). a - b) had-stood count-share) ∙ textures-next l k i h (textures-fit l f);
         ring = d ∙ ring-turn;
         runs = s ∙ runs-turn;
         textured = long-t ∙ p .textured;

@@ -39,7 +39,7 @@ use Rattle.relief.proofs.Written.{record-over, moved-run, withCount, co
 module _ (l : Lent) where
   -- the record of texture i
   abbrev recordOf : ℕ → TextureRecord
-  recordOf i = recordAt 19 readTexture (l .textures) i
+  recordOf i = recordAt 20 readTexture (l .textures) i
 
   pub state-record : (i : ℕ) → i < l .pool .tracked → stateOf l i ≡ stateRead l (firstSpare l i) (firstPageOf l i) (recordOf i)
   unfolding stateOf
@@ -100,8 +100,8 @@ module _ (l : Lent) where
 
     -- ---- the textures' records
 
-    pub textures-next : (i : ℕ) → i < l .pool .tracked → 19 * l .pool .tracked ≤ length (l .textures)
-        → set (texturesTo i) (19 * i + 18) (recordOf i .spares - gave i) ≡ texturesTo (suc i)
+    pub textures-next : (i : ℕ) → i < l .pool .tracked → 20 * l .pool .tracked ≤ length (l .textures)
+        → set (texturesTo i) (20 * i + 18) (recordOf i .spares - gave i) ≡ texturesTo (suc i)
     unfolding texturesTo
     textures-next i h fits =
         let xs = map textureRecord (map (lessened k) (first i)) in
@@ -117,7 +117,7 @@ module _ (l : Lent) where
             ∙ ap (withCount (recordOf i .spares - gave i)) (record-at l i h)
 
     -- the record of texture i, while those before it are written
-    pub record-next : (i : ℕ) → i ≤ l .pool .tracked → recordAt 19 readTexture (texturesTo i) i ≡ recordOf i
+    pub record-next : (i : ℕ) → i ≤ l .pool .tracked → recordAt 20 readTexture (texturesTo i) i ≡ recordOf i
     unfolding texturesTo
     record-next i h =
         let xs = map textureRecord (map (lessened k) (first i)) in

@@ -26,13 +26,13 @@ pub fn give_spares(
     count: usize,
     bytes: u64,
 )
-    requires { ⌜ (19 * i + 19 ≤ length (now textures)) × (2 * cap ≤ length (now doomed)) × (first < cap) × (queued + count ≤ cap)
+    requires { ⌜ (20 * i + 20 ≤ length (now textures)) × (2 * cap ≤ length (now doomed)) × (first < cap) × (queued + count ≤ cap)
         × (3 * (from + n) ≤ length (now spares)) × (to ≤ from) × (count ≤ n) ⌝ }
-    ensures { λ _. ⌜ (now (textures .exit) ≡ set (now (textures .entry)) (19 * i + 18) (n - count))
+    ensures { λ _. ⌜ (now (textures .exit) ≡ set (now (textures .entry)) (20 * i + 18) (n - count))
         × (now (doomed .exit) ≡ laid 2 writeDoomed cap first queued (givenRecords (now (spares .entry)) bytes from count) (now (doomed .entry)))
         × (now (spares .exit) ≡ moved (now (spares .entry)) (3 * to) (3 * (from + count)) (3 * (n - count))) ⌝ }
 {
     push_spares(doomed, cap, first, queued, spares, from, count, bytes);
     shift_down(spares, 3 * to, 3 * (from + count - to), 3 * (n - count));
-    textures[19 * i + 18] = (n - count) as u64;
+    textures[20 * i + 18] = (n - count) as u64;
 }

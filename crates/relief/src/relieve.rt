@@ -44,21 +44,21 @@ fn relieve_texture(
     freed: u64,
     excess: u64,
 ) -> Step
-    requires { ⌜ (19 * i + 19 ≤ length (now textures)) × (isShape (recordAt 19 readTexture (now textures) i .shape) ≡ true)
-        × (2 * cap ≤ length (now doomed)) × (first < cap) × (queued + recordAt 19 readTexture (now textures) i .spares ≤ cap)
-        × (3 * (from + recordAt 19 readTexture (now textures) i .spares) ≤ length (now spares)) × (to ≤ from)
-        × (freed + bytesOf (recordAt 19 readTexture (now textures) i .shape) * recordAt 19 readTexture (now textures) i .spares < 2 ^ 64) ⌝ }
-    ensures { λ r. ⌜ (r .spares ≡ recordAt 19 readTexture (now (textures .entry)) i .spares) × (r .count ≤ r .spares)
-        × (r .count ≡ gives freed excess (bytesOf (recordAt 19 readTexture (now (textures .entry)) i .shape)) line (parkings (now (spares .entry)) from (r .spares)))
-        × (r .bytes ≡ bytesOf (recordAt 19 readTexture (now (textures .entry)) i .shape) * r .count)
-        × (r .freed ≡ freed + bytesOf (recordAt 19 readTexture (now (textures .entry)) i .shape)
-        * takenAt freed excess (bytesOf (recordAt 19 readTexture (now (textures .entry)) i .shape)) line (parkings (now (spares .entry)) from (r .spares)))
-        × (now (textures .exit) ≡ set (now (textures .entry)) (19 * i + 18) (r .spares - r .count))
+    requires { ⌜ (20 * i + 20 ≤ length (now textures)) × (isShape (recordAt 20 readTexture (now textures) i .shape) ≡ true)
+        × (2 * cap ≤ length (now doomed)) × (first < cap) × (queued + recordAt 20 readTexture (now textures) i .spares ≤ cap)
+        × (3 * (from + recordAt 20 readTexture (now textures) i .spares) ≤ length (now spares)) × (to ≤ from)
+        × (freed + bytesOf (recordAt 20 readTexture (now textures) i .shape) * recordAt 20 readTexture (now textures) i .spares < 2 ^ 64) ⌝ }
+    ensures { λ r. ⌜ (r .spares ≡ recordAt 20 readTexture (now (textures .entry)) i .spares) × (r .count ≤ r .spares)
+        × (r .count ≡ gives freed excess (bytesOf (recordAt 20 readTexture (now (textures .entry)) i .shape)) line (parkings (now (spares .entry)) from (r .spares)))
+        × (r .bytes ≡ bytesOf (recordAt 20 readTexture (now (textures .entry)) i .shape) * r .count)
+        × (r .freed ≡ freed + bytesOf (recordAt 20 readTexture (now (textures .entry)) i .shape)
+        * takenAt freed excess (bytesOf (recordAt 20 readTexture (now (textures .entry)) i .shape)) line (parkings (now (spares .entry)) from (r .spares)))
+        × (now (textures .exit) ≡ set (now (textures .entry)) (20 * i + 18) (r .spares - r .count))
         × (now (doomed .exit) ≡ laid 2 writeDoomed cap first queued
-        (givenRecords (now (spares .entry)) (bytesOf (recordAt 19 readTexture (now (textures .entry)) i .shape)) from (r .count)) (now (doomed .entry)))
+        (givenRecords (now (spares .entry)) (bytesOf (recordAt 20 readTexture (now (textures .entry)) i .shape)) from (r .count)) (now (doomed .entry)))
         × (now (spares .exit) ≡ moved (now (spares .entry)) (3 * to) (3 * (from + r .count)) (3 * (r .spares - r .count))) ⌝ }
 {
-    let n = textures[19 * i + 18] as usize;
+    let n = textures[20 * i + 18] as usize;
     let bytes = version_bytes(textures, i);
     let given = texture_gives(spares, from, n, line, bytes, freed, excess);
     let count = given.count;
@@ -105,8 +105,8 @@ pub fn relieve(
     excess: u64,
 ) -> Relief
     requires { ⌜ (isPool (lent pool book (now textures) (now retiring) (now doomed) (now spares) (now newest) (now stamps)) ≡ true)
-        × IsLine (pool .dooming) excess (λ k. bytesFrom (now spares) k 0 (table 19 readTexture (pool .tracked) (now textures))) line
-        × (freed ≡ pool .dooming + bytesFrom (now spares) line 0 (table 19 readTexture (pool .tracked) (now textures))) ⌝ }
+        × IsLine (pool .dooming) excess (λ k. bytesFrom (now spares) k 0 (table 20 readTexture (pool .tracked) (now textures))) line
+        × (freed ≡ pool .dooming + bytesFrom (now spares) line 0 (table 20 readTexture (pool .tracked) (now textures))) ⌝ }
     ensures { λ r. ⌜ Relieves (lent pool book (now (textures .entry)) (now (retiring .entry)) (now (doomed .entry)) (now (spares .entry)) (now (newest .entry)) (now (stamps .entry)))
         excess (r .kept) (r .bytes) (now (textures .exit)) (now (doomed .exit)) (now (spares .exit)) ⌝ }
 {

@@ -129,31 +129,31 @@ bytes-zero spares from (t ∷ ts) =
 
 module _ (textures spares : List ℕ) (n i : ℕ) (h : i < n) where
   abbrev textureAt : ℕ → TextureRecord
-  textureAt k = recordAt 19 readTexture textures k
+  textureAt k = recordAt 20 readTexture textures k
 
   abbrev rest : ℕ → List TextureRecord
   rest k = left textureAt n k
 
-  pub spares-rest : total recordSpares (rest i) ≡ getD textures (19 * i + 18) 0 + total recordSpares (rest (i + 1))
+  pub spares-rest : total recordSpares (rest i) ≡ getD textures (20 * i + 18) 0 + total recordSpares (rest (i + 1))
   spares-rest = total-more textureAt n recordSpares i h ∙ ap (λ (k : ℕ). k + total recordSpares (rest (i + 1))) (sym (spares-number textures i))
 
-  pub bytes-rest : total recordBytes (rest i) ≡ bytesOf (textureAt i .shape) * getD textures (19 * i + 18) 0 + total recordBytes (rest (i + 1))
+  pub bytes-rest : total recordBytes (rest i) ≡ bytesOf (textureAt i .shape) * getD textures (20 * i + 18) 0 + total recordBytes (rest (i + 1))
   bytes-rest =
       total-more textureAt n recordBytes i h
       ∙ ap (λ (k : ℕ). bytesOf (textureAt i .shape) * k + total recordBytes (rest (i + 1))) (sym (spares-number textures i))
 
   pub before-rest : (line from : ℕ)
       → bytesFrom spares line from (rest i)
-      ≡ bytesOf (textureAt i .shape) * countBefore line (parkings spares from (getD textures (19 * i + 18) 0))
-      + bytesFrom spares line (from + getD textures (19 * i + 18) 0) (rest (i + 1))
+      ≡ bytesOf (textureAt i .shape) * countBefore line (parkings spares from (getD textures (20 * i + 18) 0))
+      + bytesFrom spares line (from + getD textures (20 * i + 18) 0) (rest (i + 1))
   unfolding bytesFrom
   before-rest line from =
       ap (bytesFrom spares line from) (left-step textureAt n i h)
       ∙ ap (λ (k : ℕ). bytesOf (textureAt i .shape) * countBefore line (parkings spares from k) + bytesFrom spares line (from + k) (rest (i + 1))) (sym (spares-number textures i))
 
-pub before-done : (textures spares : List ℕ) (n i line from : ℕ) → n ≤ i → bytesFrom spares line from (left (recordAt 19 readTexture textures) n i) ≡ 0
+pub before-done : (textures spares : List ℕ) (n i line from : ℕ) → n ≤ i → bytesFrom spares line from (left (recordAt 20 readTexture textures) n i) ≡ 0
 unfolding bytesFrom
-before-done textures spares n i line from h = rw (left-none (recordAt 19 readTexture textures) n i h)
+before-done textures spares n i line from h = rw (left-none (recordAt 20 readTexture textures) n i h)
 
 -- as many as are parked before a line are bytes of theirs
 pub count-most : (line : ℕ) (ps : List ℕ) → countBefore line ps ≤ length ps

@@ -34,7 +34,7 @@ recordBytes t = bytesOf (t .shape) * t .spares
 
 -- n textures and their spares, as far as they are counted: they are there, and their bytes sum up to 2^56 at most
 pub record Countable (textures : List ℕ) (n : ℕ) (spares : List ℕ) : Type 0 where
-  pub fits : 19 * n ≤ length textures
-  pub runs : 3 * total recordSpares (table 19 readTexture n textures) ≤ length spares
-  pub shapes : (i : ℕ) → i < n → isShape (recordAt 19 readTexture textures i .shape) ≡ true
-  pub bytes : total recordBytes (table 19 readTexture n textures) ≤ 72057594037927936
+  pub fits : 20 * n ≤ length textures
+  pub runs : 3 * total recordSpares (table 20 readTexture n textures) ≤ length spares
+  pub shapes : (i : ℕ) → i < n → isShape (recordAt 20 readTexture textures i .shape) ≡ true
+  pub bytes : total recordBytes (table 20 readTexture n textures) ≤ 72057594037927936

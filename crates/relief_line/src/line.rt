@@ -17,8 +17,8 @@ const LIMIT: u64 = 281474976710656;
 
 // Bytes of one version of texture i.
 pub fn version_bytes(textures: &[u64], i: usize) -> u64
-    requires { ⌜ (19 * i + 19 ≤ length (now textures)) × (isShape (recordAt 19 readTexture (now textures) i .shape) ≡ true) ⌝ }
-    ensures { λ r. ⌜ r ≡ bytesOf (recordAt 19 readTexture (now (textures .entry)) i .shape) ⌝ }
+    requires { ⌜ (20 * i + 20 ≤ length (now textures)) × (isShape (recordAt 20 readTexture (now textures) i .shape) ≡ true) ⌝ }
+    ensures { λ r. ⌜ r ≡ bytesOf (recordAt 20 readTexture (now (textures .entry)) i .shape) ⌝ }
 {
     let t = texture_at(textures, i);
     shape_bytes(t.shape)
@@ -26,9 +26,9 @@ pub fn version_bytes(textures: &[u64], i: usize) -> u64
 
 // Bytes of the spares parked before a line, of texture i, which has n spares from place `from` on.
 fn run_bytes(textures: &[u64], i: usize, spares: &[u64], from: usize, n: usize, line: u64) -> u64
-    requires { ⌜ (19 * i + 19 ≤ length (now textures)) × (isShape (recordAt 19 readTexture (now textures) i .shape) ≡ true) × (3 * (from + n) ≤ length (now spares))
-        × (bytesOf (recordAt 19 readTexture (now textures) i .shape) * n ≤ 72057594037927936) ⌝ }
-    ensures { λ r. ⌜ r ≡ bytesOf (recordAt 19 readTexture (now (textures .entry)) i .shape) * countBefore line (parkings (now (spares .entry)) from n) ⌝ }
+    requires { ⌜ (20 * i + 20 ≤ length (now textures)) × (isShape (recordAt 20 readTexture (now textures) i .shape) ≡ true) × (3 * (from + n) ≤ length (now spares))
+        × (bytesOf (recordAt 20 readTexture (now textures) i .shape) * n ≤ 72057594037927936) ⌝ }
+    ensures { λ r. ⌜ r ≡ bytesOf (recordAt 20 readTexture (now (textures .entry)) i .shape) * countBefore line (parkings (now (spares .entry)) from n) ⌝ }
 {
     let count = count_before(spares, from, n, line);
     // The bytes are worked out only where they count.
@@ -42,13 +42,13 @@ fn run_bytes(textures: &[u64], i: usize, spares: &[u64], from: usize, n: usize, 
 // Bytes of the spares parked before a line, of the first n textures.
 pub fn bytes_before(textures: &[u64], n: usize, spares: &[u64], line: u64) -> u64
     requires { ⌜ Countable (now textures) n (now spares) ⌝ }
-    ensures { λ r. ⌜ (r ≤ 72057594037927936) × (r ≡ bytesFrom (now (spares .entry)) line 0 (table 19 readTexture n (now (textures .entry)))) ⌝ }
+    ensures { λ r. ⌜ (r ≤ 72057594037927936) × (r ≡ bytesFrom (now (spares .entry)) line 0 (table 20 readTexture n (now (textures .entry)))) ⌝ }
 {
     let mut sum = 0;
     let mut from = 0;
     let mut i = 0;
     while i < n {
-        let kept = textures[19 * i + 18] as usize;
+        let kept = textures[20 * i + 18] as usize;
         sum += run_bytes(textures, i, spares, from, kept, line);
         from += kept;
         i += 1;
@@ -59,7 +59,7 @@ pub fn bytes_before(textures: &[u64], n: usize, spares: &[u64], line: u64) -> u6
 // The last line such that what is parked before it, and what is queued already, do not cover the excess.
 pub fn parking_line(textures: &[u64], n: usize, spares: &[u64], dooming: u64, excess: u64) -> u64
     requires { ⌜ Countable (now textures) n (now spares) × (dooming ≤ 72057594037927936) × (dooming < excess) ⌝ }
-    ensures { λ r. ⌜ IsLine dooming excess (λ k. bytesFrom (now (spares .entry)) k 0 (table 19 readTexture n (now (textures .entry)))) r ⌝ }
+    ensures { λ r. ⌜ IsLine dooming excess (λ k. bytesFrom (now (spares .entry)) k 0 (table 20 readTexture n (now (textures .entry)))) r ⌝ }
 {
     let mut lo = 0;
     let mut hi = LIMIT + 2;

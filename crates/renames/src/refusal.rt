@@ -67,7 +67,7 @@ pub fn take_refusal(
         return 3;
     }
     if !has_id(textures, pool.tracked, i, id) {
-        if textures.len() / 19 <= pool.tracked {
+        if textures.len() / 20 <= pool.tracked {
             return 5;
         }
         return tracking_refusal(pool, newest.len(), 0, shape, records);

@@ -44,7 +44,7 @@ fn run_next(
     views: &mut [u64],
     out: &mut [u8],
 )
-    requires { ⌜ (1216 ≤ length (now textures)) × (14000 ≤ length (now retiring)) × (4000 ≤ length (now doomed))
+    requires { ⌜ (1280 ≤ length (now textures)) × (14000 ≤ length (now retiring)) × (4000 ≤ length (now doomed))
         × (6000 ≤ length (now spares)) × (256 ≤ length (now newest)) × (262144 ≤ length (now stamps)) × (28672 ≤ length (now copies)) × (4096 ≤ length (now views)) ⌝ }
 {
     io::write_all(STDOUT_FILENO, line);
@@ -52,7 +52,7 @@ fn run_next(
     let versions = sizes.versions;
     let pages = sizes.pages;
     let answers = sizes.answers;
-    let t = 19 * sizes.textures;
+    let t = 20 * sizes.textures;
     let r = 7 * versions;
     let d = 2 * versions;
     let s = 3 * versions;
@@ -84,7 +84,7 @@ pub fn run_lists(
     views: &mut [u64],
     out: &mut [u8],
 )
-    requires { ⌜ (1216 ≤ length (now textures)) × (14000 ≤ length (now retiring)) × (4000 ≤ length (now doomed))
+    requires { ⌜ (1280 ≤ length (now textures)) × (14000 ≤ length (now retiring)) × (4000 ≤ length (now doomed))
         × (6000 ≤ length (now spares)) × (256 ≤ length (now newest)) × (262144 ≤ length (now stamps)) × (28672 ≤ length (now copies)) × (4096 ≤ length (now views)) ⌝ }
 {
     let to = io::read_full(STDIN_FILENO, input);

@@ -6,7 +6,7 @@ mod sizes;
 
 // Room for 64 textures, 2,000 versions, 256 pages and answers of 4,096 entries; a list is lent as much as it asks for.
 fn main() {
-    let mut textures = [0; 1216];
+    let mut textures = [0; 1280];
     let mut retiring = [0; 14000];
     let mut doomed = [0; 4000];
     let mut spares = [0; 6000];

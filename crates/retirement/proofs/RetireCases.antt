@@ -146,11 +146,11 @@ module _ (l : Lent) (e : isPool l ≡ true) (id view seq : ℕ) where
       here = hasId (l .textures) (l .pool .tracked) i id
 
       textures-left : (b : Bool) → here ≡ b
-          → cond b (sets (l .textures) (19 * i) (writeTexture (bornAt seq (textureAt l i)))) (l .textures) ≡ texturesAfter queued l
+          → cond b (sets (l .textures) (20 * i) (writeTexture (bornAt seq (textureAt l i)))) (l .textures) ≡ texturesAfter queued l
       textures-left false q = textures-stay l fits queued (ap (map textureRecord) (changed-nowhere l fits id i at q (withBirth seq)))
       textures-left true q =
           let h = inside l fits id i at q in
-          ap (λ (t : TextureRecord). sets (l .textures) (19 * i) (writeTexture (bornAt seq t))) (sym (record-at l i h))
+          ap (λ (t : TextureRecord). sets (l .textures) (20 * i) (writeTexture (bornAt seq t))) (sym (record-at l i h))
           ∙ textures-set l queued (textures-fit l fits) i (withBirth seq (stateOf l i)) h (changed-here l fits id i at q (withBirth seq))
 
       version-noted : (b : Bool) → here ≡ b → retiringRecord version ≡ retiredRecord b (textureAt l i) id view seq
@@ -169,7 +169,7 @@ module _ (l : Lent) (e : isPool l ≡ true) (id view seq : ℕ) where
 
       pub retire-accepted : (v : RetiringRecord) (n : ℕ) (c : Counts) (textures retiring : List ℕ)
           → v ≡ retiredRecord here (textureAt l i) id view seq
-          → textures ≡ cond here (sets (l .textures) (19 * i) (writeTexture (bornAt seq (textureAt l i)))) (l .textures)
+          → textures ≡ cond here (sets (l .textures) (20 * i) (writeTexture (bornAt seq (textureAt l i)))) (l .textures)
           → n ≡ ringCount (l .pool)
           → retiring ≡ sets (l .retiring) (7 * placeOf (places l) (l .pool .head) n) (writeRetiring v)
           → c ≡ oneQueued (l .pool)

@@ -44,7 +44,7 @@ module _ (s : List ℕ) (n i id : ℕ) (r : Bool) (e : r ≡ hasId s n i id) whe
   pub says-here : not r ≡ false → hasId s n i id ≡ true
   says-here t = sym e ∙ not-false r t
 
-  pub record-fits : not r ≡ false → 19 * n ≤ length s → 19 * i + 19 ≤ length s
+  pub record-fits : not r ≡ false → 20 * n ≤ length s → 20 * i + 20 ≤ length s
   record-fits t h = omega (arith, h, found′ s n i id (says-here t) .0)
 
 -- ---- i is where the search ended

@@ -30,7 +30,7 @@ retireRefusal p retiring places seq =
 
 -- record i, where a search among n ended, is there and has the id
 abbrev pub hasId : List ℕ → ℕ → ℕ → ℕ → Bool
-hasId textures n i id = ltb i n && eqb (idOf (recordAt 19 readTexture textures i)) id
+hasId textures n i id = ltb i n && eqb (idOf (recordAt 20 readTexture textures i)) id
 
 abbrev pub writesCounted : Recorded → ℕ
 writesCounted NoHistory = 0

@@ -73,9 +73,9 @@ fn retired_version(
     view: u64,
     seq: u64,
 ) -> RetiringRecord
-    requires { ⌜ (19 * tracked ≤ length (now textures))
-        × (hasId (now textures) tracked i id ≡ true → isShape (recordAt 19 readTexture (now textures) i .shape) ≡ true) ⌝ }
-    ensures { λ r. ⌜ r ≡ retiredRecord (hasId (now (textures .entry)) tracked i id) (recordAt 19 readTexture (now (textures .entry)) i) id view seq ⌝ }
+    requires { ⌜ (20 * tracked ≤ length (now textures))
+        × (hasId (now textures) tracked i id ≡ true → isShape (recordAt 20 readTexture (now textures) i .shape) ≡ true) ⌝ }
+    ensures { λ r. ⌜ r ≡ retiredRecord (hasId (now (textures .entry)) tracked i id) (recordAt 20 readTexture (now (textures .entry)) i) id view seq ⌝ }
 {
     if !has_id(textures, tracked, i, id) {
         return RetiringRecord {
@@ -122,11 +122,11 @@ fn born_at(t: TextureRecord, seq: u64) -> TextureRecord
 
 // A tracked texture's live version became live in this submission.
 fn note_birth(textures: &mut [u64], tracked: usize, i: usize, id: u64, seq: u64)
-    requires { ⌜ (19 * tracked ≤ length (now textures))
-        × (hasId (now textures) tracked i id ≡ true → RecordedFits (recordAt 19 readTexture (now textures) i .history)) ⌝ }
+    requires { ⌜ (20 * tracked ≤ length (now textures))
+        × (hasId (now textures) tracked i id ≡ true → RecordedFits (recordAt 20 readTexture (now textures) i .history)) ⌝ }
     ensures { λ _. ⌜ now (textures .exit)
         ≡ cond (hasId (now (textures .entry)) tracked i id)
-        (sets (now (textures .entry)) (19 * i) (writeTexture (bornAt seq (recordAt 19 readTexture (now (textures .entry)) i)))) (now (textures .entry)) ⌝ }
+        (sets (now (textures .entry)) (20 * i) (writeTexture (bornAt seq (recordAt 20 readTexture (now (textures .entry)) i)))) (now (textures .entry)) ⌝ }
 {
     if !has_id(textures, tracked, i, id) {
         return;

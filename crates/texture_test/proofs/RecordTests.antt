@@ -29,26 +29,26 @@ use Rattle.texture_test.specs.Textures.{writesFit, isRecord, recordSpare
 
 -- record i of the textures' slice
 abbrev pub textureAt : List ℕ → ℕ → TextureRecord
-textureAt s i = recordAt 19 readTexture s i
+textureAt s i = recordAt 20 readTexture s i
 
 -- read out of the part of the slice that holds it
-pub texture-read : (s : List ℕ) (i : ℕ) (p : List ℕ) → p ≡ take 19 (drop (19 * i) s) → readTexture p ≡ textureAt s i
+pub texture-read : (s : List ℕ) (i : ℕ) (p : List ℕ) → p ≡ take 20 (drop (20 * i) s) → readTexture p ≡ textureAt s i
 texture-read s i p e = ap readTexture e ∙ record-part texture-codec s i
 
 -- ---- ids
 
-id-here : (s : List ℕ) (i : ℕ) → getD s (19 * i) 0 ≡ idOf (textureAt s i)
+id-here : (s : List ℕ) (i : ℕ) → getD s (20 * i) 0 ≡ idOf (textureAt s i)
 unfolding recordAt readTexture
-id-here s i = sym (getD-drop (19 * i) s 0 0 ∙ ap (λ (k : ℕ). getD s k 0) (add-zero (19 * i)))
+id-here s i = sym (getD-drop (20 * i) s 0 0 ∙ ap (λ (k : ℕ). getD s k 0) (add-zero (20 * i)))
 
-id-next : (s : List ℕ) (i : ℕ) → getD s (19 * i + 19) 0 ≡ idOf (textureAt s (i + 1))
-id-next s i = ap (λ (k : ℕ). getD s k 0) (let e : 19 * i + 19 ≡ 19 * (i + 1) = omega arith in e) ∙ id-here s (i + 1)
+id-next : (s : List ℕ) (i : ℕ) → getD s (20 * i + 20) 0 ≡ idOf (textureAt s (i + 1))
+id-next s i = ap (λ (k : ℕ). getD s k 0) (let e : 20 * i + 20 ≡ 20 * (i + 1) = omega arith in e) ∙ id-here s (i + 1)
 
 module _ (s : List ℕ) (n i : ℕ) (h : i + 1 < n) where
-  pub ids-more : getD s (19 * i) 0 < getD s (19 * i + 19) 0 → ascending idOf (left (textureAt s) n i) ≡ ascending idOf (left (textureAt s) n (i + 1))
+  pub ids-more : getD s (20 * i) 0 < getD s (20 * i + 20) 0 → ascending idOf (left (textureAt s) n i) ≡ ascending idOf (left (textureAt s) n (i + 1))
   ids-more q = ascending-more (textureAt s) n idOf i h (lt-ltb (idOf (textureAt s i)) (idOf (textureAt s (i + 1))) (omega (arith, id-here s i, id-next s i)))
 
-  pub ids-stop : getD s (19 * i + 19) 0 ≤ getD s (19 * i) 0 → ascending idOf (left (textureAt s) n i) ≡ false
+  pub ids-stop : getD s (20 * i + 20) 0 ≤ getD s (20 * i) 0 → ascending idOf (left (textureAt s) n i) ≡ false
   ids-stop q = ascending-stop (textureAt s) n idOf i h (le-ltb (idOf (textureAt s i)) (idOf (textureAt s (i + 1))) (omega (arith, id-here s i, id-next s i)))
 
 -- ---- single records
@@ -78,19 +78,19 @@ record-shape t e = passed _ e 0
 module _ (s : List ℕ) (n : ℕ) (ok : all isRecord (textures n s) ≡ true) where
   pub shape-at : (i : ℕ) → i < n → isShape (textureAt s i .shape) ≡ true
   shape-at i h =
-      let e = getD-table 19 readTexture n i s (readTexture []) h in
-      let f = all-get isRecord (textures n s) i (readTexture []) ok (omega (arith, length-table 19 readTexture n s)) in
+      let e = getD-table 20 readTexture n i s (readTexture []) h in
+      let f = all-get isRecord (textures n s) i (readTexture []) ok (omega (arith, length-table 20 readTexture n s)) in
       record-shape (textureAt s i) (rw e at f)
 
 pub spares-at : (s : List ℕ) (n i : ℕ) → i < n → textureAt s i .spares ≤ total recordSpares (textures n s)
 spares-at s n i h =
-    let e = getD-table 19 readTexture n i s (readTexture []) h in
-    let f = total-get recordSpares (textures n s) i (readTexture []) (omega (arith, length-table 19 readTexture n s)) in
+    let e = getD-table 20 readTexture n i s (readTexture []) h in
+    let f = total-get recordSpares (textures n s) i (readTexture []) (omega (arith, length-table 20 readTexture n s)) in
     rw e at f
 
 -- ---- the record at i, read out of its part of the slice
 
-module _ (s : List ℕ) (i : ℕ) (p : List ℕ) (e : p ≡ take 19 (drop (19 * i) s)) where
+module _ (s : List ℕ) (i : ℕ) (p : List ℕ) (e : p ≡ take 20 (drop (20 * i) s)) where
   pub read-shape : (n : ℕ) → all isRecord (textures n s) ≡ true → i < n → isShape (readTexture p .shape) ≡ true
   read-shape n ok h = ap (λ (t : TextureRecord). isShape (t .shape)) (texture-read s i p e) ∙ shape-at s n ok i h
 

@@ -61,7 +61,7 @@ fn grids_fit(s: VersionShape, writes: u64, newest: &[u64], stamps: &[u64], page:
 
 // The history of a record whose first page is `page`.
 fn history_fits(p: &[u64], newest: &[u64], stamps: &[u64], page: usize) -> bool
-    requires { ⌜ (19 ≤ length (now p)) × (isShape (readTexture (now p) .shape) ≡ true)
+    requires { ⌜ (20 ≤ length (now p)) × (isShape (readTexture (now p) .shape) ≡ true)
         × (page + recordPages (readTexture (now p)) ≤ length (now newest)) × (length (now stamps) ≡ 1024 * length (now newest)) ⌝ }
     ensures { λ r. ⌜ r ≡ historyFits (now (newest .entry)) (now (stamps .entry)) (readTexture (now (p .entry)) .shape) page (readTexture (now (p .entry)) .history) ⌝ }
 {
@@ -76,14 +76,14 @@ fn history_fits(p: &[u64], newest: &[u64], stamps: &[u64], page: usize) -> bool
 
 // The histories of the first n records, each behind the pages of those before it.
 pub fn histories_fit(textures: &[u64], n: usize, newest: &[u64], stamps: &[u64]) -> bool
-    requires { ⌜ (19 * n ≤ length (now textures)) × (all isRecord (textures′ n (now textures)) ≡ true)
+    requires { ⌜ (20 * n ≤ length (now textures)) × (all isRecord (textures′ n (now textures)) ≡ true)
         × (total recordPages (textures′ n (now textures)) ≤ length (now newest)) × (length (now stamps) ≡ 1024 * length (now newest)) ⌝ }
     ensures { λ r. ⌜ r ≡ historiesFit (now (newest .entry)) (now (stamps .entry)) 0 (textures′ n (now (textures .entry))) ⌝ }
 {
     let mut page = 0;
     let mut i = 0;
     while i < n {
-        let p = record_at(textures, 19, i);
+        let p = record_at(textures, 20, i);
         if !history_fits(p, newest, stamps, page) {
             return false;
         }

@@ -21,12 +21,12 @@ use tables::record_at;
 
 // The ids of the first n records ascend.
 pub fn ids_ascend(textures: &[u64], n: usize) -> bool
-    requires { ⌜ 19 * n ≤ length (now textures) ⌝ }
+    requires { ⌜ 20 * n ≤ length (now textures) ⌝ }
     ensures { λ r. ⌜ r ≡ ascending idOf (textures′ n (now (textures .entry))) ⌝ }
 {
     let mut i = 0;
     while i + 1 < n {
-        if textures[19 * i + 19] <= textures[19 * i] {
+        if textures[20 * i + 20] <= textures[20 * i] {
             return false;
         }
         i += 1;
@@ -46,7 +46,7 @@ fn writes_fit(h: Recorded) -> bool
 
 // The record's shape passes refusal 2, and its numbers are at most 2^48.
 fn is_record(p: &[u64]) -> bool
-    requires { ⌜ 19 ≤ length (now p) ⌝ }
+    requires { ⌜ 20 ≤ length (now p) ⌝ }
     ensures { λ r. ⌜ r ≡ isRecord (readTexture (now (p .entry))) ⌝ }
 {
     let t = read_texture(p);
@@ -62,12 +62,12 @@ fn is_record(p: &[u64]) -> bool
 
 // Every one of the first n records does.
 pub fn records_fit(textures: &[u64], n: usize) -> bool
-    requires { ⌜ 19 * n ≤ length (now textures) ⌝ }
+    requires { ⌜ 20 * n ≤ length (now textures) ⌝ }
     ensures { λ r. ⌜ r ≡ all isRecord (textures′ n (now (textures .entry))) ⌝ }
 {
     let mut i = 0;
     while i < n {
-        if !is_record(record_at(textures, 19, i)) {
+        if !is_record(record_at(textures, 20, i)) {
             return false;
         }
         i += 1;
@@ -85,7 +85,7 @@ pub fn pages_of(s: VersionShape) -> u64
 
 // How many pages a record claims.
 pub fn record_pages(p: &[u64]) -> usize
-    requires { ⌜ (19 ≤ length (now p)) × (isShape (readTexture (now p) .shape) ≡ true) ⌝ }
+    requires { ⌜ (20 ≤ length (now p)) × (isShape (readTexture (now p) .shape) ≡ true) ⌝ }
     ensures { λ r. ⌜ (r ≤ 90) × (r ≡ recordPages (readTexture (now (p .entry)))) ⌝ }
 {
     let t = read_texture(p);
@@ -99,7 +99,7 @@ pub fn record_pages(p: &[u64]) -> usize
 
 // The bytes of a record's spares. A texture without spares asks for no sum over its levels.
 pub fn record_bytes(p: &[u64]) -> u64
-    requires { ⌜ (19 ≤ length (now p)) × (isShape (readTexture (now p) .shape) ≡ true) × (readTexture (now p) .spares ≤ 4096) ⌝ }
+    requires { ⌜ (20 ≤ length (now p)) × (isShape (readTexture (now p) .shape) ≡ true) × (readTexture (now p) .spares ≤ 4096) ⌝ }
     ensures { λ r. ⌜ r ≡ recordBytes (readTexture (now (p .entry))) ⌝ }
 {
     if p[18] == 0 {

@@ -12,14 +12,14 @@ use tables::record_at;
 
 // The first n records claim just `kept` spares and `pages` pages. What is left of both goes down, so that no sum can pass a word.
 pub fn runs_fit(textures: &[u64], n: usize, kept: usize, pages: usize) -> bool
-    requires { ⌜ (19 * n ≤ length (now textures)) × (all isRecord (textures′ n (now textures)) ≡ true) ⌝ }
+    requires { ⌜ (20 * n ≤ length (now textures)) × (all isRecord (textures′ n (now textures)) ≡ true) ⌝ }
     ensures { λ r. ⌜ r ≡ claim (textures′ n (now (textures .entry))) kept pages ⌝ }
 {
     let mut spares = kept as u64;
     let mut free = pages;
     let mut i = 0;
     while i < n {
-        let p = record_at(textures, 19, i);
+        let p = record_at(textures, 20, i);
         let k = p[18];
         if k > spares {
             return false;
@@ -37,14 +37,14 @@ pub fn runs_fit(textures: &[u64], n: usize, kept: usize, pages: usize) -> bool
 
 // The bytes of the first n textures' spares.
 pub fn parked_bytes(textures: &[u64], n: usize) -> u64
-    requires { ⌜ (19 * n ≤ length (now textures)) × (all isRecord (textures′ n (now textures)) ≡ true)
+    requires { ⌜ (20 * n ≤ length (now textures)) × (all isRecord (textures′ n (now textures)) ≡ true)
         × (total recordSpares (textures′ n (now textures)) ≤ 4096) ⌝ }
     ensures { λ r. ⌜ r ≡ total recordBytes (textures′ n (now (textures .entry))) ⌝ }
 {
     let mut sum = 0;
     let mut i = 0;
     while i < n {
-        sum += record_bytes(record_at(textures, 19, i));
+        sum += record_bytes(record_at(textures, 20, i));
         i += 1;
     }
     sum

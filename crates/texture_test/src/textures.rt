@@ -18,7 +18,7 @@ pub fn textures_fit(
     newest: &[u64],
     stamps: &[u64],
 ) -> bool
-    requires { ⌜ (19 * pool .tracked ≤ length (now textures)) × (3 * pool .kept ≤ length (now spares)) × (pool .kept ≤ 4096)
+    requires { ⌜ (20 * pool .tracked ≤ length (now textures)) × (3 * pool .kept ≤ length (now spares)) × (pool .kept ≤ 4096)
         × (pool .pages ≤ length (now newest)) × (length (now stamps) ≡ 1024 * length (now newest)) ⌝ }
     ensures { λ r. ⌜ r ≡ texturesFit pool (now (textures .entry)) (now (spares .entry)) (now (newest .entry)) (now (stamps .entry)) ⌝ }
 {

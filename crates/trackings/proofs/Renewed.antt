@@ -74,8 +74,8 @@ pub record Renewable (l : Lent) (hold : Holding) (shape : VersionShape) (records
 
 -- what it asks before it reads them
 pub record Readable (l : Lent) (i : ℕ) : Type 0 where
-  pub spares : total sparesOf (table 19 readTexture i (l .textures)) ≤ 4096
-  pub pages : total recordPages (table 19 readTexture i (l .textures)) ≤ 4096
+  pub spares : total sparesOf (table 20 readTexture i (l .textures)) ≤ 4096
+  pub pages : total recordPages (table 20 readTexture i (l .textures)) ≤ 4096
   pub own : recordPages (recordOf l i) ≤ 4096
 
 module _ (l : Lent) (i id : ℕ) (shape : VersionShape) (records : Bool) (seq : ℕ) (ok : Accepted l i id shape records seq) (h : TrackedAt l i id)
@@ -299,7 +299,7 @@ module _ (l : Lent) (i id : ℕ) (shape : VersionShape) (records : Bool) (seq : 
         → places ≡ length (l .retiring) / 7 → fresh ≡ n → g ≡ givenUp (l .pool) (hold .spares) (hold .bytes)
         → doomed ≡ laid 2 writeDoomed places (l .pool .first) (l .pool .doomed) (givenRecords (l .spares) (hold .bytes) (hold .first) (hold .spares)) (l .doomed)
         → spares ≡ moved (l .spares) (3 * hold .first) (3 * hold .first + 3 * hold .spares) (3 * (l .pool .kept - (hold .first + hold .spares)))
-        → x ≡ newRecord id shape records (l .pool .trackings + 1) seq → textures ≡ sets (l .textures) (19 * i) (writeTexture x)
+        → x ≡ newRecord id shape records (l .pool .trackings + 1) seq → textures ≡ sets (l .textures) (20 * i) (writeTexture x)
         → newest ≡ sets (moved (l .newest) (hold .page + fresh) (hold .page + hold .pages) (l .pool .pages - (hold .page + hold .pages))) (hold .page) (replicate fresh 0)
         → stamps ≡ sets (moved (l .stamps) (1024 * hold .page + 1024 * fresh) (1024 * hold .page + 1024 * hold .pages) (1024 * (l .pool .pages - (hold .page + hold .pages)))) (1024 * hold .page) (replicate (1024 * fresh) 0)
         → (answer none, lent (begunCounts g (l .pool .pages - hold .pages + fresh) (l .pool .trackings + 1)) (l .book) textures (l .retiring) doomed spares newest stamps)
@@ -309,7 +309,7 @@ module _ (l : Lent) (i id : ℕ) (shape : VersionShape) (records : Bool) (seq : 
         ap (λ (m : Lent). (answer none, m))
         (put-together renewed l (begunCounts g (l .pool .pages - hold .pages + fresh) (l .pool .trackings + 1)) (l .book) textures (l .retiring) doomed spares newest stamps
         (counts-left fresh e2 g e3) (book-stays l f renewed refl)
-        (e7 ∙ ap (λ (y : TextureRecord). sets (l .textures) (19 * i) (writeTexture y))
+        (e7 ∙ ap (λ (y : TextureRecord). sets (l .textures) (20 * i) (writeTexture y))
         (e6 ∙ ap (λ (k : ℕ). newRecord id shape records k seq) epoch-is ∙ sym (begun-record id shape records epoch seq))
         ∙ textures-set l renewed (textures-fit l f) i new (h .0) changed-there)
         (retiring-stay l f renewed refl refl) (doomed-left places e1 doomed e4) (spares-left spares e5)

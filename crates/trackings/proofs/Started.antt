@@ -49,11 +49,11 @@ use Rattle.trackings.proofs.Trackings.{begun, begun-record, begun-pages
 -- what the code asks of a pool that has room for a texture more
 pub record Startable (l : Lent) (i : ℕ) (shape : VersionShape) (records : Bool) : Type 0 where
   pub place : i ≤ l .pool .tracked
-  pub textures : 19 * l .pool .tracked + 19 ≤ length (l .textures)
+  pub textures : 20 * l .pool .tracked + 20 ≤ length (l .textures)
   pub tracked : l .pool .tracked < 4096
   pub counter : l .pool .trackings < limit
   pub few : pagesOf shape ≤ 4096
-  pub page : total recordPages (table 19 readTexture i (l .textures)) ≤ l .pool .pages
+  pub page : total recordPages (table 20 readTexture i (l .textures)) ≤ l .pool .pages
   pub used : l .pool .pages ≤ length (l .newest)
   pub room : l .pool .pages + freshPages shape records ≤ length (l .newest) + 0
   pub newest : length (l .newest) ≤ 4096
@@ -99,7 +99,7 @@ module _ (l : Lent) (i id : ℕ) (shape : VersionShape) (records : Bool) (seq : 
   place-left : l .pool .tracked < modelOf l .places .textures
   place-left = omega (arith, new-room (modelOf l) id shape records seq (ok .1 .1) none-there, tracked-model l)
 
-  record-room : 19 * l .pool .tracked + 19 ≤ length (l .textures)
+  record-room : 20 * l .pool .tracked + 20 ≤ length (l .textures)
   record-room = omega (arith, place-left, f .textures)
 
   counter : l .pool .trackings < limit
@@ -122,9 +122,9 @@ module _ (l : Lent) (i id : ℕ) (shape : VersionShape) (records : Bool) (seq : 
         page-places l,
       )
 
-  pages-there : total recordPages (table 19 readTexture i (l .textures)) ≡ firstPageOf l i
+  pages-there : total recordPages (table 20 readTexture i (l .textures)) ≡ firstPageOf l i
   unfolding firstPageOf
-  pages-there = ap (total recordPages) (sym (take-table 19 readTexture i (l .pool .tracked) (l .textures) place-bound))
+  pages-there = ap (total recordPages) (sym (take-table 20 readTexture i (l .pool .tracked) (l .textures) place-bound))
 
   page-in : firstPageOf l i ≤ l .pool .pages
   page-in = page-bound l (f .claimed) i
@@ -165,8 +165,8 @@ module _ (l : Lent) (i id : ℕ) (shape : VersionShape) (records : Bool) (seq : 
       tracked-then kept-then pages-then (sym (doomed-model l)) (omega arith)
 
   pub left-started : (x : TextureRecord) (textures newest stamps : List ℕ) (page fresh : ℕ) → x ≡ newRecord id shape records (l .pool .trackings + 1) seq
-      → page ≡ total recordPages (table 19 readTexture i (l .textures)) → fresh ≡ freshPages shape records
-      → textures ≡ sets (moved (l .textures) (19 * i + 19) (19 * i) (19 * (l .pool .tracked - i))) (19 * i) (writeTexture x)
+      → page ≡ total recordPages (table 20 readTexture i (l .textures)) → fresh ≡ freshPages shape records
+      → textures ≡ sets (moved (l .textures) (20 * i + 20) (20 * i) (20 * (l .pool .tracked - i))) (20 * i) (writeTexture x)
       → newest ≡ sets (moved (l .newest) (page + fresh) (page + 0) (l .pool .pages - (page + 0))) page (replicate fresh 0)
       → stamps ≡ sets (moved (l .stamps) (1024 * page + 1024 * fresh) (1024 * page + 1024 * 0) (1024 * (l .pool .pages - (page + 0)))) (1024 * page) (replicate (1024 * fresh) 0)
       → (
@@ -185,7 +185,7 @@ module _ (l : Lent) (i id : ℕ) (shape : VersionShape) (records : Bool) (seq : 
       (l .book) textures (l .retiring) (l .doomed) (l .spares) newest stamps
       (ap₂ (λ (a b : ℕ). counted (l .pool) (l .pool .tracked + 1) (l .pool .kept) (l .pool .pages + a) (l .pool .doomed) (l .pool .since) b (l .pool .parked) (l .pool .dooming)) e3 epoch-is ∙ counts-started)
       (book-stays l f started refl)
-      (e4 ∙ ap (λ (y : TextureRecord). sets (moved (l .textures) (19 * i + 19) (19 * i) (19 * (l .pool .tracked - i))) (19 * i) (writeTexture y))
+      (e4 ∙ ap (λ (y : TextureRecord). sets (moved (l .textures) (20 * i + 20) (20 * i) (20 * (l .pool .tracked - i))) (20 * i) (writeTexture y))
       (e1 ∙ ap (λ (k : ℕ). newRecord id shape records k seq) epoch-is ∙ sym (begun-record id shape records epoch seq))
       ∙ textures-inserted l started (textures-fit l f) i new record-room place-bound put-there)
       (retiring-stay l f started refl refl) (doomed-stay l f started refl)

@@ -29,7 +29,7 @@ use Rattle.layout.proofs.Tracked.{record-read, spares-to, shape-at, count-at, s
 use Rattle.trackings.specs.Cases.{Accepted, recordOf, TrackedAt}
 
 module _ (l : Lent) (f : Fits l) (i : ℕ) (h : i < l .pool .tracked) where
-  pub record-fits : 19 * i + 19 ≤ length (l .textures)
+  pub record-fits : 20 * i + 20 ≤ length (l .textures)
   record-fits = omega (arith, f .textures, f .tracked)
 
   pub spares-within : firstSpare l i + recordOf l i .spares ≤ l .pool .kept
@@ -71,10 +71,10 @@ not-there l f i id at untracked (h, e) =
 
 -- what the calls' code asks of a tracked texture's record
 pub record Here (l : Lent) (i : ℕ) : Type 0 where
-  pub textures : 19 * i + 19 ≤ length (l .textures)
+  pub textures : 20 * i + 20 ≤ length (l .textures)
   pub history : RecordedFits (recordOf l i .history)
   pub shape : isShape (recordOf l i .shape) ≡ true
-  pub first : total sparesOf (table 19 readTexture i (l .textures)) ≡ firstSpare l i
+  pub first : total sparesOf (table 20 readTexture i (l .textures)) ≡ firstSpare l i
   pub within : firstSpare l i + recordOf l i .spares ≤ l .pool .kept
   pub kept : l .pool .kept ≤ 4096
   pub spares : 3 * l .pool .kept ≤ length (l .spares)

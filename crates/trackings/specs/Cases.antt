@@ -18,7 +18,7 @@ Accepted l i id shape records seq = (isPool l ≡ true) × ((i ≡ below id (tra
 
 -- record i
 abbrev pub recordOf : Lent → ℕ → TextureRecord
-recordOf l i = recordAt 19 readTexture (l .textures) i
+recordOf l i = recordAt 20 readTexture (l .textures) i
 
 -- it is the texture's
 abbrev pub TrackedAt : Lent → ℕ → ℕ → Type 0

@@ -12,11 +12,11 @@ use Rattle.trackings.specs.declared.holding.Holding.{Holding}
 
 unfoldable pub holdingAt : List ℕ → ℕ → Holding
 holdingAt textures i = record {
-  first = total (λ (t : TextureRecord). t .spares) (table 19 readTexture i textures);
-  spares = recordAt 19 readTexture textures i .spares;
-  bytes = bytesOf (recordAt 19 readTexture textures i .shape);
-  page = total recordPages (table 19 readTexture i textures);
-  pages = recordPages (recordAt 19 readTexture textures i);
+  first = total (λ (t : TextureRecord). t .spares) (table 20 readTexture i textures);
+  spares = recordAt 20 readTexture textures i .spares;
+  bytes = bytesOf (recordAt 20 readTexture textures i .shape);
+  page = total recordPages (table 20 readTexture i textures);
+  pages = recordPages (recordAt 20 readTexture textures i);
 }
 
 -- k spares of those bytes are queued for destruction

@@ -25,11 +25,11 @@ pub struct Holding {
 }
 
 pub fn holding_at(textures: &[u64], i: usize) -> Holding
-    requires { ⌜ (19 * i + 19 ≤ length (now textures))
-        × (isShape (recordAt 19 readTexture (now textures) i .shape) ≡ true)
-        × (total (λ t. t .spares) (table 19 readTexture i (now textures)) ≤ 4096)
-        × (total recordPages (table 19 readTexture i (now textures)) ≤ 4096)
-        × (recordPages (recordAt 19 readTexture (now textures) i) ≤ 4096) ⌝ }
+    requires { ⌜ (20 * i + 20 ≤ length (now textures))
+        × (isShape (recordAt 20 readTexture (now textures) i .shape) ≡ true)
+        × (total (λ t. t .spares) (table 20 readTexture i (now textures)) ≤ 4096)
+        × (total recordPages (table 20 readTexture i (now textures)) ≤ 4096)
+        × (recordPages (recordAt 20 readTexture (now textures) i) ≤ 4096) ⌝ }
     ensures { λ r. ⌜ r ≡ holdingAt (now (textures .entry)) i ⌝ }
 {
     let t = texture_at(textures, i);

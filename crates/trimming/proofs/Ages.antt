@@ -80,43 +80,43 @@ parked-at spares j = getD-drop (3 * j) spares 2 0
 
 module _ (textures : List ℕ) (i : ℕ) where
   abbrev texture : TextureRecord
-  texture = recordAt 19 readTexture textures i
+  texture = recordAt 20 readTexture textures i
 
-  pub rename-at : texture .rename ≡ getD textures (19 * i + 16) 0
+  pub rename-at : texture .rename ≡ getD textures (20 * i + 16) 0
   unfolding recordAt readTexture
-  rename-at = getD-drop (19 * i) textures 16 0
+  rename-at = getD-drop (20 * i) textures 16 0
 
-  pub due-at : texture .due ≡ getD textures (19 * i + 17) 0
+  pub due-at : texture .due ≡ getD textures (20 * i + 17) 0
   unfolding recordAt readTexture
-  due-at = getD-drop (19 * i) textures 17 0
+  due-at = getD-drop (20 * i) textures 17 0
 
   module _ (now bound : ℕ) (e : bound ≡ now - 120) where
     age : (seq n : ℕ) → seq ≡ n → ltb n bound ≡ aged now seq
     age seq n q = ap₂ ltb (sym q) e ∙ by-difference seq 120 now
 
     pub idle-test : (left : ℕ)
-        → ltb (getD textures (19 * i + 17) 0) bound && (ltb (getD textures (19 * i + 16) 0) bound && eqb left 0) ≡ isIdle now texture left
+        → ltb (getD textures (20 * i + 17) 0) bound && (ltb (getD textures (20 * i + 16) 0) bound && eqb left 0) ≡ isIdle now texture left
     unfolding isIdle
     idle-test left = ap₂ (λ (a b : Bool). a && (b && eqb left 0)) (age (texture .due) _ due-at) (age (texture .rename) _ rename-at)
 
     -- the due number after a look
-    pub due-young : bound ≤ getD textures (19 * i + 17) 0 → getD textures (19 * i + 17) 0 ≡ dueAfter now texture
+    pub due-young : bound ≤ getD textures (20 * i + 17) 0 → getD textures (20 * i + 17) 0 ≡ dueAfter now texture
     unfolding dueAfter
     due-young h =
         sym (ap (λ (b : Bool). cond b (cond (aged now (texture .rename)) now (texture .rename)) (texture .due))
-        (sym (age (texture .due) _ due-at) ∙ le-ltb (getD textures (19 * i + 17) 0) bound h) ∙ due-at)
+        (sym (age (texture .due) _ due-at) ∙ le-ltb (getD textures (20 * i + 17) 0) bound h) ∙ due-at)
 
-    pub due-renamed : getD textures (19 * i + 17) 0 < bound → bound ≤ getD textures (19 * i + 16) 0
-        → getD textures (19 * i + 16) 0 ≡ dueAfter now texture
+    pub due-renamed : getD textures (20 * i + 17) 0 < bound → bound ≤ getD textures (20 * i + 16) 0
+        → getD textures (20 * i + 16) 0 ≡ dueAfter now texture
     unfolding dueAfter
     due-renamed d h =
         sym (ap₂ (λ (a b : Bool). cond a (cond b now (texture .rename)) (texture .due))
-        (sym (age (texture .due) _ due-at) ∙ lt-ltb (getD textures (19 * i + 17) 0) bound d)
-        (sym (age (texture .rename) _ rename-at) ∙ le-ltb (getD textures (19 * i + 16) 0) bound h) ∙ rename-at)
+        (sym (age (texture .due) _ due-at) ∙ lt-ltb (getD textures (20 * i + 17) 0) bound d)
+        (sym (age (texture .rename) _ rename-at) ∙ le-ltb (getD textures (20 * i + 16) 0) bound h) ∙ rename-at)
 
-    pub due-now : getD textures (19 * i + 17) 0 < bound → getD textures (19 * i + 16) 0 < bound → now ≡ dueAfter now texture
+    pub due-now : getD textures (20 * i + 17) 0 < bound → getD textures (20 * i + 16) 0 < bound → now ≡ dueAfter now texture
     unfolding dueAfter
     due-now d h =
         sym (ap₂ (λ (a b : Bool). cond a (cond b now (texture .rename)) (texture .due))
-        (sym (age (texture .due) _ due-at) ∙ lt-ltb (getD textures (19 * i + 17) 0) bound d)
-        (sym (age (texture .rename) _ rename-at) ∙ lt-ltb (getD textures (19 * i + 16) 0) bound h))
+        (sym (age (texture .due) _ due-at) ∙ lt-ltb (getD textures (20 * i + 17) 0) bound d)
+        (sym (age (texture .rename) _ rename-at) ∙ lt-ltb (getD textures (20 * i + 16) 0) bound h))

@@ -21,10 +21,10 @@ use Rattle.trimming.proofs.Ages.{due-at}
 
 module _ (T : List ℕ) (to i : ℕ) (look : Look) where
   abbrev t₀ : TextureRecord
-  t₀ = recordAt 19 readTexture T i
+  t₀ = recordAt 20 readTexture T i
 
   abbrev written : List ℕ
-  written = sets T (19 * to) (writeTexture (lookedRecord look t₀))
+  written = sets T (20 * to) (writeTexture (lookedRecord look t₀))
 
   pub put-none : look .staying ≡ 0 → T ≡ lookedPut T to i look
   unfolding lookedPut
@@ -34,7 +34,7 @@ module _ (T : List ℕ) (to i : ℕ) (look : Look) where
   unfolding lookedPut
   put-some h = sym (ap (λ (b : Bool). cond b T written) (ne-eqb (look .staying) 0 h))
 
-  as-it-stands : getD T (19 * i + 17) 0 ≡ look .due → getD T (19 * i + 18) 0 ≡ look .own - look .aged → lookedRecord look t₀ ≡ t₀
+  as-it-stands : getD T (20 * i + 17) 0 ≡ look .due → getD T (20 * i + 18) 0 ≡ look .own - look .aged → lookedRecord look t₀ ≡ t₀
   unfolding lookedRecord
   as-it-stands d n = λ j. record {
     id = t₀ .id;
@@ -47,12 +47,12 @@ module _ (T : List ℕ) (to i : ℕ) (look : Look) where
     spares = (sym n ∙ spares-number T i) j;
   }
 
-  pub put-same : (look .staying ≡ 0 → ⊥) → 19 * i + 19 ≤ length T
-      → eqb to i && eqb (getD T (19 * i + 17) 0) (look .due) && eqb (getD T (19 * i + 18) 0) (look .own - look .aged) ≡ true → T ≡ lookedPut T to i look
+  pub put-same : (look .staying ≡ 0 → ⊥) → 20 * i + 20 ≤ length T
+      → eqb to i && eqb (getD T (20 * i + 17) 0) (look .due) && eqb (getD T (20 * i + 18) 0) (look .own - look .aged) ≡ true → T ≡ lookedPut T to i look
   put-same h fits e =
-      let two = and-both (eqb to i && eqb (getD T (19 * i + 17) 0) (look .due)) _ e in
-      let one = and-both (eqb to i) (eqb (getD T (19 * i + 17) 0) (look .due)) (two .0) in
-      sym (ap₂ (λ (k : ℕ) (r : TextureRecord). sets T (19 * k) (writeTexture r)) (eqb-true to i (one .0))
-      (as-it-stands (eqb-true _ _ (one .1)) (eqb-true (getD T (19 * i + 18) 0) (look .own - look .aged) (two .1)))
+      let two = and-both (eqb to i && eqb (getD T (20 * i + 17) 0) (look .due)) _ e in
+      let one = and-both (eqb to i) (eqb (getD T (20 * i + 17) 0) (look .due)) (two .0) in
+      sym (ap₂ (λ (k : ℕ) (r : TextureRecord). sets T (20 * k) (writeTexture r)) (eqb-true to i (one .0))
+      (as-it-stands (eqb-true _ _ (one .1)) (eqb-true (getD T (20 * i + 18) 0) (look .own - look .aged) (two .1)))
       ∙ rewritten texture-codec (i + 1) T (omega arith) i (omega arith))
       ∙ put-some h

@@ -120,10 +120,10 @@ module _ (l : Lent) (now i : ℕ) (h : i < l .pool .tracked) where
       abbrev more : keptTo l now (i + 1) ≡ keptTo l now i ++ (looked now (stateOf l i) ∷ [])
       more = stays-next e
 
-      pub textures-stay : (to : ℕ) → to ≡ length (keptTo l now i) → 19 * to + 19 ≤ length (l .textures)
-          → sets (texturesAfter p l) (19 * to) (writeTexture (lookedRecord (lookHere l now i h) t₀)) ≡ texturesAfter q l
+      pub textures-stay : (to : ℕ) → to ≡ length (keptTo l now i) → 20 * to + 20 ≤ length (l .textures)
+          → sets (texturesAfter p l) (20 * to) (writeTexture (lookedRecord (lookHere l now i h) t₀)) ≡ texturesAfter q l
       textures-stay to at room =
-          ap₂ (λ (n : ℕ) (r : TextureRecord). sets (texturesAfter p l) (19 * n) (writeTexture r)) at (sym (record-here l now i h))
+          ap₂ (λ (n : ℕ) (r : TextureRecord). sets (texturesAfter p l) (20 * n) (writeTexture r)) at (sym (record-here l now i h))
           ∙ texture-packed l p q (looked now (stateOf l i)) more (omega arith)
 
       pub spares-stay : (to : ℕ) → to ≡ length (everySpare (keptTo l now i)) → to ≤ sparesTo (l .textures) i

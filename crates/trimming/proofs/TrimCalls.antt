@@ -68,8 +68,8 @@ module _ (l : Lent) (f : Fits l) (i : ℕ) (h : i < l .pool .tracked) where
       rw (sym (record-read l i h)) (counted l (t .shape) (firstPageOf l i) (t .history) (formed .history))
 
   module _ (now : ℕ) (w : Pass) (T D S N P : List ℕ) (s : Sofar l now i w T D S N P) where
-    pub look-fits : (19 * i + 19 ≤ length T) × (isShape (recordAt 19 readTexture T i .shape) ≡ true)
-        × (3 * (w .first + recordAt 19 readTexture T i .spares) ≤ length S) × (recordPages (recordAt 19 readTexture T i) ≤ 4096)
+    pub look-fits : (20 * i + 20 ≤ length T) × (isShape (recordAt 20 readTexture T i .shape) ≡ true)
+        × (3 * (w .first + recordAt 20 readTexture T i .spares) ≤ length S) × (recordPages (recordAt 20 readTexture T i) ≤ 4096)
     look-fits =
         let here = record-now l now i w T D S N P f h s in (
           omega (arith, s .T-long, textures-fit l f),
@@ -89,7 +89,7 @@ module _ (l : Lent) (f : Fits l) (i : ℕ) (h : i < l .pool .tracked) where
         omega (arith, s .S-long, n .few, n .spares, f .versions, f .spares),
       )
 
-      pub put-fits : (19 * i + 19 ≤ length T) × (19 * w .tracked + 19 ≤ length T) × RecordedFits (recordAt 19 readTexture T i .history)
+      pub put-fits : (20 * i + 20 ≤ length T) × (20 * w .tracked + 20 ≤ length T) × RecordedFits (recordAt 20 readTexture T i .history)
           × (look .aged ≤ look .own)
       put-fits = (
         omega (arith, s .T-long, textures-fit l f),
@@ -124,7 +124,7 @@ module _ (l : Lent) (f : Fits l) (now i : ℕ) (w : Pass) (T D S N P : List ℕ)
       omega (arith, sum, total-cut spareBytes i (modelOf l .textures))
 
   few-given : w .count ≤ l .pool .kept
-  few-given = omega (arith, s .all, s .first, f .kept, total-first 19 readTexture (λ t. t .spares) (l .textures) i (l .pool .tracked) (s .at))
+  few-given = omega (arith, s .all, s .first, f .kept, total-first 20 readTexture (λ t. t .spares) (l .textures) i (l .pool .tracked) (s .at))
 
   pub counts-fit : (l .pool .doomed + w .count ≤ 4096) × (l .pool .since ≤ 4096) × (w .freed ≤ l .pool .parked) × (l .pool .dooming + w .freed < 2 ^ 64)
   unfolding modelOf

@@ -76,8 +76,8 @@ pub sofar-start : (l : Lent) (now : ℕ) (w : Pass) → w ≡ noPass → Sofar l
 unfolding noPass trimmed flatMap total laid
 sofar-start l now w e = record {
   at = omega arith;
-  first = ap (λ (x : Pass). x .first) e ∙ sym (total-none 19 readTexture (λ t. t .spares) (l .textures));
-  page = ap (λ (x : Pass). x .page) e ∙ sym (total-none 19 readTexture recordPages (l .textures));
+  first = ap (λ (x : Pass). x .first) e ∙ sym (total-none 20 readTexture (λ t. t .spares) (l .textures));
+  page = ap (λ (x : Pass). x .page) e ∙ sym (total-none 20 readTexture recordPages (l .textures));
   tracked = ap (λ (x : Pass). x .tracked) e;
   kept = ap (λ (x : Pass). x .kept) e;
   pages = ap (λ (x : Pass). x .pages) e;
@@ -122,9 +122,9 @@ module _ (l : Lent) (now i : ℕ) (w : Pass) (T D S N P : List ℕ) (f : Fits l)
 
   -- ---- what is read now is what stood there
 
-  pub record-now : recordAt 19 readTexture T i ≡ t₀
+  pub record-now : recordAt 20 readTexture T i ≡ t₀
   record-now =
-      ap (λ (x : List ℕ). recordAt 19 readTexture x i) (s .textures) ∙ texture-unread l (trimmed l now i) i (omega (arith, s .tracked, s .fewer))
+      ap (λ (x : List ℕ). recordAt 20 readTexture x i) (s .textures) ∙ texture-unread l (trimmed l now i) i (omega (arith, s .tracked, s .fewer))
 
   spare-now : (j : ℕ) → w .first ≤ j → recordAt 3 readSpare S j ≡ recordAt 3 readSpare (l .spares) j
   spare-now j q = ap (λ (x : List ℕ). recordAt 3 readSpare x j) (s .spares) ∙ spare-unread l (trimmed l now i) j (omega (arith, s .kept, s .all))
@@ -249,8 +249,8 @@ module _ (l : Lent) (now i : ℕ) (w : Pass) (T D S N P : List ℕ) (f : Fits l)
           → Sofar l now (i + 1) v T′ D′ S′ N′ P′
       further tracked kept pages textures spares newest stamps newest-long stamps-long = record {
         at = omega arith;
-        first = omega (arith, first-on, own-is, s .first, total-next 19 readTexture (λ t. t .spares) (l .textures) i);
-        page = omega (arith, page-on, claimed-is, s .page, total-next 19 readTexture recordPages (l .textures) i);
+        first = omega (arith, first-on, own-is, s .first, total-next 20 readTexture (λ t. t .spares) (l .textures) i);
+        page = omega (arith, page-on, claimed-is, s .page, total-next 20 readTexture recordPages (l .textures) i);
         tracked = tracked;
         kept = kept;
         pages = pages;
@@ -305,7 +305,7 @@ module _ (l : Lent) (now i : ℕ) (w : Pass) (T D S N P : List ℕ) (f : Fits l)
           (omega (arith, kept-on, empty, s .kept, ap (λ (ts : List (VersionState ℕ)). length (everySpare ts)) same))
           (omega (arith, pages-on, unpaged, s .pages, ap (total pagesUsed) same))
           (eT
-          ∙ ap (λ (c : Bool). cond c T (sets T (19 * w .tracked) (writeTexture (lookedRecord look (recordAt 19 readTexture T i)))))
+          ∙ ap (λ (c : Bool). cond c T (sets T (20 * w .tracked) (writeTexture (lookedRecord look (recordAt 20 readTexture T i)))))
           (eq-eqb (look .staying) 0 gone)
           ∙ s .textures ∙ textures-as l (trimmed l now i) (trimmed l now (i + 1)) back)
           (eS ∙ ap (λ (n : ℕ). moved S (3 * w .kept) (3 * w .kept + 3 * (w .first + look .aged - w .kept)) n)
@@ -338,9 +338,9 @@ module _ (l : Lent) (now i : ℕ) (w : Pass) (T D S N P : List ℕ) (f : Fits l)
           (omega (arith, kept-on, own-is, aged-is, s .kept, kept-stay l now i h f b))
           (omega (arith, pages-on, pages, s .pages, pages-stay l now i h f b))
           (eT
-          ∙ ap (λ (c : Bool). cond c T (sets T (19 * w .tracked) (writeTexture (lookedRecord look (recordAt 19 readTexture T i)))))
+          ∙ ap (λ (c : Bool). cond c T (sets T (20 * w .tracked) (writeTexture (lookedRecord look (recordAt 20 readTexture T i)))))
           (ne-eqb (look .staying) 0 (λ q. let y : ⊥ = omega (arith, one, q) in y))
-          ∙ ap₂ (λ (x : List ℕ) (r : TextureRecord). sets x (19 * w .tracked) (writeTexture r)) (s .textures) (ap₂ lookedRecord here record-now)
+          ∙ ap₂ (λ (x : List ℕ) (r : TextureRecord). sets x (20 * w .tracked) (writeTexture r)) (s .textures) (ap₂ lookedRecord here record-now)
           ∙ textures-stay l now i h f b (w .tracked) (s .tracked) (omega (arith, s .fewer, textures-fit l f)))
           (eS
           ∙ ap (λ (x : List ℕ). moved x (3 * w .kept) (3 * w .kept + 3 * (w .first + look .aged - w .kept)) (3 * (look .own - look .aged))) (s .spares)

@@ -43,7 +43,7 @@ lookOf now t count = record {
 -- texture i, whose spares begin at place `first`
 unfoldable pub lookAt : ℕ → List ℕ → List ℕ → ℕ → ℕ → Look
 lookAt now textures spares i first =
-    let t : TextureRecord = recordAt 19 readTexture textures i in
+    let t : TextureRecord = recordAt 20 readTexture textures i in
     lookOf now t (agedCount now (listed (spareIn spares) first (t .spares)))
 
 -- the record after it
@@ -62,4 +62,4 @@ lookedRecord look t = record {
 -- written at place `to`
 unfoldable pub lookedPut : List ℕ → ℕ → ℕ → Look → List ℕ
 lookedPut textures to i look =
-    cond (eqb (look .staying) 0) textures (sets textures (19 * to) (writeTexture (lookedRecord look (recordAt 19 readTexture textures i))))
+    cond (eqb (look .staying) 0) textures (sets textures (20 * to) (writeTexture (lookedRecord look (recordAt 20 readTexture textures i))))

@@ -29,15 +29,15 @@ use layout::Pool;
 // Record i written at place `to` as it is after the look. Nothing is written where the texture is dropped, nor where the record stands
 // there already.
 fn put_looked(textures: &mut [u64], to: usize, i: usize, look: Look)
-    requires { ⌜ (19 * i + 19 ≤ length (now textures)) × (19 * to + 19 ≤ length (now textures))
-        × RecordedFits (recordAt 19 readTexture (now textures) i .history) × (look .aged ≤ look .own) ⌝ }
+    requires { ⌜ (20 * i + 20 ≤ length (now textures)) × (20 * to + 20 ≤ length (now textures))
+        × RecordedFits (recordAt 20 readTexture (now textures) i .history) × (look .aged ≤ look .own) ⌝ }
     ensures { λ _. ⌜ now (textures .exit) ≡ lookedPut (now (textures .entry)) to i look ⌝ }
 {
     if look.staying == 0 {
         return;
     }
     let left = (look.own - look.aged) as u64;
-    if (to == i) & (textures[19 * i + 17] == look.due) & (textures[19 * i + 18] == left) {
+    if (to == i) & (textures[20 * i + 17] == look.due) & (textures[20 * i + 18] == left) {
         return;
     }
     let mut t = texture_at(textures, i);

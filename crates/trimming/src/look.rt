@@ -54,21 +54,21 @@ pub fn aged_count(spares: &[u64], first: usize, n: usize, current: u64) -> usize
 
 // Whether texture i, with `left` spares, is dropped.
 fn is_idle(textures: &[u64], i: usize, left: usize, current: u64) -> bool
-    requires { ⌜ 19 * i + 19 ≤ length (now textures) ⌝ }
-    ensures { λ r. ⌜ r ≡ isIdle current (recordAt 19 readTexture (now (textures .entry)) i) left ⌝ }
+    requires { ⌜ 20 * i + 20 ≤ length (now textures) ⌝ }
+    ensures { λ r. ⌜ r ≡ isIdle current (recordAt 20 readTexture (now (textures .entry)) i) left ⌝ }
 {
     let oldest = before(current, 120);
-    (textures[19 * i + 17] < oldest) & ((textures[19 * i + 16] < oldest) & (left == 0))
+    (textures[20 * i + 17] < oldest) & ((textures[20 * i + 16] < oldest) & (left == 0))
 }
 
 // The number by which the next trims look at texture i.
 fn due_after(textures: &[u64], i: usize, current: u64) -> u64
-    requires { ⌜ 19 * i + 19 ≤ length (now textures) ⌝ }
-    ensures { λ r. ⌜ r ≡ dueAfter current (recordAt 19 readTexture (now (textures .entry)) i) ⌝ }
+    requires { ⌜ 20 * i + 20 ≤ length (now textures) ⌝ }
+    ensures { λ r. ⌜ r ≡ dueAfter current (recordAt 20 readTexture (now (textures .entry)) i) ⌝ }
 {
     let bound = before(current, 120);
-    let rename = textures[19 * i + 16];
-    let due = textures[19 * i + 17];
+    let rename = textures[20 * i + 16];
+    let due = textures[20 * i + 17];
     if due >= bound {
         return due;
     }
@@ -80,8 +80,8 @@ fn due_after(textures: &[u64], i: usize, current: u64) -> u64
 
 // The bytes of a version of texture i, worked out only where one is given up.
 fn bytes_given(textures: &[u64], i: usize, aged: usize) -> u64
-    requires { ⌜ (19 * i + 19 ≤ length (now textures)) × (isShape (recordAt 19 readTexture (now textures) i .shape) ≡ true) ⌝ }
-    ensures { λ r. ⌜ r ≡ bytesGiven (recordAt 19 readTexture (now (textures .entry)) i) aged ⌝ }
+    requires { ⌜ (20 * i + 20 ≤ length (now textures)) × (isShape (recordAt 20 readTexture (now textures) i .shape) ≡ true) ⌝ }
+    ensures { λ r. ⌜ r ≡ bytesGiven (recordAt 20 readTexture (now (textures .entry)) i) aged ⌝ }
 {
     if aged == 0 {
         return 0;
@@ -92,12 +92,12 @@ fn bytes_given(textures: &[u64], i: usize, aged: usize) -> u64
 
 // Texture i, whose spares begin at place `first`.
 pub fn look_at(textures: &[u64], spares: &[u64], i: usize, first: usize, current: u64) -> Look
-    requires { ⌜ (19 * i + 19 ≤ length (now textures)) × (isShape (recordAt 19 readTexture (now textures) i .shape) ≡ true)
-        × (3 * (first + recordAt 19 readTexture (now textures) i .spares) ≤ length (now spares))
-        × (recordPages (recordAt 19 readTexture (now textures) i) ≤ 4096) ⌝ }
+    requires { ⌜ (20 * i + 20 ≤ length (now textures)) × (isShape (recordAt 20 readTexture (now textures) i .shape) ≡ true)
+        × (3 * (first + recordAt 20 readTexture (now textures) i .spares) ≤ length (now spares))
+        × (recordPages (recordAt 20 readTexture (now textures) i) ≤ 4096) ⌝ }
     ensures { λ r. ⌜ r ≡ lookAt current (now (textures .entry)) (now (spares .entry)) i first ⌝ }
 {
-    let own = textures[19 * i + 18] as usize;
+    let own = textures[20 * i + 18] as usize;
     let aged = aged_count(spares, first, own, current);
     let claimed = pages_at(textures, i);
     let bytes = bytes_given(textures, i, aged);

@@ -51,13 +51,13 @@ total-set f (x ∷ xs) (suc i) a d h = omega (arith, total-set f xs i a d (omega
 abbrev pub droppedLent : Lent → ℕ → Lent
 droppedLent l i =
     lent (withPages (l .pool .pages - pagesHere (l .textures) i) (l .pool)) (l .book)
-    (sets (l .textures) (19 * i) (writeTexture (recordedAs NoHistory (textureAt (l .textures) i)))) (l .retiring) (l .doomed) (l .spares)
+    (sets (l .textures) (20 * i) (writeTexture (recordedAs NoHistory (textureAt (l .textures) i)))) (l .retiring) (l .doomed) (l .spares)
     (moved (l .newest) (pagesUpTo (l .textures) i) (pagesEnd (l .textures) i) (l .pool .pages - pagesEnd (l .textures) i))
     (moved (l .stamps) (1024 * pagesUpTo (l .textures) i) (1024 * pagesUpTo (l .textures) i + 1024 * pagesHere (l .textures) i) (1024 * (l .pool .pages - pagesEnd (l .textures) i)))
 
 abbrev pub keptLent : Lent → ℕ → ℕ → ℕ → List StampGrid → Lent
 keptLent l i writes p gs =
-    lent (l .pool) (l .book) (sets (l .textures) (19 * i) (writeTexture (recordedAs (Writes writes) (textureAt (l .textures) i)))) (l .retiring) (l .doomed) (l .spares)
+    lent (l .pool) (l .book) (sets (l .textures) (20 * i) (writeTexture (recordedAs (Writes writes) (textureAt (l .textures) i)))) (l .retiring) (l .doomed) (l .spares)
     (newestWritten (l .newest) p gs) (pagesWritten (l .stamps) p gs)
 
 module _ (l : Lent) (f : Fits l) (i : ℕ) (h : i < l .pool .tracked) where
@@ -83,9 +83,9 @@ module _ (l : Lent) (f : Fits l) (i : ℕ) (h : i < l .pool .tracked) where
       spares = (count-state l i ∙ ap (λ (t : TextureRecord). t .spares) (record-read l i h)) j;
     }
 
-    textures-left : sets (l .textures) (19 * i) (writeTexture (recordedAs (recordedOf o) (textureAt (l .textures) i))) ≡ texturesAfter otherPool l
+    textures-left : sets (l .textures) (20 * i) (writeTexture (recordedAs (recordedOf o) (textureAt (l .textures) i))) ≡ texturesAfter otherPool l
     textures-left =
-        ap (λ (t : TextureRecord). sets (l .textures) (19 * i) (writeTexture t)) (sym other-record)
+        ap (λ (t : TextureRecord). sets (l .textures) (20 * i) (writeTexture t)) (sym other-record)
         ∙ textures-set l otherPool (textures-fit l f) i otherState h refl
 
     within : i < length (modelOf l .textures)
@@ -120,10 +120,10 @@ module _ (l : Lent) (f : Fits l) (i : ℕ) (h : i < l .pool .tracked) where
 
     history-left : (pages : ℕ) (newest stamps : List ℕ) → total pagesUsed (set (modelOf l .textures) i otherState) ≡ pages
         → newest ≡ newestAfter otherPool l → stamps ≡ stampsAfter otherPool l
-        → lent (withPages pages (l .pool)) (l .book) (sets (l .textures) (19 * i) (writeTexture (recordedAs (recordedOf o) (textureAt (l .textures) i)))) (l .retiring) (l .doomed) (l .spares) newest stamps
+        → lent (withPages pages (l .pool)) (l .book) (sets (l .textures) (20 * i) (writeTexture (recordedAs (recordedOf o) (textureAt (l .textures) i)))) (l .retiring) (l .doomed) (l .spares) newest stamps
         ≡ after otherPool l
     history-left pages newest stamps e a b =
-        put-together otherPool l (withPages pages (l .pool)) (l .book) (sets (l .textures) (19 * i) (writeTexture (recordedAs (recordedOf o) (textureAt (l .textures) i))))
+        put-together otherPool l (withPages pages (l .pool)) (l .book) (sets (l .textures) (20 * i) (writeTexture (recordedAs (recordedOf o) (textureAt (l .textures) i))))
         (l .retiring) (l .doomed) (l .spares) newest stamps (counts-left pages e) (book-stays l f otherPool refl) textures-left
         (retiring-stay l f otherPool refl refl) (doomed-stay l f otherPool refl) (spares-stay l f otherPool (every-kept l i h otherState refl)) a b
 

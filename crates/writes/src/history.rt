@@ -28,7 +28,7 @@ use shapes::slices;
 
 // What record i, where the search for the id ended, says of its history. A texture that is not tracked has none.
 pub fn history_at(textures: &[u64], tracked: usize, i: usize, id: u64) -> Recorded
-    requires { ⌜ 19 * tracked ≤ length (now textures) ⌝ }
+    requires { ⌜ 20 * tracked ≤ length (now textures) ⌝ }
     ensures { λ r. ⌜ r ≡ recordedAt (now (textures .entry)) tracked i id ⌝ }
 {
     if !has_id(textures, tracked, i, id) {
@@ -47,8 +47,8 @@ pub fn in_shape(s: VersionShape, slice: u64, level: u64) -> bool
 
 // Record i with another history.
 pub fn set_history(textures: &mut [u64], i: usize, history: Recorded)
-    requires { ⌜ (19 * i + 19 ≤ length (now textures)) × RecordedFits history ⌝ }
-    ensures { λ _. ⌜ now (textures .exit) ≡ sets (now (textures .entry)) (19 * i) (writeTexture (recordedAs history (recordAt 19 readTexture (now (textures .entry)) i))) ⌝ }
+    requires { ⌜ (20 * i + 20 ≤ length (now textures)) × RecordedFits history ⌝ }
+    ensures { λ _. ⌜ now (textures .exit) ≡ sets (now (textures .entry)) (20 * i) (writeTexture (recordedAs history (recordAt 20 readTexture (now (textures .entry)) i))) ⌝ }
 {
     let t = texture_at(textures, i);
     let shape = t.shape;
@@ -67,7 +67,7 @@ pub fn set_history(textures: &mut [u64], i: usize, history: Recorded)
 
 // The page of a subresource of texture i, which has that many levels: its pages stand slice by slice, level by level.
 pub fn page_of(textures: &[u64], i: usize, levels: u64, slice: u64, level: u64) -> usize
-    requires { ⌜ (19 * i ≤ length (now textures)) × (pagesUpTo (now textures) i + (slice * levels + level) ≤ 4096) ⌝ }
+    requires { ⌜ (20 * i ≤ length (now textures)) × (pagesUpTo (now textures) i + (slice * levels + level) ≤ 4096) ⌝ }
     ensures { λ r. ⌜ r ≡ pagesUpTo (now (textures .entry)) i + (slice * levels + level) ⌝ }
 {
     let page = pages_before(textures, i);
@@ -85,7 +85,7 @@ pub fn stamp_subresource(
     rect: TexelRect,
     n: u64,
 )
-    requires { ⌜ HistoryAt (now textures) i × (pagesEnd (now textures) i ≤ length (now newest)) × (1024 * length (now newest) ≤ length (now stamps)) × (inShape (recordAt 19 readTexture (now textures) i .shape) slice level ≡ true) ⌝ }
+    requires { ⌜ HistoryAt (now textures) i × (pagesEnd (now textures) i ≤ length (now newest)) × (1024 * length (now newest) ≤ length (now stamps)) × (inShape (recordAt 20 readTexture (now textures) i .shape) slice level ≡ true) ⌝ }
     ensures { λ _. ⌜
         (now (newest .exit) ≡ newestWritten (now (newest .entry)) (pageOf (now (textures .entry)) i slice level) (stampedOn (now (textures .entry)) i slice level rect n (now (newest .entry)) (now (stamps .entry)) ∷ []))
         × (now (stamps .exit) ≡ pagesWritten (now (stamps .entry)) (pageOf (now (textures .entry)) i slice level) (stampedOn (now (textures .entry)) i slice level rect n (now (newest .entry)) (now (stamps .entry)) ∷ [])) ⌝ }
@@ -106,8 +106,8 @@ pub fn regenerate_history(
 )
     requires { ⌜ HistoryAt (now textures) i × (pagesEnd (now textures) i ≤ length (now newest)) × (1024 * length (now newest) ≤ length (now stamps)) ⌝ }
     ensures { λ _. ⌜
-        (now (newest .exit) ≡ newestWritten (now (newest .entry)) (pagesUpTo (now (textures .entry)) i) (remadeGrids (recordAt 19 readTexture (now (textures .entry)) i .shape) n (now (newest .entry)) (now (stamps .entry)) (pagesUpTo (now (textures .entry)) i) (pagesHere (now (textures .entry)) i)))
-        × (now (stamps .exit) ≡ pagesWritten (now (stamps .entry)) (pagesUpTo (now (textures .entry)) i) (remadeGrids (recordAt 19 readTexture (now (textures .entry)) i .shape) n (now (newest .entry)) (now (stamps .entry)) (pagesUpTo (now (textures .entry)) i) (pagesHere (now (textures .entry)) i))) ⌝ }
+        (now (newest .exit) ≡ newestWritten (now (newest .entry)) (pagesUpTo (now (textures .entry)) i) (remadeGrids (recordAt 20 readTexture (now (textures .entry)) i .shape) n (now (newest .entry)) (now (stamps .entry)) (pagesUpTo (now (textures .entry)) i) (pagesHere (now (textures .entry)) i)))
+        × (now (stamps .exit) ≡ pagesWritten (now (stamps .entry)) (pagesUpTo (now (textures .entry)) i) (remadeGrids (recordAt 20 readTexture (now (textures .entry)) i .shape) n (now (newest .entry)) (now (stamps .entry)) (pagesUpTo (now (textures .entry)) i) (pagesHere (now (textures .entry)) i))) ⌝ }
 {
     let t = texture_at(textures, i);
     let page = pages_before(textures, i);

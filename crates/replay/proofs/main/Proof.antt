@@ -8,7 +8,7 @@ slice-aggregate-run-lists : tie.Need-slice-aggregate-run-lists
 slice-aggregate-run-lists c = zeros-count 524288
 
 slice-aggregate-run-lists-2 : tie.Need-slice-aggregate-run-lists-2
-slice-aggregate-run-lists-2 c = zeros-count 1216
+slice-aggregate-run-lists-2 c = zeros-count 1280
 
 slice-aggregate-run-lists-3 : tie.Need-slice-aggregate-run-lists-3
 slice-aggregate-run-lists-3 c = zeros-count 14000
@@ -35,7 +35,7 @@ slice-aggregate-run-lists-10 : tie.Need-slice-aggregate-run-lists-10
 slice-aggregate-run-lists-10 c = zeros-count 1048576
 
 run-lists-requires : tie.Need-run-lists-requires
-run-lists-requires c κs = (zeros-room 1216, zeros-room 14000, zeros-room 4000, zeros-room 6000, zeros-room 256, zeros-room 262144, zeros-room 28672, zeros-room 4096)
+run-lists-requires c κs = (zeros-room 1280, zeros-room 14000, zeros-room 4000, zeros-room 6000, zeros-room 256, zeros-room 262144, zeros-room 28672, zeros-room 4096)
 
 returns : tie.Need-returns
 returns c = search needs

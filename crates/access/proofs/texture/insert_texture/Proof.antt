@@ -27,7 +27,7 @@ returns c =
     let a = made .before .before .args in
     let s = a .s .now in
     let i = a .i in
-    put .insert-record .ensures ∙ ap (λ (l : List ℕ). sets (moved s (19 * i + 19) (19 * i) (19 * (a .n - i))) (19 * i) l) (made .texture-numbers .ensures)
+    put .insert-record .ensures ∙ ap (λ (l : List ℕ). sets (moved s (20 * i + 20) (20 * i) (20 * (a .n - i))) (20 * i) l) (made .texture-numbers .ensures)
 
 pub insert-texture-spec : {M : Type 1} → statement M
 insert-texture-spec =

@@ -24,7 +24,7 @@ returns c =
     let put = c .before .before in
     let made = put .before .before .before in
     let a = made .before .before .args in
-    put .put-record .ensures ∙ ap (λ (l : List ℕ). sets (a .s .now) (19 * a .i) l) (made .texture-numbers .ensures)
+    put .put-record .ensures ∙ ap (λ (l : List ℕ). sets (a .s .now) (20 * a .i) l) (made .texture-numbers .ensures)
 
 pub put-texture-spec : {M : Type 1} → statement M
 put-texture-spec =

@@ -27,7 +27,7 @@ slice-relend-prefix-run : tie.Need-slice-relend-prefix-run
 slice-relend-prefix-run c = search needs
 
 slice-aggregate-run : tie.Need-slice-aggregate-run
-slice-aggregate-run c = let z = c .before .before .before .before .before .before .before .before in sym (length-take-le (19 * z .args .t) (z .args .textures .now) (omega (arith, z .pre .0, z .pre .3)))
+slice-aggregate-run c = let z = c .before .before .before .before .before .before .before .before in sym (length-take-le (20 * z .args .t) (z .args .textures .now) (omega (arith, z .pre .0, z .pre .3)))
 
 slice-relend-prefix-run-2 : tie.Need-slice-relend-prefix-run-2
 slice-relend-prefix-run-2 c = search needs
@@ -66,7 +66,7 @@ run-requires : tie.Need-run-requires
 run-requires c κs = search needs
 
 same-length : tie.Need-same-length
-same-length c = let z = c .before .before .before .before .before .before .before .before .before .before .before .before .before .before .before .before .before .before .before .before .before .before .before .before .before .before .before .before .before .before .before in cut-long (19 * z .args .t) (z .args .textures .now) (c .before .before .before .before .before .before .before .before .before .before .before .before .before .before .before .run .last .0) (omega (arith, z .pre .0, z .pre .3)) (c .before .before .before .before .before .before .before .before .before .before .before .before .before .before .before .run .kept .0)
+same-length c = let z = c .before .before .before .before .before .before .before .before .before .before .before .before .before .before .before .before .before .before .before .before .before .before .before .before .before .before .before .before .before .before .before in cut-long (20 * z .args .t) (z .args .textures .now) (c .before .before .before .before .before .before .before .before .before .before .before .before .before .before .before .run .last .0) (omega (arith, z .pre .0, z .pre .3)) (c .before .before .before .before .before .before .before .before .before .before .before .before .before .before .before .run .kept .0)
 
 same-length-2 : tie.Need-same-length-2
 same-length-2 c = let z = c .before .before .before .before .before .before .before .before .before .before .before .before .before .before .before .before .before .before .before .before .before .before .before .before .before .before .before .before .before .before .before in cut-long (7 * z .args .v) (z .args .retiring .now) (c .before .before .before .before .before .before .before .before .before .before .before .before .before .before .before .run .last .1 .0) (omega (arith, z .pre .1, z .pre .4)) (c .before .before .before .before .before .before .before .before .before .before .before .before .before .before .before .run .kept .1 .0)

@@ -43,7 +43,7 @@ loop-again c =
     let i = l .loop .i in (
       search needs,
       simp length-set (search needs),
-      ap (λ t. set t (19 * i + 18) 0) (l .loop .inv .2) ∙ cleared-more s i (omega (arith, l .before .pre, c .loop-test .taken)),
+      ap (λ t. set t (20 * i + 18) 0) (l .loop .inv .2) ∙ cleared-more s i (omega (arith, l .before .pre, c .loop-test .taken)),
     )
 
 same-length : tie.Need-same-length Inv-loop μ-loop

@@ -17,18 +17,18 @@ texture-at-requires c κs = search needs
 spares-before-requires : tie.Need-spares-before-requires
 spares-before-requires c κs =
     let b = c .before .before in
-    (omega (arith, b .pre), omega (arith, b .pre, total-next 19 readTexture (λ t. t .spares) (b .args .textures .now) (b .args .i)))
+    (omega (arith, b .pre), omega (arith, b .pre, total-next 20 readTexture (λ t. t .spares) (b .args .textures .now) (b .args .i)))
 
 pages-before-requires : tie.Need-pages-before-requires
 pages-before-requires c κs =
     let b = c .before .before .before in
-    (omega (arith, b .pre), omega (arith, b .pre, total-next 19 readTexture recordPages (b .args .textures .now) (b .args .i)))
+    (omega (arith, b .pre), omega (arith, b .pre, total-next 20 readTexture recordPages (b .args .textures .now) (b .args .i)))
 
 history-pages-requires : tie.Need-history-pages-requires
 history-pages-requires c κs =
     let d = c .before .before in
     let b = d .before .before in
-    omega (arith, b .pre, total-next 19 readTexture recordPages (b .args .textures .now) (b .args .i), ap recordPages (d .texture-at .ensures))
+    omega (arith, b .pre, total-next 20 readTexture recordPages (b .args .textures .now) (b .args .i), ap recordPages (d .texture-at .ensures))
 
 shape-bytes-requires : tie.Need-shape-bytes-requires
 shape-bytes-requires c κs =

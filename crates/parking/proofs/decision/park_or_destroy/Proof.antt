@@ -18,7 +18,7 @@ returns c =
     let a = c .before .before .before .args in
     let h = c .before .has-id in
     decide-untracked (a .pool) (a .pressed) (hasId (a .textures .now) (a .pool .tracked) (a .i) (a .v .id))
-    (recordAt 19 readTexture (a .textures .now) (a .i)) (a .v)
+    (recordAt 20 readTexture (a .textures .now) (a .i)) (a .v)
     (says-nowhere (a .textures .now) (a .pool .tracked) (a .i) (a .v .id) (h .result) (h .ensures) (c .if1 .taken))
 
 texture-at-requires : tie.Need-texture-at-requires
@@ -35,7 +35,7 @@ returns-2 c =
     (c .before .before .before .before .if1 .left) in
     let t = c .before .before .before .texture-at in
     decide-renewed (a .pool) (a .pressed) (hasId (a .textures .now) (a .pool .tracked) (a .i) (a .v .id))
-    (recordAt 19 readTexture (a .textures .now) (a .i)) (a .v)
+    (recordAt 20 readTexture (a .textures .now) (a .i)) (a .v)
     q (t .result) (t .ensures) (λ same. let y : ⊥ = omega (arith, same, c .if2 .taken) in y)
 
 shape-bytes-requires : tie.Need-shape-bytes-requires
@@ -60,7 +60,7 @@ returns-3 c =
     let n = c .before .before .shape-bytes in
     let within = c .before .before .before .before .before .before .before .before .before .before .pre .2 in
     decide-full (a .pool) (a .pressed) (hasId (a .textures .now) (a .pool .tracked) (a .i) (a .v .id))
-    (recordAt 19 readTexture (a .textures .now) (a .i)) (a .v)
+    (recordAt 20 readTexture (a .textures .now) (a .i)) (a .v)
     q (t .result) (t .ensures) (omega (arith, c .before .before .before .if2 .left)) (n .result) (n .ensures) within (c .if3 .taken)
 
 returns-4 : tie.Need-returns-4
@@ -73,7 +73,7 @@ returns-4 c =
     let n = c .before .before .shape-bytes in
     let within = c .before .before .before .before .before .before .before .before .before .before .pre .2 in
     decide-kept (a .pool) (a .pressed) (hasId (a .textures .now) (a .pool .tracked) (a .i) (a .v .id))
-    (recordAt 19 readTexture (a .textures .now) (a .i)) (a .v)
+    (recordAt 20 readTexture (a .textures .now) (a .i)) (a .v)
     q (t .result) (t .ensures) (omega (arith, c .before .before .before .if2 .left)) (n .result) (n .ensures) within (c .if3 .left)
 
 pub park-or-destroy-spec : {M : Type 1} → statement M

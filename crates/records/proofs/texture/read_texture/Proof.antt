@@ -64,9 +64,12 @@ shared-slice-read-t21-2 c = search needs
 shared-slice-read-t19-2 : tie.Need-shared-slice-read-t19-2
 shared-slice-read-t19-2 c = search needs
 
+shared-slice-read-t17-2 : tie.Need-shared-slice-read-t17-2
+shared-slice-read-t17-2 c = search needs
+
 returns : tie.Need-returns
 unfolding readTexture
-returns c = rw (c .before .before .before .before .before .before .read-recorded .ensures)
+returns c = rw (c .before .before .before .before .before .before .before .read-recorded .ensures)
 
 pub read-texture-spec : {M : Type 1} → statement M
 read-texture-spec =
@@ -92,4 +95,5 @@ read-texture-spec =
     shared-slice-read-t23-2
     shared-slice-read-t21-2
     shared-slice-read-t19-2
+    shared-slice-read-t17-2
     returns)

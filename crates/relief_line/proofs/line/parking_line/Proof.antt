@@ -16,8 +16,8 @@ abbrev Inv-loop : tie.InvT-loop
 Inv-loop textures n spares dooming excess lo₀ hi₀ lo hi =
     (lo < hi)
     × (hi ≤ 281474976710658)
-    × (dooming + bytesFrom spares lo 0 (table 19 readTexture n textures) < excess)
-    × ((excess ≤ dooming + bytesFrom spares hi 0 (table 19 readTexture n textures)) ⊎ (hi ≡ 281474976710658))
+    × (dooming + bytesFrom spares lo 0 (table 20 readTexture n textures) < excess)
+    × ((excess ≤ dooming + bytesFrom spares hi 0 (table 20 readTexture n textures)) ⊎ (hi ≡ 281474976710658))
 
 abbrev μ-loop : tie.MeasureT-loop
 μ-loop textures n spares dooming excess lo₀ hi₀ lo hi = hi - lo
@@ -30,7 +30,7 @@ loop-holds c =
     let a = c .before .before .args in (
       omega arith,
       omega arith,
-      omega (arith, bytes-zero (a .spares .now) 0 (table 19 readTexture (a .n) (a .textures .now)), c .before .before .pre .2),
+      omega (arith, bytes-zero (a .spares .now) 0 (table 20 readTexture (a .n) (a .textures .now)), c .before .before .pre .2),
       inr (omega arith),
     )
 
@@ -79,7 +79,7 @@ returns : tie.Need-returns Inv-loop μ-loop
 returns c =
     let b = c .before in
     let a = b .before .before .before .args in
-    ends-meet (a .dooming) (a .excess) (λ k. bytesFrom (a .spares .now) k 0 (table 19 readTexture (a .n) (a .textures .now))) (b .loop .lo) (b .loop .hi)
+    ends-meet (a .dooming) (a .excess) (λ k. bytesFrom (a .spares .now) k 0 (table 20 readTexture (a .n) (a .textures .now))) (b .loop .lo) (b .loop .hi)
     (b .loop .inv .0) (c .loop-test .left) (b .loop .inv .2) (b .loop .inv .3)
 
 pub parking-line-spec : {M : Type 1} → statement M

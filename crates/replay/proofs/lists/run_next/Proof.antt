@@ -110,7 +110,7 @@ same-length c =
     let r = c .before .before .before .before .before .before .before .before .before .before .before .before .before .before .before .before .before .before in
     let z = r .before .before .before .before .before .before .before .before .before .before .before in
     let s = z .before .before .before .before .before .before .before .before .before .before .before .before .before in
-    put-back (s .args .textures .now) (r .run-list .last .1 .0) (19 * z .sizes-of .result .textures) (omega (arith, s .pre .0, z .sizes-of .ensures .0)) (r .run-list .kept .1 .0)
+    put-back (s .args .textures .now) (r .run-list .last .1 .0) (20 * z .sizes-of .result .textures) (omega (arith, s .pre .0, z .sizes-of .ensures .0)) (r .run-list .kept .1 .0)
 
 same-length-2 : tie.Need-same-length-2
 same-length-2 c =

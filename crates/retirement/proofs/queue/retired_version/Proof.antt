@@ -17,7 +17,7 @@ returns : tie.Need-returns
 returns c =
     let a = c .before .before .before .args in
     let h = c .before .has-id in
-    note-untracked (hasId (a .textures .now) (a .tracked) (a .i) (a .id)) (recordAt 19 readTexture (a .textures .now) (a .i)) (a .id) (a .view)
+    note-untracked (hasId (a .textures .now) (a .tracked) (a .i) (a .id)) (recordAt 20 readTexture (a .textures .now) (a .i)) (a .id) (a .view)
     (a .seq)
     (says-nowhere (a .textures .now) (a .tracked) (a .i) (a .id) (h .result) (h .ensures) (c .if1 .taken))
 
@@ -44,7 +44,7 @@ returns-2 c =
     let q = says-here (a .textures .now) (a .tracked) (a .i) (a .id) (h .result) (h .ensures) (c .before .before .before .before .if1 .left) in
     let t = c .before .before .before .texture-at in
     let w = c .before .writes-counted in
-    note-tracked (hasId (a .textures .now) (a .tracked) (a .i) (a .id)) (recordAt 19 readTexture (a .textures .now) (a .i)) (a .id) (a .view) (a .seq)
+    note-tracked (hasId (a .textures .now) (a .tracked) (a .i) (a .id)) (recordAt 20 readTexture (a .textures .now) (a .i)) (a .id) (a .view) (a .seq)
     q (t .result) (t .ensures) (w .result) (c .shape-bytes .result) (w .ensures) (c .shape-bytes .ensures)
 
 pub retired-version-spec : {M : Type 1} → statement M

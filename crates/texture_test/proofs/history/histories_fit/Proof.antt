@@ -28,7 +28,7 @@ abbrev μ-loop : tie.MeasureT-loop
 loop-holds : tie.Need-loop-holds Inv-loop μ-loop
 loop-holds c =
     let a = c .before .before .before .args in
-    let e = table-left 19 readTexture (a .n) (a .textures .now) in
+    let e = table-left 20 readTexture (a .n) (a .textures .now) in
     (search needs, omega (arith, ap (total recordPages) e), ap (historiesFit (a .newest .now) (a .stamps .now) 0) e)
 
 record-at-requires : tie.Need-record-at-requires Inv-loop μ-loop

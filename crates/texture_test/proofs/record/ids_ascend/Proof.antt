@@ -19,7 +19,7 @@ abbrev μ-loop : tie.MeasureT-loop
 μ-loop textures n i₀ i = n - i
 
 loop-holds : tie.Need-loop-holds Inv-loop μ-loop
-loop-holds c = (search needs, ap (ascending idOf) (table-left 19 readTexture _ _))
+loop-holds c = (search needs, ap (ascending idOf) (table-left 20 readTexture _ _))
 
 add-loop : tie.Need-add-loop Inv-loop μ-loop
 add-loop c = search needs

@@ -22,7 +22,7 @@ abbrev μ-loop : tie.MeasureT-loop
 μ-loop textures n sum₀ i₀ sum i = n - i
 
 loop-holds : tie.Need-loop-holds Inv-loop μ-loop
-loop-holds c = (search needs, omega (arith, ap (total recordBytes) (table-left 19 readTexture (c .before .args .n) (c .before .args .textures .now))))
+loop-holds c = (search needs, omega (arith, ap (total recordBytes) (table-left 20 readTexture (c .before .args .n) (c .before .args .textures .now))))
 
 record-at-requires : tie.Need-record-at-requires Inv-loop μ-loop
 record-at-requires c κs = search needs

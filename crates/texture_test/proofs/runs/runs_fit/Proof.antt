@@ -25,7 +25,7 @@ abbrev μ-loop : tie.MeasureT-loop
 loop-holds : tie.Need-loop-holds Inv-loop μ-loop
 loop-holds c =
     let a = c .before .args in
-    (search needs, ap (λ (ts : List TextureRecord). claim ts (a .kept) (a .pages)) (table-left 19 readTexture (a .n) (a .textures .now)))
+    (search needs, ap (λ (ts : List TextureRecord). claim ts (a .kept) (a .pages)) (table-left 20 readTexture (a .n) (a .textures .now)))
 
 record-at-requires : tie.Need-record-at-requires Inv-loop μ-loop
 record-at-requires c κs = search needs

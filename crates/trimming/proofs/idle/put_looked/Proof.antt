@@ -67,7 +67,7 @@ returns-3 c =
     let o = c .before .before .before .before .before .before .before .before .before .before .before in
     let a = o .before .before .before .args in
     c .before .before .put-texture .ensures
-    ∙ ap (λ (t : TextureRecord). sets (a .textures .now) (19 * a .to) (writeTexture (lookedRecord (a .look) t))) (c .before .before .before .before .texture-at .ensures)
+    ∙ ap (λ (t : TextureRecord). sets (a .textures .now) (20 * a .to) (writeTexture (lookedRecord (a .look) t))) (c .before .before .before .before .texture-at .ensures)
     ∙ put-some (a .textures .now) (a .to) (a .i) (a .look) (o .if1 .left)
 
 pub put-looked-spec : {M : Type 1} → statement M

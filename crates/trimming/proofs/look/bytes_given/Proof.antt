@@ -15,7 +15,7 @@ returns : tie.Need-returns
 unfolding bytesGiven
 returns c =
     let a = c .before .before .args in
-    sym (ap (λ (b : Bool). cond b 0 (bytesOf (recordAt 19 readTexture (a .textures .now) (a .i) .shape))) (eq-eqb (a .aged) 0 (c .if1 .taken)))
+    sym (ap (λ (b : Bool). cond b 0 (bytesOf (recordAt 20 readTexture (a .textures .now) (a .i) .shape))) (eq-eqb (a .aged) 0 (c .if1 .taken)))
 
 texture-at-requires : tie.Need-texture-at-requires
 texture-at-requires c κs = search needs
@@ -29,7 +29,7 @@ unfolding bytesGiven
 returns-2 c =
     let a = c .before .before .before .before .args in
     c .shape-bytes .ensures ∙ ap (λ (t : TextureRecord). bytesOf (t .shape)) (c .before .texture-at .ensures)
-    ∙ sym (ap (λ (b : Bool). cond b 0 (bytesOf (recordAt 19 readTexture (a .textures .now) (a .i) .shape))) (ne-eqb (a .aged) 0 (c .before .before .if1 .left)))
+    ∙ sym (ap (λ (b : Bool). cond b 0 (bytesOf (recordAt 20 readTexture (a .textures .now) (a .i) .shape))) (ne-eqb (a .aged) 0 (c .before .before .if1 .left)))
 
 pub bytes-given-spec : {M : Type 1} → statement M
 bytes-given-spec = tie.close (tie.spec returns texture-at-requires shape-bytes-requires returns-2)

@@ -56,7 +56,7 @@ returns c =
     let n = c .before .before .before .before .before in
     let a = n .before .before .before .before .args in
     let own = spares-number (a .textures .now) (a .i) in
-    look-made (a .current) (recordAt 19 readTexture (a .textures .now) (a .i)) (agedCount (a .current) (listed (spareIn (a .spares .now)) (a .first) (recordAt 19 readTexture (a .textures .now) (a .i) .spares))) _ _ _ _ _ true own
+    look-made (a .current) (recordAt 20 readTexture (a .textures .now) (a .i)) (agedCount (a .current) (listed (spareIn (a .spares .now)) (a .first) (recordAt 20 readTexture (a .textures .now) (a .i) .spares))) _ _ _ _ _ true own
     (n .aged-count .ensures .1 ∙ ap (λ (m : ℕ). agedCount (a .current) (listed (spareIn (a .spares .now)) (a .first) m)) own)
     (c .before .before .before .before .pages-at .ensures) (c .before .before .due-after .ensures) (c .before .before .before .bytes-given .ensures)
     (sym (c .if1 .taken) ∙ c .before .is-idle .ensures)
@@ -67,7 +67,7 @@ returns-2 c =
     let n = c .before .before .before .before .before in
     let a = n .before .before .before .before .args in
     let own = spares-number (a .textures .now) (a .i) in
-    look-made (a .current) (recordAt 19 readTexture (a .textures .now) (a .i)) (agedCount (a .current) (listed (spareIn (a .spares .now)) (a .first) (recordAt 19 readTexture (a .textures .now) (a .i) .spares))) _ _ _ _ _ false own
+    look-made (a .current) (recordAt 20 readTexture (a .textures .now) (a .i)) (agedCount (a .current) (listed (spareIn (a .spares .now)) (a .first) (recordAt 20 readTexture (a .textures .now) (a .i) .spares))) _ _ _ _ _ false own
     (n .aged-count .ensures .1 ∙ ap (λ (m : ℕ). agedCount (a .current) (listed (spareIn (a .spares .now)) (a .first) m)) own)
     (c .before .before .before .before .pages-at .ensures) (c .before .before .due-after .ensures) (c .before .before .before .bytes-given .ensures)
     (sym (c .if1 .left) ∙ c .before .is-idle .ensures)

@@ -22,7 +22,7 @@ returns : tie.Need-returns
 returns c =
     let b = c .before .before in
     let a = b .before .before .before .before .before .before .args in
-    b .put-texture .ensures ∙ ap (λ (t : TextureRecord). sets (a .textures .now) (19 * a .i) (writeTexture (recordedAs (a .history) t))) (b .before .before .before .texture-at .ensures)
+    b .put-texture .ensures ∙ ap (λ (t : TextureRecord). sets (a .textures .now) (20 * a .i) (writeTexture (recordedAs (a .history) t))) (b .before .before .before .texture-at .ensures)
 
 pub set-history-spec : {M : Type 1} → statement M
 set-history-spec =
