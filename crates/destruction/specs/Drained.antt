@@ -51,6 +51,7 @@ spareless t = record {
   rename = t .rename;
   due = t .due;
   spares = 0;
+  bytes = t .bytes;
 }
 
 -- the first n records without their spares

@@ -47,6 +47,7 @@ oneMore t = record {
   rename = t .rename;
   due = t .due;
   spares = t .spares + 1;
+  bytes = t .bytes;
 }
 
 -- the place behind the spares of texture i

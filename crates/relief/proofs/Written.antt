@@ -65,7 +65,7 @@ set-past (x ∷ p) q j v = ap (λ (n : ℕ). set (x ∷ p ++ q) n v) (suc-add (l
 
 -- a texture's record with another number of spares
 abbrev pub withCount : ℕ → TextureRecord → TextureRecord
-withCount n t = record { id = t .id; shape = t .shape; epoch = t .epoch; history = t .history; birth = t .birth; rename = t .rename; due = t .due; spares = n }
+withCount n t = record { id = t .id; shape = t .shape; epoch = t .epoch; history = t .history; birth = t .birth; rename = t .rename; due = t .due; spares = n; bytes = t .bytes }
 
 count-front : (q : List ℕ) (v : ℕ) → 20 ≤ length q → set q 18 v ≡ over (flat writeTexture (withCount v (readTexture q) ∷ [])) q
 unfolding writeTexture over flat

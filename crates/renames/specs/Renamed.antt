@@ -13,4 +13,5 @@ renamedRecord seq left t = record {
   rename = seq;
   due = t .due;
   spares = left;
+  bytes = t .bytes;
 }

@@ -60,4 +60,5 @@ bornAt seq t = record {
   rename = t .rename;
   due = t .due;
   spares = t .spares;
+  bytes = t .bytes;
 }

@@ -106,18 +106,9 @@ fn retired_version(
 fn born_at(t: TextureRecord, seq: u64) -> TextureRecord
     ensures { λ r. ⌜ r ≡ bornAt seq t ⌝ }
 {
-    let shape = t.shape;
-    let history = t.history;
-    TextureRecord {
-        id: t.id,
-        shape,
-        epoch: t.epoch,
-        history,
-        birth: seq,
-        rename: t.rename,
-        due: t.due,
-        spares: t.spares,
-    }
+    let mut u = t;
+    u.birth = seq;
+    u
 }
 
 // A tracked texture's live version became live in this submission.

@@ -29,7 +29,7 @@ recordedAt textures tracked i id = cond (ltb i tracked && eqb (idOf (textureAt t
 
 -- a record with another history
 abbrev pub recordedAs : Recorded → TextureRecord → TextureRecord
-recordedAs h t = record { id = t .id; shape = t .shape; epoch = t .epoch; history = h; birth = t .birth; rename = t .rename; due = t .due; spares = t .spares }
+recordedAs h t = record { id = t .id; shape = t .shape; epoch = t .epoch; history = h; birth = t .birth; rename = t .rename; due = t .due; spares = t .spares; bytes = t .bytes }
 
 -- the pages of the textures before record i, which is where its own begin, and how many those are
 unfoldable pub pagesUpTo : List ℕ → ℕ → ℕ
