@@ -23,7 +23,7 @@ set-past (y ∷ a) b k x =
     ap (λ (i : ℕ). set (y ∷ (a ++ b)) i x) (let e : suc (length a) + k ≡ suc (length a + k) = omega arith in e)
     ∙ ap (λ (l : List ℕ). y ∷ l) (set-past a b k x)
 
--- the last of a record's numbers is how many spares it has
+-- the last but one of a record's numbers is how many spares it has
 set-spares : (t : TextureRecord) (b : List ℕ) → set (writeTexture t ++ b) 18 0 ≡ writeTexture (spareless t) ++ b
 unfolding writeTexture
 set-spares t b = refl

@@ -176,7 +176,7 @@ module _ (l : Lent) (f : Fits l) where
   unfolding cleared texturesAfter
   textures-drained =
       ap (λ (rs : List TextureRecord). over (flat writeTexture rs) (l .textures))
-      (sym (emptied-records (modelOf l .textures) ∙ ap (map spareless) (records-model l)))
+      (sym (emptied-records (modelOf l .textures) ∙ ap (map spareless) (records-model l (f .bytes))))
 
   spares-drained : l .spares ≡ sparesAfter rest l
   unfolding sparesAfter over flat

@@ -217,7 +217,7 @@ module _ (l : Lent) (f : Fits l) (i : ℕ) (h : i < l .pool .tracked) where
       put-together left l c (l .book) textures (l .retiring) doomed spares newest stamps
       (e1 ∙ ap (without (l .pool)) e ∙ counts-left)
       book-left
-      (e2 ∙ textures-removed l left (textures-fit l f) i 1 (omega arith) refl)
+      (e2 ∙ textures-removed l left f i 1 (omega arith) refl)
       (retiring-stay l f left refl refl)
       (e3 ∙ ap (λ (o : Owned). laid 2 writeDoomed (versionPlaces l) (l .pool .first) (l .pool .doomed)
       (givenRecords (l .spares) (o .bytes) (o .first) (o .spares)) (l .doomed)) e

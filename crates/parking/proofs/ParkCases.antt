@@ -76,6 +76,7 @@ record-one s t = λ i. record {
   rename = t .rename;
   due = t .due;
   spares = sym (length-append (t .spares) (s ∷ [])) i;
+  bytes = textureRecord t .bytes;
 }
 
 -- the number of the first of two tests that holds
@@ -348,7 +349,7 @@ module _ (l : Lent) (e : isPool l ≡ true) (failed current : ℕ) where
             textures-kept =
                 ap (λ (t : TextureRecord). sets (l .textures) (20 * i) (writeTexture t))
                 (ap oneMore (sym (record-at l i there)) ∙ record-one spare (stateOf l i))
-                ∙ textures-set l stays (textures-fit l fits) i (withOne spare (stateOf l i)) there grown-is
+                ∙ textures-set l stays fits i (withOne spare (stateOf l i)) there grown-is
 
             spares-kept : sets (moved (l .spares) (3 * end + 3) (3 * end) (3 * (l .pool .kept - end))) (3 * end)
                 (writeSpare (spareParked failed current x)) ≡ sparesAfter stays l

@@ -34,15 +34,15 @@ use Rattle.layout.specs.IsPool.{isPool}
 use Rattle.layout.specs.Calls.{Told, refusal, answer, TakenVersion, takenOf, takeSpareCall}
 use Rattle.layout.proofs.Fits.{Fits}
 use Rattle.layout.proofs.FromPool.{pool-fits}
-use Rattle.layout.proofs.Runs.{sparesOf, spareCount, firstSpare, firstPageOf, stateOf, record-state, tracked-model, kept-model, pages-model}
+use Rattle.layout.proofs.Runs.{sparesOf, spareCount, firstSpare, stateOf, tracked-model, kept-model, pages-model}
 use Rattle.layout.proofs.Kept.{pagedOf}
 use Rattle.layout.proofs.Same.{queued-model, doomed-model}
 use Rattle.layout.proofs.Rings.{head-stays, hand-model, first-stays}
-use Rattle.layout.proofs.Stays.{put-together, book-stays, ids-ascend, textures-fit, spares-stay, newest-stay, stamps-stay, retiring-stay, doomed-stay}
+use Rattle.layout.proofs.Stays.{put-together, book-stays, ids-ascend, spares-stay, newest-stay, stamps-stay, retiring-stay, doomed-stay}
 use Rattle.layout.proofs.Places.{changed}
 use Rattle.layout.proofs.Changes.{textures-set, sparesBefore, sparesAt, every-taken, every-kept, spares-removed, newest-at, others-taken}
 use Rattle.layout.proofs.Asked.{asked-accepted}
-use Rattle.layout.proofs.Tracked.{record-read, spares-to, shape-at, count-at}
+use Rattle.layout.proofs.Tracked.{record-read, spares-to, bytes-at, record-at, shape-at, count-at}
 use Rattle.trackings.specs.Refusal.{takeRefusal}
 use Rattle.trackings.specs.Cases.{Accepted, recordOf, TrackedAt}
 use Rattle.renames.specs.Renamed.{renamedRecord}
@@ -121,11 +121,10 @@ module _ (l : Lent) (i id : ℕ) (shape : VersionShape) (records : Bool) (seq : 
   spares-counted = count-at l i (h .0)
 
   record-left : textureRecord (renamedState seq u) ≡ renamedRecord seq (count - 1) t
-  unfolding stateOf
   record-left =
       renamed-record seq u
       ∙ ap₂ (λ (n : ℕ) (r : TextureRecord). renamedRecord seq (n - 1) r) spares-counted
-      (record-state l (firstSpare l i) (firstPageOf l i) (getD (trackedRecords l) i (readTexture [])) ∙ record-read l i (h .0))
+      (record-at l i (h .0) f)
 
   -- the rename and the spare left, whatever the counts and the spares are
   left-as : (c : Counts) (spares : List ℕ) → c ≡ poolAfter after-take l → spares ≡ sparesAfter after-take l
@@ -134,7 +133,7 @@ module _ (l : Lent) (i id : ℕ) (shape : VersionShape) (records : Bool) (seq : 
       let kept = map-unchanged pagedOf id (renamedState seq) (λ (v : VersionState ℕ). refl) (modelOf l .textures) in
       put-together after-take l c (l .book) (sets (l .textures) (20 * i) (writeTexture (renamedRecord seq (count - 1) t))) (l .retiring) (l .doomed) spares (l .newest) (l .stamps)
       e1 (book-stays l f after-take refl)
-      (ap (λ (r : TextureRecord). sets (l .textures) (20 * i) (writeTexture r)) (sym record-left) ∙ textures-set l after-take (textures-fit l f) i (renamedState seq u) (h .0) changed-there)
+      (ap (λ (r : TextureRecord). sets (l .textures) (20 * i) (writeTexture r)) (sym record-left) ∙ textures-set l after-take f i (renamedState seq u) (h .0) changed-there)
       (retiring-stay l f after-take refl refl) (doomed-stay l f after-take refl) e2 (newest-stay l f after-take kept) (stamps-stay l f after-take kept)
 
   kept-left : total spareCount (change id (renamedState seq) (modelOf l .textures)) + (count - (count - 1)) ≡ l .pool .kept
@@ -223,27 +222,27 @@ module _ (l : Lent) (i id : ℕ) (shape : VersionShape) (records : Bool) (seq : 
         (w ∙ ap (λ (y : TextureRecord). sets (l .textures) (20 * i) (writeTexture y)) (r ∙ ap (renamedRecord seq 0) is-record))
         ∙ no-spare (sym (ap sparesOf is-record) ∙ e)
 
-    module _ (first k bytes : ℕ) (s : SpareRecord) (spares : List ℕ) where
+    module _ (first k : ℕ) (s : SpareRecord) (spares : List ℕ) where
       pub left-with : 0 < t′ .spares → first ≡ total sparesOf (table 20 readTexture i (l .textures)) → k ≡ first + (t′ .spares - 1)
-          → s ≡ recordAt 3 readSpare (l .spares) k → bytes ≡ bytesOf (t′ .shape) → x ≡ renamedRecord seq (t′ .spares - 1) t′
+          → s ≡ recordAt 3 readSpare (l .spares) k → x ≡ renamedRecord seq (t′ .spares - 1) t′
           → textures ≡ sets (l .textures) (20 * i) (writeTexture x) → spares ≡ moved (l .spares) (3 * k) (3 * k + 3 * 1) (3 * (l .pool .kept - (k + 1)))
           → (
             answer (some (record { view = s .view; held = s .held })),
             lent
-                (counted (l .pool) (l .pool .tracked) (l .pool .kept - 1) (l .pool .pages) (l .pool .doomed) (l .pool .since) (l .pool .trackings) (l .pool .parked - bytes) (l .pool .dooming))
+                (counted (l .pool) (l .pool .tracked) (l .pool .kept - 1) (l .pool .pages) (l .pool .doomed) (l .pool .since) (l .pool .trackings) (l .pool .parked - t′ .bytes) (l .pool .dooming))
                 (l .book) textures (l .retiring) (l .doomed) spares (l .newest) (l .stamps),
           )
           ≡ takeSpareCall l id shape records seq
-      left-with some-spare e1 e2 e3 e4 e5 e6 e7 =
+      left-with some-spare e1 e2 e3 e4 e5 e6 =
           let n : t′ .spares ≡ count = ap sparesOf is-record in
           let at : k ≡ firstSpare l i + (count - 1) = omega (arith, e1, e2, n, spares-to l i (h .0)) in
           let tex : textures ≡ sets (l .textures) (20 * i) (writeTexture (renamedRecord seq (count - 1) t)) =
-          e6 ∙ ap (λ (y : TextureRecord). sets (l .textures) (20 * i) (writeTexture y)) (e5 ∙ ap₂ (λ (m : ℕ) (r : TextureRecord). renamedRecord seq (m - 1) r) n is-record) in
-          let by : bytes ≡ bytesOf (t .shape) = e4 ∙ ap (λ (r : TextureRecord). bytesOf (r .shape)) is-record in
+          e5 ∙ ap (λ (y : TextureRecord). sets (l .textures) (20 * i) (writeTexture y)) (e4 ∙ ap₂ (λ (m : ℕ) (r : TextureRecord). renamedRecord seq (m - 1) r) n is-record) in
+          let by : t′ .bytes ≡ bytesOf (t .shape) = ap (λ (r : TextureRecord). r .bytes) is-record ∙ bytes-at l i (h .0) f in
           (λ j. (
             answer (some (record { view = e3 j .view; held = e3 j .held })),
             lent
                 (counted (l .pool) (l .pool .tracked) (l .pool .kept - 1) (l .pool .pages) (l .pool .doomed) (l .pool .since) (l .pool .trackings) (l .pool .parked - by j) (l .pool .dooming))
-                (l .book) (tex j) (l .retiring) (l .doomed) (e7 j) (l .newest) (l .stamps),
+                (l .book) (tex j) (l .retiring) (l .doomed) (e6 j) (l .newest) (l .stamps),
           ))
           ∙ spare-taken (omega (arith, n)) k at

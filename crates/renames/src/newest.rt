@@ -17,7 +17,6 @@ use layout::PacingBook;
 use layout::Pool;
 use records::TextureRecord;
 use shapes::VersionShape;
-use shapes::shape_bytes;
 use tables::remove_records;
 
 // The texture's record after the rename.
@@ -63,12 +62,11 @@ pub fn take_newest(
     let k = spares_before(textures, i) + left as usize;
     let spare = spare_at(spares, k);
     let held = spare.held;
-    let bytes = shape_bytes(t.shape);
     put_texture(textures, i, renamed(t, seq, left));
     remove_records(spares, 3, pool.kept, k, 1);
     let mut after = pool;
     after.kept = pool.kept - 1;
-    after.parked = pool.parked - bytes;
+    after.parked = pool.parked - t.bytes;
     TakeAnswer {
         pool: after,
         taken: Taken::Spare {

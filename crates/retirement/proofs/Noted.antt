@@ -22,11 +22,11 @@ module _ (b : Bool) (t : TextureRecord) (id view seq : ℕ) where
   unfolding retiredRecord
   note-untracked e = sym (ap (λ (a : Bool). retiredRecord a t id view seq) e)
 
-  pub note-tracked : b ≡ true → (u : TextureRecord) → u ≡ t → (held bytes : ℕ) → held ≡ writesCounted (u .history) → bytes ≡ bytesOf (u .shape)
-      → record { id = id; view = view; seq = seq; epoch = u .epoch; birth = u .birth; held = held; bytes = bytes } ≡ retiredRecord b t id view seq
+  pub note-tracked : b ≡ true → (u : TextureRecord) → u ≡ t → (held : ℕ) → held ≡ writesCounted (u .history)
+      → record { id = id; view = view; seq = seq; epoch = u .epoch; birth = u .birth; held = held; bytes = u .bytes } ≡ retiredRecord b t id view seq
   unfolding retiredRecord
-  note-tracked e u read held bytes e1 e2 =
-      (λ i. record { id = id; view = view; seq = seq; epoch = u .epoch; birth = u .birth; held = e1 i; bytes = e2 i })
+  note-tracked e u read held e1 =
+      (λ i. record { id = id; view = view; seq = seq; epoch = u .epoch; birth = u .birth; held = e1 i; bytes = u .bytes })
       ∙ ap (λ (v : TextureRecord). retiredRecord true v id view seq) read
       ∙ sym (ap (λ (a : Bool). retiredRecord a t id view seq) e)
 

@@ -34,7 +34,7 @@ use Rattle.layout.proofs.Rings.{hand-model, head-stays, first-stays, retiring-p
 use Rattle.layout.proofs.Same.{queued-model, doomed-model}
 use Rattle.layout.proofs.Kept.{pagedOf}
 use Rattle.layout.proofs.Changes.{textures-set}
-use Rattle.layout.proofs.Stays.{put-together, textures-fit, book-stays, textures-stay, spares-stay, newest-stay, stamps-stay, doomed-stay}
+use Rattle.layout.proofs.Stays.{put-together, book-stays, textures-stay, spares-stay, newest-stay, stamps-stay, doomed-stay}
 use Rattle.layout.proofs.Tracked.{textureAt, record-at}
 use Rattle.retirement.specs.Counts.{ringCount, oneQueued}
 use Rattle.retirement.specs.Noted.{lastQueued, retireRefusal, hasId, retiredRecord, bornAt}
@@ -150,8 +150,8 @@ module _ (l : Lent) (e : isPool l ≡ true) (id view seq : ℕ) where
       textures-left false q = textures-stay l fits queued (ap (map textureRecord) (changed-nowhere l fits id i at q (withBirth seq)))
       textures-left true q =
           let h = inside l fits id i at q in
-          ap (λ (t : TextureRecord). sets (l .textures) (20 * i) (writeTexture (bornAt seq t))) (sym (record-at l i h))
-          ∙ textures-set l queued (textures-fit l fits) i (withBirth seq (stateOf l i)) h (changed-here l fits id i at q (withBirth seq))
+          ap (λ (t : TextureRecord). sets (l .textures) (20 * i) (writeTexture (bornAt seq t))) (sym (record-at l i h fits))
+          ∙ textures-set l queued fits i (withBirth seq (stateOf l i)) h (changed-here l fits id i at q (withBirth seq))
 
       version-noted : (b : Bool) → here ≡ b → retiringRecord version ≡ retiredRecord b (textureAt l i) id view seq
       version-noted false q =
@@ -160,7 +160,7 @@ module _ (l : Lent) (e : isPool l ≡ true) (id view seq : ℕ) where
       version-noted true q =
           ap (λ (o : Option (VersionState ℕ)). retiringRecord (retired id view seq o)) (found-here l fits id i at q)
           ∙ model-tracked (stateOf l i) id view seq
-          ∙ ap (λ (t : TextureRecord). retiredRecord true t id view seq) (record-at l i (inside l fits id i at q))
+          ∙ ap (λ (t : TextureRecord). retiredRecord true t id view seq) (record-at l i (inside l fits id i at q) fits)
 
       retiring-left : sets (l .retiring) (7 * placeOf (places l) (l .pool .head) (ringCount (l .pool))) (writeRetiring (retiringRecord version))
           ≡ retiringAfter queued l

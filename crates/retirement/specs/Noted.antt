@@ -5,7 +5,6 @@ use mathlib.Core.List.{List}
 use lib.Dec.{leb, ltb, eqb}
 use Rattle.tables.specs.Records.{recordAt}
 use Rattle.tables.specs.Rings.{along}
-use Rattle.shapes.specs.Shapes.{bytesOf}
 use Rattle.stores.specs.Model.{limit}
 use Rattle.records.specs.declared.recorded.Recorded.{Recorded}
 use Rattle.records.specs.declared.recorded.Recorded.the-variants.{Writes, NoHistory}
@@ -46,7 +45,7 @@ retiredRecord true t id view seq = record {
   epoch = t .epoch;
   birth = t .birth;
   held = writesCounted (t .history);
-  bytes = bytesOf (t .shape);
+  bytes = t .bytes;
 }
 
 -- its live version became live in this submission

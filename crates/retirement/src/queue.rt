@@ -5,7 +5,6 @@ ghost use Prim.Native.Nat.{_+_, _*_, _≤_, _<_};
 ghost use lib.ListN.{length};
 ghost use lib.Seq.{sets};
 ghost use Rattle.tables.specs.Records.{recordAt};
-ghost use Rattle.shapes.specs.Shapes.{isShape};
 ghost use Rattle.records.specs.Recorded.{RecordedFits};
 ghost use Rattle.records.specs.Texture.{readTexture, writeTexture};
 ghost use Rattle.layout.specs.Lent.{lent};
@@ -27,7 +26,6 @@ use records::Recorded;
 use records::RetiringRecord;
 use records::TextureRecord;
 use records::find_texture;
-use shapes::shape_bytes;
 
 const LIMIT: u64 = 281474976710656;
 
@@ -73,8 +71,7 @@ fn retired_version(
     view: u64,
     seq: u64,
 ) -> RetiringRecord
-    requires { ⌜ (20 * tracked ≤ length (now textures))
-        × (hasId (now textures) tracked i id ≡ true → isShape (recordAt 20 readTexture (now textures) i .shape) ≡ true) ⌝ }
+    requires { ⌜ 20 * tracked ≤ length (now textures) ⌝ }
     ensures { λ r. ⌜ r ≡ retiredRecord (hasId (now (textures .entry)) tracked i id) (recordAt 20 readTexture (now (textures .entry)) i) id view seq ⌝ }
 {
     if !has_id(textures, tracked, i, id) {
@@ -89,7 +86,6 @@ fn retired_version(
         };
     }
     let t = texture_at(textures, i);
-    let shape = t.shape;
     let history = t.history;
     RetiringRecord {
         id,
@@ -98,7 +94,7 @@ fn retired_version(
         epoch: t.epoch,
         birth: t.birth,
         held: writes_counted(history),
-        bytes: shape_bytes(shape),
+        bytes: t.bytes,
     }
 }
 

@@ -35,7 +35,7 @@ use Rattle.layout.proofs.FromPool.{pool-fits, page-places}
 use Rattle.layout.proofs.Runs.{sparesOf, spareCount, firstSpare, firstPageOf, stateOf, tracked-model, kept-model, pages-model}
 use Rattle.layout.proofs.Same.{doomed-model}
 use Rattle.layout.proofs.Rings.{doomed-pushed}
-use Rattle.layout.proofs.Stays.{put-together, book-stays, ids-ascend, textures-fit, retiring-stay, doomed-fit, doomed-bound}
+use Rattle.layout.proofs.Stays.{put-together, book-stays, ids-ascend, retiring-stay, doomed-fit, doomed-bound}
 use Rattle.layout.proofs.Places.{changed}
 use Rattle.layout.proofs.Changes.{textures-set, sparesBefore, sparesAt, every-emptied, spares-removed}
 use Rattle.layout.proofs.Pages.{pagesAt, next-page, pages-in, set-parts}
@@ -311,7 +311,7 @@ module _ (l : Lent) (i id : ℕ) (shape : VersionShape) (records : Bool) (seq : 
         (counts-left fresh e2 g e3) (book-stays l f renewed refl)
         (e7 ∙ ap (λ (y : TextureRecord). sets (l .textures) (20 * i) (writeTexture y))
         (e6 ∙ ap (λ (k : ℕ). newRecord id shape records k seq) epoch-is ∙ sym (begun-record id shape records epoch seq))
-        ∙ textures-set l renewed (textures-fit l f) i new (h .0) changed-there)
+        ∙ textures-set l renewed f i new (h .0) changed-there)
         (retiring-stay l f renewed refl refl) (doomed-left places e1 doomed e4) (spares-left spares e5)
         (e8 ∙ (λ j. sets (moved (l .newest) (page-is j + e2 j) (page-is j + pages-is j) (l .pool .pages - (page-is j + pages-is j))) (page-is j) (replicate (e2 j) 0))
         ∙ newest-begun id shape records epoch seq l f renewed i (suc i) (recordPages t) (omega arith) parts next shaped page-room)

@@ -32,7 +32,7 @@ use Rattle.layout.proofs.Fits.{Fits}
 use Rattle.layout.proofs.FromPool.{pool-fits, page-places, enough}
 use Rattle.layout.proofs.Runs.{spareCount, firstPageOf, tracked-records, tracked-model, kept-model, pages-model}
 use Rattle.layout.proofs.Same.{doomed-model}
-use Rattle.layout.proofs.Stays.{put-together, book-stays, ids-ascend, textures-fit, spares-stay, retiring-stay, doomed-stay}
+use Rattle.layout.proofs.Stays.{put-together, book-stays, ids-ascend, spares-stay, retiring-stay, doomed-stay}
 use Rattle.layout.proofs.Places.{IsTracked, not-found, put-in}
 use Rattle.layout.proofs.Changes.{textures-inserted, every-inserted}
 use Rattle.layout.proofs.Pages.{page-bound}
@@ -187,7 +187,7 @@ module _ (l : Lent) (i id : ℕ) (shape : VersionShape) (records : Bool) (seq : 
       (book-stays l f started refl)
       (e4 ∙ ap (λ (y : TextureRecord). sets (moved (l .textures) (20 * i + 20) (20 * i) (20 * (l .pool .tracked - i))) (20 * i) (writeTexture y))
       (e1 ∙ ap (λ (k : ℕ). newRecord id shape records k seq) epoch-is ∙ sym (begun-record id shape records epoch seq))
-      ∙ textures-inserted l started (textures-fit l f) i new record-room place-bound put-there)
+      ∙ textures-inserted l started f i new record-room place-bound put-there)
       (retiring-stay l f started refl refl) (doomed-stay l f started refl)
       (spares-stay l f started (ap everySpare put-there ∙ every-inserted l i new refl))
       (e5 ∙ ap₂ (λ (a b : ℕ). sets (moved (l .newest) (a + b) (a + 0) (l .pool .pages - (a + 0))) a (replicate b 0)) at e3

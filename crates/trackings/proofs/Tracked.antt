@@ -25,7 +25,7 @@ use Rattle.layout.proofs.Runs.{sparesOf, firstSpare, stateOf}
 use Rattle.layout.proofs.Stays.{ids-ascend}
 use Rattle.layout.proofs.Places.{IsTracked, found}
 use Rattle.layout.proofs.Changes.{sparesAt, spares-in}
-use Rattle.layout.proofs.Tracked.{record-read, spares-to, shape-at, count-at, shape-passes, history-fits}
+use Rattle.layout.proofs.Tracked.{record-read, spares-to, bytes-at, shape-at, count-at, shape-passes, history-fits}
 use Rattle.trackings.specs.Cases.{Accepted, recordOf, TrackedAt}
 
 module _ (l : Lent) (f : Fits l) (i : ℕ) (h : i < l .pool .tracked) where
@@ -74,6 +74,7 @@ pub record Here (l : Lent) (i : ℕ) : Type 0 where
   pub textures : 20 * i + 20 ≤ length (l .textures)
   pub history : RecordedFits (recordOf l i .history)
   pub shape : isShape (recordOf l i .shape) ≡ true
+  pub bytes : recordOf l i .bytes ≡ bytesOf (recordOf l i .shape)
   pub first : total sparesOf (table 20 readTexture i (l .textures)) ≡ firstSpare l i
   pub within : firstSpare l i + recordOf l i .spares ≤ l .pool .kept
   pub kept : l .pool .kept ≤ 4096
@@ -88,6 +89,7 @@ here l i id shape records seq ok (h, e) =
       textures = record-fits l f i h;
       history = history-fits l i h f;
       shape = shape-passes l i h f;
+      bytes = bytes-at l i h f;
       first = sym (spares-to l i h);
       within = spares-within l f i h;
       kept = kept-bound l f i h;

@@ -9,7 +9,7 @@ use lib.ListN.{length, take, drop, replicate}
 use lib.Seq.{sets}
 use Rattle.blocks.specs.Blocks.{moved}
 use Rattle.shapes.specs.declared.shape.VersionShape.{VersionShape}
-use Rattle.shapes.specs.Shapes.{isShape}
+use Rattle.shapes.specs.Shapes.{isShape, bytesOf}
 use Rattle.stores.specs.Model.{VersionState, Pool, pagesUsed}
 use Rattle.stores.specs.Histories.{newHistory}
 use Rattle.stores.specs.TakeSpare.{newState}
@@ -28,9 +28,10 @@ use Rattle.layout.proofs.Fresh.{fresh-newest, fresh-stamps}
 use Rattle.trackings.specs.Begun.{freshHistory, freshPages, newRecord}
 
 module _ (id : ℕ) (shape : VersionShape) (records : Bool) (epoch seq : ℕ) where
-  pub record-made : (h : Recorded) → h ≡ freshHistory records
-      → record { id = id; shape = shape; epoch = epoch; history = h; birth = 0; rename = seq; due = seq; spares = 0 } ≡ newRecord id shape records epoch seq
-  record-made h e = λ j. record { id = id; shape = shape; epoch = epoch; history = e j; birth = 0; rename = seq; due = seq; spares = 0 }
+  pub record-made : (h : Recorded) (bytes : ℕ) → h ≡ freshHistory records → bytes ≡ bytesOf shape
+      → record { id = id; shape = shape; epoch = epoch; history = h; birth = 0; rename = seq; due = seq; spares = 0; bytes = bytes }
+      ≡ newRecord id shape records epoch seq
+  record-made h bytes e q = λ j. record { id = id; shape = shape; epoch = epoch; history = e j; birth = 0; rename = seq; due = seq; spares = 0; bytes = q j }
 
   abbrev pub begun : VersionState ℕ
   begun = newState id shape records epoch seq

@@ -2,6 +2,7 @@
 use Prim.Native.Nat.{ℕ}
 use mathlib.Core.Bool.{Bool, cond}
 use Rattle.shapes.specs.declared.shape.VersionShape.{VersionShape}
+use Rattle.shapes.specs.Shapes.{bytesOf}
 use Rattle.stores.specs.Model.{pagesOf}
 use Rattle.records.specs.declared.recorded.Recorded.{Recorded}
 use Rattle.records.specs.declared.recorded.Recorded.the-variants.{Writes, NoHistory}
@@ -26,4 +27,5 @@ newRecord id shape records epoch seq = record {
   rename = seq;
   due = seq;
   spares = 0;
+  bytes = bytesOf shape;
 }

@@ -3,7 +3,6 @@ use Prim.Native.Nat.{ℕ, _+_, _*_, _-_}
 use mathlib.Core.List.{List}
 use Rattle.blocks.specs.Lists.{total}
 use Rattle.tables.specs.Records.{recordAt, table}
-use Rattle.shapes.specs.Shapes.{bytesOf}
 use Rattle.records.specs.declared.texture.TextureRecord.{TextureRecord}
 use Rattle.records.specs.Texture.{readTexture}
 use Rattle.layout.specs.declared.pool.Pool.{Pool}
@@ -14,7 +13,7 @@ unfoldable pub holdingAt : List ℕ → ℕ → Holding
 holdingAt textures i = record {
   first = total (λ (t : TextureRecord). t .spares) (table 20 readTexture i textures);
   spares = recordAt 20 readTexture textures i .spares;
-  bytes = bytesOf (recordAt 20 readTexture textures i .shape);
+  bytes = recordAt 20 readTexture textures i .bytes;
   page = total recordPages (table 20 readTexture i textures);
   pages = recordPages (recordAt 20 readTexture textures i);
 }

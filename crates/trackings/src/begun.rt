@@ -1,12 +1,15 @@
 // A tracking just begun.
 ghost use mathlib.Core.Path.{_≡_};
+ghost use mathlib.Core.Bool.{true};
 ghost use Prim.Native.Nat.{_≤_};
+ghost use Rattle.shapes.specs.Shapes.{isShape};
 ghost use Rattle.stores.specs.Model.{pagesOf};
 ghost use Rattle.trackings.specs.Begun.{freshHistory, freshPages, newRecord};
 use access::shape_pages;
 use records::Recorded;
 use records::TextureRecord;
 use shapes::VersionShape;
+use shapes::shape_bytes;
 
 // Its write history, if writes are recorded.
 fn fresh_history(records: bool) -> Recorded
@@ -35,6 +38,7 @@ pub fn new_record(
     epoch: u64,
     seq: u64,
 ) -> TextureRecord
+    requires { ⌜ isShape shape ≡ true ⌝ }
     ensures { λ r. ⌜ r ≡ newRecord id shape records epoch seq ⌝ }
 {
     let history = fresh_history(records);
@@ -47,5 +51,6 @@ pub fn new_record(
         rename: seq,
         due: seq,
         spares: 0,
+        bytes: shape_bytes(shape),
     }
 }

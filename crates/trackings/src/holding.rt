@@ -13,7 +13,6 @@ use access::history_pages;
 use access::pages_before;
 use access::spares_before;
 use access::texture_at;
-use shapes::shape_bytes;
 
 // Where its spares begin, how many there are and the bytes of each; where its pages begin and how many there are.
 pub struct Holding {
@@ -26,7 +25,6 @@ pub struct Holding {
 
 pub fn holding_at(textures: &[u64], i: usize) -> Holding
     requires { ⌜ (20 * i + 20 ≤ length (now textures))
-        × (isShape (recordAt 20 readTexture (now textures) i .shape) ≡ true)
         × (total (λ t. t .spares) (table 20 readTexture i (now textures)) ≤ 4096)
         × (total recordPages (table 20 readTexture i (now textures)) ≤ 4096)
         × (recordPages (recordAt 20 readTexture (now textures) i) ≤ 4096) ⌝ }
@@ -36,7 +34,7 @@ pub fn holding_at(textures: &[u64], i: usize) -> Holding
     Holding {
         first: spares_before(textures, i),
         spares: t.spares as usize,
-        bytes: shape_bytes(t.shape),
+        bytes: t.bytes,
         page: pages_before(textures, i),
         pages: history_pages(t),
     }

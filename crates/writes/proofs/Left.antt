@@ -26,7 +26,7 @@ use Rattle.layout.proofs.Fits.{Fits}
 use Rattle.layout.proofs.Runs.{spareCount, firstPageOf, stateOf, tracked-model, model-at, kept-model, pages-model}
 use Rattle.layout.proofs.Rings.{head-stays, hand-model, first-stays}
 use Rattle.layout.proofs.Same.{queued-model, doomed-model}
-use Rattle.layout.proofs.Stays.{put-together, ids-ascend, textures-fit, book-stays, retiring-stay, doomed-stay, spares-stay}
+use Rattle.layout.proofs.Stays.{put-together, ids-ascend, book-stays, retiring-stay, doomed-stay, spares-stay}
 use Rattle.layout.proofs.Changes.{count-state, textures-set, every-kept}
 use Rattle.layout.proofs.Pages.{pagesAt, pages-in, newest-dropped, stamps-dropped}
 use Rattle.layout.proofs.Stamped.{gridsAt, used-at, whole-grids}
@@ -81,12 +81,13 @@ module _ (l : Lent) (f : Fits l) (i : ℕ) (h : i < l .pool .tracked) where
       rename = record-read l i h j .rename;
       due = record-read l i h j .due;
       spares = (count-state l i ∙ ap (λ (t : TextureRecord). t .spares) (record-read l i h)) j;
+      bytes = (ap bytesOf (shape-at l i h) ∙ sym (bytes-at l i h f)) j;
     }
 
     textures-left : sets (l .textures) (20 * i) (writeTexture (recordedAs (recordedOf o) (textureAt (l .textures) i))) ≡ texturesAfter otherPool l
     textures-left =
         ap (λ (t : TextureRecord). sets (l .textures) (20 * i) (writeTexture t)) (sym other-record)
-        ∙ textures-set l otherPool (textures-fit l f) i otherState h refl
+        ∙ textures-set l otherPool f i otherState h refl
 
     within : i < length (modelOf l .textures)
     within = omega (arith, tracked-model l)

@@ -4,7 +4,7 @@ use native.Mathlib.Omega.{arith}
 use Rattle.layout.specs.Lent.{lent}
 use Rattle.layout.proofs.FromPool.{pool-fits}
 use Rattle.layout.proofs.Stays.{ids-ascend, textures-fit}
-use Rattle.retirement.proofs.Tracked.{shape-here, history-here}
+use Rattle.retirement.proofs.Tracked.{history-here}
 use Rattle.retirement.proofs.RetireCases.{refusal-fits, queued-fits, count-fits, push-fits, retire-refused, retire-accepted}
 use Rattle.retirement.proofs.queue.retire.Statement.{statement}
 use Rattle.retirement.proofs.queue.retire.Tie as tie
@@ -40,9 +40,7 @@ retired-version-requires c κs =
     let b = c .before .before .before .before .before .before .before .before .before .before .before .before in
     let a = b .args in
     let l = lent (a .pool) (a .book) (a .textures .now) (a .retiring .now) (a .doomed .now) (a .spares .now) (a .newest .now) (a .stamps .now) in
-    let f = pool-fits l (b .pre) in
-    let s = c .before .find-texture in
-    (textures-fit l f, shape-here l f (a .id) (s .result) (s .ensures))
+    textures-fit l (pool-fits l (b .pre))
 
 note-birth-requires : tie.Need-note-birth-requires
 note-birth-requires c κs =

@@ -1,7 +1,5 @@
 -- `retired_version` meets its contract, for an untracked texture and a tracked one. Assumes nothing.
 use borrow.Author.Needs.{needs}
-use mathlib.Core.Path.{ap, _∙_}
-use Rattle.shapes.specs.Shapes.{isShape}
 use Rattle.tables.specs.Records.{recordAt}
 use Rattle.records.specs.Texture.{readTexture}
 use Rattle.access.proofs.Ids.{hasId}
@@ -11,7 +9,7 @@ use Rattle.retirement.proofs.queue.retired_version.Statement.{statement
 use Rattle.retirement.proofs.queue.retired_version.Tie as tie
 
 has-id-requires : tie.Need-has-id-requires
-has-id-requires c κs = c .before .pre .0
+has-id-requires c κs = c .before .pre
 
 returns : tie.Need-returns
 returns c =
@@ -25,27 +23,20 @@ texture-at-requires : tie.Need-texture-at-requires
 texture-at-requires c κs =
     let a = c .before .before .before .args in
     let h = c .before .has-id in
-    record-fits (a .textures .now) (a .tracked) (a .i) (a .id) (h .result) (h .ensures) (c .if1 .left) (c .before .before .before .pre .0)
+    record-fits (a .textures .now) (a .tracked) (a .i) (a .id) (h .result) (h .ensures) (c .if1 .left) (c .before .before .before .pre)
 
 writes-counted-requires : tie.Need-writes-counted-requires
 writes-counted-requires c κs = search needs
 
-shape-bytes-requires : tie.Need-shape-bytes-requires
-shape-bytes-requires c κs =
+returns-2 : tie.Need-returns-2
+returns-2 c =
     let a = c .before .before .before .before .before .before .args in
     let h = c .before .before .before .before .has-id in
     let q = says-here (a .textures .now) (a .tracked) (a .i) (a .id) (h .result) (h .ensures) (c .before .before .before .if1 .left) in
-    ap (λ t. isShape (t .shape)) (c .before .before .texture-at .ensures) ∙ c .before .before .before .before .before .before .pre .1 q
-
-returns-2 : tie.Need-returns-2
-returns-2 c =
-    let a = c .before .before .before .before .before .before .before .args in
-    let h = c .before .before .before .before .before .has-id in
-    let q = says-here (a .textures .now) (a .tracked) (a .i) (a .id) (h .result) (h .ensures) (c .before .before .before .before .if1 .left) in
-    let t = c .before .before .before .texture-at in
-    let w = c .before .writes-counted in
+    let t = c .before .before .texture-at in
+    let w = c .writes-counted in
     note-tracked (hasId (a .textures .now) (a .tracked) (a .i) (a .id)) (recordAt 20 readTexture (a .textures .now) (a .i)) (a .id) (a .view) (a .seq)
-    q (t .result) (t .ensures) (w .result) (c .shape-bytes .result) (w .ensures) (c .shape-bytes .ensures)
+    q (t .result) (t .ensures) (w .result) (w .ensures)
 
 pub retired-version-spec : {M : Type 1} → statement M
 retired-version-spec =
@@ -55,5 +46,4 @@ retired-version-spec =
     returns
     texture-at-requires
     writes-counted-requires
-    shape-bytes-requires
     returns-2)
