@@ -14,7 +14,8 @@ use Rattle.blocks.specs.Lists.{total, inserted}
 use Rattle.blocks.specs.Blocks.{moved}
 use Rattle.tables.specs.Rings.{placeOf, along, laid}
 use Rattle.tables.proofs.Records.{take-table}
-use Rattle.shapes.specs.Shapes.{isShape, bytesOf}
+use Rattle.shapes.specs.Shapes.{bytesOf}
+use Rattle.shapes.proofs.ShapeBytes.{bytes-bound}
 use Rattle.stores.specs.Model.{Spare, Retiring, Doomed, VersionState, Pool, accepted, refused, guard, find, limit, pagesUsed}
 use Rattle.stores.specs.Updates.{withSpares, withTextures, withRetiring, withParked, change, doom}
 use Rattle.stores.specs.Park.{asSpare, parkFound, parkHand, park}
@@ -48,13 +49,13 @@ use Rattle.layout.proofs.Kept.{pagedOf}
 use Rattle.layout.proofs.Changes.{sparesBefore, sparesAt, every-appended, textures-set, spares-inserted}
 use Rattle.layout.proofs.Counts.{kept-inserted}
 use Rattle.layout.proofs.Stays.{put-together, textures-fit, ring-fits, doomed-fit, book-stays, textures-stay, spares-stay, newest-stay, stamps-stay, doomed-stay, doomed-bound}
-use Rattle.layout.proofs.Tracked.{textureAt, record-read, record-at}
+use Rattle.layout.proofs.Tracked.{textureAt, record-read, bytes-at, record-at, shape-passes}
 use Rattle.parking.specs.declared.decision.Parking.{Parking}
 use Rattle.parking.specs.declared.decision.Parking.the-variants.{Destroyed, Kept}
 use Rattle.parking.specs.Counts.{handKept, handDoomed}
 use Rattle.retirement.specs.Noted.{hasId}
 use Rattle.parking.specs.Parked.{parkRefusal, parkingOf, spareParked, oneMore, sparesEnd}
-use Rattle.retirement.proofs.Tracked.{map-change, inside, found-here, found-nowhere, changed-here, shape-here, history-here}
+use Rattle.retirement.proofs.Tracked.{map-change, inside, found-here, found-nowhere, changed-here, history-here}
 use Rattle.retirement.proofs.PopCases.{front-read}
 use Rattle.parking.proofs.Parked.{Says, decision-says, held-fits}
 
@@ -190,7 +191,7 @@ module _ (l : Lent) (e : isPool l ≡ true) (failed current : ℕ) where
         parks true q =
             ap (parkFound emptied failed current v) (found-here l fits (x .id) i at q)
             ∙ tracked-parks (stateOf l i)
-            ∙ ap (λ (t : TextureRecord). parked (parkingOf (l .pool) pressed true t x)) (record-at l i (inside l fits (x .id) i at q))
+            ∙ ap (λ (t : TextureRecord). parked (parkingOf (l .pool) pressed true t x)) (record-at l i (inside l fits (x .id) i at q) fits)
 
         decides : (d : Parking) → decided ≡ d → (m : Lent) → m ≡ after (parked d) l → (answer tt, m) ≡ parkCall l failed current
         unfolding parkCall
@@ -199,17 +200,22 @@ module _ (l : Lent) (e : isPool l ≡ true) (failed current : ℕ) where
             ∙ sym (asked-accepted (λ a. a) l (λ (p : Pool ℕ). park p failed current) e tt (parked d)
             (rule-passed ∙ ap (accepted tt) (parks here refl ∙ ap parked q)))
 
-        pub decision-fits : (20 * l .pool .tracked ≤ length (l .textures)) × (here ≡ true → isShape (textureAt l i .shape) ≡ true)
-            × (l .pool .parked ≤ l .pool .cap)
+        pub decision-fits : (20 * l .pool .tracked ≤ length (l .textures)) × (l .pool .parked ≤ l .pool .cap)
         unfolding modelOf
-        decision-fits = (textures-fit l fits, shape-here l fits (x .id) i at, fits .formed .cap)
+        decision-fits = (textures-fit l fits, fits .formed .cap)
+
+        -- no version's bytes pass 2^44
+        own-bytes : here ≡ true → textureAt l i .bytes ≤ 17592186044416
+        own-bytes q =
+            let h = inside l fits (x .id) i at q in
+            omega (arith, bytes-at l i h fits, bytes-bound (textureAt l i .shape) (shape-passes l i h fits))
 
         -- the code's decision
         module _ (d : Parking) (taken : d ≡ decided) where
           says : Says (l .pool) pressed here (textureAt l i) x d
           says =
               subst (Says (l .pool) pressed here (textureAt l i) x) (sym taken)
-              (decision-says (l .pool) pressed here (textureAt l i) x (hand-formed .bytes) (shape-here l fits (x .id) i at))
+              (decision-says (l .pool) pressed here (textureAt l i) x (hand-formed .bytes) own-bytes)
 
           -- ---- destroyed
 
@@ -348,7 +354,7 @@ module _ (l : Lent) (e : isPool l ≡ true) (failed current : ℕ) where
             textures-kept : sets (l .textures) (20 * i) (writeTexture (oneMore (textureAt l i))) ≡ texturesAfter stays l
             textures-kept =
                 ap (λ (t : TextureRecord). sets (l .textures) (20 * i) (writeTexture t))
-                (ap oneMore (sym (record-at l i there)) ∙ record-one spare (stateOf l i))
+                (ap oneMore (sym (record-at l i there fits)) ∙ record-one spare (stateOf l i))
                 ∙ textures-set l stays fits i (withOne spare (stateOf l i)) there grown-is
 
             spares-kept : sets (moved (l .spares) (3 * end + 3) (3 * end) (3 * (l .pool .kept - end))) (3 * end)

@@ -11,8 +11,6 @@ use lib.Seq.{sets}
 use Rattle.blocks.specs.Blocks.{moved}
 use Rattle.blocks.specs.Lists.{total}
 use Rattle.tables.specs.Records.{recordAt, table}
-use Rattle.shapes.specs.Shapes.{isShape, bytesOf}
-use Rattle.shapes.proofs.ShapeBytes.{bytes-bound}
 use Rattle.stores.specs.declared.held.Held.the-variants.{Known, Unknown}
 use Rattle.stores.specs.Model.{limit}
 use Rattle.records.specs.declared.texture.TextureRecord.{TextureRecord}
@@ -57,10 +55,10 @@ cap-left cap parked bytes h = go (decLt (cap - parked) bytes)
 
 module _ (p : Pool) (pressed here : Bool) (t : TextureRecord) (v : RetiringRecord) where
   abbrev full : Bool
-  full = pressed || ltb (p .cap) (p .parked + bytesOf (t .shape))
+  full = pressed || ltb (p .cap) (p .parked + t .bytes)
 
   abbrev decision : Bool → Bool → Parking
-  decision same b = cond same (cond b (Destroyed (bytesOf (t .shape))) (Kept (bytesOf (t .shape)))) (Destroyed (v .bytes))
+  decision same b = cond same (cond b (Destroyed (t .bytes)) (Kept (t .bytes))) (Destroyed (v .bytes))
 
   pub decide-untracked : here ≡ false → Destroyed (v .bytes) ≡ parkingOf p pressed here t v
   unfolding parkingOf
@@ -74,9 +72,12 @@ module _ (p : Pool) (pressed here : Bool) (t : TextureRecord) (v : RetiringRecor
         sym (ap₂ (λ (a b : Bool). decision (a && b) full) e
         (ap (λ (w : TextureRecord). eqb (w .epoch) (v .epoch)) (sym read) ∙ ne-eqb (u .epoch) (v .epoch) ne))
 
-    module _ (same : u .epoch ≡ v .epoch) (bytes : ℕ) (sum : bytes ≡ bytesOf (u .shape)) (within : p .parked ≤ p .cap) where
-      bytes-are : bytes ≡ bytesOf (t .shape)
-      bytes-are = sum ∙ ap (λ (w : TextureRecord). bytesOf (w .shape)) read
+    module _ (same : u .epoch ≡ v .epoch) (within : p .parked ≤ p .cap) where
+      abbrev bytes : ℕ
+      bytes = u .bytes
+
+      bytes-are : bytes ≡ t .bytes
+      bytes-are = ap (λ (w : TextureRecord). w .bytes) read
 
       full-by : (pressed || ltb (p .cap - p .parked) bytes) ≡ full
       full-by = ap (λ (b : Bool). pressed || b) (cap-left (p .cap) (p .parked) bytes within ∙ ap (λ (n : ℕ). ltb (p .cap) (p .parked + n)) bytes-are)
@@ -100,18 +101,18 @@ module _ (p : Pool) (pressed here : Bool) (t : TextureRecord) (v : RetiringRecor
   Says (Destroyed bytes) = bytes ≤ 17592186044416
   Says (Kept bytes) = (here ≡ true) × (p .parked + bytes ≤ p .cap)
 
-  pub decision-says : v .bytes ≤ 17592186044416 → (here ≡ true → isShape (t .shape) ≡ true) → Says (parkingOf p pressed here t v)
+  pub decision-says : v .bytes ≤ 17592186044416 → (here ≡ true → t .bytes ≤ 17592186044416) → Says (parkingOf p pressed here t v)
   unfolding parkingOf
-  decision-says few shape = go here refl (eqb (t .epoch) (v .epoch)) full refl
+  decision-says few own = go here refl (eqb (t .epoch) (v .epoch)) full refl
     where
-      within : (a : Bool) → a || ltb (p .cap) (p .parked + bytesOf (t .shape)) ≡ false → p .parked + bytesOf (t .shape) ≤ p .cap
+      within : (a : Bool) → a || ltb (p .cap) (p .parked + t .bytes) ≡ false → p .parked + t .bytes ≤ p .cap
       within true q = absurd (true≢false q)
-      within false q = ltb-false (p .cap) (p .parked + bytesOf (t .shape)) q
+      within false q = ltb-false (p .cap) (p .parked + t .bytes) q
 
       go : (h : Bool) → here ≡ h → (a b : Bool) → full ≡ b → Says (decision (h && a) b)
       go false q a b k = few
       go true q false b k = few
-      go true q true true k = bytes-bound (t .shape) (shape q)
+      go true q true true k = own q
       go true q true false k = (q, within pressed k)
 
 -- ---- what is noted

@@ -5,7 +5,6 @@ use mathlib.Core.List.{List}
 use lib.Dec.{leb, ltb, eqb}
 use Rattle.blocks.specs.Lists.{total}
 use Rattle.tables.specs.Records.{recordAt, table}
-use Rattle.shapes.specs.Shapes.{bytesOf}
 use Rattle.stores.specs.declared.held.Held.the-variants.{Known, Unknown}
 use Rattle.stores.specs.declared.held.Held.{Held}
 use Rattle.stores.specs.Model.{limit}
@@ -26,7 +25,7 @@ parkRefusal p failed current = cond (ltb limit failed || ltb limit current) 3 (c
 unfoldable pub parkingOf : Pool → Bool → Bool → TextureRecord → RetiringRecord → Parking
 parkingOf p pressed here t v =
     cond (here && eqb (t .epoch) (v .epoch))
-    (cond (pressed || ltb (p .cap) (p .parked + bytesOf (t .shape))) (Destroyed (bytesOf (t .shape))) (Kept (bytesOf (t .shape))))
+    (cond (pressed || ltb (p .cap) (p .parked + t .bytes)) (Destroyed (t .bytes)) (Kept (t .bytes)))
     (Destroyed (v .bytes))
 
 -- the held writes are unknown if a submission that the version was live through failed

@@ -4,7 +4,6 @@ ghost use mathlib.Core.Bool.{true};
 ghost use Prim.Native.Nat.{_*_, _≤_};
 ghost use lib.ListN.{length};
 ghost use Rattle.tables.specs.Records.{recordAt};
-ghost use Rattle.shapes.specs.Shapes.{isShape};
 ghost use Rattle.records.specs.Texture.{readTexture};
 ghost use Rattle.retirement.specs.Noted.{hasId};
 ghost use Rattle.parking.specs.Parked.{parkRefusal, parkingOf};
@@ -12,7 +11,6 @@ use access::has_id;
 use access::texture_at;
 use layout::Pool;
 use records::RetiringRecord;
-use shapes::shape_bytes;
 
 const LIMIT: u64 = 281474976710656;
 
@@ -45,7 +43,6 @@ pub fn park_or_destroy(
     v: RetiringRecord,
 ) -> Parking
     requires { ⌜ (20 * pool .tracked ≤ length (now textures))
-        × (hasId (now textures) (pool .tracked) i (v .id) ≡ true → isShape (recordAt 20 readTexture (now textures) i .shape) ≡ true)
         × (pool .parked ≤ pool .cap) ⌝ }
     ensures { λ r. ⌜ r
         ≡ parkingOf pool pressed (hasId (now (textures .entry)) (pool .tracked) i (v .id)) (recordAt 20 readTexture (now (textures .entry)) i) v ⌝ }
@@ -57,7 +54,7 @@ pub fn park_or_destroy(
     if t.epoch != v.epoch {
         return Parking::Destroyed(v.bytes);
     }
-    let bytes = shape_bytes(t.shape);
+    let bytes = t.bytes;
     if pressed | (pool.cap - pool.parked < bytes) {
         return Parking::Destroyed(bytes);
     }

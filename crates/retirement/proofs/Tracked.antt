@@ -9,7 +9,6 @@ use borrow.Author.Tests.{not-true, not-false}
 use lib.Dec.{eqb}
 use lib.ListN.{length, getD, set}
 use Rattle.blocks.specs.Lists.{ascending}
-use Rattle.shapes.specs.Shapes.{isShape}
 use Rattle.stores.specs.Model.{VersionState, find}
 use Rattle.stores.specs.Updates.{change}
 use Rattle.records.specs.Recorded.{RecordedFits}
@@ -22,7 +21,7 @@ use Rattle.layout.proofs.Fits.{Fits}
 use Rattle.layout.proofs.Runs.{stateOf}
 use Rattle.layout.proofs.Places.{place, IsTracked, found, changed, not-found, not-changed}
 use Rattle.layout.proofs.Stays.{ids-ascend}
-use Rattle.layout.proofs.Tracked.{textureAt, record-read, shape-passes, history-fits}
+use Rattle.layout.proofs.Tracked.{textureAt, record-read, history-fits}
 
 -- what every state keeps through a change
 pub map-change : {A : Type 0} (g : VersionState ℕ → A) (id : ℕ) (f : VersionState ℕ → VersionState ℕ) → ((t : VersionState ℕ) → g (f t) ≡ g t)
@@ -84,8 +83,5 @@ module _ (l : Lent) (f : Fits l) (id i : ℕ) (at : i ≡ below id (trackedRecor
   changed-nowhere q g = not-changed l id up (not-here q) g
 
   -- what the code may read and write there
-  pub shape-here : here ≡ true → isShape (textureAt l i .shape) ≡ true
-  shape-here q = shape-passes l i (inside q) f
-
   pub history-here : here ≡ true → RecordedFits (textureAt l i .history)
   history-here q = history-fits l i (inside q) f

@@ -41,7 +41,7 @@ use Rattle.layout.proofs.Changes.{textures-set, sparesBefore, sparesAt, every-e
 use Rattle.layout.proofs.Pages.{pagesAt, next-page, pages-in, set-parts}
 use Rattle.layout.proofs.Fresh.{no-page-reshaped}
 use Rattle.layout.proofs.Asked.{asked-accepted}
-use Rattle.layout.proofs.Tracked.{record-read, spares-to, pages-to, shape-at, count-at, pages-at}
+use Rattle.layout.proofs.Tracked.{record-read, spares-to, pages-to, bytes-at, shape-at, count-at, pages-at}
 use Rattle.access.proofs.Fields.{pages-bound, claims-bound}
 use Rattle.destruction.specs.Given.{givenRecords}
 use Rattle.destruction.proofs.Pushed.{given-spares}
@@ -227,7 +227,7 @@ module _ (l : Lent) (i id : ℕ) (shape : VersionShape) (records : Bool) (seq : 
 
     bytes-is : hold .bytes ≡ bytesOf (t .shape)
     unfolding holdingAt
-    bytes-is = ap (λ (a : Holding). a .bytes) is-held
+    bytes-is = ap (λ (a : Holding). a .bytes) is-held ∙ bytes-at l i (h .0) f
 
     page-is : hold .page ≡ firstPageOf l i
     unfolding holdingAt

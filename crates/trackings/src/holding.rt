@@ -1,11 +1,9 @@
 // What a tracked texture holds in the lent slices.
 ghost use mathlib.Core.Path.{_≡_};
-ghost use mathlib.Core.Bool.{true};
 ghost use Prim.Native.Nat.{_+_, _*_, _≤_};
 ghost use lib.ListN.{length};
 ghost use Rattle.blocks.specs.Lists.{total};
 ghost use Rattle.tables.specs.Records.{recordAt, table};
-ghost use Rattle.shapes.specs.Shapes.{isShape};
 ghost use Rattle.records.specs.Texture.{readTexture};
 ghost use Rattle.layout.specs.Reading.{recordPages};
 ghost use Rattle.trackings.specs.Holdings.{holdingAt};

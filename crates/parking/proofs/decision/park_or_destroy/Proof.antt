@@ -1,7 +1,5 @@
 -- `park_or_destroy` meets its contract, test by test. Assumes nothing.
-use mathlib.Core.Path.{ap, _∙_}
 use native.Mathlib.Omega.{arith}
-use Rattle.shapes.specs.Shapes.{isShape}
 use Rattle.tables.specs.Records.{recordAt}
 use Rattle.records.specs.Texture.{readTexture}
 use Rattle.access.proofs.Ids.{hasId}
@@ -38,43 +36,32 @@ returns-2 c =
     (recordAt 20 readTexture (a .textures .now) (a .i)) (a .v)
     q (t .result) (t .ensures) (λ same. let y : ⊥ = omega (arith, same, c .if2 .taken) in y)
 
-shape-bytes-requires : tie.Need-shape-bytes-requires
-shape-bytes-requires c κs =
-    let a = c .before .before .before .before .before .before .before .args in
-    let h = c .before .before .before .before .before .has-id in
-    let q = says-here (a .textures .now) (a .pool .tracked) (a .i) (a .v .id) (h .result) (h .ensures)
-    (c .before .before .before .before .if1 .left) in
-    ap (λ t. isShape (t .shape)) (c .before .before .before .texture-at .ensures)
-    ∙ c .before .before .before .before .before .before .before .pre .1 q
-
 sub-if3 : tie.Need-sub-if3
-sub-if3 c = c .before .before .before .before .before .before .before .before .before .pre .2
+sub-if3 c = c .before .before .before .before .before .before .before .before .pre .1
 
 returns-3 : tie.Need-returns-3
 returns-3 c =
-    let a = c .before .before .before .before .before .before .before .before .before .before .args in
-    let h = c .before .before .before .before .before .before .before .before .has-id in
+    let a = c .before .before .before .before .before .before .before .before .before .args in
+    let h = c .before .before .before .before .before .before .before .has-id in
     let q = says-here (a .textures .now) (a .pool .tracked) (a .i) (a .v .id) (h .result) (h .ensures)
-    (c .before .before .before .before .before .before .before .if1 .left) in
-    let t = c .before .before .before .before .before .before .texture-at in
-    let n = c .before .before .shape-bytes in
-    let within = c .before .before .before .before .before .before .before .before .before .before .pre .2 in
+    (c .before .before .before .before .before .before .if1 .left) in
+    let t = c .before .before .before .before .before .texture-at in
+    let within = c .before .before .before .before .before .before .before .before .before .pre .1 in
     decide-full (a .pool) (a .pressed) (hasId (a .textures .now) (a .pool .tracked) (a .i) (a .v .id))
     (recordAt 20 readTexture (a .textures .now) (a .i)) (a .v)
-    q (t .result) (t .ensures) (omega (arith, c .before .before .before .if2 .left)) (n .result) (n .ensures) within (c .if3 .taken)
+    q (t .result) (t .ensures) (omega (arith, c .before .before .if2 .left)) within (c .if3 .taken)
 
 returns-4 : tie.Need-returns-4
 returns-4 c =
-    let a = c .before .before .before .before .before .before .before .before .before .before .args in
-    let h = c .before .before .before .before .before .before .before .before .has-id in
+    let a = c .before .before .before .before .before .before .before .before .before .args in
+    let h = c .before .before .before .before .before .before .before .has-id in
     let q = says-here (a .textures .now) (a .pool .tracked) (a .i) (a .v .id) (h .result) (h .ensures)
-    (c .before .before .before .before .before .before .before .if1 .left) in
-    let t = c .before .before .before .before .before .before .texture-at in
-    let n = c .before .before .shape-bytes in
-    let within = c .before .before .before .before .before .before .before .before .before .before .pre .2 in
+    (c .before .before .before .before .before .before .if1 .left) in
+    let t = c .before .before .before .before .before .texture-at in
+    let within = c .before .before .before .before .before .before .before .before .before .pre .1 in
     decide-kept (a .pool) (a .pressed) (hasId (a .textures .now) (a .pool .tracked) (a .i) (a .v .id))
     (recordAt 20 readTexture (a .textures .now) (a .i)) (a .v)
-    q (t .result) (t .ensures) (omega (arith, c .before .before .before .if2 .left)) (n .result) (n .ensures) within (c .if3 .left)
+    q (t .result) (t .ensures) (omega (arith, c .before .before .if2 .left)) within (c .if3 .left)
 
 pub park-or-destroy-spec : {M : Type 1} → statement M
 park-or-destroy-spec =
@@ -84,7 +71,6 @@ park-or-destroy-spec =
     returns
     texture-at-requires
     returns-2
-    shape-bytes-requires
     sub-if3
     returns-3
     returns-4)

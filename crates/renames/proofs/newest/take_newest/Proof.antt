@@ -2,7 +2,6 @@
 use mathlib.Core.Path.{refl, ap, _∙_}
 use native.Mathlib.Omega.{arith}
 use borrow.Author.Needs.{needs}
-use Rattle.shapes.specs.Shapes.{isShape, bytesOf}
 use Rattle.records.specs.declared.texture.TextureRecord.{TextureRecord}
 use Rattle.layout.proofs.Runs.{sparesOf}
 use Rattle.trackings.proofs.Tracked.{here}
@@ -56,41 +55,35 @@ spare-at-requires c κs =
     let t = ap sparesOf (c .before .before .before .before .before .before .texture-at .ensures) in
     omega (arith, c .before .spares-before .ensures, k .first, k .within, k .spares, t, c .before .before .before .before .if1 .left)
 
-shape-bytes-requires : tie.Need-shape-bytes-requires
-shape-bytes-requires c κs =
-    let b = c .before .before .before .before .before .before .before .before .before .before .before .before .before .before .before in
-    let k = here _ _ _ _ _ _ (b .pre .0) (b .pre .1) in
-    ap (λ (r : TextureRecord). isShape (r .shape)) (c .before .before .before .before .before .before .before .texture-at .ensures) ∙ k .shape
-
 renamed-requires-2 : tie.Need-renamed-requires-2
 renamed-requires-2 c κs = search needs
 
 put-texture-requires-2 : tie.Need-put-texture-requires-2
 put-texture-requires-2 c κs =
-    let b = c .before .before .before .before .before .before .before .before .before .before .before .before .before .before .before .before .before .before in
+    let b = c .before .before .before .before .before .before .before .before .before .before .before .before .before .before .before .before .before in
     let k = here _ _ _ _ _ _ (b .pre .0) (b .pre .1) in
-    (k .textures, renamed-fits _ _ _ _ _ (k .history) (c .renamed2 .ensures) (c .before .before .before .before .before .before .before .before .before .before .texture-at .ensures))
+    (k .textures, renamed-fits _ _ _ _ _ (k .history) (c .renamed2 .ensures) (c .before .before .before .before .before .before .before .before .before .texture-at .ensures))
 
 remove-records-requires : tie.Need-remove-records-requires
 remove-records-requires c κs =
-    let b = c .before .before .before .before .before .before .before .before .before .before .before .before .before .before .before .before .before .before .before .before .before .before in
+    let b = c .before .before .before .before .before .before .before .before .before .before .before .before .before .before .before .before .before .before .before .before .before in
     let k = here _ _ _ _ _ _ (b .pre .0) (b .pre .1) in
-    let t = ap sparesOf (c .before .before .before .before .before .before .before .before .before .before .before .before .before .before .texture-at .ensures) in
-    (k .spares, omega (arith, c .before .before .before .before .before .before .before .before .before .spares-before .ensures, k .first, k .within, t, c .before .before .before .before .before .before .before .before .before .before .before .before .if1 .left))
+    let t = ap sparesOf (c .before .before .before .before .before .before .before .before .before .before .before .before .before .texture-at .ensures) in
+    (k .spares, omega (arith, c .before .before .before .before .before .before .before .before .spares-before .ensures, k .first, k .within, t, c .before .before .before .before .before .before .before .before .before .before .before .if1 .left))
 
 sub-after : tie.Need-sub-after
 sub-after c =
-    let b = c .before .before .before .before .before .before .before .before .before .before .before .before .before .before .before .before .before .before .before .before .before .before .before .before .before .before in
+    let b = c .before .before .before .before .before .before .before .before .before .before .before .before .before .before .before .before .before .before .before .before .before .before .before .before .before in
     let k = here _ _ _ _ _ _ (b .pre .0) (b .pre .1) in
-    let t = ap sparesOf (c .before .before .before .before .before .before .before .before .before .before .before .before .before .before .before .before .before .before .texture-at .ensures) in
-    omega (arith, k .within, t, c .before .before .before .before .before .before .before .before .before .before .before .before .before .before .before .before .if1 .left)
+    let t = ap sparesOf (c .before .before .before .before .before .before .before .before .before .before .before .before .before .before .before .before .before .texture-at .ensures) in
+    omega (arith, k .within, t, c .before .before .before .before .before .before .before .before .before .before .before .before .before .before .before .if1 .left)
 
 sub-after-2 : tie.Need-sub-after-2
 sub-after-2 c =
-    let b = c .before .before .before .before .before .before .before .before .before .before .before .before .before .before .before .before .before .before .before .before .before .before .before .before .before .before .before in
+    let b = c .before .before .before .before .before .before .before .before .before .before .before .before .before .before .before .before .before .before .before .before .before .before .before .before .before .before in
     let k = here _ _ _ _ _ _ (b .pre .0) (b .pre .1) in
-    let t = c .before .before .before .before .before .before .before .before .before .before .before .before .before .before .before .before .before .before .before .texture-at .ensures in
-    omega (arith, c .before .before .before .before .before .before .before .before .before .before .before .shape-bytes .ensures, ap (λ (r : TextureRecord). bytesOf (r .shape)) t, k .one (omega (arith, ap sparesOf t, c .before .before .before .before .before .before .before .before .before .before .before .before .before .before .before .before .before .if1 .left)))
+    let t = c .before .before .before .before .before .before .before .before .before .before .before .before .before .before .before .before .before .before .texture-at .ensures in
+    omega (arith, ap (λ (r : TextureRecord). r .bytes) t, k .bytes, k .one (omega (arith, ap sparesOf t, c .before .before .before .before .before .before .before .before .before .before .before .before .before .before .before .before .if1 .left)))
 
 same-length-2 : tie.Need-same-length-2
 same-length-2 c = search needs
@@ -100,8 +93,8 @@ same-length-3 c = search needs
 
 returns-2 : tie.Need-returns-2
 returns-2 c =
-    let b = c .before .before .before .before .before .before .before .before .before .before .before .before .before .before .before .before .before .before .before .before .before .before .before .before .before .before .before in
-    left-with _ _ _ _ _ _ (b .pre .0) (b .pre .1) (b .pre .2) _ _ _ (c .before .before .before .before .before .before .before .before .before .before .before .before .before .before .before .before .before .before .before .texture-at .ensures) _ _ _ _ _ (omega (arith, c .before .before .before .before .before .before .before .before .before .before .before .before .before .before .before .before .before .if1 .left)) (c .before .before .before .before .before .before .before .before .before .before .before .before .before .before .spares-before .ensures) refl (c .before .before .before .before .before .before .before .before .before .before .before .before .spare-at .ensures) (c .before .before .before .before .before .before .before .before .before .before .before .shape-bytes .ensures) (c .before .before .before .before .before .before .before .before .before .renamed2 .ensures) (c .before .before .before .before .before .before .before .before .put-texture2 .ensures) (c .before .before .before .before .remove-records .ensures)
+    let b = c .before .before .before .before .before .before .before .before .before .before .before .before .before .before .before .before .before .before .before .before .before .before .before .before .before .before in
+    left-with _ _ _ _ _ _ (b .pre .0) (b .pre .1) (b .pre .2) _ _ _ (c .before .before .before .before .before .before .before .before .before .before .before .before .before .before .before .before .before .before .texture-at .ensures) _ _ _ _ (omega (arith, c .before .before .before .before .before .before .before .before .before .before .before .before .before .before .before .before .if1 .left)) (c .before .before .before .before .before .before .before .before .before .before .before .before .before .spares-before .ensures) refl (c .before .before .before .before .before .before .before .before .before .before .before .spare-at .ensures) (c .before .before .before .before .before .before .before .before .before .renamed2 .ensures) (c .before .before .before .before .before .before .before .before .put-texture2 .ensures) (c .before .before .before .before .remove-records .ensures)
 
 pub take-newest-spec : {M : Type 1} → statement M
 take-newest-spec =
@@ -116,7 +109,6 @@ take-newest-spec =
     spares-before-requires
     add-k
     spare-at-requires
-    shape-bytes-requires
     renamed-requires-2
     put-texture-requires-2
     remove-records-requires

@@ -30,10 +30,10 @@ writes-counted-requires c κs = search needs
 
 returns-2 : tie.Need-returns-2
 returns-2 c =
-    let a = c .before .before .before .before .before .before .args in
-    let h = c .before .before .before .before .has-id in
-    let q = says-here (a .textures .now) (a .tracked) (a .i) (a .id) (h .result) (h .ensures) (c .before .before .before .if1 .left) in
-    let t = c .before .before .texture-at in
+    let a = c .before .before .before .before .before .args in
+    let h = c .before .before .before .has-id in
+    let q = says-here (a .textures .now) (a .tracked) (a .i) (a .id) (h .result) (h .ensures) (c .before .before .if1 .left) in
+    let t = c .before .texture-at in
     let w = c .writes-counted in
     note-tracked (hasId (a .textures .now) (a .tracked) (a .i) (a .id)) (recordAt 20 readTexture (a .textures .now) (a .i)) (a .id) (a .view) (a .seq)
     q (t .result) (t .ensures) (w .result) (w .ensures)

@@ -2,6 +2,7 @@
 use mathlib.Core.Path.{refl}
 use native.Mathlib.Omega.{arith}
 use borrow.Author.Needs.{needs}
+use Rattle.trackings.proofs.Refusals.{shape-passed}
 use Rattle.trackings.proofs.Tracked.{here}
 use Rattle.trackings.proofs.Trackings.{begun-fits}
 use Rattle.trackings.proofs.Renewed.{readable, renewable, left-renewed}
@@ -13,7 +14,7 @@ holding-at-requires c κs =
     let b = c .before .before .before .before .before .before .before in
     let k = here _ _ _ _ _ _ (b .pre .0) (b .pre .1) in
     let r = readable _ _ _ _ _ _ (b .pre .0) (b .pre .1) (b .pre .2) in
-    (k .textures, k .shape, r .spares, r .pages, r .own)
+    (k .textures, r .spares, r .pages, r .own)
 
 add-epoch : tie.Need-add-epoch
 add-epoch c =
@@ -34,7 +35,7 @@ give-up-requires c κs =
     (k .ring, k .head, k .doomed, k .within, k .spares, k .parked, k .dooming, k .since)
 
 new-record-requires : tie.Need-new-record-requires
-new-record-requires c κs = search needs
+new-record-requires c κs = shape-passed _ _ _ _ _ (c .before .before .before .before .before .before .before .before .before .before .before .before .before .before .before .before .before .before .pre .0 .1 .1)
 
 put-texture-requires : tie.Need-put-texture-requires
 put-texture-requires c κs =

@@ -1,6 +1,7 @@
 -- `start_tracking` meets its contract: what it leaves is what the rule leaves for an untracked texture. Assumes nothing.
 use native.Mathlib.Omega.{arith}
 use borrow.Author.Needs.{needs}
+use Rattle.trackings.proofs.Refusals.{shape-passed}
 use Rattle.trackings.proofs.Trackings.{begun-fits}
 use Rattle.trackings.proofs.Started.{startable, left-started}
 use Rattle.trackings.proofs.start.start_tracking.Statement.{statement}
@@ -25,7 +26,7 @@ pages-before-requires c κs =
     (omega (arith, k .textures, k .place), omega (arith, k .page, k .used, k .newest))
 
 new-record-requires : tie.Need-new-record-requires
-new-record-requires c κs = search needs
+new-record-requires c κs = shape-passed _ _ _ _ _ (c .before .before .before .before .before .before .before .before .before .before .before .pre .0 .1 .1)
 
 insert-texture-requires : tie.Need-insert-texture-requires
 insert-texture-requires c κs =
