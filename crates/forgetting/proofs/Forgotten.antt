@@ -10,7 +10,7 @@ use Rattle.blocks.specs.Lists.{total, removed, ascending}
 use Rattle.blocks.specs.Blocks.{moved}
 use Rattle.blocks.proofs.Lists.{total-get}
 use Rattle.tables.specs.Rings.{laid}
-use Rattle.shapes.specs.Shapes.{isShape, bytesOf}
+use Rattle.shapes.specs.Shapes.{bytesOf}
 use Rattle.stores.specs.Model.{Spare, Doomed, VersionState, Pool, accepted, spareBytes, doomedBytes}
 use Rattle.stores.specs.Updates.{withTextures, asDoomed, doomSpares}
 use Rattle.stores.specs.ForgetTexture.{forgetTexture}
@@ -35,7 +35,7 @@ use Rattle.layout.proofs.Stays.{put-together, ids-ascend, textures-fit, doomed-
 use Rattle.layout.proofs.Counts.{tracked-removed, kept-removed, used-removed}
 use Rattle.layout.proofs.Changes.{sparesAt, every-removed, textures-removed, spares-removed}
 use Rattle.layout.proofs.Pages.{newest-removed, stamps-removed}
-use Rattle.layout.proofs.Tracked.{record-read, spares-to, pages-to, shape-at, count-at, shape-passes}
+use Rattle.layout.proofs.Tracked.{record-read, spares-to, pages-to, bytes-at, shape-at, count-at}
 use Rattle.destruction.specs.Given.{givenRecords}
 use Rattle.destruction.proofs.Pushed.{given-spares}
 use Rattle.access.proofs.Totals.{total-next}
@@ -67,10 +67,9 @@ module _ (l : Lent) (f : Fits l) (i : ℕ) (h : i < l .pool .tracked) where
 
   -- ---- what the calls of its parts ask for
 
-  pub owned-fits : (20 * i + 20 ≤ length T) × (isShape (textureIn T i .shape) ≡ true) × (sparesTo T (i + 1) ≤ 4096) × (pagesTo T (i + 1) ≤ 4096)
+  pub owned-fits : (20 * i + 20 ≤ length T) × (sparesTo T (i + 1) ≤ 4096) × (pagesTo T (i + 1) ≤ 4096)
   owned-fits = (
     omega (arith, textures-fit l f),
-    shape-passes l i h f,
     omega (arith, total-next 20 readTexture (λ t. t .spares) T i, spares-within l i h f, f .versions, f .most),
     omega (arith, total-next 20 readTexture recordPages T i, pages-within l i h f, f .pages, f .newest),
   )
@@ -94,7 +93,7 @@ module _ (l : Lent) (f : Fits l) (i : ℕ) (h : i < l .pool .tracked) where
 
     bytes-is : own .bytes * own .spares ≡ bytesOf (textureIn T i .shape) * textureIn T i .spares
     unfolding ownedAt
-    bytes-is = ap (λ (o : Owned). o .bytes * o .spares) e
+    bytes-is = ap (λ (o : Owned). o .bytes * o .spares) e ∙ ap (λ (b : ℕ). b * textureIn T i .spares) (bytes-at l i h f)
 
     pub own-spares : own .first + own .spares ≤ l .pool .kept
     own-spares = omega (arith, first-is, spares-is, spares-within l i h f)
@@ -135,15 +134,18 @@ module _ (l : Lent) (f : Fits l) (i : ℕ) (h : i < l .pool .tracked) where
   out-count : length out ≡ textureIn T i .spares
   out-count = as-doomed-length (bytesOf (stateOf l i .shape)) (stateOf l i .spares) ∙ count-at l i h
 
-  out-bytes : doomedBytes out ≡ bytesOf (textureIn T i .shape) * textureIn T i .spares
+  out-each : bytesOf (stateOf l i .shape) ≡ textureIn T i .bytes
+  out-each = ap bytesOf (shape-at l i h) ∙ sym (bytes-at l i h f)
+
+  out-bytes : doomedBytes out ≡ textureIn T i .bytes * textureIn T i .spares
   out-bytes =
       as-doomed-bytes (bytesOf (stateOf l i .shape)) (stateOf l i .spares)
-      ∙ ap₂ (λ (b n : ℕ). b * n) (ap bytesOf (shape-at l i h)) (count-at l i h)
+      ∙ ap₂ (λ (b n : ℕ). b * n) out-each (count-at l i h)
 
-  out-records : map doomedRecord out ≡ givenRecords (l .spares) (bytesOf (textureIn T i .shape)) (sparesTo T i) (textureIn T i .spares)
+  out-records : map doomedRecord out ≡ givenRecords (l .spares) (textureIn T i .bytes) (sparesTo T i) (textureIn T i .spares)
   out-records =
-      ap₂ (λ (b : ℕ) (ss : List (Spare ℕ)). map doomedRecord (asDoomed b ss)) (ap bytesOf (shape-at l i h)) (spares-in l i h)
-      ∙ sym (given-spares l (bytesOf (textureIn T i .shape)) (sparesTo T i) (textureIn T i .spares))
+      ap₂ (λ (b : ℕ) (ss : List (Spare ℕ)). map doomedRecord (asDoomed b ss)) out-each (spares-in l i h)
+      ∙ sym (given-spares l (textureIn T i .bytes) (sparesTo T i) (textureIn T i .spares))
 
   own-spares-are : sparesAt l i ≡ textureIn T i .spares
   own-spares-are = ap (λ t. t .spares) (record-read l i h)
@@ -172,7 +174,7 @@ module _ (l : Lent) (f : Fits l) (i : ℕ) (h : i < l .pool .tracked) where
   }
 
   doomed-left : laid 2 writeDoomed (versionPlaces l) (l .pool .first) (l .pool .doomed)
-      (givenRecords (l .spares) (bytesOf (textureIn T i .shape)) (sparesTo T i) (textureIn T i .spares)) (l .doomed) ≡ doomedAfter left l
+      (givenRecords (l .spares) (textureIn T i .bytes) (sparesTo T i) (textureIn T i .spares)) (l .doomed) ≡ doomedAfter left l
   doomed-left =
       ap (λ rs. laid 2 writeDoomed (versionPlaces l) (l .pool .first) (l .pool .doomed) rs (l .doomed)) (sym out-records)
       ∙ doomed-pushed l left (f .first) (omega (arith, f .doomed)) (doomed-fit l f) out refl

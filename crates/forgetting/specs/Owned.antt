@@ -3,7 +3,6 @@ use Prim.Native.Nat.{ℕ, _+_, _-_, _*_}
 use mathlib.Core.List.{List}
 use Rattle.blocks.specs.Lists.{total}
 use Rattle.tables.specs.Records.{recordAt, table}
-use Rattle.shapes.specs.Shapes.{bytesOf}
 use Rattle.records.specs.declared.texture.TextureRecord.{TextureRecord}
 use Rattle.records.specs.Texture.{readTexture}
 use Rattle.layout.specs.declared.pool.Pool.{Pool as Counts}
@@ -27,7 +26,7 @@ ownedAt textures i = record {
   spares = textureIn textures i .spares;
   page = pagesTo textures i;
   pages = recordPages (textureIn textures i);
-  bytes = bytesOf (textureIn textures i .shape);
+  bytes = textureIn textures i .bytes;
 }
 
 unfoldable pub without : Counts → Owned → Counts

@@ -1,11 +1,9 @@
 // What one texture owns, and the pool's counts without it.
 ghost use mathlib.Core.Path.{_≡_};
-ghost use mathlib.Core.Bool.{true};
 ghost use Prim.Native.Nat.{_+_, _*_, _≤_, _<_, _^_};
 ghost use lib.ListN.{length};
 ghost use Rattle.blocks.specs.Lists.{total};
 ghost use Rattle.tables.specs.Records.{recordAt, table};
-ghost use Rattle.shapes.specs.Shapes.{isShape};
 ghost use Rattle.records.specs.Texture.{readTexture};
 ghost use Rattle.layout.specs.Reading.{recordPages};
 ghost use Rattle.forgetting.specs.Owned.{ownedAt, without};
@@ -14,7 +12,6 @@ use access::pages_before;
 use access::spares_before;
 use access::texture_at;
 use layout::Pool;
-use shapes::shape_bytes;
 
 // Its spares begin at place `first` and its pages at `page`; `bytes` is what each of its versions takes.
 pub struct Owned {
@@ -26,7 +23,7 @@ pub struct Owned {
 }
 
 pub fn owned_at(textures: &[u64], i: usize) -> Owned
-    requires { ⌜ (20 * i + 20 ≤ length (now textures)) × (isShape (recordAt 20 readTexture (now textures) i .shape) ≡ true)
+    requires { ⌜ (20 * i + 20 ≤ length (now textures))
         × (total (λ t. t .spares) (table 20 readTexture (i + 1) (now textures)) ≤ 4096)
         × (total recordPages (table 20 readTexture (i + 1) (now textures)) ≤ 4096) ⌝ }
     ensures { λ r. ⌜ r ≡ ownedAt (now (textures .entry)) i ⌝ }
@@ -35,13 +32,12 @@ pub fn owned_at(textures: &[u64], i: usize) -> Owned
     let first = spares_before(textures, i);
     let page = pages_before(textures, i);
     let pages = history_pages(t);
-    let bytes = shape_bytes(t.shape);
     Owned {
         first,
         spares: t.spares as usize,
         page,
         pages,
-        bytes,
+        bytes: t.bytes,
     }
 }
 

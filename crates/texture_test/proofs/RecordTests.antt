@@ -1,12 +1,12 @@
 -- What a pass learns at one texture's record. Assumes nothing.
-use mathlib.Core.Path.{_≡_, sym, ap, ap₂, _∙_}
+use mathlib.Core.Path.{_≡_, sym, ap, ap₂, _∙_, subst}
 use mathlib.Core.Bool.{Bool, true, false, _&&_}
 use mathlib.Core.List.{List, []}
 use Prim.Native.Nat.{ℕ, _+_, _*_, _≤_, _<_}
-use native.Mathlib.Nat.{add-zero, mul-zero, mul-le-mul}
+use native.Mathlib.Nat.{add-zero, mul-le-mul}
 use native.Mathlib.Omega.{arith}
 use borrow.Author.Tests.{lt-ltb, le-ltb}
-use lib.Dec.{leb}
+use lib.Dec.{leb, eqb}
 use lib.ListN.{take, drop, getD}
 use lib.Seq.{getD-drop}
 use Rattle.blocks.specs.Lists.{all, total, ascending, tests, after}
@@ -23,7 +23,10 @@ use Rattle.records.specs.declared.texture.TextureRecord.{TextureRecord}
 use Rattle.records.specs.Texture.{readTexture}
 use Rattle.records.specs.Find.{textures, idOf}
 use Rattle.records.proofs.Codecs.{texture-codec}
-use Rattle.texture_test.specs.Textures.{writesFit, isRecord, recordSpares, recordBytes}
+use Rattle.layout.specs.IsPool.{bytesHold}
+use Rattle.layout.proofs.Runs.{bytes-held}
+use Rattle.texture_test.specs.Textures.{writesFit, isRecord, recordSpares}
+use Rattle.texture_test.proofs.Tests.{fails}
 
 -- ---- records
 
@@ -53,11 +56,19 @@ module _ (s : List ℕ) (n i : ℕ) (h : i + 1 < n) where
 
 -- ---- single records
 
-pub record-test : (t u : TextureRecord) (a w : Bool) → t ≡ u → a ≡ isShape (t .shape) → w ≡ writesFit (t .history)
-    → a && leb (t .epoch) limit && leb (t .birth) limit && leb (t .rename) limit && leb (t .due) limit && w ≡ isRecord u
-unfolding isRecord tests after
-record-test t u a w e ea ew =
-    ap₂ (λ (x y : Bool). x && leb (t .epoch) limit && leb (t .birth) limit && leb (t .rename) limit && leb (t .due) limit && y) ea ew ∙ ap isRecord e
+module _ (t u : TextureRecord) (e : t ≡ u) where
+  pub record-unshaped : isShape (t .shape) ≡ false → false ≡ isRecord u
+  unfolding isRecord
+  record-unshaped q = sym (fails _ 0 q) ∙ ap isRecord e
+
+  pub record-test : (w : Bool) (bytes : ℕ) → isShape (t .shape) ≡ true → w ≡ writesFit (t .history) → bytes ≡ bytesOf (t .shape)
+      → leb (t .epoch) limit && leb (t .birth) limit && leb (t .rename) limit && leb (t .due) limit && w && eqb (t .bytes) bytes ≡ isRecord u
+  unfolding isRecord bytesHold tests after
+  record-test w bytes q ew eb =
+      ap₂ (λ (y : Bool) (n : ℕ). leb (t .epoch) limit && leb (t .birth) limit && leb (t .rename) limit && leb (t .due) limit && y && eqb (t .bytes) n) ew eb
+      ∙ ap (λ (x : Bool). x && leb (t .epoch) limit && leb (t .birth) limit && leb (t .rename) limit && leb (t .due) limit && writesFit (t .history) && eqb (t .bytes) (bytesOf (t .shape)))
+      (sym q)
+      ∙ ap isRecord e
 
 pub pages-small : (s : VersionShape) (k : ℕ) → k ≡ slicesOf s → isShape s ≡ true → k * s .levels ≤ 90
 pages-small s k e h = mul-le-mul {n₂ = 6} {m₂ = 15} (omega (arith, e, slices-bound s)) (shape-bounds s h .levels-bound)
@@ -65,15 +76,15 @@ pages-small s k e h = mul-le-mul {n₂ = 6} {m₂ = 15} (omega (arith, e, slices
 pub bytes-small : (s : VersionShape) (b k : ℕ) → b ≡ bytesOf s → isShape s ≡ true → k ≤ 4096 → b * k ≤ 72057594037927936
 bytes-small s b k e h q = mul-le-mul {n₂ = 17592186044416} {m₂ = 4096} (omega (arith, e, bytes-bound s h)) q
 
-pub bytes-none : (t : TextureRecord) → t .spares ≡ 0 → 0 ≡ recordBytes t
-unfolding recordBytes
-bytes-none t e = sym (ap (λ (k : ℕ). bytesOf (t .shape) * k) e ∙ mul-zero (bytesOf (t .shape)))
-
 -- ---- what passed, of the record at i
 
 pub record-shape : (t : TextureRecord) → isRecord t ≡ true → isShape (t .shape) ≡ true
 unfolding isRecord
 record-shape t e = passed _ e 0
+
+pub record-holds : (t : TextureRecord) → isRecord t ≡ true → bytesHold t ≡ true
+unfolding isRecord
+record-holds t e = passed _ e 6
 
 module _ (s : List ℕ) (n : ℕ) (ok : all isRecord (textures n s) ≡ true) where
   pub shape-at : (i : ℕ) → i < n → isShape (textureAt s i .shape) ≡ true
@@ -81,6 +92,12 @@ module _ (s : List ℕ) (n : ℕ) (ok : all isRecord (textures n s) ≡ true) wh
       let e = getD-table 20 readTexture n i s (readTexture []) h in
       let f = all-get isRecord (textures n s) i (readTexture []) ok (omega (arith, length-table 20 readTexture n s)) in
       record-shape (textureAt s i) (rw e at f)
+
+  pub bytes-at : (i : ℕ) → i < n → textureAt s i .bytes ≡ bytesOf (textureAt s i .shape)
+  bytes-at i h =
+      let e = getD-table 20 readTexture n i s (readTexture []) h in
+      let f = all-get isRecord (textures n s) i (readTexture []) ok (omega (arith, length-table 20 readTexture n s)) in
+      bytes-held (textureAt s i) (record-holds (textureAt s i) (rw e at f))
 
 pub spares-at : (s : List ℕ) (n i : ℕ) → i < n → textureAt s i .spares ≤ total recordSpares (textures n s)
 spares-at s n i h =
@@ -93,6 +110,9 @@ spares-at s n i h =
 module _ (s : List ℕ) (i : ℕ) (p : List ℕ) (e : p ≡ take 20 (drop (20 * i) s)) where
   pub read-shape : (n : ℕ) → all isRecord (textures n s) ≡ true → i < n → isShape (readTexture p .shape) ≡ true
   read-shape n ok h = ap (λ (t : TextureRecord). isShape (t .shape)) (texture-read s i p e) ∙ shape-at s n ok i h
+
+  pub read-bytes : (n : ℕ) → all isRecord (textures n s) ≡ true → i < n → readTexture p .bytes ≡ bytesOf (readTexture p .shape)
+  read-bytes n ok h = subst (λ (t : TextureRecord). t .bytes ≡ bytesOf (t .shape)) (sym (texture-read s i p e)) (bytes-at s n ok i h)
 
   pub read-spares : getD p 18 0 ≡ textureAt s i .spares
   unfolding readTexture

@@ -15,7 +15,7 @@ use Rattle.records.specs.declared.recorded.Recorded.the-variants.{Writes, NoHis
 use Rattle.records.specs.declared.texture.TextureRecord.{TextureRecord}
 use Rattle.records.specs.Find.{idOf}
 use Rattle.layout.specs.Reading.{recordPages, gridRead, historyRead, spareRead, stateRead, statesRead}
-use Rattle.layout.specs.IsPool.{isSpare, stateId, isHistory, isState}
+use Rattle.layout.specs.IsPool.{bytesHold, isSpare, stateId, isHistory, isState}
 use Rattle.texture_test.specs.Textures.{writesFit, isRecord, recordSpares, recordBytes, spareAt, gridsFit, historyFits, historiesFit, gridAt}
 use Rattle.layout.specs.Lent.{Lent}
 
@@ -27,10 +27,21 @@ by-kind true true s false g r = and-false s
 by-kind true true s true false r = and-false s
 by-kind true true s true true r = refl
 
-regroup : (x w h s : Bool) → x && (w && h) && s ≡ x && w && (h && s)
-regroup false w h s = refl
-regroup true false h s = refl
-regroup true true h s = refl
+regroup : (x w h s b : Bool) → x && (w && h) && s && b ≡ x && w && b && (h && s)
+regroup false w h s b = refl
+regroup true false h s b = refl
+regroup true true false s b = sym (and-false b)
+regroup true true true false b = sym (and-false b)
+regroup true true true true false = refl
+regroup true true true true true = refl
+
+-- two conditions of one and of the rest
+by-two : (a b c d : Bool) → a && b && (c && d) ≡ a && c && (b && d)
+by-two false b c d = refl
+by-two true false false d = refl
+by-two true false true d = refl
+by-two true true false d = refl
+by-two true true true d = refl
 
 module _ (l : Lent) where
   pub states-ids : (first page : ℕ) (ts : List TextureRecord) → ascending stateId (statesRead l first page ts) ≡ ascending idOf ts
@@ -45,7 +56,7 @@ module _ (l : Lent) where
   states-bytes first page (t ∷ ts) =
       ap₂ (λ (a b : ℕ). a + b) (ap (λ (k : ℕ). bytesOf (t .shape) * k) (length-listed (spareRead l) first (t .spares))) (states-bytes (first + t .spares) (page + recordPages t) ts)
 
-  -- ---- every state passes: every record, every grid and every spare
+  -- ---- every state passes and every record's bytes hold: every record, every grid and every spare
 
   history-test : (s : VersionShape) (page : ℕ) (h : Recorded) → isHistory (historyRead l s page h) ≡ writesFit h && historyFits (l .newest) (l .stamps) s page h
   unfolding isHistory gridRead gridAt gridsFit
@@ -55,25 +66,27 @@ module _ (l : Lent) where
   abbrev sparesFrom : ℕ → ℕ → Bool
   sparesFrom first n = all isSpare (listed (spareAt (l .spares)) first n)
 
-  state-test : (first page : ℕ) (t : TextureRecord) → isState (stateRead l first page t)
+  state-test : (first page : ℕ) (t : TextureRecord) → isState (stateRead l first page t) && bytesHold t
       ≡ isRecord t && (historyFits (l .newest) (l .stamps) (t .shape) page (t .history) && sparesFrom first (t .spares))
   unfolding isState isRecord stateRead spareRead spareAt tests after
   state-test first page t =
       let x = isShape (t .shape) && leb (t .epoch) limit && leb (t .birth) limit && leb (t .rename) limit && leb (t .due) limit in
-      ap (λ (b : Bool). x && b && sparesFrom first (t .spares)) (history-test (t .shape) page (t .history))
-      ∙ regroup x (writesFit (t .history)) (historyFits (l .newest) (l .stamps) (t .shape) page (t .history)) (sparesFrom first (t .spares))
+      ap (λ (b : Bool). x && b && sparesFrom first (t .spares) && bytesHold t) (history-test (t .shape) page (t .history))
+      ∙ regroup x (writesFit (t .history)) (historyFits (l .newest) (l .stamps) (t .shape) page (t .history)) (sparesFrom first (t .spares)) (bytesHold t)
 
   spares-split : (first m n : ℕ) → sparesFrom first (m + n) ≡ sparesFrom first m && sparesFrom (first + m) n
   spares-split first m n =
       ap (all isSpare) (listed-split (spareAt (l .spares)) first m n) ∙ all-append isSpare (listed (spareAt (l .spares)) first m) (listed (spareAt (l .spares)) (first + m) n)
 
-  pub states-test : (first page : ℕ) (ts : List TextureRecord) → all isState (statesRead l first page ts)
+  pub states-test : (first page : ℕ) (ts : List TextureRecord) → all isState (statesRead l first page ts) && all bytesHold ts
       ≡ all isRecord ts && (historiesFit (l .newest) (l .stamps) page ts && sparesFrom first (total recordSpares ts))
   unfolding all statesRead historiesFit total listed
   states-test first page [] = refl
   states-test first page (t ∷ ts) =
       let h = historyFits (l .newest) (l .stamps) (t .shape) page (t .history) in
       let hs = historiesFit (l .newest) (l .stamps) (page + recordPages t) ts in
-      ap₂ (λ (a b : Bool). a && b) (state-test first page t) (states-test (first + t .spares) (page + recordPages t) ts)
+      let later = all isState (statesRead l (first + t .spares) (page + recordPages t) ts) in
+      by-two (isState (stateRead l first page t)) later (bytesHold t) (all bytesHold ts)
+      ∙ ap₂ (λ (a b : Bool). a && b) (state-test first page t) (states-test (first + t .spares) (page + recordPages t) ts)
       ∙ by-kind (isRecord t) h (sparesFrom first (t .spares)) (all isRecord ts) hs (sparesFrom (first + t .spares) (total recordSpares ts))
       ∙ ap (λ (b : Bool). isRecord t && all isRecord ts && (h && hs && b)) (sym (spares-split first (t .spares) (total recordSpares ts)))

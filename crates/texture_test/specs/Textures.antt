@@ -19,7 +19,7 @@ use Rattle.records.specs.Views.{spareOf}
 use Rattle.records.specs.Find.{textures, idOf}
 use Rattle.layout.specs.declared.pool.Pool.{Pool}
 use Rattle.layout.specs.Reading.{pageAt, recordPages}
-use Rattle.layout.specs.IsPool.{isGrid, isSpare}
+use Rattle.layout.specs.IsPool.{bytesHold, isGrid, isSpare}
 
 -- ---- textures
 
@@ -27,10 +27,11 @@ abbrev pub writesFit : Recorded → Bool
 writesFit (Writes n) = leb n limit
 writesFit NoHistory = true
 
--- what a texture's record says by itself: the shape passes 2; counts and submissions are at most 2^48
+-- what a texture's record says by itself: the shape passes 2; counts and submissions are at most 2^48; the bytes are those of the shape
 unfoldable pub isRecord : TextureRecord → Bool
 isRecord t = tests (
-    isShape (t .shape) ∷ leb (t .epoch) limit ∷ leb (t .birth) limit ∷ leb (t .rename) limit ∷ leb (t .due) limit ∷ writesFit (t .history) ∷ [])
+    isShape (t .shape) ∷ leb (t .epoch) limit ∷ leb (t .birth) limit ∷ leb (t .rename) limit ∷ leb (t .due) limit ∷ writesFit (t .history)
+    ∷ bytesHold t ∷ [])
 
 abbrev pub recordSpares : TextureRecord → ℕ
 recordSpares t = t .spares

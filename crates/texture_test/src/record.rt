@@ -4,7 +4,7 @@ ghost use mathlib.Core.Bool.{true};
 ghost use Prim.Native.Nat.{_+_, _*_, _≤_};
 ghost use lib.ListN.{length};
 ghost use Rattle.blocks.specs.Lists.{all, ascending};
-ghost use Rattle.shapes.specs.Shapes.{isShape};
+ghost use Rattle.shapes.specs.Shapes.{isShape, bytesOf};
 ghost use Rattle.stores.specs.Model.{pagesOf};
 ghost use Rattle.records.specs.Texture.{readTexture};
 ghost use Rattle.records.specs.Find.{textures as textures′, idOf};
@@ -44,7 +44,7 @@ fn writes_fit(h: Recorded) -> bool
     }
 }
 
-// The record's shape passes refusal 2, and its numbers are at most 2^48.
+// The record's shape passes refusal 2, its bytes are that shape's, and its other numbers are at most 2^48.
 fn is_record(p: &[u64]) -> bool
     requires { ⌜ 20 ≤ length (now p) ⌝ }
     ensures { λ r. ⌜ r ≡ isRecord (readTexture (now (p .entry))) ⌝ }
@@ -52,12 +52,15 @@ fn is_record(p: &[u64]) -> bool
     let t = read_texture(p);
     let shape = t.shape;
     let history = t.history;
-    is_shape(shape)
-        & (t.epoch <= MOST_COUNTED)
+    if !is_shape(shape) {
+        return false;
+    }
+    (t.epoch <= MOST_COUNTED)
         & (t.birth <= MOST_COUNTED)
         & (t.rename <= MOST_COUNTED)
         & (t.due <= MOST_COUNTED)
         & writes_fit(history)
+        & (t.bytes == shape_bytes(shape))
 }
 
 // Every one of the first n records does.
@@ -97,15 +100,11 @@ pub fn record_pages(p: &[u64]) -> usize
     }
 }
 
-// The bytes of a record's spares. A texture without spares asks for no sum over its levels.
+// The bytes of a record's spares.
 pub fn record_bytes(p: &[u64]) -> u64
-    requires { ⌜ (20 ≤ length (now p)) × (isShape (readTexture (now p) .shape) ≡ true) × (readTexture (now p) .spares ≤ 4096) ⌝ }
+    requires { ⌜ (20 ≤ length (now p)) × (isShape (readTexture (now p) .shape) ≡ true) × (readTexture (now p) .spares ≤ 4096)
+        × (readTexture (now p) .bytes ≡ bytesOf (readTexture (now p) .shape)) ⌝ }
     ensures { λ r. ⌜ r ≡ recordBytes (readTexture (now (p .entry))) ⌝ }
 {
-    if p[18] == 0 {
-        return 0;
-    }
-    let t = read_texture(p);
-    let shape = t.shape;
-    shape_bytes(shape) * t.spares
+    p[19] * p[18]
 }

@@ -10,7 +10,7 @@ use lib.Seq.{sets}
 use Rattle.blocks.specs.Lists.{listed, total}
 use Rattle.blocks.specs.Blocks.{moved}
 use Rattle.shapes.specs.declared.shape.VersionShape.{VersionShape}
-use Rattle.shapes.specs.Shapes.{isShape, slicesOf}
+use Rattle.shapes.specs.Shapes.{isShape, slicesOf, bytesOf}
 use Rattle.rects.specs.declared.rect.TexelRect.{TexelRect}
 use Rattle.grids.specs.Grids.{StampGrid, gridIn, tilingOf, stampedBy}
 use Rattle.stores.specs.Model.{WriteHistory, VersionState, Pool, hasHistory, pagesOf, pagesUsed}
@@ -31,7 +31,7 @@ use Rattle.layout.proofs.Changes.{count-state, textures-set, every-kept}
 use Rattle.layout.proofs.Pages.{pagesAt, pages-in, newest-dropped, stamps-dropped}
 use Rattle.layout.proofs.Stamped.{gridsAt, used-at, whole-grids}
 use Rattle.layout.proofs.Written.{all-pages, place-page, grid-held, newest-rewritten, newest-stamped, stamps-rewritten, stamps-stamped}
-use Rattle.layout.proofs.Tracked.{record-read, shape-at}
+use Rattle.layout.proofs.Tracked.{record-read, bytes-at, shape-at}
 use Rattle.histories.specs.Written.{gridOn, newestWritten, pagesWritten, remadeGrids}
 use Rattle.histories.proofs.Written.{small-stamped, one-newest, one-page}
 use Rattle.histories.proofs.Regenerated.{regenerate-listed, length-remade, small-remade}

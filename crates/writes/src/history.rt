@@ -21,6 +21,7 @@ use histories::regenerate_pages;
 use histories::remove_pages;
 use histories::stamp_page;
 use records::Recorded;
+use records::TextureRecord;
 use rects::TexelRect;
 use shapes::VersionShape;
 use shapes::slices;
@@ -50,8 +51,18 @@ pub fn set_history(textures: &mut [u64], i: usize, history: Recorded)
     ensures { λ _. ⌜ now (textures .exit) ≡ sets (now (textures .entry)) (20 * i) (writeTexture (recordedAs history (recordAt 20 readTexture (now (textures .entry)) i))) ⌝ }
 {
     let t = texture_at(textures, i);
-    let mut u = t;
-    u.history = history;
+    let shape = t.shape;
+    let u = TextureRecord {
+        id: t.id,
+        shape,
+        epoch: t.epoch,
+        history,
+        birth: t.birth,
+        rename: t.rename,
+        due: t.due,
+        spares: t.spares,
+        bytes: t.bytes,
+    };
     put_texture(textures, i, u);
 }
 

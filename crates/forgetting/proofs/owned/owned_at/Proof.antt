@@ -2,8 +2,6 @@
 use borrow.Author.Needs.{needs}
 use mathlib.Core.Path.{ap, _∙_}
 use native.Mathlib.Omega.{arith}
-use Rattle.shapes.specs.Shapes.{isShape, bytesOf}
-use Rattle.records.specs.declared.texture.TextureRecord.{TextureRecord}
 use Rattle.records.specs.Texture.{readTexture}
 use Rattle.layout.specs.Reading.{recordPages}
 use Rattle.access.proofs.Totals.{total-next}
@@ -30,22 +28,17 @@ history-pages-requires c κs =
     let b = d .before .before in
     omega (arith, b .pre, total-next 20 readTexture recordPages (b .args .textures .now) (b .args .i), ap recordPages (d .texture-at .ensures))
 
-shape-bytes-requires : tie.Need-shape-bytes-requires
-shape-bytes-requires c κs =
-    let d = c .before .before .before in
-    ap (λ (t : TextureRecord). isShape (t .shape)) (d .texture-at .ensures) ∙ d .before .before .pre .1
-
 returns : tie.Need-returns
 unfolding ownedAt
 returns c =
-    let d = c .before .before .before .before in
+    let d = c .before .before .before in
     let t = d .texture-at .ensures in
     λ j. record {
-      first = c .before .before .before .spares-before .ensures j;
+      first = c .before .before .spares-before .ensures j;
       spares = t j .spares;
-      page = c .before .before .pages-before .ensures j;
-      pages = (c .before .history-pages .ensures ∙ ap recordPages t) j;
-      bytes = (c .shape-bytes .ensures ∙ ap (λ (s : TextureRecord). bytesOf (s .shape)) t) j;
+      page = c .before .pages-before .ensures j;
+      pages = (c .history-pages .ensures ∙ ap recordPages t) j;
+      bytes = t j .bytes;
     }
 
 pub owned-at-spec : {M : Type 1} → statement M
@@ -56,5 +49,4 @@ owned-at-spec =
     spares-before-requires
     pages-before-requires
     history-pages-requires
-    shape-bytes-requires
     returns)

@@ -80,10 +80,10 @@ sub-after c =
 
 sub-after-2 : tie.Need-sub-after-2
 sub-after-2 c =
-    let b = c .before .before .before .before .before .before .before .before .before .before .before .before .before .before .before .before .before .before .before .before .before .before .before .before .before .before in
+    let b = c .before .before .before .before .before .before .before .before .before .before .before .before .before .before .before .before .before .before .before .before .before .before .before .before .before .before .before in
     let k = here _ _ _ _ _ _ (b .pre .0) (b .pre .1) in
-    let t = c .before .before .before .before .before .before .before .before .before .before .before .before .before .before .before .before .before .before .texture-at .ensures in
-    omega (arith, ap (λ (r : TextureRecord). r .bytes) t, k .bytes, k .one (omega (arith, ap sparesOf t, c .before .before .before .before .before .before .before .before .before .before .before .before .before .before .before .before .if1 .left)))
+    let t = c .before .before .before .before .before .before .before .before .before .before .before .before .before .before .before .before .before .before .before .texture-at .ensures in
+    omega (arith, ap (λ (r : TextureRecord). r .bytes) t, k .bytes, k .one (omega (arith, ap sparesOf t, c .before .before .before .before .before .before .before .before .before .before .before .before .before .before .before .before .before .if1 .left)))
 
 same-length-2 : tie.Need-same-length-2
 same-length-2 c = search needs
@@ -93,8 +93,8 @@ same-length-3 c = search needs
 
 returns-2 : tie.Need-returns-2
 returns-2 c =
-    let b = c .before .before .before .before .before .before .before .before .before .before .before .before .before .before .before .before .before .before .before .before .before .before .before .before .before .before in
-    left-with _ _ _ _ _ _ (b .pre .0) (b .pre .1) (b .pre .2) _ _ _ (c .before .before .before .before .before .before .before .before .before .before .before .before .before .before .before .before .before .before .texture-at .ensures) _ _ _ _ (omega (arith, c .before .before .before .before .before .before .before .before .before .before .before .before .before .before .before .before .if1 .left)) (c .before .before .before .before .before .before .before .before .before .before .before .before .before .spares-before .ensures) refl (c .before .before .before .before .before .before .before .before .before .before .before .spare-at .ensures) (c .before .before .before .before .before .before .before .before .before .renamed2 .ensures) (c .before .before .before .before .before .before .before .before .put-texture2 .ensures) (c .before .before .before .before .remove-records .ensures)
+    let b = c .before .before .before .before .before .before .before .before .before .before .before .before .before .before .before .before .before .before .before .before .before .before .before .before .before .before .before in
+    left-with _ _ _ _ _ _ (b .pre .0) (b .pre .1) (b .pre .2) _ _ _ (c .before .before .before .before .before .before .before .before .before .before .before .before .before .before .before .before .before .before .before .texture-at .ensures) _ _ _ _ (omega (arith, c .before .before .before .before .before .before .before .before .before .before .before .before .before .before .before .before .before .if1 .left)) (c .before .before .before .before .before .before .before .before .before .before .before .before .before .before .spares-before .ensures) refl (c .before .before .before .before .before .before .before .before .before .before .before .before .spare-at .ensures) (c .before .before .before .before .before .before .before .before .before .before .renamed2 .ensures) (c .before .before .before .before .before .before .before .before .before .put-texture2 .ensures) (c .before .before .before .before .before .remove-records .ensures)
 
 pub take-newest-spec : {M : Type 1} → statement M
 take-newest-spec =

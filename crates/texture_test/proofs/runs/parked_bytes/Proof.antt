@@ -9,7 +9,7 @@ use Rattle.records.specs.declared.texture.TextureRecord.{TextureRecord}
 use Rattle.records.specs.Texture.{readTexture}
 use Rattle.records.specs.Find.{textures as textures′}
 use Rattle.texture_test.specs.Textures.{recordBytes}
-use Rattle.texture_test.proofs.RecordTests.{textureAt, texture-read, read-shape, spares-at}
+use Rattle.texture_test.proofs.RecordTests.{textureAt, texture-read, read-shape, read-bytes, spares-at}
 use Rattle.texture_test.proofs.Claims.{parked-more, parked-room}
 use borrow.Author.Needs.{needs}
 use Rattle.texture_test.proofs.runs.parked_bytes.Statement.{statement}
@@ -35,7 +35,8 @@ record-bytes-requires c κs =
     let r = c .record-at .ensures in
     let q = ap (λ (t : TextureRecord). t .spares) (texture-read s (b .loop .i) _ (r .1)) in
     let h = c .before .loop-test .taken in
-    (omega (arith, r .0), read-shape s (b .loop .i) _ (r .1) (a .n) (b .before .before .pre .1) h, omega (arith, q, spares-at s (a .n) (b .loop .i) h, b .before .before .pre .2))
+    (omega (arith, r .0), read-shape s (b .loop .i) _ (r .1) (a .n) (b .before .before .pre .1) h, omega (arith, q, spares-at s (a .n) (b .loop .i) h, b .before .before .pre .2),
+    read-bytes s (b .loop .i) _ (r .1) (a .n) (b .before .before .pre .1) h)
 
 add-sum : tie.Need-add-sum Inv-loop μ-loop
 add-sum c =
