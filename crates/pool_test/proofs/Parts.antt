@@ -17,7 +17,7 @@ use Rattle.stores.specs.Open.{arePlaces}
 use Rattle.records.specs.declared.texture.TextureRecord.{TextureRecord}
 use Rattle.layout.specs.Lent.{Lent, versionPlaces}
 use Rattle.layout.specs.Reading.{trackedRecords, recordPages, statesRead, retiringRead, handRead, doomedRead, modelOf}
-use Rattle.layout.specs.IsPool.{sizesFit, countsFit, runsFit, markFits, stateId, isSpare, isState, isRetiring, isHand, isDoomed, isArrival, isFormed, isPool}
+use Rattle.layout.specs.IsPool.{sizesFit, countsFit, runsFit, bytesHold, bytesFit, markFits, stateId, isSpare, isState, isRetiring, isHand, isDoomed, isArrival, isFormed, isPool}
 use Rattle.pool_test.specs.Parts.{lengthsFit, placesHold, retiringAt, retiringFit, doomedAt, doomedFit, ringsFit, numbersFit}
 use Rattle.texture_test.specs.Textures.{isRecord, recordSpares, claim, spareAt, historiesFit, texturesFit}
 use Rattle.texture_test.proofs.Tests.{same-test}
@@ -133,16 +133,16 @@ module _ (l : Lent) where
     unfolding ringsFit
     to-rings = pass-all _ (cons to-queue (cons to-doomed nil))
 
-    module _ (runs : runsFit l ≡ true) where
+    module _ (runs : runsFit l ≡ true) (bytes : bytesFit l ≡ true) where
       to-claim : claim ts (l .pool .kept) (l .pool .pages) ≡ true
       unfolding claim runsFit
       to-claim =
           pass-all _ (cons (flip (total recordSpares ts) (l .pool .kept) (passed _ runs 0)) (cons (flip (total recordPages ts) (l .pool .pages) (passed _ runs 1)) nil))
 
       to-textures : texturesOf l ≡ true
-      unfolding texturesFit
+      unfolding texturesFit bytesFit
       to-textures =
-          let q = and-both (all isRecord ts) _ (sym (states-test l 0 0 ts) ∙ c .states) in
+          let q = and-both (all isRecord ts) _ (sym (states-test l 0 0 ts) ∙ ap₂ (λ (a b : Bool). a && b) (c .states) bytes) in
           let r = and-both (historiesFit (l .newest) (l .stamps) 0 ts) _ (q .1) in
           pass-all _
           (cons (sym (states-ids l 0 0 ts) ∙ c .ids)
@@ -171,12 +171,19 @@ module _ (l : Lent) where
     from-runs =
         pass-all _ (cons (flip (l .pool .kept) (total recordSpares ts) (passed _ from-claim 0)) (cons (flip (l .pool .pages) (total recordPages ts) (passed _ from-claim 1)) nil))
 
-    from-states : all isState (statesRead l 0 0 ts) ≡ true
+    from-records : all isState (statesRead l 0 0 ts) && all bytesHold ts ≡ true
     unfolding texturesFit
-    from-states =
+    from-records =
         states-test l 0 0 ts
         ∙ ap₂ (λ (a b : Bool). a && b) (passed _ t 1)
         (ap₂ (λ (a b : Bool). a && b) (passed _ t 5) (ap (λ (n : ℕ). all isSpare (listed (spareAt (l .spares)) 0 n)) (kept from-runs) ∙ passed _ t 3))
+
+    from-states : all isState (statesRead l 0 0 ts) ≡ true
+    from-states = and-both (all isState (statesRead l 0 0 ts)) (all bytesHold ts) from-records .0
+
+    from-bytes : bytesFit l ≡ true
+    unfolding bytesFit
+    from-bytes = and-both (all isState (statesRead l 0 0 ts)) (all bytesHold ts) from-records .1
 
     from-mark : markFits l ≡ true
     unfolding numbersFit markFits
@@ -211,15 +218,16 @@ module _ (l : Lent) where
       same-test (isPool l) (tests (partsOf l))
       (λ e.
       let f = few-popped (passed _ e 1) in
-      let m = passed _ e 3 in
-      let c = conditions (passed _ e 4) in
-      pass-all _ (cons (passed _ e 0) (cons (passed _ e 1) (cons (to-numbers f m c) (cons (to-rings f m c) (cons (to-textures f m c (passed _ e 2)) nil))))))
+      let m = passed _ e 4 in
+      let c = conditions (passed _ e 5) in
+      pass-all _ (cons (passed _ e 0) (cons (passed _ e 1) (cons (to-numbers f m c) (cons (to-rings f m c) (cons (to-textures f m c (passed _ e 2) (passed _ e 3)) nil))))))
       (λ e.
       let f = few-popped (passed _ e 1) in
       let n = passed _ e 2 in
       let r = passed _ e 3 in
       let t = passed _ e 4 in
-      pass-all _ (cons (passed _ e 0) (cons (passed _ e 1) (cons (from-runs f n r t) (cons (from-mark f n r t) (cons (formed eight (from-parts f n r t)) nil))))))
+      pass-all _ (cons (passed _ e 0) (cons (passed _ e 1) (cons (from-runs f n r t)
+      (cons (from-bytes f n r t) (cons (from-mark f n r t) (cons (formed eight (from-parts f n r t)) nil)))))))
 
   -- where all but the last pass, the last decides
   pub last-part : length (l .book .arrivals) ≡ 8 → sizesFit l ≡ true → countsFit l ≡ true → numbersOf l ≡ true → ringsOf l ≡ true → texturesOf l ≡ isPool l

@@ -106,7 +106,7 @@ module _ (l : Lent) where
 
   module _ (f : Fits l) where
     records-shaped : All (λ (t : TextureRecord). isShape (t .shape) ≡ true) (trackedRecords l)
-    records-shaped = rw (records-model l) at (all-map {Q = λ (t : TextureRecord). isShape (t .shape) ≡ true} textureRecord (λ t q. q .shape) (f .formed .textures))
+    records-shaped = rw (records-model l (f .bytes)) at (all-map {Q = λ (t : TextureRecord). isShape (t .shape) ≡ true} textureRecord (λ t q. q .shape) (f .formed .textures))
 
     bytes-most : {ts : List TextureRecord} → All (λ (t : TextureRecord). isShape (t .shape) ≡ true) ts → total recordBytes ts ≤ 17592186044416 * total recordSpares ts
     unfolding total

@@ -168,7 +168,7 @@ module _ (l : Lent) (excess line : ℕ) where
             freed-by ∙ ap₂ (λ (b : ℕ) (ps : List ℕ). sum + b * takenAt sum excess b line ps) shape-stood numbers-stood
             ∙ ap (λ (m : ℕ). m + bytesOf (stood .shape) * takenAt m excess (bytesOf (stood .shape)) line (parkings (l .spares) (firstSpare l i) (stood .spares))) (p .freed)
             ∙ freed-next l f excess line L i h;
-        records = t ∙ ap₂ (λ (a : List ℕ) (v : ℕ). set a (20 * i + 18) v) (p .records) (ap₂ (λ (a b : ℕ). a - b) had-stood count-share) ∙ textures-next l k i h (textures-fit l f);
+        records = t ∙ ap₂ (λ (a : List ℕ) (v : ℕ). set a (20 * i + 18) v) (p .records) (ap₂ (λ (a b : ℕ). a - b) had-stood count-share) ∙ textures-next l k i h f;
         ring = d ∙ ring-turn;
         runs = s ∙ runs-turn;
         textured = long-t ∙ p .textured;

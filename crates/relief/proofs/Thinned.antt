@@ -31,6 +31,7 @@ use Rattle.layout.proofs.Parts.{total-next, flat-append}
 use Rattle.layout.proofs.Runs.{sparesOf, spareCount, firstSpare, firstPageOf, stateOf, take-states, kept-states, tracked-model, tracked-records, model-at}
 use Rattle.layout.proofs.Rings.{laid-append}
 use Rattle.layout.proofs.Counts.{count-spares}
+use Rattle.layout.proofs.Fits.{Fits}
 use Rattle.layout.proofs.Tracked.{record-read, record-at, shape-at, count-at}
 use Rattle.destruction.specs.Given.{givenRecords}
 use Rattle.destruction.proofs.Pushed.{given-spares}
@@ -100,13 +101,13 @@ module _ (l : Lent) where
 
     -- ---- the textures' records
 
-    pub textures-next : (i : ℕ) → i < l .pool .tracked → 20 * l .pool .tracked ≤ length (l .textures)
+    pub textures-next : (i : ℕ) → i < l .pool .tracked → Fits l
         → set (texturesTo i) (20 * i + 18) (recordOf i .spares - gave i) ≡ texturesTo (suc i)
     unfolding texturesTo
-    textures-next i h fits =
+    textures-next i h f =
         let xs = map textureRecord (map (lessened k) (first i)) in
         count-set xs (l .textures) i (recordOf i .spares - gave i)
-        (length-map (map (lessened k) (first i)) textureRecord ∙ length-map (first i) (lessened k) ∙ length-first i (omega arith)) (omega arith)
+        (length-map (map (lessened k) (first i)) textureRecord ∙ length-map (first i) (lessened k) ∙ length-first i (omega arith)) (omega (arith, f .textures, f .tracked))
         ∙ ap (λ (rs : List TextureRecord). over (flat writeTexture rs) (l .textures))
         (sym (ap (map textureRecord) (thin-next i h) ∙ map-append textureRecord (map (lessened k) (first i)) (lessened k (stateOf l i) ∷ [])
         ∙ ap (λ (t : TextureRecord). xs ++ (t ∷ [])) thinner))
@@ -114,7 +115,7 @@ module _ (l : Lent) where
         thinner : textureRecord (lessened k (stateOf l i)) ≡ withCount (recordOf i .spares - gave i) (recordOf i)
         thinner =
             ap (λ (n : ℕ). withCount n (textureRecord (stateOf l i))) (length-drop (gave i) (stateOf l i .spares) ∙ ap (λ (n : ℕ). n - gave i) (count-at l i h))
-            ∙ ap (withCount (recordOf i .spares - gave i)) (record-at l i h)
+            ∙ ap (withCount (recordOf i .spares - gave i)) (record-at l i h f)
 
     -- the record of texture i, while those before it are written
     pub record-next : (i : ℕ) → i ≤ l .pool .tracked → recordAt 20 readTexture (texturesTo i) i ≡ recordOf i

@@ -86,6 +86,10 @@ module _ (textures : List ℕ) (i : ℕ) where
   unfolding recordAt readTexture
   rename-at = getD-drop (20 * i) textures 16 0
 
+  pub bytes-read : getD textures (20 * i + 19) 0 ≡ texture .bytes
+  unfolding recordAt readTexture
+  bytes-read = sym (getD-drop (20 * i) textures 19 0)
+
   pub due-at : texture .due ≡ getD textures (20 * i + 17) 0
   unfolding recordAt readTexture
   due-at = getD-drop (20 * i) textures 17 0

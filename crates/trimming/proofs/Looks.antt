@@ -25,12 +25,12 @@ use Rattle.layout.specs.Writing.{textureRecord, doomedRecord}
 use Rattle.layout.proofs.Fits.{Fits}
 use Rattle.layout.proofs.Runs.{stateOf}
 use Rattle.layout.proofs.Kept.{pagedOf}
-use Rattle.layout.proofs.Tracked.{record-at, shape-at, count-at, shape-passes}
+use Rattle.layout.proofs.Tracked.{bytes-at, record-at, shape-at, count-at, shape-passes}
 use Rattle.destruction.specs.Given.{givenRecords}
 use Rattle.destruction.proofs.Pushed.{given-spares}
 use Rattle.trimming.specs.declared.look.Look.{Look}
 use Rattle.forgetting.specs.Owned.{textureIn, sparesTo}
-use Rattle.trimming.specs.Look.{isIdle, dueAfter, bytesGiven, lookOf, lookedRecord}
+use Rattle.trimming.specs.Look.{isIdle, dueAfter, lookOf, lookedRecord}
 use Rattle.trimming.specs.Pass.{givenOne}
 use Rattle.forgetting.proofs.TextureRuns.{spares-in}
 use Rattle.trimming.proofs.Ages.{aged-most}
@@ -68,6 +68,7 @@ module _ (now : ℕ) (t : VersionState ℕ) where
     rename = t .rename;
     due = dueAfter now (textureRecord t);
     spares = length (drop count (t .spares));
+    bytes = textureRecord t .bytes;
   }
   unfolding dueAfter
   looked-record = go (aged now (t .due))
@@ -81,6 +82,7 @@ module _ (now : ℕ) (t : VersionState ℕ) where
         rename = t .rename;
         due = cond b (cond (aged now (t .rename)) now (t .rename)) (t .due);
         spares = length (drop count (t .spares));
+        bytes = textureRecord t .bytes;
       }
       go true = refl
       go false = refl
@@ -106,21 +108,21 @@ module _ (l : Lent) (now i : ℕ) (h : i < l .pool .tracked) where
   pub left-count : length (drop (count now (stateOf l i)) (stateOf l i .spares)) ≡ t₀ .spares - count now (stateOf l i)
   left-count = length-drop (count now (stateOf l i)) (stateOf l i .spares) ∙ ap (λ (n : ℕ). n - count now (stateOf l i)) (count-at l i h)
 
-  pub idle-here : idle now (thinned now (stateOf l i)) ≡ isIdle now t₀ (t₀ .spares - count now (stateOf l i))
-  idle-here =
+  pub idle-here : Fits l → idle now (thinned now (stateOf l i)) ≡ isIdle now t₀ (t₀ .spares - count now (stateOf l i))
+  idle-here f =
       idle-record now (stateOf l i)
-      ∙ ap₂ (λ (t : TextureRecord) (n : ℕ). isIdle now t (n - count now (stateOf l i))) (record-at l i h) (count-at l i h)
+      ∙ ap₂ (λ (t : TextureRecord) (n : ℕ). isIdle now t (n - count now (stateOf l i))) (record-at l i h f) (count-at l i h)
 
-  pub none-left : idle now (thinned now (stateOf l i)) ≡ true → t₀ .spares - count now (stateOf l i) ≡ 0
+  pub none-left : Fits l → idle now (thinned now (stateOf l i)) ≡ true → t₀ .spares - count now (stateOf l i) ≡ 0
   unfolding isIdle
-  none-left e =
+  none-left f e =
       let left = t₀ .spares - count now (stateOf l i) in
-      let tests = and-both (aged now (t₀ .due)) (aged now (t₀ .rename) && eqb left 0) (sym idle-here ∙ e) .1 in
+      let tests = and-both (aged now (t₀ .due)) (aged now (t₀ .rename) && eqb left 0) (sym (idle-here f) ∙ e) .1 in
       eqb-true left 0 (and-both (aged now (t₀ .rename)) (eqb left 0) tests .1)
 
-  pub record-here : textureRecord (looked now (stateOf l i)) ≡ lookedRecord lookHere t₀
+  pub record-here : Fits l → textureRecord (looked now (stateOf l i)) ≡ lookedRecord lookHere t₀
   unfolding lookedRecord lookOf
-  record-here =
+  record-here f =
       looked-record now (stateOf l i)
       ∙ ap₂ (λ (t : TextureRecord) (n : ℕ). record {
         id = t .id;
@@ -131,7 +133,8 @@ module _ (l : Lent) (now i : ℕ) (h : i < l .pool .tracked) where
         rename = t .rename;
         due = dueAfter now t;
         spares = n;
-      }) (record-at l i h) left-count
+        bytes = t .bytes;
+      }) (record-at l i h f) left-count
 
   -- ---- what it gives up
 
@@ -145,35 +148,26 @@ module _ (l : Lent) (now i : ℕ) (h : i < l .pool .tracked) where
   unfolding givenOne
   given-count = as-doomed-length (bytesOf (stateOf l i .shape)) given ∙ given-length
 
-  -- the bytes are worked out only where they are needed
-  by-count : (n : ℕ) → bytesGiven t₀ n * n ≡ bytesOf (t₀ .shape) * n
-  unfolding bytesGiven
-  by-count zero = sym (mul-zero (bytesOf (t₀ .shape)))
-  by-count (suc n) = ap (λ (b : Bool). cond b 0 (bytesOf (t₀ .shape)) * suc n) (not-none n)
+  -- k versions of those bytes
+  by-count : Fits l → (k : ℕ) → t₀ .bytes * k ≡ bytesOf (t₀ .shape) * k
+  by-count f k = ap (λ (b : ℕ). b * k) (bytes-at l i h f)
 
-  pub given-bytes : bytesGiven t₀ (count now (stateOf l i)) * count now (stateOf l i) ≡ doomedBytes (givenOne now (stateOf l i))
+  pub given-bytes : Fits l → t₀ .bytes * count now (stateOf l i) ≡ doomedBytes (givenOne now (stateOf l i))
   unfolding givenOne
-  given-bytes =
-      by-count (count now (stateOf l i))
+  given-bytes f =
+      by-count f (count now (stateOf l i))
       ∙ sym (as-doomed-bytes (bytesOf (stateOf l i .shape)) given ∙ ap₂ (λ (b n : ℕ). b * n) (ap bytesOf (shape-at l i h)) given-length)
 
-  pub bytes-few : Fits l → bytesGiven t₀ (count now (stateOf l i)) * count now (stateOf l i) ≤ 17592186044416 * count now (stateOf l i)
+  pub bytes-few : Fits l → t₀ .bytes * count now (stateOf l i) ≤ 17592186044416 * count now (stateOf l i)
   bytes-few f =
-      omega (arith, by-count (count now (stateOf l i)), mul-le-mul-right (count now (stateOf l i)) (bytes-bound (t₀ .shape) (shape-passes l i h f)))
+      omega (arith, by-count f (count now (stateOf l i)), mul-le-mul-right (count now (stateOf l i)) (bytes-bound (t₀ .shape) (shape-passes l i h f)))
 
-  records-by-count : (n : ℕ) → givenRecords (l .spares) (bytesGiven t₀ n) (sparesTo (l .textures) i) n
-      ≡ givenRecords (l .spares) (bytesOf (t₀ .shape)) (sparesTo (l .textures) i) n
-  unfolding bytesGiven givenRecords listed
-  records-by-count zero = refl
-  records-by-count (suc n) =
-      ap (λ (b : Bool). givenRecords (l .spares) (cond b 0 (bytesOf (t₀ .shape))) (sparesTo (l .textures) i) (suc n)) (not-none n)
-
-  pub given-records : givenRecords (l .spares) (bytesGiven t₀ (count now (stateOf l i))) (sparesTo (l .textures) i) (count now (stateOf l i))
+  pub given-records : Fits l → givenRecords (l .spares) (t₀ .bytes) (sparesTo (l .textures) i) (count now (stateOf l i))
       ≡ map doomedRecord (givenOne now (stateOf l i))
   unfolding givenOne
-  given-records =
+  given-records f =
       let k = count now (stateOf l i) in
-      records-by-count k
+      ap (λ (b : ℕ). givenRecords (l .spares) b (sparesTo (l .textures) i) k) (bytes-at l i h f)
       ∙ given-spares l (bytesOf (t₀ .shape)) (sparesTo (l .textures) i) k
       ∙ sym (ap₂ (λ (b : ℕ) (ss : List (Spare ℕ)). map doomedRecord (asDoomed b ss)) (ap bytesOf (shape-at l i h))
       (ap (take k) (spares-in l i h) ∙ take-listed (spareRead l) k (sparesTo (l .textures) i) (t₀ .spares) few))
@@ -181,7 +175,7 @@ module _ (l : Lent) (now i : ℕ) (h : i < l .pool .tracked) where
 -- ---- the look put together from its parts; b is whether the texture is dropped
 
 pub look-made : (now : ℕ) (t : TextureRecord) (n own aged claimed due bytes : ℕ) (b : Bool) → own ≡ t .spares → aged ≡ n → claimed ≡ recordPages t
-    → due ≡ dueAfter now t → bytes ≡ bytesGiven t aged → b ≡ isIdle now t (own - aged)
+    → due ≡ dueAfter now t → bytes ≡ t .bytes → b ≡ isIdle now t (own - aged)
     → record { own = own; aged = aged; claimed = claimed; staying = cond b 0 1; paged = cond b 0 claimed; due = due; bytes = bytes } ≡ lookOf now t n
 unfolding lookOf
 look-made now t n own aged claimed due bytes b e1 e2 e3 e4 e5 e6 =
@@ -193,5 +187,5 @@ look-made now t n own aged claimed due bytes b e1 e2 e3 e4 e5 e6 =
       staying = ap (λ (c : Bool). cond c 0 1) out j;
       paged = ap₂ (λ (c : Bool) (m : ℕ). cond c 0 m) out e3 j;
       due = e4 j;
-      bytes = (e5 ∙ ap (bytesGiven t) e2) j;
+      bytes = e5 j;
     }

@@ -45,6 +45,7 @@ module _ (T : List ℕ) (to i : ℕ) (look : Look) where
     rename = t₀ .rename;
     due = (sym d ∙ sym (due-at T i)) j;
     spares = (sym n ∙ spares-number T i) j;
+    bytes = t₀ .bytes;
   }
 
   pub put-same : (look .staying ≡ 0 → ⊥) → 20 * i + 20 ≤ length T

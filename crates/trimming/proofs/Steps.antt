@@ -123,7 +123,7 @@ module _ (l : Lent) (now i : ℕ) (h : i < l .pool .tracked) where
       pub textures-stay : (to : ℕ) → to ≡ length (keptTo l now i) → 20 * to + 20 ≤ length (l .textures)
           → sets (texturesAfter p l) (20 * to) (writeTexture (lookedRecord (lookHere l now i h) t₀)) ≡ texturesAfter q l
       textures-stay to at room =
-          ap₂ (λ (n : ℕ) (r : TextureRecord). sets (texturesAfter p l) (20 * n) (writeTexture r)) at (sym (record-here l now i h))
+          ap₂ (λ (n : ℕ) (r : TextureRecord). sets (texturesAfter p l) (20 * n) (writeTexture r)) at (sym (record-here l now i h f))
           ∙ texture-packed l p q (looked now (stateOf l i)) more (omega arith)
 
       pub spares-stay : (to : ℕ) → to ≡ length (everySpare (keptTo l now i)) → to ≤ sparesTo (l .textures) i

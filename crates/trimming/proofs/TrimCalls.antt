@@ -12,7 +12,6 @@ use Rattle.blocks.specs.Lists.{keep, total}
 use Rattle.blocks.proofs.All.{all-at}
 use Rattle.tables.specs.Records.{recordAt}
 use Rattle.shapes.specs.declared.shape.VersionShape.{VersionShape}
-use Rattle.shapes.specs.Shapes.{isShape}
 use Rattle.stores.specs.Model.{Doomed, VersionState, Pool, refused, accepted, limit, spareBytes, doomedBytes}
 use Rattle.stores.specs.Updates.{withTextures, doomSpares}
 use Rattle.stores.specs.Trim.{agedCount, thinned, idle, lookedAt, trim}
@@ -38,7 +37,7 @@ use Rattle.layout.proofs.Rings.{hand-model, head-stays, first-stays, doomed-pus
 use Rattle.layout.proofs.Same.{book-same, queued-model, doomed-model}
 use Rattle.layout.proofs.Stays.{put-together, textures-fit, doomed-fit, retiring-stay, doomed-bound}
 use Rattle.layout.proofs.Counts.{count-spares}
-use Rattle.layout.proofs.Tracked.{record-read, shape-passes}
+use Rattle.layout.proofs.Tracked.{record-read}
 use Rattle.access.proofs.Totals.{total-first}
 use Rattle.trimming.specs.declared.look.Look.{Look}
 use Rattle.trimming.specs.declared.pass.Pass.{Pass}
@@ -68,12 +67,11 @@ module _ (l : Lent) (f : Fits l) (i : ℕ) (h : i < l .pool .tracked) where
       rw (sym (record-read l i h)) (counted l (t .shape) (firstPageOf l i) (t .history) (formed .history))
 
   module _ (now : ℕ) (w : Pass) (T D S N P : List ℕ) (s : Sofar l now i w T D S N P) where
-    pub look-fits : (20 * i + 20 ≤ length T) × (isShape (recordAt 20 readTexture T i .shape) ≡ true)
+    pub look-fits : (20 * i + 20 ≤ length T)
         × (3 * (w .first + recordAt 20 readTexture T i .spares) ≤ length S) × (recordPages (recordAt 20 readTexture T i) ≤ 4096)
     look-fits =
         let here = record-now l now i w T D S N P f h s in (
           omega (arith, s .T-long, textures-fit l f),
-          ap (λ (t : TextureRecord). isShape (t .shape)) here ∙ shape-passes l i h f,
           omega (arith, s .S-long, s .first, ap (λ (t : TextureRecord). t .spares) here, spares-within l i h f, f .versions, f .spares),
           omega (arith, ap recordPages here, pages-within l i h f, f .pages, f .newest),
         )

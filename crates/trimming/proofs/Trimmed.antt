@@ -34,7 +34,7 @@ use Rattle.access.proofs.Totals.{total-none, total-next}
 use Rattle.trimming.specs.declared.look.Look.{Look}
 use Rattle.trimming.specs.declared.pass.Pass.{Pass}
 use Rattle.forgetting.specs.Owned.{textureIn, sparesTo, pagesTo}
-use Rattle.trimming.specs.Look.{spareIn, bytesGiven, lookOf, lookAt, lookedRecord, lookedPut}
+use Rattle.trimming.specs.Look.{spareIn, lookOf, lookAt, lookedRecord, lookedPut}
 use Rattle.trimming.specs.Pass.{noPass, passOn, givenOne, trimmed}
 use Rattle.forgetting.proofs.TextureRuns.{spares-in, spares-within, pages-within}
 use Rattle.trimming.proofs.Looks.{count, lookHere, few, idle-here, none-left, given-count, given-bytes, bytes-few, given-records}
@@ -169,13 +169,13 @@ module _ (l : Lent) (now i : ℕ) (w : Pass) (T D S N P : List ℕ) (f : Fits l)
 
     staying-is : look .staying ≡ cond out 0 1
     unfolding lookOf
-    staying-is = ap (λ (x : Look). x .staying) here ∙ ap (λ (b : Bool). cond b 0 1) (sym (idle-here l now i h))
+    staying-is = ap (λ (x : Look). x .staying) here ∙ ap (λ (b : Bool). cond b 0 1) (sym (idle-here l now i h f))
 
     paged-is : look .paged ≡ cond out 0 (recordPages t₀)
     unfolding lookOf
-    paged-is = ap (λ (x : Look). x .paged) here ∙ ap (λ (b : Bool). cond b 0 (recordPages t₀)) (sym (idle-here l now i h))
+    paged-is = ap (λ (x : Look). x .paged) here ∙ ap (λ (b : Bool). cond b 0 (recordPages t₀)) (sym (idle-here l now i h f))
 
-    bytes-is : look .bytes * look .aged ≡ bytesGiven t₀ k₀ * k₀
+    bytes-is : look .bytes * look .aged ≡ t₀ .bytes * k₀
     unfolding lookOf
     bytes-is = ap (λ (x : Look). x .bytes * x .aged) here
 
@@ -237,7 +237,7 @@ module _ (l : Lent) (now i : ℕ) (w : Pass) (T D S N P : List ℕ) (f : Fits l)
       doomed-on =
           eD
           ∙ ap (λ rs. laid 2 writeDoomed (length (l .retiring) / 7) (l .pool .first) (l .pool .doomed + w .count) rs D)
-          (ap (λ (x : Look). givenRecords S (x .bytes) (w .first) (x .aged)) here ∙ given-now (bytesGiven t₀ k₀) k₀ ∙ given-records l now i h)
+          (ap (λ (x : Look). givenRecords S (x .bytes) (w .first) (x .aged)) here ∙ given-now (t₀ .bytes) k₀ ∙ given-records l now i h f)
           ∙ doomed-next l now i h (length (l .retiring) / 7) (l .pool .first) (l .pool .doomed) (w .count) D (s .count) (s .doomed)
 
       -- what the two cases share
@@ -271,7 +271,7 @@ module _ (l : Lent) (now i : ℕ) (w : Pass) (T D S N P : List ℕ) (f : Fits l)
           s .freed,
           ap doomedBytes (given-next l now i h),
           total-append (λ (d : Doomed ℕ). d .bytes) (givenTo l now i) (givenOne now (stateOf l i)),
-          given-bytes l now i h,
+          given-bytes l now i h f,
         );
         fewer = omega (arith, tracked-on, s .fewer, seen .staying);
         low = omega (arith, pages-on, page-on, s .low, seen .paged);
@@ -298,7 +298,7 @@ module _ (l : Lent) (now i : ℕ) (w : Pass) (T D S N P : List ℕ) (f : Fits l)
           let same = dropped-next l now i h b in
           let gone : look .staying ≡ 0 = staying-is ∙ ap (λ (c : Bool). cond c 0 1) b in
           let unpaged : look .paged ≡ 0 = paged-is ∙ ap (λ (c : Bool). cond c 0 (recordPages t₀)) b in
-          let empty : look .own - look .aged ≡ 0 = ap₂ (λ (m n : ℕ). m - n) own-is aged-is ∙ none-left l now i h b in
+          let empty : look .own - look .aged ≡ 0 = ap₂ (λ (m n : ℕ). m - n) own-is aged-is ∙ none-left l now i h f b in
           let back = sym same in
           further
           (omega (arith, tracked-on, gone, s .tracked, ap length same))

@@ -6,7 +6,6 @@ use lib.Dec.{eqb}
 use lib.Seq.{sets}
 use Rattle.blocks.specs.Lists.{listed}
 use Rattle.tables.specs.Records.{recordAt}
-use Rattle.shapes.specs.Shapes.{bytesOf}
 use Rattle.records.specs.declared.texture.TextureRecord.{TextureRecord}
 use Rattle.records.specs.Spare.{readSpare}
 use Rattle.records.specs.Texture.{readTexture, writeTexture}
@@ -26,9 +25,6 @@ isIdle now t left = aged now (t .due) && (aged now (t .rename) && eqb left 0)
 unfoldable pub dueAfter : ℕ → TextureRecord → ℕ
 dueAfter now t = cond (aged now (t .due)) (cond (aged now (t .rename)) now (t .rename)) (t .due)
 
-unfoldable pub bytesGiven : TextureRecord → ℕ → ℕ
-bytesGiven t count = cond (eqb count 0) 0 (bytesOf (t .shape))
-
 unfoldable pub lookOf : ℕ → TextureRecord → ℕ → Look
 lookOf now t count = record {
   own = t .spares;
@@ -37,7 +33,7 @@ lookOf now t count = record {
   staying = cond (isIdle now t (t .spares - count)) 0 1;
   paged = cond (isIdle now t (t .spares - count)) 0 (recordPages t);
   due = dueAfter now t;
-  bytes = bytesGiven t count;
+  bytes = t .bytes;
 }
 
 -- texture i, whose spares begin at place `first`
@@ -57,6 +53,7 @@ lookedRecord look t = record {
   rename = t .rename;
   due = look .due;
   spares = look .own - look .aged;
+  bytes = t .bytes;
 }
 
 -- written at place `to`

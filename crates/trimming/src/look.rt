@@ -1,18 +1,14 @@
 // What a trim does with one texture.
 ghost use mathlib.Core.Path.{_≡_};
-ghost use mathlib.Core.Bool.{true};
 ghost use Prim.Native.Nat.{_+_, _-_, _*_, _≤_};
 ghost use lib.ListN.{length};
 ghost use Rattle.blocks.specs.Lists.{listed};
 ghost use Rattle.tables.specs.Records.{recordAt};
-ghost use Rattle.shapes.specs.Shapes.{isShape};
 ghost use Rattle.records.specs.Texture.{readTexture};
 ghost use Rattle.layout.specs.Reading.{recordPages};
 ghost use Rattle.stores.specs.Trim.{agedCount};
-ghost use Rattle.trimming.specs.Look.{spareIn, isIdle, dueAfter, bytesGiven, lookAt};
+ghost use Rattle.trimming.specs.Look.{spareIn, isIdle, dueAfter, lookAt};
 use access::pages_at;
-use access::texture_at;
-use shapes::shape_bytes;
 
 // Of its `own` spares the oldest `aged` are given up, `bytes` each; `claimed` pages are its own. It stays tracked (`staying` is 1)
 // with `paged` pages and the number `due`, or it is dropped (`staying` and `paged` are 0).
@@ -78,21 +74,9 @@ fn due_after(textures: &[u64], i: usize, current: u64) -> u64
     current
 }
 
-// The bytes of a version of texture i, worked out only where one is given up.
-fn bytes_given(textures: &[u64], i: usize, aged: usize) -> u64
-    requires { ⌜ (20 * i + 20 ≤ length (now textures)) × (isShape (recordAt 20 readTexture (now textures) i .shape) ≡ true) ⌝ }
-    ensures { λ r. ⌜ r ≡ bytesGiven (recordAt 20 readTexture (now (textures .entry)) i) aged ⌝ }
-{
-    if aged == 0 {
-        return 0;
-    }
-    let t = texture_at(textures, i);
-    shape_bytes(t.shape)
-}
-
 // Texture i, whose spares begin at place `first`.
 pub fn look_at(textures: &[u64], spares: &[u64], i: usize, first: usize, current: u64) -> Look
-    requires { ⌜ (20 * i + 20 ≤ length (now textures)) × (isShape (recordAt 20 readTexture (now textures) i .shape) ≡ true)
+    requires { ⌜ (20 * i + 20 ≤ length (now textures))
         × (3 * (first + recordAt 20 readTexture (now textures) i .spares) ≤ length (now spares))
         × (recordPages (recordAt 20 readTexture (now textures) i) ≤ 4096) ⌝ }
     ensures { λ r. ⌜ r ≡ lookAt current (now (textures .entry)) (now (spares .entry)) i first ⌝ }
@@ -100,7 +84,7 @@ pub fn look_at(textures: &[u64], spares: &[u64], i: usize, first: usize, current
     let own = textures[20 * i + 18] as usize;
     let aged = aged_count(spares, first, own, current);
     let claimed = pages_at(textures, i);
-    let bytes = bytes_given(textures, i, aged);
+    let bytes = textures[20 * i + 19];
     let due = due_after(textures, i, current);
     if is_idle(textures, i, own - aged, current) {
         return Look {

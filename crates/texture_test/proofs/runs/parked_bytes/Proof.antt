@@ -34,9 +34,12 @@ record-bytes-requires c κs =
     let s = a .textures .now in
     let r = c .record-at .ensures in
     let q = ap (λ (t : TextureRecord). t .spares) (texture-read s (b .loop .i) _ (r .1)) in
-    let h = c .before .loop-test .taken in
-    (omega (arith, r .0), read-shape s (b .loop .i) _ (r .1) (a .n) (b .before .before .pre .1) h, omega (arith, q, spares-at s (a .n) (b .loop .i) h, b .before .before .pre .2),
-    read-bytes s (b .loop .i) _ (r .1) (a .n) (b .before .before .pre .1) h)
+    let h = c .before .loop-test .taken in (
+      omega (arith, r .0),
+      read-shape s (b .loop .i) _ (r .1) (a .n) (b .before .before .pre .1) h,
+      omega (arith, q, spares-at s (a .n) (b .loop .i) h, b .before .before .pre .2),
+      read-bytes s (b .loop .i) _ (r .1) (a .n) (b .before .before .pre .1) h,
+    )
 
 add-sum : tie.Need-add-sum Inv-loop μ-loop
 add-sum c =

@@ -10,6 +10,7 @@ use Rattle.records.specs.Texture.{readTexture}
 use Rattle.stores.specs.Trim.{agedCount}
 use Rattle.access.proofs.Fields.{spares-number}
 use Rattle.trimming.specs.Look.{spareIn, lookAt}
+use Rattle.trimming.proofs.Ages.{bytes-read}
 use Rattle.trimming.proofs.Looks.{look-made}
 use Rattle.trimming.proofs.look.look_at.Statement.{statement}
 use Rattle.trimming.proofs.look.look_at.Tie as tie
@@ -34,12 +35,19 @@ aged-count-requires c κs =
 pages-at-requires : tie.Need-pages-at-requires
 pages-at-requires c κs =
     let b = c .before .before .before .before in
-    (b .pre .0, b .pre .3)
+    (b .pre .0, b .pre .2)
 
-bytes-given-requires : tie.Need-bytes-given-requires
-bytes-given-requires c κs =
-    let b = c .before .before .before .before .before in
-    (b .pre .0, b .pre .1)
+mul-bytes : tie.Need-mul-bytes
+mul-bytes c = search needs
+
+add-bytes : tie.Need-add-bytes
+add-bytes c = search needs
+
+mul-bytes-2 : tie.Need-mul-bytes-2
+mul-bytes-2 c = search needs
+
+shared-slice-read-bytes : tie.Need-shared-slice-read-bytes
+shared-slice-read-bytes c = search needs
 
 due-after-requires : tie.Need-due-after-requires
 due-after-requires c κs = c .before .before .before .before .before .before .pre .0
@@ -58,7 +66,7 @@ returns c =
     let own = spares-number (a .textures .now) (a .i) in
     look-made (a .current) (recordAt 20 readTexture (a .textures .now) (a .i)) (agedCount (a .current) (listed (spareIn (a .spares .now)) (a .first) (recordAt 20 readTexture (a .textures .now) (a .i) .spares))) _ _ _ _ _ true own
     (n .aged-count .ensures .1 ∙ ap (λ (m : ℕ). agedCount (a .current) (listed (spareIn (a .spares .now)) (a .first) m)) own)
-    (c .before .before .before .before .pages-at .ensures) (c .before .before .due-after .ensures) (c .before .before .before .bytes-given .ensures)
+    (c .before .before .before .before .pages-at .ensures) (c .before .before .due-after .ensures) (bytes-read (a .textures .now) (a .i))
     (sym (c .if1 .taken) ∙ c .before .is-idle .ensures)
 
 returns-2 : tie.Need-returns-2
@@ -69,7 +77,7 @@ returns-2 c =
     let own = spares-number (a .textures .now) (a .i) in
     look-made (a .current) (recordAt 20 readTexture (a .textures .now) (a .i)) (agedCount (a .current) (listed (spareIn (a .spares .now)) (a .first) (recordAt 20 readTexture (a .textures .now) (a .i) .spares))) _ _ _ _ _ false own
     (n .aged-count .ensures .1 ∙ ap (λ (m : ℕ). agedCount (a .current) (listed (spareIn (a .spares .now)) (a .first) m)) own)
-    (c .before .before .before .before .pages-at .ensures) (c .before .before .due-after .ensures) (c .before .before .before .bytes-given .ensures)
+    (c .before .before .before .before .pages-at .ensures) (c .before .before .due-after .ensures) (bytes-read (a .textures .now) (a .i))
     (sym (c .if1 .left) ∙ c .before .is-idle .ensures)
 
 pub look-at-spec : {M : Type 1} → statement M
@@ -82,7 +90,10 @@ look-at-spec =
     shared-slice-read-own
     aged-count-requires
     pages-at-requires
-    bytes-given-requires
+    mul-bytes
+    add-bytes
+    mul-bytes-2
+    shared-slice-read-bytes
     due-after-requires
     sub-is-idle
     is-idle-requires
