@@ -8,7 +8,7 @@ use pool_test::sizes_fit;
 
 // The outcome of opening with so many places, and stamps for the pages: `pool::open` goes by this test. One store serves for all.
 fn opening(store: &[u64], textures: usize, versions: usize, pages: usize, stamps: usize) -> u64
-    requires { ⌜ (77843 ≤ length (now store)) × (textures ≤ 4097) × (versions ≤ 4097) × (pages ≤ 64) × (stamps ≤ 65536) ⌝ }
+    requires { ⌜ (81940 ≤ length (now store)) × (textures ≤ 4097) × (versions ≤ 4097) × (pages ≤ 64) × (stamps ≤ 65536) ⌝ }
 {
     let t = 20 * textures;
     let r = 7 * versions;
@@ -26,7 +26,7 @@ fn opening(store: &[u64], textures: usize, versions: usize, pages: usize, stamps
 }
 
 fn print_textures(store: &[u64], textures: usize)
-    requires { ⌜ (77843 ≤ length (now store)) × (textures ≤ 4097) ⌝ }
+    requires { ⌜ (81940 ≤ length (now store)) × (textures ≤ 4097) ⌝ }
 {
     figure_of(
         b"open_textures",
@@ -36,7 +36,7 @@ fn print_textures(store: &[u64], textures: usize)
 }
 
 fn print_versions(store: &[u64], versions: usize)
-    requires { ⌜ (77843 ≤ length (now store)) × (versions ≤ 4097) ⌝ }
+    requires { ⌜ (81940 ≤ length (now store)) × (versions ≤ 4097) ⌝ }
 {
     figure_of(
         b"open_versions",
@@ -47,7 +47,7 @@ fn print_versions(store: &[u64], versions: usize)
 
 // One page of so many stamps.
 fn print_page(store: &[u64], stamps: usize)
-    requires { ⌜ (77843 ≤ length (now store)) × (stamps ≤ 65536) ⌝ }
+    requires { ⌜ (81940 ≤ length (now store)) × (stamps ≤ 65536) ⌝ }
 {
     figure_of(
         b"open_page_of_stamps",
@@ -57,7 +57,7 @@ fn print_page(store: &[u64], stamps: usize)
 }
 
 pub fn print_sizes() {
-    let store = [0u64; 77843];
+    let store = [0u64; 81940];
     print_textures(&store, 0);
     print_textures(&store, 1);
     print_textures(&store, 4096);
