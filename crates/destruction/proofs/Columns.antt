@@ -11,7 +11,6 @@ use Rattle.blocks.specs.Lists.{listed, over}
 use Rattle.blocks.proofs.Lists.{length-over, drop-over}
 use Rattle.blocks.proofs.Listed.{length-listed, listed-more}
 use Rattle.layout.specs.declared.pool.Pool.{Pool}
-use Rattle.layout.specs.Reading.{handPlaces}
 use Rattle.destruction.specs.Views.{numberAt, column}
 use Rattle.destruction.specs.Drained.{drainedViews}
 
@@ -66,20 +65,18 @@ three-sets xs ys zs o h =
 
 -- the views of a drain, copied column by column
 pub views-copied : (c : Pool) (places : ℕ) (retiring doomed spares o : List ℕ) → c .queued + c .doomed + c .kept ≤ length o
-    → (i : ℕ) (o1 o2 o3 : List ℕ) → i ≡ handPlaces (c .popped) → o1 ≡ sets o 0 (column 7 1 places (c .head) retiring i (c .queued))
+    → (o1 o2 o3 : List ℕ) → o1 ≡ sets o 0 (column 7 1 places (c .head) retiring (c .popped) (c .queued))
     → o2 ≡ sets o1 (c .queued) (column 2 0 places (c .first) doomed 0 (c .doomed))
     → o3 ≡ sets o2 (c .queued + c .doomed) (column 3 0 places 0 spares 0 (c .kept)) → o3 ≡ over (drainedViews c places retiring doomed spares) o
 unfolding drainedViews
-views-copied c places retiring doomed spares o h i o1 o2 o3 e e1 e2 e3 =
-    let column1 : ℕ → List ℕ = λ j. column 7 1 places (c .head) retiring j (c .queued) in
-    let xs = column1 (handPlaces (c .popped)) in
+views-copied c places retiring doomed spares o h o1 o2 o3 e1 e2 e3 =
+    let xs = column 7 1 places (c .head) retiring (c .popped) (c .queued) in
     let ys = column 2 0 places (c .first) doomed 0 (c .doomed) in
     let zs = column 3 0 places 0 spares 0 (c .kept) in
-    let lx : length xs ≡ c .queued = length-column 7 1 places (c .head) retiring (handPlaces (c .popped)) (c .queued) in
+    let lx : length xs ≡ c .queued = length-column 7 1 places (c .head) retiring (c .popped) (c .queued) in
     let ly : length ys ≡ c .doomed = length-column 2 0 places (c .first) doomed 0 (c .doomed) in
     let lz : length zs ≡ c .kept = length-column 3 0 places 0 spares 0 (c .kept) in
     e3
-    ∙ ap (λ (t : List ℕ). sets t (c .queued + c .doomed) zs)
-    (e2 ∙ ap (λ (t : List ℕ). sets t (c .queued) ys) (e1 ∙ ap (λ (j : ℕ). sets o 0 (column1 j)) e))
+    ∙ ap (λ (t : List ℕ). sets t (c .queued + c .doomed) zs) (e2 ∙ ap (λ (t : List ℕ). sets t (c .queued) ys) e1)
     ∙ ap₂ (λ (n m : ℕ). sets (sets (sets o 0 xs) n ys) (n + m) zs) (sym lx) (sym ly)
     ∙ three-sets xs ys zs o (omega arith)

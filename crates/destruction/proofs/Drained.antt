@@ -24,7 +24,7 @@ use Rattle.stores.specs.DrainVersions.{everyView, drainVersions}
 use Rattle.layout.specs.declared.pool.Pool.{Pool as Counts}
 use Rattle.layout.specs.declared.book.PacingBook.{PacingBook}
 use Rattle.layout.specs.Lent.{Lent, lent, versionPlaces}
-use Rattle.layout.specs.Reading.{spareRead, retiringRead, handPlaces, doomedRead, modelOf}
+use Rattle.layout.specs.Reading.{spareRead, retiringRead, doomedRead, modelOf}
 use Rattle.layout.specs.Writing.{textureRecord, spareRecord, everySpare, texturesAfter, sparesAfter, bookAfter, poolAfter, after}
 use Rattle.layout.specs.IsPool.{isPool}
 use Rattle.layout.specs.Calls.{refusal, answer, viewNumbers, asked, drainVersionsCall}
@@ -32,7 +32,7 @@ use Rattle.layout.proofs.Fits.{Fits}
 use Rattle.layout.proofs.Runs.{spareCount, tracked-model, records-model, spares-model, pages-model}
 use Rattle.layout.proofs.Kept.{pagedOf, used-paged}
 use Rattle.layout.proofs.Rings.{head-stays, hand-model, retiring-drained, first-taken, doomed-taken}
-use Rattle.layout.proofs.Same.{held-same}
+use Rattle.layout.proofs.Same.{mark-same}
 use Rattle.layout.proofs.Stays.{put-together, ring-fits, doomed-fit, newest-stay, stamps-stay}
 use Rattle.destruction.specs.Views.{numberAt, column}
 use Rattle.destruction.specs.Drained.{drainedViews, drainedCounts, drainedBook, spareless, cleared}
@@ -90,7 +90,7 @@ module _ (l : Lent) (f : Fits l) where
 
   -- the hand's place is not the queue's
   abbrev from : ℕ
-  from = handPlaces (l .pool .popped)
+  from = l .pool .popped
 
   queue-views : map (λ (v : Retiring ℕ). v .view) (modelOf l .retiring) ≡ column 7 1 places (l .pool .head) (l .retiring) from (l .pool .queued)
   unfolding modelOf column retiringRead along recordAt readRetiring
@@ -150,8 +150,8 @@ module _ (l : Lent) (f : Fits l) where
     tracked = sym (length-map (modelOf l .textures) (withSpares []) ∙ tracked-model l) i;
     kept = sym (emptied-count (modelOf l .textures)) i;
     pages = sym (used-paged (emptied (modelOf l .textures)) (modelOf l .textures) (emptied-paged (modelOf l .textures)) ∙ pages-model l ∙ f .claimed) i;
-    head = sym (head-stays l rest (f .head) (omega (arith, hand-model l))) i;
-    popped = sym (held-same l) i;
+    head = sym (head-stays l rest (f .head) (omega (arith, hand-model l (f .hand)))) i;
+    popped = sym (hand-model l (f .hand)) i;
     queued = 0;
     first = sym (first-taken l rest (l .pool .doomed) (omega arith) none-left) i;
     doomed = 0;
@@ -165,7 +165,12 @@ module _ (l : Lent) (f : Fits l) where
 
   book-drained : drainedBook (l .book) ≡ bookAfter rest
   unfolding drainedBook bookAfter modelOf
-  book-drained = refl
+  book-drained = λ i. record {
+    arrivals = replicate 8 0;
+    slot = l .book .slot;
+    pressed = sym (mark-same (l .book .pressed) (f .mark)) i;
+    excess = l .book .excess;
+  }
 
   textures-drained : cleared (l .pool .tracked) (l .textures) ≡ texturesAfter rest l
   unfolding cleared texturesAfter
@@ -186,7 +191,7 @@ module _ (l : Lent) (f : Fits l) where
       put-together rest l (drainedCounts (l .pool) places) (drainedBook (l .book)) (cleared (l .pool .tracked) (l .textures))
       (l .retiring) (l .doomed) (l .spares) (l .newest) (l .stamps)
       counts-drained book-drained textures-drained
-      (sym (retiring-drained l rest (f .head) (omega (arith, f .retiring)) (ring-fits l f) refl refl))
+      (sym (retiring-drained l rest (f .head) (omega (arith, f .retiring)) (f .hand) (ring-fits l f) refl refl))
       (sym (doomed-taken l rest (f .first) (omega (arith, f .doomed)) (doomed-fit l f) (l .pool .doomed) (omega arith) none-left))
       spares-drained (newest-stay l f rest (emptied-paged (modelOf l .textures))) (stamps-stay l f rest (emptied-paged (modelOf l .textures)))
 

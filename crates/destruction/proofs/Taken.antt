@@ -28,7 +28,7 @@ use Rattle.layout.specs.Calls.{Told, refusal, answer, viewNumbers, asked, takeD
 use Rattle.layout.proofs.Fits.{Fits}
 use Rattle.layout.proofs.Runs.{tracked-model, kept-model, pages-model}
 use Rattle.layout.proofs.Rings.{head-stays, hand-model, first-taken, doomed-taken}
-use Rattle.layout.proofs.Same.{held-same, queued-model, doomed-model}
+use Rattle.layout.proofs.Same.{mark-same, queued-model, doomed-model}
 use Rattle.layout.proofs.Stays.{put-together, doomed-fit, textures-stay, retiring-stay, spares-stay, newest-stay, stamps-stay}
 use Rattle.destruction.specs.Views.{numberAt, column}
 use Rattle.destruction.specs.Batch.{doomedEntry, doomedEntries, pacedOf, batchOf}
@@ -135,8 +135,8 @@ module _ (l : Lent) where
         tracked = sym (tracked-model l) i;
         kept = sym (kept-model l ∙ f .kept) i;
         pages = sym (pages-model l ∙ f .claimed) i;
-        head = sym (head-stays l rest (f .head) (omega (arith, hand-model l))) i;
-        popped = sym (held-same l) i;
+        head = sym (head-stays l rest (f .head) (omega (arith, hand-model l (f .hand)))) i;
+        popped = sym (hand-model l (f .hand)) i;
         queued = sym (queued-model l) i;
         first = sym (first-taken l rest n few refl) i;
         doomed = sym (length-drop n (modelOf l .doomed) ∙ ap (λ (m : ℕ). m - n) (doomed-model l)) i;
@@ -150,7 +150,12 @@ module _ (l : Lent) where
 
       book-taken : takenBook (l .book) noted ≡ bookAfter rest
       unfolding takenBook bookAfter modelOf
-      book-taken = refl
+      book-taken = λ i. record {
+        arrivals = noted;
+        slot = suc (l .book .slot) % 8;
+        pressed = sym (mark-same (l .book .pressed) (f .mark)) i;
+        excess = 0;
+      }
 
       left-taken : leaving l (takenCounts (l .pool) (versionPlaces l) n bytes) (takenBook (l .book) noted) ≡ after rest l
       left-taken =

@@ -9,13 +9,12 @@ use Rattle.records.specs.declared.texture.TextureRecord.{TextureRecord}
 use Rattle.records.specs.Texture.{readTexture, writeTexture}
 use Rattle.layout.specs.declared.pool.Pool.{Pool}
 use Rattle.layout.specs.declared.book.PacingBook.{PacingBook}
-use Rattle.layout.specs.Reading.{handPlaces}
 use Rattle.destruction.specs.Views.{column}
 
 -- the views of the queue, then of the destroy queue, then of the spares
 unfoldable pub drainedViews : Pool → ℕ → List ℕ → List ℕ → List ℕ → List ℕ
 drainedViews c places retiring doomed spares =
-    column 7 1 places (c .head) retiring (handPlaces (c .popped)) (c .queued)
+    column 7 1 places (c .head) retiring (c .popped) (c .queued)
     ++ (column 2 0 places (c .first) doomed 0 (c .doomed) ++ column 3 0 places 0 spares 0 (c .kept))
 
 -- nothing is left but the hand

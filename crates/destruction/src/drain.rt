@@ -5,7 +5,6 @@ ghost use Prim.Native.Nat.{_+_, _*_, _≤_, _<_};
 ghost use lib.ListN.{length};
 ghost use Rattle.blocks.specs.Lists.{over};
 ghost use Rattle.layout.specs.Lent.{lent};
-ghost use Rattle.layout.specs.Reading.{handPlaces};
 ghost use Rattle.layout.specs.IsPool.{isPool};
 ghost use Rattle.layout.specs.Calls.{drainVersionsCall};
 ghost use Rattle.destruction.specs.Answer.{handedTold};
@@ -17,16 +16,6 @@ use layout::PacingBook;
 use layout::Pool;
 use tables::ring_drop;
 
-// How many places at the front of the retiring ring the hand takes.
-fn hand_places(popped: bool) -> usize
-    ensures { λ r. ⌜ r ≡ handPlaces popped ⌝ }
-{
-    if popped {
-        return 1;
-    }
-    0
-}
-
 // The views of all that is handed out, stored at the buffer's front.
 fn copy_views(
     pool: Pool,
@@ -37,14 +26,14 @@ fn copy_views(
     buffer: &mut [u64],
 )
     requires { ⌜ (7 * places ≤ length (now retiring)) × (2 * places ≤ length (now doomed)) × (3 * places ≤ length (now spares))
-        × (pool .head < places) × (pool .first < places) × (pool .queued + handPlaces (pool .popped) + pool .kept + pool .doomed ≤ places)
+        × (pool .head < places) × (pool .first < places) × (pool .queued + pool .popped + pool .kept + pool .doomed ≤ places)
         × (pool .queued + pool .doomed + pool .kept ≤ length (now buffer)) ⌝ }
     ensures { λ _. ⌜ now (buffer .exit)
         ≡ over (drainedViews pool places (now (retiring .entry)) (now (doomed .entry)) (now (spares .entry))) (now (buffer .entry)) ⌝ }
 {
     let queued = pool.queued;
     let waiting = pool.doomed;
-    let from = hand_places(pool.popped);
+    let from = pool.popped;
     copy_column(buffer, 0, retiring, 7, 1, places, pool.head, from, queued);
     copy_column(buffer, queued, doomed, 2, 0, places, pool.first, 0, waiting);
     copy_column(

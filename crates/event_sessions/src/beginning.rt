@@ -17,7 +17,7 @@ fn no_pool() -> Pool
         kept: 0,
         pages: 0,
         head: 0,
-        popped: false,
+        popped: 0,
         queued: 0,
         first: 0,
         doomed: 0,
@@ -36,7 +36,7 @@ fn no_book() -> PacingBook
     PacingBook {
         arrivals: [0; 8],
         slot: 0,
-        pressed: false,
+        pressed: 0,
         excess: 0,
     }
 }

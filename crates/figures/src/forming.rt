@@ -12,7 +12,7 @@ fn pool_with(bytes: u64, since: u64, trackings: u64) -> Pool {
         kept: 0,
         pages: 0,
         head: 0,
-        popped: false,
+        popped: 0,
         queued: 0,
         first: 0,
         doomed: 1,
@@ -29,7 +29,7 @@ fn book_with(arrivals: u64, slot: usize) -> PacingBook {
     PacingBook {
         arrivals: [arrivals; 8],
         slot,
-        pressed: false,
+        pressed: 0,
         excess: 0,
     }
 }

@@ -29,7 +29,7 @@ use Rattle.layout.proofs.FromPool.{pool-fits}
 use Rattle.layout.proofs.Asked.{asked-accepted}
 use Rattle.layout.proofs.Runs.{firstSpare, stateOf, tracked-model, model-at}
 use Rattle.layout.proofs.Rings.{hand-model, head-stays, first-stays, doomed-pushed}
-use Rattle.layout.proofs.Same.{book-same, held-same, queued-model, doomed-model}
+use Rattle.layout.proofs.Same.{book-same, queued-model, doomed-model}
 use Rattle.layout.proofs.Places.{IsTracked, place, taken-out, given as given′, not-taken-out, not-given}
 use Rattle.layout.proofs.Stays.{put-together, ids-ascend, textures-fit, doomed-fit, nothing-changed, retiring-stay, doomed-bound}
 use Rattle.layout.proofs.Counts.{tracked-removed, kept-removed, used-removed}
@@ -158,8 +158,8 @@ module _ (l : Lent) (f : Fits l) (i : ℕ) (h : i < l .pool .tracked) where
     kept = sym (kept-removed l left (f .kept) (firstSpare l i) (sparesAt l i) spares-there (every-removed l i h)
         ∙ ap (λ (n : ℕ). l .pool .kept - n) own-spares-are) j;
     pages = sym (used-removed l left (f .claimed) i h refl ∙ ap (λ (n : ℕ). l .pool .pages - n) (ap recordPages (record-read l i h))) j;
-    head = sym (head-stays l left (f .head) (omega (arith, hand-model l))) j;
-    popped = sym (held-same l) j;
+    head = sym (head-stays l left (f .head) (omega (arith, hand-model l (f .hand)))) j;
+    popped = sym (hand-model l (f .hand)) j;
     queued = sym (queued-model l) j;
     first = sym (first-stays l left (f .first) (omega (arith, doomed-model l, length-append (modelOf l .doomed) out))) j;
     doomed = sym (length-append (modelOf l .doomed) out ∙ ap₂ (λ (m n : ℕ). m + n) (doomed-model l) out-count) j;
@@ -201,7 +201,7 @@ module _ (l : Lent) (f : Fits l) (i : ℕ) (h : i < l .pool .tracked) where
 
   book-left : l .book ≡ bookAfter left
   unfolding bookAfter
-  book-left = sym (book-same l)
+  book-left = sym (book-same l (f .mark))
 
   pub left-behind : (own : Owned) → own ≡ ownedAt T i → (c : Counts) (textures doomed spares newest stamps : List ℕ)
       → c ≡ without (l .pool) own

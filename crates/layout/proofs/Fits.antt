@@ -8,7 +8,7 @@ use Rattle.stores.specs.Open.{arePlaces}
 use Rattle.stores.specs.Formed.{Formed}
 use Rattle.records.specs.declared.texture.TextureRecord.{TextureRecord}
 use Rattle.layout.specs.Lent.{Lent, versionPlaces}
-use Rattle.layout.specs.Reading.{trackedRecords, recordPages, handPlaces, modelOf}
+use Rattle.layout.specs.Reading.{trackedRecords, recordPages, modelOf}
 
 pub record Fits (l : Lent) : Type 0 where
   -- the slices are as long as whole places, as many as may be lent
@@ -25,10 +25,13 @@ pub record Fits (l : Lent) : Type 0 where
   pub tracked : l .pool .tracked ≤ modelOf l .places .textures
   pub head : l .pool .head < versionPlaces l
   pub first : l .pool .first < versionPlaces l
-  pub versions : l .pool .queued + handPlaces (l .pool .popped) + l .pool .kept + l .pool .doomed ≤ versionPlaces l
+  pub hand : l .pool .popped ≤ 1
+  pub versions : l .pool .queued + l .pool .popped + l .pool .kept + l .pool .doomed ≤ versionPlaces l
   pub pages : l .pool .pages ≤ length (l .newest)
   -- the records claim just the spares and pages that are counted
   pub kept : total (λ (t : TextureRecord). t .spares) (trackedRecords l) ≡ l .pool .kept
   pub claimed : total recordPages (trackedRecords l) ≡ l .pool .pages
+  -- the pressure mark is 0 or 1
+  pub mark : l .book .pressed ≤ 1
   -- 01's conditions
   pub formed : Formed (modelOf l)

@@ -26,7 +26,7 @@ module _ (working : ℕ) (textures retiring doomed spares newest stamps : List �
   opened-model = refl
 
   pub opened-fits : sizesFit new ≡ true → Fits new
-  unfolding openedPool table listed total
+  unfolding openedPool openedBook table listed total
   opened-fits e = record {
     places = are-places new e;
     textures = whole-textures new e;
@@ -40,9 +40,11 @@ module _ (working : ℕ) (textures retiring doomed spares newest stamps : List �
     tracked = omega arith;
     head = some-version new e;
     first = some-version new e;
+    hand = omega arith;
     versions = omega arith;
     pages = omega arith;
     kept = refl;
     claimed = refl;
+    mark = omega arith;
     formed = subst (λ (p : Pool ℕ). Formed p) (sym opened-model) (opened-formed (modelOf new .places) (are-places new e) working);
   }

@@ -1,9 +1,9 @@
 -- Lent memory that passes the test has every one of the facts. Assumes nothing.
 use mathlib.Core.Path.{_≡_, refl, sym, ap, ap₂, _∙_, subst}
-use mathlib.Core.Bool.{Bool, true, false}
+use mathlib.Core.Bool.{true}
 use mathlib.Core.Option.{Option, none, some}
 use mathlib.Core.List.{List, [], _∷_}
-use Prim.Native.Nat.{ℕ, _+_, _*_, _%_, _≤_, _<_}
+use Prim.Native.Nat.{ℕ, zero, suc, _+_, _*_, _%_, _≤_, _<_}
 use native.Mathlib.Nat.{zero-add, mul-comm}
 use native.Mathlib.Omega.{arith}
 use borrow.Author.Tests.{ltb-true, leb-true, eqb-true}
@@ -31,8 +31,8 @@ use Rattle.records.specs.declared.recorded.Recorded.{Recorded}
 use Rattle.records.specs.declared.recorded.Recorded.the-variants.{Writes, NoHistory}
 use Rattle.records.specs.declared.texture.TextureRecord.{TextureRecord}
 use Rattle.layout.specs.Lent.{Lent, versionPlaces}
-use Rattle.layout.specs.Reading.{trackedRecords, pageAt, gridRead, historyRead, recordPages, recordedPages, spareRead, stateRead, statesRead, retiringRead, handPlaces, handRead, doomedRead, modelOf}
-use Rattle.layout.specs.IsPool.{sizesFit, countsFit, runsFit, isGrid, isHistory, isHeldCount, isSpare, isState, isRetiring, isHand, isDoomed, isArrival, isFormed, isPool}
+use Rattle.layout.specs.Reading.{trackedRecords, pageAt, gridRead, historyRead, recordPages, recordedPages, spareRead, stateRead, statesRead, retiringRead, handRead, doomedRead, modelOf}
+use Rattle.layout.specs.IsPool.{sizesFit, countsFit, runsFit, markFits, isGrid, isHistory, isHeldCount, isSpare, isState, isRetiring, isHand, isDoomed, isArrival, isFormed, isPool}
 use Rattle.layout.proofs.FitsTests.{all-holds, ascending-holds}
 use Rattle.layout.proofs.Fits.{Fits}
 use Rattle.layout.proofs.Runs.{kept-states, tracked-model, pages-model}
@@ -164,17 +164,17 @@ module _ (l : Lent) (paged : 1024 * length (l .newest) ≡ length (l .stamps)) w
 
 -- the counts of what is read
 module _ (l : Lent) where
-  hand-read : (b : Bool) → handCount (handRead l b) ≡ handPlaces b
-  hand-read true = refl
-  hand-read false = refl
+  hand-read : (n : ℕ) → n ≤ 1 → handCount (handRead l n) ≡ n
+  hand-read zero h = refl
+  hand-read (suc n) h = omega arith
 
-  pub versions-read : versionsUsed (modelOf l)
-      ≡ l .pool .queued + handPlaces (l .pool .popped) + total (λ (t : TextureRecord). t .spares) (trackedRecords l) + l .pool .doomed
+  pub versions-read : l .pool .popped ≤ 1 → versionsUsed (modelOf l)
+      ≡ l .pool .queued + l .pool .popped + total (λ (t : TextureRecord). t .spares) (trackedRecords l) + l .pool .doomed
   unfolding modelOf
-  versions-read =
+  versions-read h =
       ap₂ (λ (a b : ℕ). a + b)
       (ap₂ (λ (a b : ℕ). a + b)
-      (ap₂ (λ (a b : ℕ). a + b) (length-listed (retiringRead l) (handPlaces (l .pool .popped)) (l .pool .queued)) (hand-read (l .pool .popped)))
+      (ap₂ (λ (a b : ℕ). a + b) (length-listed (retiringRead l) (l .pool .popped) (l .pool .queued)) (hand-read (l .pool .popped) h))
       (kept-states l 0 0 (trackedRecords l)))
       (length-listed (doomedRead l) 0 (l .pool .doomed))
 
@@ -257,7 +257,11 @@ module _ (l : Lent) (e : isPool l ≡ true) where
 
   forming : isFormed (modelOf l) ≡ true
   unfolding isPool
-  forming = passed _ e 3
+  forming = passed _ e 4
+
+  marked : l .book .pressed ≤ 1
+  unfolding isPool markFits
+  marked = leb-true _ _ (passed _ e 3)
 
   pages-claimed : total recordPages (trackedRecords l) ≡ l .pool .pages
   unfolding runsFit
@@ -269,11 +273,15 @@ module _ (l : Lent) (e : isPool l ≡ true) where
 
   pages-counted : l .pool .pages ≤ length (l .newest)
   unfolding countsFit
-  pages-counted = leb-true _ _ (passed _ counted 4)
+  pages-counted = leb-true _ _ (passed _ counted 5)
 
-  versions-counted : l .pool .queued + handPlaces (l .pool .popped) + l .pool .kept + l .pool .doomed ≤ versionPlaces l
+  hand-counted : l .pool .popped ≤ 1
   unfolding countsFit
-  versions-counted = leb-true _ _ (passed _ counted 3)
+  hand-counted = leb-true _ _ (passed _ counted 3)
+
+  versions-counted : l .pool .queued + l .pool .popped + l .pool .kept + l .pool .doomed ≤ versionPlaces l
+  unfolding countsFit
+  versions-counted = leb-true _ _ (passed _ counted 4)
 
   tracked-counted : l .pool .tracked ≤ modelOf l .places .textures
   unfolding countsFit
@@ -293,7 +301,7 @@ module _ (l : Lent) (e : isPool l ≡ true) where
     doomed = all-holds isDoomed doomed-formed (modelOf l .doomed) (passed _ forming 4);
     trackings = leb-true _ _ (passed _ forming 5);
     places = omega (arith, tracked-model l, tracked-counted);
-    versions = omega (arith, versions-read l, versions-counted, spares-claimed, version-places l);
+    versions = omega (arith, versions-read l hand-counted, versions-counted, spares-claimed, version-places l);
     pages = omega (arith, pages-model l, pages-claimed, pages-counted, page-places l);
     parked = eqb-true _ _ (passed _ forming 6);
     dooming = eqb-true _ _ (passed _ forming 7);
@@ -320,9 +328,11 @@ module _ (l : Lent) (e : isPool l ≡ true) where
     tracked = tracked-counted;
     head = ltb-true _ _ (passed _ counted 1);
     first = ltb-true _ _ (passed _ counted 2);
+    hand = hand-counted;
     versions = versions-counted;
     pages = pages-counted;
     kept = spares-claimed;
     claimed = pages-claimed;
+    mark = marked;
     formed = model-formed;
   }

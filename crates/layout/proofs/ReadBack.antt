@@ -1,10 +1,11 @@
 -- What was written back is what is read, and it forms a pool again. Assumes nothing.
 use mathlib.Core.Path.{_≡_, refl, sym, ap, _∙_, subst}
-use mathlib.Core.Bool.{true}
+use mathlib.Core.Bool.{Bool, true, false}
 use mathlib.Core.Option.{Option, none, some}
 use mathlib.Core.List.{_++_, map}
 use Prim.Native.Nat.{ℕ, _+_, _-_, _*_, _/_, _≤_, _<_}
 use native.Mathlib.Omega.{arith}
+use lib.Dec.{eqb}
 use lib.ListN.{length, length-map}
 use Rattle.blocks.specs.Lists.{listed, over, total}
 use Rattle.blocks.proofs.Lists.{length-over}
@@ -13,7 +14,6 @@ use Rattle.tables.specs.Rings.{laid}
 use Rattle.tables.proofs.Records.{length-flat, reread}
 use Rattle.tables.proofs.Rings.{place-in, length-laid}
 use Rattle.stores.specs.Model.{Retiring, VersionState, Places, Pool, pagesUsed, handCount, versionsUsed}
-use Rattle.stores.specs.PopRetired.{isHeld}
 use Rattle.stores.specs.Open.{arePlaces}
 use Rattle.stores.specs.Formed.{Formed}
 use Rattle.records.specs.declared.texture.TextureRecord.{TextureRecord}
@@ -23,8 +23,8 @@ use Rattle.records.specs.Retiring.{writeRetiring}
 use Rattle.records.specs.Doomed.{writeDoomed}
 use Rattle.records.proofs.Codecs.{texture-codec, spare-codec}
 use Rattle.layout.specs.Lent.{Lent, versionPlaces}
-use Rattle.layout.specs.Reading.{trackedRecords, recordPages, statesRead, retiringRead, handPlaces, handRead, doomedRead, modelOf}
-use Rattle.layout.specs.Writing.{textureRecord, spareRecord, retiringRecord, doomedRecord, texturesAfter, everySpare, sparesAfter, newestAfter, stampsAfter, headAfter, handList, retiringAfter, firstAfter, doomedAfter, poolAfter, bookAfter, after}
+use Rattle.layout.specs.Reading.{trackedRecords, recordPages, statesRead, retiringRead, handRead, doomedRead, modelOf}
+use Rattle.layout.specs.Writing.{textureRecord, spareRecord, retiringRecord, doomedRecord, texturesAfter, everySpare, sparesAfter, newestAfter, stampsAfter, headAfter, handList, retiringAfter, firstAfter, doomedAfter, poolAfter, markOf, bookAfter, after}
 use Rattle.layout.specs.IsPool.{isPool}
 use Rattle.layout.proofs.Fits.{Fits}
 use Rattle.layout.proofs.FromPool.{version-places, page-places}
@@ -33,9 +33,18 @@ use Rattle.layout.proofs.ToPool.{fits-pool}
 use Rattle.layout.proofs.ReadStates.{states-back, length-every-spare, kept-recorded, pages-recorded, length-newests, length-new-pages}
 use Rattle.layout.proofs.ReadRings.{hand-back, queue-back, doomed-back}
 
-hand-places : (o : Option (Retiring ℕ)) → handPlaces (isHeld o) ≡ handCount o
-hand-places none = refl
-hand-places (some v) = refl
+-- one version at most in the hand, and a mark is 0 or 1, whatever they are read back from
+hand-few : (o : Option (Retiring ℕ)) → handCount o ≤ 1
+hand-few none = omega arith
+hand-few (some v) = omega arith
+
+mark-few : (b : Bool) → markOf b ≤ 1
+mark-few true = omega arith
+mark-few false = omega arith
+
+mark-back : (b : Bool) → eqb (markOf b) 1 ≡ b
+mark-back true = refl
+mark-back false = refl
 
 module _ (l : Lent) (p : Pool ℕ) (fits : Fits l) (formed : Formed p) (same : p .places ≡ modelOf l .places) where
   -- ---- the pool has room in the slices
@@ -101,7 +110,7 @@ module _ (l : Lent) (p : Pool ℕ) (fits : Fits l) (formed : Formed p) (same : p
 
   head-in : headAfter p l < versionPlaces l
   unfolding headAfter
-  head-in = place-in (versionPlaces l) (l .pool .head) (handPlaces (l .pool .popped) - handCount (p .hand)) (fits .head) (omega (arith, fits .versions))
+  head-in = place-in (versionPlaces l) (l .pool .head) (l .pool .popped - handCount (p .hand)) (fits .head) (omega (arith, fits .versions))
 
   first-in : firstAfter p l < versionPlaces l
   unfolding firstAfter
@@ -133,10 +142,10 @@ module _ (l : Lent) (p : Pool ℕ) (fits : Fits l) (formed : Formed p) (same : p
   waiting-room : length (p .retiring) + handCount (p .hand) ≤ versionPlaces (after p l)
   waiting-room = omega (arith, version-room, versions-kept)
 
-  hand-read-back : handRead (after p l) (isHeld (p .hand)) ≡ p .hand
+  hand-read-back : handRead (after p l) (handCount (p .hand)) ≡ p .hand
   hand-read-back = hand-back (after p l) (l .retiring) ring-room ring-head (p .hand) (p .retiring) waiting-room ring-laid-back
 
-  queue-read-back : listed (retiringRead (after p l)) (handPlaces (isHeld (p .hand))) (length (p .retiring)) ≡ p .retiring
+  queue-read-back : listed (retiringRead (after p l)) (handCount (p .hand)) (length (p .retiring)) ≡ p .retiring
   queue-read-back = queue-back (after p l) (l .retiring) ring-room ring-head (p .hand) (p .retiring) waiting-room ring-laid-back
 
   destroy-laid-back : after p l .doomed
@@ -174,7 +183,12 @@ module _ (l : Lent) (p : Pool ℕ) (fits : Fits l) (formed : Formed p) (same : p
     dooming = p .dooming;
     places = places-read-back i;
     budget = p .budget;
-    pacing = p .pacing;
+    pacing = record {
+      arrivals = p .pacing .arrivals;
+      slot = p .pacing .slot;
+      pressed = mark-back (p .pacing .pressed) i;
+      excess = p .pacing .excess;
+    };
   }
 
   -- ---- and it fits
@@ -184,7 +198,7 @@ module _ (l : Lent) (p : Pool ℕ) (fits : Fits l) (formed : Formed p) (same : p
   after-newest = newest-kept
 
   pub after-fits : Fits (after p l)
-  unfolding after poolAfter
+  unfolding after poolAfter bookAfter
   after-fits = record {
     places = ap arePlaces places-kept ∙ fits .places;
     textures = ap (λ (n : Places). 19 * n .textures) places-kept ∙ fits .textures ∙ sym textures-kept;
@@ -198,10 +212,12 @@ module _ (l : Lent) (p : Pool ℕ) (fits : Fits l) (formed : Formed p) (same : p
     tracked = omega (arith, texture-room, ap (λ (n : Places). n .textures) places-kept);
     head = ring-head;
     first = ring-first;
-    versions = omega (arith, version-room, versions-kept, hand-places (p .hand));
+    hand = hand-few (p .hand);
+    versions = omega (arith, version-room, versions-kept);
     pages = omega (arith, page-room, newest-kept);
     kept = ap (total (λ (t : TextureRecord). t .spares)) records-back ∙ kept-recorded (p .textures);
     claimed = ap (total recordPages) records-back ∙ pages-recorded (p .textures);
+    mark = mark-few (p .pacing .pressed);
     formed = subst (λ (q : Pool ℕ). Formed q) (sym read-back) formed;
   }
 

@@ -10,13 +10,12 @@ use Rattle.blocks.proofs.Listed.{map-listed}
 use Rattle.tables.specs.Rings.{along, ring, laid}
 use Rattle.tables.proofs.Rings.{ring-laid}
 use Rattle.stores.specs.Model.{Retiring, Doomed, handCount}
-use Rattle.stores.specs.PopRetired.{isHeld}
 use Rattle.records.specs.Retiring.{readRetiring, writeRetiring}
 use Rattle.records.specs.Doomed.{readDoomed, writeDoomed}
 use Rattle.records.specs.Views.{retiringOf, doomedOf}
 use Rattle.records.proofs.Codecs.{retiring-codec, doomed-codec}
 use Rattle.layout.specs.Lent.{Lent, versionPlaces}
-use Rattle.layout.specs.Reading.{retiringRead, handPlaces, handRead, doomedRead}
+use Rattle.layout.specs.Reading.{retiringRead, handRead, doomedRead}
 use Rattle.layout.specs.Writing.{retiringRecord, doomedRecord, handList}
 
 -- ---- the retiring ring: the hand, and then the queue
@@ -34,14 +33,14 @@ module _ (m : Lent) (s : List ℕ) (room : 7 * versionPlaces m ≤ length s) (he
       ∙ map-id vs
 
   pub hand-back : (o : Option (Retiring ℕ)) (vs : List (Retiring ℕ)) → length vs + handCount o ≤ versionPlaces m
-      → m .retiring ≡ laid 7 writeRetiring (versionPlaces m) (m .pool .head) 0 (map retiringRecord (handList o ++ vs)) s → handRead m (isHeld o) ≡ o
+      → m .retiring ≡ laid 7 writeRetiring (versionPlaces m) (m .pool .head) 0 (map retiringRecord (handList o ++ vs)) s → handRead m (handCount o) ≡ o
   unfolding listed
   hand-back none vs h e = refl
   hand-back (some v) vs h e = ap (λ (l : List (Retiring ℕ)). some (getD l 0 v)) (retiring-listed (v ∷ vs) (omega arith) e)
 
   pub queue-back : (o : Option (Retiring ℕ)) (vs : List (Retiring ℕ)) → length vs + handCount o ≤ versionPlaces m
       → m .retiring ≡ laid 7 writeRetiring (versionPlaces m) (m .pool .head) 0 (map retiringRecord (handList o ++ vs)) s
-      → listed (retiringRead m) (handPlaces (isHeld o)) (length vs) ≡ vs
+      → listed (retiringRead m) (handCount o) (length vs) ≡ vs
   unfolding listed
   queue-back none vs h e = retiring-listed vs (omega arith) e
   queue-back (some v) vs h e = ap (drop 1) (retiring-listed (v ∷ vs) (omega arith) e)

@@ -1,10 +1,9 @@
 -- The rings after a call: what left at the front moves the head on and leaves the slice as it was, and what was pushed stands behind the others.
 -- Assumes nothing.
 use mathlib.Core.Path.{_≡_, refl, sym, ap, ap₂, _∙_}
-use mathlib.Core.Bool.{Bool, true, false}
 use mathlib.Core.Option.{Option, none, some}
-use mathlib.Core.List.{List, [], _∷_, _++_, map, map-append, append-assoc}
-use Prim.Native.Nat.{ℕ, suc, _+_, _*_, _-_, _≤_, _<_}
+use mathlib.Core.List.{List, [], _∷_, _++_, map, map-append, append-assoc, append-nil}
+use Prim.Native.Nat.{ℕ, zero, suc, _+_, _*_, _-_, _≤_, _<_}
 use native.Mathlib.Nat.{add-zero, zero-add}
 use native.Mathlib.Omega.{arith}
 use lib.ListN.{length, drop, length-append, length-drop}
@@ -22,7 +21,7 @@ use Rattle.records.specs.Retiring.{readRetiring, writeRetiring}
 use Rattle.records.specs.Doomed.{readDoomed, writeDoomed}
 use Rattle.records.proofs.Codecs.{retiring-codec, doomed-codec}
 use Rattle.layout.specs.Lent.{Lent, versionPlaces}
-use Rattle.layout.specs.Reading.{handPlaces, handRead, retiringRead, doomedRead, modelOf}
+use Rattle.layout.specs.Reading.{handRead, retiringRead, doomedRead, modelOf}
 use Rattle.layout.specs.Writing.{retiringRecord, doomedRecord, handList, headAfter, retiringAfter, firstAfter, doomedAfter}
 
 -- ---- any ring
@@ -60,49 +59,49 @@ module _ {ℓ} {A : Type ℓ} {w : ℕ} {rd : List ℕ → A} {wr : A → List �
 -- ---- the retiring ring
 
 module _ (l : Lent) where
-  -- the hand and the queue of the model are the ring
-  pub ring-model : handList (modelOf l .hand) ++ modelOf l .retiring ≡ listed (retiringRead l) 0 (handPlaces (l .pool .popped) + l .pool .queued)
+  -- the hand is the ring's front, and the queue follows it
+  hand-front : l .pool .popped ≤ 1 → handList (modelOf l .hand) ≡ listed (retiringRead l) 0 (l .pool .popped)
   unfolding modelOf listed
-  ring-model = go (l .pool .popped)
+  hand-front = go (l .pool .popped)
     where
-      go : (b : Bool)
-          → handList (handRead l b) ++ listed (retiringRead l) (handPlaces b) (l .pool .queued)
-          ≡ listed (retiringRead l) 0 (handPlaces b + l .pool .queued)
-      go false = ap (listed (retiringRead l) 0) (sym (zero-add (l .pool .queued)))
-      go true = sym (listed-split (retiringRead l) 0 1 (l .pool .queued))
+      go : (n : ℕ) → n ≤ 1 → handList (handRead l n) ≡ listed (retiringRead l) 0 n
+      go zero h = refl
+      go (suc zero) h = refl
+      go (suc (suc n)) h = absurd (let y : ⊥ = omega arith in y)
+
+  -- the hand and the queue of the model are the ring
+  pub ring-model : l .pool .popped ≤ 1
+      → handList (modelOf l .hand) ++ modelOf l .retiring ≡ listed (retiringRead l) 0 (l .pool .popped + l .pool .queued)
+  unfolding modelOf
+  ring-model h =
+      let n = l .pool .popped in
+      ap₂ (λ (vs ws : List (Retiring ℕ)). vs ++ ws) (hand-front h) (ap (λ (k : ℕ). listed (retiringRead l) k (l .pool .queued)) (sym (zero-add n)))
+      ∙ sym (listed-split (retiringRead l) 0 n (l .pool .queued))
 
   retiring-records : (k n : ℕ)
       → map retiringRecord (listed (retiringRead l) k n) ≡ listed (along 7 readRetiring (versionPlaces l) (l .pool .head) (l .retiring)) k n
   unfolding retiringRead
   retiring-records k n = map-listed retiringRecord (retiringRead l) k n
 
-  pub hand-model : handCount (modelOf l .hand) ≡ handPlaces (l .pool .popped)
+  pub hand-model : l .pool .popped ≤ 1 → handCount (modelOf l .hand) ≡ l .pool .popped
   unfolding modelOf
   hand-model = go (l .pool .popped)
     where
-      go : (b : Bool) → handCount (handRead l b) ≡ handPlaces b
-      go false = refl
-      go true = refl
+      go : (n : ℕ) → n ≤ 1 → handCount (handRead l n) ≡ n
+      go zero h = refl
+      go (suc n) h = omega arith
 
-  hand-empty : l .pool .popped ≡ false → modelOf l .hand ≡ none
+  hand-empty : l .pool .popped ≡ 0 → modelOf l .hand ≡ none
   unfolding modelOf
   hand-empty e = ap (handRead l) e
 
-  hand-alone : handList (modelOf l .hand) ++ [] ≡ listed (retiringRead l) 0 (handPlaces (l .pool .popped))
-  unfolding modelOf listed
-  hand-alone = go (l .pool .popped)
-    where
-      go : (b : Bool) → handList (handRead l b) ++ [] ≡ listed (retiringRead l) 0 (handPlaces b)
-      go false = refl
-      go true = refl
-
-  queue-behind : l .pool .popped ≡ true → modelOf l .retiring ≡ listed (retiringRead l) 1 (l .pool .queued)
+  queue-behind : l .pool .popped ≡ 1 → modelOf l .retiring ≡ listed (retiringRead l) 1 (l .pool .queued)
   unfolding modelOf
-  queue-behind e = ap (λ (b : Bool). listed (retiringRead l) (handPlaces b) (l .pool .queued)) e
+  queue-behind e = ap (λ (n : ℕ). listed (retiringRead l) n (l .pool .queued)) e
 
   module _ (p : Pool ℕ) where
     abbrev popped : ℕ
-    popped = handPlaces (l .pool .popped)
+    popped = l .pool .popped
 
     module _ (inside : l .pool .head < versionPlaces l) where
       -- a hand that is full as it was leaves the head where it is, and one that is filled too
@@ -113,11 +112,11 @@ module _ (l : Lent) where
           ∙ place-head (versionPlaces l) (l .pool .head) inside
 
       -- parked: the head moves on by one
-      pub head-parked : l .pool .popped ≡ true → p .hand ≡ none → headAfter p l ≡ placeOf (versionPlaces l) (l .pool .head) 1
+      pub head-parked : l .pool .popped ≡ 1 → p .hand ≡ none → headAfter p l ≡ placeOf (versionPlaces l) (l .pool .head) 1
       unfolding headAfter
-      head-parked e f = ap₂ (λ (b : Bool) (o : Option (Retiring ℕ)). placeOf (versionPlaces l) (l .pool .head) (handPlaces b - handCount o)) e f
+      head-parked e f = ap₂ (λ (n : ℕ) (o : Option (Retiring ℕ)). placeOf (versionPlaces l) (l .pool .head) (n - handCount o)) e f
 
-      module _ (fits : 7 * versionPlaces l ≤ length (l .retiring)) where
+      module _ (fits : 7 * versionPlaces l ≤ length (l .retiring)) (few : popped ≤ 1) where
         -- the hand and the queue are n of the ring's from the k-th on: nothing is written
         pub retiring-stays : (k n : ℕ) → headAfter p l ≡ placeOf (versionPlaces l) (l .pool .head) k
             → handList (p .hand) ++ p .retiring ≡ listed (retiringRead l) k n → k + n ≤ versionPlaces l → retiringAfter p l ≡ l .retiring
@@ -132,31 +131,32 @@ module _ (l : Lent) where
           pub retiring-same : p .hand ≡ modelOf l .hand → p .retiring ≡ modelOf l .retiring → retiringAfter p l ≡ l .retiring
           retiring-same e f =
               retiring-stays 0 (popped + l .pool .queued)
-              (head-stays (omega (arith, hand-model, ap handCount e)) ∙ sym (place-head (versionPlaces l) (l .pool .head) inside))
-              (ap₂ (λ (o : Option (Retiring ℕ)) (vs : List (Retiring ℕ)). handList o ++ vs) e f ∙ ring-model) (omega arith)
+              (head-stays (omega (arith, hand-model few, ap handCount e)) ∙ sym (place-head (versionPlaces l) (l .pool .head) inside))
+              (ap₂ (λ (o : Option (Retiring ℕ)) (vs : List (Retiring ℕ)). handList o ++ vs) e f ∙ ring-model few) (omega arith)
 
           -- the queue's front goes into the hand
-          pub retiring-popped : (v : Retiring ℕ) → l .pool .popped ≡ false → modelOf l .retiring ≡ v ∷ p .retiring → p .hand ≡ some v
+          pub retiring-popped : (v : Retiring ℕ) → l .pool .popped ≡ 0 → modelOf l .retiring ≡ v ∷ p .retiring → p .hand ≡ some v
               → retiringAfter p l ≡ l .retiring
           retiring-popped v e f g =
               retiring-stays 0 (popped + l .pool .queued)
-              (head-stays (omega (arith, ap handPlaces e)) ∙ sym (place-head (versionPlaces l) (l .pool .head) inside))
+              (head-stays (omega (arith, e)) ∙ sym (place-head (versionPlaces l) (l .pool .head) inside))
               (ap (λ (o : Option (Retiring ℕ)). handList o ++ p .retiring) g ∙ sym f
-              ∙ sym (ap (λ (o : Option (Retiring ℕ)). handList o ++ modelOf l .retiring) (hand-empty e)) ∙ ring-model)
+              ∙ sym (ap (λ (o : Option (Retiring ℕ)). handList o ++ modelOf l .retiring) (hand-empty e)) ∙ ring-model few)
               (omega arith)
 
           -- the hand is parked or given up
-          pub retiring-parked : l .pool .popped ≡ true → p .hand ≡ none → p .retiring ≡ modelOf l .retiring → retiringAfter p l ≡ l .retiring
+          pub retiring-parked : l .pool .popped ≡ 1 → p .hand ≡ none → p .retiring ≡ modelOf l .retiring → retiringAfter p l ≡ l .retiring
           retiring-parked e f g =
               retiring-stays 1 (l .pool .queued) (head-parked e f)
-              (ap₂ (λ (o : Option (Retiring ℕ)) (vs : List (Retiring ℕ)). handList o ++ vs) f g ∙ queue-behind e) (omega (arith, ap handPlaces e))
+              (ap₂ (λ (o : Option (Retiring ℕ)) (vs : List (Retiring ℕ)). handList o ++ vs) f g ∙ queue-behind e) (omega (arith, e))
 
           -- the queue is handed out, and the hand stays
           pub retiring-drained : p .hand ≡ modelOf l .hand → p .retiring ≡ [] → retiringAfter p l ≡ l .retiring
           retiring-drained e f =
               retiring-stays 0 popped
-              (head-stays (omega (arith, hand-model, ap handCount e)) ∙ sym (place-head (versionPlaces l) (l .pool .head) inside))
-              (ap₂ (λ (o : Option (Retiring ℕ)) (vs : List (Retiring ℕ)). handList o ++ vs) e f ∙ hand-alone) (omega arith)
+              (head-stays (omega (arith, hand-model few, ap handCount e)) ∙ sym (place-head (versionPlaces l) (l .pool .head) inside))
+              (ap₂ (λ (o : Option (Retiring ℕ)) (vs : List (Retiring ℕ)). handList o ++ vs) e f ∙ append-nil (handList (modelOf l .hand)) ∙ hand-front few)
+              (omega arith)
 
         -- one more is queued
         pub retiring-pushed : (v : Retiring ℕ) → popped + l .pool .queued < versionPlaces l → p .hand ≡ modelOf l .hand
@@ -171,11 +171,11 @@ module _ (l : Lent) where
             ap (map retiringRecord)
             (ap₂ (λ (o : Option (Retiring ℕ)) (vs : List (Retiring ℕ)). handList o ++ vs) e f
             ∙ sym (append-assoc (handList (modelOf l .hand)) (modelOf l .retiring) (v ∷ []))
-            ∙ ap (λ (vs : List (Retiring ℕ)). vs ++ (v ∷ [])) ring-model)
+            ∙ ap (λ (vs : List (Retiring ℕ)). vs ++ (v ∷ [])) (ring-model few))
             ∙ map-append retiringRecord (listed (retiringRead l) 0 n) (v ∷ [])
             ∙ ap (λ (xs : List RetiringRecord). xs ++ (retiringRecord v ∷ [])) (retiring-records 0 n) in
             sym (ap₂ (λ (m : ℕ) (xs : List RetiringRecord). laid 7 writeRetiring (versionPlaces l) m 0 xs (l .retiring))
-            (head-stays (omega (arith, hand-model, ap handCount e))) whole
+            (head-stays (omega (arith, hand-model few, ap handCount e))) whole
             ∙ laid-behind retiring-codec (versionPlaces l) (l .pool .head) inside (l .retiring) fits n (retiringRecord v ∷ []) (omega arith))
 
 -- ---- the destroy ring

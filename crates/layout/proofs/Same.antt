@@ -1,9 +1,10 @@
 -- What a call leaves of a pool whose parts are the model's: the slices, the counts and the book as they stood. Assumes nothing.
 use mathlib.Core.Path.{_≡_, refl, sym, ap, _∙_}
-use mathlib.Core.Bool.{Bool, true, false}
+use mathlib.Core.Bool.{true}
 use mathlib.Core.List.{List, _∷_, map}
 use Prim.Native.Nat.{ℕ, zero, suc, _+_, _*_, _≤_, _<_}
 use native.Mathlib.Omega.{arith}
+use lib.Dec.{eqb}
 use lib.ListN.{length, take, drop, getD, take-append-drop}
 use lib.Seq.{drop-cons}
 use Rattle.blocks.specs.Lists.{listed, over, total, ascending}
@@ -12,7 +13,6 @@ use Rattle.blocks.proofs.Listed.{length-listed, map-listed}
 use Rattle.tables.specs.Records.{table, flat}
 use Rattle.tables.proofs.Records.{over-table}
 use Rattle.stores.specs.Model.{Pool, pagesUsed}
-use Rattle.stores.specs.PopRetired.{isHeld}
 use Rattle.records.specs.declared.texture.TextureRecord.{TextureRecord}
 use Rattle.records.specs.declared.spare.SpareRecord.{SpareRecord}
 use Rattle.records.specs.Texture.{writeTexture}
@@ -20,8 +20,8 @@ use Rattle.records.specs.Spare.{readSpare, writeSpare}
 use Rattle.records.specs.Find.{idOf}
 use Rattle.records.proofs.Codecs.{texture-codec, spare-codec}
 use Rattle.layout.specs.Lent.{Lent, versionPlaces}
-use Rattle.layout.specs.Reading.{trackedRecords, recordPages, handPlaces, handRead, spareRead, retiringRead, doomedRead, modelOf}
-use Rattle.layout.specs.Writing.{textureRecord, spareRecord, everySpare, texturesAfter, sparesAfter, newestAfter, stampsAfter, poolAfter, bookAfter, after}
+use Rattle.layout.specs.Reading.{trackedRecords, recordPages, spareRead, retiringRead, doomedRead, modelOf}
+use Rattle.layout.specs.Writing.{textureRecord, spareRecord, everySpare, texturesAfter, sparesAfter, newestAfter, stampsAfter, poolAfter, markOf, bookAfter, after}
 use Rattle.layout.proofs.Runs.{sparesOf, stateOf, tracked-model, records-model, spares-model, kept-model, pages-model, newest-model}
 use Rattle.layout.proofs.Kept.{pagedOf, pages-all, pages-paged, newest-paged}
 use Rattle.layout.proofs.Rings.{head-stays, hand-model, retiring-same, first-stays, doomed-same}
@@ -76,22 +76,25 @@ module _ (l : Lent) (p : Pool ℕ) where
 
 -- ---- nothing changed at all
 
-module _ (l : Lent) where
-  pub book-same : bookAfter (modelOf l) ≡ l .book
-  unfolding bookAfter modelOf
-  book-same = refl
+-- a mark that is 0 or 1 is written back as it was read
+pub mark-same : (n : ℕ) → n ≤ 1 → markOf (eqb n 1) ≡ n
+mark-same zero h = refl
+mark-same (suc zero) h = refl
+mark-same (suc (suc n)) h = absurd (let y : ⊥ = omega arith in y)
 
-  pub held-same : isHeld (modelOf l .hand) ≡ l .pool .popped
-  unfolding modelOf
-  held-same = go (l .pool .popped)
-    where
-      go : (b : Bool) → isHeld (handRead l b) ≡ b
-      go false = refl
-      go true = refl
+module _ (l : Lent) where
+  pub book-same : l .book .pressed ≤ 1 → bookAfter (modelOf l) ≡ l .book
+  unfolding bookAfter modelOf
+  book-same h = λ i. record {
+    arrivals = l .book .arrivals;
+    slot = l .book .slot;
+    pressed = mark-same (l .book .pressed) h i;
+    excess = l .book .excess;
+  }
 
   pub queued-model : length (modelOf l .retiring) ≡ l .pool .queued
   unfolding modelOf
-  queued-model = length-listed (retiringRead l) (handPlaces (l .pool .popped)) (l .pool .queued)
+  queued-model = length-listed (retiringRead l) (l .pool .popped) (l .pool .queued)
 
   pub doomed-model : length (modelOf l .doomed) ≡ l .pool .doomed
   unfolding modelOf
@@ -99,15 +102,15 @@ module _ (l : Lent) where
 
   -- what the packing needs
   module _ (kept : total sparesOf (trackedRecords l) ≡ l .pool .kept) (pages : total recordPages (trackedRecords l) ≡ l .pool .pages)
-      (head : l .pool .head < versionPlaces l) (first : l .pool .first < versionPlaces l) where
+      (head : l .pool .head < versionPlaces l) (first : l .pool .first < versionPlaces l) (hand : l .pool .popped ≤ 1) where
     pub pool-same : poolAfter (modelOf l) l ≡ l .pool
     unfolding poolAfter modelOf
     pool-same = λ i. record {
       tracked = tracked-model l i;
       kept = (kept-model l ∙ kept) i;
       pages = (pages-model l ∙ pages) i;
-      head = head-stays l (modelOf l) head (omega (arith, hand-model l)) i;
-      popped = held-same i;
+      head = head-stays l (modelOf l) head (omega (arith, hand-model l hand)) i;
+      popped = hand-model l hand i;
       queued = queued-model i;
       first = first-stays l (modelOf l) first (omega (arith, doomed-model)) i;
       doomed = doomed-model i;
@@ -123,15 +126,15 @@ module _ (l : Lent) where
     module _ (textures : 19 * l .pool .tracked ≤ length (l .textures)) (retiring : 7 * versionPlaces l ≤ length (l .retiring))
         (doomed : 2 * versionPlaces l ≤ length (l .doomed)) (spares : 3 * l .pool .kept ≤ length (l .spares))
         (newest : l .pool .pages ≤ length (l .newest))
-        (queue : handPlaces (l .pool .popped) + l .pool .queued ≤ versionPlaces l) (queued : l .pool .doomed ≤ versionPlaces l)
-        (up : ascending idOf (trackedRecords l) ≡ true) where
+        (queue : l .pool .popped + l .pool .queued ≤ versionPlaces l) (queued : l .pool .doomed ≤ versionPlaces l)
+        (mark : l .book .pressed ≤ 1) (up : ascending idOf (trackedRecords l) ≡ true) where
       pub after-same : after (modelOf l) l ≡ l
       unfolding after
       after-same = λ i. record {
         pool = pool-same i;
-        book = book-same i;
+        book = book-same mark i;
         textures = textures-same l (modelOf l) textures (records-model l) i;
-        retiring = retiring-same l (modelOf l) head retiring queue refl refl i;
+        retiring = retiring-same l (modelOf l) head retiring hand queue refl refl i;
         doomed = doomed-same l (modelOf l) first doomed queued refl i;
         spares = spares-same l (modelOf l) (omega (arith, kept)) refl i;
         newest = newest-same l (modelOf l) (omega (arith, pages)) refl i;

@@ -15,15 +15,15 @@ use Rattle.records.specs.Find.{idOf}
 use Rattle.layout.specs.declared.pool.Pool.{Pool as Counts}
 use Rattle.layout.specs.declared.book.PacingBook.{PacingBook}
 use Rattle.layout.specs.Lent.{Lent, lent, versionPlaces}
-use Rattle.layout.specs.Reading.{trackedRecords, recordPages, handPlaces, modelOf}
-use Rattle.layout.specs.Writing.{textureRecord, everySpare, texturesAfter, sparesAfter, newestAfter, stampsAfter, retiringAfter, doomedAfter, poolAfter, bookAfter, after}
+use Rattle.layout.specs.Reading.{trackedRecords, recordPages, modelOf}
+use Rattle.layout.specs.Writing.{textureRecord, everySpare, texturesAfter, sparesAfter, newestAfter, stampsAfter, retiringAfter, doomedAfter, poolAfter, markOf, bookAfter, after}
 use Rattle.layout.specs.IsPool.{stateId}
 use Rattle.layout.proofs.FitsTests.{ascending-passes}
 use Rattle.layout.proofs.Fits.{Fits}
 use Rattle.layout.proofs.Runs.{records-model}
 use Rattle.layout.proofs.Kept.{pagedOf}
 use Rattle.layout.proofs.Rings.{retiring-same, doomed-same}
-use Rattle.layout.proofs.Same.{textures-same, spares-same, newest-same, stamps-same, after-same}
+use Rattle.layout.proofs.Same.{book-same, textures-same, spares-same, newest-same, stamps-same, after-same}
 
 -- what a call leaves, slice by slice
 pub put-together : (p : Pool ℕ) (l : Lent) (c : Counts) (b : PacingBook) (textures retiring doomed spares newest stamps : List ℕ)
@@ -60,7 +60,7 @@ module _ (l : Lent) (f : Fits l) where
   pub pages-fit : total recordPages (trackedRecords l) ≤ length (l .newest)
   pages-fit = omega (arith, f .claimed, f .pages)
 
-  pub ring-fits : handPlaces (l .pool .popped) + l .pool .queued ≤ versionPlaces l
+  pub ring-fits : l .pool .popped + l .pool .queued ≤ versionPlaces l
   ring-fits = omega (arith, f .versions)
 
   pub doomed-fit : l .pool .doomed ≤ versionPlaces l
@@ -69,13 +69,15 @@ module _ (l : Lent) (f : Fits l) where
   -- nothing changed
   pub nothing-changed : after (modelOf l) l ≡ l
   nothing-changed =
-      after-same l (f .kept) (f .claimed) (f .head) (f .first) textures-fit (omega (arith, f .retiring)) (omega (arith, f .doomed))
-      (omega (arith, f .spares, f .versions)) (f .pages) ring-fits doomed-fit ids-ascend
+      after-same l (f .kept) (f .claimed) (f .head) (f .first) (f .hand) textures-fit (omega (arith, f .retiring)) (omega (arith, f .doomed))
+      (omega (arith, f .spares, f .versions)) (f .pages) ring-fits doomed-fit (f .mark) ids-ascend
 
   module _ (p : Pool ℕ) where
     pub book-stays : p .pacing ≡ modelOf l .pacing → l .book ≡ bookAfter p
-    unfolding bookAfter modelOf
-    book-stays e = λ i. record { arrivals = sym e i .arrivals; slot = sym e i .slot; pressed = sym e i .pressed; excess = sym e i .excess }
+    unfolding bookAfter
+    book-stays e =
+        sym (book-same l (f .mark))
+        ∙ (λ i. record { arrivals = sym e i .arrivals; slot = sym e i .slot; pressed = markOf (sym e i .pressed); excess = sym e i .excess })
 
     pub textures-stay : map textureRecord (p .textures) ≡ map textureRecord (modelOf l .textures) → l .textures ≡ texturesAfter p l
     textures-stay e = sym (textures-same l p textures-fit (e ∙ records-model l))
@@ -91,7 +93,7 @@ module _ (l : Lent) (f : Fits l) where
     stamps-stay e = sym (stamps-same l p ids-ascend e)
 
     pub retiring-stay : p .hand ≡ modelOf l .hand → p .retiring ≡ modelOf l .retiring → l .retiring ≡ retiringAfter p l
-    retiring-stay e g = sym (retiring-same l p (f .head) (omega (arith, f .retiring)) ring-fits e g)
+    retiring-stay e g = sym (retiring-same l p (f .head) (omega (arith, f .retiring)) (f .hand) ring-fits e g)
 
     pub doomed-stay : p .doomed ≡ modelOf l .doomed → l .doomed ≡ doomedAfter p l
     doomed-stay e = sym (doomed-same l p (f .first) (omega (arith, f .doomed)) doomed-fit e)

@@ -14,7 +14,7 @@ use Rattle.stores.specs.Model.{WriteHistory, Spare, Retiring, Doomed, VersionSt
 use Rattle.stores.specs.Formed.{Given, HeldFormed, GridFormed, HistoryFormed, SpareFormed, RetiringFormed, DoomedFormed, StateFormed, Formed}
 use Rattle.layout.specs.Lent.{Lent}
 use Rattle.layout.specs.Reading.{modelOf}
-use Rattle.layout.specs.IsPool.{sizesFit, countsFit, runsFit, isGrid, isHistory, isHeldCount, isSpare, isState, isRetiring, isHand, isDoomed, isArrival, isFormed, isPool}
+use Rattle.layout.specs.IsPool.{sizesFit, countsFit, runsFit, markFits, isGrid, isHistory, isHeldCount, isSpare, isState, isRetiring, isHand, isDoomed, isArrival, isFormed, isPool}
 use Rattle.layout.proofs.FitsTests.{all-passes, ascending-passes, every}
 use Rattle.layout.proofs.FitsGrids.{noGrid, grid-of}
 use Rattle.layout.proofs.Fits.{Fits}
@@ -79,13 +79,17 @@ module _ (l : Lent) (f : Fits l) where
   counts-pass : countsFit l ≡ true
   unfolding countsFit
   counts-pass =
-      every (cons (le-leb _ _ (f .tracked)) (cons (lt-ltb _ _ (f .head)) (cons (lt-ltb _ _ (f .first)) (cons (le-leb _ _ (f .versions))
-      (cons (le-leb _ _ (f .pages)) nil)))))
+      every (cons (le-leb _ _ (f .tracked)) (cons (lt-ltb _ _ (f .head)) (cons (lt-ltb _ _ (f .first)) (cons (le-leb _ _ (f .hand))
+      (cons (le-leb _ _ (f .versions)) (cons (le-leb _ _ (f .pages)) nil))))))
 
   runs-pass : runsFit l ≡ true
   unfolding runsFit
   runs-pass = every (cons (eq-eqb _ _ (f .kept)) (cons (eq-eqb _ _ (f .claimed)) nil))
 
+  mark-passes : markFits l ≡ true
+  unfolding markFits
+  mark-passes = le-leb _ _ (f .mark)
+
   pub fits-pool : isPool l ≡ true
   unfolding isPool
-  fits-pool = every (cons sizes-pass (cons counts-pass (cons runs-pass (cons (formed-passes (modelOf l) (f .formed)) nil))))
+  fits-pool = every (cons sizes-pass (cons counts-pass (cons runs-pass (cons mark-passes (cons (formed-passes (modelOf l) (f .formed)) nil)))))

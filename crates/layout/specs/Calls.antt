@@ -42,7 +42,7 @@ openedPool working = record {
   kept = 0;
   pages = 0;
   head = 0;
-  popped = false;
+  popped = 0;
   queued = 0;
   first = 0;
   doomed = 0;
@@ -55,7 +55,7 @@ openedPool working = record {
 }
 
 unfoldable pub openedBook : PacingBook
-openedBook = record { arrivals = replicate 8 0; slot = 0; pressed = false; excess = 0 }
+openedBook = record { arrivals = replicate 8 0; slot = 0; pressed = 0; excess = 0 }
 
 -- 1 to 4,096 texture places, 1 to 4,096 version places, 0 to 4,096 pages; the slices keep what they hold
 unfoldable pub openNumber : Lent → ℕ

@@ -16,7 +16,7 @@ use Rattle.stores.specs.Model.{WriteHistory, Spare, Retiring, Doomed, VersionSt
 use Rattle.stores.specs.Open.{arePlaces}
 use Rattle.records.specs.declared.texture.TextureRecord.{TextureRecord}
 use Rattle.layout.specs.Lent.{Lent, versionPlaces}
-use Rattle.layout.specs.Reading.{trackedRecords, recordPages, handPlaces, modelOf}
+use Rattle.layout.specs.Reading.{trackedRecords, recordPages, modelOf}
 
 -- the slices' lengths are those of whole places, as many as may be lent, and fit together
 unfoldable pub sizesFit : Lent → Bool
@@ -28,13 +28,14 @@ sizesFit l = tests (
     ∷ eqb (length (l .spares)) (3 * versionPlaces l)
     ∷ eqb (length (l .stamps)) (1024 * length (l .newest)) ∷ [])
 
--- the counts fit their places: no more textures, versions and pages than places, and both rings begin inside theirs
+-- the counts fit their places: no more textures, versions and pages than places, one version at most in the hand, and both rings begin inside theirs
 unfoldable pub countsFit : Lent → Bool
 countsFit l = tests (
     leb (l .pool .tracked) (modelOf l .places .textures)
     ∷ ltb (l .pool .head) (versionPlaces l)
     ∷ ltb (l .pool .first) (versionPlaces l)
-    ∷ leb (l .pool .queued + handPlaces (l .pool .popped) + l .pool .kept + l .pool .doomed) (versionPlaces l)
+    ∷ leb (l .pool .popped) 1
+    ∷ leb (l .pool .queued + l .pool .popped + l .pool .kept + l .pool .doomed) (versionPlaces l)
     ∷ leb (l .pool .pages) (length (l .newest)) ∷ [])
 
 -- the records claim just the spares and pages that are counted
@@ -42,6 +43,10 @@ unfoldable pub runsFit : Lent → Bool
 runsFit l = tests (
     eqb (total (λ (t : TextureRecord). t .spares) (trackedRecords l)) (l .pool .kept)
     ∷ eqb (total recordPages (trackedRecords l)) (l .pool .pages) ∷ [])
+
+-- the pressure mark is 0 or 1
+unfoldable pub markFits : Lent → Bool
+markFits l = leb (l .book .pressed) 1
 
 -- ---- 01's conditions
 
@@ -106,4 +111,4 @@ isFormed p = tests (
     ∷ leb (p .since) (length (p .doomed)) ∷ [])
 
 unfoldable pub isPool : Lent → Bool
-isPool l = tests (sizesFit l ∷ countsFit l ∷ runsFit l ∷ isFormed (modelOf l) ∷ [])
+isPool l = tests (sizesFit l ∷ countsFit l ∷ runsFit l ∷ markFits l ∷ isFormed (modelOf l) ∷ [])

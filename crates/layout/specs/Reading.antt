@@ -1,8 +1,8 @@
 -- The pool of the model that lent memory stands for.
-use Prim.Native.Nat.{ℕ, _+_, _*_, _/_, _%_}
-use mathlib.Core.Bool.{Bool, true, false}
+use Prim.Native.Nat.{ℕ, zero, suc, _+_, _*_, _/_, _%_}
 use mathlib.Core.Option.{Option, none, some}
 use mathlib.Core.List.{List, [], _∷_}
+use lib.Dec.{eqb}
 use lib.ListN.{length, take, drop, getD}
 use Rattle.blocks.specs.Lists.{listed}
 use Rattle.tables.specs.Records.{recordAt, table}
@@ -74,13 +74,10 @@ statesRead l first page (t ∷ ts) = stateRead l first page t ∷ statesRead l (
 unfoldable pub retiringRead : Lent → ℕ → Retiring ℕ
 retiringRead l k = retiringOf (along 7 readRetiring (versionPlaces l) (l .pool .head) (l .retiring) k)
 
-abbrev pub handPlaces : Bool → ℕ
-handPlaces false = 0
-handPlaces true = 1
-
-abbrev pub handRead : Lent → Bool → Option (Retiring ℕ)
-handRead l false = none
-handRead l true = some (retiringRead l 0)
+-- the ring's front, where a version is in the hand
+abbrev pub handRead : Lent → ℕ → Option (Retiring ℕ)
+handRead l zero = none
+handRead l (suc n) = some (retiringRead l 0)
 
 unfoldable pub doomedRead : Lent → ℕ → Doomed ℕ
 doomedRead l k = doomedOf (along 2 readDoomed (versionPlaces l) (l .pool .first) (l .doomed) k)
@@ -90,7 +87,7 @@ doomedRead l k = doomedOf (along 2 readDoomed (versionPlaces l) (l .pool .first)
 unfoldable pub modelOf : Lent → Pool ℕ
 modelOf l = record {
   textures = statesRead l 0 0 (trackedRecords l);
-  retiring = listed (retiringRead l) (handPlaces (l .pool .popped)) (l .pool .queued);
+  retiring = listed (retiringRead l) (l .pool .popped) (l .pool .queued);
   hand = handRead l (l .pool .popped);
   doomed = listed (doomedRead l) 0 (l .pool .doomed);
   since = l .pool .since;
@@ -99,5 +96,5 @@ modelOf l = record {
   dooming = l .pool .dooming;
   places = record { textures = length (l .textures) / 19; versions = versionPlaces l; pages = length (l .newest) };
   budget = record { cap = l .pool .cap; line = l .pool .line };
-  pacing = record { arrivals = l .book .arrivals; slot = l .book .slot; pressed = l .book .pressed; excess = l .book .excess };
+  pacing = record { arrivals = l .book .arrivals; slot = l .book .slot; pressed = eqb (l .book .pressed) 1; excess = l .book .excess };
 }

@@ -1,6 +1,6 @@
 -- What a call leaves in the lent memory: the pool after it, written over what stood there. Numbers that are free stay as they were.
 use Prim.Native.Nat.{ℕ, suc, _+_, _-_}
-use mathlib.Core.Bool.{cond, _&&_}
+use mathlib.Core.Bool.{Bool, true, false, cond, _&&_}
 use mathlib.Core.Option.{Option, none, some}
 use mathlib.Core.List.{List, [], _∷_, _++_, map, flatMap}
 use lib.Dec.{eqb}
@@ -12,7 +12,6 @@ use Rattle.shapes.specs.declared.shape.VersionShape.{VersionShape}
 use Rattle.shapes.specs.Shapes.{sameShape}
 use Rattle.grids.specs.Grids.{StampGrid}
 use Rattle.stores.specs.Model.{WriteHistory, Spare, Retiring, Doomed, VersionState, Pool, hasHistory, pagesUsed, handCount}
-use Rattle.stores.specs.PopRetired.{isHeld}
 use Rattle.records.specs.declared.recorded.Recorded.{Recorded}
 use Rattle.records.specs.declared.recorded.Recorded.the-variants.{Writes, NoHistory}
 use Rattle.records.specs.declared.texture.TextureRecord.{TextureRecord}
@@ -26,7 +25,7 @@ use Rattle.records.specs.Doomed.{writeDoomed}
 use Rattle.layout.specs.declared.pool.Pool.{Pool as Counts}
 use Rattle.layout.specs.declared.book.PacingBook.{PacingBook}
 use Rattle.layout.specs.Lent.{Lent, lent, versionPlaces}
-use Rattle.layout.specs.Reading.{handPlaces, pageAt, modelOf}
+use Rattle.layout.specs.Reading.{pageAt, modelOf}
 
 -- ---- records
 
@@ -104,7 +103,7 @@ stampsAfter p l = over (flatMap (pagesAfter l) (p .textures)) (l .stamps)
 -- ---- rings: a head moves on by as many as left at the front, by parking and by a take of doomed versions
 
 unfoldable pub headAfter : Pool ℕ → Lent → ℕ
-headAfter p l = placeOf (versionPlaces l) (l .pool .head) (handPlaces (l .pool .popped) - handCount (p .hand))
+headAfter p l = placeOf (versionPlaces l) (l .pool .head) (l .pool .popped - handCount (p .hand))
 
 abbrev pub handList : Option (Retiring ℕ) → List (Retiring ℕ)
 handList none = []
@@ -127,7 +126,7 @@ poolAfter p l = record {
   kept = total (λ (t : VersionState ℕ). length (t .spares)) (p .textures);
   pages = total pagesUsed (p .textures);
   head = headAfter p l;
-  popped = isHeld (p .hand);
+  popped = handCount (p .hand);
   queued = length (p .retiring);
   first = firstAfter p l;
   doomed = length (p .doomed);
@@ -139,8 +138,12 @@ poolAfter p l = record {
   line = p .budget .line;
 }
 
+abbrev pub markOf : Bool → ℕ
+markOf true = 1
+markOf false = 0
+
 unfoldable pub bookAfter : Pool ℕ → PacingBook
-bookAfter p = record { arrivals = p .pacing .arrivals; slot = p .pacing .slot; pressed = p .pacing .pressed; excess = p .pacing .excess }
+bookAfter p = record { arrivals = p .pacing .arrivals; slot = p .pacing .slot; pressed = markOf (p .pacing .pressed); excess = p .pacing .excess }
 
 unfoldable pub after : Pool ℕ → Lent → Lent
 after p l =

@@ -1,15 +1,15 @@
 // The pool's counts.
 
 // `tracked` textures, `kept` spares and `pages` in use stand packed at the front of their slices. The retiring ring begins at
-// place `head`: its front is 01's hand if `popped`, and `queued` versions follow. The destroy ring begins at place `first` and
-// has `doomed` versions, of which `since` arrived after the last take. `parked` and `dooming` are the bytes of the spares and of
-// the destroy queue; `cap` and `line` are the budget's.
+// place `head`: its first `popped` versions, one or none, are 01's hand, and `queued` versions follow. The destroy ring begins at
+// place `first` and has `doomed` versions, of which `since` arrived after the last take. `parked` and `dooming` are the bytes of
+// the spares and of the destroy queue; `cap` and `line` are the budget's. All are numbers: a bool leaves padding that slows copies.
 pub struct Pool {
     pub tracked: usize,
     pub kept: usize,
     pub pages: usize,
     pub head: usize,
-    pub popped: bool,
+    pub popped: usize,
     pub queued: usize,
     pub first: usize,
     pub doomed: usize,

@@ -3,10 +3,10 @@ use mathlib.Core.Path.{_≡_, refl, sym, ap, ap₂, _∙_, subst}
 use mathlib.Core.Bool.{Bool, true, false, cond, _||_}
 use mathlib.Core.Option.{Option, none, some}
 use mathlib.Core.List.{List, [], _∷_, _++_, map}
-use Prim.Native.Nat.{ℕ, _+_, _-_, _*_, _/_, _≤_, _<_, _^_}
+use Prim.Native.Nat.{ℕ, zero, suc, _+_, _-_, _*_, _/_, _≤_, _<_, _^_}
 use native.Mathlib.Nat.{add-zero}
 use native.Mathlib.Omega.{arith}
-use borrow.Author.Tests.{ne-eqb}
+use borrow.Author.Tests.{eqb-false, ne-eqb}
 use lib.Dec.{ltb, eqb}
 use lib.ListN.{length, set, length-append}
 use lib.Seq.{sets}
@@ -34,7 +34,7 @@ use Rattle.records.specs.Views.{retiringOf}
 use Rattle.access.proofs.Totals.{total-with}
 use Rattle.layout.specs.declared.pool.Pool.{Pool as Counts}
 use Rattle.layout.specs.Lent.{Lent, lent, versionPlaces}
-use Rattle.layout.specs.Reading.{trackedRecords, handPlaces, handRead, modelOf}
+use Rattle.layout.specs.Reading.{trackedRecords, handRead, modelOf}
 use Rattle.layout.specs.Writing.{textureRecord, everySpare, texturesAfter, doomedAfter, sparesAfter, poolAfter, after}
 use Rattle.layout.specs.IsPool.{isPool}
 use Rattle.layout.specs.Calls.{refusal, answer, toldNumber, parkCall}
@@ -80,11 +80,14 @@ record-one s t = λ i. record {
 
 -- the number of the first of two tests that holds
 abbrev firstOf : Bool → Bool → ℕ
-firstOf a b = cond a 3 (cond b 0 10)
+firstOf a b = cond a 3 (cond b 10 0)
 
 module _ (l : Lent) (e : isPool l ≡ true) (failed current : ℕ) where
   fits : Fits l
   fits = pool-fits l e
+
+  abbrev pressed : Bool
+  pressed = eqb (l .book .pressed) 1
 
   abbrev late : Bool
   late = ltb limit failed || ltb limit current
@@ -95,11 +98,13 @@ module _ (l : Lent) (e : isPool l ≡ true) (failed current : ℕ) where
   unfolding park modelOf
   rule = refl
 
-  refuses : (a b : Bool) (n : ℕ) → n ≡ firstOf a b → (n ≡ 0 → ⊥) → guard a 3 (parkHand (modelOf l) failed current (handRead l b)) ≡ refused n
+  refuses : (a : Bool) (m n : ℕ) → n ≡ firstOf a (eqb m 0) → (n ≡ 0 → ⊥)
+      → guard a 3 (parkHand (modelOf l) failed current (handRead l m)) ≡ refused n
   unfolding guard
-  refuses true b n q h = ap refused (sym q)
-  refuses false true n q h = absurd (h q)
-  refuses false false n q h = ap refused (sym q)
+  refuses true m n q h = ap refused (sym q)
+  refuses false zero n q h = ap refused (sym q)
+  refuses false (suc m) n q h =
+      absurd (h (q ∙ ap (λ (b : Bool). cond b 10 0) (ne-eqb (suc m) 0 (λ z. let y : ⊥ = omega (arith, z) in y))))
 
   pub park-refused : (n : ℕ) → n ≡ parkRefusal (l .pool) failed current → (n ≡ 0 → ⊥) → (toldNumber n, l) ≡ parkCall l failed current
   unfolding parkCall parkRefusal
@@ -109,18 +114,18 @@ module _ (l : Lent) (e : isPool l ≡ true) (failed current : ℕ) where
 
   -- ---- the code's number is 0: the ring's front is the hand
 
-  module _ (r : ℕ) (worked : r ≡ parkRefusal (l .pool) failed current) (zero : r ≡ 0) where
-    passes : (a b : Bool) → firstOf a b ≡ 0 → (a ≡ false) × (b ≡ true)
+  module _ (r : ℕ) (worked : r ≡ parkRefusal (l .pool) failed current) (none-refused : r ≡ 0) where
+    passes : (a b : Bool) → firstOf a b ≡ 0 → (a ≡ false) × (b ≡ false)
     passes true b q = absurd (let y : ⊥ = omega (arith, q) in y)
-    passes false false q = absurd (let y : ⊥ = omega (arith, q) in y)
-    passes false true q = (refl, refl)
+    passes false true q = absurd (let y : ⊥ = omega (arith, q) in y)
+    passes false false q = (refl, refl)
 
-    both : (late ≡ false) × (l .pool .popped ≡ true)
+    both : (late ≡ false) × (eqb (l .pool .popped) 0 ≡ false)
     unfolding parkRefusal
-    both = passes late (l .pool .popped) (sym worked ∙ zero)
+    both = passes late (eqb (l .pool .popped) 0) (sym worked ∙ none-refused)
 
-    pub held : l .pool .popped ≡ true
-    held = both .1
+    pub held : l .pool .popped ≡ 1
+    held = omega (arith, eqb-false (l .pool .popped) 0 (both .1), fits .hand)
 
     pub front-fits : (7 * places l ≤ length (l .retiring)) × (l .pool .head < places l) × (1 ≤ places l)
     unfolding versionPlaces
@@ -162,12 +167,12 @@ module _ (l : Lent) (e : isPool l ≡ true) (failed current : ℕ) where
         here = hasId (l .textures) (l .pool .tracked) i (x .id)
 
         abbrev decided : Parking
-        decided = parkingOf (l .pool) (l .book .pressed) here (textureAt l i) x
+        decided = parkingOf (l .pool) pressed here (textureAt l i) x
 
         tracked-parks : (t : VersionState ℕ)
-            → parkFound emptied failed current v (some t) ≡ parked (parkingOf (l .pool) (l .book .pressed) true (textureRecord t) x)
+            → parkFound emptied failed current v (some t) ≡ parked (parkingOf (l .pool) pressed true (textureRecord t) x)
         unfolding parkingOf modelOf
-        tracked-parks t = go (eqb (t .epoch) (x .epoch)) (l .book .pressed || ltb (l .pool .cap) (l .pool .parked + bytesOf (t .shape)))
+        tracked-parks t = go (eqb (t .epoch) (x .epoch)) (pressed || ltb (l .pool .cap) (l .pool .parked + bytesOf (t .shape)))
           where
             go : (a b : Bool) → cond a (cond b (parked (Destroyed (bytesOf (t .shape)))) (parked (Kept (bytesOf (t .shape)))))
                 (parked (Destroyed (x .bytes)))
@@ -178,13 +183,13 @@ module _ (l : Lent) (e : isPool l ≡ true) (failed current : ℕ) where
 
         parks : (b : Bool) → here ≡ b
             → parkFound emptied failed current v (find (x .id) (modelOf l .textures))
-            ≡ parked (parkingOf (l .pool) (l .book .pressed) b (textureAt l i) x)
+            ≡ parked (parkingOf (l .pool) pressed b (textureAt l i) x)
         unfolding parkingOf
         parks false q = ap (parkFound emptied failed current v) (found-nowhere l fits (x .id) i at q)
         parks true q =
             ap (parkFound emptied failed current v) (found-here l fits (x .id) i at q)
             ∙ tracked-parks (stateOf l i)
-            ∙ ap (λ (t : TextureRecord). parked (parkingOf (l .pool) (l .book .pressed) true t x)) (record-at l i (inside l fits (x .id) i at q))
+            ∙ ap (λ (t : TextureRecord). parked (parkingOf (l .pool) pressed true t x)) (record-at l i (inside l fits (x .id) i at q))
 
         decides : (d : Parking) → decided ≡ d → (m : Lent) → m ≡ after (parked d) l → (answer tt, m) ≡ parkCall l failed current
         unfolding parkCall
@@ -200,20 +205,20 @@ module _ (l : Lent) (e : isPool l ≡ true) (failed current : ℕ) where
 
         -- the code's decision
         module _ (d : Parking) (taken : d ≡ decided) where
-          says : Says (l .pool) (l .book .pressed) here (textureAt l i) x d
+          says : Says (l .pool) pressed here (textureAt l i) x d
           says =
-              subst (Says (l .pool) (l .book .pressed) here (textureAt l i) x) (sym taken)
-              (decision-says (l .pool) (l .book .pressed) here (textureAt l i) x (hand-formed .bytes) (shape-here l fits (x .id) i at))
+              subst (Says (l .pool) pressed here (textureAt l i) x) (sym taken)
+              (decision-says (l .pool) pressed here (textureAt l i) x (hand-formed .bytes) (shape-here l fits (x .id) i at))
 
           -- ---- destroyed
 
           module _ (bytes : ℕ) (told : d ≡ Destroyed bytes) where
             few : bytes ≤ 17592186044416
-            few = subst (Says (l .pool) (l .book .pressed) here (textureAt l i) x) told says
+            few = subst (Says (l .pool) pressed here (textureAt l i) x) told says
 
             pub push-fits : (2 * places l ≤ length (l .doomed)) × (l .pool .first < places l) × (l .pool .doomed < places l)
             unfolding versionPlaces
-            push-fits = (omega (arith, fits .doomed), fits .first, omega (arith, fits .versions, ap handPlaces held))
+            push-fits = (omega (arith, fits .doomed), fits .first, omega (arith, fits .versions, held))
 
             pub doomed-counts-fit : (l .pool .doomed ≤ 4096) × (l .pool .since ≤ 4096) × (l .pool .dooming + bytes < 2 ^ 64)
             unfolding modelOf
@@ -238,7 +243,7 @@ module _ (l : Lent) (e : isPool l ≡ true) (failed current : ℕ) where
               kept = sym (kept-model l ∙ fits .kept) j;
               pages = sym (pages-model l ∙ fits .claimed) j;
               head = (q ∙ sym (head-parked l lost (fits .head) held refl)) j;
-              popped = false;
+              popped = 0;
               queued = sym (queued-model l) j;
               first = sym (first-stays l lost (fits .first) (omega (arith, doomed-model l, length-append (modelOf l .doomed) one))) j;
               doomed = sym (length-append (modelOf l .doomed) one ∙ ap (λ (n : ℕ). n + 1) (doomed-model l)) j;
@@ -264,14 +269,14 @@ module _ (l : Lent) (e : isPool l ≡ true) (failed current : ℕ) where
                 decides (Destroyed bytes) (sym taken ∙ told) (lent c (l .book) (l .textures) (l .retiring) doomed (l .spares) (l .newest) (l .stamps))
                 (put-together lost l c (l .book) (l .textures) (l .retiring) doomed (l .spares) (l .newest) (l .stamps)
                 (e3 ∙ counts-lost head e1) (book-stays l fits lost refl) (textures-stay l fits lost refl)
-                (sym (retiring-parked l lost (fits .head) (omega (arith, fits .retiring)) (ring-fits l fits) held refl refl))
+                (sym (retiring-parked l lost (fits .head) (omega (arith, fits .retiring)) (fits .hand) (ring-fits l fits) held refl refl))
                 (e2 ∙ doomed-lost) (spares-stay l fits lost refl) (newest-stay l fits lost refl) (stamps-stay l fits lost refl))
 
           -- ---- kept
 
           module _ (bytes : ℕ) (told : d ≡ Kept bytes) where
             kept-says : (here ≡ true) × (l .pool .parked + bytes ≤ l .pool .cap)
-            kept-says = subst (Says (l .pool) (l .book .pressed) here (textureAt l i) x) told says
+            kept-says = subst (Says (l .pool) pressed here (textureAt l i) x) told says
 
             abbrev end : ℕ
             end = sparesEnd (l .textures) i
@@ -289,7 +294,7 @@ module _ (l : Lent) (e : isPool l ≡ true) (failed current : ℕ) where
                 (ap sparesOf (record-read l i there))
 
             room : 3 * l .pool .kept + 3 ≤ length (l .spares)
-            room = omega (arith, fits .versions, fits .spares, ap handPlaces held)
+            room = omega (arith, fits .versions, fits .spares, held)
 
             pub keep-fits : (s : SpareRecord) → s ≡ spareParked failed current x
                 → (19 * i + 19 ≤ length (l .textures)) × RecordedFits (textureAt l i .history) × (end ≤ l .pool .kept) × (l .pool .kept ≤ 4096)
@@ -327,7 +332,7 @@ module _ (l : Lent) (e : isPool l ≡ true) (failed current : ℕ) where
               kept = sym (kept-inserted l stays (fits .kept) end spare end-within every-is) j;
               pages = sym (total-unchanged pagesUsed (x .id) (withOne spare) (λ t. refl) (modelOf l .textures) ∙ pages-model l ∙ fits .claimed) j;
               head = (q ∙ sym (head-parked l stays (fits .head) held refl)) j;
-              popped = false;
+              popped = 0;
               queued = sym (queued-model l) j;
               first = sym (first-stays l stays (fits .first) (omega (arith, doomed-model l))) j;
               doomed = sym (doomed-model l) j;
@@ -359,7 +364,7 @@ module _ (l : Lent) (e : isPool l ≡ true) (failed current : ℕ) where
                 decides (Kept bytes) (sym taken ∙ told) (lent c (l .book) textures (l .retiring) (l .doomed) spares (l .newest) (l .stamps))
                 (put-together stays l c (l .book) textures (l .retiring) (l .doomed) spares (l .newest) (l .stamps)
                 (e5 ∙ counts-kept head e1) (book-stays l fits stays refl) (e3 ∙ textures-kept)
-                (sym (retiring-parked l stays (fits .head) (omega (arith, fits .retiring)) (ring-fits l fits) held refl refl))
+                (sym (retiring-parked l stays (fits .head) (omega (arith, fits .retiring)) (fits .hand) (ring-fits l fits) held refl refl))
                 (doomed-stay l fits stays refl)
                 (e4 ∙ ap (λ (y : SpareRecord). sets (moved (l .spares) (3 * end + 3) (3 * end) (3 * (l .pool .kept - end))) (3 * end)
                 (writeSpare y)) e2 ∙ spares-kept)

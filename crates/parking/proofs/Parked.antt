@@ -32,18 +32,18 @@ use Rattle.parking.specs.Parked.{parkRefusal, parkingOf, heldParked, one
 module _ (p : Pool) (failed current : ℕ) where
   pub refused-late : (ltb limit failed || ltb limit current) ≡ true → 3 ≡ parkRefusal p failed current
   unfolding parkRefusal
-  refused-late e = sym (ap (λ (b : Bool). cond b 3 (cond (p .popped) 0 10)) e)
+  refused-late e = sym (ap (λ (b : Bool). cond b 3 (cond (eqb (p .popped) 0) 10 0)) e)
 
   module _ (e : (ltb limit failed || ltb limit current) ≡ false) where
-    by-hand : parkRefusal p failed current ≡ cond (p .popped) 0 10
+    by-hand : parkRefusal p failed current ≡ cond (eqb (p .popped) 0) 10 0
     unfolding parkRefusal
-    by-hand = ap (λ (b : Bool). cond b 3 (cond (p .popped) 0 10)) e
+    by-hand = ap (λ (b : Bool). cond b 3 (cond (eqb (p .popped) 0) 10 0)) e
 
-    pub hand-there : p .popped ≡ true → 0 ≡ parkRefusal p failed current
-    hand-there q = sym (by-hand ∙ ap (λ (b : Bool). cond b 0 10) q)
+    pub refused-empty : p .popped ≡ 0 → 10 ≡ parkRefusal p failed current
+    refused-empty q = sym (by-hand ∙ ap (λ (b : Bool). cond b 10 0) (eq-eqb (p .popped) 0 q))
 
-    pub refused-empty : p .popped ≡ false → 10 ≡ parkRefusal p failed current
-    refused-empty q = sym (by-hand ∙ ap (λ (b : Bool). cond b 0 10) q)
+    pub hand-there : (p .popped ≡ 0 → ⊥) → 0 ≡ parkRefusal p failed current
+    hand-there q = sym (by-hand ∙ ap (λ (b : Bool). cond b 10 0) (ne-eqb (p .popped) 0 q))
 
 -- ---- the code's decision, test by test
 

@@ -1,6 +1,5 @@
 -- The counts after parking. There is no update of a record's field, so each is written out.
 use Prim.Native.Nat.{ℕ, _+_}
-use mathlib.Core.Bool.{false}
 use Rattle.layout.specs.declared.pool.Pool.{Pool}
 
 -- the hand's version parked; `head` is where the ring begins without it
@@ -10,7 +9,7 @@ handKept head bytes p = record {
   kept = p .kept + 1;
   pages = p .pages;
   head = head;
-  popped = false;
+  popped = 0;
   queued = p .queued;
   first = p .first;
   doomed = p .doomed;
@@ -29,7 +28,7 @@ handDoomed head bytes p = record {
   kept = p .kept;
   pages = p .pages;
   head = head;
-  popped = false;
+  popped = 0;
   queued = p .queued;
   first = p .first;
   doomed = p .doomed + 1;

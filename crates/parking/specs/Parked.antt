@@ -19,7 +19,7 @@ use Rattle.parking.specs.declared.decision.Parking.the-variants.{Destroy
 
 -- the number of the first refusal, or 0
 unfoldable pub parkRefusal : Pool → ℕ → ℕ → ℕ
-parkRefusal p failed current = cond (ltb limit failed || ltb limit current) 3 (cond (p .popped) 0 10)
+parkRefusal p failed current = cond (ltb limit failed || ltb limit current) 3 (cond (eqb (p .popped) 0) 10 0)
 
 -- destroyed if tracking is gone or renewed, then with the bytes noted at retiring; destroyed if pressed, or if parked bytes plus its texture's pass
 -- the cap, with its texture's bytes; else kept. `here` is whether the texture is tracked, t its record.

@@ -12,7 +12,7 @@ pub fn hand_kept(pool: Pool, head: usize, bytes: u64) -> Pool
     let mut after = pool;
     after.kept = pool.kept + 1;
     after.head = head;
-    after.popped = false;
+    after.popped = 0;
     after.parked = pool.parked + bytes;
     after
 }
@@ -24,7 +24,7 @@ pub fn hand_doomed(pool: Pool, head: usize, bytes: u64) -> Pool
 {
     let mut after = pool;
     after.head = head;
-    after.popped = false;
+    after.popped = 0;
     after.doomed = pool.doomed + 1;
     after.since = pool.since + 1;
     after.dooming = pool.dooming + bytes;

@@ -29,10 +29,10 @@ pub fn park_refusal(pool: Pool, failed: u64, current: u64) -> u64
     if (failed > LIMIT) | (current > LIMIT) {
         return 3;
     }
-    if pool.popped {
-        return 0;
+    if pool.popped == 0 {
+        return 10;
     }
-    10
+    0
 }
 
 // Decided by the texture's record, which the search for the version's id ended at. The cap is compared by what is left of it, so

@@ -47,7 +47,7 @@ pub fn park(
     let v = retiring_at(retiring, places, pool.head, 0);
     let head = ring_drop(places, pool.head, 1);
     let i = find_texture(textures, pool.tracked, v.id);
-    let decided = park_or_destroy(pool, book.pressed, textures, i, v);
+    let decided = park_or_destroy(pool, book.pressed == 1, textures, i, v);
     match decided {
         Parking::Destroyed(bytes) => {
             push_doomed(doomed, places, pool.first, pool.doomed, v.view, bytes);

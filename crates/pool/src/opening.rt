@@ -24,7 +24,7 @@ fn opened_pool(working: u64) -> Pool
         kept: 0,
         pages: 0,
         head: 0,
-        popped: false,
+        popped: 0,
         queued: 0,
         first: 0,
         doomed: 0,
@@ -43,7 +43,7 @@ fn opened_book() -> PacingBook
     PacingBook {
         arrivals: [0; 8],
         slot: 0,
-        pressed: false,
+        pressed: 0,
         excess: 0,
     }
 }

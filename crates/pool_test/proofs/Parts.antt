@@ -16,8 +16,8 @@ use Rattle.stores.specs.Model.{Places, limit, spareBytes, doomedBytes}
 use Rattle.stores.specs.Open.{arePlaces}
 use Rattle.records.specs.declared.texture.TextureRecord.{TextureRecord}
 use Rattle.layout.specs.Lent.{Lent, versionPlaces}
-use Rattle.layout.specs.Reading.{trackedRecords, recordPages, handPlaces, statesRead, retiringRead, handRead, doomedRead, modelOf}
-use Rattle.layout.specs.IsPool.{sizesFit, countsFit, runsFit, stateId, isSpare, isState, isRetiring, isHand, isDoomed, isArrival, isFormed, isPool}
+use Rattle.layout.specs.Reading.{trackedRecords, recordPages, statesRead, retiringRead, handRead, doomedRead, modelOf}
+use Rattle.layout.specs.IsPool.{sizesFit, countsFit, runsFit, markFits, stateId, isSpare, isState, isRetiring, isHand, isDoomed, isArrival, isFormed, isPool}
 use Rattle.pool_test.specs.Parts.{lengthsFit, placesHold, retiringAt, retiringFit, doomedAt, doomedFit, ringsFit, numbersFit}
 use Rattle.texture_test.specs.Textures.{isRecord, recordSpares, claim, spareAt, historiesFit, texturesFit}
 use Rattle.texture_test.proofs.Tests.{same-test}
@@ -57,7 +57,7 @@ flip a b e = eq-eqb b a (sym (eqb-true a b e))
 record Conditions (l : Lent) : Type 0 where
   ids : ascending stateId (statesRead l 0 0 (trackedRecords l)) ≡ true
   states : all isState (statesRead l 0 0 (trackedRecords l)) ≡ true
-  queue : all isRetiring (listed (retiringRead l) (handPlaces (l .pool .popped)) (l .pool .queued)) ≡ true
+  queue : all isRetiring (listed (retiringRead l) (l .pool .popped) (l .pool .queued)) ≡ true
   hand : isHand (handRead l (l .pool .popped)) ≡ true
   doomed : all isDoomed (listed (doomedRead l) 0 (l .pool .doomed)) ≡ true
   trackings : leb (l .pool .trackings) limit ≡ true
@@ -107,19 +107,23 @@ module _ (l : Lent) where
       (cons (c .dooming)
       (cons (c .cap) (cons (c .slot) (cons (eq-eqb (length (l .book .arrivals)) 8 eight) (cons (c .arrivals) (cons (c .since) nil)))))))))))))
 
+  few-popped : countsFit l ≡ true → l .pool .popped ≤ 1
+  unfolding countsFit
+  few-popped e = leb-true _ _ (passed _ e 3)
+
   -- ---- what forms a pool passes the parts
 
-  module _ (c : Conditions l) where
+  module _ (few : l .pool .popped ≤ 1) (mark : markFits l ≡ true) (c : Conditions l) where
     to-numbers : numbersOf l ≡ true
-    unfolding numbersFit
+    unfolding numbersFit markFits
     to-numbers =
         let k = length-listed (doomedRead l) 0 (l .pool .doomed) in
         let s = leb-true (l .pool .since) (length (listed (doomedRead l) 0 (l .pool .doomed))) (c .since) in
-        pass-all _ (cons (c .trackings) (cons (c .cap) (cons (c .slot) (cons (le-leb (l .pool .since) (l .pool .doomed) (omega (arith, s, k))) (cons (c .arrivals) nil)))))
+        pass-all _ (cons (c .trackings) (cons (c .cap) (cons (c .slot) (cons mark (cons (le-leb (l .pool .since) (l .pool .doomed) (omega (arith, s, k))) (cons (c .arrivals) nil))))))
 
-    to-queue : retiringFit (versionPlaces l) (l .pool .head) (handPlaces (l .pool .popped) + l .pool .queued) (l .retiring) ≡ true
+    to-queue : retiringFit (versionPlaces l) (l .pool .head) (l .pool .popped + l .pool .queued) (l .retiring) ≡ true
     unfolding retiringFit retiringAt retiringRead
-    to-queue = hand-test l (l .pool .popped) (l .pool .queued) ∙ ap₂ (λ (a b : Bool). a && b) (c .hand) (c .queue)
+    to-queue = hand-test l (l .pool .popped) (l .pool .queued) few ∙ ap₂ (λ (a b : Bool). a && b) (c .hand) (c .queue)
 
     to-doomed : doomedFit (versionPlaces l) (l .pool .first) (l .pool .doomed) (l .pool .dooming) (l .doomed) ≡ true
     unfolding doomedFit doomedAt doomedRead
@@ -149,10 +153,10 @@ module _ (l : Lent) where
 
   -- ---- and what passes them forms a pool
 
-  module _ (n : numbersOf l ≡ true) (r : ringsOf l ≡ true) (t : texturesOf l ≡ true) where
-    from-queue : isHand (handRead l (l .pool .popped)) && all isRetiring (listed (retiringRead l) (handPlaces (l .pool .popped)) (l .pool .queued)) ≡ true
+  module _ (few : l .pool .popped ≤ 1) (n : numbersOf l ≡ true) (r : ringsOf l ≡ true) (t : texturesOf l ≡ true) where
+    from-queue : isHand (handRead l (l .pool .popped)) && all isRetiring (listed (retiringRead l) (l .pool .popped) (l .pool .queued)) ≡ true
     unfolding ringsFit retiringFit retiringAt retiringRead
-    from-queue = sym (hand-test l (l .pool .popped) (l .pool .queued)) ∙ passed _ r 0
+    from-queue = sym (hand-test l (l .pool .popped) (l .pool .queued) few) ∙ passed _ r 0
 
     from-doomed : doomedFit (versionPlaces l) (l .pool .first) (l .pool .doomed) (l .pool .dooming) (l .doomed) ≡ true
     unfolding ringsFit
@@ -174,11 +178,15 @@ module _ (l : Lent) where
         ∙ ap₂ (λ (a b : Bool). a && b) (passed _ t 1)
         (ap₂ (λ (a b : Bool). a && b) (passed _ t 5) (ap (λ (n : ℕ). all isSpare (listed (spareAt (l .spares)) 0 n)) (kept from-runs) ∙ passed _ t 3))
 
+    from-mark : markFits l ≡ true
+    unfolding numbersFit markFits
+    from-mark = passed _ n 3
+
     from-parts : Conditions l
     unfolding numbersFit doomedFit doomedAt doomedRead texturesFit
     from-parts =
         let q = and-both (isHand (handRead l (l .pool .popped))) _ from-queue in
-        let s = leb-true (l .pool .since) (l .pool .doomed) (passed _ n 3) in
+        let s = leb-true (l .pool .since) (l .pool .doomed) (passed _ n 4) in
         let k = length-listed (doomedRead l) 0 (l .pool .doomed) in
         record {
           ids = states-ids l 0 0 ts ∙ passed _ t 0;
@@ -191,7 +199,7 @@ module _ (l : Lent) where
           dooming = passed _ from-doomed 1;
           cap = passed _ n 1;
           slot = passed _ n 2;
-          arrivals = passed _ n 4;
+          arrivals = passed _ n 5;
           since = le-leb (l .pool .since) (length (listed (doomedRead l) 0 (l .pool .doomed))) (omega (arith, s, k));
         }
 
@@ -202,13 +210,16 @@ module _ (l : Lent) where
   pool-parts eight =
       same-test (isPool l) (tests (partsOf l))
       (λ e.
-      let c = conditions (passed _ e 3) in
-      pass-all _ (cons (passed _ e 0) (cons (passed _ e 1) (cons (to-numbers c) (cons (to-rings c) (cons (to-textures c (passed _ e 2)) nil))))))
+      let f = few-popped (passed _ e 1) in
+      let m = passed _ e 3 in
+      let c = conditions (passed _ e 4) in
+      pass-all _ (cons (passed _ e 0) (cons (passed _ e 1) (cons (to-numbers f m c) (cons (to-rings f m c) (cons (to-textures f m c (passed _ e 2)) nil))))))
       (λ e.
+      let f = few-popped (passed _ e 1) in
       let n = passed _ e 2 in
       let r = passed _ e 3 in
       let t = passed _ e 4 in
-      pass-all _ (cons (passed _ e 0) (cons (passed _ e 1) (cons (from-runs n r t) (cons (formed eight (from-parts n r t)) nil)))))
+      pass-all _ (cons (passed _ e 0) (cons (passed _ e 1) (cons (from-runs f n r t) (cons (from-mark f n r t) (cons (formed eight (from-parts f n r t)) nil))))))
 
   -- where all but the last pass, the last decides
   pub last-part : length (l .book .arrivals) ≡ 8 → sizesFit l ≡ true → countsFit l ≡ true → numbersOf l ≡ true → ringsOf l ≡ true → texturesOf l ≡ isPool l
@@ -244,7 +255,7 @@ pub record CountsFit (l : Lent) : Type 0 where
   pub tracked : l .pool .tracked ≤ length (l .textures) / 19
   pub head : l .pool .head < versionPlaces l
   pub first : l .pool .first < versionPlaces l
-  pub used : l .pool .queued + handPlaces (l .pool .popped) + l .pool .kept + l .pool .doomed ≤ versionPlaces l
+  pub used : l .pool .queued + l .pool .popped + l .pool .kept + l .pool .doomed ≤ versionPlaces l
   pub pages : l .pool .pages ≤ length (l .newest)
 
 pub counts : (l : Lent) → countsFit l ≡ true → CountsFit l
@@ -253,8 +264,8 @@ counts l e = record {
   tracked = leb-true _ _ (passed _ e 0);
   head = ltb-true _ _ (passed _ e 1);
   first = ltb-true _ _ (passed _ e 2);
-  used = leb-true _ _ (passed _ e 3);
-  pages = leb-true _ _ (passed _ e 4);
+  used = leb-true _ _ (passed _ e 4);
+  pages = leb-true _ _ (passed _ e 5);
 }
 
 module _ (l : Lent) (s : sizesFit l ≡ true) where
@@ -268,7 +279,7 @@ module _ (l : Lent) (s : sizesFit l ≡ true) where
 
     pub rings-room : (7 * (length (l .retiring) / 7) ≤ length (l .retiring)) × (2 * (length (l .retiring) / 7) ≤ length (l .doomed)) × (length (l .retiring) / 7 ≤ 4096)
         × (l .pool .head < length (l .retiring) / 7) × (l .pool .first < length (l .retiring) / 7)
-        × (handPlaces (l .pool .popped) + l .pool .queued ≤ length (l .retiring) / 7) × (l .pool .doomed ≤ length (l .retiring) / 7)
+        × (l .pool .popped + l .pool .queued ≤ length (l .retiring) / 7) × (l .pool .doomed ≤ length (l .retiring) / 7)
     unfolding versionPlaces
     rings-room =
         let z = sizes l s in

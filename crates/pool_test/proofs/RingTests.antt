@@ -2,7 +2,7 @@
 use mathlib.Core.Path.{_≡_, sym, ap, _∙_}
 use mathlib.Core.Bool.{Bool, true, false, _&&_}
 use mathlib.Core.List.{List}
-use Prim.Native.Nat.{ℕ, suc, _+_, _*_, _≤_, _<_}
+use Prim.Native.Nat.{ℕ, zero, suc, _+_, _*_, _≤_, _<_}
 use native.Mathlib.Nat.{zero-add}
 use native.Mathlib.Omega.{arith}
 use borrow.Author.Tests.{le-leb, lt-leb}
@@ -18,7 +18,7 @@ use Rattle.records.specs.Doomed.{readDoomed}
 use Rattle.records.specs.Views.{retiringOf, doomedOf}
 use Rattle.records.proofs.Codecs.{retiring-codec, doomed-codec}
 use Rattle.layout.specs.declared.pool.Pool.{Pool}
-use Rattle.layout.specs.Reading.{handPlaces, retiringRead, handRead}
+use Rattle.layout.specs.Reading.{retiringRead, handRead}
 use Rattle.layout.specs.IsPool.{isDoomed, isRetiring, isHand}
 use Rattle.pool_test.specs.Parts.{retiringAt, retiringFit, doomedAt, doomedFit, ringsFit}
 use Rattle.layout.specs.Lent.{Lent}
@@ -59,23 +59,21 @@ doomed-done cap first n bytes i sum s h ea et =
 
 -- ---- both rings
 
-module _ (pool : Pool) (versions hand : ℕ) (retiring doomed : List ℕ) (e : hand ≡ handPlaces (pool .popped)) (a : Bool) (ea : a ≡ retiringFit versions (pool .head) (hand + pool .queued) retiring) where
-  queue-test : retiringFit versions (pool .head) (handPlaces (pool .popped) + pool .queued) retiring ≡ a
-  queue-test = sym (ea ∙ ap (λ (h : ℕ). retiringFit versions (pool .head) (h + pool .queued) retiring) e)
-
+module _ (pool : Pool) (versions : ℕ) (retiring doomed : List ℕ) (a : Bool) (e : a ≡ retiringFit versions (pool .head) (pool .popped + pool .queued) retiring) where
   pub rings-stop : a ≡ false → false ≡ ringsFit pool versions retiring doomed
   unfolding ringsFit
-  rings-stop f = sym (fails _ 0 (queue-test ∙ f))
+  rings-stop f = sym (fails _ 0 (sym e ∙ f))
 
   pub rings-test : a ≡ true → doomedFit versions (pool .first) (pool .doomed) (pool .dooming) doomed ≡ ringsFit pool versions retiring doomed
   unfolding ringsFit tests after
-  rings-test t = sym (rw (queue-test, t))
+  rings-test t = sym (rw (sym e, t))
 
 -- ---- the popped version, if there is one, and the queue
 
 module _ (l : Lent) where
-  pub hand-test : (popped : Bool) (n : ℕ) → all isRetiring (listed (retiringRead l) 0 (handPlaces popped + n))
-      ≡ isHand (handRead l popped) && all isRetiring (listed (retiringRead l) (handPlaces popped) n)
+  pub hand-test : (popped n : ℕ) → popped ≤ 1 → all isRetiring (listed (retiringRead l) 0 (popped + n))
+      ≡ isHand (handRead l popped) && all isRetiring (listed (retiringRead l) popped n)
   unfolding all listed
-  hand-test false n = ap (λ (k : ℕ). all isRetiring (listed (retiringRead l) 0 k)) (zero-add n)
-  hand-test true n = ap (λ (k : ℕ). all isRetiring (listed (retiringRead l) 0 k)) (let e : 1 + n ≡ suc n = omega arith in e)
+  hand-test zero n h = ap (λ (k : ℕ). all isRetiring (listed (retiringRead l) 0 k)) (zero-add n)
+  hand-test (suc zero) n h = ap (λ (k : ℕ). all isRetiring (listed (retiringRead l) 0 k)) (let e : 1 + n ≡ suc n = omega arith in e)
+  hand-test (suc (suc k)) n h = absurd (let y : ⊥ = omega arith in y)

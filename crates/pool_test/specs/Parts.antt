@@ -12,7 +12,6 @@ use Rattle.records.specs.Doomed.{readDoomed}
 use Rattle.records.specs.Views.{retiringOf, doomedOf}
 use Rattle.layout.specs.declared.pool.Pool.{Pool}
 use Rattle.layout.specs.declared.book.PacingBook.{PacingBook}
-use Rattle.layout.specs.Reading.{handPlaces}
 use Rattle.layout.specs.IsPool.{isRetiring, isDoomed, isArrival}
 
 -- ---- sizes and counts
@@ -37,7 +36,8 @@ placesHold pool places versions pages = tests (
     leb (pool .tracked) places
     ∷ ltb (pool .head) versions
     ∷ ltb (pool .first) versions
-    ∷ leb (pool .queued + handPlaces (pool .popped) + pool .kept + pool .doomed) versions
+    ∷ leb (pool .popped) 1
+    ∷ leb (pool .queued + pool .popped + pool .kept + pool .doomed) versions
     ∷ leb (pool .pages) pages ∷ [])
 
 -- ---- rings
@@ -60,7 +60,7 @@ doomedFit cap first n bytes doomed =
 
 unfoldable pub ringsFit : Pool → ℕ → List ℕ → List ℕ → Bool
 ringsFit pool versions retiring doomed = tests (
-    retiringFit versions (pool .head) (handPlaces (pool .popped) + pool .queued) retiring
+    retiringFit versions (pool .head) (pool .popped + pool .queued) retiring
     ∷ doomedFit versions (pool .first) (pool .doomed) (pool .dooming) doomed ∷ [])
 
 -- ---- numbers
@@ -70,5 +70,6 @@ numbersFit pool book = tests (
     leb (pool .trackings) limit
     ∷ leb (pool .parked) (pool .cap)
     ∷ ltb (book .slot) 8
+    ∷ leb (book .pressed) 1
     ∷ leb (pool .since) (pool .doomed)
     ∷ all isArrival (book .arrivals) ∷ [])

@@ -14,6 +14,7 @@ pub fn numbers_fit(pool: Pool, book: PacingBook) -> bool
     (pool.trackings <= MOST_COUNTED)
         & (pool.parked <= pool.cap)
         & (book.slot < 8)
+        & (book.pressed <= 1)
         & (pool.since <= pool.doomed as u64)
         & blocks::within(&arrivals, 4096)
 }

@@ -4,10 +4,8 @@ ghost use Prim.Native.Nat.{_+_, _*_, _≤_, _<_};
 ghost use lib.ListN.{length};
 ghost use Rattle.records.specs.Retiring.{readRetiring};
 ghost use Rattle.records.specs.Views.{retiringOf};
-ghost use Rattle.layout.specs.Reading.{handPlaces};
 ghost use Rattle.layout.specs.IsPool.{isRetiring};
 ghost use Rattle.pool_test.specs.Parts.{retiringFit, doomedFit, ringsFit};
-use crate::sizes::hand_places;
 use layout::Pool;
 use tables::ring_record;
 use texture_test::MOST_BYTES;
@@ -63,11 +61,10 @@ fn doomed_fit(doomed: &[u64], cap: usize, first: usize, n: usize, bytes: u64) ->
 pub fn rings_fit(pool: Pool, versions: usize, retiring: &[u64], doomed: &[u64]) -> bool
     requires { ⌜ (7 * versions ≤ length (now retiring)) × (2 * versions ≤ length (now doomed)) × (versions ≤ 4096)
         × (pool .head < versions) × (pool .first < versions)
-        × (handPlaces (pool .popped) + pool .queued ≤ versions) × (pool .doomed ≤ versions) ⌝ }
+        × (pool .popped + pool .queued ≤ versions) × (pool .doomed ≤ versions) ⌝ }
     ensures { λ r. ⌜ r ≡ ringsFit pool versions (now (retiring .entry)) (now (doomed .entry)) ⌝ }
 {
-    let hand = hand_places(pool.popped);
-    if !retiring_fit(retiring, versions, pool.head, hand + pool.queued) {
+    if !retiring_fit(retiring, versions, pool.head, pool.popped + pool.queued) {
         return false;
     }
     doomed_fit(doomed, versions, pool.first, pool.doomed, pool.dooming)

@@ -5,7 +5,6 @@ ghost use lib.ListN.{length};
 ghost use Rattle.layout.specs.declared.pool.Pool.{Pool as Counts};
 ghost use Rattle.layout.specs.declared.book.PacingBook.{PacingBook};
 ghost use Rattle.layout.specs.Lent.{lent};
-ghost use Rattle.layout.specs.Reading.{handPlaces};
 ghost use Rattle.layout.specs.IsPool.{sizesFit};
 ghost use Rattle.pool_test.specs.Parts.{lengthsFit, placesHold};
 use layout::Pool;
@@ -60,18 +59,14 @@ pub fn sizes_fit(
     )
 }
 
-// How many places of the retiring ring the popped version takes.
-pub fn hand_places(popped: bool) -> usize
-    ensures { λ r. ⌜ (r ≤ 1) × (r ≡ handPlaces popped) ⌝ }
-{
-    if popped { 1 } else { 0 }
-}
-
 // The counts fit their places. Each is tested before it is added, so that no sum can pass a word.
 pub fn counts_fit(pool: Pool, places: usize, versions: usize, pages: usize) -> bool
     requires { ⌜ versions ≤ 4096 ⌝ }
     ensures { λ r. ⌜ r ≡ placesHold pool places versions pages ⌝ }
 {
+    if pool.popped > 1 {
+        return false;
+    }
     if pool.queued > versions {
         return false;
     }
@@ -81,10 +76,9 @@ pub fn counts_fit(pool: Pool, places: usize, versions: usize, pages: usize) -> b
     if pool.doomed > versions {
         return false;
     }
-    let hand = hand_places(pool.popped);
     (pool.tracked <= places)
         & (pool.head < versions)
         & (pool.first < versions)
-        & (pool.queued + hand + pool.kept + pool.doomed <= versions)
+        & (pool.queued + pool.popped + pool.kept + pool.doomed <= versions)
         & (pool.pages <= pages)
 }

@@ -1,11 +1,13 @@
 -- note_allocated on lent memory: what relief leaves, with the counts and the book, is what the model's rule leaves; and where the queued bytes cover the
 -- excess the book alone changes. Assumes nothing.
 use mathlib.Core.Path.{_≡_, refl, sym, ap, ap₂, _∙_}
-use mathlib.Core.Bool.{true}
+use mathlib.Core.Bool.{Bool, true, false}
 use mathlib.Core.List.{List, [], _∷_, _++_, map, flatMap, append-nil}
 use Prim.Native.Nat.{ℕ, _+_, _-_, _*_, _≤_, _<_, _^_}
 use native.Mathlib.Nat.{add-zero, sub-zero, mul-le-mul-right}
 use native.Mathlib.Omega.{arith}
+use mir.Val.{boolByte}
+use lib.Dec.{eqb}
 use lib.ListN.{length, length-append, length-map}
 use Rattle.blocks.specs.Lists.{total}
 use Rattle.blocks.specs.All.{All, nil, cons}
@@ -19,14 +21,14 @@ use Rattle.stores.proofs.Lists.{total-map}
 use Rattle.stores.proofs.Moves.{lessened, given, given-bytes, given-count}
 use Rattle.layout.specs.Lent.{Lent, lent}
 use Rattle.layout.specs.Reading.{modelOf}
-use Rattle.layout.specs.Writing.{texturesAfter, sparesAfter, newestAfter, stampsAfter, headAfter, retiringAfter, firstAfter, doomedAfter, poolAfter, bookAfter, after}
+use Rattle.layout.specs.Writing.{texturesAfter, sparesAfter, newestAfter, stampsAfter, headAfter, retiringAfter, firstAfter, doomedAfter, poolAfter, markOf, bookAfter, after}
 use Rattle.layout.specs.IsPool.{isPool}
 use Rattle.layout.specs.Calls.{answer, toldNumber, noteAllocatedCall}
 use Rattle.layout.proofs.Fits.{Fits}
 use Rattle.layout.proofs.Runs.{spareCount, tracked-model, kept-model, pages-model}
 use Rattle.layout.proofs.Kept.{pagedOf}
 use Rattle.layout.proofs.Rings.{hand-model, head-stays, first-stays}
-use Rattle.layout.proofs.Same.{held-same, queued-model, doomed-model}
+use Rattle.layout.proofs.Same.{queued-model, doomed-model}
 use Rattle.layout.proofs.Stays.{put-together, nothing-changed, newest-stay, stamps-stay, retiring-stay}
 use Rattle.layout.proofs.Asked.{asked-accepted}
 use Rattle.relief.specs.Relieved.{relievedPool, givenUp, Relieves, countsAfter, notedBook}
@@ -48,6 +50,11 @@ spare-bytes-most (cons {x = t} p ps) =
       mul-le-mul-right {m = bytesOf (t .shape)} {n = 17592186044416} (length (t .spares)) (bytes-bound (t .shape) (p .shape)),
     )
 
+-- a test's number in the code is the mark's
+pub mark-byte : (b : Bool) → boolByte b ≡ markOf b
+mark-byte true = refl
+mark-byte false = refl
+
 module _ (l : Lent) (f : Fits l) (allocated : ℕ) where
   abbrev excess : ℕ
   excess = allocated - l .pool .line
@@ -59,7 +66,7 @@ module _ (l : Lent) (f : Fits l) (allocated : ℕ) where
       (record {
         arrivals = l .book .arrivals;
         slot = l .book .slot;
-        pressed = pressedAfter (record { cap = l .pool .cap; line = l .pool .line }) allocated (l .book .pressed);
+        pressed = pressedAfter (record { cap = l .pool .cap; line = l .pool .line }) allocated (eqb (l .book .pressed) 1);
         excess = excess;
       })
       (relievedPool excess l)
@@ -108,7 +115,7 @@ module _ (l : Lent) (f : Fits l) (allocated : ℕ) where
     given-counted = omega (arith, r .count, kept-counted)
 
     hand-same : headAfter notedPool l ≡ l .pool .head
-    hand-same = head-stays l notedPool (f .head) (omega (arith, hand-model l))
+    hand-same = head-stays l notedPool (f .head) (omega (arith, hand-model l (f .hand)))
 
     counts-left : countsAfter (l .pool) kept bytes ≡ poolAfter notedPool l
     unfolding poolAfter modelOf
@@ -117,7 +124,7 @@ module _ (l : Lent) (f : Fits l) (allocated : ℕ) where
       kept = sym (r .count) i;
       pages = (total-map pagesUsed (lessened (share l excess)) (λ t. refl) (modelOf l .textures) ∙ pages-model l ∙ f .claimed) i;
       head = hand-same i;
-      popped = held-same l i;
+      popped = hand-model l (f .hand) i;
       queued = queued-model l i;
       first = first-stays l notedPool (f .first) (omega (arith, doomed-model l, length-append (modelOf l .doomed) (givenUp excess l))) i;
       doomed = (length-append (modelOf l .doomed) (givenUp excess l) ∙ ap₂ (λ (a b : ℕ). a + b) (doomed-model l) given-counted) i;

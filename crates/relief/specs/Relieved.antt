@@ -2,6 +2,7 @@
 use Prim.Native.Nat.{ℕ, _+_, _-_}
 use mathlib.Core.Path.{_≡_}
 use mathlib.Core.List.{List, flatMap}
+use lib.Dec.{eqb}
 use lib.ListN.{take}
 use Rattle.shapes.specs.Shapes.{bytesOf}
 use Rattle.stores.specs.Model.{Doomed, VersionState, Pool, doomedBytes}
@@ -11,7 +12,7 @@ use Rattle.layout.specs.declared.pool.Pool.{Pool as Counts}
 use Rattle.layout.specs.declared.book.PacingBook.{PacingBook}
 use Rattle.layout.specs.Lent.{Lent}
 use Rattle.layout.specs.Reading.{modelOf}
-use Rattle.layout.specs.Writing.{texturesAfter, doomedAfter, sparesAfter, poolAfter}
+use Rattle.layout.specs.Writing.{texturesAfter, doomedAfter, sparesAfter, poolAfter, markOf}
 
 abbrev pub relievedPool : ℕ → Lent → Pool ℕ
 relievedPool excess l = relieved (pickedIn excess (modelOf l)) (modelOf l)
@@ -53,6 +54,6 @@ abbrev pub notedBook : Counts → PacingBook → ℕ → PacingBook
 notedBook c b allocated = record {
   arrivals = b .arrivals;
   slot = b .slot;
-  pressed = pressedAfter (record { cap = c .cap; line = c .line }) allocated (b .pressed);
+  pressed = markOf (pressedAfter (record { cap = c .cap; line = c .line }) allocated (eqb (b .pressed) 1));
   excess = allocated - c .line;
 }

@@ -51,7 +51,7 @@ fn noted(pool: Pool, book: PacingBook, allocated: u64) -> PacingBook
         line: pool.line,
     };
     let mut after = book;
-    after.pressed = pressed_after(budget, allocated, book.pressed);
+    after.pressed = pressed_after(budget, allocated, book.pressed == 1) as u64;
     after.excess = excess_over(pool.line, allocated);
     after
 }

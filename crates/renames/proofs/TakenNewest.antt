@@ -36,7 +36,7 @@ use Rattle.layout.proofs.Fits.{Fits}
 use Rattle.layout.proofs.FromPool.{pool-fits}
 use Rattle.layout.proofs.Runs.{sparesOf, spareCount, firstSpare, firstPageOf, stateOf, record-state, tracked-model, kept-model, pages-model}
 use Rattle.layout.proofs.Kept.{pagedOf}
-use Rattle.layout.proofs.Same.{book-same, held-same, queued-model, doomed-model}
+use Rattle.layout.proofs.Same.{queued-model, doomed-model}
 use Rattle.layout.proofs.Rings.{head-stays, hand-model, first-stays}
 use Rattle.layout.proofs.Stays.{put-together, book-stays, ids-ascend, textures-fit, spares-stay, newest-stay, stamps-stay, retiring-stay, doomed-stay}
 use Rattle.layout.proofs.Places.{changed}

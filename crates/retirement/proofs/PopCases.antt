@@ -3,7 +3,7 @@ use mathlib.Core.Path.{_≡_, refl, sym, ap, ap₂, _∙_}
 use mathlib.Core.Bool.{Bool, true, false, cond}
 use mathlib.Core.Option.{none, some}
 use mathlib.Core.List.{List, _∷_}
-use Prim.Native.Nat.{ℕ, suc, _-_, _*_, _/_, _≤_, _<_}
+use Prim.Native.Nat.{ℕ, zero, suc, _-_, _*_, _/_, _≤_, _<_}
 use native.Mathlib.Omega.{arith}
 use borrow.Author.Tests.{lt-ltb, le-ltb, le-leb, lt-leb}
 use lib.Dec.{ltb}
@@ -18,7 +18,7 @@ use Rattle.stores.specs.Model.{Retiring, Pool, accepted, guard, limit}
 use Rattle.stores.specs.Updates.{withRetiring}
 use Rattle.stores.specs.PopRetired.{popFront, isHeld, popRetired}
 use Rattle.layout.specs.Lent.{Lent, lent, versionPlaces}
-use Rattle.layout.specs.Reading.{handPlaces, retiringRead, modelOf}
+use Rattle.layout.specs.Reading.{handRead, retiringRead, modelOf}
 use Rattle.layout.specs.Writing.{poolAfter}
 use Rattle.layout.specs.IsPool.{isPool}
 use Rattle.layout.specs.Calls.{refusal, answer, poppedOf, popRetiredCall}
@@ -27,7 +27,7 @@ use Rattle.layout.proofs.FromPool.{pool-fits}
 use Rattle.layout.proofs.Asked.{guard-passed, guard-refused, asked-refused, asked-accepted}
 use Rattle.layout.proofs.Runs.{tracked-model, kept-model, pages-model}
 use Rattle.layout.proofs.Rings.{head-stays, first-stays, retiring-popped}
-use Rattle.layout.proofs.Same.{held-same, doomed-model}
+use Rattle.layout.proofs.Same.{doomed-model}
 use Rattle.layout.proofs.Stays.{put-together, nothing-changed, book-stays, textures-stay, spares-stay, newest-stay, stamps-stay, doomed-stay, ring-fits}
 use Rattle.retirement.specs.Counts.{frontPopped}
 
@@ -42,9 +42,18 @@ pub front-read : (l : Lent) (x : RetiringRecord) → x ≡ along 7 readRetiring 
 unfolding retiringRead versionPlaces
 front-read l x read = ap retiringOf read
 
--- an empty hand is no longer than a full one
-hand-full : {b : Bool} → b ≡ false → handPlaces b ≤ 1
-hand-full q = omega (arith, ap handPlaces q)
+-- whether one is in the hand, by their number
+hand-held : (l : Lent) → (l .pool .popped ≡ 0 → ⊥) → isHeld (modelOf l .hand) ≡ true
+unfolding modelOf
+hand-held l = go (l .pool .popped)
+  where
+    go : (n : ℕ) → (n ≡ 0 → ⊥) → isHeld (handRead l n) ≡ true
+    go zero h = absurd (h refl)
+    go (suc n) h = refl
+
+hand-free : (l : Lent) → l .pool .popped ≡ 0 → isHeld (modelOf l .hand) ≡ false
+unfolding modelOf
+hand-free l q = ap (λ (n : ℕ). isHeld (handRead l n)) q
 
 module _ (l : Lent) (e : isPool l ≡ true) (settled : ℕ) where
   fits : Fits l
@@ -63,15 +72,15 @@ module _ (l : Lent) (e : isPool l ≡ true) (settled : ℕ) where
     in-time = guard-passed (ltb limit settled) 3 (guard (isHeld (modelOf l .hand)) 9 (popFront (modelOf l) settled (modelOf l .retiring))) (le-ltb limit settled h)
 
     -- one was popped and not parked yet
-    pub pop-full : l .pool .popped ≡ true → (refusal 9, l) ≡ popRetiredCall l settled
+    pub pop-full : (l .pool .popped ≡ 0 → ⊥) → (refusal 9, l) ≡ popRetiredCall l settled
     unfolding popRetiredCall
     pop-full q =
         sym (asked-refused poppedOf l (λ (p : Pool ℕ). popRetired p settled) e 9
-        (in-time ∙ guard-refused (isHeld (modelOf l .hand)) 9 (popFront (modelOf l) settled (modelOf l .retiring)) (held-same l ∙ q)))
+        (in-time ∙ guard-refused (isHeld (modelOf l .hand)) 9 (popFront (modelOf l) settled (modelOf l .retiring)) (hand-held l q)))
 
-    module _ (q : l .pool .popped ≡ false) where
+    module _ (q : l .pool .popped ≡ 0) where
       free : popRetired (modelOf l) settled ≡ popFront (modelOf l) settled (modelOf l .retiring)
-      free = in-time ∙ guard-passed (isHeld (modelOf l .hand)) 9 (popFront (modelOf l) settled (modelOf l .retiring)) (held-same l ∙ q)
+      free = in-time ∙ guard-passed (isHeld (modelOf l .hand)) 9 (popFront (modelOf l) settled (modelOf l .retiring)) (hand-free l q)
 
       nothing : popRetired (modelOf l) settled ≡ accepted none (modelOf l) → (answer none, l) ≡ popRetiredCall l settled
       unfolding popRetiredCall
@@ -81,7 +90,7 @@ module _ (l : Lent) (e : isPool l ≡ true) (settled : ℕ) where
 
       queue : (n : ℕ) → l .pool .queued ≡ n → modelOf l .retiring ≡ listed (retiringRead l) 0 n
       unfolding modelOf
-      queue n k = ap₂ (λ (b : Bool) (i : ℕ). listed (retiringRead l) (handPlaces b) i) q k
+      queue n k = ap₂ (listed (retiringRead l)) q k
 
       -- nothing is queued
       pub pop-none : l .pool .queued ≡ 0 → (answer none, l) ≡ popRetiredCall l settled
@@ -113,8 +122,8 @@ module _ (l : Lent) (e : isPool l ≡ true) (settled : ℕ) where
           tracked = sym (tracked-model l) i;
           kept = sym (kept-model l ∙ fits .kept) i;
           pages = sym (pages-model l ∙ fits .claimed) i;
-          head = sym (head-stays l popped (fits .head) (hand-full q)) i;
-          popped = true;
+          head = sym (head-stays l popped (fits .head) (omega (arith, q))) i;
+          popped = 1;
           queued = sym (length-listed (retiringRead l) 1 (l .pool .queued - 1)) i;
           first = sym (first-stays l popped (fits .first) (omega (arith, doomed-model l))) i;
           doomed = sym (doomed-model l) i;
@@ -139,7 +148,7 @@ module _ (l : Lent) (e : isPool l ≡ true) (settled : ℕ) where
             ∙ ap (λ (l′ : Lent). (answer (some (record { id = retiringRead l 0 .id; view = retiringRead l 0 .view })), l′))
             (sym (put-together popped l (frontPopped (l .pool)) (l .book) (l .textures) (l .retiring) (l .doomed) (l .spares) (l .newest) (l .stamps) counts
             (book-stays l fits popped refl) (textures-stay l fits popped refl)
-            (sym (retiring-popped l popped (fits .head) (omega (arith, fits .retiring)) (ring-fits l fits) (retiringRead l 0) q front refl))
+            (sym (retiring-popped l popped (fits .head) (omega (arith, fits .retiring)) (fits .hand) (ring-fits l fits) (retiringRead l 0) q front refl))
             (doomed-stay l fits popped refl) (spares-stay l fits popped refl) (newest-stay l fits popped refl) (stamps-stay l fits popped refl))))
 
         -- the same by the record that the code reads

@@ -31,7 +31,7 @@ use Rattle.layout.proofs.Asked.{asked-refused, asked-accepted}
 use Rattle.layout.proofs.Parts.{flat-mapped}
 use Rattle.layout.proofs.Runs.{spareCount, stateOf, tracked-model, kept-model, pages-model}
 use Rattle.layout.proofs.Rings.{hand-model, head-stays, first-stays, retiring-pushed}
-use Rattle.layout.proofs.Same.{held-same, queued-model, doomed-model}
+use Rattle.layout.proofs.Same.{queued-model, doomed-model}
 use Rattle.layout.proofs.Kept.{pagedOf}
 use Rattle.layout.proofs.Changes.{textures-set}
 use Rattle.layout.proofs.Stays.{put-together, textures-fit, book-stays, textures-stay, spares-stay, newest-stay, stamps-stay, doomed-stay}
@@ -54,6 +54,9 @@ refusal-fits l f = (omega (arith, f .retiring), f .head, omega (arith, f .versio
 
 pub queued-fits : (l : Lent) → Fits l → l .pool .queued ≤ 4096
 queued-fits l f = omega (arith, f .versions, f .most)
+
+pub count-fits : (l : Lent) → Fits l → ringCount (l .pool) ≤ 4096
+count-fits l f = omega (arith, f .versions, f .most)
 
 module _ (l : Lent) (e : isPool l ≡ true) (id view seq : ℕ) where
   fits : Fits l
@@ -124,8 +127,8 @@ module _ (l : Lent) (e : isPool l ≡ true) (id view seq : ℕ) where
       tracked = sym (length-change id (withBirth seq) (modelOf l .textures) ∙ tracked-model l) i;
       kept = sym (total-unchanged spareCount id (withBirth seq) (λ t. refl) (modelOf l .textures) ∙ kept-model l ∙ fits .kept) i;
       pages = sym (total-unchanged pagesUsed id (withBirth seq) (λ t. refl) (modelOf l .textures) ∙ pages-model l ∙ fits .claimed) i;
-      head = sym (head-stays l queued (fits .head) (omega (arith, hand-model l))) i;
-      popped = sym (held-same l) i;
+      head = sym (head-stays l queued (fits .head) (omega (arith, hand-model l (fits .hand)))) i;
+      popped = sym (hand-model l (fits .hand)) i;
       queued = sym (length-append (modelOf l .retiring) (version ∷ []) ∙ ap (λ (n : ℕ). n + 1) (queued-model l)) i;
       first = sym (first-stays l queued (fits .first) (omega (arith, doomed-model l))) i;
       doomed = sym (doomed-model l) i;
@@ -162,7 +165,7 @@ module _ (l : Lent) (e : isPool l ≡ true) (id view seq : ℕ) where
       retiring-left : sets (l .retiring) (7 * placeOf (places l) (l .pool .head) (ringCount (l .pool))) (writeRetiring (retiringRecord version))
           ≡ retiringAfter queued l
       unfolding versionPlaces
-      retiring-left = retiring-pushed l queued (fits .head) (omega (arith, fits .retiring)) version (push-fits .2) refl refl
+      retiring-left = retiring-pushed l queued (fits .head) (omega (arith, fits .retiring)) (fits .hand) version (push-fits .2) refl refl
 
       pub retire-accepted : (v : RetiringRecord) (n : ℕ) (c : Counts) (textures retiring : List ℕ)
           → v ≡ retiredRecord here (textureAt l i) id view seq

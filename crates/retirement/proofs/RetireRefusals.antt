@@ -16,7 +16,7 @@ use Rattle.stores.specs.Model.{Retiring, Out, refused, guard, limit, versionsUs
 use Rattle.stores.specs.Retire.{lastSeq}
 use Rattle.layout.specs.declared.pool.Pool.{Pool}
 use Rattle.layout.specs.Lent.{Lent, versionPlaces}
-use Rattle.layout.specs.Reading.{handPlaces, retiringRead, modelOf}
+use Rattle.layout.specs.Reading.{retiringRead, modelOf}
 use Rattle.layout.proofs.Fits.{Fits}
 use Rattle.layout.proofs.FromPool.{versions-read}
 use Rattle.retirement.specs.Counts.{ringCount}
@@ -99,7 +99,7 @@ last-listed f at zero = ap (λ (k : ℕ). f k .seq) (sym (add-zero at))
 last-listed f at (suc n) = last-listed f (suc at) n ∙ ap (λ (k : ℕ). f k .seq) (let e : suc at + n ≡ at + suc n = omega arith in e)
 
 module _ (l : Lent) where
-  none-last : lastSeq (listed (retiringRead l) (handPlaces (l .pool .popped)) 0) ≡ 0
+  none-last : lastSeq (listed (retiringRead l) (l .pool .popped) 0) ≡ 0
   unfolding listed
   none-last = refl
 
@@ -115,14 +115,14 @@ module _ (l : Lent) where
   unfolding modelOf lastQueued
   last-model = go (l .pool .queued)
     where
-      go : (q : ℕ) → lastSeq (listed (retiringRead l) (handPlaces (l .pool .popped)) q)
-          ≡ cond (eqb q 0) 0 (lastAt (handPlaces (l .pool .popped) + q - 1))
+      go : (q : ℕ) → lastSeq (listed (retiringRead l) (l .pool .popped) q)
+          ≡ cond (eqb q 0) 0 (lastAt (l .pool .popped + q - 1))
       go zero = none-last
       go (suc n) =
-          last-listed (retiringRead l) (handPlaces (l .pool .popped)) n ∙ read-last (handPlaces (l .pool .popped) + n)
-          ∙ ap lastAt (let e : handPlaces (l .pool .popped) + n ≡ handPlaces (l .pool .popped) + suc n - 1 = omega arith in e)
-          ∙ sym (ap (λ (b : Bool). cond b 0 (lastAt (handPlaces (l .pool .popped) + suc n - 1)))
+          last-listed (retiringRead l) (l .pool .popped) n ∙ read-last (l .pool .popped + n)
+          ∙ ap lastAt (let e : l .pool .popped + n ≡ l .pool .popped + suc n - 1 = omega arith in e)
+          ∙ sym (ap (λ (b : Bool). cond b 0 (lastAt (l .pool .popped + suc n - 1)))
           (ne-eqb (suc n) 0 (λ q. let y : ⊥ = omega (arith, q) in y)))
 
   pub used-model : Fits l → versionsUsed (modelOf l) ≡ ringCount (l .pool) + l .pool .kept + l .pool .doomed
-  used-model f = omega (arith, versions-read l, f .kept)
+  used-model f = omega (arith, versions-read l (f .hand), f .kept)

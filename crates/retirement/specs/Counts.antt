@@ -1,12 +1,10 @@
 -- The counts as a version goes through the pool. There is no update of a record's field, so each is written out.
 use Prim.Native.Nat.{ℕ, _+_, _-_}
-use mathlib.Core.Bool.{true}
 use Rattle.layout.specs.declared.pool.Pool.{Pool}
-use Rattle.layout.specs.Reading.{handPlaces}
 
 -- the versions of the retiring ring: the hand and the queue
 abbrev pub ringCount : Pool → ℕ
-ringCount p = handPlaces (p .popped) + p .queued
+ringCount p = p .popped + p .queued
 
 -- a version queued at the back
 abbrev pub oneQueued : Pool → Pool
@@ -34,7 +32,7 @@ frontPopped p = record {
   kept = p .kept;
   pages = p .pages;
   head = p .head;
-  popped = true;
+  popped = 1;
   queued = p .queued - 1;
   first = p .first;
   doomed = p .doomed;

@@ -6,13 +6,10 @@ use layout::Pool;
 
 // The versions in the ring: the hand and the queue.
 pub fn ring_count(pool: Pool) -> usize
-    requires { ⌜ pool .queued ≤ 4096 ⌝ }
+    requires { ⌜ ringCount pool ≤ 4096 ⌝ }
     ensures { λ r. ⌜ r ≡ ringCount pool ⌝ }
 {
-    if pool.popped {
-        return 1 + pool.queued;
-    }
-    pool.queued
+    pool.popped + pool.queued
 }
 
 // One more queued.
@@ -31,7 +28,7 @@ pub fn front_popped(pool: Pool) -> Pool
     ensures { λ r. ⌜ r ≡ frontPopped pool ⌝ }
 {
     let mut after = pool;
-    after.popped = true;
+    after.popped = 1;
     after.queued = pool.queued - 1;
     after
 }

@@ -44,8 +44,7 @@ pub fn pop_retired(
             popped: Popped::Refused(3),
         };
     }
-    let popped = pool.popped;
-    if popped {
+    if pool.popped != 0 {
         return PopAnswer {
             pool,
             popped: Popped::Refused(9),

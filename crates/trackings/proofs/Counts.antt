@@ -5,14 +5,13 @@ use native.Mathlib.Omega.{arith}
 use lib.ListN.{length}
 use Rattle.blocks.specs.Lists.{total}
 use Rattle.stores.specs.Model.{Pool, pagesUsed, handCount}
-use Rattle.stores.specs.PopRetired.{isHeld}
 use Rattle.layout.specs.declared.pool.Pool.{Pool as Counts}
 use Rattle.layout.specs.Lent.{Lent}
 use Rattle.layout.specs.Reading.{modelOf}
 use Rattle.layout.specs.Writing.{poolAfter}
 use Rattle.layout.proofs.Fits.{Fits}
 use Rattle.layout.proofs.Runs.{spareCount}
-use Rattle.layout.proofs.Same.{held-same, queued-model}
+use Rattle.layout.proofs.Same.{queued-model}
 use Rattle.layout.proofs.Rings.{head-stays, hand-model, first-stays}
 
 -- the other counts set anew
@@ -48,8 +47,8 @@ module _ (l : Lent) (f : Fits l) (p : Pool ℕ) (hand : p .hand ≡ modelOf l .h
     tracked = e1 j;
     kept = e2 j;
     pages = e3 j;
-    head = sym (head-stays l p (f .head) (omega (arith, hand-model l, ap handCount hand))) j;
-    popped = sym (ap isHeld hand ∙ held-same l) j;
+    head = sym (head-stays l p (f .head) (omega (arith, hand-model l (f .hand), ap handCount hand))) j;
+    popped = sym (ap handCount hand ∙ hand-model l (f .hand)) j;
     queued = sym (ap length queue ∙ queued-model l) j;
     first = sym (first-stays l p (f .first) (omega (arith, e4))) j;
     doomed = e4 j;

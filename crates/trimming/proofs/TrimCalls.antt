@@ -35,7 +35,7 @@ use Rattle.layout.proofs.FromPool.{enough}
 use Rattle.layout.proofs.Asked.{guard-passed, guard-refused, asked-refused, asked-accepted}
 use Rattle.layout.proofs.Runs.{firstPageOf, stateOf, tracked-model, model-at}
 use Rattle.layout.proofs.Rings.{hand-model, head-stays, first-stays, doomed-pushed}
-use Rattle.layout.proofs.Same.{book-same, held-same, queued-model, doomed-model}
+use Rattle.layout.proofs.Same.{book-same, queued-model, doomed-model}
 use Rattle.layout.proofs.Stays.{put-together, textures-fit, doomed-fit, retiring-stay, doomed-bound}
 use Rattle.layout.proofs.Counts.{count-spares}
 use Rattle.layout.proofs.Tracked.{record-read, shape-passes}
@@ -144,8 +144,8 @@ module _ (l : Lent) (f : Fits l) (now i : ℕ) (w : Pass) (T D S N P : List ℕ)
     tracked = s .tracked j;
     kept = (s .kept ∙ sym (count-spares (keptTo l now i))) j;
     pages = s .pages j;
-    head = sym (head-stays l (trimmed l now i) (f .head) (omega (arith, hand-model l))) j;
-    popped = sym (held-same l) j;
+    head = sym (head-stays l (trimmed l now i) (f .head) (omega (arith, hand-model l (f .hand)))) j;
+    popped = sym (hand-model l (f .hand)) j;
     queued = sym (queued-model l) j;
     first = sym (first-stays l (trimmed l now i) (f .first) (omega (arith, doomed-model l, length-append (modelOf l .doomed) (givenTo l now i)))) j;
     doomed = sym (length-append (modelOf l .doomed) (givenTo l now i) ∙ ap₂ (λ (m n : ℕ). m + n) (doomed-model l) (sym (s .count))) j;
@@ -159,7 +159,7 @@ module _ (l : Lent) (f : Fits l) (now i : ℕ) (w : Pass) (T D S N P : List ℕ)
 
   book-left : l .book ≡ bookAfter (trimmed l now i)
   unfolding bookAfter trimmed
-  book-left = sym (book-same l)
+  book-left = sym (book-same l (f .mark))
 
   retiring-left : l .retiring ≡ retiringAfter (trimmed l now i) l
   unfolding trimmed

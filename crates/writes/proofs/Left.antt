@@ -25,7 +25,7 @@ use Rattle.layout.specs.Writing.{recordedOf, textureRecord, gridsOf, pageBefore
 use Rattle.layout.proofs.Fits.{Fits}
 use Rattle.layout.proofs.Runs.{spareCount, firstPageOf, stateOf, tracked-model, model-at, kept-model, pages-model}
 use Rattle.layout.proofs.Rings.{head-stays, hand-model, first-stays}
-use Rattle.layout.proofs.Same.{held-same, queued-model, doomed-model}
+use Rattle.layout.proofs.Same.{queued-model, doomed-model}
 use Rattle.layout.proofs.Stays.{put-together, ids-ascend, textures-fit, book-stays, retiring-stay, doomed-stay, spares-stay}
 use Rattle.layout.proofs.Changes.{count-state, textures-set, every-kept}
 use Rattle.layout.proofs.Pages.{pagesAt, pages-in, newest-dropped, stamps-dropped}
@@ -105,8 +105,8 @@ module _ (l : Lent) (f : Fits l) (i : ℕ) (h : i < l .pool .tracked) where
       tracked = sym (length-set (modelOf l .textures) i otherState ∙ tracked-model l) j;
       kept = sym kept-left j;
       pages = sym e j;
-      head = sym (head-stays l otherPool (f .head) (omega (arith, hand-model l))) j;
-      popped = sym (held-same l) j;
+      head = sym (head-stays l otherPool (f .head) (omega (arith, hand-model l (f .hand)))) j;
+      popped = sym (hand-model l (f .hand)) j;
       queued = sym (queued-model l) j;
       first = sym (first-stays l otherPool (f .first) (omega (arith, doomed-model l))) j;
       doomed = sym (doomed-model l) j;

@@ -4,9 +4,6 @@ use borrow.Author.Needs.{needs}
 use Rattle.destruction.proofs.drain.copy_views.Statement.{statement}
 use Rattle.destruction.proofs.drain.copy_views.Tie as tie
 
-hand-places-requires : tie.Need-hand-places-requires
-hand-places-requires c κs = search needs
-
 copy-column-requires : tie.Need-copy-column-requires
 copy-column-requires c κs = search needs
 
@@ -27,17 +24,14 @@ returns c =
     let third = c .before .before in
     let second = third .before .before .before .before in
     let one = second .before .before .before .before in
-    let hand = one .before .before in
-    let s = hand .before .before .before .before .before in
+    let s = one .before .before .before .before .before .before in
     let a = s .args in
-    views-copied (a .pool) (a .places) (a .retiring .now) (a .doomed .now) (a .spares .now) (a .buffer .now) (s .pre .6)
-    (hand .hand-places .result) _ _ _ (hand .hand-places .ensures) (one .copy-column .ensures) (second .copy-column2 .ensures) (third .copy-column3 .ensures)
+    views-copied (a .pool) (a .places) (a .retiring .now) (a .doomed .now) (a .spares .now) (a .buffer .now) (s .pre .6) _ _ _ (one .copy-column .ensures) (second .copy-column2 .ensures) (third .copy-column3 .ensures)
 
 pub copy-views-spec : {M : Type 1} → statement M
 copy-views-spec =
     tie.close
     (tie.spec
-    hand-places-requires
     copy-column-requires
     copy-column-requires-2
     add-copy-column

@@ -1,5 +1,6 @@
 -- `park_refusal` meets its contract, test by test. Assumes nothing.
-use Rattle.parking.proofs.Parked.{refused-late, hand-there, refused-empty}
+use native.Mathlib.Omega.{arith}
+use Rattle.parking.proofs.Parked.{refused-late, refused-empty, hand-there}
 use Rattle.parking.proofs.decision.park_refusal.Statement.{statement}
 use Rattle.parking.proofs.decision.park_refusal.Tie as tie
 
@@ -10,13 +11,13 @@ returns c =
 
 returns-2 : tie.Need-returns-2
 returns-2 c =
-    let a = c .before .before .args in
-    hand-there (a .pool) (a .failed) (a .current) (c .before .if1 .left) (c .if2 .taken)
+    let a = c .before .before .before .args in
+    refused-empty (a .pool) (a .failed) (a .current) (c .before .before .if1 .left) (omega (arith, c .if2 .taken))
 
 returns-3 : tie.Need-returns-3
 returns-3 c =
-    let a = c .before .before .args in
-    refused-empty (a .pool) (a .failed) (a .current) (c .before .if1 .left) (c .if2 .left)
+    let a = c .before .before .before .args in
+    hand-there (a .pool) (a .failed) (a .current) (c .before .before .if1 .left) (omega (arith, c .if2 .left))
 
 pub park-refusal-spec : {M : Type 1} → statement M
 park-refusal-spec =

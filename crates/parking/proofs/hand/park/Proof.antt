@@ -49,7 +49,7 @@ find-texture-requires c κs =
 
 park-or-destroy-requires : tie.Need-park-or-destroy-requires
 park-or-destroy-requires c κs =
-    let s = c .before in
+    let s = c .before .before in
     let v = s .before .before .before in
     let r = v .before .before in
     let b = r .before .before .before .before .before .before .before in
@@ -66,7 +66,7 @@ push-doomed-requires : tie.Need-push-doomed-requires
 push-doomed-requires c κs =
     let told = c .before .before in
     let d = told .before .before in
-    let s = d .before .before in
+    let s = d .before .before .before in
     let v = s .before .before .before in
     let r = v .before .before in
     let b = r .before .before .before .before .before .before .before in
@@ -81,7 +81,7 @@ hand-doomed-requires : tie.Need-hand-doomed-requires
 hand-doomed-requires c κs =
     let told = c .before .before .before .before .before in
     let d = told .before .before in
-    let s = d .before .before in
+    let s = d .before .before .before in
     let v = s .before .before .before in
     let r = v .before .before in
     let b = r .before .before .before .before .before .before .before in
@@ -102,7 +102,7 @@ keep-version-requires : tie.Need-keep-version-requires
 keep-version-requires c κs =
     let told = c .before .before .before .before in
     let d = told .before .before in
-    let s = d .before .before in
+    let s = d .before .before .before in
     let v = s .before .before .before in
     let r = v .before .before in
     let b = r .before .before .before .before .before .before .before in
@@ -119,7 +119,7 @@ hand-kept-requires : tie.Need-hand-kept-requires
 hand-kept-requires c κs =
     let told = c .before .before .before .before .before .before .before .before .before in
     let d = told .before .before in
-    let s = d .before .before in
+    let s = d .before .before .before in
     let v = s .before .before .before in
     let r = v .before .before in
     let b = r .before .before .before .before .before .before .before in
@@ -140,7 +140,7 @@ returns-2 : tie.Need-returns-2
 returns-2 c =
     let told = c .before .before .before .before .before .before in
     let d = told .before .before in
-    let s = d .before .before in
+    let s = d .before .before .before in
     let v = s .before .before .before in
     let r = v .before .before in
     let b = r .before .before .before .before .before .before .before in
@@ -164,7 +164,7 @@ returns-3 : tie.Need-returns-3
 returns-3 c =
     let told = c .before .before .before .before .before .before .before .before .before .before in
     let d = told .before .before in
-    let s = d .before .before in
+    let s = d .before .before .before in
     let v = s .before .before .before in
     let r = v .before .before in
     let b = r .before .before .before .before .before .before .before in

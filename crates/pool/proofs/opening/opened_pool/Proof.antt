@@ -1,6 +1,5 @@
 -- `opened_pool` meets its contract. Assumes nothing.
 use borrow.Author.Needs.{needs}
-use mathlib.Core.Bool.{false}
 use Rattle.layout.specs.Calls.{openedPool}
 use Rattle.pool.proofs.opening.opened_pool.Statement.{statement}
 use Rattle.pool.proofs.opening.opened_pool.Tie as tie
@@ -15,7 +14,7 @@ returns c = λ i. record {
   kept = 0;
   pages = 0;
   head = 0;
-  popped = false;
+  popped = 0;
   queued = 0;
   first = 0;
   doomed = 0;

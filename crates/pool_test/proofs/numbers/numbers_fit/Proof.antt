@@ -11,7 +11,7 @@ within-requires : tie.Need-within-requires
 within-requires c κs = search needs
 
 returns : tie.Need-returns
-returns c = (numbers-test (c .before .before .before .before .before .before .before .args .pool) (c .before .before .before .before .before .before .before .args .book) _ (c .within .ensures), search needs)
+returns c = (numbers-test (c .before .before .before .before .before .before .before .before .args .pool) (c .before .before .before .before .before .before .before .before .args .book) _ (c .within .ensures), search needs)
 
 pub numbers-fit-spec : {M : Type 1} → statement M
 numbers-fit-spec = tie.close (tie.spec slice-aggregate-within within-requires returns)

@@ -6,9 +6,6 @@ use borrow.Author.Needs.{needs}
 use Rattle.pool_test.proofs.rings.rings_fit.Statement.{statement}
 use Rattle.pool_test.proofs.rings.rings_fit.Tie as tie
 
-hand-places-requires : tie.Need-hand-places-requires
-hand-places-requires c κs = search needs
-
 add-retiring-fit : tie.Need-add-retiring-fit
 add-retiring-fit c = search needs
 
@@ -17,23 +14,22 @@ retiring-fit-requires c κs = search needs
 
 returns : tie.Need-returns
 returns c =
-    let a = c .before .before .before .before .before .before .args in
-    rings-stop (a .pool) (a .versions) _ (a .retiring .now) (a .doomed .now) (c .before .before .before .hand-places .ensures .1) _ (c .before .retiring-fit .ensures) (not-true _ (c .if1 .taken))
+    let a = c .before .before .before .before .before .args in
+    rings-stop (a .pool) (a .versions) (a .retiring .now) (a .doomed .now) _ (c .before .retiring-fit .ensures) (not-true _ (c .if1 .taken))
 
 doomed-fit-requires : tie.Need-doomed-fit-requires
 doomed-fit-requires c κs = search needs
 
 returns-2 : tie.Need-returns-2
 returns-2 c =
-    let a = c .before .before .before .before .before .before .before .args in
+    let a = c .before .before .before .before .before .before .args in
     c .doomed-fit .ensures
-    ∙ rings-test (a .pool) (a .versions) _ (a .retiring .now) (a .doomed .now) (c .before .before .before .before .hand-places .ensures .1) _ (c .before .before .retiring-fit .ensures) (not-false _ (c .before .if1 .left))
+    ∙ rings-test (a .pool) (a .versions) (a .retiring .now) (a .doomed .now) _ (c .before .before .retiring-fit .ensures) (not-false _ (c .before .if1 .left))
 
 pub rings-fit-spec : {M : Type 1} → statement M
 rings-fit-spec =
     tie.close
     (tie.spec
-    hand-places-requires
     add-retiring-fit
     retiring-fit-requires
     returns

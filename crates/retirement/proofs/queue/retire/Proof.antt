@@ -5,7 +5,7 @@ use Rattle.layout.specs.Lent.{lent}
 use Rattle.layout.proofs.FromPool.{pool-fits}
 use Rattle.layout.proofs.Stays.{ids-ascend, textures-fit}
 use Rattle.retirement.proofs.Tracked.{shape-here, history-here}
-use Rattle.retirement.proofs.RetireCases.{refusal-fits, queued-fits, push-fits, retire-refused, retire-accepted}
+use Rattle.retirement.proofs.RetireCases.{refusal-fits, queued-fits, count-fits, push-fits, retire-refused, retire-accepted}
 use Rattle.retirement.proofs.queue.retire.Statement.{statement}
 use Rattle.retirement.proofs.queue.retire.Tie as tie
 
@@ -58,7 +58,7 @@ ring-count-requires c κs =
     let b = c .before .before .before .before .before .before .before .before .before .before .before .before .before .before .before .before .before .before in
     let a = b .args in
     let l = lent (a .pool) (a .book) (a .textures .now) (a .retiring .now) (a .doomed .now) (a .spares .now) (a .newest .now) (a .stamps .now) in
-    queued-fits l (pool-fits l (b .pre))
+    count-fits l (pool-fits l (b .pre))
 
 push-retiring-requires : tie.Need-push-retiring-requires
 push-retiring-requires c κs =
