@@ -3,10 +3,12 @@
 use mathlib.Core.Path.{_≡_, refl, ap, _∙_}
 use mathlib.Core.Bool.{true}
 use mathlib.Core.List.{List, [], _∷_}
-use Prim.Native.Nat.{ℕ, zero, suc, _*_, _≤_, _<_}
+use Prim.Native.Nat.{ℕ, zero, suc, _+_, _*_, _≤_, _<_, min}
 use native.Mathlib.Nat.{add-zero}
 use native.Mathlib.Decide.{decLt}
 use native.Mathlib.Omega.{arith}
+use lib.Dec.{ltb}
+use mir.Val.{boolByte}
 use borrow.Author.Tests.{lt-ltb, le-ltb}
 use lib.ListN.{length, getD}
 use lib.Seq.{getD-drop}
@@ -107,6 +109,15 @@ module _ (n i id : ℕ) (s : List ℕ) (h : i < n) where
 
   pub search-before : id ≤ getD s (20 * i) 0 → below id (textures n s) ≤ i
   search-before q = not-past id (textures n s) i (readTexture []) (omega (arith, id-at n i s h))
+
+  -- and a count's turn: one more where this one is below the id
+  pub search-count : ascending idOf (textures n s) ≡ true →
+      min i (below id (textures n s)) + boolByte (ltb (getD s (20 * i) 0) id) ≡ min (i + 1) (below id (textures n s))
+  search-count up = go (decLt (getD s (20 * i) 0) id)
+    where
+      go : Dec (getD s (20 * i) 0 < id) → min i (below id (textures n s)) + boolByte (ltb (getD s (20 * i) 0) id) ≡ min (i + 1) (below id (textures n s))
+      go (yes q) = let e = lt-ltb (getD s (20 * i) 0) id q in rw e (omega (arith, search-past up q))
+      go (no q) = let e = le-ltb (getD s (20 * i) 0) id (omega arith) in rw e (omega (arith, search-before (omega arith)))
 
 pub search-end : (n id : ℕ) (s : List ℕ) → below id (textures n s) ≤ n
 search-end n id s = omega (arith, below-length id (textures n s), length-table 20 readTexture n s)

@@ -1,4 +1,5 @@
-// The place of an id among the textures' records, by halves: a call finds its texture in a few reads however many are tracked.
+// The place of an id among the textures' records, by halves and then by a count of the last few: a call finds its texture in a few reads however
+// many are tracked.
 ghost use mathlib.Core.Path.{_≡_};
 ghost use mathlib.Core.Bool.{true};
 ghost use Prim.Native.Nat.{_*_, _≤_};
@@ -13,7 +14,7 @@ pub fn find_texture(s: &[u64], n: usize, id: u64) -> usize
 {
     let mut lo = 0;
     let mut hi = n;
-    while lo < hi {
+    while 8 < hi - lo {
         let mid = lo + (hi - lo) / 2;
         if s[20 * mid] < id {
             lo = mid + 1;
@@ -21,5 +22,11 @@ pub fn find_texture(s: &[u64], n: usize, id: u64) -> usize
             hi = mid;
         }
     }
-    lo
+    // Among so few, a count without branches is quicker than more halves.
+    let mut place = lo;
+    while lo < hi {
+        place += (s[20 * lo] < id) as usize;
+        lo += 1;
+    }
+    place
 }

@@ -1,15 +1,16 @@
 -- How large a level and a version are at most.
-use Prim.Native.Nat.{ℕ, zero, suc, _*_, _^_, _≤_}
-use mathlib.Core.Path.{_≡_, refl}
+use Prim.Native.Nat.{ℕ, zero, suc, _+_, _*_, _^_, _≤_}
+use mathlib.Core.Path.{_≡_, refl, sym, ap, _∙_}
 use mathlib.Core.Bool.{true}
+use mathlib.Core.List.{List, [], _∷_}
 use native.Mathlib.Omega.{arith}
-use native.Mathlib.Nat.{mul-le-mul, pow-le-pow-right}
+use native.Mathlib.Nat.{mul-le-mul, pow-le-pow-right, mul-assoc, zero-mul, add-mul}
 use lib.Dec.{eqb}
 use borrow.Author.Tests.{eqb-true}
 use Rattle.blocks.specs.Lists.{ceilDiv, listed, total}
 use Rattle.shapes.specs.declared.shape.VersionShape.{VersionShape}
-use Rattle.shapes.specs.Formats.{blockEdge}
-use Rattle.shapes.specs.Shapes.{isShape, slicesOf, levelWidth, levelHeight, levelDepth, levelBytes, bytesOf}
+use Rattle.shapes.specs.Formats.{blockEdge, blockBytes}
+use Rattle.shapes.specs.Shapes.{isShape, slicesOf, levelWidth, levelHeight, levelDepth, levelBlocks, levelBytes, bytesOf}
 use Rattle.blocks.proofs.Lists.{either}
 use Rattle.blocks.proofs.Numbers.{ceil-bound}
 use Rattle.shapes.proofs.Formats.{block-edge-pos, block-bytes-bound}
@@ -20,13 +21,6 @@ sum-bound : (f : ℕ → ℕ) (c a n : ℕ) → ((k : ℕ) → a ≤ k → f k �
 unfolding total listed
 sum-bound f c a zero h = omega arith
 sum-bound f c a (suc n) h = omega (arith, h a (omega arith), sum-bound f c (suc a) n (λ k g. h k (omega arith)))
-
--- blocks across and down a level
-abbrev pub across : VersionShape → ℕ → ℕ
-across s level = ceilDiv (levelWidth s level) (blockEdge (s .format))
-
-abbrev pub down : VersionShape → ℕ → ℕ
-down s level = ceilDiv (levelHeight s level) (blockEdge (s .format))
 
 -- the bytes of a level of at most w by h by d texels, in any format
 pub level-below : (s : VersionShape) (level w h d : ℕ) → levelWidth s level ≤ w → levelHeight s level ≤ h → levelDepth s level ≤ d →
@@ -51,15 +45,17 @@ module _ (s : VersionShape) (z : ShapeBounds s) where
   pub level-bound : (level : ℕ) → levelBytes s level ≤ 8796093022208
   level-bound level = shrunk 1 16384 2048 level refl refl (omega arith) (omega arith) (omega arith) (pow-pos level)
 
-  -- the products on the way to a level's bytes, as the code makes them
-  pub area-bound : (level : ℕ) → across s level * down s level ≤ 268435456
-  area-bound level =
+  -- the blocks of one level, and of all of them
+  pub blocks-bound : (level : ℕ) → levelBlocks s level ≤ 549755813888
+  unfolding levelBlocks
+  blocks-bound level =
       let e = block-edge-pos (s .format) in
-      mul-le-mul (ceil-bound (levelWidth s level) (blockEdge (s .format)) 16384 e (width-bound s z level))
-      (ceil-bound (levelHeight s level) (blockEdge (s .format)) 16384 e (height-bound s z level))
+      mul-le-mul
+      (mul-le-mul (ceil-bound (levelWidth s level) (blockEdge (s .format)) 16384 e (width-bound s z level)) (ceil-bound (levelHeight s level) (blockEdge (s .format)) 16384 e (height-bound s z level)))
+      (depth-bound s z level)
 
-  pub volume-bound : (level : ℕ) → across s level * down s level * levelDepth s level ≤ 549755813888
-  volume-bound level = mul-le-mul (area-bound level) (depth-bound s z level)
+  pub sum-of-blocks : total (levelBlocks s) (listed (λ (k : ℕ). k) 0 (s .levels)) ≤ 8246337208320
+  sum-of-blocks = omega (arith, sum-bound (levelBlocks s) 549755813888 0 (s .levels) (λ k g. blocks-bound k), z .levels-bound)
 
   -- fifteen levels of that size would be too many: the second is an eighth, and every later one at most a 64th
   second-bound : levelBytes s 1 ≤ 1099511627776
@@ -74,10 +70,6 @@ module _ (s : VersionShape) (z : ShapeBounds s) where
   levels-of zero h = omega arith
   levels-of (suc zero) h = omega (arith, level-bound 0)
   levels-of (suc (suc n)) h = omega (arith, level-bound 0, second-bound, sum-bound (levelBytes s) 137438953472 2 n later-bound)
-
-  -- the sum over the levels, as the code makes it
-  pub sum-of-levels : total (levelBytes s) (listed (λ (k : ℕ). k) 0 (s .levels)) ≤ 17592186044416
-  sum-of-levels = levels-of (s .levels) (z .levels-bound)
 
   -- a cube has no depth, so its six slices are no more than a volume
   cube-level : s .kind ≡ 1 → (level : ℕ) → levelBytes s level ≤ 4294967296
@@ -100,3 +92,19 @@ module _ (s : VersionShape) (z : ShapeBounds s) where
 
 pub bytes-bound : (s : VersionShape) → isShape s ≡ true → bytesOf s ≤ 17592186044416
 bytes-bound s e = bounds-bytes s (shape-bounds s e)
+
+-- each level has its blocks times the bytes of one
+levels-by-blocks : (s : VersionShape) (levels : List ℕ) → total (levelBytes s) levels ≡ total (levelBlocks s) levels * blockBytes (s .format)
+unfolding total levelBytes levelBlocks
+levels-by-blocks s [] = sym (zero-mul (blockBytes (s .format)))
+levels-by-blocks s (level ∷ levels) =
+    ap (λ (n : ℕ). levelBytes s level + n) (levels-by-blocks s levels)
+    ∙ sym (add-mul (levelBlocks s level) (total (levelBlocks s) levels) (blockBytes (s .format)))
+
+-- the bytes of a block and the slices, multiplied once
+pub bytes-by-blocks : (s : VersionShape) → total (levelBlocks s) (listed (λ (k : ℕ). k) 0 (s .levels)) * (blockBytes (s .format) * slicesOf s) ≡ bytesOf s
+unfolding bytesOf
+bytes-by-blocks s =
+    let sum = total (levelBlocks s) (listed (λ (k : ℕ). k) 0 (s .levels)) in
+    sym (mul-assoc sum (blockBytes (s .format)) (slicesOf s))
+    ∙ sym (ap (λ (n : ℕ). n * slicesOf s) (levels-by-blocks s (listed (λ (k : ℕ). k) 0 (s .levels))))

@@ -1,10 +1,11 @@
 -- Laws of shapes: what a shape that passes refusal 2 is bounded by, when two shapes are the same, and the extents of levels.
-use Prim.Native.Nat.{ℕ, _*_, _/_, _^_, _≤_, _<_, max}
-use mathlib.Core.Path.{_≡_, refl, ap}
-use mathlib.Core.Bool.{true, false}
+use Prim.Native.Nat.{ℕ, _+_, _*_, _/_, _^_, _≤_, _<_, max}
+use mathlib.Core.Path.{_≡_, refl, sym, ap, _∙_}
+use mathlib.Core.Bool.{Bool, true, false, cond}
 use native.Mathlib.Omega.{arith}
-use native.Mathlib.Nat.{le-max-left, max-le, mul-le-mul, mul-le-mul-right, le-trans, pow-le-pow-right, div-le-of-le-mul, div-eq-of-lt}
+use native.Mathlib.Nat.{le-max-left, max-le, mul-le-mul, mul-le-mul-right, le-trans, pow-le-pow-right, div-le-of-le-mul, div-eq-of-lt, div-div-eq-div-mul}
 use lib.Dec.{eqb}
+use lib.Pow.{pow-add}
 use borrow.Author.Tests.{leb-true, eqb-true, le-leb, eq-eqb, ne-eqb}
 use Rattle.blocks.specs.Lists.{after, tests}
 use Rattle.shapes.specs.declared.shape.VersionShape.{VersionShape}
@@ -98,6 +99,14 @@ pow-pos k = pow-le-pow-right {n = 2} (omega arith) {i = 0} {j = k} (omega arith)
 pub extent-bound : (base n level : ℕ) → base ≤ n → 1 ≤ n → levelExtent base level ≤ n
 extent-bound base n level h pos = extent-below base 1 n level pos (omega arith) (omega arith) (pow-pos level)
 
+-- a level's extent is the last level's, halved
+pub extent-halved : (base level : ℕ) → max 1 (levelExtent base level / 2) ≡ levelExtent base (level + 1)
+unfolding levelExtent
+extent-halved base level =
+    let halved : max 1 base / 2 ^ (level + 1) ≡ max 1 base / 2 ^ level / 2 =
+    ap (λ (d : ℕ). max 1 base / d) (pow-add 2 level 1) ∙ sym (div-div-eq-div-mul (max 1 base) (2 ^ level) 2) in
+    omega (arith, halved)
+
 -- a level past the bits of its base has one texel
 pub extent-past : (base k level : ℕ) → 1 ≤ k → base < 2 ^ k → k ≤ level → levelExtent base level ≡ 1
 unfolding levelExtent
@@ -123,6 +132,14 @@ pub depth-below : (s : VersionShape) (d m level : ℕ) → 1 ≤ m → 1 ≤ d �
 unfolding levelDepth
 depth-below s d m level mpos dpos h k =
     either (λ (n : ℕ). n ≤ m) (eqb (s .kind) 2) (levelExtent (s .depth) level) 1 (λ e. extent-below (s .depth) d m level mpos dpos h k) (λ e. mpos)
+
+pub depth-halved : (s : VersionShape) (level : ℕ) → max 1 (levelDepth s level / 2) ≡ levelDepth s (level + 1)
+unfolding levelDepth
+depth-halved s level = go (eqb (s .kind) 2)
+  where
+    go : (b : Bool) → max 1 (cond b (levelExtent (s .depth) level) 1 / 2) ≡ cond b (levelExtent (s .depth) (level + 1)) 1
+    go true = extent-halved (s .depth) level
+    go false = refl
 
 pub slices-cube : (s : VersionShape) → s .kind ≡ 1 → slicesOf s ≡ 6
 unfolding slicesOf

@@ -38,7 +38,11 @@ levelHeight s level = levelExtent (s .height) level
 unfoldable pub levelDepth : VersionShape → ℕ → ℕ
 levelDepth s level = cond (eqb (s .kind) 2) (levelExtent (s .depth) level) 1
 
--- whole blocks across times down times depth times block bytes
+-- whole blocks across times down times depth
+unfoldable pub levelBlocks : VersionShape → ℕ → ℕ
+levelBlocks s level = ceilDiv (levelWidth s level) (blockEdge (s .format)) * ceilDiv (levelHeight s level) (blockEdge (s .format)) * levelDepth s level
+
+-- and times block bytes
 unfoldable pub levelBytes : VersionShape → ℕ → ℕ
 levelBytes s level =
     ceilDiv (levelWidth s level) (blockEdge (s .format)) * ceilDiv (levelHeight s level) (blockEdge (s .format)) * levelDepth s level * blockBytes (s .format)

@@ -1,10 +1,11 @@
 // The creation shape that a pooled version shares with the texture it serves.
 ghost use mathlib.Core.Path.{_≡_};
 ghost use mathlib.Core.Bool.{true};
-ghost use Prim.Native.Nat.{_≤_, _<_, max};
-ghost use Rattle.blocks.specs.Lists.{ceilDiv};
+ghost use Prim.Native.Nat.{ℕ, _*_, _≤_, _<_, max};
+ghost use Rattle.blocks.specs.Lists.{ceilDiv, listed, total};
+ghost use Rattle.shapes.specs.Formats.{blockEdge};
 ghost use Rattle.shapes.specs.Outcomes.{ofBytes};
-ghost use Rattle.shapes.specs.Shapes.{isShape, sameShape, slicesOf, levelExtent, levelDepth, levelBytes, bytesOf, bytesOutcome};
+ghost use Rattle.shapes.specs.Shapes.{isShape, sameShape, slicesOf, levelExtent, levelDepth, levelBlocks, bytesOf, bytesOutcome};
 use crate::format::block_bytes;
 use crate::format::block_edge;
 
@@ -97,37 +98,59 @@ pub fn level_depth(s: VersionShape, level: u64) -> u64
     }
 }
 
-// Blocks along an axis.
+// Blocks along an axis; the edges that formats have first, which need no division.
 fn blocks(extent: u64, edge: u64) -> u64
     requires { ⌜ (extent ≤ 16384) × (0 < edge) × (edge ≤ 16) ⌝ }
     ensures { λ r. ⌜ r ≡ ceilDiv extent edge ⌝ }
 {
+    if edge == 1 {
+        return extent;
+    }
+    if edge == 4 {
+        return (extent + 3) / 4;
+    }
     (extent + (edge - 1)) / edge
 }
 
-// Bytes of one level, in one slice.
-fn level_bytes(s: VersionShape, level: u64) -> u64
-    requires { ⌜ isShape s ≡ true ⌝ }
-    ensures { λ r. ⌜ r ≡ levelBytes s level ⌝ }
+// Blocks of a level of those extents, in one slice.
+fn level_blocks(across: u64, down: u64, deep: u64, edge: u64) -> u64
+    requires { ⌜ (across ≤ 16384) × (down ≤ 16384) × (deep ≤ 2048) × (0 < edge) × (edge ≤ 16) ⌝ }
+    ensures { λ r. ⌜ r ≡ ceilDiv across edge * ceilDiv down edge * deep ⌝ }
 {
-    let edge = block_edge(s.format);
-    let across = blocks(level_extent(s.width, level), edge);
-    let down = blocks(level_extent(s.height, level), edge);
-    across * down * level_depth(s, level) * block_bytes(s.format)
+    blocks(across, edge) * blocks(down, edge) * deep
 }
 
-// Storage of one version, every slice and level counted, of a shape that passes refusal 2.
+// Blocks of every level, in one slice. A level's extents are the last one's halved.
+fn shape_blocks(s: VersionShape, edge: u64) -> u64
+    requires { ⌜ (isShape s ≡ true) × (edge ≡ blockEdge (s .format)) ⌝ }
+    ensures { λ r. ⌜ r ≡ total (levelBlocks s) (listed (λ (level : ℕ). level) 0 (s .levels)) ⌝ }
+{
+    let mut across = level_extent(s.width, 0);
+    let mut down = level_extent(s.height, 0);
+    let mut deep = level_depth(s, 0);
+    let mut sum = level_blocks(across, down, deep, edge);
+    let mut last = 0;
+    while last + 1 < s.levels {
+        across = at_least_one(across / 2);
+        down = at_least_one(down / 2);
+        deep = at_least_one(deep / 2);
+        sum += level_blocks(across, down, deep, edge);
+        last += 1;
+    }
+    sum
+}
+
+// Storage of one version, every slice and level counted, of a shape that passes refusal 2. The edge's loop is chosen before it runs.
 pub fn shape_bytes(s: VersionShape) -> u64
     requires { ⌜ isShape s ≡ true ⌝ }
     ensures { λ r. ⌜ r ≡ bytesOf s ⌝ }
 {
-    let mut sum = 0;
-    let mut level = 0;
-    while level < s.levels {
-        sum += level_bytes(s, level);
-        level += 1;
+    let bytes = block_bytes(s.format) * slices(s);
+    let edge = block_edge(s.format);
+    if edge == 1 {
+        return shape_blocks(s, 1) * bytes;
     }
-    sum * slices(s)
+    shape_blocks(s, edge) * bytes
 }
 
 // Storage of one version, of any shape.

@@ -1,6 +1,6 @@
 // One axis of a level, cut into tiles.
 ghost use mathlib.Core.Path.{_≡_};
-ghost use Prim.Native.Nat.{_≤_, _<_};
+ghost use Prim.Native.Nat.{_/_, _≤_, _<_};
 ghost use Rattle.tiles.specs.Axes.{tileEdge, axisOf, AxisOk, tilesOf, touchedTiles, SpanIn, spanStart, spanSize};
 
 // Texels along the axis, and texels along a tile's side.
@@ -40,12 +40,23 @@ pub fn axis_of(extent: u64, block: u64) -> Axis
     }
 }
 
+// The tile that a texel lies in. An axis of up to 512 texels has tiles of 16, which need no division.
+fn tile_of(texel: u64, edge: u64) -> u64
+    requires { ⌜ 0 < edge ⌝ }
+    ensures { λ r. ⌜ r ≡ texel / edge ⌝ }
+{
+    if edge == 16 {
+        return texel / 16;
+    }
+    texel / edge
+}
+
 // Tiles along the axis.
 pub fn tiles(a: Axis) -> u64
     requires { ⌜ AxisOk a ⌝ }
     ensures { λ r. ⌜ r ≡ tilesOf a ⌝ }
 {
-    (a.extent + (a.edge - 1)) / a.edge
+    tile_of(a.extent + (a.edge - 1), a.edge)
 }
 
 // The tiles that `size` texels from `start` on touch, cut to the level.
@@ -66,8 +77,8 @@ pub fn touched_tiles(a: Axis, start: u64, size: u64) -> Touched
         a.extent - 1
     };
     Touched::Tiles(Span {
-        first: start / a.edge,
-        last: last / a.edge,
+        first: tile_of(start, a.edge),
+        last: tile_of(last, a.edge),
     })
 }
 

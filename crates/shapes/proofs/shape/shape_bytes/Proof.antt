@@ -1,90 +1,73 @@
--- `shapes::shape::shape_bytes` meets its contract. The sum so far and the levels that are left make the whole, which a shape keeps at 2^44 or less.
+-- `shapes::shape::shape_bytes` meets its contract. The blocks of every level times the bytes of a block and the slices, which a shape keeps at 2^44 or less.
 use borrow.Author.Needs.{needs}
-use Prim.Native.Nat.{ℕ, _+_, _-_, _*_, _≤_}
-use mathlib.Core.Path.{_≡_, ap}
+use Prim.Native.Nat.{_*_}
+use mathlib.Core.Path.{_≡_, sym, _∙_}
 use native.Mathlib.Omega.{arith}
-use Rattle.shapes.specs.declared.shape.VersionShape.{VersionShape}
-use Rattle.shapes.specs.Shapes.{levelBytes, bytesOf}
-use Rattle.blocks.specs.Lists.{total, listed}
-use Rattle.blocks.proofs.Listed.{left, left-all, total-more, total-done}
-use Rattle.shapes.proofs.Shapes.{shape-bounds}
-use Rattle.shapes.proofs.ShapeBytes.{sum-of-levels, bytes-bound}
+use native.Mathlib.Nat.{mul-le-mul}
+use Rattle.shapes.specs.Shapes.{bytesOf}
+use Rattle.shapes.proofs.Formats.{block-bytes-bound}
+use Rattle.shapes.proofs.Shapes.{slices-bound}
+use Rattle.shapes.proofs.ShapeBytes.{bytes-bound, bytes-by-blocks}
 use Rattle.shapes.proofs.shape.shape_bytes.Statement.{statement}
 use Rattle.shapes.proofs.shape.shape_bytes.Tie as tie
 
--- the bytes of the levels that are left
-abbrev still : VersionShape → ℕ → ℕ
-still s level = total (levelBytes s) (left (λ (k : ℕ). k) (s .levels) level)
+-- the product of either edge is the definition's
+plain : (c : tie.After-shape-blocks) →
+    c .shape-blocks .result * (c .before .before .before .before .block-bytes .result * c .before .before .before .slices .result) ≡ bytesOf (c .before .before .before .before .before .args .s)
+plain c =
+    (λ i. c .shape-blocks .ensures i * (c .before .before .before .before .block-bytes .ensures i * c .before .before .before .slices .ensures i))
+    ∙ bytes-by-blocks (c .before .before .before .before .before .args .s)
 
--- and of all of them
-abbrev all-levels : VersionShape → ℕ
-all-levels s = total (levelBytes s) (listed (λ (k : ℕ). k) 0 (s .levels))
+other : (c : tie.After-shape-blocks2) →
+    c .shape-blocks2 .result * (c .before .before .before .before .block-bytes .result * c .before .before .before .slices .result) ≡ bytesOf (c .before .before .before .before .before .args .s)
+other c =
+    (λ i. c .shape-blocks2 .ensures i * (c .before .before .before .before .block-bytes .ensures i * c .before .before .before .slices .ensures i))
+    ∙ bytes-by-blocks (c .before .before .before .before .before .args .s)
 
-abbrev Inv-loop : tie.InvT-loop
-Inv-loop s sum₀ level₀ sum level = (level ≤ s .levels) × (sum + still s level ≡ all-levels s)
+block-bytes-requires : tie.Need-block-bytes-requires
+block-bytes-requires c κs = search needs
 
-abbrev μ-loop : tie.MeasureT-loop
-μ-loop s sum₀ level₀ sum level = s .levels - level
-
--- after the last level the sum is the definition's
-whole : (c : tie.After-slices Inv-loop μ-loop) →
-    c .before .before .before .loop .sum * c .slices .result ≡ bytesOf (c .before .before .before .before .args .s)
-unfolding bytesOf
-whole c =
-    let s = c .before .before .before .before .args .s in
-    let l = c .before .before .before .loop in
-    let sum : l .sum ≡ all-levels s = omega (arith, total-done (λ (k : ℕ). k) (s .levels) (levelBytes s) (l .level) (c .before .if1 .left), l .inv .1) in
-    λ i. sum i * c .slices .ensures i
-
-loop-holds : tie.Need-loop-holds Inv-loop μ-loop
-loop-holds c =
-    let s = c .args .s in
-    (omega arith, omega (arith, ap (total (levelBytes s)) (left-all (λ (k : ℕ). k) (s .levels))))
-
-level-bytes-requires : tie.Need-level-bytes-requires Inv-loop μ-loop
-level-bytes-requires c κs = search needs
-
-add-sum : tie.Need-add-sum Inv-loop μ-loop
-add-sum c =
-    let s = c .before .before .before .before .args .s in
-    let l = c .before .before .before .loop in
-    omega (arith, total-more (λ (k : ℕ). k) (s .levels) (levelBytes s) (l .level) (c .before .if1 .taken), sum-of-levels s (shape-bounds s (c .before .before .before .before .pre)))
-
-add-level : tie.Need-add-level Inv-loop μ-loop
-add-level c =
-    let z = shape-bounds (c .before .before .before .before .args .s) (c .before .before .before .before .pre) in
-    omega (arith, c .before .if1 .taken, z .levels-bound)
-
-loop-less : tie.Need-loop-less Inv-loop μ-loop
-loop-less c = omega arith
-
-loop-again : tie.Need-loop-again Inv-loop μ-loop
-loop-again c =
-    let s = c .before .before .before .before .args .s in
-    let l = c .before .before .before .loop in
-    (omega arith, omega (arith, total-more (λ (k : ℕ). k) (s .levels) (levelBytes s) (l .level) (c .before .if1 .taken)))
-
-slices-requires : tie.Need-slices-requires Inv-loop μ-loop
+slices-requires : tie.Need-slices-requires
 slices-requires c κs = search needs
 
-mul-result : tie.Need-mul-result Inv-loop μ-loop
-mul-result c = omega (arith, whole c, bytes-bound (c .before .before .before .before .args .s) (c .before .before .before .before .pre))
+mul-bytes : tie.Need-mul-bytes
+mul-bytes c =
+    let s = c .before .before .args .s in
+    let both : c .before .block-bytes .result * c .slices .result ≡ _ = λ i. c .before .block-bytes .ensures i * c .slices .ensures i in
+    omega (arith, both, mul-le-mul (block-bytes-bound (s .format)) (slices-bound s))
 
-returns : tie.Need-returns Inv-loop μ-loop
-returns c = whole c
+block-edge-requires : tie.Need-block-edge-requires
+block-edge-requires c κs = search needs
+
+shape-blocks-requires : tie.Need-shape-blocks-requires
+shape-blocks-requires c κs = (c .before .before .before .before .pre, sym (c .if1 .taken) ∙ c .before .block-edge .ensures)
+
+mul-result : tie.Need-mul-result
+mul-result c = omega (arith, plain c, bytes-bound (c .before .before .before .before .before .args .s) (c .before .before .before .before .before .pre))
+
+returns : tie.Need-returns
+returns c = plain c
+
+shape-blocks-requires-2 : tie.Need-shape-blocks-requires-2
+shape-blocks-requires-2 c κs = (c .before .before .before .before .pre, c .before .block-edge .ensures)
+
+mul-result-2 : tie.Need-mul-result-2
+mul-result-2 c = omega (arith, other c, bytes-bound (c .before .before .before .before .before .args .s) (c .before .before .before .before .before .pre))
+
+returns-2 : tie.Need-returns-2
+returns-2 c = other c
 
 pub shape-bytes-spec : {M : Type 1} → statement M
 shape-bytes-spec =
     tie.close
     (tie.spec
-    Inv-loop
-    μ-loop
-    loop-holds
-    level-bytes-requires
-    add-sum
-    add-level
-    loop-less
-    loop-again
+    block-bytes-requires
     slices-requires
+    mul-bytes
+    block-edge-requires
+    shape-blocks-requires
     mul-result
-    returns)
+    returns
+    shape-blocks-requires-2
+    mul-result-2
+    returns-2)

@@ -1,23 +1,22 @@
 -- Tiles along an axis. Assumes nothing.
-use mathlib.Core.Path.{refl}
 use borrow.Author.Needs.{needs}
 use Rattle.blocks.specs.Lists.{ceilDiv}
 use Rattle.tiles.specs.Axes.{tilesOf}
 use Rattle.tiles.proofs.axis.tiles.Statement.{statement}
 use Rattle.tiles.proofs.axis.tiles.Tie as tie
 
-sub-result : tie.Need-sub-result
-sub-result c = search needs
+sub-tile-of : tie.Need-sub-tile-of
+sub-tile-of c = search needs
 
-add-result : tie.Need-add-result
-add-result c = search needs
+add-tile-of : tie.Need-add-tile-of
+add-tile-of c = search needs
 
-div-result : tie.Need-div-result
-div-result c = search needs
+tile-of-requires : tie.Need-tile-of-requires
+tile-of-requires c κs = search needs
 
 returns : tie.Need-returns
 unfolding tilesOf ceilDiv
-returns c = refl
+returns c = c .tile-of .ensures
 
 pub tiles-spec : {M : Type 1} → statement M
-tiles-spec = tie.close (tie.spec sub-result add-result div-result returns)
+tiles-spec = tie.close (tie.spec sub-tile-of add-tile-of tile-of-requires returns)

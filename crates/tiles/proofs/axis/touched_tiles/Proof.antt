@@ -33,11 +33,11 @@ sub-last c = search needs
 sub-last-2 : tie.Need-sub-last-2
 sub-last-2 c = search needs
 
-div-t9 : tie.Need-div-t9
-div-t9 c = search needs
+tile-of-requires : tie.Need-tile-of-requires
+tile-of-requires c κs = search needs
 
-div-t10 : tie.Need-div-t10
-div-t10 c = search needs
+tile-of-requires-2 : tie.Need-tile-of-requires-2
+tile-of-requires-2 c κs = search needs
 
 -- the last texel of the cut
 last-is : (c : tie.Joined3) → c .if3 .last + 1 ≡ min (c .before .before .before .before .before .args .start + c .before .before .before .before .before .args .size) (c .before .before .before .before .before .args .a .extent)
@@ -46,13 +46,13 @@ last-is c = ⊎-elim (λ w. omega arith) (λ w. omega arith) (c .if3 .came)
 returns-3 : tie.Need-returns-3
 unfolding touchedTiles isCut cutEnd
 returns-3 c =
-    let j = c .before .before .before in
+    let j = c .before .before in
     let a = j .before .before .before .before .before .args in
     let e = last-is j in
     let f : min (a .start + a .size) (a .a .extent) - 1 ≡ j .if3 .last = omega (arith, e) in
-    rw (lt-ltb (a .start) (min (a .start + a .size) (a .a .extent)) (omega arith), f)
+    rw (lt-ltb (a .start) (min (a .start + a .size) (a .a .extent)) (omega arith), f, c .before .tile-of .ensures, c .tile-of2 .ensures)
 
 pub touched-tiles-spec : {M : Type 1} → statement M
 touched-tiles-spec =
     tie.close
-    (tie.spec returns returns-2 sub-room add-last sub-last sub-last-2 div-t9 div-t10 returns-3)
+    (tie.spec returns returns-2 sub-room add-last sub-last sub-last-2 tile-of-requires tile-of-requires-2 returns-3)
