@@ -5,13 +5,12 @@ ghost use Prim.Native.Nat.{_≤_};
 ghost use lib.ListN.{length};
 ghost use Rattle.layout.specs.Lent.{lent};
 ghost use Rattle.layout.specs.IsPool.{isPool};
+use bench_work::open_work;
+use bench_work::settle_round;
+use bench_work::test_lines;
 use crate::report::report;
-use crate::report::report_test;
 use crate::rounds::drain_round;
 use crate::rounds::rename_round;
-use crate::rounds::settle_round;
-use crate::testing::read_all;
-use crate::testing::test_all;
 use crate::totals::Totals;
 use crate::totals::counted;
 use crate::totals::drained_in;
@@ -20,8 +19,6 @@ use crate::totals::renamed_in;
 use crate::totals::settled_in;
 use layout::PacingBook;
 use layout::Pool;
-use pool::open;
-use pool_test::is_pool;
 
 struct Round {
     pool: Pool,
@@ -103,9 +100,8 @@ fn run_round(
     }
 }
 
-fn run_rounds(
-    pool: Pool,
-    book: PacingBook,
+// The rounds on a pool just opened, if the memory is enough for one.
+fn run(
     textures: &mut [u64],
     retiring: &mut [u64],
     doomed: &mut [u64],
@@ -116,12 +112,14 @@ fn run_rounds(
     held: &mut [u64],
     n: usize,
     rounds: u64,
-)
-    requires { ⌜ isPool (lent pool book (now textures) (now retiring) (now doomed) (now spares) (now newest) (now stamps)) ≡ true ⌝ }
-{
+) {
+    let opened = open_work(textures, retiring, doomed, spares, newest, stamps);
+    if opened.outcome != 0 {
+        return;
+    }
     let mut totals = no_totals();
-    let mut counts = pool;
-    let mut paces = book;
+    let mut counts = opened.pool;
+    let mut paces = opened.book;
     let mut seq = 0;
     while seq < rounds {
         seq += 1;
@@ -145,7 +143,7 @@ fn run_rounds(
         paces = done.book;
     }
     report(totals, counts, n, rounds);
-    let tested = test_all(
+    test_lines(
         counts,
         paces,
         textures,
@@ -155,59 +153,6 @@ fn run_rounds(
         newest,
         stamps,
         64,
-    );
-    let read = read_all(textures, spares, newest, stamps, 64);
-    report_test(tested, read);
-}
-
-fn run(
-    textures: &mut [u64],
-    retiring: &mut [u64],
-    doomed: &mut [u64],
-    spares: &mut [u64],
-    newest: &mut [u64],
-    stamps: &mut [u64],
-    copies: &mut [u64],
-    held: &mut [u64],
-    n: usize,
-    rounds: u64,
-) {
-    let opened = open(
-        17179869184,
-        textures,
-        retiring,
-        doomed,
-        spares,
-        newest,
-        stamps,
-    );
-    let pool = opened.pool;
-    let book = opened.book;
-    if !is_pool(
-        pool,
-        book,
-        textures,
-        retiring,
-        doomed,
-        spares,
-        newest,
-        stamps,
-    ) {
-        return;
-    }
-    run_rounds(
-        pool,
-        book,
-        textures,
-        retiring,
-        doomed,
-        spares,
-        newest,
-        stamps,
-        copies,
-        held,
-        n,
-        rounds,
     );
 }
 
