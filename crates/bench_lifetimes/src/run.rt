@@ -45,7 +45,8 @@ fn run(
             levels,
             seq,
         );
-        totals = added(counted(totals, seq), done.took);
+        let took = done.took;
+        totals = added(counted(totals, seq), took);
         counts = done.pool;
         paces = done.book;
     }
