@@ -1,7 +1,7 @@
 // What is printed.
+use crate::totals::Totals;
 use bench_work::idle_time;
 use bench_work::line;
-use crate::totals::Totals;
 use layout::Pool;
 
 // Microseconds of every kind; then numbers that the Rust must have too.

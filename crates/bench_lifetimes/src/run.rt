@@ -1,12 +1,12 @@
 // The rounds on a pool just opened.
 ghost use Prim.Native.Nat.{_≤_};
 ghost use lib.ListN.{length};
-use bench_work::open_work;
 use crate::report::report;
 use crate::rounds::run_round;
 use crate::totals::added;
 use crate::totals::counted;
 use crate::totals::no_totals;
+use bench_work::open_work;
 
 // Nothing is done where the memory is not enough for a pool.
 fn run(
