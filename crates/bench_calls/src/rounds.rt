@@ -33,7 +33,6 @@ pub fn rename_round(
     spares: &mut [u64],
     newest: &mut [u64],
     stamps: &mut [u64],
-    copies: &mut [u64],
     held: &mut [u64],
     n: usize,
     seq: u64,
@@ -67,7 +66,6 @@ pub fn rename_round(
         spares,
         newest,
         stamps,
-        copies,
         held,
         n,
     );
@@ -127,7 +125,6 @@ pub fn drain_round(
     spares: &mut [u64],
     newest: &mut [u64],
     stamps: &mut [u64],
-    views: &mut [u64],
     n: usize,
     seq: u64,
 ) -> Drained
@@ -158,7 +155,6 @@ pub fn drain_round(
         spares,
         newest,
         stamps,
-        views,
         n,
     );
     let doomed_time = elapsed(t1);

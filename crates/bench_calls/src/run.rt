@@ -26,8 +26,7 @@ struct Round {
     totals: Totals,
 }
 
-// Every second round has its pops timed one by one. Of the last kinds it makes 8 calls; nothing is to be destroyed, so any slice is buffer
-// enough for the views.
+// Every second round has its pops timed one by one. Of the last kinds it makes 8 calls.
 fn run_round(
     pool: Pool,
     book: PacingBook,
@@ -37,7 +36,6 @@ fn run_round(
     spares: &mut [u64],
     newest: &mut [u64],
     stamps: &mut [u64],
-    copies: &mut [u64],
     held: &mut [u64],
     n: usize,
     seq: u64,
@@ -55,7 +53,6 @@ fn run_round(
         spares,
         newest,
         stamps,
-        copies,
         held,
         n,
         seq,
@@ -83,7 +80,6 @@ fn run_round(
         spares,
         newest,
         stamps,
-        held,
         8,
         seq,
     );
@@ -108,7 +104,6 @@ fn run(
     spares: &mut [u64],
     newest: &mut [u64],
     stamps: &mut [u64],
-    copies: &mut [u64],
     held: &mut [u64],
     n: usize,
     rounds: u64,
@@ -132,7 +127,6 @@ fn run(
             spares,
             newest,
             stamps,
-            copies,
             held,
             n,
             seq,
@@ -173,7 +167,6 @@ pub fn run_part(
     requires { ⌜ (t ≤ 4096) × (v ≤ 4096) × (p ≤ 4096) × (77824 ≤ length (now textures)) × (28672 ≤ length (now retiring)) × (8192 ≤ length (now doomed))
         × (12288 ≤ length (now spares)) × (4096 ≤ length (now newest)) × (4194304 ≤ length (now stamps)) ⌝ }
 {
-    let mut copies = [0; 7];
     let a = 19 * t;
     let b = 7 * v;
     let c = 2 * v;
@@ -186,7 +179,6 @@ pub fn run_part(
         &mut spares[..d],
         &mut newest[..p],
         &mut stamps[..e],
-        &mut copies,
         held,
         t,
         rounds,

@@ -164,6 +164,7 @@ pub fn note_all(
     }
 }
 
+// Nothing is to be destroyed, so any buffer is enough for the views.
 pub fn doomed_all(
     pool: Pool,
     book: PacingBook,
@@ -173,12 +174,12 @@ pub fn doomed_all(
     spares: &[u64],
     newest: &[u64],
     stamps: &[u64],
-    views: &mut [u64],
     n: usize,
 ) -> Noted
     requires { ⌜ isPool (lent pool book (now textures) (now retiring) (now doomed) (now spares) (now newest) (now stamps)) ≡ true ⌝ }
     ensures { λ r. ⌜ isPool (lent (r .pool) (r .book) (now (textures .entry)) (now (retiring .entry)) (now (doomed .entry)) (now (spares .entry)) (now (newest .entry)) (now (stamps .entry))) ≡ true ⌝ }
 {
+    let mut views = [0; 1];
     let mut counts = pool;
     let mut paces = book;
     let mut i = 0;
@@ -192,7 +193,7 @@ pub fn doomed_all(
             spares,
             newest,
             stamps,
-            views,
+            &mut views,
         );
         counts = said.pool;
         paces = said.book;

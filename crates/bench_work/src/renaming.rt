@@ -63,7 +63,7 @@ pub fn take_all(
     counts
 }
 
-// The answer counts the copies.
+// The answer counts the copies: one a plan at most, for a texture has one level.
 pub fn plan_all(
     pool: Pool,
     book: PacingBook,
@@ -73,13 +73,13 @@ pub fn plan_all(
     spares: &[u64],
     newest: &[u64],
     stamps: &[u64],
-    copies: &mut [u64],
     held: &[u64],
     n: usize,
 ) -> u64
     requires { ⌜ isPool (lent pool book (now textures) (now retiring) (now doomed) (now spares) (now newest) (now stamps)) ≡ true ⌝ }
 {
     let shape = bench_shape(n, 1);
+    let mut copies = [0; 7];
     let mut sum = 0;
     let mut i = 0;
     while i < n {
@@ -94,7 +94,7 @@ pub fn plan_all(
             spares,
             newest,
             stamps,
-            copies,
+            &mut copies,
             id,
             shape,
             before,
