@@ -11,11 +11,11 @@ use Rattle.bench_calls.proofs.run.run.Statement.{statement}
 use Rattle.bench_calls.proofs.run.run.Tie as tie
 
 abbrev Inv-loop : tie.InvT-loop
-Inv-loop textures₀ retiring₀ doomed₀ spares₀ newest₀ stamps₀ copies₀ held₀ n rounds totals₀ counts₀ paces₀ seq₀ textures retiring doomed spares newest stamps copies held totals counts paces seq =
-    (isPool (lent counts paces textures retiring doomed spares newest stamps) ≡ true) × (length textures ≡ length textures₀) × (length retiring ≡ length retiring₀) × (length doomed ≡ length doomed₀) × (length spares ≡ length spares₀) × (length newest ≡ length newest₀) × (length stamps ≡ length stamps₀) × (length copies ≡ length copies₀) × (length held ≡ length held₀)
+Inv-loop textures₀ retiring₀ doomed₀ spares₀ newest₀ stamps₀ held₀ n rounds totals₀ counts₀ paces₀ seq₀ textures retiring doomed spares newest stamps held totals counts paces seq =
+    (isPool (lent counts paces textures retiring doomed spares newest stamps) ≡ true) × (length textures ≡ length textures₀) × (length retiring ≡ length retiring₀) × (length doomed ≡ length doomed₀) × (length spares ≡ length spares₀) × (length newest ≡ length newest₀) × (length stamps ≡ length stamps₀) × (length held ≡ length held₀)
 
 abbrev μ-loop : tie.MeasureT-loop
-μ-loop textures₀ retiring₀ doomed₀ spares₀ newest₀ stamps₀ copies₀ held₀ n rounds totals₀ counts₀ paces₀ seq₀ textures retiring doomed spares newest stamps copies held totals counts paces seq =
+μ-loop textures₀ retiring₀ doomed₀ spares₀ newest₀ stamps₀ held₀ n rounds totals₀ counts₀ paces₀ seq₀ textures retiring doomed spares newest stamps held totals counts paces seq =
     rounds - seq
 
 open-work-requires : tie.Need-open-work-requires Inv-loop μ-loop
@@ -46,24 +46,24 @@ no-totals-requires : tie.Need-no-totals-requires Inv-loop μ-loop
 no-totals-requires c κs = search needs
 
 loop-holds : tie.Need-loop-holds Inv-loop μ-loop
-loop-holds c = (c .before .before .before .before .before .open-work .ensures (c .before .before .before .if1 .left), refl, refl, refl, refl, refl, refl, refl, refl)
+loop-holds c = (c .before .before .before .before .before .open-work .ensures (c .before .before .before .if1 .left), refl, refl, refl, refl, refl, refl, refl)
 
 add-seq : tie.Need-add-seq Inv-loop μ-loop
-add-seq c = omega (arith, c .loop-test .taken, c .before .before .before .before .before .before .before .before .before .before .before .before .before .before .before .before .before .before .before .before .before .before .fits .rounds)
+add-seq c = omega (arith, c .loop-test .taken, c .before .before .before .before .before .before .before .before .before .before .before .before .before .before .before .before .before .before .before .before .before .fits .rounds)
 
 counted-requires : tie.Need-counted-requires Inv-loop μ-loop
 counted-requires c κs = search needs
 
 run-round-requires : tie.Need-run-round-requires Inv-loop μ-loop
-run-round-requires c κs = c .before .before .before .before .before .before .before .before .before .before .loop .inv .0
+run-round-requires c κs = c .before .before .before .before .before .before .before .before .before .loop .inv .0
 
 loop-less : tie.Need-loop-less Inv-loop μ-loop
-loop-less c = omega (arith, c .before .before .before .before .before .before .before .before .before .before .before .before .before .before .before .before .before .before .before .before .before .before .before .before .before .before .before .before .before .loop-test .taken)
+loop-less c = omega (arith, c .before .before .before .before .before .before .before .before .before .before .before .before .before .before .before .before .before .before .before .before .before .before .before .before .before .before .loop-test .taken)
 
 loop-again : tie.Need-loop-again Inv-loop μ-loop
 loop-again c =
-    let b = c .before .before .before .before .before .before .before .before .before .before .before .before .before .before .before .before .before .before .before .before .before .before .before .before .before .before .before .before .before .before in
-    let r = c .before .before .before .before .before .before .before .before .before .before .before .before .before .before .before .before .before .before .before .run-round in (
+    let b = c .before .before .before .before .before .before .before .before .before .before .before .before .before .before .before .before .before .before .before .before .before .before .before .before .before .before .before in
+    let r = c .before .before .before .before .before .before .before .before .before .before .before .before .before .before .before .before .before .run-round in (
       r .ensures,
       r .kept .1 .1 .0 ∙ b .loop .inv .1,
       r .kept .1 .1 .1 .0 ∙ b .loop .inv .2,
@@ -72,7 +72,6 @@ loop-again c =
       r .kept .1 .1 .1 .1 .1 .1 .0 ∙ b .loop .inv .5,
       r .kept .1 .1 .1 .1 .1 .1 .1 .0 ∙ b .loop .inv .6,
       r .kept .1 .1 .1 .1 .1 .1 .1 .1 .0 ∙ b .loop .inv .7,
-      r .kept .1 .1 .1 .1 .1 .1 .1 .1 .1 .0 ∙ b .loop .inv .8,
     )
 
 report-requires : tie.Need-report-requires Inv-loop μ-loop
@@ -101,9 +100,6 @@ same-length-12 c = c .before .before .before .before .before .before .before .be
 
 same-length-13 : tie.Need-same-length-13 Inv-loop μ-loop
 same-length-13 c = c .before .before .before .before .before .before .before .before .before .loop .inv .7
-
-same-length-14 : tie.Need-same-length-14 Inv-loop μ-loop
-same-length-14 c = c .before .before .before .before .before .before .before .before .before .loop .inv .8
 
 returns-2 : tie.Need-returns-2 Inv-loop μ-loop
 returns-2 c = search needs
@@ -138,5 +134,4 @@ run-spec =
     same-length-11
     same-length-12
     same-length-13
-    same-length-14
     returns-2)
