@@ -1,18 +1,17 @@
-// A round in two halves, each with what its phases took.
+// The phases before and after the pops and parks of a round, with what each took.
 ghost use mathlib.Core.Path.{_≡_};
 ghost use mathlib.Core.Bool.{true};
 ghost use Rattle.layout.specs.Lent.{lent};
 ghost use Rattle.layout.specs.IsPool.{isPool};
-use crate::clock::elapsed;
-use crate::clock::reading;
-use crate::draining::doomed_all;
-use crate::draining::note_all;
-use crate::draining::settle_all;
-use crate::draining::trim_all;
-use crate::renaming::plan_all;
-use crate::renaming::retire_all;
-use crate::renaming::take_all;
-use crate::renaming::write_all;
+use bench_work::doomed_all;
+use bench_work::elapsed;
+use bench_work::note_all;
+use bench_work::plan_all;
+use bench_work::reading;
+use bench_work::retire_all;
+use bench_work::take_all;
+use bench_work::trim_all;
+use bench_work::write_all;
 use layout::PacingBook;
 use layout::Pool;
 
@@ -34,7 +33,6 @@ pub fn rename_round(
     spares: &mut [u64],
     newest: &mut [u64],
     stamps: &mut [u64],
-    copies: &mut [u64],
     held: &mut [u64],
     n: usize,
     seq: u64,
@@ -54,6 +52,7 @@ pub fn rename_round(
         stamps,
         held,
         n,
+        1,
         seq,
     );
     let take = elapsed(t0);
@@ -67,7 +66,6 @@ pub fn rename_round(
         spares,
         newest,
         stamps,
-        copies,
         held,
         n,
     );
@@ -110,52 +108,6 @@ pub fn rename_round(
     }
 }
 
-// What the pops and parks of a round took, and the pops alone where they were timed.
-pub struct Settled {
-    pub pool: Pool,
-    pub whole: u64,
-    pub pops: u64,
-}
-
-pub fn settle_round(
-    pool: Pool,
-    book: PacingBook,
-    textures: &mut [u64],
-    retiring: &[u64],
-    doomed: &mut [u64],
-    spares: &mut [u64],
-    newest: &[u64],
-    stamps: &[u64],
-    n: usize,
-    seq: u64,
-    timed: bool,
-) -> Settled
-    requires { ⌜ isPool (lent pool book (now textures) (now retiring) (now doomed) (now spares) (now newest) (now stamps)) ≡ true ⌝ }
-    ensures { λ r. ⌜ isPool (lent (r .pool) book (now (textures .exit)) (now (retiring .entry)) (now (doomed .exit)) (now (spares .exit)) (now (newest .entry)) (now (stamps .entry))) ≡ true ⌝ }
-{
-    let start = reading();
-    let settled = settle_all(
-        pool,
-        book,
-        textures,
-        retiring,
-        doomed,
-        spares,
-        newest,
-        stamps,
-        n,
-        seq,
-        timed,
-    );
-    let whole = elapsed(start);
-    let counts = settled.pool;
-    Settled {
-        pool: counts,
-        whole,
-        pops: settled.time,
-    }
-}
-
 pub struct Drained {
     pub pool: Pool,
     pub book: PacingBook,
@@ -173,7 +125,6 @@ pub fn drain_round(
     spares: &mut [u64],
     newest: &mut [u64],
     stamps: &mut [u64],
-    views: &mut [u64],
     n: usize,
     seq: u64,
 ) -> Drained
@@ -204,7 +155,6 @@ pub fn drain_round(
         spares,
         newest,
         stamps,
-        views,
         n,
     );
     let doomed_time = elapsed(t1);

@@ -6,22 +6,19 @@ ghost use lib.ListN.{length};
 ghost use Rattle.layout.specs.Lent.{lent};
 ghost use Rattle.layout.specs.IsPool.{isPool};
 use crate::report::report;
-use crate::report::report_test;
 use crate::rounds::drain_round;
 use crate::rounds::rename_round;
-use crate::rounds::settle_round;
-use crate::testing::read_all;
-use crate::testing::test_all;
 use crate::totals::Totals;
 use crate::totals::counted;
 use crate::totals::drained_in;
 use crate::totals::no_totals;
 use crate::totals::renamed_in;
 use crate::totals::settled_in;
+use bench_work::open_work;
+use bench_work::settle_round;
+use bench_work::test_lines;
 use layout::PacingBook;
 use layout::Pool;
-use pool::open;
-use pool_test::is_pool;
 
 struct Round {
     pool: Pool,
@@ -29,8 +26,7 @@ struct Round {
     totals: Totals,
 }
 
-// Every second round has its pops timed one by one. Of the last kinds it makes 8 calls; nothing is to be destroyed, so any slice is buffer
-// enough for the views.
+// Every second round has its pops timed one by one. Of the last kinds it makes 8 calls.
 fn run_round(
     pool: Pool,
     book: PacingBook,
@@ -40,7 +36,6 @@ fn run_round(
     spares: &mut [u64],
     newest: &mut [u64],
     stamps: &mut [u64],
-    copies: &mut [u64],
     held: &mut [u64],
     n: usize,
     seq: u64,
@@ -58,7 +53,6 @@ fn run_round(
         spares,
         newest,
         stamps,
-        copies,
         held,
         n,
         seq,
@@ -86,7 +80,6 @@ fn run_round(
         spares,
         newest,
         stamps,
-        held,
         8,
         seq,
     );
@@ -103,25 +96,25 @@ fn run_round(
     }
 }
 
-fn run_rounds(
-    pool: Pool,
-    book: PacingBook,
+// The rounds on a pool just opened, if the memory is enough for one.
+fn run(
     textures: &mut [u64],
     retiring: &mut [u64],
     doomed: &mut [u64],
     spares: &mut [u64],
     newest: &mut [u64],
     stamps: &mut [u64],
-    copies: &mut [u64],
     held: &mut [u64],
     n: usize,
     rounds: u64,
-)
-    requires { ⌜ isPool (lent pool book (now textures) (now retiring) (now doomed) (now spares) (now newest) (now stamps)) ≡ true ⌝ }
-{
+) {
+    let opened = open_work(textures, retiring, doomed, spares, newest, stamps);
+    if opened.outcome != 0 {
+        return;
+    }
     let mut totals = no_totals();
-    let mut counts = pool;
-    let mut paces = book;
+    let mut counts = opened.pool;
+    let mut paces = opened.book;
     let mut seq = 0;
     while seq < rounds {
         seq += 1;
@@ -134,7 +127,6 @@ fn run_rounds(
             spares,
             newest,
             stamps,
-            copies,
             held,
             n,
             seq,
@@ -145,7 +137,7 @@ fn run_rounds(
         paces = done.book;
     }
     report(totals, counts, n, rounds);
-    let tested = test_all(
+    test_lines(
         counts,
         paces,
         textures,
@@ -155,59 +147,6 @@ fn run_rounds(
         newest,
         stamps,
         64,
-    );
-    let read = read_all(textures, spares, newest, stamps, 64);
-    report_test(tested, read);
-}
-
-fn run(
-    textures: &mut [u64],
-    retiring: &mut [u64],
-    doomed: &mut [u64],
-    spares: &mut [u64],
-    newest: &mut [u64],
-    stamps: &mut [u64],
-    copies: &mut [u64],
-    held: &mut [u64],
-    n: usize,
-    rounds: u64,
-) {
-    let opened = open(
-        17179869184,
-        textures,
-        retiring,
-        doomed,
-        spares,
-        newest,
-        stamps,
-    );
-    let pool = opened.pool;
-    let book = opened.book;
-    if !is_pool(
-        pool,
-        book,
-        textures,
-        retiring,
-        doomed,
-        spares,
-        newest,
-        stamps,
-    ) {
-        return;
-    }
-    run_rounds(
-        pool,
-        book,
-        textures,
-        retiring,
-        doomed,
-        spares,
-        newest,
-        stamps,
-        copies,
-        held,
-        n,
-        rounds,
     );
 }
 
@@ -228,7 +167,6 @@ pub fn run_part(
     requires { ⌜ (t ≤ 4096) × (v ≤ 4096) × (p ≤ 4096) × (81920 ≤ length (now textures)) × (28672 ≤ length (now retiring)) × (8192 ≤ length (now doomed))
         × (12288 ≤ length (now spares)) × (4096 ≤ length (now newest)) × (4194304 ≤ length (now stamps)) ⌝ }
 {
-    let mut copies = [0; 7];
     let a = 20 * t;
     let b = 7 * v;
     let c = 2 * v;
@@ -241,7 +179,6 @@ pub fn run_part(
         &mut spares[..d],
         &mut newest[..p],
         &mut stamps[..e],
-        &mut copies,
         held,
         t,
         rounds,

@@ -1,7 +1,7 @@
 // What all rounds took, kind by kind.
 use crate::rounds::Drained;
 use crate::rounds::Renamed;
-use crate::rounds::Settled;
+use bench_work::Settled;
 use std::num::wrapping_add_u64;
 
 // `settle` is of the rounds in which the pops were not timed, `timed` of those in which they were, and `pops` of the pops alone.

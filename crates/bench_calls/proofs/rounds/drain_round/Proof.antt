@@ -8,7 +8,7 @@ reading-requires : tie.Need-reading-requires
 reading-requires c κs = search needs
 
 note-all-requires : tie.Need-note-all-requires
-note-all-requires c κs = c .before .before .before .before .before .before .before .before .before .before .before .before .before .pre
+note-all-requires c κs = c .before .before .before .before .before .before .before .before .before .before .before .before .pre
 
 elapsed-requires : tie.Need-elapsed-requires
 elapsed-requires c κs = search needs
@@ -17,7 +17,7 @@ reading-requires-2 : tie.Need-reading-requires-2
 reading-requires-2 c κs = search needs
 
 doomed-all-requires : tie.Need-doomed-all-requires
-doomed-all-requires c κs = c .before .before .before .before .before .before .before .before .before .before .before .before .before .before .before .note-all .ensures
+doomed-all-requires c κs = c .before .before .before .before .before .before .before .before .before .before .before .before .before .before .note-all .ensures
 
 elapsed-requires-2 : tie.Need-elapsed-requires-2
 elapsed-requires-2 c κs = search needs
@@ -26,28 +26,25 @@ reading-requires-3 : tie.Need-reading-requires-3
 reading-requires-3 c κs = search needs
 
 trim-all-requires : tie.Need-trim-all-requires
-trim-all-requires c κs = c .before .before .before .before .before .before .before .before .before .before .doomed-all .ensures
+trim-all-requires c κs = c .before .before .before .before .before .before .before .before .doomed-all .ensures
 
 elapsed-requires-3 : tie.Need-elapsed-requires-3
 elapsed-requires-3 c κs = search needs
 
 same-length : tie.Need-same-length
-same-length c = c .before .before .before .before .before .before .before .before .before .before .before .trim-all .kept .1 .1 .0 ∙ c .before .before .before .before .before .before .before .before .before .before .before .before .before .before .before .before .before .before .before .before .before .before .before .before .before .before .before .before .before .before .before .before .before .before .before .before .before .before .note-all .kept .1 .1 .0
+same-length c = c .before .before .before .before .before .before .before .before .before .before .before .trim-all .kept .1 .1 .0 ∙ c .before .before .before .before .before .before .before .before .before .before .before .before .before .before .before .before .before .before .before .before .before .before .before .before .before .before .before .before .before .before .before .before .before .before .before .note-all .kept .1 .1 .0
 
 same-length-2 : tie.Need-same-length-2
-same-length-2 c = c .before .before .before .before .before .before .before .before .before .before .before .trim-all .kept .1 .1 .1 .1 .0 ∙ c .before .before .before .before .before .before .before .before .before .before .before .before .before .before .before .before .before .before .before .before .before .before .before .before .before .before .before .before .before .before .before .before .before .before .before .before .before .before .note-all .kept .1 .1 .1 .1 .0
+same-length-2 c = c .before .before .before .before .before .before .before .before .before .before .before .trim-all .kept .1 .1 .1 .1 .0 ∙ c .before .before .before .before .before .before .before .before .before .before .before .before .before .before .before .before .before .before .before .before .before .before .before .before .before .before .before .before .before .before .before .before .before .before .before .note-all .kept .1 .1 .1 .1 .0
 
 same-length-3 : tie.Need-same-length-3
-same-length-3 c = c .before .before .before .before .before .before .before .before .before .before .before .trim-all .kept .1 .1 .1 .1 .1 .0 ∙ c .before .before .before .before .before .before .before .before .before .before .before .before .before .before .before .before .before .before .before .before .before .before .before .before .before .before .before .before .before .before .before .before .before .before .before .before .before .before .note-all .kept .1 .1 .1 .1 .1 .0
+same-length-3 c = c .before .before .before .before .before .before .before .before .before .before .before .trim-all .kept .1 .1 .1 .1 .1 .0 ∙ c .before .before .before .before .before .before .before .before .before .before .before .before .before .before .before .before .before .before .before .before .before .before .before .before .before .before .before .before .before .before .before .before .before .before .before .note-all .kept .1 .1 .1 .1 .1 .0
 
 same-length-4 : tie.Need-same-length-4
 same-length-4 c = c .before .before .before .before .before .before .before .before .before .before .before .trim-all .kept .1 .1 .1 .1 .1 .1 .0
 
 same-length-5 : tie.Need-same-length-5
 same-length-5 c = c .before .before .before .before .before .before .before .before .before .before .before .trim-all .kept .1 .1 .1 .1 .1 .1 .1 .0
-
-same-length-6 : tie.Need-same-length-6
-same-length-6 c = c .before .before .before .before .before .before .before .before .before .before .before .before .before .before .before .before .before .before .before .before .before .before .doomed-all .kept .1 .1 .1 .1 .1 .1 .1 .1 .0
 
 returns : tie.Need-returns
 returns c = c .before .before .before .before .before .before .before .before .before .before .before .trim-all .ensures
@@ -70,5 +67,4 @@ drain-round-spec =
     same-length-3
     same-length-4
     same-length-5
-    same-length-6
     returns)

@@ -1,0 +1,151 @@
+// The phases that this program alone has: the textures' levels regenerated, the versions handed out, the textures forgotten. Each has the
+// time that it took.
+ghost use mathlib.Core.Path.{_≡_};
+ghost use mathlib.Core.Bool.{true};
+ghost use Rattle.layout.specs.Lent.{lent};
+ghost use Rattle.layout.specs.IsPool.{isPool};
+use bench_work::elapsed;
+use bench_work::id_of;
+use bench_work::reading;
+use destruction::Handed;
+use destruction::drain_versions;
+use forgetting::forget_texture;
+use layout::PacingBook;
+use layout::Pool;
+use writes::note_mip_regeneration;
+
+pub struct Phase {
+    pub pool: Pool,
+    pub time: u64,
+}
+
+pub fn regenerate_all(
+    pool: Pool,
+    book: PacingBook,
+    textures: &mut [u64],
+    retiring: &[u64],
+    doomed: &[u64],
+    spares: &[u64],
+    newest: &mut [u64],
+    stamps: &mut [u64],
+    n: usize,
+) -> Phase
+    requires { ⌜ isPool (lent pool book (now textures) (now retiring) (now doomed) (now spares) (now newest) (now stamps)) ≡ true ⌝ }
+    ensures { λ r. ⌜ isPool (lent (r .pool) book (now (textures .exit)) (now (retiring .entry)) (now (doomed .entry)) (now (spares .entry)) (now (newest .exit)) (now (stamps .exit))) ≡ true ⌝ }
+{
+    let start = reading();
+    let mut counts = pool;
+    let mut i = 0;
+    while i < n {
+        let id = id_of(i);
+        let said = note_mip_regeneration(
+            counts,
+            book,
+            textures,
+            retiring,
+            doomed,
+            spares,
+            newest,
+            stamps,
+            id,
+        );
+        counts = said.pool;
+        i += 1;
+    }
+    Phase {
+        pool: counts,
+        time: elapsed(start),
+    }
+}
+
+// The pool after its versions were handed out, and how many they were.
+pub struct Emptied {
+    pub pool: Pool,
+    pub book: PacingBook,
+    pub versions: u64,
+    pub time: u64,
+}
+
+fn handed_number(handed: Handed) -> u64 {
+    match handed {
+        Handed::Views(n) => n as u64,
+        Handed::Refused(_) => 0,
+    }
+}
+
+pub fn hand_out(
+    pool: Pool,
+    book: PacingBook,
+    textures: &mut [u64],
+    retiring: &[u64],
+    doomed: &[u64],
+    spares: &[u64],
+    newest: &[u64],
+    stamps: &[u64],
+    views: &mut [u64],
+) -> Emptied
+    requires { ⌜ isPool (lent pool book (now textures) (now retiring) (now doomed) (now spares) (now newest) (now stamps)) ≡ true ⌝ }
+    ensures { λ r. ⌜ isPool (lent (r .pool) (r .book) (now (textures .exit)) (now (retiring .entry)) (now (doomed .entry)) (now (spares .entry)) (now (newest .entry)) (now (stamps .entry))) ≡ true ⌝ }
+{
+    let start = reading();
+    let said = drain_versions(
+        pool,
+        book,
+        textures,
+        retiring,
+        doomed,
+        spares,
+        newest,
+        stamps,
+        views,
+    );
+    let time = elapsed(start);
+    let counts = said.pool;
+    let paces = said.book;
+    let handed = said.handed;
+    Emptied {
+        pool: counts,
+        book: paces,
+        versions: handed_number(handed),
+        time,
+    }
+}
+
+pub fn forget_all(
+    pool: Pool,
+    book: PacingBook,
+    textures: &mut [u64],
+    retiring: &[u64],
+    doomed: &mut [u64],
+    spares: &mut [u64],
+    newest: &mut [u64],
+    stamps: &mut [u64],
+    n: usize,
+) -> Phase
+    requires { ⌜ isPool (lent pool book (now textures) (now retiring) (now doomed) (now spares) (now newest) (now stamps)) ≡ true ⌝ }
+    ensures { λ r. ⌜ isPool (lent (r .pool) book (now (textures .exit)) (now (retiring .entry)) (now (doomed .exit)) (now (spares .exit)) (now (newest .exit)) (now (stamps .exit))) ≡ true ⌝ }
+{
+    let start = reading();
+    let mut counts = pool;
+    let mut i = 0;
+    while i < n {
+        let id = id_of(i);
+        let said = forget_texture(
+            counts,
+            book,
+            textures,
+            retiring,
+            doomed,
+            spares,
+            newest,
+            stamps,
+            id,
+        );
+        counts = said.pool;
+        i += 1;
+    }
+    Phase {
+        pool: counts,
+        time: elapsed(start),
+    }
+}

@@ -1,0 +1,65 @@
+// What all rounds took, kind by kind, and what was done.
+use std::num::wrapping_add_u64;
+
+// `take` is of textures that were not tracked, `versions` counts those handed out, `pages` those in use when they were.
+pub struct Totals {
+    pub take: u64,
+    pub regenerate: u64,
+    pub drain: u64,
+    pub forget: u64,
+    pub versions: u64,
+    pub pages: u64,
+}
+
+pub fn no_totals() -> Totals {
+    Totals {
+        take: 0,
+        regenerate: 0,
+        drain: 0,
+        forget: 0,
+        versions: 0,
+        pages: 0,
+    }
+}
+
+// The first lifetime, in which the memory is touched for the first time, does not count.
+pub fn counted(t: Totals, seq: u64) -> Totals {
+    if seq <= 17 {
+        return no_totals();
+    }
+    t
+}
+
+// A lifetime is 16 rounds. Its first takes are of textures that are not tracked.
+pub fn if_first(seq: u64, time: u64) -> u64 {
+    if seq % 16 == 1 {
+        return time;
+    }
+    0
+}
+
+pub fn if_last(seq: u64, time: u64) -> u64 {
+    if seq % 16 == 0 {
+        return time;
+    }
+    0
+}
+
+// How many of n textures are forgotten in a round: all in the last of a lifetime.
+pub fn forgotten_in(seq: u64, n: usize) -> usize {
+    if seq % 16 == 0 {
+        return n;
+    }
+    0
+}
+
+pub fn added(t: Totals, u: Totals) -> Totals {
+    Totals {
+        take: wrapping_add_u64(t.take, u.take),
+        regenerate: wrapping_add_u64(t.regenerate, u.regenerate),
+        drain: wrapping_add_u64(t.drain, u.drain),
+        forget: wrapping_add_u64(t.forget, u.forget),
+        versions: wrapping_add_u64(t.versions, u.versions),
+        pages: wrapping_add_u64(t.pages, u.pages),
+    }
+}

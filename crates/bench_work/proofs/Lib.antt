@@ -1,0 +1,3 @@
+pub mod Keeps
+mod Opened
+pub mod Parts

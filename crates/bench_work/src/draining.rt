@@ -1,0 +1,241 @@
+// The phases of a round in which what settled is parked and the pool is looked after.
+ghost use mathlib.Core.Path.{_≡_};
+ghost use mathlib.Core.Bool.{true};
+ghost use Rattle.layout.specs.Lent.{lent};
+ghost use Rattle.layout.specs.IsPool.{isPool};
+use crate::clock::elapsed;
+use crate::clock::elapsed_if;
+use crate::clock::reading;
+use crate::clock::reading_if;
+use destruction::take_doomed;
+use layout::PacingBook;
+use layout::Pool;
+use parking::park;
+use relief::note_allocated;
+use retirement::pop_retired;
+use trimming::trim;
+
+// The pool, and the time that the pops took.
+pub struct Pops {
+    pub pool: Pool,
+    pub time: u64,
+}
+
+// n versions popped and parked, one after the other; with the clock read before and after every pop where that is asked.
+pub fn settle_all(
+    pool: Pool,
+    book: PacingBook,
+    textures: &mut [u64],
+    retiring: &[u64],
+    doomed: &mut [u64],
+    spares: &mut [u64],
+    newest: &[u64],
+    stamps: &[u64],
+    n: usize,
+    seq: u64,
+    timed: bool,
+) -> Pops
+    requires { ⌜ isPool (lent pool book (now textures) (now retiring) (now doomed) (now spares) (now newest) (now stamps)) ≡ true ⌝ }
+    ensures { λ r. ⌜ isPool (lent (r .pool) book (now (textures .exit)) (now (retiring .entry)) (now (doomed .exit)) (now (spares .exit)) (now (newest .entry)) (now (stamps .entry))) ≡ true ⌝ }
+{
+    let mut counts = pool;
+    let mut time = 0;
+    let mut i = 0;
+    while i < n {
+        let start = reading_if(timed);
+        let popped = pop_retired(
+            counts,
+            book,
+            textures,
+            retiring,
+            doomed,
+            spares,
+            newest,
+            stamps,
+            seq,
+        );
+        time = std::num::wrapping_add_u64(time, elapsed_if(timed, start));
+        let said = park(
+            popped.pool,
+            book,
+            textures,
+            retiring,
+            doomed,
+            spares,
+            newest,
+            stamps,
+            0,
+            seq,
+        );
+        counts = said.pool;
+        i += 1;
+    }
+    Pops { pool: counts, time }
+}
+
+// What the pops and parks of a round took, and the pops alone where they were timed.
+pub struct Settled {
+    pub pool: Pool,
+    pub whole: u64,
+    pub pops: u64,
+}
+
+pub fn settle_round(
+    pool: Pool,
+    book: PacingBook,
+    textures: &mut [u64],
+    retiring: &[u64],
+    doomed: &mut [u64],
+    spares: &mut [u64],
+    newest: &[u64],
+    stamps: &[u64],
+    n: usize,
+    seq: u64,
+    timed: bool,
+) -> Settled
+    requires { ⌜ isPool (lent pool book (now textures) (now retiring) (now doomed) (now spares) (now newest) (now stamps)) ≡ true ⌝ }
+    ensures { λ r. ⌜ isPool (lent (r .pool) book (now (textures .exit)) (now (retiring .entry)) (now (doomed .exit)) (now (spares .exit)) (now (newest .entry)) (now (stamps .entry))) ≡ true ⌝ }
+{
+    let start = reading();
+    let settled = settle_all(
+        pool,
+        book,
+        textures,
+        retiring,
+        doomed,
+        spares,
+        newest,
+        stamps,
+        n,
+        seq,
+        timed,
+    );
+    let whole = elapsed(start);
+    let counts = settled.pool;
+    Settled {
+        pool: counts,
+        whole,
+        pops: settled.time,
+    }
+}
+
+pub struct Noted {
+    pub pool: Pool,
+    pub book: PacingBook,
+}
+
+// Far below the pressure line.
+pub fn note_all(
+    pool: Pool,
+    book: PacingBook,
+    textures: &mut [u64],
+    retiring: &[u64],
+    doomed: &mut [u64],
+    spares: &mut [u64],
+    newest: &[u64],
+    stamps: &[u64],
+    n: usize,
+) -> Noted
+    requires { ⌜ isPool (lent pool book (now textures) (now retiring) (now doomed) (now spares) (now newest) (now stamps)) ≡ true ⌝ }
+    ensures { λ r. ⌜ isPool (lent (r .pool) (r .book) (now (textures .exit)) (now (retiring .entry)) (now (doomed .exit)) (now (spares .exit)) (now (newest .entry)) (now (stamps .entry))) ≡ true ⌝ }
+{
+    let mut counts = pool;
+    let mut paces = book;
+    let mut i = 0;
+    while i < n {
+        let said = note_allocated(
+            counts,
+            paces,
+            textures,
+            retiring,
+            doomed,
+            spares,
+            newest,
+            stamps,
+            1048576,
+        );
+        counts = said.pool;
+        paces = said.book;
+        i += 1;
+    }
+    Noted {
+        pool: counts,
+        book: paces,
+    }
+}
+
+// Nothing is to be destroyed, so any buffer is enough for the views.
+pub fn doomed_all(
+    pool: Pool,
+    book: PacingBook,
+    textures: &[u64],
+    retiring: &[u64],
+    doomed: &[u64],
+    spares: &[u64],
+    newest: &[u64],
+    stamps: &[u64],
+    n: usize,
+) -> Noted
+    requires { ⌜ isPool (lent pool book (now textures) (now retiring) (now doomed) (now spares) (now newest) (now stamps)) ≡ true ⌝ }
+    ensures { λ r. ⌜ isPool (lent (r .pool) (r .book) (now (textures .entry)) (now (retiring .entry)) (now (doomed .entry)) (now (spares .entry)) (now (newest .entry)) (now (stamps .entry))) ≡ true ⌝ }
+{
+    let mut views = [0; 1];
+    let mut counts = pool;
+    let mut paces = book;
+    let mut i = 0;
+    while i < n {
+        let said = take_doomed(
+            counts,
+            paces,
+            textures,
+            retiring,
+            doomed,
+            spares,
+            newest,
+            stamps,
+            &mut views,
+        );
+        counts = said.pool;
+        paces = said.book;
+        i += 1;
+    }
+    Noted {
+        pool: counts,
+        book: paces,
+    }
+}
+
+pub fn trim_all(
+    pool: Pool,
+    book: PacingBook,
+    textures: &mut [u64],
+    retiring: &[u64],
+    doomed: &mut [u64],
+    spares: &mut [u64],
+    newest: &mut [u64],
+    stamps: &mut [u64],
+    n: usize,
+    seq: u64,
+) -> Pool
+    requires { ⌜ isPool (lent pool book (now textures) (now retiring) (now doomed) (now spares) (now newest) (now stamps)) ≡ true ⌝ }
+    ensures { λ r. ⌜ isPool (lent r book (now (textures .exit)) (now (retiring .entry)) (now (doomed .exit)) (now (spares .exit)) (now (newest .exit)) (now (stamps .exit))) ≡ true ⌝ }
+{
+    let mut counts = pool;
+    let mut i = 0;
+    while i < n {
+        let said = trim(
+            counts,
+            book,
+            textures,
+            retiring,
+            doomed,
+            spares,
+            newest,
+            stamps,
+            seq,
+        );
+        counts = said.pool;
+        i += 1;
+    }
+    counts
+}

@@ -1,0 +1,35 @@
+// What the programs that time the calls have in common: the clock, the workload, the phases, and the laws by which memory stays a pool.
+mod arguments;
+mod clock;
+mod draining;
+mod opening;
+mod printing;
+mod renaming;
+mod room;
+mod testing;
+mod workload;
+
+pub use arguments::argument;
+pub use clock::elapsed;
+pub use clock::idle_time;
+pub use clock::reading;
+pub use draining::Noted;
+pub use draining::Settled;
+pub use draining::doomed_all;
+pub use draining::note_all;
+pub use draining::settle_round;
+pub use draining::trim_all;
+pub use opening::open_work;
+pub use printing::line;
+pub use renaming::plan_all;
+pub use renaming::retire_all;
+pub use renaming::take_all;
+pub use renaming::write_all;
+pub use room::doomed_places;
+pub use room::numbers;
+pub use room::retiring_places;
+pub use room::spare_places;
+pub use room::stamp_places;
+pub use room::texture_places;
+pub use testing::test_lines;
+pub use workload::id_of;

@@ -1,0 +1,29 @@
+// The pool to begin with.
+ghost use mathlib.Core.Path.{_≡_};
+ghost use mathlib.Core.Bool.{true};
+ghost use Rattle.layout.specs.Lent.{lent};
+ghost use Rattle.layout.specs.IsPool.{isPool};
+use pool::OpenAnswer;
+use pool::open;
+
+// A working set of 16 GiB, so that nothing is pressed.
+pub fn open_work(
+    textures: &[u64],
+    retiring: &[u64],
+    doomed: &[u64],
+    spares: &[u64],
+    newest: &[u64],
+    stamps: &[u64],
+) -> OpenAnswer
+    ensures { λ r. ⌜ (r .outcome ≡ 0 → isPool (lent (r .pool) (r .book) (now (textures .entry)) (now (retiring .entry)) (now (doomed .entry)) (now (spares .entry)) (now (newest .entry)) (now (stamps .entry))) ≡ true) ⌝ }
+{
+    open(
+        17179869184,
+        textures,
+        retiring,
+        doomed,
+        spares,
+        newest,
+        stamps,
+    )
+}

@@ -1,0 +1,187 @@
+// The phases of a round in which every texture is renamed: a loop over the textures for each kind of call.
+ghost use mathlib.Core.Path.{_≡_};
+ghost use mathlib.Core.Bool.{true};
+ghost use Rattle.layout.specs.Lent.{lent};
+ghost use Rattle.layout.specs.IsPool.{isPool};
+use crate::workload::bench_shape;
+use crate::workload::copies_in;
+use crate::workload::held_from;
+use crate::workload::held_number;
+use crate::workload::id_of;
+use crate::workload::keep_at;
+use crate::workload::kept_at;
+use crate::workload::rect_of;
+use layout::PacingBook;
+use layout::Pool;
+use plans::preserve_plan;
+use renames::take_spare;
+use retirement::retire;
+use writes::note_write;
+
+// Each texture's spare is taken, or its tracking begun. What the spare holds is kept for its plan.
+pub fn take_all(
+    pool: Pool,
+    book: PacingBook,
+    textures: &mut [u64],
+    retiring: &[u64],
+    doomed: &mut [u64],
+    spares: &mut [u64],
+    newest: &mut [u64],
+    stamps: &mut [u64],
+    held: &mut [u64],
+    n: usize,
+    levels: u64,
+    seq: u64,
+) -> Pool
+    requires { ⌜ isPool (lent pool book (now textures) (now retiring) (now doomed) (now spares) (now newest) (now stamps)) ≡ true ⌝ }
+    ensures { λ r. ⌜ isPool (lent r book (now (textures .exit)) (now (retiring .entry)) (now (doomed .exit)) (now (spares .exit)) (now (newest .exit)) (now (stamps .exit))) ≡ true ⌝ }
+{
+    let shape = bench_shape(n, levels);
+    let mut counts = pool;
+    let mut i = 0;
+    while i < n {
+        let id = id_of(i);
+        let said = take_spare(
+            counts,
+            book,
+            textures,
+            retiring,
+            doomed,
+            spares,
+            newest,
+            stamps,
+            id,
+            shape,
+            true,
+            seq,
+        );
+        let taken = said.taken;
+        keep_at(held, i, held_number(taken));
+        counts = said.pool;
+        i += 1;
+    }
+    counts
+}
+
+// The answer counts the copies: one a plan at most, for a texture has one level.
+pub fn plan_all(
+    pool: Pool,
+    book: PacingBook,
+    textures: &[u64],
+    retiring: &[u64],
+    doomed: &[u64],
+    spares: &[u64],
+    newest: &[u64],
+    stamps: &[u64],
+    held: &[u64],
+    n: usize,
+) -> u64
+    requires { ⌜ isPool (lent pool book (now textures) (now retiring) (now doomed) (now spares) (now newest) (now stamps)) ≡ true ⌝ }
+{
+    let shape = bench_shape(n, 1);
+    let mut copies = [0; 7];
+    let mut sum = 0;
+    let mut i = 0;
+    while i < n {
+        let id = id_of(i);
+        let before = held_from(kept_at(held, i));
+        let said = preserve_plan(
+            pool,
+            book,
+            textures,
+            retiring,
+            doomed,
+            spares,
+            newest,
+            stamps,
+            &mut copies,
+            id,
+            shape,
+            before,
+            0,
+            0,
+            false,
+        );
+        sum = copies_in(sum, said);
+        i += 1;
+    }
+    sum
+}
+
+pub fn retire_all(
+    pool: Pool,
+    book: PacingBook,
+    textures: &mut [u64],
+    retiring: &mut [u64],
+    doomed: &[u64],
+    spares: &[u64],
+    newest: &[u64],
+    stamps: &[u64],
+    n: usize,
+    seq: u64,
+) -> Pool
+    requires { ⌜ isPool (lent pool book (now textures) (now retiring) (now doomed) (now spares) (now newest) (now stamps)) ≡ true ⌝ }
+    ensures { λ r. ⌜ isPool (lent r book (now (textures .exit)) (now (retiring .exit)) (now (doomed .entry)) (now (spares .entry)) (now (newest .entry)) (now (stamps .entry))) ≡ true ⌝ }
+{
+    let mut counts = pool;
+    let mut i = 0;
+    while i < n {
+        let id = id_of(i);
+        let said = retire(
+            counts,
+            book,
+            textures,
+            retiring,
+            doomed,
+            spares,
+            newest,
+            stamps,
+            id,
+            seq,
+            seq,
+        );
+        counts = said.pool;
+        i += 1;
+    }
+    counts
+}
+
+pub fn write_all(
+    pool: Pool,
+    book: PacingBook,
+    textures: &mut [u64],
+    retiring: &[u64],
+    doomed: &[u64],
+    spares: &[u64],
+    newest: &mut [u64],
+    stamps: &mut [u64],
+    n: usize,
+    seq: u64,
+) -> Pool
+    requires { ⌜ isPool (lent pool book (now textures) (now retiring) (now doomed) (now spares) (now newest) (now stamps)) ≡ true ⌝ }
+    ensures { λ r. ⌜ isPool (lent r book (now (textures .exit)) (now (retiring .entry)) (now (doomed .entry)) (now (spares .entry)) (now (newest .exit)) (now (stamps .exit))) ≡ true ⌝ }
+{
+    let mut counts = pool;
+    let mut i = 0;
+    while i < n {
+        let id = id_of(i);
+        let rect = rect_of(i, seq);
+        let said = note_write(
+            counts,
+            book,
+            textures,
+            retiring,
+            doomed,
+            spares,
+            newest,
+            stamps,
+            id,
+            0,
+            0,
+            rect,
+        );
+        counts = said.pool;
+        i += 1;
+    }
+    counts
+}

@@ -1,0 +1,108 @@
+// The test that memory forms a pool, and a plain read of the same memory.
+use crate::clock::elapsed;
+use crate::clock::reading;
+use crate::printing::line;
+use layout::PacingBook;
+use layout::Pool;
+use pool_test::is_pool;
+use std::num::wrapping_add_u64;
+
+// What was timed, and a number that depends on everything read.
+struct Timed {
+    time: u64,
+    sum: u64,
+}
+
+// How many of k tests passed.
+fn test_all(
+    pool: Pool,
+    book: PacingBook,
+    textures: &[u64],
+    retiring: &[u64],
+    doomed: &[u64],
+    spares: &[u64],
+    newest: &[u64],
+    stamps: &[u64],
+    k: u64,
+) -> Timed {
+    let start = reading();
+    let mut sum = 0;
+    let mut i = 0;
+    while i < k {
+        if is_pool(
+            pool,
+            book,
+            textures,
+            retiring,
+            doomed,
+            spares,
+            newest,
+            stamps,
+        ) {
+            sum = wrapping_add_u64(sum, 1);
+        }
+        i += 1;
+    }
+    Timed {
+        time: elapsed(start),
+        sum,
+    }
+}
+
+fn sum_of(s: &[u64], from: u64) -> u64 {
+    let mut sum = from;
+    let mut i = 0;
+    while i < s.len() {
+        sum = wrapping_add_u64(sum, s[i]);
+        i += 1;
+    }
+    sum
+}
+
+// The same memory added up k times.
+fn read_all(textures: &[u64], spares: &[u64], newest: &[u64], stamps: &[u64], k: u64) -> Timed {
+    let start = reading();
+    let mut sum = 0;
+    let mut i = 0;
+    while i < k {
+        sum = sum_of(textures, sum);
+        sum = sum_of(spares, sum);
+        sum = sum_of(newest, sum);
+        sum = sum_of(stamps, sum);
+        i += 1;
+    }
+    Timed {
+        time: elapsed(start),
+        sum,
+    }
+}
+
+// k tests and k sums, and what they took.
+pub fn test_lines(
+    pool: Pool,
+    book: PacingBook,
+    textures: &[u64],
+    retiring: &[u64],
+    doomed: &[u64],
+    spares: &[u64],
+    newest: &[u64],
+    stamps: &[u64],
+    k: u64,
+) {
+    let tested = test_all(
+        pool,
+        book,
+        textures,
+        retiring,
+        doomed,
+        spares,
+        newest,
+        stamps,
+        k,
+    );
+    let read = read_all(textures, spares, newest, stamps, k);
+    line(b"passed ", tested.sum);
+    line(b"is_pool ", tested.time);
+    line(b"read ", read.time);
+    line(b"sum ", read.sum);
+}
