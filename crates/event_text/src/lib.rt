@@ -11,5 +11,6 @@ pub use field::is_word;
 pub use find::find_byte;
 pub use number::Number;
 pub use number::NumberAt;
+pub use number::digits_at;
 pub use number::number_at;
 pub use number::number_of;
