@@ -1,29 +1,35 @@
 -- Laws of what was read against the grammar. Assumes nothing.
-use mathlib.Core.Path.{_≡_, refl, sym, ap, _∙_}
-use mathlib.Core.Bool.{Bool, true, false, cond, _&&_, _||_}
+use mathlib.Core.Path.{_≡_, refl, sym, ap, ap₂, _∙_}
+use mathlib.Core.Bool.{Bool, true, false, cond, _&&_, _||_, or-true, or-false}
 use mathlib.Core.List.{List, [], _∷_, _++_}
-use Prim.Native.Nat.{ℕ, zero, suc, _+_, _≤_, _<_}
-use native.Mathlib.Nat.{zero-add}
+use Prim.Native.Nat.{ℕ, zero, suc, _+_, _-_, _^_, _≤_, _<_}
+use native.Mathlib.Nat.{zero-add, add-zero}
 use native.Mathlib.Decide.{decLt}
 use native.Mathlib.Omega.{arith}
-use lib.Dec.{ltb}
-use lib.ListN.{length, getD, take, drop, set, replicate, List·getD-eq-default}
-use lib.Seq.{sets, sets-eq, getD-drop}
-use Rattle.blocks.specs.Lists.{over}
-use Rattle.blocks.proofs.Lists.{and-both, getD-over-in, getD-over-past}
-use Rattle.event_text.specs.Fields.{same, fieldEnd, behind}
-use Rattle.event_text.specs.Numbers.{isNumber, decimal, value}
-use Rattle.event_text.proofs.Fields.{line-fields, line-first}
-use Rattle.stores.specs.declared.held.Held.{Held}
+use borrow.Author.Tests.{eq-eqb, ne-eqb, eqb-true, eqb-false, leb-true, leb-false, lt-ltb, le-ltb, ltb-true}
+use lib.Dec.{eqb, ltb, leb}
+use lib.ListN.{length, getD, drop, set, replicate, List·getD-eq-default}
+use lib.Seq.{sets, sets-eq}
+use Rattle.blocks.specs.Lists.{over, all, tests, after}
+use Rattle.blocks.proofs.Lists.{and-both, and-assoc, getD-over-in, getD-over-past, passed, not-passed}
+use Rattle.event_text.specs.Fields.{same, behind, fieldsOf, firstField, firstLine}
+use Rattle.event_text.specs.Numbers.{isNumber, isDigit, decimal, value}
+use Rattle.event_text.specs.Searches.{indexOf}
+use Rattle.event_text.proofs.Fields.{fields-first, same-true, same-self}
+use Rattle.event_text.proofs.Leading.{until}
+use Rattle.event_text.proofs.FirstLines.{stops, line-until, until-found, until-length}
+use Rattle.stores.specs.declared.held.Held.the-variants.{Known, Unknown}
 use Rattle.event_lines.specs.declared.event.Word.{Word}
 use Rattle.event_lines.specs.declared.event.Event.{Event}
-use Rattle.event_lines.specs.declared.fields.Fields.{Fields}
-use Rattle.event_lines.specs.Words.{wordOf}
+use Rattle.event_lines.specs.Words.{wordOf, Starts}
 use Rattle.event_lines.specs.Grammar.{Kind, below, held, dash, isKind, areKinds, kindsOf, made, heldBy, num, eventBy, event, eventOf}
-use Rattle.event_lines.specs.Reading.{left, readAll}
-use Rattle.event_lines.proofs.Reading.{number-no-dash}
+use Rattle.event_lines.specs.Reading.{Scanned, unreadFields, mayBe, scanFields, scan, most, limitsOf, limitTests, fits, numbersMade, dashMade}
+use Rattle.event_lines.proofs.Reading.{number-no-dash, scan-behind}
 
--- ---- what `readAll` leaves
+no-way {ℓ} : {A : Type ℓ} → false ≡ true → A
+no-way e = absurd (let z : _≡_ {A = ℕ} 0 1 = cc in let y : ⊥ = omega arith in y)
+
+-- ---- what `scanFields` leaves
 
 unfoldable pub numbers : List (List ℕ) → List ℕ
 numbers [] = []
@@ -33,70 +39,33 @@ unfoldable pub anyDash : Bool → List (List ℕ) → Bool
 anyDash d [] = d
 anyDash d (f ∷ fs) = anyDash (d || same f dash) fs
 
-no-way {ℓ} : {A : Type ℓ} → false ≡ true → A
-no-way e = absurd (let z : _≡_ {A = ℕ} 0 1 = cc in let y : ⊥ = omega arith in y)
+-- every field may be where it stands
+unfoldable pub areFields : ℕ → List (List ℕ) → Bool
+areFields i [] = true
+areFields i (f ∷ fs) = mayBe i f && areFields (suc i) fs
 
-pub read-formed : (i : ℕ) (vs : List ℕ) (d : Bool) (ks : List Kind) (fs : List (List ℕ)) → readAll i vs d ks fs .formed ≡ areKinds ks fs
-unfolding readAll areKinds
-read-formed i vs d [] [] = refl
-read-formed i vs d [] (f ∷ fs) = refl
-read-formed i vs d (k ∷ ks) [] = refl
-read-formed i vs d (k ∷ ks) (f ∷ fs) = go (isKind k f) (read-formed (suc i) (set vs i (decimal f)) (d || same f dash) ks fs)
+scan-unread : (i : ℕ) (vs : List ℕ) (d : Bool) (fs : List (List ℕ)) → areFields i fs ≡ false → scanFields i vs d fs ≡ unreadFields
+unfolding scanFields areFields
+scan-unread i vs d [] e = no-way (sym e)
+scan-unread i vs d (f ∷ fs) e = go (mayBe i f) (scan-unread (suc i) (set vs i (decimal f)) (d || same f dash) fs) e
   where
-    r : Fields
-    r = readAll (suc i) (set vs i (decimal f)) (d || same f dash) ks fs
+    go : (t : Bool) → (areFields (suc i) fs ≡ false → scanFields (suc i) (set vs i (decimal f)) (d || same f dash) fs ≡ unreadFields) → t && areFields (suc i) fs ≡ false
+        → cond t (scanFields (suc i) (set vs i (decimal f)) (d || same f dash) fs) unreadFields ≡ unreadFields
+    go true r q = r q
+    go false r q = refl
 
-    go : (t : Bool) → r .formed ≡ areKinds ks fs → (cond t r (record { formed = false; values = vs; dash = d })) .formed ≡ t && areKinds ks fs
-    go true e = e
-    go false e = refl
-
-pub read-values : (i : ℕ) (vs : List ℕ) (d : Bool) (ks : List Kind) (fs : List (List ℕ)) → areKinds ks fs ≡ true
-    → readAll i vs d ks fs .values ≡ sets vs i (numbers fs)
-unfolding readAll areKinds numbers
-read-values i vs d [] [] e = refl
-read-values i vs d [] (f ∷ fs) e = no-way e
-read-values i vs d (k ∷ ks) [] e = no-way e
-read-values i vs d (k ∷ ks) (f ∷ fs) e =
-    let q = and-both (isKind k f) (areKinds ks fs) e in
-    ap (λ (t : Bool). (cond t (readAll (suc i) (set vs i (decimal f)) (d || same f dash) ks fs) (record { formed = false; values = vs; dash = d })) .values) (q .0)
-    ∙ read-values (suc i) (set vs i (decimal f)) (d || same f dash) ks fs (q .1)
-
-pub read-dash : (i : ℕ) (vs : List ℕ) (d : Bool) (ks : List Kind) (fs : List (List ℕ)) → areKinds ks fs ≡ true
-    → readAll i vs d ks fs .dash ≡ anyDash d fs
-unfolding readAll areKinds anyDash
-read-dash i vs d [] [] e = refl
-read-dash i vs d [] (f ∷ fs) e = no-way e
-read-dash i vs d (k ∷ ks) [] e = no-way e
-read-dash i vs d (k ∷ ks) (f ∷ fs) e =
-    let q = and-both (isKind k f) (areKinds ks fs) e in
-    ap (λ (t : Bool). (cond t (readAll (suc i) (set vs i (decimal f)) (d || same f dash) ks fs) (record { formed = false; values = vs; dash = d })) .dash) (q .0)
-    ∙ read-dash (suc i) (set vs i (decimal f)) (d || same f dash) ks fs (q .1)
+scan-read : (i : ℕ) (vs : List ℕ) (d : Bool) (fs : List (List ℕ)) → areFields i fs ≡ true
+    → scanFields i vs d fs ≡ record { formed = true; count = i + length fs; values = sets vs i (numbers fs); dash = anyDash d fs }
+unfolding scanFields areFields numbers anyDash
+scan-read i vs d [] e = ap (λ (k : ℕ). record { formed = true; count = k; values = vs; dash = d }) (sym (add-zero i))
+scan-read i vs d (f ∷ fs) e =
+    let q = and-both (mayBe i f) (areFields (suc i) fs) e in
+    let k : suc i + length fs ≡ i + suc (length fs) = omega arith in
+    ap (λ (t : Bool). cond t (scanFields (suc i) (set vs i (decimal f)) (d || same f dash) fs) unreadFields) (q .0)
+    ∙ scan-read (suc i) (set vs i (decimal f)) (d || same f dash) fs (q .1)
+    ∙ ap (λ (k : ℕ). record { formed = true; count = k; values = sets (set vs i (decimal f)) (suc i) (numbers fs); dash = anyDash (d || same f dash) fs }) k
 
 -- ---- the numbers
-
-kinds-length : (ks : List Kind) (fs : List (List ℕ)) → areKinds ks fs ≡ true → length fs ≡ length ks
-unfolding areKinds
-kinds-length [] [] e = refl
-kinds-length [] (f ∷ fs) e = no-way e
-kinds-length (k ∷ ks) [] e = no-way e
-kinds-length (k ∷ ks) (f ∷ fs) e = ap suc (kinds-length ks fs (and-both (isKind k f) (areKinds ks fs) e .1))
-
-nine : (w : Word) → length (kindsOf w) ≤ 9
-unfolding kindsOf
-nine Word.Open = omega arith
-nine Word.Take = omega arith
-nine Word.Plan = omega arith
-nine Word.Retire = omega arith
-nine Word.Write = omega arith
-nine Word.Regen = omega arith
-nine Word.Pop = omega arith
-nine Word.Park = omega arith
-nine Word.Note = omega arith
-nine Word.Doomed = omega arith
-nine Word.Drain = omega arith
-nine Word.Trim = omega arith
-nine Word.Forget = omega arith
-nine Word.Other = omega arith
 
 length-numbers : (fs : List (List ℕ)) → length (numbers fs) ≡ length fs
 unfolding numbers
@@ -131,115 +100,358 @@ number-at fs h k =
         getD-over-past (numbers fs) (replicate 9 0) k 0 (omega arith) ∙ getD-zeros 9 k
         ∙ sym (sym (getD-numbers fs k) ∙ List·getD-eq-default (numbers fs) 0 (omega arith))
 
+-- there are at most nine
+may-bound : (i : ℕ) (f : List ℕ) → mayBe i f ≡ true → (i < 9) × (isNumber f || (eqb i 1 && same f dash) ≡ true)
+unfolding mayBe
+may-bound i f e = let q = and-both (ltb i 9) (isNumber f || (eqb i 1 && same f dash)) e in (ltb-true i 9 (q .0), q .1)
+
+fields-nine : (i : ℕ) (fs : List (List ℕ)) → i ≤ 9 → areFields i fs ≡ true → i + length fs ≤ 9
+unfolding areFields
+fields-nine i [] h e = omega arith
+fields-nine i (f ∷ fs) h e =
+    let q = and-both (mayBe i f) (areFields (suc i) fs) e in
+    let m = may-bound i f (q .0) .0 in
+    let r = fields-nine (suc i) fs (omega arith) (q .1) in
+    omega arith
+
 -- ---- "-" among them
 
-or-false : (d : Bool) → d || false ≡ d
-or-false true = refl
-or-false false = refl
+-- where it cannot be
+may-plain : (i : ℕ) (f : List ℕ) → (i ≡ 1 → ⊥) → mayBe i f ≡ true → isNumber f ≡ true
+may-plain i f n e = go (isNumber f) (may-bound i f e .1)
+  where
+    go : (t : Bool) → t || (eqb i 1 && same f dash) ≡ true → t ≡ true
+    go true q = refl
+    go false q = no-way (sym (ap (λ (u : Bool). u && same f dash) (ne-eqb i 1 n)) ∙ q)
 
--- a field that must be a number
-pub skip : (bound : ℕ) (ks : List Kind) (fs : List (List ℕ)) (d : Bool) → areKinds (below bound ∷ ks) fs ≡ true
-    → (anyDash d fs ≡ anyDash d (drop 1 fs)) × (areKinds ks (drop 1 fs) ≡ true)
-unfolding areKinds anyDash isKind
-skip bound ks [] d e = no-way e
-skip bound ks (f ∷ fs) d e =
-    let q = and-both (isNumber f && ltb (decimal f) bound) (areKinds ks fs) e in
-    let n = and-both (isNumber f) (ltb (decimal f) bound) (q .0) in
-    (ap (λ (t : Bool). anyDash (d || t) fs) (number-no-dash f (n .0)) ∙ ap (λ (t : Bool). anyDash t fs) (or-false d), q .1)
+plain : (i : ℕ) (fs : List (List ℕ)) → 2 ≤ i → areFields i fs ≡ true → all isNumber fs ≡ true
+unfolding areFields all
+plain i [] h e = refl
+plain i (f ∷ fs) h e =
+    let q = and-both (mayBe i f) (areFields (suc i) fs) e in
+    ap₂ (λ (s t : Bool). s && t) (may-plain i f (λ z. let y : ⊥ = omega arith in y) (q .0)) (plain (suc i) fs (omega arith) (q .1))
 
--- held writes
-pub stand : (ks : List Kind) (fs : List (List ℕ)) → areKinds (held ∷ ks) fs ≡ true
-    → (anyDash false fs ≡ anyDash (same (getD fs 0 []) dash) (drop 1 fs)) × (areKinds ks (drop 1 fs) ≡ true)
-unfolding areKinds anyDash
-stand ks [] e = no-way e
-stand ks (f ∷ fs) e = (refl, and-both (isKind held f) (areKinds ks fs) e .1)
+none-dash : (d : Bool) (fs : List (List ℕ)) → all isNumber fs ≡ true → anyDash d fs ≡ d
+unfolding anyDash all
+none-dash d [] e = refl
+none-dash d (f ∷ fs) e =
+    let q = and-both (isNumber f) (all isNumber fs) e in
+    ap (λ (t : Bool). anyDash (d || t) fs) (number-no-dash f (q .0)) ∙ ap (λ (t : Bool). anyDash t fs) (or-false d) ∙ none-dash d fs (q .1)
 
-none-left : (fs : List (List ℕ)) (d : Bool) → areKinds [] fs ≡ true → anyDash d fs ≡ d
-unfolding areKinds anyDash
-none-left [] d e = refl
-none-left (f ∷ fs) d e = no-way e
+-- all are numbers, or the second is "-" and the others are
+by-view : (P : List (List ℕ) → Type 0) → ((fs : List (List ℕ)) → all isNumber fs ≡ true → P fs)
+    → ((f g : List ℕ) (fs : List (List ℕ)) → isNumber f ≡ true → isNumber g ≡ false → g ≡ dash → all isNumber fs ≡ true → P (f ∷ g ∷ fs))
+    → (fs : List (List ℕ)) → areFields 0 fs ≡ true → P fs
+unfolding areFields all
+by-view P p r [] e = p [] refl
+by-view P p r (f ∷ []) e =
+    let q = and-both (mayBe 0 f) true e in
+    p (f ∷ []) (ap (λ (t : Bool). t && true) (may-plain 0 f (λ z. let y : ⊥ = omega arith in y) (q .0)))
+by-view P p r (f ∷ g ∷ fs) e =
+    let q = and-both (mayBe 0 f) (mayBe 1 g && areFields 2 fs) e in
+    let m = and-both (mayBe 1 g) (areFields 2 fs) (q .1) in
+    let a = may-plain 0 f (λ z. let y : ⊥ = omega arith in y) (q .0) in
+    go (isNumber g) refl a (may-bound 1 g (m .0) .1) (plain 2 fs (omega arith) (m .1))
+  where
+    go : (t : Bool) → isNumber g ≡ t → isNumber f ≡ true → t || (true && same g dash) ≡ true → all isNumber fs ≡ true → P (f ∷ g ∷ fs)
+    go true n a m c = p (f ∷ g ∷ fs) (λ i. a i && (n i && c i))
+    go false n a m c = r f g fs a n (same-true g dash m) c
 
-plan-dash : (fs : List (List ℕ)) → areKinds (kindsOf Word.Plan) fs ≡ true → anyDash false fs ≡ same (getD fs 1 []) dash
-unfolding kindsOf
-plan-dash fs e =
-    let a = skip _ _ fs false e in
-    let b = stand _ (drop 1 fs) (a .1) in
-    let d : Bool = same (getD (drop 1 fs) 0 []) dash in
-    let c = skip _ _ (drop 1 (drop 1 fs)) d (b .1) in
-    let g = skip _ _ (drop 1 (drop 1 (drop 1 fs))) d (c .1) in
-    let h = skip _ _ (drop 1 (drop 1 (drop 1 (drop 1 fs)))) d (g .1) in
-    a .0 ∙ b .0 ∙ c .0 ∙ g .0 ∙ h .0 ∙ none-left (drop 1 (drop 1 (drop 1 (drop 1 (drop 1 fs))))) d (h .1)
-    ∙ ap (λ (f : List ℕ). same f dash) (getD-drop 1 fs 0 [])
+-- ---- limits
+
+unfoldable kindOf : ℕ → Kind
+kindOf limit = cond (eqb limit 0) held (below (limit + 1))
+
+-- a number within its limit
+unfoldable within : ℕ → ℕ → Bool
+within l v = cond (eqb l 0 || eqb l most) true (leb v l)
+
+leb-below : (v l : ℕ) → ltb v (l + 1) ≡ leb v l
+leb-below v l = go (leb v l) refl
+  where
+    go : (t : Bool) → leb v l ≡ t → ltb v (l + 1) ≡ t
+    go true e = let h = leb-true v l e in lt-ltb v (l + 1) (omega arith)
+    go false e = let h = leb-false v l e in le-ltb v (l + 1) (omega arith)
+
+below-most : (f : List ℕ) → isNumber f ≡ true → ltb (decimal f) (2 ^ 64) ≡ true
+unfolding isNumber
+below-most f e = passed _ e 3
+
+unfoldable kindsFor : List ℕ → List Kind
+kindsFor [] = []
+kindsFor (l ∷ ls) = kindOf l ∷ kindsFor ls
+
+word-kinds : (w : Word) → kindsFor (limitsOf w) ≡ kindsOf w
+unfolding kindsFor kindOf limitsOf kindsOf
+word-kinds Word.Open = refl
+word-kinds Word.Take = refl
+word-kinds Word.Plan = refl
+word-kinds Word.Retire = refl
+word-kinds Word.Write = refl
+word-kinds Word.Regen = refl
+word-kinds Word.Pop = refl
+word-kinds Word.Park = refl
+word-kinds Word.Note = refl
+word-kinds Word.Doomed = refl
+word-kinds Word.Drain = refl
+word-kinds Word.Trim = refl
+word-kinds Word.Forget = refl
+word-kinds Word.Other = refl
+
+within-kind : (l : ℕ) (f : List ℕ) → isNumber f ≡ true → isKind (kindOf l) f ≡ within l (decimal f)
+unfolding isKind kindOf within
+within-kind l f e = go (eqb l 0) (eqb l most) refl
+  where
+    go : (t u : Bool) → eqb l most ≡ u → isKind (cond t held (below (l + 1))) f ≡ cond (t || u) true (leb (decimal f) l)
+    go true u q = rw e
+    go false true q = rw e (ap (λ (k : ℕ). ltb (decimal f) (k + 1)) (eqb-true l most q) ∙ below-most f e)
+    go false false q = rw e (leb-below (decimal f) l)
+
+-- n k, n (k + 1), .. are
+unfoldable allWithin : List ℕ → (ℕ → ℕ) → ℕ → Bool
+allWithin [] n k = true
+allWithin (l ∷ ls) n k = within l (n k) && allWithin ls n (suc k)
+
+and-true : (a : Bool) → a ≡ a && true
+and-true true = refl
+and-true false = refl
+
+tests-within : (a : Bool) (ls : List ℕ) (n : ℕ → ℕ) (k : ℕ) → after a (limitTests ls n k) ≡ a && allWithin ls n k
+unfolding after limitTests allWithin within
+tests-within a [] n k = and-true a
+tests-within a (l ∷ ls) n k = go (eqb l 0 || eqb l most) (tests-within a ls n (suc k)) (tests-within (a && leb (n k) l) ls n (suc k))
+  where
+    go : (t : Bool) → after a (limitTests ls n (suc k)) ≡ a && allWithin ls n (suc k)
+        → after (a && leb (n k) l) (limitTests ls n (suc k)) ≡ a && leb (n k) l && allWithin ls n (suc k)
+        → after a (cond t (limitTests ls n (suc k)) (leb (n k) l ∷ limitTests ls n (suc k))) ≡ a && (cond t true (leb (n k) l) && allWithin ls n (suc k))
+    go true r q = r
+    go false r q = q ∙ and-assoc a (leb (n k) l) (allWithin ls n (suc k))
+
+fits-is : (w : Word) (count : ℕ) (n : ℕ → ℕ) → fits w count n ≡ eqb count (length (limitsOf w)) && allWithin (limitsOf w) n 0
+unfolding fits tests after
+fits-is w count n = tests-within (eqb count (length (limitsOf w))) (limitsOf w) n 0
+
+shift : (f : List ℕ) (fs : List (List ℕ)) (ls : List ℕ) (k : ℕ) → allWithin ls (num (f ∷ fs)) (suc k) ≡ allWithin ls (num fs) k
+unfolding allWithin num
+shift f fs [] k = refl
+shift f fs (l ∷ ls) k = ap (λ (t : Bool). within l (decimal (getD fs k [])) && t) (shift f fs ls (suc k))
+
+eqb-suc : (a b : ℕ) → eqb a b ≡ eqb (suc a) (suc b)
+eqb-suc a b = go (eqb a b) refl
+  where
+    go : (t : Bool) → eqb a b ≡ t → t ≡ eqb (suc a) (suc b)
+    go true q = sym (eq-eqb (suc a) (suc b) (ap suc (eqb-true a b q)))
+    go false q = sym (ne-eqb (suc a) (suc b) (λ z. eqb-false a b q (omega arith)))
+
+swap : (x e p : Bool) → x && (e && p) ≡ e && (x && p)
+swap true e p = refl
+swap false true p = refl
+swap false false p = refl
+
+first-num : (f : List ℕ) (fs : List (List ℕ)) → num (f ∷ fs) 0 ≡ decimal f
+unfolding num
+first-num f fs = refl
+
+kinds-within : (ls : List ℕ) (fs : List (List ℕ)) → all isNumber fs ≡ true
+    → areKinds (kindsFor ls) fs ≡ eqb (length fs) (length ls) && allWithin ls (num fs) 0
+unfolding areKinds kindsFor allWithin all
+kinds-within [] [] e = refl
+kinds-within [] (f ∷ fs) e = sym (ap (λ (t : Bool). t && true) (ne-eqb (suc (length fs)) 0 (λ z. let y : ⊥ = omega arith in y)))
+kinds-within (l ∷ ls) [] e = sym (ap (λ (t : Bool). t && allWithin (l ∷ ls) (num []) 0) (ne-eqb 0 (suc (length ls)) (λ z. let y : ⊥ = omega arith in y)))
+kinds-within (l ∷ ls) (f ∷ fs) e =
+    let q = and-both (isNumber f) (all isNumber fs) e in
+    ap₂ (λ (s t : Bool). s && t) (within-kind l f (q .0)) (kinds-within ls fs (q .1))
+    ∙ swap (within l (decimal f)) (eqb (length fs) (length ls)) (allWithin ls (num fs) 0)
+    ∙ ap₂ (λ (s t : Bool). s && t) (eqb-suc (length fs) (length ls))
+    (ap₂ (λ (s t : Bool). s && t) (ap (within l) (sym (first-num f fs))) (sym (shift f fs ls 0)))
+
+word-numbers : (w : Word) (fs : List (List ℕ)) → all isNumber fs ≡ true → areKinds (kindsOf w) fs ≡ fits w (length fs) (num fs)
+word-numbers w fs e =
+    ap (λ (ks : List Kind). areKinds ks fs) (sym (word-kinds w)) ∙ kinds-within (limitsOf w) fs e ∙ sym (fits-is w (length fs) (num fs))
+
+-- ---- fields of the kinds that a word asks for may be where they stand
+
+unfoldable okKind : ℕ → Kind → Bool
+okKind i (below bound) = ltb i 9
+okKind i held = ltb i 9 && eqb i 1
+
+unfoldable okKinds : ℕ → List Kind → Bool
+okKinds i [] = true
+okKinds i (k ∷ ks) = okKind i k && okKinds (suc i) ks
+
+word-ok : (w : Word) → okKinds 0 (kindsOf w) ≡ true
+unfolding okKinds okKind kindsOf
+word-ok Word.Open = refl
+word-ok Word.Take = refl
+word-ok Word.Plan = refl
+word-ok Word.Retire = refl
+word-ok Word.Write = refl
+word-ok Word.Regen = refl
+word-ok Word.Pop = refl
+word-ok Word.Park = refl
+word-ok Word.Note = refl
+word-ok Word.Doomed = refl
+word-ok Word.Drain = refl
+word-ok Word.Trim = refl
+word-ok Word.Forget = refl
+word-ok Word.Other = refl
+
+kind-may : (i : ℕ) (k : Kind) (f : List ℕ) → okKind i k ≡ true → isKind k f ≡ true → mayBe i f ≡ true
+unfolding okKind isKind mayBe
+kind-may i (below bound) f o e = rw (o, and-both (isNumber f) (ltb (decimal f) bound) e .0)
+kind-may i held f o e = let q = and-both (ltb i 9) (eqb i 1) o in rw (q .0, q .1) e
+
+kinds-fields : (i : ℕ) (ks : List Kind) (fs : List (List ℕ)) → okKinds i ks ≡ true → areKinds ks fs ≡ true → areFields i fs ≡ true
+unfolding okKinds areKinds areFields
+kinds-fields i [] [] o e = refl
+kinds-fields i [] (f ∷ fs) o e = no-way e
+kinds-fields i (k ∷ ks) [] o e = no-way e
+kinds-fields i (k ∷ ks) (f ∷ fs) o e =
+    let p = and-both (okKind i k) (okKinds (suc i) ks) o in
+    let q = and-both (isKind k f) (areKinds ks fs) e in
+    ap₂ (λ (s t : Bool). s && t) (kind-may i k f (p .0) (q .0)) (kinds-fields (suc i) ks fs (p .1) (q .1))
+
+-- ---- "-" is the second field
+
+and-false : (a : Bool) → a && false ≡ false
+and-false true = refl
+and-false false = refl
+
+all-twice : (f : List ℕ) (fs : List (List ℕ)) → isNumber f ≡ true → all isNumber fs ≡ true → all isNumber (f ∷ f ∷ fs) ≡ true
+unfolding all
+all-twice f fs a c = λ i. a i && (a i && c i)
+
+plan-doubled : (f g : List ℕ) (fs : List (List ℕ)) → isNumber f ≡ true → same g dash ≡ true
+    → areKinds (kindsOf Word.Plan) (f ∷ g ∷ fs) ≡ areKinds (kindsOf Word.Plan) (f ∷ f ∷ fs)
+unfolding kindsOf areKinds isKind
+plan-doubled f g fs a b = rw (a, b, or-true (isNumber g))
+
+plan-unlooked : (f g : List ℕ) (fs : List (List ℕ))
+    → fits Word.Plan (length (f ∷ f ∷ fs)) (num (f ∷ f ∷ fs)) ≡ fits Word.Plan (length (f ∷ g ∷ fs)) (num (f ∷ g ∷ fs))
+unfolding fits limitsOf limitTests num tests after
+plan-unlooked f g fs = refl
+
+plan-made : (f g : List ℕ) (fs : List (List ℕ)) → same g dash ≡ true
+    → areKinds (kindsOf Word.Plan) (f ∷ g ∷ fs) ≡ fits Word.Plan (length (f ∷ g ∷ fs)) (num (f ∷ g ∷ fs))
+    → eventBy Word.Plan (f ∷ g ∷ fs) ≡ dashMade Word.Plan (length (f ∷ g ∷ fs)) (num (f ∷ g ∷ fs))
+unfolding eventBy dashMade heldBy
+plan-made f g fs b e = rw (e, b)
+
+not-kinds : (w : Word) (fs : List (List ℕ)) → areKinds (kindsOf w) fs ≡ false → eventBy w fs ≡ Event.Unread
+unfolding eventBy
+not-kinds w fs e = rw e
+
+module _ (f g : List ℕ) (fs : List (List ℕ)) (a : isNumber f ≡ true) (b : isNumber g ≡ false) (e : g ≡ dash) (c : all isNumber fs ≡ true) where
+  second : same g dash ≡ true
+  second = ap (λ (s : List ℕ). same s dash) e ∙ same-self dash
+
+  -- a number must stand there, or nothing
+  nothing : areKinds [] (f ∷ g ∷ fs) ≡ false
+  unfolding areKinds
+  nothing = refl
+
+  short : (k : Kind) → areKinds (k ∷ []) (f ∷ g ∷ fs) ≡ false
+  unfolding areKinds
+  short k = and-false (isKind k f)
+
+  other : (k : Kind) (bound : ℕ) (ks : List Kind) → areKinds (k ∷ below bound ∷ ks) (f ∷ g ∷ fs) ≡ false
+  unfolding areKinds isKind
+  other k bound ks = rw b (and-false (isKind k f))
+
+  plan : areKinds (kindsOf Word.Plan) (f ∷ g ∷ fs) ≡ fits Word.Plan (length (f ∷ g ∷ fs)) (num (f ∷ g ∷ fs))
+  plan = doubled ∙ word-numbers Word.Plan (f ∷ f ∷ fs) twice ∙ unlooked
+    where
+      twice : all isNumber (f ∷ f ∷ fs) ≡ true
+      twice = all-twice f fs a c
+
+      doubled : areKinds (kindsOf Word.Plan) (f ∷ g ∷ fs) ≡ areKinds (kindsOf Word.Plan) (f ∷ f ∷ fs)
+      doubled = plan-doubled f g fs a second
+
+      unlooked : fits Word.Plan (length (f ∷ f ∷ fs)) (num (f ∷ f ∷ fs)) ≡ fits Word.Plan (length (f ∷ g ∷ fs)) (num (f ∷ g ∷ fs))
+      unlooked = plan-unlooked f g fs
+
+  unread : (w : Word) → areKinds (kindsOf w) (f ∷ g ∷ fs) ≡ false → eventBy w (f ∷ g ∷ fs) ≡ Event.Unread
+  unread w q = not-kinds w (f ∷ g ∷ fs) q
+
+  pub dash-made : (w : Word) → eventBy w (f ∷ g ∷ fs) ≡ dashMade w (length (f ∷ g ∷ fs)) (num (f ∷ g ∷ fs))
+  unfolding dashMade kindsOf
+  dash-made Word.Open = unread Word.Open (short _)
+  dash-made Word.Take = unread Word.Take (other _ _ _)
+  dash-made Word.Plan = plan-made f g fs second plan
+  dash-made Word.Retire = unread Word.Retire (other _ _ _)
+  dash-made Word.Write = unread Word.Write (other _ _ _)
+  dash-made Word.Regen = unread Word.Regen (short _)
+  dash-made Word.Pop = unread Word.Pop (short _)
+  dash-made Word.Park = unread Word.Park (other _ _ _)
+  dash-made Word.Note = unread Word.Note (short _)
+  dash-made Word.Doomed = unread Word.Doomed nothing
+  dash-made Word.Drain = unread Word.Drain nothing
+  dash-made Word.Trim = unread Word.Trim (short _)
+  dash-made Word.Forget = unread Word.Forget (short _)
+  dash-made Word.Other = unread Word.Other nothing
+
+  pub dash-any : anyDash false (f ∷ g ∷ fs) ≡ true
+  unfolding anyDash
+  dash-any = rw (number-no-dash f a, second) (none-dash true fs c)
 
 -- ---- the event
 
--- held writes are looked at in a plan only
-held-made : (w : Word) (fs : List (List ℕ)) (n : ℕ → ℕ) → areKinds (kindsOf w) fs ≡ true
-    → made w n (heldBy (anyDash false fs) (n 1)) ≡ made w n (heldBy (same (getD fs 1 []) dash) (n 1))
-unfolding made
-held-made Word.Open fs n e = refl
-held-made Word.Take fs n e = refl
-held-made Word.Plan fs n e = ap (λ (t : Bool). made Word.Plan n (heldBy t (n 1))) (plan-dash fs e)
-held-made Word.Retire fs n e = refl
-held-made Word.Write fs n e = refl
-held-made Word.Regen fs n e = refl
-held-made Word.Pop fs n e = refl
-held-made Word.Park fs n e = refl
-held-made Word.Note fs n e = refl
-held-made Word.Doomed fs n e = refl
-held-made Word.Drain fs n e = refl
-held-made Word.Trim fs n e = refl
-held-made Word.Forget fs n e = refl
-held-made Word.Other fs n e = refl
+no-second : (fs : List (List ℕ)) → all isNumber fs ≡ true → same (getD fs 1 []) dash ≡ false
+unfolding all same
+no-second [] e = refl
+no-second (f ∷ []) e = refl
+no-second (f ∷ g ∷ fs) e = number-no-dash g (and-both (isNumber g) (all isNumber fs) (and-both (isNumber f) (isNumber g && all isNumber fs) e .1) .0)
 
--- the fields of a line behind its word, as they are read
-abbrev pub readOf : Word → List (List ℕ) → Fields
-readOf w fs = readAll 0 (replicate 9 0) false (kindsOf w) fs
+abbrev Made : Word → List (List ℕ) → Type 0
+Made w fs = eventBy w fs ≡ cond (anyDash false fs) (dashMade w (length fs) (num fs)) (numbersMade w (length fs) (num fs))
 
-pub line-unread : (w : Word) (fs : List (List ℕ)) → readOf w fs .formed ≡ false → eventBy w fs ≡ Event.Unread
-unfolding eventBy
-line-unread w fs e = rw (sym (read-formed 0 (replicate 9 0) false (kindsOf w) fs) ∙ e)
+plain-made : (w : Word) (fs : List (List ℕ)) → all isNumber fs ≡ true → Made w fs
+unfolding eventBy numbersMade heldBy
+plain-made w fs p = rw (none-dash false fs p, word-numbers w fs p, no-second fs p)
 
-pub line-made : (w : Word) (fs : List (List ℕ)) → readOf w fs .formed ≡ true
-    → made w (λ k. getD (readOf w fs .values) k 0) (heldBy (readOf w fs .dash) (getD (readOf w fs .values) 1 0)) ≡ eventBy w fs
-unfolding eventBy
-line-made w fs t =
-    let e : areKinds (kindsOf w) fs ≡ true = sym (read-formed 0 (replicate 9 0) false (kindsOf w) fs) ∙ t in
-    let l = kinds-length (kindsOf w) fs e in
-    let m = nine w in
-    let p : (k : ℕ) → getD (readOf w fs .values) k 0 ≡ num fs k =
-    λ k. ap (λ (vs : List ℕ). getD vs k 0) (read-values 0 (replicate 9 0) false (kindsOf w) fs e) ∙ number-at fs (omega arith) k in
-    ap (λ (n : ℕ → ℕ). made w n (heldBy (readOf w fs .dash) (n 1))) (λ i k. p k i)
-    ∙ ap (λ (b : Bool). made w (num fs) (heldBy b (num fs 1))) (read-dash 0 (replicate 9 0) false (kindsOf w) fs e)
-    ∙ held-made w fs (num fs) e
-    ∙ sym (rw e)
+view-made : (w : Word) (fs : List (List ℕ)) → areFields 0 fs ≡ true → Made w fs
+view-made w fs h = by-view (Made w) (plain-made w) (λ f g gs a b e c. dashed f g gs a b e c) fs h
+  where
+    dashed : (f g : List ℕ) (gs : List (List ℕ)) → isNumber f ≡ true → isNumber g ≡ false → g ≡ dash → all isNumber gs ≡ true → Made w (f ∷ g ∷ gs)
+    dashed f g gs a b e c = rw (dash-any f g gs a b e c) (dash-made f g gs a b e c w)
 
--- the line's word, and the fields behind it
-pub line-event : (line : List ℕ) → eventOf line ≡ eventBy (wordOf (take (fieldEnd line 0) line)) (left line (fieldEnd line 0))
-unfolding eventOf event left
-line-event line =
-    ap event (line-fields line) ∙ ap (λ (s : List ℕ). eventBy (wordOf s) (behind (drop (fieldEnd line 0) line))) (sym (line-first line))
+-- what was read as the event of a word
+unfoldable pub checked : Word → Scanned → Event
+checked w r = cond (r .formed) (cond (r .dash) (dashMade w (r .count) (λ k. getD (r .values) k 0)) (numbersMade w (r .count) (λ k. getD (r .values) k 0))) Event.Unread
 
--- ---- the steps of `parse_line`
+checked-event : (w : Word) (fs : List (List ℕ)) → checked w (scanFields 0 (replicate 9 0) false fs) ≡ eventBy w fs
+unfolding checked
+checked-event w fs = go (areFields 0 fs) refl
+  where
+    go : (t : Bool) → areFields 0 fs ≡ t → checked w (scanFields 0 (replicate 9 0) false fs) ≡ eventBy w fs
+    go true e =
+        let h = fields-nine 0 fs (omega arith) e in
+        let p : (k : ℕ) → getD (sets (replicate 9 0) 0 (numbers fs)) k 0 ≡ num fs k = λ k. number-at fs (omega arith) k in
+        ap (checked w) (scan-read 0 (replicate 9 0) false fs e)
+        ∙ ap₂ (λ (n : ℕ → ℕ) (m : ℕ). cond (anyDash false fs) (dashMade w m n) (numbersMade w m n)) (λ i k. p k i) (zero-add (length fs))
+        ∙ sym (view-made w fs e)
+    go false e =
+        ap (checked w) (scan-unread 0 (replicate 9 0) false fs e)
+        ∙ sym (not-kinds w fs (not-passed (areKinds (kindsOf w) fs) (λ q. no-way (sym e ∙ kinds-fields 0 (kindsOf w) fs (word-ok w) q))))
 
-module _ (line : List ℕ) (end : ℕ) (w : Word) (ks : List Kind) (r : Fields)
-    (ends : end ≡ fieldEnd line 0) (word : w ≡ wordOf (take end line)) (kinds : ks ≡ kindsOf w)
-    (read : r ≡ readAll 0 (replicate 9 0) false ks (left line end)) where
-  is-read : r ≡ readOf w (left line end)
-  is-read = read ∙ ap (λ (k : List Kind). readAll 0 (replicate 9 0) false k (left line end)) kinds
+-- ---- the first line of a text
 
-  is-event : eventBy w (left line end) ≡ eventOf line
-  is-event =
-      ap (λ (v : Word). eventBy v (left line end)) word
-      ∙ ap (λ (e : ℕ). eventBy (wordOf (take e line)) (left line e)) ends
-      ∙ sym (line-event line)
+module _ (text : List ℕ) (end : ℕ) (w : Word) (s : Starts text end w) where
+  ends : end ≡ length (until stops text)
+  ends = s .0 ∙ ap length (line-until text)
 
-  pub parse-unread : r .formed ≡ false → Event.Unread ≡ eventOf line
-  parse-unread t = sym (line-unread w (left line end) (ap (λ (x : Fields). x .formed) (sym is-read) ∙ t)) ∙ is-event
+  pub first-event : (r : Scanned) → r ≡ scan 0 (replicate 9 0) false (drop end text) → checked w r ≡ eventOf (firstLine text)
+  unfolding eventOf event
+  first-event r e =
+      ap (checked w)
+      (e ∙ ap (λ (k : ℕ). scan 0 (replicate 9 0) false (drop k text)) ends ∙ scan-behind 0 (replicate 9 0) false text
+      ∙ ap (λ (f : List ℕ). scanFields 0 (replicate 9 0) false (behind (drop (length f) (firstLine text)))) (sym (line-until text)))
+      ∙ checked-event w (behind (drop (length (firstField (firstLine text))) (firstLine text)))
+      ∙ ap (λ (v : Word). eventBy v (behind (drop (length (firstField (firstLine text))) (firstLine text)))) (s .1)
+      ∙ sym (ap event (fields-first (firstLine text)))
 
-  pub parse-made : (h : Held) → r .formed ≡ true → h ≡ heldBy (r .dash) (getD (r .values) 1 0) → made w (λ k. getD (r .values) k 0) h ≡ eventOf line
-  parse-made h t e =
-      ap (λ (x : Held). made w (λ k. getD (r .values) k 0) x) e
-      ∙ ap (λ (x : Fields). made w (λ k. getD (x .values) k 0) (heldBy (x .dash) (getD (x .values) 1 0))) is-read
-      ∙ line-made w (left line end) (ap (λ (x : Fields). x .formed) (sym is-read) ∙ t)
-      ∙ is-event
+  pub first-end : (k : ℕ) → k ≡ end + indexOf 10 (drop end text) → k ≡ indexOf 10 text
+  first-end k e = e ∙ ap (λ (j : ℕ). j + indexOf 10 (drop j text)) ends ∙ sym (until-found text)
+
+  pub start-room : end ≤ length text
+  start-room = let h = until-length stops text in omega (arith, ends, h)

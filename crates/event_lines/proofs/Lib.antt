@@ -1,3 +1,4 @@
+pub mod Choices
 pub mod Reading
 pub mod Grammar
 pub mod Starts

@@ -1,36 +1,29 @@
--- Laws of fields read one after the other. Assumes nothing.
+-- Laws of the fields of a line read one after the other from the bytes of a text. Assumes nothing.
 use mathlib.Core.Path.{_≡_, refl, sym, ap, ap₂, _∙_}
-use mathlib.Core.Bool.{Bool, true, false, cond, not, _&&_, _||_}
+use mathlib.Core.Bool.{Bool, true, false, cond, not, _&&_, _||_, or-true, or-false}
 use mathlib.Core.List.{List, [], _∷_}
-use Prim.Native.Nat.{ℕ, suc, _+_, _-_, _^_, _≤_, _<_}
+use Prim.Native.Nat.{ℕ, suc, _+_, _≤_, _<_}
 use native.Mathlib.Numerals.{add-one}
+use native.Mathlib.Nat.{add-zero}
 use native.Mathlib.Decide.{decLt}
 use native.Mathlib.Omega.{arith}
-use borrow.Author.Tests.{eq-eqb, ne-eqb, eqb-true, eqb-false, lt-ltb, le-ltb, ltb-true, ltb-false}
+use borrow.Author.Tests.{eq-eqb, ne-eqb, eqb-true, lt-ltb, le-ltb}
 use lib.Dec.{eqb, ltb}
-use lib.ListN.{length, take, drop, getD, set, replicate, drop-of-length-le}
+use lib.ListN.{length, drop, getD, set, List·getD-eq-default}
+use lib.Seq.{drop-cons, drop-drop, getD-drop}
 use Rattle.blocks.specs.Lists.{all, tests, after}
-use Rattle.blocks.proofs.Lists.{not-passed}
-use Rattle.blocks.proofs.Scans.{from, from-step, from-none}
-use Rattle.event_text.specs.declared.number.NumberAt.{NumberAt}
-use Rattle.event_text.specs.Fields.{firstField, fieldEnd, same}
-use Rattle.event_text.specs.Numbers.{isDigit, isNumber, value, decimal, numberAt}
-use Rattle.event_text.proofs.Fields.{field-at, fields-at, behind-comma, behind-end, end-within, same-true}
-use Rattle.event_text.proofs.Numbers.{number-ends, number-none}
-use Rattle.event_lines.specs.declared.fields.Field.{Field}
-use Rattle.event_lines.specs.declared.fields.Fields.{Fields}
-use Rattle.event_lines.specs.declared.line.Form.{Form}
-use Rattle.event_lines.specs.Grammar.{Kind, below, held, dash, isKind}
-use Rattle.event_lines.specs.Reading.{kindOf, kindsFor, numbersForm, fieldAs, fieldAt, dashAs, dashAt, left, readAll}
+use Rattle.blocks.proofs.Lists.{not-passed, default-free}
+use Rattle.event_text.specs.Fields.{firstLine, firstField, behind, same, fieldsOf}
+use Rattle.event_text.specs.Numbers.{isDigit, isNumber, value, decimal, leadingDigits}
+use Rattle.event_text.specs.Searches.{indexOf}
+use Rattle.event_text.proofs.Fields.{fields-first, same-true}
+use Rattle.event_text.proofs.Leading.{until, next, lead-whole, lead-parted, no-digit, AreDigits}
+use Rattle.event_text.proofs.FirstLines.{stops, stops-apart, line-until, digits-found}
+use Rattle.event_lines.specs.Grammar.{dash}
+use Rattle.event_lines.specs.Reading.{Scanned, unreadFields, mayBe, scanFields, scan}
 
--- ---- the limits of a word
-
-pub numbers-form : (f : Form) (n : ℕ) (ks : List Kind) → f ≡ numbersForm n → n ≤ 9 → kindsFor (take n (replicate 9 (2 ^ 64 - 1))) ≡ ks
-    → (length (f .limits) ≡ 9) × (f .count ≤ 9) × (kindsFor (take (f .count) (f .limits)) ≡ ks)
-unfolding numbersForm
-numbers-form f n ks e h k =
-    let c : f .count ≡ n = ap (λ (x : Form). x .count) e in
-    (ap (λ (x : Form). length (x .limits)) e, omega arith, ap (λ (x : Form). kindsFor (take (x .count) (x .limits))) e ∙ k)
+no-way {ℓ} : {A : Type ℓ} → true ≡ false → A
+no-way e = absurd (let z : _≡_ {A = ℕ} 0 1 = cc in let y : ⊥ = omega arith in y)
 
 -- ---- one field
 
@@ -38,198 +31,314 @@ dash-none : isNumber dash ≡ false
 unfolding isNumber tests after all isDigit
 dash-none = refl
 
-dash-zero : decimal dash ≡ 0
-unfolding decimal value
-dash-zero = refl
-
 -- a number is not "-"
 pub number-no-dash : (f : List ℕ) → isNumber f ≡ true → same f dash ≡ false
-number-no-dash f h =
-    not-passed (same f dash)
-    (λ e. let q : true ≡ false = sym h ∙ ap isNumber (same-true f dash e) ∙ dash-none in let z : _≡_ {A = ℕ} 0 1 = cc in let y : ⊥ = omega arith in y)
+number-no-dash f h = not-passed (same f dash) (λ e. let q : true ≡ false = sym h ∙ ap isNumber (same-true f dash e) ∙ dash-none in no-way q)
 
-module _ (line : List ℕ) (at limit : ℕ) where
-  pub dash-limited : (limit ≡ 0 → ⊥) → dashAt line at (kindOf limit) ≡ Field.Malformed
-  unfolding dashAt dashAs kindOf
-  dash-limited h = rw (ne-eqb limit 0 h)
+may-number : (i : ℕ) (f : List ℕ) → i < 9 → isNumber f ≡ true → mayBe i f ≡ true
+unfolding mayBe
+may-number i f h e = rw (lt-ltb i 9 h, e)
 
-  -- the part of the line that is looked at is the field
-  part : (end : ℕ) → end ≡ fieldEnd line at → same (firstField (drop at line)) dash ≡ same (take (end - at) (drop at line)) dash
-  part end e = ap (λ (l : List ℕ). same l dash) (sym (field-at line at) ∙ ap (λ (k : ℕ). take (k - at) (drop at line)) (sym e))
+and-false : (t : Bool) → t && false ≡ false
+and-false true = refl
+and-false false = refl
 
-  module _ (end : ℕ) (free : limit ≡ 0) (e : end ≡ fieldEnd line at) where
-    pub dash-is : same (take (end - at) (drop at line)) dash ≡ true → dashAt line at (kindOf limit) ≡ Field.Ends 0 true end
-    unfolding dashAt dashAs kindOf
-    dash-is t = rw (eq-eqb limit 0 free, part end e ∙ t) (ap (λ (k : ℕ). Field.Ends 0 true k) (sym e))
+may-none : (i : ℕ) (f : List ℕ) → isNumber f ≡ false → eqb i 1 && same f dash ≡ false → mayBe i f ≡ false
+unfolding mayBe
+may-none i f e q = rw (e, q) (and-false (ltb i 9))
 
-    pub dash-not : same (take (end - at) (drop at line)) dash ≡ false → dashAt line at (kindOf limit) ≡ Field.Malformed
-    unfolding dashAt dashAs kindOf
-    dash-not t = rw (eq-eqb limit 0 free, part end e ∙ t)
+none-empty : isNumber [] ≡ false
+unfolding isNumber tests after all
+none-empty = refl
 
--- a field that is no number is as "-" or not at all
-dash-as : (k : Kind) (f : List ℕ) (end : ℕ) → isNumber f ≡ false → dashAs k f end ≡ fieldAs k f end
-unfolding dashAs fieldAs isKind
-dash-as (below bound) f end h = sym (rw h)
-dash-as held f end h = rw h (go (same f dash) refl)
+dash-no-digit : isDigit 45 ≡ false
+unfolding isDigit
+dash-no-digit = refl
+
+-- ---- what stands behind a field
+
+-- all of the line
+abbrev pub formed : ℕ → List ℕ → Bool → Scanned
+formed i vs d = record { formed = true; count = i; values = vs; dash = d }
+
+pub scan-behind : (i : ℕ) (vs : List ℕ) (d : Bool) (s : List ℕ)
+    → scan i vs d (drop (length (until stops s)) s) ≡ scanFields i vs d (behind (drop (length (until stops s)) (firstLine s)))
+unfolding until scan scanFields firstLine behind
+scan-behind i vs d [] = refl
+scan-behind i vs d (b ∷ bs) = go (eqb b 44) (eqb b 10) refl refl (scan-behind i vs d bs)
   where
-    go : (t : Bool) → same f dash ≡ t → cond t (Field.Ends 0 true end) Field.Malformed ≡ cond t (Field.Ends (decimal f) t end) Field.Malformed
-    go true q = ap (λ (n : ℕ). Field.Ends n true end) (sym (ap decimal (same-true f dash q) ∙ dash-zero))
-    go false q = refl
+    go : (t u : Bool) → eqb b 44 ≡ t → eqb b 10 ≡ u
+        → scan i vs d (drop (length (until stops bs)) bs) ≡ scanFields i vs d (behind (drop (length (until stops bs)) (firstLine bs)))
+        → scan i vs d (drop (length (cond (t || u) [] (b ∷ until stops bs))) (b ∷ bs))
+        ≡ scanFields i vs d (behind (drop (length (cond (t || u) [] (b ∷ until stops bs))) (cond u [] (b ∷ firstLine bs))))
+    go true true p q r = absurd (let x = eqb-true b 44 p in let y = eqb-true b 10 q in let z : ⊥ = omega arith in z)
+    go true false p q r = rw (q, p)
+    go false true p q r = rw q
+    go false false p q r = r
 
-pub field-none : (line : List ℕ) (at : ℕ) (k : Kind) → numberAt line at ≡ NumberAt.Malformed → dashAt line at k ≡ fieldAt line at k
-unfolding dashAt fieldAt
-field-none line at k h = dash-as k (firstField (drop at line)) (fieldEnd line at) (number-none line at h)
+-- another field
+scan-comma : (i : ℕ) (vs : List ℕ) (d : Bool) (s : List ℕ) → scan i vs d (44 ∷ s)
+    ≡ cond (mayBe i (until stops s)) (scan (suc i) (set vs i (decimal (until stops s))) (d || same (until stops s) dash) (drop (length (until stops s)) s)) unreadFields
+unfolding scan scanFields
+scan-comma i vs d s =
+    ap (scanFields i vs d) (fields-first (firstLine s))
+    ∙ ap (λ (f : List ℕ). scanFields i vs d (f ∷ behind (drop (length f) (firstLine s)))) (line-until s)
+    ∙ ap (λ (r : Scanned). cond (mayBe i (until stops s)) r unreadFields)
+    (sym (scan-behind (suc i) (set vs i (decimal (until stops s))) (d || same (until stops s) dash) s))
 
--- a number past its limit or not
-as-number : (limit end : ℕ) (f : List ℕ) → isNumber f ≡ true
-    → fieldAs (kindOf limit) f end ≡ cond (not (eqb limit 0) && ltb limit (decimal f)) Field.Malformed (Field.Ends (decimal f) false end)
-unfolding fieldAs kindOf isKind
-as-number limit end f h = go (eqb limit 0) (ltb limit (decimal f)) refl
+-- no end of a field
+pub scan-other : (i : ℕ) (vs : List ℕ) (d : Bool) (u : List ℕ) → stops (getD u 0 44) ≡ false → scan i vs d u ≡ unreadFields
+unfolding scan
+scan-other i vs d [] e = no-way e
+scan-other i vs d (b ∷ bs) e = go (eqb b 44) (eqb b 10) e
   where
-    d : same f dash ≡ false
-    d = number-no-dash f h
+    go : (t u : Bool) → t || u ≡ false → cond u (formed i vs d) (cond t (scanFields i vs d (fieldsOf (firstLine bs))) unreadFields) ≡ unreadFields
+    go true u e = no-way e
+    go false true e = no-way e
+    go false false e = refl
 
-    go : (t u : Bool) → ltb limit (decimal f) ≡ u
-        → cond (isKind (cond t held (below (limit + 1))) f) (Field.Ends (decimal f) (same f dash) end) Field.Malformed
-        ≡ cond (not t && u) Field.Malformed (Field.Ends (decimal f) false end)
-    go true u q = rw (h, d)
-    go false true q = let k = ltb-true limit (decimal f) q in rw (h, le-ltb (decimal f) (limit + 1) (omega arith))
-    go false false q = let k = ltb-false limit (decimal f) q in rw (h, lt-ltb (decimal f) (limit + 1) (omega arith), d)
+-- the line's end
+scan-ended : (i : ℕ) (vs : List ℕ) (d : Bool) (u : List ℕ) → eqb (getD u 0 10) 10 ≡ true → scan i vs d u ≡ formed i vs d
+unfolding scan
+scan-ended i vs d [] e = refl
+scan-ended i vs d (b ∷ bs) e = rw e
 
-module _ (line : List ℕ) (at limit v end : ℕ) (e : numberAt line at ≡ NumberAt.Ends v end) where
-  field-number : fieldAt line at (kindOf limit) ≡ cond (not (eqb limit 0) && ltb limit v) Field.Malformed (Field.Ends v false end)
-  unfolding fieldAt
-  field-number =
-      let n = number-ends line at v end e in
-      as-number limit (fieldEnd line at) (firstField (drop at line)) (n .number)
-      ∙ ap₂ (λ (x y : ℕ). cond (not (eqb limit 0) && ltb limit x) Field.Malformed (Field.Ends x false y)) (n .worth) (n .ends)
+-- ---- the field behind a comma
 
-  pub field-past : not (eqb limit 0) && ltb limit v ≡ true → fieldAt line at (kindOf limit) ≡ Field.Malformed
-  field-past t = field-number ∙ ap (λ (b : Bool). cond b Field.Malformed (Field.Ends v false end)) t
+-- it starts with a digit
+digit-no-dash : (s : List ℕ) → isNumber (leadingDigits s) ≡ true → same (until stops s) dash ≡ false
+unfolding until leadingDigits same
+digit-no-dash [] e = refl
+digit-no-dash (b ∷ bs) e = go (isDigit b) (eqb b 44 || eqb b 10) (eqb b 45) refl refl e
+  where
+    go : (t u v : Bool) → isDigit b ≡ t → eqb b 45 ≡ v → isNumber (cond t (b ∷ leadingDigits bs) []) ≡ true
+        → same (cond u [] (b ∷ until stops bs)) dash ≡ false
+    go false u v p q r = no-way (sym r ∙ none-empty)
+    go true true v p q r = refl
+    go true false true p q r = no-way (sym p ∙ ap isDigit (eqb-true b 45 q) ∙ dash-no-digit)
+    go true false false p q r = rw q
 
-  pub field-within : not (eqb limit 0) && ltb limit v ≡ false → fieldAt line at (kindOf limit) ≡ Field.Ends v false end
-  field-within t = field-number ∙ ap (λ (b : Bool). cond b Field.Malformed (Field.Ends v false end)) t
+-- it does not start with "-"
+other-no-dash : (s : List ℕ) → eqb (getD s 0 0) 45 ≡ false → same (until stops s) dash ≡ false
+unfolding until same
+other-no-dash [] e = refl
+other-no-dash (b ∷ bs) e = go (eqb b 44 || eqb b 10)
+  where
+    go : (u : Bool) → same (cond u [] (b ∷ until stops bs)) dash ≡ false
+    go true = refl
+    go false = rw e
 
--- an empty field is of no kind
-no-kind : (k : Kind) → isKind k [] ≡ false
-unfolding isKind isNumber tests after all same
-no-kind (below bound) = refl
-no-kind held = refl
+until-none : (s : List ℕ) → stops (getD s 0 44) ≡ true → until stops s ≡ []
+unfolding until
+until-none [] e = refl
+until-none (b ∷ bs) e = rw e
 
--- ---- all of them
+until-some : (s : List ℕ) → stops (getD s 0 44) ≡ false → same (45 ∷ until stops s) dash ≡ false
+unfolding until same
+until-some [] e = no-way e
+until-some (b ∷ bs) e = rw e
 
--- the next limit and the next field
-next-kind : (limits : List ℕ) (i : ℕ) → i < length limits → kindsFor (from i limits) ≡ kindOf (getD limits i 0) ∷ kindsFor (from (i + 1) limits)
-unfolding kindsFor
-next-kind limits i h = ap kindsFor (from-step i (i + 1) limits refl h)
+until-dash : (s : List ℕ) → until stops (45 ∷ s) ≡ 45 ∷ until stops s
+unfolding until
+until-dash s = refl
 
-next-field : (line : List ℕ) (end : ℕ) → end < length line → left line end ≡ firstField (drop (end + 1) line) ∷ left line (fieldEnd line (end + 1))
-unfolding left
-next-field line end h = behind-comma line end h ∙ fields-at line (end + 1)
+dash-first : (s : List ℕ) → all isDigit (45 ∷ s) ≡ false
+unfolding all isDigit
+dash-first s = refl
 
-abbrev stopped : List ℕ → Bool → Fields
-stopped vs d = record { formed = false; values = vs; dash = d }
+dash-read : (vs : List ℕ) (d : Bool) (s : List ℕ)
+    → cond (mayBe 1 dash) (scan 2 (set vs 1 (decimal dash)) (d || same dash dash) (drop 1 (45 ∷ s))) unreadFields ≡ scan 2 (set vs 1 0) true s
+unfolding mayBe isNumber tests after all isDigit same decimal value
+dash-read vs d s = ap (λ (t : Bool). scan 2 (set vs 1 0) t s) (or-true d)
 
-module _ (line limits : List ℕ) (i end : ℕ) (vs : List ℕ) (d : Bool) where
-  abbrev reads : Fields
-  reads = readAll i vs d (kindsFor (from i limits)) (left line end)
-
-  -- a field is missing
-  read-short : i < length limits → end ≡ length line → reads ≡ stopped vs d
-  unfolding readAll left
-  read-short h e = ap₂ (λ (ks : List Kind) (fs : List (List ℕ)). readAll i vs d ks fs) (next-kind limits i h) (behind-end line end (omega arith))
-
-  -- the last was read
-  pub read-last : length limits ≤ i → end ≤ length line → record { formed = eqb end (length line); values = vs; dash = d } ≡ reads
-  unfolding readAll left kindsFor
-  read-last h k = go (eqb end (length line)) refl
+module _ (i : ℕ) (vs : List ℕ) (d : Bool) (s : List ℕ) where
+  -- a number, or what is none
+  pub scan-number : isNumber (leadingDigits s) ≡ true → i < 9
+      → scan i vs d (44 ∷ s) ≡ scan (suc i) (set vs i (decimal (leadingDigits s))) d (drop (length (leadingDigits s)) s)
+  scan-number e h = scan-comma i vs d s ∙ go (stops (next s)) refl
     where
-      past : Dec (end < length line) → (end ≡ length line → ⊥) → end < length line
-      past (yes p) n = p
-      past (no p) n = absurd (n (omega arith))
-
-      none : kindsFor (from i limits) ≡ []
-      none = ap kindsFor (from-none i limits h)
-
-      go : (t : Bool) → eqb end (length line) ≡ t → record { formed = t; values = vs; dash = d } ≡ readAll i vs d (kindsFor (from i limits)) (left line end)
+      go : (t : Bool) → stops (next s) ≡ t
+          → cond (mayBe i (until stops s)) (scan (suc i) (set vs i (decimal (until stops s))) (d || same (until stops s) dash) (drop (length (until stops s)) s)) unreadFields
+          ≡ scan (suc i) (set vs i (decimal (leadingDigits s))) d (drop (length (leadingDigits s)) s)
       go true q =
-          let e = eqb-true end (length line) q in
-          sym (ap₂ (λ (ks : List Kind) (fs : List (List ℕ)). readAll i vs d ks fs) none (behind-end line end (omega arith)))
+          ap (λ (f : List ℕ). cond (mayBe i f) (scan (suc i) (set vs i (decimal f)) (d || same f dash) (drop (length f) s)) unreadFields)
+          (lead-whole stops refl stops-apart s q)
+          ∙ rw (may-number i (leadingDigits s) h e, number-no-dash (leadingDigits s) e, or-false d)
       go false q =
-          let n = eqb-false end (length line) q in
-          let l : end < length line = past (decLt end (length line)) n in
-          sym (ap₂ (λ (ks : List Kind) (fs : List (List ℕ)). readAll i vs d ks fs) none (next-field line end l))
+          let n : isNumber (until stops s) ≡ false = no-digit (until stops s) (lead-parted stops refl stops-apart s q) in
+          let k : ℕ = length (leadingDigits s) in
+          let a : getD (drop (length (leadingDigits s)) s) 0 44 ≡ next s =
+          getD-drop (length (leadingDigits s)) s 0 44 ∙ ap (λ (j : ℕ). getD s j 44) (add-zero (length (leadingDigits s))) in
+          ap (λ (t : Bool). cond t (scan (suc i) (set vs i (decimal (until stops s))) (d || same (until stops s) dash) (drop (length (until stops s)) s)) unreadFields)
+          (may-none i (until stops s) n (rw (digit-no-dash s e) (and-false (eqb i 1))))
+          ∙ sym (scan-other (suc i) (set vs i (decimal (leadingDigits s))) d (drop (length (leadingDigits s)) s) (ap stops a ∙ q))
 
-  module _ (inside : i < length limits) (more : end < length line) where
-    one : reads ≡ cond (isKind (kindOf (getD limits i 0)) (firstField (drop (end + 1) line)))
-        (readAll (suc i) (set vs i (decimal (firstField (drop (end + 1) line)))) (d || same (firstField (drop (end + 1) line)) dash)
-        (kindsFor (from (i + 1) limits)) (left line (fieldEnd line (end + 1)))) (stopped vs d)
-    unfolding readAll
-    one = ap₂ (λ (ks : List Kind) (fs : List (List ℕ)). readAll i vs d ks fs) (next-kind limits i inside) (next-field line end more)
-
-    -- the next one is not of its kind
-    pub read-bad : fieldAt line (end + 1) (kindOf (getD limits i 0)) ≡ Field.Malformed → reads ≡ stopped vs d
-    unfolding fieldAt fieldAs
-    read-bad e = one ∙ go _ (isKind (kindOf (getD limits i 0)) (firstField (drop (end + 1) line))) e
-      where
-        f : List ℕ
-        f = firstField (drop (end + 1) line)
-
-        go : (r : Fields) (t : Bool) → cond t (Field.Ends (decimal f) (same f dash) (fieldEnd line (end + 1))) Field.Malformed ≡ Field.Malformed
-            → cond t r (stopped vs d) ≡ stopped vs d
-        go r true q = absurd (let z : _≡_ {A = ℕ} 0 1 = cc in let y : ⊥ = omega arith in y)
-        go r false q = refl
-
-    -- the next one is
-    pub read-good : (v : ℕ) (h : Bool) (next : ℕ) → fieldAt line (end + 1) (kindOf (getD limits i 0)) ≡ Field.Ends v h next
-        → reads ≡ readAll (i + 1) (set vs i v) (d || h) (kindsFor (from (i + 1) limits)) (left line next)
-    unfolding fieldAt fieldAs
-    read-good v h next e = one ∙ go (isKind (kindOf (getD limits i 0)) (firstField (drop (end + 1) line))) e
-      where
-        f : List ℕ
-        f = firstField (drop (end + 1) line)
-
-        goes : ℕ → ℕ → Bool → ℕ → Fields
-        goes j w u n = readAll j (set vs i w) (d || u) (kindsFor (from (i + 1) limits)) (left line n)
-
-        go : (t : Bool) → cond t (Field.Ends (decimal f) (same f dash) (fieldEnd line (end + 1))) Field.Malformed ≡ Field.Ends v h next
-            → cond t (goes (suc i) (decimal f) (same f dash) (fieldEnd line (end + 1))) (stopped vs d) ≡ goes (i + 1) v h next
-        go true q =
-            let a : decimal f ≡ v = cc in
-            let b : same f dash ≡ h = cc in
-            let g : fieldEnd line (end + 1) ≡ next = cc in
-            ap (λ (j : ℕ). goes j (decimal f) (same f dash) (fieldEnd line (end + 1))) (sym (add-one i))
-            ∙ ap (λ (w : ℕ). goes (i + 1) w (same f dash) (fieldEnd line (end + 1))) a
-            ∙ ap₂ (λ (u : Bool) (n : ℕ). goes (i + 1) v u n) b g
-        go false q = absurd (let z : _≡_ {A = ℕ} 0 1 = cc in let y : ⊥ = omega arith in y)
-
-  -- nothing is behind the last comma, or there is none
-  pub read-empty : i < length limits → end ≤ length line → length line ≤ end + 1 → reads ≡ stopped vs d
-  unfolding firstField
-  read-empty h k m = go (decLt end (length line))
+  none : isNumber (leadingDigits s) ≡ false → isNumber (until stops s) ≡ false
+  none e = go (stops (next s)) refl
     where
-      f : List ℕ
-      f = firstField (drop (end + 1) line)
+      go : (t : Bool) → stops (next s) ≡ t → isNumber (until stops s) ≡ false
+      go true q = ap isNumber (lead-whole stops refl stops-apart s q) ∙ e
+      go false q = no-digit (until stops s) (lead-parted stops refl stops-apart s q)
 
-      left-out : (r : Fields) (t : Bool) → t ≡ false → cond t r (stopped vs d) ≡ stopped vs d
-      left-out r true q = absurd (let z : _≡_ {A = ℕ} 0 1 = cc in let y : ⊥ = omega arith in y)
-      left-out r false q = refl
+  pub scan-none : isNumber (leadingDigits s) ≡ false → not (eqb i 1) || not (eqb (getD s 0 0) 45) ≡ true → scan i vs d (44 ∷ s) ≡ unreadFields
+  scan-none e t =
+      scan-comma i vs d s
+      ∙ ap (λ (t : Bool). cond t (scan (suc i) (set vs i (decimal (until stops s))) (d || same (until stops s) dash) (drop (length (until stops s)) s)) unreadFields)
+      (may-none i (until stops s) (none e) (go (eqb i 1) (eqb (getD s 0 0) 45) refl t))
+    where
+      go : (t u : Bool) → eqb (getD s 0 0) 45 ≡ u → not t || not u ≡ true → t && same (until stops s) dash ≡ false
+      go true true q r = no-way (sym r)
+      go true false q r = other-no-dash s q
+      go false u q r = refl
 
-      go : Dec (end < length line) → reads ≡ stopped vs d
-      go (yes p) =
-          let e : f ≡ [] = ap firstField (drop-of-length-le line m) in
-          one h p ∙ left-out _ (isKind (kindOf (getD limits i 0)) f) (ap (isKind (kindOf (getD limits i 0))) e ∙ no-kind (kindOf (getD limits i 0)))
-      go (no p) = read-short h (omega arith)
+scan-many : (i : ℕ) (vs : List ℕ) (d : Bool) (s : List ℕ) → 9 ≤ i → scan i vs d (44 ∷ s) ≡ unreadFields
+unfolding mayBe
+scan-many i vs d s h =
+    scan-comma i vs d s
+    ∙ ap (λ (t : Bool). cond (t && (isNumber (until stops s) || (eqb i 1 && same (until stops s) dash)))
+    (scan (suc i) (set vs i (decimal (until stops s))) (d || same (until stops s) dash) (drop (length (until stops s)) s)) unreadFields) (le-ltb i 9 h)
 
--- a field ends within the line
-pub field-room : (line : List ℕ) (at : ℕ) (k : Kind) (v : ℕ) (h : Bool) (next : ℕ) → at ≤ length line → fieldAt line at k ≡ Field.Ends v h next
-    → next ≤ length line
-unfolding fieldAt fieldAs
-field-room line at k v h next w e = go (isKind k (firstField (drop at line))) e
+-- "-" is field 1, or what starts with it is no field
+dash-field : (vs : List ℕ) (d : Bool) (s : List ℕ) → scan 1 vs d (44 ∷ 45 ∷ s) ≡ scan 2 (set vs 1 0) true s
+dash-field vs d s = scan-comma 1 vs d (45 ∷ s) ∙ ap (λ (f : List ℕ). read f) opened ∙ go (stops (getD s 0 44)) refl
   where
-    f : List ℕ
-    f = firstField (drop at line)
+    read : List ℕ → Scanned
+    read f = cond (mayBe 1 f) (scan 2 (set vs 1 (decimal f)) (d || same f dash) (drop (length f) (45 ∷ s))) unreadFields
 
-    go : (t : Bool) → cond t (Field.Ends (decimal f) (same f dash) (fieldEnd line at)) Field.Malformed ≡ Field.Ends v h next → next ≤ length line
-    go true q = let n : fieldEnd line at ≡ next = cc in let m = end-within line at w in omega arith
-    go false q = absurd (let z : _≡_ {A = ℕ} 0 1 = cc in let y : ⊥ = omega arith in y)
+    opened : until stops (45 ∷ s) ≡ 45 ∷ until stops s
+    opened = until-dash s
+
+    go : (t : Bool) → stops (getD s 0 44) ≡ t → read (45 ∷ until stops s) ≡ scan 2 (set vs 1 0) true s
+    go true q = ap (λ (l : List ℕ). read (45 ∷ l)) (until-none s q) ∙ dash-read vs d s
+    go false q =
+        ap (λ (t : Bool). cond t (scan 2 (set vs 1 (decimal (45 ∷ until stops s))) (d || same (45 ∷ until stops s) dash) (drop (length (45 ∷ until stops s)) (45 ∷ s))) unreadFields)
+        (may-none 1 (45 ∷ until stops s) (no-digit (45 ∷ until stops s) (dash-first (until stops s))) (until-some s q))
+        ∙ sym (scan-other 2 (set vs 1 0) true s q)
+
+module _ (i : ℕ) (vs : List ℕ) (d : Bool) where
+  pub scan-dash : (s : List ℕ) → not (eqb i 1) || not (eqb (getD s 0 0) 45) ≡ false → scan i vs d (44 ∷ s) ≡ scan (suc i) (set vs i 0) true (drop 1 s)
+  scan-dash [] t = no-way (sym (or-true (not (eqb i 1))) ∙ t)
+  scan-dash (b ∷ bs) t = go (eqb i 1) (eqb b 45) refl refl t
+    where
+      go : (x y : Bool) → eqb i 1 ≡ x → eqb b 45 ≡ y → not x || not y ≡ false → scan i vs d (44 ∷ b ∷ bs) ≡ scan (suc i) (set vs i 0) true bs
+      go true true p q r =
+          ap₂ (λ (j c : ℕ). scan j vs d (44 ∷ c ∷ bs)) (eqb-true i 1 p) (eqb-true b 45 q) ∙ dash-field vs d bs
+          ∙ ap (λ (j : ℕ). scan (suc j) (set vs j 0) true bs) (sym (eqb-true i 1 p))
+      go true false p q r = no-way r
+      go false y p q r = no-way r
+
+-- ---- the same at a place of the text
+
+module _ (text : List ℕ) (end : ℕ) where
+  pub comma-inside : eqb (getD text end 0) 44 ≡ true → end < length text
+  comma-inside e = go (decLt end (length text))
+    where
+      go : Dec (end < length text) → end < length text
+      go (yes p) = p
+      go (no p) = absurd (let a : getD text end 0 ≡ 0 = List·getD-eq-default text 0 (omega arith) in let c = eqb-true (getD text end 0) 44 e in let y : ⊥ = omega arith in y)
+
+  pub is-dash : (i : ℕ) → not (eqb i 1) || not (eqb (getD text end 0) 45) ≡ false → getD text end 0 ≡ 45
+  is-dash i e = go (eqb i 1) (eqb (getD text end 0) 45) refl e
+    where
+      go : (x y : Bool) → eqb (getD text end 0) 45 ≡ y → not x || not y ≡ false → getD text end 0 ≡ 45
+      go true true q r = eqb-true (getD text end 0) 45 q
+      go true false q r = no-way r
+      go false y q r = no-way r
+
+  pub dash-inside : (i : ℕ) → not (eqb i 1) || not (eqb (getD text end 0) 45) ≡ false → end < length text
+  dash-inside i e = go (decLt end (length text))
+    where
+      go : Dec (end < length text) → end < length text
+      go (yes p) = p
+      go (no p) = absurd (let a : getD text end 0 ≡ 0 = List·getD-eq-default text 0 (omega arith) in let c = is-dash i e in let y : ⊥ = omega arith in y)
+
+  head-at : (x : ℕ) → getD (drop end text) 0 x ≡ getD text end x
+  head-at x = getD-drop end text 0 x ∙ ap (λ (k : ℕ). getD text k x) (add-zero end)
+
+  module _ (i : ℕ) (vs : List ℕ) (d : Bool) where
+    -- the line ends here
+    pub at-line-end : eqb (getD text end 10) 10 ≡ true → scan i vs d (drop end text) ≡ formed i vs d
+    at-line-end e = scan-ended i vs d (drop end text) (ap (λ (b : ℕ). eqb b 10) (head-at 10) ∙ e)
+
+    -- nothing does
+    pub at-other : eqb (getD text end 0) 44 ≡ false → eqb (getD text end 10) 10 ≡ false → scan i vs d (drop end text) ≡ unreadFields
+    at-other c e = scan-other i vs d (drop end text) (ap stops (head-at 44) ∙ go (decLt end (length text)))
+      where
+        go : Dec (end < length text) → stops (getD text end 44) ≡ false
+        go (yes p) =
+            ap₂ (λ (x y : Bool). x || y)
+            (ap (λ (b : ℕ). eqb b 44) (default-free text end 44 0 p) ∙ c)
+            (ap (λ (b : ℕ). eqb b 10) (default-free text end 44 10 p) ∙ e)
+        go (no p) = no-way (sym (eq-eqb (getD text end 10) 10 (List·getD-eq-default text 10 (omega arith))) ∙ e)
+
+    module _ (here : eqb (getD text end 0) 44 ≡ true) where
+      opened : drop end text ≡ 44 ∷ drop (end + 1) text
+      opened =
+          drop-cons text end 0 (comma-inside here)
+          ∙ ap₂ (λ (b k : ℕ). b ∷ drop k text) (eqb-true (getD text end 0) 44 here) (sym (add-one end))
+
+      pub at-number : (v last : ℕ) → AreDigits text (end + 1) v last → i < 9 → scan i vs d (drop end text) ≡ scan (i + 1) (set vs i v) d (drop last text)
+      at-number v last a h =
+          let s : List ℕ = drop (end + 1) text in
+          ap (scan i vs d) opened ∙ scan-number i vs d (drop (end + 1) text) (a .number) h
+          ∙ ap₂ (λ (w : ℕ) (u : List ℕ). scan (suc i) (set vs i w) d u) (a .worth)
+          (drop-drop (length (leadingDigits (drop (end + 1) text))) (end + 1) text ∙ ap (λ (k : ℕ). drop k text) (a .ends))
+          ∙ ap (λ (j : ℕ). scan j (set vs i v) d (drop last text)) (sym (add-one i))
+
+      -- nine were read before
+      pub at-many : 9 ≤ i → scan i vs d (drop end text) ≡ unreadFields
+      at-many h = ap (scan i vs d) opened ∙ scan-many i vs d (drop (end + 1) text) h
+
+      pub at-none : isNumber (leadingDigits (drop (end + 1) text)) ≡ false → not (eqb i 1) || not (eqb (getD text (end + 1) 0) 45) ≡ true
+          → scan i vs d (drop end text) ≡ unreadFields
+      at-none n t =
+          ap (scan i vs d) opened
+          ∙ scan-none i vs d (drop (end + 1) text) n (ap (λ (b : ℕ). not (eqb i 1) || not (eqb b 45)) (getD-drop (end + 1) text 0 0 ∙ ap (λ (k : ℕ). getD text k 0) (add-zero (end + 1))) ∙ t)
+
+      pub at-dash : not (eqb i 1) || not (eqb (getD text (end + 1) 0) 45) ≡ false
+          → scan i vs d (drop end text) ≡ scan (i + 1) (set vs i 0) true (drop (end + 1 + 1) text)
+      at-dash t =
+          ap (scan i vs d) opened
+          ∙ scan-dash i vs d (drop (end + 1) text) (ap (λ (b : ℕ). not (eqb i 1) || not (eqb b 45)) (getD-drop (end + 1) text 0 0 ∙ ap (λ (k : ℕ). getD text k 0) (add-zero (end + 1))) ∙ t)
+          ∙ ap₂ (λ (j : ℕ) (u : List ℕ). scan j (set vs i 0) true u) (sym (add-one i)) (drop-drop 1 (end + 1) text)
+
+-- ---- where the line ends
+
+-- as looked for from i on
+abbrev pub lineEndFrom : ℕ → List ℕ → ℕ
+lineEndFrom i text = i + indexOf 10 (drop i text)
+
+module _ (text : List ℕ) (i : ℕ) where
+  pub end-other : i < length text → (getD text i 0 ≡ 10 → ⊥) → lineEndFrom i text ≡ lineEndFrom (i + 1) text
+  unfolding indexOf
+  end-other h n =
+      ap (λ (u : List ℕ). i + indexOf 10 u) (drop-cons text i 0 h ∙ ap (λ (k : ℕ). getD text i 0 ∷ drop k text) (sym (add-one i)))
+      ∙ ap (λ (t : Bool). i + cond t 0 (suc (indexOf 10 (drop (i + 1) text)))) (ne-eqb (getD text i 0) 10 n)
+      ∙ (let e : i + suc (indexOf 10 (drop (i + 1) text)) ≡ i + 1 + indexOf 10 (drop (i + 1) text) = omega arith in e)
+
+  pub end-comma : eqb (getD text i 0) 44 ≡ true → lineEndFrom i text ≡ lineEndFrom (i + 1) text
+  end-comma e = end-other (comma-inside text i e) (λ q. let c = eqb-true (getD text i 0) 44 e in let y : ⊥ = omega arith in y)
+
+  pub end-dash : (k : ℕ) → not (eqb k 1) || not (eqb (getD text i 0) 45) ≡ false → lineEndFrom i text ≡ lineEndFrom (i + 1) text
+  end-dash k e = end-other (dash-inside text i k e) (λ q. let c = is-dash text i k e in let y : ⊥ = omega arith in y)
+
+  pub end-digits : (v last : ℕ) → AreDigits text i v last → lineEndFrom i text ≡ lineEndFrom last text
+  end-digits v last a =
+      let k : ℕ = length (leadingDigits (drop i text)) in
+      ap (λ (j : ℕ). i + j) (digits-found (drop i text))
+      ∙ (let e : i + (length (leadingDigits (drop i text)) + indexOf 10 (drop (length (leadingDigits (drop i text))) (drop i text)))
+      ≡ i + length (leadingDigits (drop i text)) + indexOf 10 (drop (length (leadingDigits (drop i text))) (drop i text)) = omega arith in e)
+      ∙ ap₂ (λ (j : ℕ) (u : List ℕ). j + indexOf 10 u) (a .ends)
+      (drop-drop (length (leadingDigits (drop i text))) i text ∙ ap (λ (j : ℕ). drop j text) (a .ends))
+
+  pub end-here : eqb (getD text i 10) 10 ≡ true → lineEndFrom i text ≡ i
+  unfolding indexOf
+  end-here e = go (drop i text) (getD-drop i text 0 10 ∙ ap (λ (k : ℕ). getD text k 10) (add-zero i) ∙ eqb-true (getD text i 10) 10 e)
+    where
+      go : (u : List ℕ) → getD u 0 10 ≡ 10 → i + indexOf 10 u ≡ i
+      go [] q = add-zero i
+      go (b ∷ bs) q = rw (eq-eqb b 10 q) (add-zero i)
+
+-- what was not formed says nothing of its end
+pub formless : (t : Bool) (a b : ℕ) → t ≡ false → t ≡ true → a ≡ b
+formless t a b e q = no-way (sym q ∙ e)

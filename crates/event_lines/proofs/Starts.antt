@@ -9,9 +9,10 @@ use lib.Dec.{eqb}
 use lib.ListN.{length, getD, take, drop}
 use lib.Seq.{drop-cons}
 use Rattle.blocks.proofs.Lists.{and-both}
-use Rattle.event_text.specs.Fields.{comma, firstField, fieldEnd, same}
+use Rattle.event_text.specs.Fields.{comma, firstField, firstLine, same}
+use Rattle.event_text.proofs.FirstLines.{stops, line-until, take-until, until-length}
 use Rattle.event_lines.specs.declared.event.Word.{Word}
-use Rattle.event_lines.specs.Words.{wordOf, fourOf}
+use Rattle.event_lines.specs.Words.{wordOf, fourOf, Starts}
 
 -- ---- the first four bytes
 
@@ -44,13 +45,9 @@ four-read line h p q r s n e =
 
 -- ---- the words
 
--- where the word of a line ends, and which it is
-abbrev pub Starts : List ℕ → ℕ → Word → Type 0
-Starts line end w = (end ≡ fieldEnd line 0) × (w ≡ wordOf (take end line))
-
 -- a line that is another
 started : (line other : List ℕ) (end : ℕ) (w : Word) → line ≡ other → Starts other end w → Starts line end w
-started line other end w e s = (s .0 ∙ sym (ap (λ (l : List ℕ). fieldEnd l 0) e), s .1 ∙ sym (ap (λ (l : List ℕ). wordOf (take end l)) e))
+started line other end w e s = (s .0 ∙ sym (ap (λ (l : List ℕ). length (firstField (firstLine l))) e), s .1 ∙ sym (ap (λ (l : List ℕ). wordOf (firstField (firstLine l))) e))
 
 module _ (line : List ℕ) (code : ℕ) (read : line ≡ fourOf code (drop 4 line)) where
   known : (k : ℕ) → code ≡ k → line ≡ fourOf k (drop 4 line)
@@ -61,24 +58,24 @@ module _ (line : List ℕ) (code : ℕ) (read : line ≡ fourOf code (drop 4 lin
     four-comma k e c = known k e ∙ ap (fourOf k) (drop-cons line 4 0 (omega arith) ∙ ap (λ (b : ℕ). b ∷ drop 5 line) c)
 
     pub take-starts : code ≡ 1701536116 → getD line 4 0 ≡ comma → Starts line 4 Word.Take
-    unfolding fourOf fieldEnd firstField wordOf same
+    unfolding fourOf firstField firstLine wordOf same
     take-starts e c = started line (fourOf 1701536116 (comma ∷ drop 5 line)) 4 Word.Take (four-comma 1701536116 e c) (refl, refl)
 
     pub plan-starts : code ≡ 1851878512 → getD line 4 0 ≡ comma → Starts line 4 Word.Plan
-    unfolding fourOf fieldEnd firstField wordOf same
+    unfolding fourOf firstField firstLine wordOf same
     plan-starts e c = started line (fourOf 1851878512 (comma ∷ drop 5 line)) 4 Word.Plan (four-comma 1851878512 e c) (refl, refl)
 
     pub park-starts : code ≡ 1802658160 → getD line 4 0 ≡ comma → Starts line 4 Word.Park
-    unfolding fourOf fieldEnd firstField wordOf same
+    unfolding fourOf firstField firstLine wordOf same
     park-starts e c = started line (fourOf 1802658160 (comma ∷ drop 5 line)) 4 Word.Park (four-comma 1802658160 e c) (refl, refl)
 
   pub pop-starts : code ≡ 745566064 → Starts line 3 Word.Pop
-  unfolding fourOf fieldEnd firstField wordOf same
+  unfolding fourOf firstField firstLine wordOf same
   pop-starts e = started line (fourOf 745566064 (drop 4 line)) 3 Word.Pop (known 745566064 e) (refl, refl)
 
   module _ (room : 7 ≤ length line) where
     pub write-starts : eqb code 1953067639 && eqb (getD line 4 0) 101 && eqb (getD line 5 0) comma ≡ true → Starts line 5 Word.Write
-    unfolding fourOf fieldEnd firstField wordOf same
+    unfolding fourOf firstField firstLine wordOf same
     write-starts t =
         let p = and-both (eqb code 1953067639 && eqb (getD line 4 0) 101) (eqb (getD line 5 0) comma) t in
         let q = and-both (eqb code 1953067639) (eqb (getD line 4 0) 101) (p .0) in
@@ -91,7 +88,7 @@ module _ (line : List ℕ) (code : ℕ) (read : line ≡ fourOf code (drop 4 lin
         (refl, refl)
 
     pub retire-starts : eqb code 1769235826 && eqb (getD line 4 0) 114 && eqb (getD line 5 0) 101 && eqb (getD line 6 0) comma ≡ true → Starts line 6 Word.Retire
-    unfolding fourOf fieldEnd firstField wordOf same
+    unfolding fourOf firstField firstLine wordOf same
     retire-starts t =
         let o = and-both (eqb code 1769235826 && eqb (getD line 4 0) 114 && eqb (getD line 5 0) 101) (eqb (getD line 6 0) comma) t in
         let p = and-both (eqb code 1769235826 && eqb (getD line 4 0) 114) (eqb (getD line 5 0) 101) (o .0) in
@@ -104,3 +101,12 @@ module _ (line : List ℕ) (code : ℕ) (read : line ≡ fourOf code (drop 4 lin
         ∙ ap (λ (l : List ℕ). getD line 4 0 ∷ getD line 5 0 ∷ l) (drop-cons line 6 0 (omega arith))
         ∙ (λ i. eqb-true (getD line 4 0) 114 (q .1) i ∷ eqb-true (getD line 5 0) 101 (p .1) i ∷ eqb-true (getD line 6 0) comma (o .1) i ∷ drop 7 line)))
         (refl, refl)
+
+-- ---- any word
+
+pub word-room : (text : List ℕ) → length (firstField (firstLine text)) ≤ length text
+word-room text = let e = ap length (line-until text) in let h = until-length stops text in omega (arith, e, h)
+
+pub any-starts : (text : List ℕ) (end : ℕ) (w : Word) → end ≡ length (firstField (firstLine text)) → w ≡ wordOf (take end text) → Starts text end w
+any-starts text end w e q =
+    (e, q ∙ ap wordOf (ap (λ (k : ℕ). take k text) (e ∙ ap length (line-until text)) ∙ take-until stops text ∙ sym (line-until text)))

@@ -1,8 +1,10 @@
 -- The words that a line starts with, as bytes.
 use Prim.Native.Nat.{ℕ, _/_, _%_}
+use mathlib.Core.Path.{_≡_}
 use mathlib.Core.Bool.{cond}
 use mathlib.Core.List.{List, [], _∷_}
-use Rattle.event_text.specs.Fields.{same}
+use lib.ListN.{length}
+use Rattle.event_text.specs.Fields.{firstField, firstLine, same}
 use Rattle.event_lines.specs.declared.event.Word.{Word}
 
 abbrev pub openWord : List ℕ
@@ -69,3 +71,7 @@ wordOf s =
 -- four bytes that are one number, the first as the lowest, and what is behind them
 unfoldable pub fourOf : ℕ → List ℕ → List ℕ
 fourOf n rest = n % 256 ∷ n / 256 % 256 ∷ n / 256 / 256 % 256 ∷ n / 256 / 256 / 256 ∷ rest
+
+-- the first line of a text starts with the word w, which ends at `end`
+abbrev pub Starts : List ℕ → ℕ → Word → Type 0
+Starts text end w = (end ≡ length (firstField (firstLine text))) × (w ≡ wordOf (firstField (firstLine text)))

@@ -1,97 +1,102 @@
-// The fields behind a line's word, read as numbers in one pass.
+// The fields behind a line's word, read as numbers in one pass. What a word asks of them is tested afterwards.
 ghost use mathlib.Core.Path.{_≡_};
-ghost use mathlib.Core.Bool.{false};
-ghost use Prim.Native.Nat.{_≤_};
-ghost use lib.ListN.{length, replicate};
-ghost use Rattle.event_lines.specs.Reading.{fieldAt, dashAt, kindOf, kindsFor, left, readAll};
+ghost use mathlib.Core.Bool.{true, false};
+ghost use Prim.Native.Nat.{_+_, _≤_};
+ghost use lib.Dec.{eqb};
+ghost use lib.ListN.{length, drop, getD, replicate};
+ghost use Rattle.event_text.specs.Searches.{indexOf};
+ghost use Rattle.event_lines.specs.Reading.{unreadFields, scannedOf, scan};
 use event_text::NumberAt;
-use event_text::field_end;
-use event_text::is_word;
-use event_text::number_at;
+use event_text::digits_at;
 
-// The largest number that a field may be. Held writes are any number, or "-".
-pub const NUMBER: u64 = u64::MAX;
-
-pub const SMALL: u64 = 4294967295;
-
-pub const FLAG: u64 = 1;
-
-pub const HELD: u64 = 0;
-
-// A field's number (0 for "-"), whether it is "-", and where it ends.
-pub enum Field {
-    Ends(u64, bool, usize),
-    Malformed,
-}
-
-// The numbers of all the fields, and whether "-" is one of them. They count only if every field is of its kind.
+// The numbers of all the fields, how many there are, whether "-" is one of them, and where the line ends. They count only if all of it is formed.
 pub struct Fields {
     pub formed: bool,
     pub values: [u64; 9],
+    pub count: usize,
     pub dash: bool,
+    pub end: usize,
 }
 
-// The field from `at` on where it is "-" and stands for held writes.
-fn dash_at(line: &[u8], at: usize, limit: u64) -> Field
-    requires { ⌜ at ≤ length (now line) ⌝ }
-    ensures { λ r. ⌜ r ≡ dashAt (now (line .entry)) at (kindOf limit) ⌝ }
+// A line with another field, or with more.
+fn unread() -> Fields
+    ensures { λ r. ⌜ (r .formed ≡ false) × (scannedOf r ≡ unreadFields) ⌝ }
 {
-    if limit != HELD {
-        return Field::Malformed;
+    Fields {
+        formed: false,
+        values: [0; 9],
+        count: 0,
+        dash: false,
+        end: 0,
     }
-    let end = field_end(line, at);
-    if is_word(&line[at..end], b"-") {
-        return Field::Ends(0, true, end);
-    }
-    Field::Malformed
 }
 
-fn field_at(line: &[u8], at: usize, limit: u64) -> Field
-    requires { ⌜ at ≤ length (now line) ⌝ }
-    ensures { λ r. ⌜ r ≡ fieldAt (now (line .entry)) at (kindOf limit) ⌝ }
+// A comma stands at `at`.
+fn is_comma(text: &[u8], at: usize) -> bool
+    ensures { λ r. ⌜ r ≡ eqb (getD (now (text .entry)) at 0) 44 ⌝ }
 {
-    let NumberAt::Ends(value, end) = number_at(line, at) else {
-        return dash_at(line, at, limit);
-    };
-    if (limit != HELD) & (limit < value) {
-        return Field::Malformed;
+    if at < text.len() {
+        return text[at] == b',';
     }
-    Field::Ends(value, false, end)
+    false
 }
 
-// Reads the fields behind the one that ends at `at`: one for each limit, and none behind them.
-pub fn read_fields(line: &[u8], at: usize, limits: &[u64]) -> Fields
-    requires { ⌜ (at ≤ length (now line)) × (length (now limits) ≤ 9) ⌝ }
-    ensures { λ r. ⌜ r ≡ readAll 0 (replicate 9 0) false (kindsFor (now (limits .entry))) (left (now (line .entry)) at) ⌝ }
+// The line ends at `at`: with its line feed, or with the text.
+fn is_end(text: &[u8], at: usize) -> bool
+    ensures { λ r. ⌜ r ≡ eqb (getD (now (text .entry)) at 10) 10 ⌝ }
+{
+    if at < text.len() {
+        return text[at] == b'\n';
+    }
+    true
+}
+
+fn is_dash(text: &[u8], at: usize) -> bool
+    ensures { λ r. ⌜ r ≡ eqb (getD (now (text .entry)) at 0) 45 ⌝ }
+{
+    if at < text.len() {
+        return text[at] == b'-';
+    }
+    false
+}
+
+// Reads the fields behind the one that ends at `at`: at most nine.
+pub fn read_fields(text: &[u8], at: usize) -> Fields
+    requires { ⌜ at ≤ length (now text) ⌝ }
+    ensures { λ r. ⌜ (scannedOf r ≡ scan 0 (replicate 9 0) false (drop at (now (text .entry))))
+        × (r .formed ≡ true → r .end ≡ at + indexOf 10 (drop at (now (text .entry)))) ⌝ }
 {
     let mut values = [0u64; 9];
     let mut dash = false;
     let mut end = at;
-    let mut i = 0;
-    while i < limits.len() {
-        let start = end + 1;
-        if line.len() <= start {
-            return Fields {
-                formed: false,
-                values,
-                dash,
-            };
+    let mut count = 0;
+    while is_comma(text, end) {
+        if 9 <= count {
+            return unread();
         }
-        let Field::Ends(value, held, next) = field_at(line, start, limits[i]) else {
-            return Fields {
-                formed: false,
-                values,
-                dash,
-            };
+        let start = end + 1;
+        let NumberAt::Ends(value, next) = digits_at(text, start) else {
+            if (count != 1) | !is_dash(text, start) {
+                return unread();
+            }
+            values[count] = 0;
+            dash = true;
+            end = start + 1;
+            count += 1;
+            continue;
         };
-        values[i] = value;
-        dash = dash | held;
+        values[count] = value;
         end = next;
-        i += 1;
+        count += 1;
     }
-    Fields {
-        formed: end == line.len(),
-        values,
-        dash,
+    if is_end(text, end) {
+        return Fields {
+            formed: true,
+            values,
+            count,
+            dash,
+            end,
+        };
     }
+    unread()
 }

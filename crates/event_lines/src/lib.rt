@@ -6,4 +6,5 @@ mod words;
 
 pub use event::Event;
 pub use event::Word;
-pub use line::parse_line;
+pub use line::Parsed;
+pub use line::parse_first;

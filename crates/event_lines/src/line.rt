@@ -1,89 +1,38 @@
-// One line to its event: the word, the fields that the word asks for, and the event made of them.
+// One line to its event: the word, the numbers behind it, and the event made of them if they are what the word asks for.
 ghost use mathlib.Core.Path.{_≡_};
-ghost use Prim.Native.Nat.{_≤_};
-ghost use lib.ListN.{getD, length, take};
-ghost use Rattle.event_lines.specs.Grammar.{kindsOf, shapeOf, rectOf, takeEvent, planEvent, retireEvent, writeEvent, made, heldBy, eventOf};
-ghost use Rattle.event_lines.specs.Reading.{kindsFor, numbersForm};
+ghost use mathlib.Core.Bool.{cond};
+ghost use lib.Dec.{eqb};
+ghost use lib.ListN.{getD, length};
+ghost use Rattle.event_text.specs.Fields.{firstLine};
+ghost use Rattle.event_text.specs.Searches.{indexOf};
+ghost use Rattle.event_lines.specs.Grammar.{shapeOf, rectOf, takeEvent, planEvent, retireEvent, writeEvent, eventOf};
+ghost use Rattle.event_lines.specs.Reading.{fits, dashMade, numbersMade};
+ghost use Rattle.event_lines.specs.declared.event.Word.{Word as WORD};
+ghost use Rattle.event_lines.specs.declared.event.Event.{Event as EVENT};
 use crate::event::Event;
 use crate::event::Word;
-use crate::fields::FLAG;
-use crate::fields::HELD;
-use crate::fields::NUMBER;
-use crate::fields::SMALL;
 use crate::fields::read_fields;
 use crate::words::start_of;
+use event_text::find_byte;
 use rects::TexelRect;
 use shapes::VersionShape;
 use stores::Held;
 
-// The limits of a word's fields: the first `count`.
-struct Form {
-    limits: [u64; 9],
-    count: usize,
-}
+// The largest number of a field where the Rust has u32, and of one that is 0 or 1.
+const SMALL: u64 = 4294967295;
 
-// Numbers alone, so many of them.
-fn numbers(count: usize) -> Form
-    ensures { λ r. ⌜ r ≡ numbersForm count ⌝ }
-{
-    Form {
-        limits: [NUMBER; 9],
-        count,
-    }
-}
+const FLAG: u64 = 1;
 
-fn form_of(word: Word) -> Form
-    ensures { λ r. ⌜ (length (r .limits) ≡ 9) × (r .count ≤ 9) × (kindsFor (take (r .count) (r .limits)) ≡ kindsOf word) ⌝ }
-{
-    match word {
-        Word::Open => numbers(1),
-        Word::Take => Form {
-            limits: [
-                NUMBER,
-                NUMBER,
-                SMALL,
-                SMALL,
-                SMALL,
-                SMALL,
-                NUMBER,
-                FLAG,
-                NUMBER,
-            ],
-            count: 9,
-        },
-        Word::Plan => Form {
-            limits: [NUMBER, HELD, SMALL, SMALL, FLAG, 0, 0, 0, 0],
-            count: 5,
-        },
-        Word::Retire => numbers(3),
-        Word::Write => Form {
-            limits: [NUMBER, SMALL, SMALL, SMALL, SMALL, SMALL, SMALL, 0, 0],
-            count: 7,
-        },
-        Word::Regen => numbers(1),
-        Word::Pop => numbers(1),
-        Word::Park => numbers(2),
-        Word::Note => numbers(1),
-        Word::Doomed => numbers(0),
-        Word::Drain => numbers(0),
-        Word::Trim => numbers(1),
-        Word::Forget => numbers(1),
-        Word::Other => numbers(0),
-    }
-}
-
-fn held_of(dash: bool, value: u64) -> Held
-    ensures { λ r. ⌜ r ≡ heldBy dash value ⌝ }
-{
-    if dash {
-        return Held::Unknown;
-    }
-    Held::Known(value)
+// The event of a text's first line, and where that line ends.
+pub struct Parsed {
+    pub event: Event,
+    pub end: usize,
 }
 
 // Format, width, height, depth, levels and kind are the fields behind the id; the rest of the shape is 0.
-fn shape_of(n: [u64; 9]) -> VersionShape
-    ensures { λ r. ⌜ r ≡ shapeOf (λ k. getD n k 0) ⌝ }
+fn shape_of(n: &[u64]) -> VersionShape
+    requires { ⌜ length (now n) ≡ 9 ⌝ }
+    ensures { λ r. ⌜ r ≡ shapeOf (λ k. getD (now (n .entry)) k 0) ⌝ }
 {
     VersionShape {
         format: n[1],
@@ -102,8 +51,9 @@ fn shape_of(n: [u64; 9]) -> VersionShape
 }
 
 // Left, top, width and height are the last fields of a write line.
-fn rect_of(n: [u64; 9]) -> TexelRect
-    ensures { λ r. ⌜ r ≡ rectOf (λ k. getD n k 0) ⌝ }
+fn rect_of(n: &[u64]) -> TexelRect
+    requires { ⌜ length (now n) ≡ 9 ⌝ }
+    ensures { λ r. ⌜ r ≡ rectOf (λ k. getD (now (n .entry)) k 0) ⌝ }
 {
     TexelRect {
         x: n[3],
@@ -113,92 +63,168 @@ fn rect_of(n: [u64; 9]) -> TexelRect
     }
 }
 
-fn take_event(n: [u64; 9]) -> Event
-    ensures { λ r. ⌜ r ≡ takeEvent (λ k. getD n k 0) ⌝ }
+fn take_event(n: &[u64], count: usize) -> Event
+    requires { ⌜ length (now n) ≡ 9 ⌝ }
+    ensures { λ r. ⌜ r ≡ cond (fits WORD.Take count (λ k. getD (now (n .entry)) k 0)) (takeEvent (λ k. getD (now (n .entry)) k 0)) EVENT.Unread ⌝ }
 {
-    Event::Take {
-        id: n[0],
-        shape: shape_of(n),
-        records: n[7] == 1,
-        seq: n[8],
+    if (count == 9)
+        & (n[2] <= SMALL)
+        & (n[3] <= SMALL)
+        & (n[4] <= SMALL)
+        & (n[5] <= SMALL)
+        & (n[7] <= FLAG)
+    {
+        return Event::Take {
+            id: n[0],
+            shape: shape_of(n),
+            records: n[7] == 1,
+            seq: n[8],
+        };
     }
+    Event::Unread
 }
 
-fn plan_event(n: [u64; 9], held: Held) -> Event
-    ensures { λ r. ⌜ r ≡ planEvent (λ k. getD n k 0) held ⌝ }
+fn plan_event(n: &[u64], count: usize, held: Held) -> Event
+    requires { ⌜ length (now n) ≡ 9 ⌝ }
+    ensures { λ r. ⌜ r ≡ cond (fits WORD.Plan count (λ k. getD (now (n .entry)) k 0)) (planEvent (λ k. getD (now (n .entry)) k 0) held) EVENT.Unread ⌝ }
 {
-    Event::Plan {
-        id: n[0],
-        held,
-        slice: n[2],
-        level: n[3],
-        cover: n[4] == 1,
+    if (count == 5) & (n[2] <= SMALL) & (n[3] <= SMALL) & (n[4] <= FLAG) {
+        return Event::Plan {
+            id: n[0],
+            held,
+            slice: n[2],
+            level: n[3],
+            cover: n[4] == 1,
+        };
     }
+    Event::Unread
 }
 
-fn retire_event(n: [u64; 9]) -> Event
-    ensures { λ r. ⌜ r ≡ retireEvent (λ k. getD n k 0) ⌝ }
+fn retire_event(n: &[u64], count: usize) -> Event
+    requires { ⌜ length (now n) ≡ 9 ⌝ }
+    ensures { λ r. ⌜ r ≡ cond (eqb count 3) (retireEvent (λ k. getD (now (n .entry)) k 0)) EVENT.Unread ⌝ }
 {
-    Event::Retire {
-        id: n[0],
-        view: n[1],
-        seq: n[2],
+    if count == 3 {
+        return Event::Retire {
+            id: n[0],
+            view: n[1],
+            seq: n[2],
+        };
     }
+    Event::Unread
 }
 
-fn write_event(n: [u64; 9]) -> Event
-    ensures { λ r. ⌜ r ≡ writeEvent (λ k. getD n k 0) ⌝ }
+fn write_event(n: &[u64], count: usize) -> Event
+    requires { ⌜ length (now n) ≡ 9 ⌝ }
+    ensures { λ r. ⌜ r ≡ cond (fits WORD.Write count (λ k. getD (now (n .entry)) k 0)) (writeEvent (λ k. getD (now (n .entry)) k 0)) EVENT.Unread ⌝ }
 {
-    Event::Write {
-        id: n[0],
-        slice: n[1],
-        level: n[2],
-        rect: rect_of(n),
+    if (count == 7)
+        & (n[1] <= SMALL)
+        & (n[2] <= SMALL)
+        & (n[3] <= SMALL)
+        & (n[4] <= SMALL)
+        & (n[5] <= SMALL)
+        & (n[6] <= SMALL)
+    {
+        return Event::Write {
+            id: n[0],
+            slice: n[1],
+            level: n[2],
+            rect: rect_of(n),
+        };
     }
+    Event::Unread
+}
+
+// An event that has so many fields, all of them numbers.
+fn of_count(event: Event, count: usize, wanted: usize) -> Event
+    ensures { λ r. ⌜ r ≡ cond (eqb count wanted) event EVENT.Unread ⌝ }
+{
+    if count == wanted {
+        return event;
+    }
+    Event::Unread
 }
 
 // The event of a word whose fields are these numbers.
-fn event_of(word: Word, n: [u64; 9], held: Held) -> Event
-    ensures { λ r. ⌜ r ≡ made word (λ k. getD n k 0) held ⌝ }
+fn numbers_event(word: Word, n: &[u64], count: usize) -> Event
+    requires { ⌜ length (now n) ≡ 9 ⌝ }
+    ensures { λ r. ⌜ r ≡ numbersMade word count (λ k. getD (now (n .entry)) k 0) ⌝ }
 {
     let first = n[0];
     let second = n[1];
     match word {
-        Word::Open => Event::Open(first),
-        Word::Take => take_event(n),
-        Word::Plan => plan_event(n, held),
-        Word::Retire => retire_event(n),
-        Word::Write => write_event(n),
-        Word::Regen => Event::Regen(first),
-        Word::Pop => Event::Pop(first),
-        Word::Park => Event::Park {
-            failed: first,
-            now: second,
-        },
-        Word::Note => Event::Note(first),
-        Word::Doomed => Event::Doomed,
-        Word::Drain => Event::Drain,
-        Word::Trim => Event::Trim(first),
-        Word::Forget => Event::Forget(first),
+        Word::Open => of_count(Event::Open(first), count, 1),
+        Word::Take => take_event(n, count),
+        Word::Plan => plan_event(n, count, Held::Known(second)),
+        Word::Retire => retire_event(n, count),
+        Word::Write => write_event(n, count),
+        Word::Regen => of_count(Event::Regen(first), count, 1),
+        Word::Pop => of_count(Event::Pop(first), count, 1),
+        Word::Park => of_count(
+            Event::Park {
+                failed: first,
+                now: second,
+            },
+            count,
+            2,
+        ),
+        Word::Note => of_count(Event::Note(first), count, 1),
+        Word::Doomed => of_count(Event::Doomed, count, 0),
+        Word::Drain => of_count(Event::Drain, count, 0),
+        Word::Trim => of_count(Event::Trim(first), count, 1),
+        Word::Forget => of_count(Event::Forget(first), count, 1),
         Word::Other => Event::Unread,
     }
 }
 
-// The event that a line is. The word comes first, because it says of what kinds the fields behind it are.
-pub fn parse_line(line: &[u8]) -> Event
-    ensures { λ r. ⌜ r ≡ eventOf (now (line .entry)) ⌝ }
+// The same where the second field is "-", which only a plan's may be.
+fn dash_event(word: Word, n: &[u64], count: usize) -> Event
+    requires { ⌜ length (now n) ≡ 9 ⌝ }
+    ensures { λ r. ⌜ r ≡ dashMade word count (λ k. getD (now (n .entry)) k 0) ⌝ }
 {
-    let start = start_of(line);
+    match word {
+        Word::Open => Event::Unread,
+        Word::Take => Event::Unread,
+        Word::Plan => plan_event(n, count, Held::Unknown),
+        Word::Retire => Event::Unread,
+        Word::Write => Event::Unread,
+        Word::Regen => Event::Unread,
+        Word::Pop => Event::Unread,
+        Word::Park => Event::Unread,
+        Word::Note => Event::Unread,
+        Word::Doomed => Event::Unread,
+        Word::Drain => Event::Unread,
+        Word::Trim => Event::Unread,
+        Word::Forget => Event::Unread,
+        Word::Other => Event::Unread,
+    }
+}
+
+// The event of a text's first line. The word comes first, because it says what the fields behind it are.
+pub fn parse_first(text: &[u8]) -> Parsed
+    ensures { λ r. ⌜ (r .event ≡ eventOf (firstLine (now (text .entry)))) × (r .end ≡ indexOf 10 (now (text .entry))) ⌝ }
+{
+    let start = start_of(text);
     let word = start.word;
-    let end = start.end;
-    let form = form_of(word);
-    let limits = form.limits;
-    let count = form.count;
-    let read = read_fields(line, end, &limits[..count]);
+    let read = read_fields(text, start.end);
     if !read.formed {
-        return Event::Unread;
+        let end = find_byte(text, 0, b'\n');
+        return Parsed {
+            event: Event::Unread,
+            end,
+        };
     }
     let values = read.values;
-    let held = held_of(read.dash, values[1]);
-    event_of(word, values, held)
+    let end = read.end;
+    if read.dash {
+        return Parsed {
+            event: dash_event(word, &values, read.count),
+            end,
+        };
+    }
+    Parsed {
+        event: numbers_event(word, &values, read.count),
+        end,
+    }
 }

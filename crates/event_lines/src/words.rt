@@ -1,14 +1,14 @@
-// The word that a line starts with.
+// The word that the first line of a text starts with.
 ghost use mathlib.Core.Path.{_≡_};
 ghost use Prim.Native.Nat.{_≤_};
-ghost use lib.ListN.{length, getD, take, drop};
-ghost use Rattle.event_text.specs.Fields.{comma, fieldEnd};
-ghost use Rattle.event_lines.specs.Words.{wordOf, laterWord, fourOf};
+ghost use lib.ListN.{length, getD, drop};
+ghost use Rattle.event_text.specs.Fields.{comma};
+ghost use Rattle.event_lines.specs.Words.{wordOf, laterWord, fourOf, Starts};
 use crate::event::Word;
-use event_text::field_end;
+use event_text::first_end;
 use event_text::is_word;
 
-// The first four bytes of lines, the first as the lowest: "take", "plan", "park", "pop,", "reti" and "writ".
+// The first four bytes of texts, the first as the lowest: "take", "plan", "park", "pop,", "reti" and "writ".
 const TAKE: u64 = 1701536116;
 
 const PLAN: u64 = 1851878512;
@@ -86,25 +86,25 @@ fn later_word(field: &[u8]) -> Word
 }
 
 // The first four bytes as one number, which the compiler can load at once.
-fn four_bytes(line: &[u8]) -> u64
-    requires { ⌜ 4 ≤ length (now line) ⌝ }
-    ensures { λ r. ⌜ now (line .entry) ≡ fourOf r (drop 4 (now (line .entry))) ⌝ }
+fn four_bytes(text: &[u8]) -> u64
+    requires { ⌜ 4 ≤ length (now text) ⌝ }
+    ensures { λ r. ⌜ now (text .entry) ≡ fourOf r (drop 4 (now (text .entry))) ⌝ }
 {
-    wide(line[0]) + wide(line[1]) * 256 + wide(line[2]) * 65536 + wide(line[3]) * 16777216
+    wide(text[0]) + wide(text[1]) * 256 + wide(text[2]) * 65536 + wide(text[3]) * 16777216
 }
 
-fn any_start(line: &[u8]) -> Start
-    ensures { λ r. ⌜ (r .end ≡ fieldEnd (now (line .entry)) 0) × (r .word ≡ wordOf (take (r .end) (now (line .entry)))) ⌝ }
+fn any_start(text: &[u8]) -> Start
+    ensures { λ r. ⌜ Starts (now (text .entry)) (r .end) (r .word) ⌝ }
 {
-    let end = field_end(line, 0);
-    let word = word_of(&line[..end]);
+    let end = first_end(text);
+    let word = word_of(&text[..end]);
     Start { word, end }
 }
 
 // The words of four letters and a comma that a program has most.
-fn four_start(line: &[u8], code: u64) -> Start
-    requires { ⌜ (5 ≤ length (now line)) × (now line ≡ fourOf code (drop 4 (now line))) × (getD (now line) 4 0 ≡ comma) ⌝ }
-    ensures { λ r. ⌜ (r .end ≡ fieldEnd (now (line .entry)) 0) × (r .word ≡ wordOf (take (r .end) (now (line .entry)))) ⌝ }
+fn four_start(text: &[u8], code: u64) -> Start
+    requires { ⌜ (5 ≤ length (now text)) × (now text ≡ fourOf code (drop 4 (now text))) × (getD (now text) 4 0 ≡ comma) ⌝ }
+    ensures { λ r. ⌜ Starts (now (text .entry)) (r .end) (r .word) ⌝ }
 {
     if code == TAKE {
         return Start {
@@ -124,13 +124,13 @@ fn four_start(line: &[u8], code: u64) -> Start
             end: 4,
         };
     }
-    any_start(line)
+    any_start(text)
 }
 
 // The others that a program has most.
-fn other_start(line: &[u8], code: u64) -> Start
-    requires { ⌜ (5 ≤ length (now line)) × (now line ≡ fourOf code (drop 4 (now line))) ⌝ }
-    ensures { λ r. ⌜ (r .end ≡ fieldEnd (now (line .entry)) 0) × (r .word ≡ wordOf (take (r .end) (now (line .entry)))) ⌝ }
+fn other_start(text: &[u8], code: u64) -> Start
+    requires { ⌜ (5 ≤ length (now text)) × (now text ≡ fourOf code (drop 4 (now text))) ⌝ }
+    ensures { λ r. ⌜ Starts (now (text .entry)) (r .end) (r .word) ⌝ }
 {
     if code == POP {
         return Start {
@@ -138,34 +138,34 @@ fn other_start(line: &[u8], code: u64) -> Start
             end: 3,
         };
     }
-    if line.len() < 7 {
-        return any_start(line);
+    if text.len() < 7 {
+        return any_start(text);
     }
-    if (code == RETIRE) & (line[4] == b'r') & (line[5] == b'e') & (line[6] == b',') {
+    if (code == RETIRE) & (text[4] == b'r') & (text[5] == b'e') & (text[6] == b',') {
         return Start {
             word: Word::Retire,
             end: 6,
         };
     }
-    if (code == WRITE) & (line[4] == b'e') & (line[5] == b',') {
+    if (code == WRITE) & (text[4] == b'e') & (text[5] == b',') {
         return Start {
             word: Word::Write,
             end: 5,
         };
     }
-    any_start(line)
+    any_start(text)
 }
 
 // The word that a line starts with. The ones that a program has most are told by four bytes at once.
-pub fn start_of(line: &[u8]) -> Start
-    ensures { λ r. ⌜ (r .end ≡ fieldEnd (now (line .entry)) 0) × (r .word ≡ wordOf (take (r .end) (now (line .entry)))) ⌝ }
+pub fn start_of(text: &[u8]) -> Start
+    ensures { λ r. ⌜ Starts (now (text .entry)) (r .end) (r .word) ⌝ }
 {
-    if line.len() < 5 {
-        return any_start(line);
+    if text.len() < 5 {
+        return any_start(text);
     }
-    let code = four_bytes(line);
-    if line[4] == b',' {
-        return four_start(line, code);
+    let code = four_bytes(text);
+    if text[4] == b',' {
+        return four_start(text, code);
     }
-    other_start(line, code)
+    other_start(text, code)
 }

@@ -14,34 +14,6 @@ use Rattle.blocks.proofs.Lists.{and-both}
 use Rattle.blocks.proofs.Scans.{from, from-step, from-none}
 use Rattle.event_text.specs.Fields.{comma, inFirst, fieldsOf, firstField, fieldEnd, behind, same}
 
--- ---- the end of a field, found byte by byte
-
-pub end-start : (line : List ℕ) (at : ℕ) → at + length (firstField (from at line)) ≡ fieldEnd line at
-unfolding from fieldEnd
-end-start line at = refl
-
-pub first-other : (b : ℕ) (bs : List ℕ) → (b ≡ comma → ⊥) → firstField (b ∷ bs) ≡ b ∷ firstField bs
-unfolding firstField
-first-other b bs h = rw (ne-eqb b 44 h)
-
-pub first-comma : (b : ℕ) (bs : List ℕ) → b ≡ comma → firstField (b ∷ bs) ≡ []
-unfolding firstField
-first-comma b bs h = rw (eq-eqb b 44 h)
-
-module _ (line : List ℕ) (i : ℕ) where
-  pub end-more : i < length line → (getD line i 0 ≡ comma → ⊥) → i + length (firstField (from i line)) ≡ i + 1 + length (firstField (from (i + 1) line))
-  end-more h t =
-      ap (λ (l : List ℕ). i + length l) (ap firstField (from-step i (i + 1) line refl h) ∙ first-other (getD line i 0) (from (i + 1) line) t)
-      ∙ (let e : i + suc (length (firstField (from (i + 1) line))) ≡ i + 1 + length (firstField (from (i + 1) line)) = omega arith in e)
-
-  pub end-stop : i < length line → getD line i 0 ≡ comma → i + length (firstField (from i line)) ≡ i
-  end-stop h t =
-      ap (λ (l : List ℕ). i + length l) (ap firstField (from-step i (i + 1) line refl h) ∙ first-comma (getD line i 0) (from (i + 1) line) t) ∙ add-zero i
-
-  pub end-done : length line ≤ i → i + length (firstField (from i line)) ≡ i
-  unfolding firstField
-  end-done h = ap (λ (l : List ℕ). i + length (firstField l)) (from-none i line h) ∙ add-zero i
-
 -- ---- the first field and those behind it
 
 pub fields-first : (s : List ℕ) → fieldsOf s ≡ firstField s ∷ behind (drop (length (firstField s)) s)
@@ -53,66 +25,6 @@ fields-first (b ∷ bs) = go (eqb b comma) (fields-first bs)
         → cond t ([] ∷ fieldsOf bs) (inFirst b (fieldsOf bs)) ≡ cond t [] (b ∷ firstField bs) ∷ behind (drop (length (cond t [] (b ∷ firstField bs))) (b ∷ bs))
     go true e = refl
     go false e = ap (inFirst b) e
-
--- the first field stands at the front
-pub first-take : (s : List ℕ) → firstField s ≡ take (length (firstField s)) s
-unfolding firstField
-first-take [] = refl
-first-take (b ∷ bs) = go (eqb b comma) (first-take bs)
-  where
-    go : (t : Bool) → firstField bs ≡ take (length (firstField bs)) bs
-        → cond t [] (b ∷ firstField bs) ≡ take (length (cond t [] (b ∷ firstField bs))) (b ∷ bs)
-    go true e = refl
-    go false e = ap (λ (l : List ℕ). b ∷ l) e
-
-pub first-length : (s : List ℕ) → length (firstField s) ≤ length s
-unfolding firstField
-first-length [] = omega arith
-first-length (b ∷ bs) = go (eqb b comma) (first-length bs)
-  where
-    go : (t : Bool) → length (firstField bs) ≤ length bs → length (cond t [] (b ∷ firstField bs)) ≤ suc (length bs)
-    go true h = omega arith
-    go false h = omega arith
-
--- of a whole line
-pub line-first : (line : List ℕ) → take (fieldEnd line 0) line ≡ firstField line
-unfolding fieldEnd
-line-first line = ap (λ (k : ℕ). take k line) (zero-add (length (firstField line))) ∙ sym (first-take line)
-
-pub line-fields : (line : List ℕ) → fieldsOf line ≡ firstField line ∷ behind (drop (fieldEnd line 0) line)
-unfolding fieldEnd
-line-fields line = fields-first line ∙ ap (λ (k : ℕ). firstField line ∷ behind (drop k line)) (sym (zero-add (length (firstField line))))
-
-module _ (line : List ℕ) (at : ℕ) where
-  -- the field from `at` on, as a part of the line
-  pub field-at : take (fieldEnd line at - at) (drop at line) ≡ firstField (drop at line)
-  unfolding fieldEnd
-  field-at =
-      let e : at + length (firstField (drop at line)) - at ≡ length (firstField (drop at line)) = omega arith in
-      ap (λ (k : ℕ). take k (drop at line)) e ∙ sym (first-take (drop at line))
-
-  pub fields-at : fieldsOf (drop at line) ≡ firstField (drop at line) ∷ behind (drop (fieldEnd line at) line)
-  unfolding fieldEnd
-  fields-at =
-      fields-first (drop at line)
-      ∙ ap (λ (l : List ℕ). firstField (drop at line) ∷ behind l) (drop-drop (length (firstField (drop at line))) at line)
-
-  pub end-after : at ≤ fieldEnd line at
-  unfolding fieldEnd
-  end-after = omega arith
-
-  pub end-within : at ≤ length line → fieldEnd line at ≤ length line
-  unfolding fieldEnd
-  end-within h = let k = first-length (drop at line) in omega (arith, length-drop at line)
-
-  -- behind a comma there are fields
-  pub behind-comma : at < length line → behind (drop at line) ≡ fieldsOf (drop (at + 1) line)
-  unfolding behind
-  behind-comma h = ap behind (drop-cons line at 0 h) ∙ ap (λ (k : ℕ). fieldsOf (drop k line)) (sym (add-one at))
-
-  pub behind-end : length line ≤ at → behind (drop at line) ≡ []
-  unfolding behind
-  behind-end h = ap behind (drop-of-length-le line h)
 
 -- ---- words
 

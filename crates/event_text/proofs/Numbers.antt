@@ -3,9 +3,9 @@ use mathlib.Core.Path.{_≡_, refl, sym, ap, ap₂, _∙_}
 use mathlib.Core.Bool.{Bool, true, false, cond, _&&_, _||_}
 use mathlib.Core.List.{List, [], _∷_}
 use Prim.Native.Nat.{ℕ, suc, _+_, _*_, _-_, _^_, _≤_, _<_}
-use native.Mathlib.Nat.{add-zero}
+use native.Mathlib.Nat.{add-zero, pow-suc, one-le-pow, pow-le-pow-right}
 use native.Mathlib.Omega.{arith}
-use borrow.Author.Tests.{eq-eqb, ne-eqb, eqb-true, eqb-false, le-leb, lt-leb, lt-ltb, ltb-true, ltb-false}
+use borrow.Author.Tests.{eq-eqb, ne-eqb, eqb-true, eqb-false, le-leb, lt-leb, leb-true, lt-ltb, ltb-true, ltb-false}
 use lib.Dec.{eqb, leb, ltb}
 use lib.ListN.{length, drop, getD}
 use Rattle.blocks.specs.Lists.{all, tests, after}
@@ -16,8 +16,7 @@ use Rattle.event_text.specs.declared.number.Number.the-variants.{Is, NoN
 use Rattle.event_text.specs.declared.number.NumberAt.{NumberAt}
 use Rattle.event_text.specs.declared.number.NumberAt.the-variants.{Ends, Malformed}
 use Rattle.event_text.specs.Fields.{comma, firstField, fieldEnd}
-use Rattle.event_text.specs.Numbers.{isDigit, value, decimal, isNumber, numberOf, numberAt, numberEnding}
-use Rattle.event_text.proofs.Fields.{first-other, first-comma}
+use Rattle.event_text.specs.Numbers.{isDigit, value, decimal, isNumber, numberOf, numberAt, leadingDigits, digitsAt, readTests, readOn}
 
 -- more digits make no smaller number
 pub value-grows : (v : ℕ) (s : List ℕ) → v ≤ value v s
@@ -25,53 +24,7 @@ unfolding value
 value-grows v [] = omega arith
 value-grows v (b ∷ bs) = let h = value-grows (v * 10 + (b - 48)) bs in omega arith
 
--- ---- a field read from `at` to i so far, as the number v
-
-abbrev pub readTests : ℕ → ℕ → List ℕ → List Bool
-readTests v n f = all isDigit f ∷ leb 1 (n + length f) ∷ leb (n + length f) 20 ∷ ltb (value v f) (2 ^ 64) ∷ []
-
--- the number that it is in the end, if the field's bytes from i on are f
-unfoldable pub readAs : ℕ → ℕ → ℕ → List ℕ → NumberAt
-readAs v at i f = cond (tests (readTests v (i - at) f)) (Ends (value v f) (i + length f)) Malformed
-
-unfoldable pub reading : ℕ → ℕ → ℕ → List ℕ → NumberAt
-reading v at i rest = readAs v at i (firstField rest)
-
-pub read-start : (line : List ℕ) (at : ℕ) → reading 0 at at (from at line) ≡ numberAt line at
-unfolding reading readAs from numberAt isNumber decimal fieldEnd
-read-start line at =
-    let f : List ℕ = firstField (drop at line) in
-    let e : at - at + length f ≡ length f = omega arith in
-    rw e
-
-read-one : (v at i b : ℕ) (f : List ℕ) → at ≤ i → isDigit b ≡ true → readAs v at i (b ∷ f) ≡ readAs (v * 10 + (b - 48)) at (i + 1) f
-unfolding readAs value all
-read-one v at i b f h d =
-    let e : i - at + suc (length f) ≡ i + 1 - at + length f = omega arith in
-    let g : i + suc (length f) ≡ i + 1 + length f = omega arith in
-    rw (d, e, g)
-
-read-none : (v at i b : ℕ) (f : List ℕ) → isDigit b ≡ false → readAs v at i (b ∷ f) ≡ Malformed
-unfolding readAs all tests after
-read-none v at i b f d = rw d
-
-read-large : (v at i : ℕ) (f : List ℕ) → 2 ^ 64 ≤ v → readAs v at i f ≡ Malformed
-unfolding readAs
-read-large v at i f h =
-    ap (λ (t : Bool). cond t (Ends (value v f) (i + length f)) Malformed)
-    (not-passed (tests (readTests v (i - at) f))
-    (λ e. let k = ltb-true (value v f) (2 ^ 64) (passed (readTests v (i - at) f) e 3) in let g = value-grows v f in let y : ⊥ = omega arith in y))
-
-read-all : (v at i : ℕ) → v < 2 ^ 64 → readAs v at i [] ≡ numberEnding v at i
-unfolding readAs numberEnding all value tests after
-read-all v at i h =
-    rw (add-zero (i - at), add-zero i, lt-ltb v (2 ^ 64) h)
-    (ap (λ (t : Bool). cond t (Ends v i) Malformed) (four (leb 1 (i - at)) (leb (i - at) 20)))
-  where
-    four : (a b : Bool) → tests (true ∷ a ∷ b ∷ true ∷ []) ≡ a && b
-    four true true = refl
-    four true false = refl
-    four false b = refl
+-- ---- digits
 
 digit : (b : ℕ) → 48 ≤ b → b ≤ 57 → isDigit b ≡ true
 unfolding isDigit
@@ -85,43 +38,7 @@ high : (b : ℕ) → 57 < b → isDigit b ≡ false
 unfolding isDigit
 high b h = ap₂ (λ (s t : Bool). s && t) (le-leb 48 b (omega arith)) (lt-leb b 57 h)
 
-module _ (line : List ℕ) (v at i b : ℕ) (inside : i < length line) (here : b ≡ getD line i 0) where
-  step : reading v at i (from i line) ≡ reading v at i (b ∷ from (i + 1) line)
-  step = ap (reading v at i) (from-step i (i + 1) line refl inside ∙ ap (λ (x : ℕ). x ∷ from (i + 1) line) (sym here))
-
-  -- another digit
-  pub read-more : at ≤ i → 48 ≤ b → b ≤ 57 → reading v at i (from i line) ≡ reading (v * 10 + (b - 48)) at (i + 1) (from (i + 1) line)
-  unfolding reading
-  read-more h lo hi =
-      step ∙ ap (readAs v at i) (first-other b (from (i + 1) line) (λ e. let y : ⊥ = omega arith in y))
-      ∙ read-one v at i b (firstField (from (i + 1) line)) h (digit b lo hi)
-
-  -- that makes the number too large
-  pub read-over : at ≤ i → 48 ≤ b → b ≤ 57 → 2 ^ 64 ≤ v * 10 + (b - 48) → reading v at i (from i line) ≡ Malformed
-  unfolding reading
-  read-over h lo hi big = read-more h lo hi ∙ read-large (v * 10 + (b - 48)) at (i + 1) (firstField (from (i + 1) line)) big
-
-  -- neither a digit nor a comma
-  pub read-low : (b ≡ comma → ⊥) → b < 48 → reading v at i (from i line) ≡ Malformed
-  unfolding reading
-  read-low t h = step ∙ ap (readAs v at i) (first-other b (from (i + 1) line) t) ∙ read-none v at i b (firstField (from (i + 1) line)) (low b h)
-
-  pub read-high : 57 < b → reading v at i (from i line) ≡ Malformed
-  unfolding reading
-  read-high h =
-      step ∙ ap (readAs v at i) (first-other b (from (i + 1) line) (λ e. let y : ⊥ = omega arith in y))
-      ∙ read-none v at i b (firstField (from (i + 1) line)) (high b h)
-
-  pub read-comma : b ≡ comma → v < 2 ^ 64 → reading v at i (from i line) ≡ numberEnding v at i
-  unfolding reading
-  read-comma t h = step ∙ ap (readAs v at i) (first-comma b (from (i + 1) line) t) ∙ read-all v at i h
-
-pub read-end : (line : List ℕ) (v at i : ℕ) → length line ≤ i → v < 2 ^ 64 → reading v at i (from i line) ≡ numberEnding v at i
-unfolding reading firstField
-read-end line v at i h k = ap (λ (l : List ℕ). readAs v at i (firstField l)) (from-none i line h) ∙ read-all v at i k
-
--- ---- a digit tested at both ends at once
-
+-- tested at both ends at once
 digit-range : (b : ℕ) → ltb b 48 || ltb 57 b ≡ false → (48 ≤ b) × (b ≤ 57)
 digit-range b e = go (ltb b 48) (ltb 57 b) refl refl e
   where
@@ -136,62 +53,108 @@ digit-low b e = digit-range b e .0
 pub digit-high : (b : ℕ) → ltb b 48 || ltb 57 b ≡ false → b ≤ 57
 digit-high b e = digit-range b e .1
 
-pub read-none-such : (line : List ℕ) (v at i b : ℕ) → i < length line → b ≡ getD line i 0 → (b ≡ comma → ⊥) → ltb b 48 || ltb 57 b ≡ true
-    → reading v at i (from i line) ≡ Malformed
-read-none-such line v at i b inside here t e = go (ltb b 48) (ltb 57 b) refl refl e
+digit-is : (b : ℕ) → ltb b 48 || ltb 57 b ≡ false → isDigit b ≡ true
+digit-is b e = digit b (digit-low b e) (digit-high b e)
+
+digit-not : (b : ℕ) → ltb b 48 || ltb 57 b ≡ true → isDigit b ≡ false
+digit-not b e = go (ltb b 48) (ltb 57 b) refl refl e
   where
-    go : (x y : Bool) → ltb b 48 ≡ x → ltb 57 b ≡ y → x || y ≡ true → reading v at i (from i line) ≡ Malformed
-    go true y p q r = read-low line v at i b inside here t (ltb-true b 48 p)
-    go false true p q r = read-high line v at i b inside here (ltb-true 57 b q)
-    go false false p q r = absurd (let z : _≡_ {A = ℕ} 0 1 = cc in let n : ⊥ = omega arith in n)
+    go : (s t : Bool) → ltb b 48 ≡ s → ltb 57 b ≡ t → s || t ≡ true → isDigit b ≡ false
+    go true t p q r = low b (ltb-true b 48 p)
+    go false true p q r = high b (ltb-true 57 b q)
+    go false false p q r = absurd (let z : _≡_ {A = ℕ} 0 1 = cc in let y : ⊥ = omega arith in y)
 
--- ---- the first digit
+-- ---- digits read from `at` to i so far, as the number v
 
-ending-none : (v at : ℕ) → numberEnding v at at ≡ Malformed
-unfolding numberEnding
-ending-none v at = let e : at - at ≡ 0 = omega arith in rw e
+pub read-start : (text : List ℕ) (at : ℕ) → readOn 0 at at (leadingDigits (from at text)) ≡ digitsAt text at
+unfolding readOn from digitsAt isNumber decimal
+read-start text at =
+    let f : List ℕ = leadingDigits (drop at text) in
+    let e : at - at + length f ≡ length f = omega arith in
+    rw e
 
-pub ending-some : (v at end : ℕ) → at < end → end - at ≤ 20 → numberEnding v at end ≡ Ends v end
-unfolding numberEnding
-ending-some v at end h k = rw (le-leb 1 (end - at) (omega arith), le-leb (end - at) 20 k)
+read-one : (v at i b : ℕ) (f : List ℕ) → at ≤ i → isDigit b ≡ true → readOn v at i (b ∷ f) ≡ readOn (v * 10 + (b - 48)) at (i + 1) f
+unfolding readOn value all
+read-one v at i b f h d =
+    let e : i - at + suc (length f) ≡ i + 1 - at + length f = omega arith in
+    let g : i + suc (length f) ≡ i + 1 + length f = omega arith in
+    rw (d, e, g)
 
-pub ending-long : (v at end : ℕ) → 20 < end - at → numberEnding v at end ≡ Malformed
-unfolding numberEnding
-ending-long v at end h = rw (le-leb 1 (end - at) (omega arith), lt-leb (end - at) 20 h)
+read-large : (v at i : ℕ) (f : List ℕ) → 2 ^ 64 ≤ v → readOn v at i f ≡ Malformed
+unfolding readOn
+read-large v at i f h =
+    ap (λ (t : Bool). cond t (Ends (value v f) (i + length f)) Malformed)
+    (not-passed (tests (readTests v (i - at) f))
+    (λ e. let k = ltb-true (value v f) (2 ^ 64) (passed (readTests v (i - at) f) e 3) in let g = value-grows v f in let y : ⊥ = omega arith in y))
 
-pub first-none : (line : List ℕ) (at : ℕ) → length line ≤ at → numberAt line at ≡ Malformed
-first-none line at h = sym (read-start line at) ∙ read-end line 0 at at h (omega arith) ∙ ending-none 0 at
+-- more than twenty
+read-long : (v at i : ℕ) (f : List ℕ) → 20 < i - at + length f → readOn v at i f ≡ Malformed
+unfolding readOn
+read-long v at i f h =
+    ap (λ (t : Bool). cond t (Ends (value v f) (i + length f)) Malformed)
+    (not-passed (tests (readTests v (i - at) f))
+    (λ e. let k = leb-true (i - at + length f) 20 (passed (readTests v (i - at) f) e 2) in let y : ⊥ = omega arith in y))
 
-module _ (line : List ℕ) (at b : ℕ) (inside : at < length line) (here : b ≡ getD line at 0) where
-  pub first-bad : ltb b 48 || ltb 57 b ≡ true → numberAt line at ≡ Malformed
-  first-bad e = go (eqb b comma) refl
-    where
-      go : (t : Bool) → eqb b comma ≡ t → numberAt line at ≡ Malformed
-      go true q = sym (read-start line at) ∙ read-comma line 0 at at b inside here (eqb-true b comma q) (omega arith) ∙ ending-none 0 at
-      go false q = sym (read-start line at) ∙ read-none-such line 0 at at b inside here (eqb-false b comma q) e
+-- all are read, or there is none
+pub read-done : (v at i : ℕ) → at < i → i ≤ at + 20 → v < 2 ^ 64 → readOn v at i [] ≡ Ends v i
+unfolding readOn all value tests after
+read-done v at i h k w =
+    rw (add-zero (i - at), add-zero i, lt-ltb v (2 ^ 64) w, le-leb 1 (i - at) (omega arith), le-leb (i - at) 20 (omega arith))
 
-  pub first-digit : 48 ≤ b → b ≤ 57 → reading (b - 48) at (at + 1) (from (at + 1) line) ≡ numberAt line at
-  first-digit lo hi =
-      let e : b - 48 ≡ 0 * 10 + (b - 48) = omega arith in
-      ap (λ (v : ℕ). reading v at (at + 1) (from (at + 1) line)) e
-      ∙ sym (read-more line 0 at at b inside here (omega arith) lo hi)
-      ∙ read-start line at
+pub read-nothing : (v at i : ℕ) → i ≤ at → readOn v at i [] ≡ Malformed
+unfolding readOn all value tests after
+read-nothing v at i h = let e : i - at ≡ 0 = omega arith in rw (add-zero (i - at), e)
 
-  -- it is the only one
-  pub first-last : 48 ≤ b → b ≤ 57 → at + 1 ≡ length line → Ends (b - 48) (at + 1) ≡ numberAt line at
-  first-last lo hi e =
-      sym (read-end line (b - 48) at (at + 1) (omega arith) (omega arith) ∙ ending-some (b - 48) at (at + 1) (omega arith) (omega arith))
-      ∙ first-digit lo hi
+pub read-end : (text : List ℕ) (v at i : ℕ) → length text ≤ i → readOn v at i (leadingDigits (from i text)) ≡ readOn v at i []
+unfolding leadingDigits
+read-end text v at i h = ap (λ (l : List ℕ). readOn v at i (leadingDigits l)) (from-none i text h)
 
-  pub first-comma-next : 48 ≤ b → b ≤ 57 → at + 1 < length line → getD line (at + 1) 0 ≡ comma → Ends (b - 48) (at + 1) ≡ numberAt line at
-  first-comma-next lo hi h e =
-      sym (read-comma line (b - 48) at (at + 1) (getD line (at + 1) 0) h refl e (omega arith) ∙ ending-some (b - 48) at (at + 1) (omega arith) (omega arith))
-      ∙ first-digit lo hi
+module _ (text : List ℕ) (v at i b : ℕ) (inside : i < length text) (here : b ≡ getD text i 0) where
+  step : leadingDigits (from i text) ≡ cond (isDigit b) (b ∷ leadingDigits (from (i + 1) text)) []
+  unfolding leadingDigits
+  step = ap leadingDigits (from-step i (i + 1) text refl inside ∙ ap (λ (x : ℕ). x ∷ from (i + 1) text) (sym here))
 
-pub first-value : (line : List ℕ) (at v : ℕ) → at < length line → v ≤ 9 → 48 + v ≡ getD line at 0 → reading v at (at + 1) (from (at + 1) line) ≡ numberAt line at
-first-value line at v h k e =
-    let q : v ≡ 48 + v - 48 = omega arith in
-    ap (λ (w : ℕ). reading w at (at + 1) (from (at + 1) line)) q ∙ first-digit line at (48 + v) h e (omega arith) (omega arith)
+  -- another digit
+  pub read-more : at ≤ i → ltb b 48 || ltb 57 b ≡ false
+      → readOn v at i (leadingDigits (from i text)) ≡ readOn (v * 10 + (b - 48)) at (i + 1) (leadingDigits (from (i + 1) text))
+  read-more h e =
+      ap (readOn v at i) (step ∙ ap (λ (t : Bool). cond t (b ∷ leadingDigits (from (i + 1) text)) []) (digit-is b e))
+      ∙ read-one v at i b (leadingDigits (from (i + 1) text)) h (digit-is b e)
+
+  -- that makes the number too large
+  pub read-over : at ≤ i → ltb b 48 || ltb 57 b ≡ false → 2 ^ 64 ≤ v * 10 + (b - 48) → readOn v at i (leadingDigits (from i text)) ≡ Malformed
+  read-over h e big = read-more h e ∙ read-large (v * 10 + (b - 48)) at (i + 1) (leadingDigits (from (i + 1) text)) big
+
+  -- no other
+  pub read-stop : ltb b 48 || ltb 57 b ≡ true → readOn v at i (leadingDigits (from i text)) ≡ readOn v at i []
+  read-stop e = ap (readOn v at i) (step ∙ ap (λ (t : Bool). cond t (b ∷ leadingDigits (from (i + 1) text)) []) (digit-not b e))
+
+  -- behind twenty
+  pub read-past : at + 20 ≤ i → ltb b 48 || ltb 57 b ≡ false → readOn v at i (leadingDigits (from i text)) ≡ Malformed
+  read-past h e =
+      ap (readOn v at i) (step ∙ ap (λ (t : Bool). cond t (b ∷ leadingDigits (from (i + 1) text)) []) (digit-is b e))
+      ∙ read-long v at i (b ∷ leadingDigits (from (i + 1) text)) (omega arith)
+
+pub from-drop : (i : ℕ) (text : List ℕ) → from i text ≡ drop i text
+unfolding from
+from-drop i text = refl
+
+-- ---- nineteen digits are no number from 2^64 on
+
+pub tens-room : (v k : ℕ) → v < 10 ^ k → k ≤ 18 → v < 10 ^ 18
+tens-room v k h e = let p : 10 ^ k ≤ 10 ^ 18 = pow-le-pow-right {n = 10} (omega arith) e in omega arith
+
+pub value-first : (at : ℕ) → 0 < 10 ^ (at - at)
+value-first at = let q : 1 ≤ 10 ^ (at - at) = one-le-pow (at - at) 10 (omega arith) in omega arith
+
+pub value-room : (v at i : ℕ) → v < 10 ^ (i - at) → i ≤ at + 19 → v < 2 ^ 64
+value-room v at i h e = let k : i - at ≤ 19 = omega arith in let p : 10 ^ (i - at) ≤ 10 ^ 19 = pow-le-pow-right {n = 10} (omega arith) k in omega arith
+
+pub value-digit : (v at i b : ℕ) → v < 10 ^ (i - at) → at ≤ i → b ≤ 57 → v * 10 + (b - 48) < 10 ^ (i + 1 - at)
+value-digit v at i b h k e =
+    let q : i + 1 - at ≡ suc (i - at) = omega arith in
+    let p : 10 ^ suc (i - at) ≡ 10 ^ (i - at) * 10 = pow-suc 10 (i - at) in
+    rw q (omega (arith, p))
 
 -- ---- what a field's number says of its bytes
 

@@ -1,16 +1,16 @@
--- Laws of numbers below 100,000,000 printed. Assumes nothing.
+-- Laws of numbers printed a few digits at a time. Assumes nothing.
 use mathlib.Core.Path.{_≡_, refl, sym, ap, ap₂, _∙_}
 use mathlib.Core.Bool.{Bool, true, false, cond}
 use mathlib.Core.List.{List, [], _∷_, _++_, append-assoc}
-use Prim.Native.Nat.{ℕ, zero, suc, _+_, _/_, _%_, _^_, _≤_, _<_}
-use native.Mathlib.Nat.{pow-suc, div-lt-iff-lt-mul}
+use Prim.Native.Nat.{ℕ, zero, suc, _+_, _*_, _/_, _%_, _^_, _≤_, _<_}
+use native.Mathlib.Nat.{pow-suc, pow-succ', one-le-pow, div-one, div-div-eq-div-mul, div-lt-iff-lt-mul}
 use native.Mathlib.Omega.{arith}
 use borrow.Author.Tests.{lt-ltb, le-ltb}
 use lib.Dec.{ltb}
 use lib.ListN.{length, set, length-append}
 use lib.Seq.{sets}
 use Rattle.event_text.specs.Numbers.{digits, digitsOf, lastDigits}
-use Rattle.event_text.proofs.Printing.{digits-room}
+use Rattle.event_text.proofs.Printing.{digits-room, digits-length}
 
 -- ---- the digits of a number, by how many it has
 
@@ -71,29 +71,100 @@ enough (suc k) (suc j) n h q =
     go true e = refl
     go false e = ap (then (48 + n % 10)) e
 
-pub of-more : (n : ℕ) → 10000 ≤ n → n < 100000000 → digitsOf n ≡ digitsOf (n / 10000) ++ lastDigits 4 (n % 10000)
-unfolding digitsOf lastDigits
-of-more n h k =
-    let q : n / 10 / 10 / 10 / 10 ≡ n / 10000 = omega arith in
-    let a : 48 + n / 10 / 10 / 10 % 10 ≡ 48 + n % 10000 / 10 / 10 / 10 % 10 = omega arith in
-    let b : 48 + n / 10 / 10 % 10 ≡ 48 + n % 10000 / 10 / 10 % 10 = omega arith in
-    let c : 48 + n / 10 % 10 ≡ 48 + n % 10000 / 10 % 10 = omega arith in
-    let d : 48 + n % 10 ≡ 48 + n % 10000 % 10 = omega arith in
-    last-four 17 n (omega arith)
-    ∙ ap (λ (l : List ℕ). l ++ ((48 + n / 10 / 10 % 10) ∷ (48 + n / 10 % 10) ∷ (48 + n % 10) ∷ [])) (digits-more 16 (n / 10 / 10 / 10) (omega arith))
-    ∙ append-assoc (digits 16 (n / 10 / 10 / 10 / 10)) ((48 + n / 10 / 10 / 10 % 10) ∷ []) ((48 + n / 10 / 10 % 10) ∷ (48 + n / 10 % 10) ∷ (48 + n % 10) ∷ [])
-    ∙ ap₂ (λ (l r : List ℕ). l ++ r)
-    (ap (digits 16) q ∙ sym (enough 15 19 (n / 10000) (omega arith) (omega arith)))
-    (λ i. a i ∷ b i ∷ c i ∷ d i ∷ [])
+-- ---- the last digits, behind those of what is left
 
--- the last four have room too
-pub room-more : (n : ℕ) → 10000 ≤ n → n < 100000000 → length (digitsOf (n / 10000)) + 4 ≤ 20
+unfoldable more : ℕ → ℕ → ℕ
+more zero k = k
+more (suc j) k = suc (more j k)
+
+-- without its last j digits
+unfoldable shifted : ℕ → ℕ → ℕ
+shifted zero n = n
+shifted (suc j) n = shifted j (n / 10)
+
+shifted-is : (j n : ℕ) → shifted j n ≡ n / 10 ^ j
+unfolding shifted
+shifted-is zero n = sym (div-one n)
+shifted-is (suc j) n =
+    shifted-is j (n / 10) ∙ div-div-eq-div-mul n 10 (10 ^ j) ∙ ap (λ (m : ℕ). n / m) (sym (pow-succ' 10 j))
+
+append-none : (l : List ℕ) → l ≡ l ++ []
+append-none [] = refl
+append-none (x ∷ xs) = ap (λ (l : List ℕ). x ∷ l) (append-none xs)
+
+split : (j k n : ℕ) → 10 ^ j ≤ n → digits (more j k) n ≡ digits k (shifted j n) ++ lastDigits j n
+unfolding more shifted lastDigits
+split zero k n h = append-none (digits k n)
+split (suc j) k n h =
+    let p : 10 ^ suc j ≡ 10 ^ j * 10 = pow-suc 10 j in
+    let q : 1 ≤ 10 ^ j = one-le-pow j 10 (omega arith) in
+    digits-more (more j k) n (omega (arith, h, p, q))
+    ∙ ap (then (48 + n % 10)) (split j k (n / 10) (omega (arith, h, p)))
+    ∙ append-assoc (digits k (shifted j (n / 10))) (lastDigits j (n / 10)) ((48 + n % 10) ∷ [])
+
+four-same : (m n : ℕ) → m % 10000 ≡ n % 10000 → lastDigits 4 m ≡ lastDigits 4 n
 unfolding lastDigits
-room-more n h k =
-    let c : length (digitsOf n) ≡ length (digitsOf (n / 10000)) + 4 =
-    ap length (of-more n h k) ∙ length-append (digitsOf (n / 10000)) (lastDigits 4 (n % 10000)) in
+four-same m n e =
+    let a : 48 + m / 10 / 10 / 10 % 10 ≡ 48 + n / 10 / 10 / 10 % 10 = omega arith in
+    let b : 48 + m / 10 / 10 % 10 ≡ 48 + n / 10 / 10 % 10 = omega arith in
+    let c : 48 + m / 10 % 10 ≡ 48 + n / 10 % 10 = omega arith in
+    let d : 48 + m % 10 ≡ 48 + n % 10 = omega arith in
+    λ i. a i ∷ b i ∷ c i ∷ d i ∷ []
+
+eight-four : (n : ℕ) → lastDigits 8 n ≡ lastDigits 4 (n / 10000) ++ lastDigits 4 n
+unfolding lastDigits
+eight-four n = let q : n / 10 / 10 / 10 / 10 ≡ n / 10000 = omega arith in ap (λ (m : ℕ). lastDigits 4 m ++ lastDigits 4 n) q
+
+eight-same : (n : ℕ) → lastDigits 8 n ≡ lastDigits 8 (n % 100000000)
+eight-same n =
+    eight-four n
+    ∙ ap₂ (λ (l r : List ℕ). l ++ r)
+    (four-same (n / 10000) (n % 100000000 / 10000) (omega arith))
+    (four-same n (n % 100000000) (omega arith))
+    ∙ sym (eight-four (n % 100000000))
+
+length-last : (k n : ℕ) → length (lastDigits k n) ≡ k
+unfolding lastDigits
+length-last zero n = refl
+length-last (suc k) n =
+    length-append (lastDigits k (n / 10)) ((48 + n % 10) ∷ [])
+    ∙ (let h = length-last k (n / 10) in let e : length (lastDigits k (n / 10)) + 1 ≡ suc k = omega arith in e)
+
+-- n's digits are those of m and k more
+pub record Behind (n m k : ℕ) (ys : List ℕ) : Type 0 where
+  pub joined : digitsOf n ≡ digitsOf m ++ ys
+  pub counted : length ys ≡ k
+
+pub four-behind : (n : ℕ) → 10000 ≤ n → n < 2 ^ 64 → Behind n (n / 10000) 4 (lastDigits 4 (n % 10000))
+unfolding digitsOf more
+four-behind n h k = record {
+  joined = split 4 16 n h
+      ∙ ap₂ (λ (l r : List ℕ). l ++ r) (ap (digits 16) (shifted-is 4 n) ∙ sym (enough 15 19 (n / 10000) (omega arith) (omega arith)))
+      (four-same n (n % 10000) (omega arith));
+  counted = length-last 4 (n % 10000);
+}
+
+pub eight-behind : (n : ℕ) → 100000000 ≤ n → n < 2 ^ 64 → Behind n (n / 100000000) 8 (lastDigits 8 (n % 100000000))
+unfolding digitsOf more
+eight-behind n h k = record {
+  joined = split 8 12 n h
+      ∙ ap₂ (λ (l r : List ℕ). l ++ r) (ap (digits 12) (shifted-is 8 n) ∙ sym (enough 11 19 (n / 100000000) (omega arith) (omega arith)))
+      (eight-same n);
+  counted = length-last 8 (n % 100000000);
+}
+
+-- they have room where n's have
+pub room-behind : (n m k : ℕ) (ys : List ℕ) → Behind n m k ys → length (digitsOf m) + k ≤ 20
+room-behind n m k ys b =
+    let c : length (digitsOf n) ≡ length (digitsOf m) + length ys = ap length (b .joined) ∙ length-append (digitsOf m) ys in
+    let q = b .counted in
     let r = digits-room n in
-    omega (arith, c, r)
+    omega (arith, c, q, r)
+
+-- a number below 10,000 has at most four
+pub room-four : (n : ℕ) → n < 10000 → length (digitsOf n) ≤ 4
+unfolding digitsOf
+room-four n h = let e = ap length (enough 3 19 n (omega arith) (omega arith)) in let r = digits-length 4 n in omega (arith, e, r)
 
 -- ---- digits stored one after the other
 
@@ -148,16 +219,15 @@ module _ (l : List ℕ) (at : ℕ) where
     unfolding lastDigits
     put-four s e h k = put-as (lastDigits 4 n) s (of-four n h k) e
 
-    pub put-more : (end : ℕ) (s r : List ℕ) → end ≡ at + length (digitsOf (n / 10000)) → s ≡ sets l at (digitsOf (n / 10000)) → r ≡ sets s end (lastDigits 4 (n % 10000))
-        → 10000 ≤ n → n < 100000000 → Put (end + 4) r
-    unfolding lastDigits
-    put-more end s r e q p h k =
-        let d = of-more n h k in
-        let xs : List ℕ = digitsOf (n / 10000) in
-        let ys : List ℕ = lastDigits 4 (n % 10000) in
-        let c : length (digitsOf n) ≡ length xs + 4 = ap length d ∙ length-append xs ys in (
-          omega (arith, e, c),
-          p ∙ ap₂ (λ (t : List ℕ) (i : ℕ). sets t i ys) q e ∙ sets-append xs ys ∙ ap (sets l at) (sym d),
+    -- m's digits were put, and then the others
+    pub put-behind : (m k : ℕ) (ys : List ℕ) (end : ℕ) (s r : List ℕ) → Behind n m k ys → end ≡ at + length (digitsOf m) → s ≡ sets l at (digitsOf m)
+        → r ≡ sets s end ys → Put (end + k) r
+    put-behind m k ys end s r b e q p =
+        let xs : List ℕ = digitsOf m in
+        let c : length (digitsOf n) ≡ length xs + length ys = ap length (b .joined) ∙ length-append xs ys in
+        let w = b .counted in (
+          omega (arith, e, c, w),
+          p ∙ ap₂ (λ (t : List ℕ) (i : ℕ). sets t i ys) q e ∙ sets-append xs ys ∙ ap (sets l at) (sym (b .joined)),
         )
 
   -- the last four digits of any number
@@ -166,3 +236,11 @@ module _ (l : List ℕ) (at : ℕ) where
   unfolding lastDigits
   four-last n a b c d e f g h =
       stored-four a b c d ∙ (λ i. sets l at (e i ∷ f i ∷ g i ∷ h i ∷ []))
+
+  -- the last eight, as four and four
+  pub eight-last : (n : ℕ) (s r : List ℕ) → s ≡ sets l at (lastDigits 4 (n / 10000)) → r ≡ sets s (at + 4) (lastDigits 4 (n % 10000)) → r ≡ sets l at (lastDigits 8 n)
+  eight-last n s r e q =
+      let xs : List ℕ = lastDigits 4 (n / 10000) in
+      let ys : List ℕ = lastDigits 4 (n % 10000) in
+      q ∙ ap₂ (λ (t : List ℕ) (i : ℕ). sets t (at + i) ys) e (sym (length-last 4 (n / 10000))) ∙ sets-append xs ys
+      ∙ ap (λ (d : List ℕ). sets l at (xs ++ d)) (four-same (n % 10000) n (omega arith)) ∙ ap (sets l at) (sym (eight-four n))

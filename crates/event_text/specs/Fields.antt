@@ -25,6 +25,11 @@ unfoldable pub firstField : List ℕ → List ℕ
 firstField [] = []
 firstField (b ∷ bs) = cond (eqb b comma) [] (b ∷ firstField bs)
 
+-- the bytes before the first line feed, or all of them
+unfoldable pub firstLine : List ℕ → List ℕ
+firstLine [] = []
+firstLine (b ∷ bs) = cond (eqb b 10) [] (b ∷ firstLine bs)
+
 -- where the field that starts at `at` ends
 unfoldable pub fieldEnd : List ℕ → ℕ → ℕ
 fieldEnd line at = at + length (firstField (drop at line))

@@ -34,9 +34,23 @@ numberOf s = cond (isNumber s) (Is (decimal s)) NoNumber
 unfoldable pub numberAt : List ℕ → ℕ → NumberAt
 numberAt line at = cond (isNumber (firstField (drop at line))) (Ends (decimal (firstField (drop at line))) (fieldEnd line at)) Malformed
 
--- v, if its digits stand from `at` to `end`
-unfoldable pub numberEnding : ℕ → ℕ → ℕ → NumberAt
-numberEnding v at end = cond (leb 1 (end - at) && leb (end - at) 20) (Ends v end) Malformed
+-- the digits that a text starts with
+unfoldable pub leadingDigits : List ℕ → List ℕ
+leadingDigits [] = []
+leadingDigits (b ∷ bs) = cond (isDigit b) (b ∷ leadingDigits bs) []
+
+-- the number that the digits from `at` on are, and where they end
+unfoldable pub digitsAt : List ℕ → ℕ → NumberAt
+digitsAt text at =
+    let f = leadingDigits (drop at text) in
+    cond (isNumber f) (Ends (decimal f) (at + length f)) Malformed
+
+-- the number that digits are in the end, if those from `at` to i are v and those from i on are f
+abbrev pub readTests : ℕ → ℕ → List ℕ → List Bool
+readTests v n f = all isDigit f ∷ leb 1 (n + length f) ∷ leb (n + length f) 20 ∷ ltb (value v f) (2 ^ 64) ∷ []
+
+unfoldable pub readOn : ℕ → ℕ → ℕ → List ℕ → NumberAt
+readOn v at i f = cond (tests (readTests v (i - at) f)) (Ends (value v f) (i + length f)) Malformed
 
 -- the digits of a number, at most k: its last digit behind those of what is left without it
 unfoldable pub digits : ℕ → ℕ → List ℕ

@@ -5,38 +5,6 @@ ghost use lib.ListN.{length};
 ghost use lib.Seq.{sets};
 ghost use Rattle.event_text.specs.Numbers.{digitsOf, lastDigits};
 
-// How many digits a number has.
-fn digit_count(n: u64) -> usize
-    ensures { λ r. ⌜ r ≡ length (digitsOf n) ⌝ }
-{
-    let mut rest = n;
-    let mut count = 1;
-    while count < 20 {
-        if rest < 10 {
-            return count;
-        }
-        rest /= 10;
-        count += 1;
-    }
-    count
-}
-
-// Any number's digits, the last one first. Answers where they end.
-fn put_large(out: &mut [u8], at: usize, n: u64) -> usize
-    requires { ⌜ at + 20 ≤ length (now out) ⌝ }
-    ensures { λ r. ⌜ (r ≡ at + length (digitsOf n)) × (now (out .exit) ≡ sets (now (out .entry)) at (digitsOf n)) ⌝ }
-{
-    let end = at + digit_count(n);
-    let mut i = end;
-    let mut rest = n;
-    while at < i {
-        i -= 1;
-        out[i] = b'0' + (rest % 10) as u8;
-        rest /= 10;
-    }
-    end
-}
-
 // The byte of a digit.
 fn digit(n: u64) -> u8
     requires { ⌜ n < 10 ⌝ }
@@ -81,6 +49,45 @@ fn put_small(out: &mut [u8], at: usize, n: u64) -> usize
     }
     put_four(out, at, n);
     at + 4
+}
+
+// The last eight digits of a number.
+fn put_eight(out: &mut [u8], at: usize, n: u64)
+    requires { ⌜ at + 8 ≤ length (now out) ⌝ }
+    ensures { λ _. ⌜ now (out .exit) ≡ sets (now (out .entry)) at (lastDigits 8 n) ⌝ }
+{
+    put_four(out, at, n / 10000);
+    put_four(out, at + 4, n % 10000);
+}
+
+// The digits of a number below 100,000,000. Answers where they end.
+fn put_short(out: &mut [u8], at: usize, n: u64) -> usize
+    requires { ⌜ (n < 100000000) × (at + 8 ≤ length (now out)) ⌝ }
+    ensures { λ r. ⌜ (r ≡ at + length (digitsOf n)) × (now (out .exit) ≡ sets (now (out .entry)) at (digitsOf n)) ⌝ }
+{
+    if n < 10000 {
+        return put_small(out, at, n);
+    }
+    let end = put_small(out, at, n / 10000);
+    put_four(out, end, n % 10000);
+    end + 4
+}
+
+// The digits of a number from 100,000,000 on, eight at a time. Answers where they end.
+fn put_large(out: &mut [u8], at: usize, n: u64) -> usize
+    requires { ⌜ (100000000 ≤ n) × (at + 20 ≤ length (now out)) ⌝ }
+    ensures { λ r. ⌜ (r ≡ at + length (digitsOf n)) × (now (out .exit) ≡ sets (now (out .entry)) at (digitsOf n)) ⌝ }
+{
+    let high = n / 100000000;
+    if high < 100000000 {
+        let end = put_short(out, at, high);
+        put_eight(out, end, n % 100000000);
+        return end + 8;
+    }
+    let end = put_small(out, at, high / 100000000);
+    put_eight(out, end, high % 100000000);
+    put_eight(out, end + 8, n % 100000000);
+    end + 16
 }
 
 // A number's digits put from `at` on. Answers where they end.

@@ -1,17 +1,16 @@
 // The fields of a line, which are its parts between commas, and words.
 ghost use mathlib.Core.Path.{_≡_};
-ghost use Prim.Native.Nat.{_≤_};
 ghost use lib.ListN.{length};
-ghost use Rattle.event_text.specs.Fields.{fieldEnd, same};
+ghost use Rattle.event_text.specs.Fields.{firstField, firstLine, same};
 
-// Where the field that starts at `at` ends: at the first comma from there on, or at the end of the line.
-pub fn field_end(line: &[u8], at: usize) -> usize
-    requires { ⌜ at ≤ length (now line) ⌝ }
-    ensures { λ r. ⌜ r ≡ fieldEnd (now (line .entry)) at ⌝ }
+// Where the first field of a text's first line ends: at a comma, a line feed, or the end of the text.
+pub fn first_end(text: &[u8]) -> usize
+    ensures { λ r. ⌜ r ≡ length (firstField (firstLine (now (text .entry)))) ⌝ }
 {
-    let mut i = at;
-    while i < line.len() {
-        if line[i] == b',' {
+    let mut i = 0;
+    while i < text.len() {
+        let byte = text[i];
+        if (byte == b',') | (byte == b'\n') {
             return i;
         }
         i += 1;

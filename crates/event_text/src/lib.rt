@@ -6,10 +6,11 @@ mod number;
 
 pub use digits::put_number;
 pub use digits::put_text;
-pub use field::field_end;
+pub use field::first_end;
 pub use field::is_word;
 pub use find::find_byte;
 pub use number::Number;
 pub use number::NumberAt;
+pub use number::digits_at;
 pub use number::number_at;
 pub use number::number_of;

@@ -8,30 +8,31 @@ use native.Mathlib.Omega.{arith}
 use borrow.Author.Tests.{leb-true}
 use lib.Dec.{leb}
 use lib.ListN.{length, take, drop, length-drop}
-use lib.Seq.{sets, length-sets, length-take-le}
+use lib.Seq.{sets, length-sets, length-take-le, take-all}
 use Rattle.books.specs.Demand3.{Reply}
+use Rattle.event_text.specs.Fields.{firstLine}
+use Rattle.event_text.specs.Searches.{indexOf}
+use Rattle.event_text.proofs.FirstLines.{first-index}
 use Rattle.event_lines.specs.declared.event.Event.{Event}
 use Rattle.event_lines.specs.Grammar.{eventOf}
 use Rattle.event_answers.specs.declared.answer.Answer.{Answer}
 use Rattle.event_answers.specs.Answers.{replyOf}
-use Rattle.event_answers.specs.Printed.{printed, mostBytes}
+use Rattle.event_answers.specs.Printed.{lineFeed, printed, mostBytes}
 use Rattle.event_sessions.specs.Sessions.{State, HoldsPool, step}
 use Rattle.event_sessions.proofs.Keeps.{step-keeps}
-use Rattle.events.specs.Lines.{wholeLines, lineOutput, lineState, LineRan, longestAnswer, Progress, hasRoom, ran, ranAll}
+use Rattle.events.specs.Lines.{wholeLines, lineOutput, lineState, EventRan, longestAnswer, Progress, hasRoom, ran, ranAll}
 use Rattle.events.specs.Ends.{lineEnd, nextEnd}
 use Rattle.events.proofs.Splits.{line-next, line-none}
+use Rattle.events.proofs.Rooms.{next-full, next-line, find-end, find-within}
 
 -- ---- one line
 
-module _ (cs vs : ℕ) (s after : State) (line : List ℕ) (event : Event) (a : Answer) (copies views : List ℕ)
-    (parsed : event ≡ eventOf line) (e : (replyOf a copies views, after) ≡ step cs vs s event) where
-  pub line-state : after ≡ lineState cs vs s line
-  unfolding lineState
-  line-state = ap (λ (r : Option Reply × State). r .1) e ∙ ap (λ (x : Event). step cs vs s x .1) parsed
+module _ (cs vs : ℕ) (s after : State) (event : Event) (a : Answer) (copies views : List ℕ) (e : (replyOf a copies views, after) ≡ step cs vs s event) where
+  pub event-state : after ≡ step cs vs s event .1
+  event-state = ap (λ (r : Option Reply × State). r .1) e
 
-  pub line-output : (n : ℕ) → printed n (replyOf a copies views) ≡ lineOutput cs vs n s line
-  unfolding lineOutput
-  line-output n = ap (λ (r : Option Reply × State). printed n (r .0)) e ∙ ap (λ (x : Event). printed n (step cs vs s x .0)) parsed
+  pub event-output : (n : ℕ) → printed n (replyOf a copies views) ≡ printed n (step cs vs s event .0)
+  event-output n = ap (λ (r : Option Reply × State). printed n (r .0)) e
 
 -- ---- the next line, or none
 
@@ -87,10 +88,8 @@ module _ (cs vs : ℕ) (input : List ℕ) (p : Progress) (end most size : ℕ) (
 
 -- ---- the loop over the lines
 
-pub record Going (cs vs : ℕ) (input : List ℕ) (p₀ p : Progress) (most end size : ℕ) : Type 0 where
-  pub begun : p .from ≤ end
-  pub within : end ≤ length input
-  pub next : end ≡ nextEnd input (p .from) most (p .filled) size
+pub record Going (cs vs : ℕ) (input : List ℕ) (p₀ p : Progress) (size : ℕ) : Type 0 where
+  pub inside : p .from ≤ length input
   pub counted : p .number ≤ p₀ .number + p .from
   pub filling : p .filled ≤ size
   pub sized : length (p .out) ≡ size
@@ -98,13 +97,22 @@ pub record Going (cs vs : ℕ) (input : List ℕ) (p₀ p : Progress) (most end 
   -- what is left to run from here is what was to run from the start
   pub left : ranAll cs vs p (wholeLines (drop (p .from) input)) ≡ ranAll cs vs p₀ (wholeLines input)
 
+-- a slice that goes to the input's end is all that is left
+rest-all : (input : List ℕ) (from : ℕ) → take (length input - from) (drop from input) ≡ drop from input
+rest-all input from = take-all (length input - from) (drop from input) (omega (arith, length-drop from input))
+
+pub end-of : (input : List ℕ) (from k : ℕ) → from ≤ length input → k ≡ indexOf 10 (take (length input - from) (drop from input)) → k ≡ indexOf lineFeed (drop from input)
+end-of input from k h e = e ∙ ap (indexOf 10) (rest-all input from)
+
+pub event-of : (input : List ℕ) (from : ℕ) (event : Event) → from ≤ length input → event ≡ eventOf (firstLine (take (length input - from) (drop from input)))
+    → event ≡ eventOf (firstLine (drop from input))
+event-of input from event h e = e ∙ ap (λ (l : List ℕ). eventOf (firstLine l)) (rest-all input from)
+
 -- from the first line on
-pub going-first : (cs vs : ℕ) (input : List ℕ) (p : Progress) (most end size : ℕ) → p .from ≡ 0 → p .filled ≡ 0 → length (p .out) ≡ size → HoldsPool (p .state)
-    → end ≡ nextEnd input 0 most 0 size → end ≤ length input → Going cs vs input p p most end size
-going-first cs vs input p most end size f l o h e b = record {
-  begun = omega arith;
-  within = b;
-  next = e ∙ ap₂ (λ (i j : ℕ). nextEnd input i most j size) (sym f) (sym l);
+pub going-first : (cs vs : ℕ) (input : List ℕ) (p : Progress) (size : ℕ) → p .from ≡ 0 → p .filled ≡ 0 → length (p .out) ≡ size → HoldsPool (p .state)
+    → Going cs vs input p p size
+going-first cs vs input p size f l o h = record {
+  inside = omega arith;
   counted = omega arith;
   filling = omega arith;
   sized = o;
@@ -112,51 +120,73 @@ going-first cs vs input p most end size f l o h e b = record {
   left = ap (λ (i : ℕ). ranAll cs vs p (wholeLines (drop i input))) f;
 }
 
+-- no room is left
+pub going-full : (cs vs : ℕ) (input : List ℕ) (p₀ p : Progress) (most size : ℕ) → Going cs vs input p₀ p size → most ≡ max (cs / 7) vs
+    → (size - p .filled) / 147 ≤ most → p ≡ ranAll cs vs p₀ (wholeLines input)
+going-full cs vs input p₀ p most size g e h =
+    sym (run-done cs vs input p (length input) most size e (g .sized) (sym (next-full input (p .from) most (p .filled) size (g .filling) h)) (omega arith)) ∙ g .left
+
 -- a turn; the answer buffers have as many numbers as they had at first
-module _ (cs vs a b : ℕ) (ea : a ≡ cs) (eb : b ≡ vs) (input : List ℕ) (p₀ p : Progress) (most end size : ℕ)
-    (g : Going cs vs input p₀ p most end size) (is-most : most ≡ max (cs / 7) vs) (h : end < length input) where
-  abbrev line : List ℕ
-  line = take (end - p .from) (drop (p .from) input)
+module _ (cs vs a b : ℕ) (ea : a ≡ cs) (eb : b ≡ vs) (input : List ℕ) (p₀ p : Progress) (most k end size : ℕ)
+    (g : Going cs vs input p₀ p size) (is-most : most ≡ max (cs / 7) vs) (room : most < (size - p .filled) / 147)
+    (line-end : k ≡ indexOf lineFeed (drop (p .from) input)) (is-end : end ≡ p .from + k) where
+  next : end ≡ nextEnd input (p .from) most (p .filled) size
+  next =
+      is-end ∙ find-end input (p .from) (p .from + k) (ap (λ (i : ℕ). p .from + i) line-end)
+      ∙ sym (next-line input (p .from) most (p .filled) size (g .filling) room)
 
-  line-length : length line ≡ end - p .from
-  line-length = length-take-le (end - p .from) (drop (p .from) input) (omega (arith, length-drop (p .from) input, g .within))
+  pub going-end : end ≤ length input
+  going-end = find-within input (p .from) end (g .inside) (is-end ∙ ap (λ (i : ℕ). p .from + i) line-end) .1
 
-  -- the line has room
-  pub going-room : p .filled + longestAnswer a b ≤ length (p .out)
-  going-room =
-      let r = leb-true (p .filled + mostBytes most) size (run-room cs vs input p end most size is-most (g .sized) (g .next) h) in
-      let m : p .filled + longestAnswer cs vs ≤ size = rw is-most at r in
-      rw (ea, eb, g .sized) m
+  -- no whole line is left
+  pub going-done : length input ≤ end → p ≡ ranAll cs vs p₀ (wholeLines input)
+  going-done h = sym (run-done cs vs input p end most size is-most (g .sized) next h) ∙ g .left
 
-  module _ (q : Progress) (n : q .number ≡ p .number + 1) (f : q .from ≡ end + 1)
-      (r : LineRan a b (p .number + 1) (p .state) (q .state) (take (end - p .from) (drop (p .from) input)) (p .filled) (q .filled) (p .out) (q .out)) where
-    was-run : q ≡ ran cs vs p line
-    was-run =
-        let k = line-length in
-        let m = g .begun in
-        let e : q .from ≡ p .from + (length line + 1) = omega arith in
-        ran-is a b p q line (r .state) n e (r .length-is) (r .put) ∙ ap₂ (λ (i j : ℕ). ran i j p line) ea eb
+  module _ (h : end < length input) where
+    abbrev line : List ℕ
+    line = take (end - p .from) (drop (p .from) input)
 
-    kept : HoldsPool (q .state)
-    unfolding lineState
-    kept = rw (r .state) (step-keeps a b (p .state) (eventOf line) (g .pool))
+    line-length : length line ≡ end - p .from
+    line-length = length-take-le (end - p .from) (drop (p .from) input) (omega (arith, length-drop (p .from) input, going-end))
 
-    pub going-next : {end′ : ℕ} → end′ ≡ nextEnd input (end + 1) most (q .filled) size → end + 1 ≤ end′ → end′ ≤ length input
-        → Going cs vs input p₀ q most end′ size
-    going-next e x y = record {
-      begun = omega arith;
-      within = y;
-      next = e ∙ ap (λ (i : ℕ). nextEnd input i most (q .filled) size) (sym f);
-      counted = let k = g .counted in let m = g .begun in omega arith;
-      filling = let k = g .sized in let z = r .fits in omega arith;
-      sized = ap length (r .put) ∙ length-sets (p .out) (p .filled) (lineOutput a b (p .number + 1) (p .state) line) ∙ g .sized;
-      pool = kept;
-      left = ap (λ (k : ℕ). ranAll cs vs q (wholeLines (drop k input))) f
-          ∙ ap (λ (x : Progress). ranAll cs vs x (wholeLines (drop (end + 1) input))) was-run
-          ∙ sym (run-more cs vs input p end most size is-most (g .sized) (g .next) h) ∙ g .left;
-    }
+    -- the line is the first of what is left
+    line-is : firstLine (drop (p .from) input) ≡ line
+    line-is = first-index (drop (p .from) input) ∙ ap (λ (i : ℕ). take i (drop (p .from) input)) (sym line-end ∙ (let q : k ≡ end - p .from = omega arith in q))
 
--- no line is left, or no room
-pub going-done : (cs vs : ℕ) (input : List ℕ) (p₀ p : Progress) (most end size : ℕ) → Going cs vs input p₀ p most end size → most ≡ max (cs / 7) vs
-    → length input ≤ end → p ≡ ranAll cs vs p₀ (wholeLines input)
-going-done cs vs input p₀ p most end size g e h = sym (run-done cs vs input p end most size e (g .sized) (g .next) h) ∙ g .left
+    -- the line has room
+    pub going-room : p .filled + longestAnswer a b ≤ length (p .out)
+    going-room =
+        let r = leb-true (p .filled + mostBytes most) size (run-room cs vs input p end most size is-most (g .sized) next h) in
+        let m : p .filled + longestAnswer cs vs ≤ size = rw is-most at r in
+        rw (ea, eb, g .sized) m
+
+    module _ (event : Event) (parsed : event ≡ eventOf (firstLine (drop (p .from) input))) (q : Progress) (n : q .number ≡ p .number + 1) (f : q .from ≡ end + 1)
+        (r : EventRan a b (p .number + 1) (p .state) (q .state) event (p .filled) (q .filled) (p .out) (q .out)) where
+      is-event : event ≡ eventOf line
+      is-event = parsed ∙ ap eventOf line-is
+
+      was-run : q ≡ ran cs vs p line
+      unfolding lineState lineOutput
+      was-run =
+          let l = line-length in
+          let e : q .from ≡ p .from + (length line + 1) = omega arith in
+          ran-is a b p q line
+          (r .state ∙ ap (λ (x : Event). step a b (p .state) x .1) is-event) n e
+          (r .length-is ∙ ap (λ (x : Event). p .filled + length (printed (p .number + 1) (step a b (p .state) x .0))) is-event)
+          (r .put ∙ ap (λ (x : Event). sets (p .out) (p .filled) (printed (p .number + 1) (step a b (p .state) x .0))) is-event)
+          ∙ ap₂ (λ (i j : ℕ). ran i j p line) ea eb
+
+      kept : HoldsPool (q .state)
+      kept = rw (r .state) (step-keeps a b (p .state) event (g .pool))
+
+      pub going-next : Going cs vs input p₀ q size
+      going-next = record {
+        inside = omega arith;
+        counted = let l = g .counted in omega arith;
+        filling = let l = g .sized in let z = r .fits in omega arith;
+        sized = ap length (r .put) ∙ length-sets (p .out) (p .filled) (printed (p .number + 1) (step a b (p .state) event .0)) ∙ g .sized;
+        pool = kept;
+        left = ap (λ (i : ℕ). ranAll cs vs q (wholeLines (drop i input))) f
+            ∙ ap (λ (x : Progress). ranAll cs vs x (wholeLines (drop (end + 1) input))) was-run
+            ∙ sym (run-more cs vs input p end most size is-most (g .sized) next h) ∙ g .left;
+      }

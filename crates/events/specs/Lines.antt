@@ -6,6 +6,7 @@ use mathlib.Core.List.{List, [], _∷_, _++_}
 use lib.Dec.{eqb, leb}
 use lib.ListN.{length}
 use lib.Seq.{sets}
+use Rattle.event_lines.specs.declared.event.Event.{Event}
 use Rattle.event_lines.specs.Grammar.{eventOf}
 use Rattle.event_answers.specs.Printed.{lineFeed, printed, mostBytes}
 use Rattle.event_sessions.specs.Sessions.{State, stateOf, step}
@@ -38,11 +39,11 @@ module _ (copies views : ℕ) where
   output n s [] = []
   output n s (line ∷ lines) = lineOutput (n + 1) s line ++ output (n + 1) (lineState s line) lines
 
-  -- Line n was run: `after` is the state after it, and its output stands behind the filled bytes of the buffer, up to `end`.
-  pub record LineRan (n : ℕ) (before after : State) (line : List ℕ) (filled end : ℕ) (out exit : List ℕ) : Type 0 where
-    pub state : after ≡ lineState before line
-    pub length-is : end ≡ filled + length (lineOutput n before line)
-    pub put : exit ≡ sets out filled (lineOutput n before line)
+  -- Line n, which is this event, was run: `after` is the state after it, and its output stands behind the filled bytes of the buffer, up to `end`.
+  pub record EventRan (n : ℕ) (before after : State) (event : Event) (filled end : ℕ) (out exit : List ℕ) : Type 0 where
+    pub state : after ≡ step copies views before event .1
+    pub length-is : end ≡ filled + length (printed n (step copies views before event .0))
+    pub put : exit ≡ sets out filled (printed n (step copies views before event .0))
     pub fits : end ≤ length out
 
   -- no line's output has more bytes

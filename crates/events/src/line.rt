@@ -2,9 +2,9 @@
 ghost use Prim.Native.Nat.{_+_, _≤_};
 ghost use lib.ListN.{length};
 ghost use Rattle.event_sessions.specs.Sessions.{stateOf, HoldsPool};
-ghost use Rattle.events.specs.Lines.{LineRan, longestAnswer};
+ghost use Rattle.events.specs.Lines.{EventRan, longestAnswer};
 use event_answers::put_answer;
-use event_lines::parse_line;
+use event_lines::Event;
 use event_sessions::Session;
 use event_sessions::answer_event;
 
@@ -14,9 +14,9 @@ pub struct RanLine {
     pub filled: usize,
 }
 
-// Line `number`, without its line feed. Its output is put behind the `filled` bytes of `out`.
+// Line `number`, which is this event. Its output is put behind the `filled` bytes of `out`.
 pub fn run_line(
-    line: &[u8],
+    event: Event,
     number: u64,
     session: Session,
     textures: &mut [u64],
@@ -32,12 +32,11 @@ pub fn run_line(
 ) -> RanLine
     requires { ⌜ HoldsPool (stateOf session (now textures) (now retiring) (now doomed) (now spares) (now newest) (now stamps))
         × (filled + longestAnswer (length (now copies)) (length (now views)) ≤ length (now out)) ⌝ }
-    ensures { λ r. ⌜ LineRan (length (now (copies .entry))) (length (now (views .entry))) number
+    ensures { λ r. ⌜ EventRan (length (now (copies .entry))) (length (now (views .entry))) number
         (stateOf session (now (textures .entry)) (now (retiring .entry)) (now (doomed .entry)) (now (spares .entry)) (now (newest .entry)) (now (stamps .entry)))
         (stateOf (r .session) (now (textures .exit)) (now (retiring .exit)) (now (doomed .exit)) (now (spares .exit)) (now (newest .exit)) (now (stamps .exit)))
-        (now (line .entry)) filled (r .filled) (now (out .entry)) (now (out .exit)) ⌝ }
+        event filled (r .filled) (now (out .entry)) (now (out .exit)) ⌝ }
 {
-    let event = parse_line(line);
     let answered = answer_event(
         session,
         textures,

@@ -3,12 +3,11 @@ ghost use mathlib.Core.Path.{_≡_};
 ghost use Prim.Native.Nat.{_+_, _/_, _^_, _≤_, _<_, max};
 ghost use lib.ListN.{length};
 ghost use Rattle.event_sessions.specs.Sessions.{stateOf, HoldsPool};
-ghost use Rattle.events.specs.Ends.{nextEnd};
 ghost use Rattle.events.specs.Lines.{progressOf, start, wholeLines, ranAll};
 use crate::line::run_line;
 use crate::run::Run;
+use event_lines::parse_first;
 use event_sessions::Session;
-use event_text::find_byte;
 
 // The most bytes of a line of output.
 const ROW: usize = 147;
@@ -21,18 +20,6 @@ fn most_entries(copies: usize, views: usize) -> usize
         return views;
     }
     copies / 7
-}
-
-// Where the next line that can be run ends. It is the end of the input where no whole line is left, or where an answer of `most` entries
-// has no room behind the `filled` bytes of a buffer of `size`.
-fn next_end(input: &[u8], from: usize, most: usize, filled: usize, size: usize) -> usize
-    requires { ⌜ (from ≤ length (now input)) × (filled ≤ size) ⌝ }
-    ensures { λ r. ⌜ (r ≡ nextEnd (now (input .entry)) from most filled size) × (from ≤ r) × (r ≤ length (now (input .entry))) ⌝ }
-{
-    if (size - filled) / ROW <= most {
-        return input.len();
-    }
-    find_byte(input, from, b'\n')
 }
 
 // Runs whole lines from the front of `input` on, `number` lines having been run before. Their output is put at the front of `out`.
@@ -66,14 +53,19 @@ pub fn run_lines(
         from: 0,
         filled: 0,
     };
-    let mut end = next_end(input, 0, most, 0, size);
-    while end < input.len() {
+    while most < (size - run.filled) / ROW {
         let from = run.from;
+        let parsed = parse_first(&input[from..]);
+        let end = from + parsed.end;
+        if input.len() <= end {
+            return run;
+        }
+        let event = parsed.event;
         let before = run.session;
         let current = run.number + 1;
         let next = end + 1;
         let ran = run_line(
-            &input[from..end],
+            event,
             current,
             before,
             textures,
@@ -94,7 +86,6 @@ pub fn run_lines(
             from: next,
             filled: ran.filled,
         };
-        end = next_end(input, next, most, ran.filled, size);
     }
     run
 }

@@ -4,7 +4,7 @@ ghost use lib.ListN.{length};
 use crate::print::figure;
 use crate::print::figure_of;
 use event_lines::Event;
-use event_lines::parse_line;
+use event_lines::parse_first;
 use event_text::Number;
 use event_text::number_of;
 
@@ -22,7 +22,9 @@ fn print_number(name: &[u8], text: &[u8])
 fn print_read(name: &[u8], line: &[u8])
     requires { ⌜ length (now name) ≤ 64 ⌝ }
 {
-    match parse_line(line) {
+    let parsed = parse_first(line);
+    let event = parsed.event;
+    match event {
         Event::Unread => figure(name, 0),
         _ => figure(name, 1),
     }

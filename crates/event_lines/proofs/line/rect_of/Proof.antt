@@ -5,17 +5,17 @@ use Rattle.event_lines.specs.Grammar.{rectOf}
 use Rattle.event_lines.proofs.line.rect_of.Statement.{statement}
 use Rattle.event_lines.proofs.line.rect_of.Tie as tie
 
-array-read-t5 : tie.Need-array-read-t5
-array-read-t5 c = search needs
+shared-slice-read-t3 : tie.Need-shared-slice-read-t3
+shared-slice-read-t3 c = search needs
 
-array-read-t8 : tie.Need-array-read-t8
-array-read-t8 c = search needs
+shared-slice-read-t5 : tie.Need-shared-slice-read-t5
+shared-slice-read-t5 c = search needs
 
-array-read-t11 : tie.Need-array-read-t11
-array-read-t11 c = search needs
+shared-slice-read-t7 : tie.Need-shared-slice-read-t7
+shared-slice-read-t7 c = search needs
 
-array-read-t14 : tie.Need-array-read-t14
-array-read-t14 c = search needs
+shared-slice-read-t9 : tie.Need-shared-slice-read-t9
+shared-slice-read-t9 c = search needs
 
 returns : tie.Need-returns
 unfolding rectOf
@@ -23,4 +23,10 @@ returns c = refl
 
 pub rect-of-spec : {M : Type 1} → statement M
 rect-of-spec =
-    tie.close (tie.spec array-read-t5 array-read-t8 array-read-t11 array-read-t14 returns)
+    tie.close
+    (tie.spec
+    shared-slice-read-t3
+    shared-slice-read-t5
+    shared-slice-read-t7
+    shared-slice-read-t9
+    returns)

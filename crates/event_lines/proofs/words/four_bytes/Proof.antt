@@ -63,7 +63,7 @@ returns c =
     let w = c .before .before in
     let v = w .before .before in
     let u = v .before .before in
-    four-read (u .before .before .before .args .line .now) (u .before .before .before .pre)
+    four-read (u .before .before .before .args .text .now) (u .before .before .before .pre)
     (omega (arith, g 0)) (omega (arith, g 1)) (omega (arith, g 2)) (omega (arith, g 3)) _
     (λ i. u .wide .ensures i + v .wide2 .ensures i * 256 + w .wide3 .ensures i * 65536 + c .wide4 .ensures i * 16777216)
 

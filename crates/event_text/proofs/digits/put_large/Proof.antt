@@ -1,77 +1,113 @@
--- `put_large` meets its contract: with the digits of what is left put before i, all are put. Assumes nothing.
+-- `put_large` meets its contract: the digits of the number without its last eight are put, and then those. Assumes nothing.
 use borrow.Author.Needs.{needs}
-use mathlib.Core.Path.{_≡_, sym, ap, _∙_}
-use Prim.Native.Nat.{_+_, _-_, _≤_}
+use mathlib.Core.Path.{_≡_, _∙_}
 use native.Mathlib.Omega.{arith}
-use lib.ListN.{length, length-set}
-use lib.Seq.{sets}
-use Rattle.event_text.specs.Numbers.{digitsOf, lastDigits}
-use Rattle.event_text.proofs.Printing.{put-start, put-step, put-done, digits-room}
+use Prim.Native.Nat.{_+_, _/_}
+use Rattle.event_text.proofs.ShortNumbers.{eight-behind, room-behind, put-behind}
 use Rattle.event_text.proofs.digits.put_large.Statement.{statement}
 use Rattle.event_text.proofs.digits.put_large.Tie as tie
 
-abbrev Inv-loop : tie.InvT-loop
-Inv-loop out₀ at n end i₀ rest₀ out i rest = (at ≤ i) × (i ≤ at + 20) × (length out ≡ length out₀) × (sets out at (lastDigits (i - at) rest) ≡ sets out₀ at (digitsOf n))
+put-short-requires : tie.Need-put-short-requires
+put-short-requires c κs = search needs
 
-abbrev μ-loop : tie.MeasureT-loop
-μ-loop out₀ at n end i₀ rest₀ out i rest = i
+put-eight-requires : tie.Need-put-eight-requires
+put-eight-requires c κs =
+    let a = c .before .before .before .before .before .before .before in
+    let n = a .args .n in
+    let e = eight-behind n (a .pre .0) (omega arith) in
+    let s = c .before .before .before .put-short in
+    omega (arith, a .pre .1, s .ensures .0, s .kept .0, room-behind _ _ _ _ e)
 
-digit-count-requires : tie.Need-digit-count-requires Inv-loop μ-loop
-digit-count-requires c κs = search needs
+add-result : tie.Need-add-result
+add-result c =
+    let a = c .before .before .before .before .before .before .before .before .before .before in
+    let n = a .args .n in
+    let e = eight-behind n (a .pre .0) (omega arith) in
+    let s = c .before .before .before .before .before .before .put-short in
+    omega (arith, a .pre .1, s .ensures .0, room-behind _ _ _ _ e)
 
-add-end : tie.Need-add-end Inv-loop μ-loop
-add-end c = omega (arith, digits-room (c .before .before .args .n), c .digit-count .ensures)
-
-loop-holds : tie.Need-loop-holds Inv-loop μ-loop
-loop-holds c =
-    let a = c .before .before .args in
-    let d = digits-room (a .n) in
-    (search needs, omega (arith, c .digit-count .ensures), search needs, put-start (a .out .now) (a .at) _ (a .n) (c .digit-count .ensures))
-
-sub-i : tie.Need-sub-i Inv-loop μ-loop
-sub-i c = search needs
-
-cast-out : tie.Need-cast-out Inv-loop μ-loop
-cast-out c = search needs
-
-add-out : tie.Need-add-out Inv-loop μ-loop
-add-out c = search needs
-
-slice-write-out : tie.Need-slice-write-out Inv-loop μ-loop
-slice-write-out c = search needs
-
-loop-less : tie.Need-loop-less Inv-loop μ-loop
-loop-less c = search needs
-
-loop-again : tie.Need-loop-again Inv-loop μ-loop
-loop-again c =
-    let l = c .before in
-    let a = l .before .before .before .args in
-    (search needs, search needs, simp length-set (search needs), put-step (l .loop .out) (a .at) (l .loop .i) (l .loop .rest) (c .loop-test .taken) ∙ l .loop .inv .3)
-
-same-length : tie.Need-same-length Inv-loop μ-loop
+same-length : tie.Need-same-length
 same-length c = search needs
 
-returns : tie.Need-returns Inv-loop μ-loop
+returns : tie.Need-returns
 returns c =
-    let l = c .before in
-    let a = l .before .before .before .args in
-    (ap (λ k. a .at + k) (l .before .digit-count .ensures), sym (put-done (l .loop .out) (a .at) (l .loop .i) (l .loop .rest) (c .loop-test .left)) ∙ l .loop .inv .3)
+    let a = c .before .before .before .before .before .before .before .before .before .before in
+    let n = a .args .n in
+    let e = eight-behind n (a .pre .0) (omega arith) in
+    let s = c .before .before .before .before .before .before .put-short .ensures in
+    put-behind _ _ _ _ _ _ _ _ _ e (s .0) (s .1) (c .before .before .put-eight .ensures)
+
+put-small-requires : tie.Need-put-small-requires
+put-small-requires c κs = search needs
+
+put-eight-requires-2 : tie.Need-put-eight-requires-2
+put-eight-requires-2 c κs =
+    let a = c .before .before .before .before .before .before .before in
+    let n = a .args .n in
+    let g = eight-behind (n / 100000000) (c .before .before .before .before .before .if1 .left) (omega arith) in
+    let e = eight-behind n (a .pre .0) (omega arith) in
+    let s = c .before .before .before .put-small in
+    omega (arith, a .pre .1, s .ensures .0, s .kept .0, room-behind _ _ _ _ g)
+
+add-put-eight : tie.Need-add-put-eight
+add-put-eight c =
+    let a = c .before .before .before .before .before .before .before .before .before .before .before in
+    let n = a .args .n in
+    let g = eight-behind (n / 100000000) (c .before .before .before .before .before .before .before .before .before .if1 .left) (omega arith) in
+    let e = eight-behind n (a .pre .0) (omega arith) in
+    let s = c .before .before .before .before .before .before .before .put-small in
+    omega (arith, a .pre .1, s .ensures .0, room-behind _ _ _ _ g)
+
+put-eight-requires-3 : tie.Need-put-eight-requires-3
+put-eight-requires-3 c κs =
+    let a = c .before .before .before .before .before .before .before .before .before .before .before in
+    let n = a .args .n in
+    let g = eight-behind (n / 100000000) (c .before .before .before .before .before .before .before .before .before .if1 .left) (omega arith) in
+    let e = eight-behind n (a .pre .0) (omega arith) in
+    let s = c .before .before .before .before .before .before .before .put-small in
+    let t = c .before .before .before .put-eight2 in
+    let p = put-behind _ _ _ _ _ _ _ _ _ g (s .ensures .0) (s .ensures .1) (t .ensures) in
+    omega (arith, a .pre .1, p .0, s .kept .0, t .kept .0, room-behind _ _ _ _ e)
+
+add-result-2 : tie.Need-add-result-2
+add-result-2 c =
+    let a = c .before .before .before .before .before .before .before .before .before .before .before .before .before .before in
+    let n = a .args .n in
+    let g = eight-behind (n / 100000000) (c .before .before .before .before .before .before .before .before .before .before .before .before .if1 .left) (omega arith) in
+    let e = eight-behind n (a .pre .0) (omega arith) in
+    let s = c .before .before .before .before .before .before .before .before .before .before .put-small in
+    let t = c .before .before .before .before .before .before .put-eight2 in
+    let p = put-behind _ _ _ _ _ _ _ _ _ g (s .ensures .0) (s .ensures .1) (t .ensures) in
+    omega (arith, a .pre .1, p .0, room-behind _ _ _ _ e)
+
+same-length-2 : tie.Need-same-length-2
+same-length-2 c = search needs
+
+returns-2 : tie.Need-returns-2
+returns-2 c =
+    let a = c .before .before .before .before .before .before .before .before .before .before .before .before .before .before in
+    let n = a .args .n in
+    let g = eight-behind (n / 100000000) (c .before .before .before .before .before .before .before .before .before .before .before .before .if1 .left) (omega arith) in
+    let e = eight-behind n (a .pre .0) (omega arith) in
+    let s = c .before .before .before .before .before .before .before .before .before .before .put-small in
+    let t = c .before .before .before .before .before .before .put-eight2 in
+    let p = put-behind _ _ _ _ _ _ _ _ _ g (s .ensures .0) (s .ensures .1) (t .ensures) in
+    let q = put-behind _ _ _ _ _ _ _ _ _ e (p .0) (p .1) (c .before .before .put-eight3 .ensures) in
+    (omega (arith, q .0), q .1)
 
 pub put-large-spec : {M : Type 1} → statement M
 put-large-spec =
     tie.close
     (tie.spec
-    Inv-loop
-    μ-loop
-    digit-count-requires
-    add-end
-    loop-holds
-    sub-i
-    cast-out
-    add-out
-    slice-write-out
-    loop-less
-    loop-again
+    put-short-requires
+    put-eight-requires
+    add-result
     same-length
-    returns)
+    returns
+    put-small-requires
+    put-eight-requires-2
+    add-put-eight
+    put-eight-requires-3
+    add-result-2
+    same-length-2
+    returns-2)

@@ -1,7 +1,7 @@
 -- `put_number` meets its contract. Assumes nothing.
 use borrow.Author.Needs.{needs}
 use native.Mathlib.Omega.{arith}
-use Rattle.event_text.proofs.ShortNumbers.{put-more, room-more}
+use Rattle.event_text.proofs.ShortNumbers.{four-behind, room-behind, put-behind}
 use Rattle.event_text.proofs.digits.put_number.Statement.{statement}
 use Rattle.event_text.proofs.digits.put_number.Tie as tie
 
@@ -21,14 +21,14 @@ put-four-requires : tie.Need-put-four-requires
 put-four-requires c κs =
     let s = c .before .before .before in
     let i = s .before .before in
-    let r = room-more (i .before .before .before .args .n) (i .before .if1 .left) (i .if2 .taken) in
+    let r = room-behind _ _ _ _ (four-behind (i .before .before .before .args .n) (i .before .if1 .left) (omega (arith, i .if2 .taken))) in
     omega (arith, i .before .before .before .pre, s .put-small2 .ensures .0, s .put-small2 .kept .0, r)
 
 add-result : tie.Need-add-result
 add-result c =
     let s = c .before .before .before .before .before .before in
     let i = s .before .before in
-    let r = room-more (i .before .before .before .args .n) (i .before .if1 .left) (i .if2 .taken) in
+    let r = room-behind _ _ _ _ (four-behind (i .before .before .before .args .n) (i .before .if1 .left) (omega (arith, i .if2 .taken))) in
     omega (arith, i .before .before .before .pre, s .put-small2 .ensures .0, r)
 
 same-length-2 : tie.Need-same-length-2
@@ -39,7 +39,7 @@ returns-2 c =
     let f = c .before .before in
     let s = f .before .before .before .before in
     let i = s .before .before in
-    put-more _ _ _ _ _ _ (s .put-small2 .ensures .0) (s .put-small2 .ensures .1) (f .put-four .ensures) (i .before .if1 .left) (i .if2 .taken)
+    put-behind _ _ (i .before .before .before .args .n) _ _ _ _ _ _ (four-behind (i .before .before .before .args .n) (i .before .if1 .left) (omega (arith, i .if2 .taken))) (s .put-small2 .ensures .0) (s .put-small2 .ensures .1) (f .put-four .ensures)
 
 put-large-requires : tie.Need-put-large-requires
 put-large-requires c κs = search needs

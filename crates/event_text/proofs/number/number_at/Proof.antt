@@ -1,67 +1,44 @@
--- `number_at` meets its contract. Assumes nothing.
+-- `number_at` meets its contract: the digits that the field starts with are all of it, or it is no number. Assumes nothing.
 use borrow.Author.Needs.{needs}
 use mathlib.Core.Path.{sym, _∙_}
 use native.Mathlib.Omega.{arith}
-use Rattle.event_text.proofs.Numbers.{first-none, first-bad, first-last, first-comma-next, digit-low, digit-high}
+use Rattle.event_text.proofs.Leading.{field-none, field-ends, field-other, at-end, inside-same}
 use Rattle.event_text.proofs.number.number_at.Statement.{statement}
 use Rattle.event_text.proofs.number.number_at.Tie as tie
 
+digits-at-requires : tie.Need-digits-at-requires
+digits-at-requires c κs = search needs
+
+enum-known-value : tie.Need-enum-known-value
+enum-known-value c = search needs
+
+enum-told : tie.Need-enum-told
+enum-told c = search needs
+
 returns : tie.Need-returns
-returns c = sym (first-none _ _ (omega arith))
-
-shared-slice-read-wide : tie.Need-shared-slice-read-wide
-shared-slice-read-wide c = search needs
-
-wide-requires : tie.Need-wide-requires
-wide-requires c κs = search needs
+returns c = sym (field-none _ _ (sym (c .before .before .digits-at .ensures) ∙ c .enum-told .given .1))
 
 returns-2 : tie.Need-returns-2
-returns-2 c = sym (first-bad _ _ _ (omega arith) (c .before .wide .ensures) (c .if2 .taken))
+returns-2 c = field-ends _ _ _ _ (sym (c .before .before .before .before .digits-at .ensures) ∙ c .before .before .value .given .1) (at-end (c .before .before .before .before .before .before .args .line .now) _ (c .if1 .taken))
 
-sub-first : tie.Need-sub-first
-sub-first c = digit-low (c .before .wide .result) (c .if2 .left)
-
-add-next : tie.Need-add-next
-add-next c = search needs
+shared-slice-read-if2 : tie.Need-shared-slice-read-if2
+shared-slice-read-if2 c = search needs
 
 returns-3 : tie.Need-returns-3
-returns-3 c =
-    let w = c .before .before .wide in
-    let t = c .before .if2 .left in
-    first-last _ _ (w .result) (omega arith) (w .ensures) (digit-low (w .result) t) (digit-high (w .result) t) (omega arith)
-
-shared-slice-read-if4 : tie.Need-shared-slice-read-if4
-shared-slice-read-if4 c = search needs
+returns-3 c = field-ends _ _ _ _ (sym (c .before .before .before .before .before .before .digits-at .ensures) ∙ c .before .before .before .before .value .given .1) (inside-same (c .before .before .before .before .before .before .before .before .args .line .now) _ (c .before .before .if1 .left) ∙ c .if2 .taken)
 
 returns-4 : tie.Need-returns-4
-returns-4 c =
-    let w = c .before .before .before .before .wide in
-    let t = c .before .before .before .if2 .left in
-    first-comma-next _ _ (w .result) (omega arith) (w .ensures) (digit-low (w .result) t) (digit-high (w .result) t) (omega arith) (c .if4 .taken)
-
-longer-number-requires : tie.Need-longer-number-requires
-longer-number-requires c κs =
-    let w = c .before .before .before .before .wide in
-    let t = c .before .before .before .if2 .left in
-    let lo = digit-low (w .result) t in
-    let hi = digit-high (w .result) t in
-    (omega arith, omega (arith, lo, hi), omega (arith, lo) ∙ w .ensures)
-
-returns-5 : tie.Need-returns-5
-returns-5 c = c .longer-number .ensures
+returns-4 c = field-other _ _ _ _ (sym (c .before .before .before .before .before .before .digits-at .ensures) ∙ c .before .before .before .before .value .given .1) (λ e. c .if2 .left (sym (inside-same (c .before .before .before .before .before .before .before .before .args .line .now) _ (c .before .before .if1 .left)) ∙ e))
 
 pub number-at-spec : {M : Type 1} → statement M
 number-at-spec =
     tie.close
     (tie.spec
+    digits-at-requires
+    enum-known-value
+    enum-told
     returns
-    shared-slice-read-wide
-    wide-requires
     returns-2
-    sub-first
-    add-next
+    shared-slice-read-if2
     returns-3
-    shared-slice-read-if4
-    returns-4
-    longer-number-requires
-    returns-5)
+    returns-4)

@@ -1,23 +1,19 @@
--- `run_line` meets its contract: the line's event, its answer, and the answer's output. Assumes nothing.
-use borrow.Author.Needs.{needs}
+-- `run_line` meets its contract: the event's answer, and the answer's output. Assumes nothing.
 use mathlib.Core.Path.{ap, _∙_}
 use Prim.Native.Nat.{_+_}
 use lib.ListN.{length}
 use lib.Seq.{sets}
 use Rattle.events.proofs.Rooms.{answer-fits, output-fits}
-use Rattle.events.proofs.Runs.{line-state, line-output}
+use Rattle.events.proofs.Runs.{event-state, event-output}
 use Rattle.events.proofs.line.run_line.Statement.{statement}
 use Rattle.events.proofs.line.run_line.Tie as tie
 
-parse-line-requires : tie.Need-parse-line-requires
-parse-line-requires c κs = search needs
-
 answer-event-requires : tie.Need-answer-event-requires
-answer-event-requires c κs = c .before .before .before .before .before .before .before .before .before .before .before .before .before .before .before .before .before .before .before .pre .0
+answer-event-requires c κs = c .before .before .before .before .before .before .before .before .before .before .before .before .before .before .before .before .before .pre .0
 
 put-answer-requires : tie.Need-put-answer-requires
 put-answer-requires c κs =
-    let s = c .before .before .before .before .before .before .before .before .before .before .before .before .before .before .before .before .before .before .before .before .before .before .before .before .before .before .before .before .before .before .before .before .before .before .before .before .before .before .before in
+    let s = c .before .before .before .before .before .before .before .before .before .before .before .before .before .before .before .before .before .before .before .before .before .before .before .before .before .before .before .before .before .before .before .before .before .before .before .before .before in
     let a = c .before .before .before .before .before .before .before .before .before .before .before .before .before .before .before .before .before .before .before .answer-event in
     let n = a .kept .1 .1 .1 .1 .1 .1 .1 in
     (answer-fits (a .result .answer) _ _ _ _ (s .args .filled) _ (a .ensures .0) (n .0) (n .1 .0) (s .pre .1), a .ensures .0)
@@ -51,13 +47,12 @@ same-length-9 c = c .before .before .before .put-answer .kept .0
 
 returns : tie.Need-returns
 returns c =
-    let s = c .before .before .before .before .before .before .before .before .before .before .before .before .before .before .before .before .before .before .before .before .before .before .before .before .before .before .before .before .before .before .before .before .before .before .before .before .before .before .before .before .before .before .before in
-    let v = c .before .before .before .before .before .before .before .before .before .before .before .before .before .before .before .before .before .before .before .before .before .before .before .before .before .before .before .before .before .before .before .before .parse-line in
+    let s = c .before .before .before .before .before .before .before .before .before .before .before .before .before .before .before .before .before .before .before .before .before .before .before .before .before .before .before .before .before .before .before .before .before .before .before .before .before .before .before .before .before in
     let a = c .before .before .before .before .before .before .before .before .before .before .before .before .before .before .before .before .before .before .before .before .before .before .before .answer-event in
     let n = a .kept .1 .1 .1 .1 .1 .1 .1 in
     let p = c .before .before .before .put-answer in
-    let t = line-output _ _ _ _ _ _ (a .result .answer) _ _ (v .ensures) (a .ensures .1) (s .args .number) in record {
-      state = line-state _ _ _ _ _ _ (a .result .answer) _ _ (v .ensures) (a .ensures .1);
+    let t = event-output _ _ _ _ _ (a .result .answer) _ _ (a .ensures .1) (s .args .number) in record {
+      state = event-state _ _ _ _ _ (a .result .answer) _ _ (a .ensures .1);
       length-is = p .ensures .0 ∙ ap (λ l. s .args .filled + length l) t;
       put = p .ensures .1 ∙ ap (sets (s .args .out .now) (s .args .filled)) t;
       fits = output-fits (a .result .answer) _ _ _ _ (s .args .filled) _ (s .args .number) _ (a .ensures .0) (n .0) (n .1 .0) (s .pre .1) (p .ensures .0);
@@ -67,7 +62,6 @@ pub run-line-spec : {M : Type 1} → statement M
 run-line-spec =
     tie.close
     (tie.spec
-    parse-line-requires
     answer-event-requires
     put-answer-requires
     same-length
