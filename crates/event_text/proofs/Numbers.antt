@@ -135,6 +135,25 @@ module _ (text : List ℕ) (v at i b : ℕ) (inside : i < length text) (here : b
       ap (readOn v at i) (step ∙ ap (λ (t : Bool). cond t (b ∷ leadingDigits (from (i + 1) text)) []) (digit-is b e))
       ∙ read-long v at i (b ∷ leadingDigits (from (i + 1) text)) (omega arith)
 
+-- no digit stands there
+pub read-none : (text : List ℕ) (at b : ℕ) → at < length text → b ≡ getD text at 0 → ltb b 48 || ltb 57 b ≡ true → readOn 0 at at [] ≡ digitsAt text at
+read-none text at b inside here e = sym (read-stop text 0 at at b inside here e) ∙ read-start text at
+
+-- one digit stands there
+pub read-single : (text : List ℕ) (at b c : ℕ)
+    → at + 1 < length text
+    → b ≡ getD text at 0
+    → c ≡ getD text (at + 1) 0
+    → ltb b 48 || ltb 57 b ≡ false
+    → ltb c 48 || ltb 57 c ≡ true
+    → readOn (b - 48) at (at + 1) [] ≡ digitsAt text at
+read-single text at b c inside here next e f =
+    let first : b - 48 ≡ 0 * 10 + (b - 48) = omega arith in
+    sym (read-stop text (b - 48) at (at + 1) c inside next f)
+    ∙ ap (λ (v : ℕ). readOn v at (at + 1) (leadingDigits (from (at + 1) text))) first
+    ∙ sym (read-more text 0 at at b (omega arith) here (omega arith) e)
+    ∙ read-start text at
+
 pub from-drop : (i : ℕ) (text : List ℕ) → from i text ≡ drop i text
 unfolding from
 from-drop i text = refl

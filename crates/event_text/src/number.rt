@@ -81,7 +81,7 @@ fn nineteen(size: usize, at: usize) -> usize
 }
 
 // The number that the digits from `at` on are. Nineteen of them are never too large, so they need no other test.
-pub fn digits_at(text: &[u8], at: usize) -> NumberAt
+fn many_digits(text: &[u8], at: usize) -> NumberAt
     requires { ⌜ at ≤ length (now text) ⌝ }
     ensures { λ r. ⌜ r ≡ digitsAt (now (text .entry)) at ⌝ }
 {
@@ -100,6 +100,26 @@ pub fn digits_at(text: &[u8], at: usize) -> NumberAt
         return ended(value, at, i);
     }
     last_digit(text, value, i)
+}
+
+// The same. Most numbers have one digit, so a second one is looked for before any loop.
+pub fn digits_at(text: &[u8], at: usize) -> NumberAt
+    requires { ⌜ at ≤ length (now text) ⌝ }
+    ensures { λ r. ⌜ r ≡ digitsAt (now (text .entry)) at ⌝ }
+{
+    if text.len() - at < 2 {
+        return many_digits(text, at);
+    }
+    let first = wide(text[at]);
+    if (first < ZERO) | (NINE < first) {
+        return ended(0, at, at);
+    }
+    let next = at + 1;
+    let second = wide(text[next]);
+    if (second < ZERO) | (NINE < second) {
+        return ended(first - ZERO, at, next);
+    }
+    many_digits(text, at)
 }
 
 // The number that the field from `at` on is.
