@@ -175,31 +175,6 @@ value-digit v at i b h k e =
     let p : 10 ^ suc (i - at) ≡ 10 ^ (i - at) * 10 = pow-suc 10 (i - at) in
     rw q (omega (arith, p))
 
--- ---- what a field's number says of its bytes
-
-pub record IsEnding (line : List ℕ) (at v end : ℕ) : Type 0 where
-  pub number : isNumber (firstField (drop at line)) ≡ true
-  pub worth : decimal (firstField (drop at line)) ≡ v
-  pub ends : fieldEnd line at ≡ end
-
-module _ (line : List ℕ) (at : ℕ) where
-  pub number-ends : (v end : ℕ) → numberAt line at ≡ Ends v end → IsEnding line at v end
-  unfolding numberAt
-  number-ends v end e = go (isNumber (firstField (drop at line))) refl e
-    where
-      go : (t : Bool) → isNumber (firstField (drop at line)) ≡ t
-          → cond t (Ends (decimal (firstField (drop at line))) (fieldEnd line at)) Malformed ≡ Ends v end → IsEnding line at v end
-      go true q r = record { number = q; worth = cc; ends = cc }
-      go false q r = absurd (let z : _≡_ {A = ℕ} 0 1 = cc in let y : ⊥ = omega arith in y)
-
-  pub number-none : numberAt line at ≡ Malformed → isNumber (firstField (drop at line)) ≡ false
-  unfolding numberAt
-  number-none e = go (isNumber (firstField (drop at line))) e
-    where
-      go : (t : Bool) → cond t (Ends (decimal (firstField (drop at line))) (fieldEnd line at)) Malformed ≡ Malformed → t ≡ false
-      go true r = absurd (let z : _≡_ {A = ℕ} 0 1 = cc in let y : ⊥ = omega arith in y)
-      go false r = refl
-
 -- ---- all of s
 
 -- s is its first field, or has a comma and is no number
