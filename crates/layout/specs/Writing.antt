@@ -139,6 +139,7 @@ poolAfter p l = record {
   line = p .budget .line;
 }
 
+-- the pressure mark as a number
 abbrev pub markOf : Bool → ℕ
 markOf true = 1
 markOf false = 0
