@@ -13,6 +13,7 @@ pub use pages::pages_before;
 pub use pages::shape_pages;
 pub use retiring::push_retiring;
 pub use retiring::retiring_at;
+pub use spare::first_spare;
 pub use spare::insert_spare;
 pub use spare::spare_at;
 pub use spare::spares_before;

@@ -48,3 +48,28 @@ pub fn spares_before(textures: &[u64], i: usize) -> usize
     }
     sum
 }
+
+// How many spares the textures from i on have, of n.
+fn spares_from(textures: &[u64], n: usize, i: usize) -> usize
+    requires { ⌜ (20 * n ≤ length (now textures)) × (i ≤ n) × (total (λ t. t .spares) (table 20 readTexture n (now textures)) ≤ 4096) ⌝ }
+    ensures { λ r. ⌜ total (λ t. t .spares) (table 20 readTexture i (now (textures .entry))) + r ≡ total (λ t. t .spares) (table 20 readTexture n (now (textures .entry))) ⌝ }
+{
+    let mut sum = 0;
+    let mut j = i;
+    while j < n {
+        sum += textures[20 * j + 18] as usize;
+        j += 1;
+    }
+    sum
+}
+
+// Where the spares of texture i begin, of n textures that have `kept` in all: summed up from the nearer end.
+pub fn first_spare(textures: &[u64], n: usize, kept: usize, i: usize) -> usize
+    requires { ⌜ (20 * n ≤ length (now textures)) × (i ≤ n) × (total (λ t. t .spares) (table 20 readTexture n (now textures)) ≡ kept) × (kept ≤ 4096) ⌝ }
+    ensures { λ r. ⌜ r ≡ total (λ t. t .spares) (table 20 readTexture i (now (textures .entry))) ⌝ }
+{
+    if i <= n - i {
+        return spares_before(textures, i);
+    }
+    kept - spares_from(textures, n, i)
+}

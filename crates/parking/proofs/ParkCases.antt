@@ -306,6 +306,7 @@ module _ (l : Lent) (e : isPool l ≡ true) (failed current : ℕ) where
             pub keep-fits : (s : SpareRecord) → s ≡ spareParked failed current x
                 → (20 * i + 20 ≤ length (l .textures)) × RecordedFits (textureAt l i .history) × (end ≤ l .pool .kept) × (l .pool .kept ≤ 4096)
                 × (3 * l .pool .kept + 3 ≤ length (l .spares)) × HeldFits (s .held)
+                × (20 * l .pool .tracked ≤ length (l .textures)) × (i < l .pool .tracked) × (total (λ (t : TextureRecord). t .spares) (trackedRecords l) ≡ l .pool .kept)
             keep-fits s q = (
               omega (arith, there, textures-fit l fits),
               history-here l fits (x .id) i at (kept-says .0),
@@ -313,6 +314,9 @@ module _ (l : Lent) (e : isPool l ≡ true) (failed current : ℕ) where
               omega (arith, fits .versions, fits .most),
               room,
               subst (λ (y : SpareRecord). HeldFits (y .held)) (sym q) (held-fits failed x (hand-formed .held)),
+              textures-fit l fits,
+              there,
+              fits .kept,
             )
 
             pub kept-counts-fit : (l .pool .kept ≤ 4096) × (l .pool .parked + bytes ≤ l .pool .cap)

@@ -58,7 +58,7 @@ pub fn park(
         }
         Parking::Kept(bytes) => {
             let spare = spare_parked(v, failed, current);
-            keep_version(textures, spares, pool.kept, i, spare);
+            keep_version(textures, spares, pool.tracked, pool.kept, i, spare);
             DoneAnswer {
                 pool: hand_kept(pool, head, bytes),
                 outcome: 0,

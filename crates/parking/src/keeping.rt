@@ -1,18 +1,19 @@
 // A version kept as its texture's newest spare.
 ghost use mathlib.Core.Path.{_≡_};
-ghost use Prim.Native.Nat.{_+_, _*_, _-_, _≤_};
+ghost use Prim.Native.Nat.{_+_, _*_, _-_, _≤_, _<_};
 ghost use lib.ListN.{length};
 ghost use lib.Seq.{sets};
 ghost use Rattle.blocks.specs.Blocks.{moved};
-ghost use Rattle.tables.specs.Records.{recordAt};
+ghost use Rattle.blocks.specs.Lists.{total};
+ghost use Rattle.tables.specs.Records.{recordAt, table};
 ghost use Rattle.records.specs.Held.{HeldFits};
 ghost use Rattle.records.specs.Recorded.{RecordedFits};
 ghost use Rattle.records.specs.Spare.{writeSpare};
 ghost use Rattle.records.specs.Texture.{readTexture, writeTexture};
 ghost use Rattle.parking.specs.Parked.{heldParked, spareParked, oneMore, sparesEnd};
+use access::first_spare;
 use access::insert_spare;
 use access::put_texture;
-use access::spares_before;
 use access::texture_at;
 use records::RetiringRecord;
 use records::SpareRecord;
@@ -50,17 +51,25 @@ fn one_more(t: TextureRecord) -> TextureRecord
     u
 }
 
-// The version is the newest spare of texture i, behind those that it has.
-pub fn keep_version(textures: &mut [u64], spares: &mut [u64], kept: usize, i: usize, x: SpareRecord)
+// The version is the newest spare of texture i, behind those that it has. All `tracked` textures have `kept`.
+pub fn keep_version(
+    textures: &mut [u64],
+    spares: &mut [u64],
+    tracked: usize,
+    kept: usize,
+    i: usize,
+    x: SpareRecord,
+)
     requires { ⌜ (20 * i + 20 ≤ length (now textures)) × RecordedFits (recordAt 20 readTexture (now textures) i .history)
-        × (sparesEnd (now textures) i ≤ kept) × (kept ≤ 4096) × (3 * kept + 3 ≤ length (now spares)) × HeldFits (x .held) ⌝ }
+        × (sparesEnd (now textures) i ≤ kept) × (kept ≤ 4096) × (3 * kept + 3 ≤ length (now spares)) × HeldFits (x .held)
+        × (20 * tracked ≤ length (now textures)) × (i < tracked) × (total (λ t. t .spares) (table 20 readTexture tracked (now textures)) ≡ kept) ⌝ }
     ensures { λ _. ⌜ (now (textures .exit) ≡ sets (now (textures .entry)) (20 * i) (writeTexture (oneMore (recordAt 20 readTexture (now (textures .entry)) i))))
         × (now (spares .exit)
         ≡ sets (moved (now (spares .entry)) (3 * sparesEnd (now (textures .entry)) i + 3) (3 * sparesEnd (now (textures .entry)) i) (3 * (kept - sparesEnd (now (textures .entry)) i)))
         (3 * sparesEnd (now (textures .entry)) i) (writeSpare x)) ⌝ }
 {
     let t = texture_at(textures, i);
-    let end = spares_before(textures, i) + t.spares as usize;
+    let end = first_spare(textures, tracked, kept, i) + t.spares as usize;
     insert_spare(spares, kept, end, x);
     put_texture(textures, i, one_more(t));
 }

@@ -8,17 +8,17 @@ use Rattle.parking.proofs.keeping.keep_version.Tie as tie
 texture-at-requires : tie.Need-texture-at-requires
 texture-at-requires c κs = c .before .before .before .pre .0
 
-spares-before-requires : tie.Need-spares-before-requires
-spares-before-requires c κs =
+first-spare-requires : tie.Need-first-spare-requires
+first-spare-requires c κs =
     let pre = c .before .before .before .before .before .pre in
-    (omega (arith, pre .0), omega (arith, pre .2, pre .3))
+    (pre .6, omega (arith, pre .7), pre .8, pre .3)
 
 add-end : tie.Need-add-end
 add-end c =
     let a = c .before .before .before .before .before .before .args in
     let pre = c .before .before .before .before .before .before .pre in
     let t = c .before .before .texture-at in
-    let m = c .spares-before in
+    let m = c .first-spare in
     let f = end-fits (a .textures .now) (a .i) (t .result) (t .ensures) (m .result) (m .ensures) (a .kept) (pre .2) (pre .3) in
     omega (arith, f .0, pre .3)
 
@@ -27,7 +27,7 @@ insert-spare-requires c κs =
     let a = c .before .before .before .before .before .before .before .args in
     let pre = c .before .before .before .before .before .before .before .pre in
     let t = c .before .before .before .texture-at in
-    let m = c .before .spares-before in
+    let m = c .before .first-spare in
     let f = end-fits (a .textures .now) (a .i) (t .result) (t .ensures) (m .result) (m .ensures) (a .kept) (pre .2) (pre .3) in
     (pre .4, f .0, pre .5)
 
@@ -36,7 +36,7 @@ one-more-requires c κs =
     let a = c .before .before .before .before .before .before .before .before .before .before .before .args in
     let pre = c .before .before .before .before .before .before .before .before .before .before .before .pre in
     let t = c .before .before .before .before .before .before .before .texture-at in
-    let m = c .before .before .before .before .before .spares-before in
+    let m = c .before .before .before .before .before .first-spare in
     end-fits (a .textures .now) (a .i) (t .result) (t .ensures) (m .result) (m .ensures) (a .kept) (pre .2) (pre .3) .1
 
 put-texture-requires : tie.Need-put-texture-requires
@@ -56,7 +56,7 @@ returns : tie.Need-returns
 returns c =
     let a = c .before .before .before .before .before .before .before .before .before .before .before .before .before .before .before .args in
     let t = c .before .before .before .before .before .before .before .before .before .before .before .texture-at in
-    let m = c .before .before .before .before .before .before .before .before .before .spares-before in
+    let m = c .before .before .before .before .before .before .before .before .before .first-spare in
     let more = c .before .before .before .one-more in (
       keep-record (a .textures .now) (a .i) (t .result) (t .ensures) (more .result) (more .ensures) _ (c .before .before .put-texture .ensures),
       keep-spare (a .textures .now) (a .i) (t .result) (t .ensures) (m .result) (m .ensures) (a .spares .now) (a .kept) (a .x) _
@@ -68,7 +68,7 @@ keep-version-spec =
     tie.close
     (tie.spec
     texture-at-requires
-    spares-before-requires
+    first-spare-requires
     add-end
     insert-spare-requires
     one-more-requires
