@@ -3,7 +3,7 @@ ghost use mathlib.Core.Path.{_≡_};
 ghost use Prim.Native.Nat.{_+_, _*_, _≤_, _<_, _^_};
 ghost use lib.ListN.{length};
 ghost use Rattle.blocks.specs.Lists.{total};
-ghost use Rattle.tables.specs.Records.{recordAt, table};
+ghost use Rattle.tables.specs.Records.{table};
 ghost use Rattle.records.specs.Texture.{readTexture};
 ghost use Rattle.layout.specs.Reading.{recordPages};
 ghost use Rattle.forgetting.specs.Owned.{ownedAt, without};

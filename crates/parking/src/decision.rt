@@ -1,6 +1,5 @@
 // Whether the hand's version is kept or destroyed, and what `park` refuses.
 ghost use mathlib.Core.Path.{_≡_};
-ghost use mathlib.Core.Bool.{true};
 ghost use Prim.Native.Nat.{_*_, _≤_};
 ghost use lib.ListN.{length};
 ghost use Rattle.tables.specs.Records.{recordAt};

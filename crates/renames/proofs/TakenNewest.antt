@@ -1,49 +1,44 @@
 -- take_spare for a texture tracked with the same shape: what the rule leaves, slice by slice. Assumes nothing.
 use mathlib.Core.Path.{_≡_, refl, sym, ap, ap₂, _∙_}
-use mathlib.Core.Bool.{Bool, true, false, cond}
+use mathlib.Core.Bool.{Bool, true}
 use mathlib.Core.Option.{Option, none, some}
 use mathlib.Core.List.{List, [], _∷_, map}
-use Prim.Native.Nat.{ℕ, suc, _+_, _*_, _-_, _≤_, _<_}
+use Prim.Native.Nat.{ℕ, suc, _+_, _*_, _-_, _<_}
 use native.Mathlib.Omega.{arith}
 use lib.Dec.{eqb}
-use lib.ListN.{length, take, drop, getD, set}
+use lib.ListN.{length, take, getD, set}
 use lib.Seq.{sets}
-use Rattle.blocks.specs.Lists.{listed, total, removed}
+use Rattle.blocks.specs.Lists.{total, removed}
 use Rattle.blocks.specs.Blocks.{moved}
 use Rattle.blocks.proofs.Lists.{either}
-use Rattle.blocks.proofs.Listed.{getD-listed, length-listed}
+use Rattle.blocks.proofs.Listed.{getD-listed}
 use Rattle.tables.specs.Records.{recordAt, table}
 use Rattle.shapes.specs.declared.shape.VersionShape.{VersionShape}
-use Rattle.shapes.specs.Shapes.{isShape, sameShape, bytesOf}
-use Rattle.stores.specs.Model.{Spare, VersionState, Pool, Out, refused, accepted, guard, find, limit, pagesUsed}
+use Rattle.shapes.specs.Shapes.{sameShape, bytesOf}
+use Rattle.stores.specs.Model.{Spare, VersionState, Pool, find, pagesUsed}
 use Rattle.stores.specs.Updates.{withSpares, withRename, withTextures, withParked, change}
-use Rattle.stores.specs.TakeSpare.{newest, others, takenBytes, takeTracked, takeFound, takeSpare}
+use Rattle.stores.specs.TakeSpare.{newest, others, takenBytes, takeSpare}
 use Rattle.stores.proofs.States.{length-change, total-change, total-unchanged}
 use Rattle.records.specs.declared.texture.TextureRecord.{TextureRecord}
 use Rattle.records.specs.declared.spare.SpareRecord.{SpareRecord}
 use Rattle.records.specs.Texture.{readTexture, writeTexture}
 use Rattle.records.specs.Recorded.{RecordedFits}
 use Rattle.records.specs.Spare.{readSpare}
-use Rattle.records.specs.Views.{spareOf}
-use Rattle.records.specs.Find.{below}
 use Rattle.layout.specs.declared.pool.Pool.{Pool as Counts}
 use Rattle.layout.specs.Lent.{Lent, lent}
-use Rattle.layout.specs.Reading.{trackedRecords, spareRead, stateRead, modelOf}
-use Rattle.layout.specs.Writing.{textureRecord, everySpare, poolAfter, texturesAfter, sparesAfter, bookAfter, after}
-use Rattle.layout.specs.IsPool.{isPool}
-use Rattle.layout.specs.Calls.{Told, refusal, answer, TakenVersion, takenOf, takeSpareCall}
+use Rattle.layout.specs.Reading.{spareRead, stateRead, modelOf}
+use Rattle.layout.specs.Writing.{textureRecord, everySpare, poolAfter, sparesAfter, after}
+use Rattle.layout.specs.Calls.{Told, answer, TakenVersion, takenOf, takeSpareCall}
 use Rattle.layout.proofs.Fits.{Fits}
 use Rattle.layout.proofs.FromPool.{pool-fits}
 use Rattle.layout.proofs.Runs.{sparesOf, spareCount, firstSpare, stateOf, tracked-model, kept-model, pages-model}
 use Rattle.layout.proofs.Kept.{pagedOf}
-use Rattle.layout.proofs.Same.{queued-model, doomed-model}
-use Rattle.layout.proofs.Rings.{head-stays, hand-model, first-stays}
+use Rattle.layout.proofs.Same.{doomed-model}
 use Rattle.layout.proofs.Stays.{put-together, book-stays, ids-ascend, spares-stay, newest-stay, stamps-stay, retiring-stay, doomed-stay}
 use Rattle.layout.proofs.Places.{changed}
 use Rattle.layout.proofs.Changes.{textures-set, sparesBefore, sparesAt, every-taken, every-kept, spares-removed, newest-at, others-taken}
 use Rattle.layout.proofs.Asked.{asked-accepted}
 use Rattle.layout.proofs.Tracked.{record-read, spares-to, bytes-at, record-at, shape-at, count-at}
-use Rattle.trackings.specs.Refusal.{takeRefusal}
 use Rattle.trackings.specs.Cases.{Accepted, recordOf, TrackedAt}
 use Rattle.renames.specs.Renamed.{renamedRecord}
 use Rattle.trackings.proofs.Refusals.{take-tracked}

@@ -6,7 +6,7 @@ use Prim.Native.Nat.{ℕ, _+_, _-_, _≤_}
 use native.Mathlib.Nat.{add-zero}
 use native.Mathlib.Omega.{arith}
 use Rattle.blocks.specs.Lists.{total}
-use Rattle.tables.specs.Records.{recordAt, table}
+use Rattle.tables.specs.Records.{table}
 use Rattle.records.specs.declared.texture.TextureRecord.{TextureRecord}
 use Rattle.records.specs.Texture.{readTexture}
 use Rattle.access.proofs.Totals.{total-next, total-with}

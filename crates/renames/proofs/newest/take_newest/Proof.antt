@@ -1,5 +1,5 @@
 -- `take_newest` meets its contract: what it leaves is what the rule leaves for a tracked texture of that shape. Assumes nothing.
-use mathlib.Core.Path.{refl, ap, _∙_}
+use mathlib.Core.Path.{refl, ap}
 use native.Mathlib.Omega.{arith}
 use borrow.Author.Needs.{needs}
 use Rattle.records.specs.declared.texture.TextureRecord.{TextureRecord}
