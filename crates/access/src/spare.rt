@@ -1,7 +1,8 @@
 // The spares' records: three numbers each, packed texture by texture from the front of their slice, so that a texture's begin behind
 // those of the textures before it.
 ghost use mathlib.Core.Path.{_≡_};
-ghost use Prim.Native.Nat.{_+_, _*_, _-_, _≤_};
+ghost use mathlib.Core.Logic.{_⊎_};
+ghost use Prim.Native.Nat.{_+_, _*_, _-_, _≤_, _<_};
 ghost use lib.ListN.{length};
 ghost use lib.Seq.{sets};
 ghost use Rattle.blocks.specs.Blocks.{moved};
@@ -49,18 +50,35 @@ pub fn spares_before(textures: &[u64], i: usize) -> usize
     sum
 }
 
-// How many spares the textures from i on have, of n.
-fn spares_from(textures: &[u64], n: usize, i: usize) -> usize
-    requires { ⌜ (20 * n ≤ length (now textures)) × (i ≤ n) × (total (λ t. t .spares) (table 20 readTexture n (now textures)) ≤ 4096) ⌝ }
-    ensures { λ r. ⌜ total (λ t. t .spares) (table 20 readTexture i (now (textures .entry))) + r ≡ total (λ t. t .spares) (table 20 readTexture n (now (textures .entry))) ⌝ }
+// How many spares the textures from `from` to `to` have.
+fn spares_between(textures: &[u64], from: usize, to: usize) -> usize
+    requires { ⌜ (20 * to ≤ length (now textures)) × (from ≤ to) × (total (λ t. t .spares) (table 20 readTexture to (now textures)) ≤ 4096) ⌝ }
+    ensures { λ r. ⌜ total (λ t. t .spares) (table 20 readTexture from (now (textures .entry))) + r ≡ total (λ t. t .spares) (table 20 readTexture to (now (textures .entry))) ⌝ }
 {
     let mut sum = 0;
-    let mut j = i;
-    while j < n {
+    let mut j = from;
+    while j < to {
         sum += textures[20 * j + 18] as usize;
         j += 1;
     }
     sum
+}
+
+// Places from one on to another.
+struct Stretch {
+    from: usize,
+    to: usize,
+}
+
+// Of n places those before i, or those from i on, whichever are fewer.
+fn fewer(n: usize, i: usize) -> Stretch
+    requires { ⌜ i ≤ n ⌝ }
+    ensures { λ r. ⌜ ((r .from ≡ 0) × (r .to ≡ i)) ⊎ ((r .from ≡ i) × (r .to ≡ n) × (0 < i)) ⌝ }
+{
+    if i <= n - i {
+        return Stretch { from: 0, to: i };
+    }
+    Stretch { from: i, to: n }
 }
 
 // Where the spares of texture i begin, of n textures that have `kept` in all: summed up from the nearer end.
@@ -68,8 +86,10 @@ pub fn first_spare(textures: &[u64], n: usize, kept: usize, i: usize) -> usize
     requires { ⌜ (20 * n ≤ length (now textures)) × (i ≤ n) × (total (λ t. t .spares) (table 20 readTexture n (now textures)) ≡ kept) × (kept ≤ 4096) ⌝ }
     ensures { λ r. ⌜ r ≡ total (λ t. t .spares) (table 20 readTexture i (now (textures .entry))) ⌝ }
 {
-    if i <= n - i {
-        return spares_before(textures, i);
+    let near = fewer(n, i);
+    let sum = spares_between(textures, near.from, near.to);
+    if near.from == 0 {
+        return sum;
     }
-    kept - spares_from(textures, n, i)
+    kept - sum
 }

@@ -9,9 +9,9 @@ ghost use Rattle.trackings.specs.Cases.{Accepted, recordOf, TrackedAt};
 ghost use Rattle.renames.specs.Renamed.{renamedRecord};
 use crate::answer::TakeAnswer;
 use crate::answer::Taken;
-use access::first_spare;
 use access::put_texture;
 use access::spare_at;
+use access::spares_before;
 use access::texture_at;
 use layout::PacingBook;
 use layout::Pool;
@@ -59,7 +59,7 @@ pub fn take_newest(
         };
     }
     let left = t.spares - 1;
-    let k = first_spare(textures, pool.tracked, pool.kept, i) + left as usize;
+    let k = spares_before(textures, i) + left as usize;
     let spare = spare_at(spares, k);
     let held = spare.held;
     put_texture(textures, i, renamed(t, seq, left));

@@ -3,7 +3,6 @@ use mathlib.Core.Path.{refl, ap}
 use native.Mathlib.Omega.{arith}
 use borrow.Author.Needs.{needs}
 use Rattle.records.specs.declared.texture.TextureRecord.{TextureRecord}
-use Rattle.layout.proofs.FromPool.{pool-fits}
 use Rattle.layout.proofs.Runs.{sparesOf}
 use Rattle.trackings.proofs.Tracked.{here}
 use Rattle.renames.proofs.TakenNewest.{renamed-fits, left-without, left-with}
@@ -36,26 +35,25 @@ returns c =
 sub-left : tie.Need-sub-left
 sub-left c = search needs
 
-first-spare-requires : tie.Need-first-spare-requires
-first-spare-requires c κs =
+spares-before-requires : tie.Need-spares-before-requires
+spares-before-requires c κs =
     let b = c .before .before .before .before .before .before .before .before .before .before .before .before in
     let k = here _ _ _ _ _ _ (b .pre .0) (b .pre .1) in
-    let f = pool-fits _ (b .pre .0 .0) in
-    (omega (arith, f .textures, f .tracked), omega (arith, b .pre .1 .0), f .kept, k .kept)
+    (omega (arith, k .textures), omega (arith, k .first, k .within, k .kept))
 
 add-k : tie.Need-add-k
 add-k c =
     let b = c .before .before .before .before .before .before .before .before .before .before .before .before .before in
     let k = here _ _ _ _ _ _ (b .pre .0) (b .pre .1) in
     let t = ap sparesOf (c .before .before .before .before .before .texture-at .ensures) in
-    omega (arith, c .first-spare .ensures, k .first, k .within, k .kept, t)
+    omega (arith, c .spares-before .ensures, k .first, k .within, k .kept, t)
 
 spare-at-requires : tie.Need-spare-at-requires
 spare-at-requires c κs =
     let b = c .before .before .before .before .before .before .before .before .before .before .before .before .before .before in
     let k = here _ _ _ _ _ _ (b .pre .0) (b .pre .1) in
     let t = ap sparesOf (c .before .before .before .before .before .before .texture-at .ensures) in
-    omega (arith, c .before .first-spare .ensures, k .first, k .within, k .spares, t, c .before .before .before .before .if1 .left)
+    omega (arith, c .before .spares-before .ensures, k .first, k .within, k .spares, t, c .before .before .before .before .if1 .left)
 
 renamed-requires-2 : tie.Need-renamed-requires-2
 renamed-requires-2 c κs = search needs
@@ -71,7 +69,7 @@ remove-records-requires c κs =
     let b = c .before .before .before .before .before .before .before .before .before .before .before .before .before .before .before .before .before .before .before .before .before in
     let k = here _ _ _ _ _ _ (b .pre .0) (b .pre .1) in
     let t = ap sparesOf (c .before .before .before .before .before .before .before .before .before .before .before .before .before .texture-at .ensures) in
-    (k .spares, omega (arith, c .before .before .before .before .before .before .before .before .first-spare .ensures, k .first, k .within, t, c .before .before .before .before .before .before .before .before .before .before .before .if1 .left))
+    (k .spares, omega (arith, c .before .before .before .before .before .before .before .before .spares-before .ensures, k .first, k .within, t, c .before .before .before .before .before .before .before .before .before .before .before .if1 .left))
 
 sub-after : tie.Need-sub-after
 sub-after c =
@@ -96,7 +94,7 @@ same-length-3 c = search needs
 returns-2 : tie.Need-returns-2
 returns-2 c =
     let b = c .before .before .before .before .before .before .before .before .before .before .before .before .before .before .before .before .before .before .before .before .before .before .before .before .before .before .before in
-    left-with _ _ _ _ _ _ (b .pre .0) (b .pre .1) (b .pre .2) _ _ _ (c .before .before .before .before .before .before .before .before .before .before .before .before .before .before .before .before .before .before .before .texture-at .ensures) _ _ _ _ (omega (arith, c .before .before .before .before .before .before .before .before .before .before .before .before .before .before .before .before .before .if1 .left)) (c .before .before .before .before .before .before .before .before .before .before .before .before .before .before .first-spare .ensures) refl (c .before .before .before .before .before .before .before .before .before .before .before .before .spare-at .ensures) (c .before .before .before .before .before .before .before .before .before .before .renamed2 .ensures) (c .before .before .before .before .before .before .before .before .before .put-texture2 .ensures) (c .before .before .before .before .before .remove-records .ensures)
+    left-with _ _ _ _ _ _ (b .pre .0) (b .pre .1) (b .pre .2) _ _ _ (c .before .before .before .before .before .before .before .before .before .before .before .before .before .before .before .before .before .before .before .texture-at .ensures) _ _ _ _ (omega (arith, c .before .before .before .before .before .before .before .before .before .before .before .before .before .before .before .before .before .if1 .left)) (c .before .before .before .before .before .before .before .before .before .before .before .before .before .before .spares-before .ensures) refl (c .before .before .before .before .before .before .before .before .before .before .before .before .spare-at .ensures) (c .before .before .before .before .before .before .before .before .before .before .renamed2 .ensures) (c .before .before .before .before .before .before .before .before .before .put-texture2 .ensures) (c .before .before .before .before .before .remove-records .ensures)
 
 pub take-newest-spec : {M : Type 1} → statement M
 take-newest-spec =
@@ -108,7 +106,7 @@ take-newest-spec =
     same-length
     returns
     sub-left
-    first-spare-requires
+    spares-before-requires
     add-k
     spare-at-requires
     renamed-requires-2

@@ -1,4 +1,4 @@
--- `spares_from` meets its contract: the sum so far is what the records up to j have beyond the first i. Assumes nothing.
+-- `spares_between` meets its contract: the sum so far is what the records up to j have beyond the first `from`. Assumes nothing.
 use borrow.Author.Needs.{needs}
 use mathlib.Core.Path.{_≡_, ap, _∙_}
 use mathlib.Core.List.{List}
@@ -11,8 +11,8 @@ use Rattle.records.specs.declared.texture.TextureRecord.{TextureRecord}
 use Rattle.records.specs.Texture.{readTexture}
 use Rattle.access.proofs.Totals.{total-next, total-with}
 use Rattle.access.proofs.Fields.{spares-number}
-use Rattle.access.proofs.spare.spares_from.Statement.{statement}
-use Rattle.access.proofs.spare.spares_from.Tie as tie
+use Rattle.access.proofs.spare.spares_between.Statement.{statement}
+use Rattle.access.proofs.spare.spares_between.Tie as tie
 
 abbrev sparesOf : TextureRecord → ℕ
 sparesOf t = t .spares
@@ -21,10 +21,10 @@ abbrev sumTo : List ℕ → ℕ → ℕ
 sumTo s j = total sparesOf (table 20 readTexture j s)
 
 abbrev Inv-loop : tie.InvT-loop
-Inv-loop s n i sum₀ j₀ sum j = (j ≤ n) × (sumTo s i + sum ≡ sumTo s j)
+Inv-loop s from to sum₀ j₀ sum j = (j ≤ to) × (sumTo s from + sum ≡ sumTo s j)
 
 abbrev μ-loop : tie.MeasureT-loop
-μ-loop s n i sum₀ j₀ sum j = n - j
+μ-loop s from to sum₀ j₀ sum j = to - j
 
 loop-holds : tie.Need-loop-holds Inv-loop μ-loop
 loop-holds c = (c .pre .1, add-zero _)
@@ -47,7 +47,7 @@ add-sum-2 c =
     let e = b .before in
     let t = e .args .textures .now in
     let j = b .loop .j in
-    omega (arith, e .pre .2, b .loop .inv .1, spares-number t j, total-with 20 readTexture sparesOf t j (e .args .n) (c .before .loop-test .taken))
+    omega (arith, e .pre .2, b .loop .inv .1, spares-number t j, total-with 20 readTexture sparesOf t j (e .args .to) (c .before .loop-test .taken))
 
 add-j : tie.Need-add-j Inv-loop μ-loop
 add-j c = search needs
@@ -66,11 +66,11 @@ returns : tie.Need-returns Inv-loop μ-loop
 returns c =
     let b = c .before in
     let a = b .before .args in
-    let end : b .loop .j ≡ a .n = omega (arith, b .loop .inv .0, c .loop-test .left) in
+    let end : b .loop .j ≡ a .to = omega (arith, b .loop .inv .0, c .loop-test .left) in
     b .loop .inv .1 ∙ ap (λ (k : ℕ). sumTo (a .textures .now) k) end
 
-pub spares-from-spec : {M : Type 1} → statement M
-spares-from-spec =
+pub spares-between-spec : {M : Type 1} → statement M
+spares-between-spec =
     tie.close
     (tie.spec
     Inv-loop
