@@ -3,4 +3,5 @@ pub mod Puts
 pub mod Looks
 pub mod Steps
 pub mod Trimmed
+pub mod YoungTextures
 pub mod TrimCalls

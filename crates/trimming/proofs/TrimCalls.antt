@@ -30,7 +30,7 @@ use Rattle.layout.specs.Writing.{poolAfter, bookAfter, retiringAfter, doomedAft
 use Rattle.layout.specs.IsPool.{isPool}
 use Rattle.layout.specs.Calls.{refusal, answer, trimCall}
 use Rattle.layout.proofs.Fits.{Fits}
-use Rattle.layout.proofs.FromPool.{enough}
+use Rattle.layout.proofs.FromPool.{enough, pool-fits}
 use Rattle.layout.proofs.Asked.{guard-passed, guard-refused, asked-refused, asked-accepted}
 use Rattle.layout.proofs.Runs.{firstPageOf, stateOf, tracked-model, model-at}
 use Rattle.layout.proofs.Rings.{hand-model, head-stays, first-stays, doomed-pushed}
@@ -43,9 +43,11 @@ use Rattle.trimming.specs.declared.look.Look.{Look}
 use Rattle.trimming.specs.declared.pass.Pass.{Pass}
 use Rattle.forgetting.specs.Owned.{textureIn}
 use Rattle.trimming.specs.Pass.{trimmedOne, givenOne, trimmed, countsAfter}
+use Rattle.trimming.specs.Young.{allYoung}
 use Rattle.forgetting.proofs.TextureRuns.{spares-within, pages-within}
 use Rattle.trimming.proofs.Steps.{givenTo, keptTo}
 use Rattle.trimming.proofs.Trimmed.{Sofar, Seen, record-now}
+use Rattle.trimming.proofs.YoungTextures.{nothing-trimmed}
 
 -- ---- what a step asks for
 
@@ -210,6 +212,11 @@ module _ (l : Lent) (pool : isPool l ≡ true) (now : ℕ) where
   trim-done h r e =
       ap (λ (x : Lent). (answer tt, x)) e
       ∙ sym (asked-accepted (λ a. a) l (λ (p : Pool ℕ). trim p now) pool tt (trimmed l now (l .pool .tracked)) (rule-done h))
+
+  -- nothing has aged
+  pub trim-nothing : now ≤ limit → {b : Bool} → b ≡ allYoung now (l .textures) (l .spares) (l .pool .tracked) → b ≡ true
+      → (answer tt, l) ≡ trimCall l now
+  trim-nothing h e t = trim-done h l (sym (nothing-trimmed l (pool-fits l pool) now (sym e ∙ t)))
 
   pub trim-late : limit < now → (refusal 3, l) ≡ trimCall l now
   unfolding trimCall

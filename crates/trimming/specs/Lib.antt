@@ -1,2 +1,3 @@
 pub mod Look
 pub mod Pass
+pub mod Young

@@ -17,6 +17,7 @@ use crate::look::look_at;
 use crate::pass::counts_after;
 use crate::pass::no_pass;
 use crate::pass::pass_on;
+use crate::young::nothing_aged;
 use access::put_texture;
 use access::texture_at;
 use destruction::push_spares;
@@ -127,6 +128,9 @@ pub fn trim(
 {
     if current > 281474976710656 {
         return DoneAnswer { pool, outcome: 3 };
+    }
+    if nothing_aged(textures, spares, pool.tracked, current) {
+        return DoneAnswer { pool, outcome: 0 };
     }
     let counts = trim_textures(
         pool,

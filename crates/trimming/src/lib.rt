@@ -2,5 +2,6 @@
 mod idle;
 mod look;
 mod pass;
+mod young;
 
 pub use idle::trim;

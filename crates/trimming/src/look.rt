@@ -23,7 +23,7 @@ pub struct Look {
 }
 
 // The submission k before this one, or 0. An age is tested against it, so that no sum can pass a word.
-fn before(current: u64, k: u64) -> u64
+pub fn before(current: u64, k: u64) -> u64
     ensures { λ r. ⌜ r ≡ current - k ⌝ }
 {
     if current < k {
