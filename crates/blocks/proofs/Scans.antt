@@ -38,7 +38,7 @@ unfolding from
 from-four i s = sym (take-append-drop 4 (drop i s)) ∙ ap (λ (l : List ℕ). take 4 (drop i s) ++ l) (drop-drop 4 i s)
 
 -- the next four, one by one
-four-read : (i : ℕ) (s : List ℕ) → i + 4 ≤ length s → take 4 (drop i s) ≡ getD s i 0 ∷ getD s (i + 1) 0 ∷ getD s (i + 2) 0 ∷ getD s (i + 3) 0 ∷ []
+pub four-read : (i : ℕ) (s : List ℕ) → i + 4 ≤ length s → take 4 (drop i s) ≡ getD s i 0 ∷ getD s (i + 1) 0 ∷ getD s (i + 2) 0 ∷ getD s (i + 3) 0 ∷ []
 unfolding from
 four-read i s h =
     ap (take 4)

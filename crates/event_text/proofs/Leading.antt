@@ -14,7 +14,7 @@ use Rattle.event_text.specs.declared.number.NumberAt.the-variants.{Ends,
 use Rattle.event_text.specs.Fields.{comma, firstField, fieldEnd}
 use Rattle.event_text.specs.Numbers.{isDigit, decimal, isNumber, numberAt, leadingDigits, digitsAt}
 
-no-way {ℓ} : {A : Type ℓ} → true ≡ false → A
+pub no-way {ℓ} : {A : Type ℓ} → true ≡ false → A
 no-way e = absurd (let z : _≡_ {A = ℕ} 0 1 = cc in let y : ⊥ = omega arith in y)
 
 -- what stands before the first that ends a field

@@ -1,6 +1,11 @@
+pub mod DigitBlocks
+pub mod EightRead
+pub mod EightValues
 pub mod Fields
 pub mod FirstLines
+pub mod Lanes
 pub mod Leading
+pub mod Marks
 pub mod Numbers
 pub mod Printing
 pub mod Searches

@@ -73,7 +73,7 @@ read-start text at =
     let e : at - at + length f ≡ length f = omega arith in
     rw e
 
-read-one : (v at i b : ℕ) (f : List ℕ) → at ≤ i → isDigit b ≡ true → readOn v at i (b ∷ f) ≡ readOn (v * 10 + (b - 48)) at (i + 1) f
+pub read-one : (v at i b : ℕ) (f : List ℕ) → at ≤ i → isDigit b ≡ true → readOn v at i (b ∷ f) ≡ readOn (v * 10 + (b - 48)) at (i + 1) f
 unfolding readOn value all
 read-one v at i b f h d =
     let e : i - at + suc (length f) ≡ i + 1 - at + length f = omega arith in

@@ -1,3 +1,4 @@
+pub mod Eight
 pub mod Fields
 pub mod Numbers
 pub mod Searches

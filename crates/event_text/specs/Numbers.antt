@@ -1,5 +1,6 @@
 -- Numbers of a line: 1 to 20 digits, below 2^64. Leading zeros are digits.
-use Prim.Native.Nat.{ℕ, zero, suc, _+_, _*_, _-_, _/_, _%_, _^_}
+use mathlib.Core.Path.{_≡_}
+use Prim.Native.Nat.{ℕ, zero, suc, _+_, _*_, _-_, _/_, _%_, _^_, _≤_, _<_}
 use mathlib.Core.Bool.{Bool, cond, _&&_}
 use mathlib.Core.List.{List, [], _∷_, _++_}
 use lib.Dec.{leb, ltb}
@@ -51,6 +52,12 @@ readTests v n f = all isDigit f ∷ leb 1 (n + length f) ∷ leb (n + length f) 
 
 unfoldable pub readOn : ℕ → ℕ → ℕ → List ℕ → NumberAt
 readOn v at i f = cond (tests (readTests v (i - at) f)) (Ends (value v f) (i + length f)) Malformed
+
+-- the digits from `at` to `end` are v: what is read from `end` on, as digits behind them, is what is read from `at` on
+unfoldable pub StartsDigits : List ℕ → ℕ → ℕ → ℕ → Type 0
+StartsDigits text at v end =
+    (at ≤ end) × (end ≤ length text) × (end ≤ at + 19) × (v < 10 ^ (end - at))
+    × (readOn v at end (leadingDigits (drop end text)) ≡ digitsAt text at)
 
 -- the digits of a number, at most k: its last digit behind those of what is left without it
 unfoldable pub digits : ℕ → ℕ → List ℕ

@@ -1,5 +1,6 @@
 // The text of the event program: numbers read and printed, and the fields of a line.
 mod digits;
+mod eight;
 mod field;
 mod find;
 mod number;

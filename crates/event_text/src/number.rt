@@ -1,9 +1,10 @@
-// Numbers read from a line, digit by digit.
+// Numbers read from a line.
 ghost use mathlib.Core.Path.{_≡_};
 ghost use mathlib.Core.List.{[]};
 ghost use Prim.Native.Nat.{_+_, _-_, _^_, _≤_, _<_};
 ghost use lib.ListN.{length, drop};
-ghost use Rattle.event_text.specs.Numbers.{readOn, leadingDigits, digitsAt, numberOf, numberAt};
+ghost use Rattle.event_text.specs.Numbers.{readOn, leadingDigits, digitsAt, numberOf, numberAt, StartsDigits};
+use crate::eight::eight_digits;
 
 // The bytes of the first digit and the last.
 const ZERO: u64 = 48;
@@ -22,6 +23,12 @@ pub enum Number {
 pub enum NumberAt {
     Ends(u64, usize),
     Malformed,
+}
+
+// The digits from a place to `end`, as a number.
+struct Start {
+    value: u64,
+    end: usize,
 }
 
 fn wide(byte: u8) -> u64
@@ -80,14 +87,14 @@ fn nineteen(size: usize, at: usize) -> usize
     size
 }
 
-// The number that the digits from `at` on are. Nineteen of them are never too large, so they need no other test.
-fn many_digits(text: &[u8], at: usize) -> NumberAt
-    requires { ⌜ at ≤ length (now text) ⌝ }
-    ensures { λ r. ⌜ r ≡ digitsAt (now (text .entry)) at ⌝ }
+// The number that the digits from `at` on are, of which those before `from` are `start`. Nineteen of them are never too large, so they need no other test.
+fn rest_digits(text: &[u8], at: usize, from: usize, start: u64) -> NumberAt
+    requires { ⌜ (at ≤ from) × (from ≤ length (now text)) × (from ≤ at + 19) × (start < 10 ^ (from - at)) ⌝ }
+    ensures { λ r. ⌜ r ≡ readOn start at from (leadingDigits (drop from (now (text .entry)))) ⌝ }
 {
     let stop = nineteen(text.len(), at);
-    let mut value: u64 = 0;
-    let mut i = at;
+    let mut value = start;
+    let mut i = from;
     while i < stop {
         let byte = wide(text[i]);
         if (byte < ZERO) | (NINE < byte) {
@@ -102,22 +109,53 @@ fn many_digits(text: &[u8], at: usize) -> NumberAt
     last_digit(text, value, i)
 }
 
-// The same. Most numbers have one digit, so a second one is looked for before any loop.
+// The number that the first sixteen digits from `at` on are, and where they end; 0 and `at` where there are fewer.
+fn sixteen_digits(text: &[u8], at: usize) -> Start
+    requires { ⌜ at ≤ length (now text) ⌝ }
+    ensures { λ r. ⌜ StartsDigits (now (text .entry)) at (r .value) (r .end) ⌝ }
+{
+    if text.len() - at >= 16 {
+        let high = eight_digits(text, at);
+        let low = eight_digits(text, at + 8);
+        if (high.count == 8) & (low.count == 8) {
+            return Start {
+                value: high.value * 100000000 + low.value,
+                end: at + 16,
+            };
+        }
+    }
+    Start { value: 0, end: at }
+}
+
+// The number that the digits from `at` on are. The first sixteen of many are read at once.
+fn many_digits(text: &[u8], at: usize) -> NumberAt
+    requires { ⌜ at ≤ length (now text) ⌝ }
+    ensures { λ r. ⌜ r ≡ digitsAt (now (text .entry)) at ⌝ }
+{
+    let start = sixteen_digits(text, at);
+    rest_digits(text, at, start.end, start.value)
+}
+
+// The same. Most numbers have one digit, so a second one is looked for first; up to seven are read at once.
 pub fn digits_at(text: &[u8], at: usize) -> NumberAt
     requires { ⌜ at ≤ length (now text) ⌝ }
     ensures { λ r. ⌜ r ≡ digitsAt (now (text .entry)) at ⌝ }
 {
-    if text.len() - at < 2 {
-        return many_digits(text, at);
-    }
-    let first = wide(text[at]);
-    if (first < ZERO) | (NINE < first) {
-        return ended(0, at, at);
-    }
-    let next = at + 1;
-    let second = wide(text[next]);
-    if (second < ZERO) | (NINE < second) {
-        return ended(first - ZERO, at, next);
+    if text.len() - at >= 8 {
+        let first = wide(text[at]);
+        if (first < ZERO) | (NINE < first) {
+            return ended(0, at, at);
+        }
+        let next = at + 1;
+        let second = wide(text[next]);
+        if (second < ZERO) | (NINE < second) {
+            return ended(first - ZERO, at, next);
+        }
+        let read = eight_digits(text, at);
+        let count = read.count;
+        if count < 8 {
+            return ended(read.value, at, at + count);
+        }
     }
     many_digits(text, at)
 }

@@ -1,0 +1,32 @@
+-- The digits that eight bytes start with, and the numbers by which they are told at once.
+use Prim.Native.Nat.{ℕ, zero, suc, _+_, _*_, _/_, _^_}
+use mathlib.Core.List.{List, [], _∷_}
+use lib.Bits.{bitAnd, bitOr}
+use lib.ListN.{length, take, drop}
+use Rattle.event_text.specs.declared.eight.EightDigits.{EightDigits}
+use Rattle.event_text.specs.Numbers.{decimal, leadingDigits}
+
+-- how many digits the eight bytes from `at` on start with, and the number that these are
+unfoldable pub eightDigits : List ℕ → ℕ → EightDigits
+eightDigits text at =
+    let f = leadingDigits (take 8 (drop at text)) in
+    record { count = length f; value = decimal f }
+
+-- numbers of k bits each as one, the first as the lowest
+unfoldable pub packed : ℕ → List ℕ → ℕ
+packed k [] = 0
+packed k (b ∷ bs) = packed k bs * 2 ^ k + b
+
+-- in each byte, 128 where it is above 9
+unfoldable pub marksOf : ℕ → ℕ
+marksOf w = bitAnd (bitOr (bitAnd w 9187201950435737471 + 8536140394893047414) w) 9259542123273814144
+
+-- every second byte behind ten times the one before it; of the sums, every second, behind a hundred times the one before; and once more
+unfoldable pub twosOf : ℕ → ℕ
+twosOf w = bitAnd (w * 10 + w / 2 ^ 8) 71777214294589695
+
+unfoldable pub foursOf : ℕ → ℕ
+foursOf w = bitAnd (w * 100 + w / 2 ^ 16) 281470681808895
+
+unfoldable pub valueOf : ℕ → ℕ
+valueOf w = bitAnd (foursOf (twosOf w) * 10000 + foursOf (twosOf w) / 2 ^ 32) 4294967295
