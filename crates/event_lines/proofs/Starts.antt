@@ -12,7 +12,7 @@ use Rattle.blocks.proofs.Lists.{and-both}
 use Rattle.event_text.specs.Fields.{comma, firstField, firstLine, same}
 use Rattle.event_text.proofs.FirstLines.{stops, line-until, take-until, until-length}
 use Rattle.event_lines.specs.declared.event.Word.{Word}
-use Rattle.event_lines.specs.Words.{wordOf, fourOf, Starts}
+use Rattle.event_lines.specs.Words.{wordOf, laterWord, fourOf, Starts}
 
 -- ---- the first four bytes
 
@@ -69,38 +69,53 @@ module _ (line : List ℕ) (code : ℕ) (read : line ≡ fourOf code (drop 4 lin
     unfolding fourOf firstField firstLine wordOf same
     park-starts e c = started line (fourOf 1802658160 (comma ∷ drop 5 line)) 4 Word.Park (four-comma 1802658160 e c) (refl, refl)
 
+    pub trim-starts : code ≡ 1835627124 → getD line 4 0 ≡ comma → Starts line 4 Word.Trim
+    unfolding fourOf firstField firstLine wordOf laterWord same
+    trim-starts e c = started line (fourOf 1835627124 (comma ∷ drop 5 line)) 4 Word.Trim (four-comma 1835627124 e c) (refl, refl)
+
+    pub note-starts : code ≡ 1702129518 → getD line 4 0 ≡ comma → Starts line 4 Word.Note
+    unfolding fourOf firstField firstLine wordOf laterWord same
+    note-starts e c = started line (fourOf 1702129518 (comma ∷ drop 5 line)) 4 Word.Note (four-comma 1702129518 e c) (refl, refl)
+
   pub pop-starts : code ≡ 745566064 → Starts line 3 Word.Pop
   unfolding fourOf firstField firstLine wordOf same
   pop-starts e = started line (fourOf 745566064 (drop 4 line)) 3 Word.Pop (known 745566064 e) (refl, refl)
 
   module _ (room : 7 ≤ length line) where
-    pub write-starts : eqb code 1953067639 && eqb (getD line 4 0) 101 && eqb (getD line 5 0) comma ≡ true → Starts line 5 Word.Write
-    unfolding fourOf firstField firstLine wordOf same
-    write-starts t =
-        let p = and-both (eqb code 1953067639 && eqb (getD line 4 0) 101) (eqb (getD line 5 0) comma) t in
-        let q = and-both (eqb code 1953067639) (eqb (getD line 4 0) 101) (p .0) in
-        started line (fourOf 1953067639 (101 ∷ comma ∷ drop 6 line)) 5 Word.Write
-        (known 1953067639 (eqb-true code 1953067639 (q .0))
-        ∙ ap (fourOf 1953067639)
+    -- the four bytes and the two behind them are known
+    two-more : (k a b : ℕ) → eqb code k && eqb (getD line 4 0) a && eqb (getD line 5 0) b ≡ true → line ≡ fourOf k (a ∷ b ∷ drop 6 line)
+    two-more k a b t =
+        let p = and-both (eqb code k && eqb (getD line 4 0) a) (eqb (getD line 5 0) b) t in
+        let q = and-both (eqb code k) (eqb (getD line 4 0) a) (p .0) in
+        known k (eqb-true code k (q .0))
+        ∙ ap (fourOf k)
         (drop-cons line 4 0 (omega arith)
         ∙ ap (λ (l : List ℕ). getD line 4 0 ∷ l) (drop-cons line 5 0 (omega arith))
-        ∙ (λ i. eqb-true (getD line 4 0) 101 (q .1) i ∷ eqb-true (getD line 5 0) comma (p .1) i ∷ drop 6 line)))
-        (refl, refl)
+        ∙ (λ i. eqb-true (getD line 4 0) a (q .1) i ∷ eqb-true (getD line 5 0) b (p .1) i ∷ drop 6 line))
+
+    -- and the third
+    three-more : (k a b d : ℕ) → eqb code k && eqb (getD line 4 0) a && eqb (getD line 5 0) b && eqb (getD line 6 0) d ≡ true → line ≡ fourOf k (a ∷ b ∷ d ∷ drop 7 line)
+    three-more k a b d t =
+        let p = and-both (eqb code k && eqb (getD line 4 0) a && eqb (getD line 5 0) b) (eqb (getD line 6 0) d) t in
+        two-more k a b (p .0)
+        ∙ ap (λ (l : List ℕ). fourOf k (a ∷ b ∷ l)) (drop-cons line 6 0 (omega arith) ∙ ap (λ (c : ℕ). c ∷ drop 7 line) (eqb-true (getD line 6 0) d (p .1)))
 
     pub retire-starts : eqb code 1769235826 && eqb (getD line 4 0) 114 && eqb (getD line 5 0) 101 && eqb (getD line 6 0) comma ≡ true → Starts line 6 Word.Retire
     unfolding fourOf firstField firstLine wordOf same
-    retire-starts t =
-        let o = and-both (eqb code 1769235826 && eqb (getD line 4 0) 114 && eqb (getD line 5 0) 101) (eqb (getD line 6 0) comma) t in
-        let p = and-both (eqb code 1769235826 && eqb (getD line 4 0) 114) (eqb (getD line 5 0) 101) (o .0) in
-        let q = and-both (eqb code 1769235826) (eqb (getD line 4 0) 114) (p .0) in
-        started line (fourOf 1769235826 (114 ∷ 101 ∷ comma ∷ drop 7 line)) 6 Word.Retire
-        (known 1769235826 (eqb-true code 1769235826 (q .0))
-        ∙ ap (fourOf 1769235826)
-        (drop-cons line 4 0 (omega arith)
-        ∙ ap (λ (l : List ℕ). getD line 4 0 ∷ l) (drop-cons line 5 0 (omega arith))
-        ∙ ap (λ (l : List ℕ). getD line 4 0 ∷ getD line 5 0 ∷ l) (drop-cons line 6 0 (omega arith))
-        ∙ (λ i. eqb-true (getD line 4 0) 114 (q .1) i ∷ eqb-true (getD line 5 0) 101 (p .1) i ∷ eqb-true (getD line 6 0) comma (o .1) i ∷ drop 7 line)))
-        (refl, refl)
+    retire-starts t = started line (fourOf 1769235826 (114 ∷ 101 ∷ comma ∷ drop 7 line)) 6 Word.Retire (three-more 1769235826 114 101 comma t) (refl, refl)
+
+    -- a line feed ends the word
+    pub doomed-starts : eqb code 1836019556 && eqb (getD line 4 0) 101 && eqb (getD line 5 0) 100 && eqb (getD line 6 0) 10 ≡ true → Starts line 6 Word.Doomed
+    unfolding fourOf firstField firstLine wordOf laterWord same
+    doomed-starts t = started line (fourOf 1836019556 (101 ∷ 100 ∷ 10 ∷ drop 7 line)) 6 Word.Doomed (three-more 1836019556 101 100 10 t) (refl, refl)
+
+    pub regen-starts : eqb code 1701274994 && eqb (getD line 4 0) 110 && eqb (getD line 5 0) comma ≡ true → Starts line 5 Word.Regen
+    unfolding fourOf firstField firstLine wordOf same
+    regen-starts t = started line (fourOf 1701274994 (110 ∷ comma ∷ drop 6 line)) 5 Word.Regen (two-more 1701274994 110 comma t) (refl, refl)
+
+    pub write-starts : eqb code 1953067639 && eqb (getD line 4 0) 101 && eqb (getD line 5 0) comma ≡ true → Starts line 5 Word.Write
+    unfolding fourOf firstField firstLine wordOf same
+    write-starts t = started line (fourOf 1953067639 (101 ∷ comma ∷ drop 6 line)) 5 Word.Write (two-more 1953067639 101 comma t) (refl, refl)
 
 -- ---- any word
 

@@ -8,16 +8,24 @@ use crate::event::Word;
 use event_text::first_end;
 use event_text::is_word;
 
-// The first four bytes of texts, the first as the lowest: "take", "plan", "park", "pop,", "reti" and "writ".
+// The first four bytes of texts, the first as the lowest: "take", "plan", "park", "trim", "note", "pop,", "reti", "doom", "rege" and "writ".
 const TAKE: u64 = 1701536116;
 
 const PLAN: u64 = 1851878512;
 
 const PARK: u64 = 1802658160;
 
+const TRIM: u64 = 1835627124;
+
+const NOTE: u64 = 1702129518;
+
 const POP: u64 = 745566064;
 
 const RETIRE: u64 = 1769235826;
+
+const DOOMED: u64 = 1836019556;
+
+const REGEN: u64 = 1701274994;
 
 const WRITE: u64 = 1953067639;
 
@@ -124,6 +132,50 @@ fn four_start(text: &[u8], code: u64) -> Start
             end: 4,
         };
     }
+    if code == TRIM {
+        return Start {
+            word: Word::Trim,
+            end: 4,
+        };
+    }
+    if code == NOTE {
+        return Start {
+            word: Word::Note,
+            end: 4,
+        };
+    }
+    any_start(text)
+}
+
+// The words of five or six letters that a program has most. No field stands behind `doomed`, so that a line feed ends it.
+fn long_start(text: &[u8], code: u64) -> Start
+    requires { ⌜ (7 ≤ length (now text)) × (now text ≡ fourOf code (drop 4 (now text))) ⌝ }
+    ensures { λ r. ⌜ Starts (now (text .entry)) (r .end) (r .word) ⌝ }
+{
+    if (code == RETIRE) & (text[4] == b'r') & (text[5] == b'e') & (text[6] == b',') {
+        return Start {
+            word: Word::Retire,
+            end: 6,
+        };
+    }
+    if (code == DOOMED) & (text[4] == b'e') & (text[5] == b'd') & (text[6] == b'\n') {
+        return Start {
+            word: Word::Doomed,
+            end: 6,
+        };
+    }
+    if (code == REGEN) & (text[4] == b'n') & (text[5] == b',') {
+        return Start {
+            word: Word::Regen,
+            end: 5,
+        };
+    }
+    if (code == WRITE) & (text[4] == b'e') & (text[5] == b',') {
+        return Start {
+            word: Word::Write,
+            end: 5,
+        };
+    }
     any_start(text)
 }
 
@@ -141,19 +193,7 @@ fn other_start(text: &[u8], code: u64) -> Start
     if text.len() < 7 {
         return any_start(text);
     }
-    if (code == RETIRE) & (text[4] == b'r') & (text[5] == b'e') & (text[6] == b',') {
-        return Start {
-            word: Word::Retire,
-            end: 6,
-        };
-    }
-    if (code == WRITE) & (text[4] == b'e') & (text[5] == b',') {
-        return Start {
-            word: Word::Write,
-            end: 5,
-        };
-    }
-    any_start(text)
+    long_start(text, code)
 }
 
 // The word that a line starts with. The ones that a program has most are told by four bytes at once.

@@ -2,7 +2,7 @@
 use mathlib.Core.Path.{_≡_, sym, ap, _∙_}
 use mathlib.Core.Bool.{Bool, true, false, cond}
 use mathlib.Core.List.{List, [], _∷_}
-use Prim.Native.Nat.{ℕ, suc, _+_, _-_, _/_, _≤_, _<_, max}
+use Prim.Native.Nat.{ℕ, suc, _+_, _-_, _/_, _≤_, _<_, min, max}
 use native.Mathlib.Nat.{le-max-left, le-max-right}
 use native.Mathlib.Omega.{arith}
 use borrow.Author.Tests.{le-leb, lt-leb}
@@ -32,14 +32,15 @@ entries-most (Copies n) copies views h = omega (arith, le-max-left (length copie
 
 -- ---- whether the buffer has it
 
-module _ (input : List ℕ) (from most filled size : ℕ) (fits : filled ≤ size) where
-  pub next-full : (size - filled) / 147 ≤ most → nextEnd input from most filled size ≡ length input
+-- `room` is the longest answer, or one byte more than the buffer has if the answer is longer: a test of either decides the same
+module _ (input : List ℕ) (from longest room filled size : ℕ) (fits : filled ≤ size) (is-room : room ≡ min longest (size + 1)) where
+  pub next-full : size - filled < room → nextEnd input from longest filled size ≡ length input
   unfolding nextEnd
-  next-full h = rw (lt-leb (filled + mostBytes most) size (omega arith))
+  next-full h = rw (lt-leb (filled + longest) size (omega arith))
 
-  pub next-line : most < (size - filled) / 147 → nextEnd input from most filled size ≡ lineEnd input from
+  pub next-line : room ≤ size - filled → nextEnd input from longest filled size ≡ lineEnd input from
   unfolding nextEnd
-  next-line h = rw (le-leb (filled + mostBytes most) size (omega arith))
+  next-line h = rw (le-leb (filled + longest) size (omega arith))
 
 -- the longest answer's room is enough for each
 pub answer-fits : (a : Answer) (copies views : List ℕ) (m n filled size : ℕ) → InBuffers a copies views → length copies ≡ m → length views ≡ n

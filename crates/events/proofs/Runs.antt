@@ -3,7 +3,7 @@ use mathlib.Core.Path.{_≡_, refl, sym, ap, ap₂, _∙_}
 use mathlib.Core.Bool.{Bool, true, false, cond}
 use mathlib.Core.Option.{Option}
 use mathlib.Core.List.{List, [], _∷_}
-use Prim.Native.Nat.{ℕ, _+_, _-_, _/_, _≤_, _<_, max}
+use Prim.Native.Nat.{ℕ, _+_, _-_, _≤_, _<_, min}
 use native.Mathlib.Omega.{arith}
 use borrow.Author.Tests.{leb-true}
 use lib.Dec.{leb}
@@ -17,7 +17,7 @@ use Rattle.event_lines.specs.declared.event.Event.{Event}
 use Rattle.event_lines.specs.Grammar.{eventOf}
 use Rattle.event_answers.specs.declared.answer.Answer.{Answer}
 use Rattle.event_answers.specs.Answers.{replyOf}
-use Rattle.event_answers.specs.Printed.{lineFeed, printed, mostBytes}
+use Rattle.event_answers.specs.Printed.{lineFeed, printed}
 use Rattle.event_sessions.specs.Sessions.{State, HoldsPool, step}
 use Rattle.event_sessions.proofs.Keeps.{step-keeps}
 use Rattle.events.specs.Lines.{wholeLines, lineOutput, lineState, EventRan, longestAnswer, Progress, hasRoom, ran, ranAll}
@@ -52,23 +52,23 @@ module _ (cs vs : ℕ) (p : Progress) where
   unfolding ran
   ran-is q line a b c d e = λ i. record { state = a i; number = b i; from = c i; filled = d i; out = e i }
 
-module _ (cs vs : ℕ) (input : List ℕ) (p : Progress) (end most size : ℕ) (is-most : most ≡ max (cs / 7) vs) (is-size : length (p .out) ≡ size)
-    (next : end ≡ nextEnd input (p .from) most (p .filled) size) where
-  room-is : hasRoom cs vs p ≡ leb (p .filled + mostBytes most) size
+module _ (cs vs : ℕ) (input : List ℕ) (p : Progress) (end size : ℕ) (is-size : length (p .out) ≡ size)
+    (next : end ≡ nextEnd input (p .from) (longestAnswer cs vs) (p .filled) size) where
+  room-is : hasRoom cs vs p ≡ leb (p .filled + longestAnswer cs vs) size
   unfolding hasRoom
-  room-is = rw (is-most, is-size)
+  room-is = rw is-size
 
   -- one test decides whether the next line is run
-  next-by : (t : Bool) → leb (p .filled + mostBytes most) size ≡ t → end ≡ cond t (lineEnd input (p .from)) (length input)
+  next-by : (t : Bool) → leb (p .filled + longestAnswer cs vs) size ≡ t → end ≡ cond t (lineEnd input (p .from)) (length input)
   unfolding nextEnd
   next-by t e = next ∙ ap (λ (b : Bool). cond b (lineEnd input (p .from)) (length input)) e
 
-  room-when : end < length input → (t : Bool) → leb (p .filled + mostBytes most) size ≡ t → t ≡ true
+  room-when : end < length input → (t : Bool) → leb (p .filled + longestAnswer cs vs) size ≡ t → t ≡ true
   room-when h true e = refl
   room-when h false e = absurd (let q = next-by false e in let y : ⊥ = omega arith in y)
 
-  pub run-room : end < length input → leb (p .filled + mostBytes most) size ≡ true
-  run-room h = room-when h (leb (p .filled + mostBytes most) size) refl
+  pub run-room : end < length input → leb (p .filled + longestAnswer cs vs) size ≡ true
+  run-room h = room-when h (leb (p .filled + longestAnswer cs vs) size) refl
 
   pub run-more : end < length input → ranAll cs vs p (wholeLines (drop (p .from) input))
       ≡ ranAll cs vs (ran cs vs p (take (end - p .from) (drop (p .from) input))) (wholeLines (drop (end + 1) input))
@@ -80,9 +80,9 @@ module _ (cs vs : ℕ) (input : List ℕ) (p : Progress) (end most size : ℕ) (
 
   pub run-done : length input ≤ end → ranAll cs vs p (wholeLines (drop (p .from) input)) ≡ p
   unfolding ranAll
-  run-done h = go (leb (p .filled + mostBytes most) size) refl
+  run-done h = go (leb (p .filled + longestAnswer cs vs) size) refl
     where
-      go : (t : Bool) → leb (p .filled + mostBytes most) size ≡ t → ranAll cs vs p (wholeLines (drop (p .from) input)) ≡ p
+      go : (t : Bool) → leb (p .filled + longestAnswer cs vs) size ≡ t → ranAll cs vs p (wholeLines (drop (p .from) input)) ≡ p
       go false e = ran-full cs vs p (wholeLines (drop (p .from) input)) (room-is ∙ e)
       go true e = let q = next-by true e in ap (ranAll cs vs p) (line-none input (p .from) (omega arith))
 
@@ -121,26 +121,26 @@ going-first cs vs input p size f l o h = record {
 }
 
 -- no room is left
-pub going-full : (cs vs : ℕ) (input : List ℕ) (p₀ p : Progress) (most size : ℕ) → Going cs vs input p₀ p size → most ≡ max (cs / 7) vs
-    → (size - p .filled) / 147 ≤ most → p ≡ ranAll cs vs p₀ (wholeLines input)
-going-full cs vs input p₀ p most size g e h =
-    sym (run-done cs vs input p (length input) most size e (g .sized) (sym (next-full input (p .from) most (p .filled) size (g .filling) h)) (omega arith)) ∙ g .left
+pub going-full : (cs vs : ℕ) (input : List ℕ) (p₀ p : Progress) (room size : ℕ) → Going cs vs input p₀ p size → room ≡ min (longestAnswer cs vs) (size + 1)
+    → size - p .filled < room → p ≡ ranAll cs vs p₀ (wholeLines input)
+going-full cs vs input p₀ p room size g e h =
+    sym (run-done cs vs input p (length input) size (g .sized) (sym (next-full input (p .from) (longestAnswer cs vs) room (p .filled) size (g .filling) e h)) (omega arith)) ∙ g .left
 
 -- a turn; the answer buffers have as many numbers as they had at first
-module _ (cs vs a b : ℕ) (ea : a ≡ cs) (eb : b ≡ vs) (input : List ℕ) (p₀ p : Progress) (most k end size : ℕ)
-    (g : Going cs vs input p₀ p size) (is-most : most ≡ max (cs / 7) vs) (room : most < (size - p .filled) / 147)
+module _ (cs vs a b : ℕ) (ea : a ≡ cs) (eb : b ≡ vs) (input : List ℕ) (p₀ p : Progress) (room k end size : ℕ)
+    (g : Going cs vs input p₀ p size) (is-room : room ≡ min (longestAnswer cs vs) (size + 1)) (has-room : room ≤ size - p .filled)
     (line-end : k ≡ indexOf lineFeed (drop (p .from) input)) (is-end : end ≡ p .from + k) where
-  next : end ≡ nextEnd input (p .from) most (p .filled) size
+  next : end ≡ nextEnd input (p .from) (longestAnswer cs vs) (p .filled) size
   next =
       is-end ∙ find-end input (p .from) (p .from + k) (ap (λ (i : ℕ). p .from + i) line-end)
-      ∙ sym (next-line input (p .from) most (p .filled) size (g .filling) room)
+      ∙ sym (next-line input (p .from) (longestAnswer cs vs) room (p .filled) size (g .filling) is-room has-room)
 
   pub going-end : end ≤ length input
   going-end = find-within input (p .from) end (g .inside) (is-end ∙ ap (λ (i : ℕ). p .from + i) line-end) .1
 
   -- no whole line is left
   pub going-done : length input ≤ end → p ≡ ranAll cs vs p₀ (wholeLines input)
-  going-done h = sym (run-done cs vs input p end most size is-most (g .sized) next h) ∙ g .left
+  going-done h = sym (run-done cs vs input p end size (g .sized) next h) ∙ g .left
 
   module _ (h : end < length input) where
     abbrev line : List ℕ
@@ -156,9 +156,7 @@ module _ (cs vs a b : ℕ) (ea : a ≡ cs) (eb : b ≡ vs) (input : List ℕ) (p
     -- the line has room
     pub going-room : p .filled + longestAnswer a b ≤ length (p .out)
     going-room =
-        let r = leb-true (p .filled + mostBytes most) size (run-room cs vs input p end most size is-most (g .sized) next h) in
-        let m : p .filled + longestAnswer cs vs ≤ size = rw is-most at r in
-        rw (ea, eb, g .sized) m
+        rw (ea, eb, g .sized) (leb-true (p .filled + longestAnswer cs vs) size (run-room cs vs input p end size (g .sized) next h))
 
     module _ (event : Event) (parsed : event ≡ eventOf (firstLine (drop (p .from) input))) (q : Progress) (n : q .number ≡ p .number + 1) (f : q .from ≡ end + 1)
         (r : EventRan a b (p .number + 1) (p .state) (q .state) event (p .filled) (q .filled) (p .out) (q .out)) where
@@ -188,5 +186,5 @@ module _ (cs vs a b : ℕ) (ea : a ≡ cs) (eb : b ≡ vs) (input : List ℕ) (p
         pool = kept;
         left = ap (λ (i : ℕ). ranAll cs vs q (wholeLines (drop i input))) f
             ∙ ap (λ (x : Progress). ranAll cs vs x (wholeLines (drop (end + 1) input))) was-run
-            ∙ sym (run-more cs vs input p end most size is-most (g .sized) next h) ∙ g .left;
+            ∙ sym (run-more cs vs input p end size (g .sized) next h) ∙ g .left;
       }

@@ -1,9 +1,9 @@
 // The whole lines of a block of input, run as long as the output has room.
 ghost use mathlib.Core.Path.{_≡_};
-ghost use Prim.Native.Nat.{_+_, _/_, _^_, _≤_, _<_, max};
+ghost use Prim.Native.Nat.{_+_, _/_, _^_, _≤_, _<_, min, max};
 ghost use lib.ListN.{length};
 ghost use Rattle.event_sessions.specs.Sessions.{stateOf, HoldsPool};
-ghost use Rattle.events.specs.Lines.{progressOf, start, wholeLines, ranAll};
+ghost use Rattle.events.specs.Lines.{longestAnswer, progressOf, start, wholeLines, ranAll};
 use crate::line::run_line;
 use crate::run::Run;
 use event_lines::parse_first;
@@ -20,6 +20,19 @@ fn most_entries(copies: usize, views: usize) -> usize
         return views;
     }
     copies / 7
+}
+
+// The bytes of the longest answer in buffers of so many numbers. Where an output of `size` bytes has no room for them it is `size` + 1 instead, since
+// the product could overflow.
+fn longest_answer(copies: usize, views: usize, size: usize) -> usize
+    requires { ⌜ size < 2 ^ 63 ⌝ }
+    ensures { λ r. ⌜ r ≡ min (longestAnswer copies views) (size + 1) ⌝ }
+{
+    let most = most_entries(copies, views);
+    if size / ROW <= most {
+        return size + 1;
+    }
+    (most + 1) * ROW
 }
 
 // Runs whole lines from the front of `input` on, `number` lines having been run before. Their output is put at the front of `out`.
@@ -45,15 +58,15 @@ pub fn run_lines(
         (wholeLines (now (input .entry))))
         × (r .filled ≤ length (now (out .entry))) ⌝ }
 {
-    let most = most_entries(copies.len(), views.len());
     let size = out.len();
+    let room = longest_answer(copies.len(), views.len(), size);
     let mut run = Run {
         session,
         number,
         from: 0,
         filled: 0,
     };
-    while most < (size - run.filled) / ROW {
+    while room <= size - run.filled {
         let from = run.from;
         let parsed = parse_first(&input[from..]);
         let end = from + parsed.end;

@@ -10,17 +10,17 @@ use Rattle.events.proofs.lines.run_lines.Statement.{statement}
 use Rattle.events.proofs.lines.run_lines.Tie as tie
 
 abbrev Inv-loop : tie.InvT-loop
-Inv-loop input number textures₀ retiring₀ doomed₀ spares₀ newest₀ stamps₀ copies₀ views₀ out₀ most size run₀ textures retiring doomed spares newest stamps copies views out run =
+Inv-loop input number textures₀ retiring₀ doomed₀ spares₀ newest₀ stamps₀ copies₀ views₀ out₀ size room run₀ textures retiring doomed spares newest stamps copies views out run =
     Going (length copies₀) (length views₀) input (progressOf run₀ textures₀ retiring₀ doomed₀ spares₀ newest₀ stamps₀ out₀)
     (progressOf run textures retiring doomed spares newest stamps out) size
     × (length textures ≡ length textures₀) × (length retiring ≡ length retiring₀) × (length doomed ≡ length doomed₀) × (length spares ≡ length spares₀)
     × (length newest ≡ length newest₀) × (length stamps ≡ length stamps₀) × (length copies ≡ length copies₀) × (length views ≡ length views₀)
 
 abbrev μ-loop : tie.MeasureT-loop
-μ-loop input number textures₀ retiring₀ doomed₀ spares₀ newest₀ stamps₀ copies₀ views₀ out₀ most size run₀ textures retiring doomed spares newest stamps copies views out run = length input - run .from
+μ-loop input number textures₀ retiring₀ doomed₀ spares₀ newest₀ stamps₀ copies₀ views₀ out₀ size room run₀ textures retiring doomed spares newest stamps copies views out run = length input - run .from
 
-most-entries-requires : tie.Need-most-entries-requires Inv-loop μ-loop
-most-entries-requires c κs = search needs
+longest-answer-requires : tie.Need-longest-answer-requires Inv-loop μ-loop
+longest-answer-requires c κs = search needs
 
 loop-holds : tie.Need-loop-holds Inv-loop μ-loop
 loop-holds c =
@@ -45,7 +45,7 @@ parse-first-requires c κs = search needs
 add-end : tie.Need-add-end Inv-loop μ-loop
 add-end c =
     let i = c .before .before .before .before .before .loop .inv in
-    let h = going-end _ _ _ _ (i .7) (i .8) (c .before .before .before .before .before .before .before .before .before .before .before .before .before .before .before .before .before .args .input .now) _ _ _ _ _ _ (i .0) (c .before .before .before .before .before .before .most-entries .ensures) (c .before .before .before .if1 .taken) (end-of (c .before .before .before .before .before .before .before .before .before .before .before .before .before .before .before .before .before .args .input .now) _ _ (i .0 .inside) (c .before .parse-first .ensures .1)) refl in
+    let h = going-end _ _ _ _ (i .7) (i .8) (c .before .before .before .before .before .before .before .before .before .before .before .before .before .before .before .before .before .args .input .now) _ _ _ _ _ _ (i .0) (c .before .before .before .before .before .before .longest-answer .ensures) (c .before .before .before .if1 .taken) (end-of (c .before .before .before .before .before .before .before .before .before .before .before .before .before .before .before .before .before .args .input .now) _ _ (i .0 .inside) (c .before .parse-first .ensures .1)) refl in
     omega (arith, h)
 
 same-length : tie.Need-same-length Inv-loop μ-loop
@@ -78,7 +78,7 @@ same-length-9 c = c .before .before .before .before .before .before .loop .inv .
 returns : tie.Need-returns Inv-loop μ-loop
 returns c =
     let i = c .before .before .before .before .before .before .loop .inv in
-    (going-done _ _ _ _ (i .7) (i .8) (c .before .before .before .before .before .before .before .before .before .before .before .before .before .before .before .before .before .before .args .input .now) _ _ _ _ _ _ (i .0) (c .before .before .before .before .before .before .before .most-entries .ensures) (c .before .before .before .before .if1 .taken) (end-of (c .before .before .before .before .before .before .before .before .before .before .before .before .before .before .before .before .before .before .args .input .now) _ _ (i .0 .inside) (c .before .before .parse-first .ensures .1)) refl (c .if2 .taken), i .0 .filling)
+    (going-done _ _ _ _ (i .7) (i .8) (c .before .before .before .before .before .before .before .before .before .before .before .before .before .before .before .before .before .before .args .input .now) _ _ _ _ _ _ (i .0) (c .before .before .before .before .before .before .before .longest-answer .ensures) (c .before .before .before .before .if1 .taken) (end-of (c .before .before .before .before .before .before .before .before .before .before .before .before .before .before .before .before .before .before .args .input .now) _ _ (i .0 .inside) (c .before .before .parse-first .ensures .1)) refl (c .if2 .taken), i .0 .filling)
 
 add-current : tie.Need-add-current Inv-loop μ-loop
 add-current c =
@@ -91,7 +91,7 @@ add-next c = omega (arith, c .before .before .if2 .left, c .before .before .befo
 run-line-requires : tie.Need-run-line-requires Inv-loop μ-loop
 run-line-requires c κs =
     let i = c .before .before .before .before .before .before .before .before .before .before .before .before .before .before .before .before .before .loop .inv in
-    (i .0 .pool, going-room _ _ _ _ (i .7) (i .8) (c .before .before .before .before .before .before .before .before .before .before .before .before .before .before .before .before .before .before .before .before .before .before .before .before .before .before .before .before .before .args .input .now) _ _ _ _ _ _ (i .0) (c .before .before .before .before .before .before .before .before .before .before .before .before .before .before .before .before .before .before .most-entries .ensures) (c .before .before .before .before .before .before .before .before .before .before .before .before .before .before .before .if1 .taken) (end-of (c .before .before .before .before .before .before .before .before .before .before .before .before .before .before .before .before .before .before .before .before .before .before .before .before .before .before .before .before .before .args .input .now) _ _ (i .0 .inside) (c .before .before .before .before .before .before .before .before .before .before .before .before .before .parse-first .ensures .1)) refl (c .before .before .before .before .before .before .before .before .before .before .before .if2 .left))
+    (i .0 .pool, going-room _ _ _ _ (i .7) (i .8) (c .before .before .before .before .before .before .before .before .before .before .before .before .before .before .before .before .before .before .before .before .before .before .before .before .before .before .before .before .before .args .input .now) _ _ _ _ _ _ (i .0) (c .before .before .before .before .before .before .before .before .before .before .before .before .before .before .before .before .before .before .longest-answer .ensures) (c .before .before .before .before .before .before .before .before .before .before .before .before .before .before .before .if1 .taken) (end-of (c .before .before .before .before .before .before .before .before .before .before .before .before .before .before .before .before .before .before .before .before .before .before .before .before .before .before .before .before .before .args .input .now) _ _ (i .0 .inside) (c .before .before .before .before .before .before .before .before .before .before .before .before .before .parse-first .ensures .1)) refl (c .before .before .before .before .before .before .before .before .before .before .before .if2 .left))
 
 loop-less : tie.Need-loop-less Inv-loop μ-loop
 loop-less c = omega (arith, c .before .before .before .before .before .before .before .before .before .before .before .before .before .before .before .before .before .before .before .before .before .before .before .before .before .before .before .before .before .before .before .if2 .left)
@@ -101,7 +101,7 @@ loop-again c =
     let i = c .before .before .before .before .before .before .before .before .before .before .before .before .before .before .before .before .before .before .before .before .before .before .before .before .before .before .before .before .before .before .before .before .before .before .before .before .before .loop .inv in
     let r = c .before .before .before .before .before .before .before .before .before .before .before .before .before .before .before .before .before .before .before .run-line in
     let k = r .kept .1 .1 .1 in (
-      going-next _ _ _ _ (i .7) (i .8) (c .before .before .before .before .before .before .before .before .before .before .before .before .before .before .before .before .before .before .before .before .before .before .before .before .before .before .before .before .before .before .before .before .before .before .before .before .before .before .before .before .before .before .before .before .before .before .before .before .before .args .input .now) _ _ _ _ _ _ (i .0) (c .before .before .before .before .before .before .before .before .before .before .before .before .before .before .before .before .before .before .before .before .before .before .before .before .before .before .before .before .before .before .before .before .before .before .before .before .before .before .most-entries .ensures) (c .before .before .before .before .before .before .before .before .before .before .before .before .before .before .before .before .before .before .before .before .before .before .before .before .before .before .before .before .before .before .before .before .before .before .before .if1 .taken) (end-of (c .before .before .before .before .before .before .before .before .before .before .before .before .before .before .before .before .before .before .before .before .before .before .before .before .before .before .before .before .before .before .before .before .before .before .before .before .before .before .before .before .before .before .before .before .before .before .before .before .before .args .input .now) _ _ (i .0 .inside) (c .before .before .before .before .before .before .before .before .before .before .before .before .before .before .before .before .before .before .before .before .before .before .before .before .before .before .before .before .before .before .before .before .before .parse-first .ensures .1)) refl (c .before .before .before .before .before .before .before .before .before .before .before .before .before .before .before .before .before .before .before .before .before .before .before .before .before .before .before .before .before .before .before .if2 .left) _ (event-of (c .before .before .before .before .before .before .before .before .before .before .before .before .before .before .before .before .before .before .before .before .before .before .before .before .before .before .before .before .before .before .before .before .before .before .before .before .before .before .before .before .before .before .before .before .before .before .before .before .before .args .input .now) _ _ (i .0 .inside) (c .before .before .before .before .before .before .before .before .before .before .before .before .before .before .before .before .before .before .before .before .before .before .before .before .before .before .before .before .before .before .before .before .before .parse-first .ensures .0)) _ refl refl (r .ensures),
+      going-next _ _ _ _ (i .7) (i .8) (c .before .before .before .before .before .before .before .before .before .before .before .before .before .before .before .before .before .before .before .before .before .before .before .before .before .before .before .before .before .before .before .before .before .before .before .before .before .before .before .before .before .before .before .before .before .before .before .before .before .args .input .now) _ _ _ _ _ _ (i .0) (c .before .before .before .before .before .before .before .before .before .before .before .before .before .before .before .before .before .before .before .before .before .before .before .before .before .before .before .before .before .before .before .before .before .before .before .before .before .before .longest-answer .ensures) (c .before .before .before .before .before .before .before .before .before .before .before .before .before .before .before .before .before .before .before .before .before .before .before .before .before .before .before .before .before .before .before .before .before .before .before .if1 .taken) (end-of (c .before .before .before .before .before .before .before .before .before .before .before .before .before .before .before .before .before .before .before .before .before .before .before .before .before .before .before .before .before .before .before .before .before .before .before .before .before .before .before .before .before .before .before .before .before .before .before .before .before .args .input .now) _ _ (i .0 .inside) (c .before .before .before .before .before .before .before .before .before .before .before .before .before .before .before .before .before .before .before .before .before .before .before .before .before .before .before .before .before .before .before .before .before .parse-first .ensures .1)) refl (c .before .before .before .before .before .before .before .before .before .before .before .before .before .before .before .before .before .before .before .before .before .before .before .before .before .before .before .before .before .before .before .if2 .left) _ (event-of (c .before .before .before .before .before .before .before .before .before .before .before .before .before .before .before .before .before .before .before .before .before .before .before .before .before .before .before .before .before .before .before .before .before .before .before .before .before .before .before .before .before .before .before .before .before .before .before .before .before .args .input .now) _ _ (i .0 .inside) (c .before .before .before .before .before .before .before .before .before .before .before .before .before .before .before .before .before .before .before .before .before .before .before .before .before .before .before .before .before .before .before .before .before .parse-first .ensures .0)) _ refl refl (r .ensures),
       k .0 ∙ i .1,
       k .1 .0 ∙ i .2,
       k .1 .1 .0 ∙ i .3,
@@ -142,7 +142,7 @@ same-length-18 c = c .before .before .loop .inv .0 .sized
 returns-2 : tie.Need-returns-2 Inv-loop μ-loop
 returns-2 c =
     let i = c .before .before .loop .inv in
-    (going-full _ _ (c .before .before .before .before .before .before .before .before .before .before .before .before .before .before .args .input .now) _ _ _ _ (i .0) (c .before .before .before .most-entries .ensures) (c .if1 .left), i .0 .filling)
+    (going-full _ _ (c .before .before .before .before .before .before .before .before .before .before .before .before .before .before .args .input .now) _ _ _ _ (i .0) (c .before .before .before .longest-answer .ensures) (c .if1 .left), i .0 .filling)
 
 pub run-lines-spec : {M : Type 1} → statement M
 run-lines-spec =
@@ -150,7 +150,7 @@ run-lines-spec =
     (tie.spec
     Inv-loop
     μ-loop
-    most-entries-requires
+    longest-answer-requires
     loop-holds
     sub-if1
     sub-parse-first
