@@ -8,3 +8,4 @@ mod pool;
 pub use answer::DoneAnswer;
 pub use book::PacingBook;
 pub use pool::Pool;
+pub use pool::same_counts;

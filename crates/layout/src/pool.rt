@@ -1,4 +1,5 @@
 // The pool's counts.
+ghost use mathlib.Core.Path.{_≡_};
 
 // `tracked` textures, `kept` spares and `pages` in use stand packed at the front of their slices. The retiring ring begins at
 // place `head`: its first `popped` versions, one or none, are 01's hand, and `queued` versions follow. The destroy ring begins at
@@ -19,4 +20,26 @@ pub struct Pool {
     pub dooming: u64,
     pub cap: u64,
     pub line: u64,
+}
+
+// The same counts, put one by one. Copied as a block at several exits of a call, they would be kept in memory by the compiler.
+pub fn same_counts(pool: Pool) -> Pool
+    ensures { λ r. ⌜ r ≡ pool ⌝ }
+{
+    Pool {
+        tracked: pool.tracked,
+        kept: pool.kept,
+        pages: pool.pages,
+        head: pool.head,
+        popped: pool.popped,
+        queued: pool.queued,
+        first: pool.first,
+        doomed: pool.doomed,
+        since: pool.since,
+        trackings: pool.trackings,
+        parked: pool.parked,
+        dooming: pool.dooming,
+        cap: pool.cap,
+        line: pool.line,
+    }
 }

@@ -11,6 +11,7 @@ use crate::look::look_up;
 use crate::newest::take_newest;
 use layout::PacingBook;
 use layout::Pool;
+use layout::same_counts;
 use shapes::VersionShape;
 use trackings::renew_tracking;
 use trackings::start_tracking;
@@ -50,7 +51,7 @@ pub fn take_spare(
     );
     if look.outcome != 0 {
         return TakeAnswer {
-            pool,
+            pool: same_counts(pool),
             taken: Taken::Refused(look.outcome),
         };
     }

@@ -22,6 +22,7 @@ use access::texture_at;
 use layout::DoneAnswer;
 use layout::PacingBook;
 use layout::Pool;
+use layout::same_counts;
 use records::Recorded;
 use records::RetiringRecord;
 use records::TextureRecord;
@@ -143,7 +144,7 @@ pub fn retire(
     let refusal = retire_refusal(pool, retiring, places, seq);
     if refusal != 0 {
         return DoneAnswer {
-            pool,
+            pool: same_counts(pool),
             outcome: refusal,
         };
     }

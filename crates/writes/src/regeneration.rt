@@ -10,6 +10,7 @@ use crate::history::set_history;
 use layout::DoneAnswer;
 use layout::PacingBook;
 use layout::Pool;
+use layout::same_counts;
 use records::Recorded;
 use records::find_texture;
 
@@ -33,10 +34,16 @@ pub fn note_mip_regeneration(
     let i = find_texture(textures, tracked, id);
     let history = history_at(textures, tracked, i, id);
     let Recorded::Writes(n) = history else {
-        return DoneAnswer { pool, outcome: 0 };
+        return DoneAnswer {
+            pool: same_counts(pool),
+            outcome: 0,
+        };
     };
     if 281474976710656 <= n {
-        return DoneAnswer { pool, outcome: 12 };
+        return DoneAnswer {
+            pool: same_counts(pool),
+            outcome: 12,
+        };
     }
     regenerate_history(textures, newest, stamps, i, n + 1);
     set_history(textures, i, Recorded::Writes(n + 1));

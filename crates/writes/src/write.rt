@@ -13,6 +13,7 @@ use access::texture_at;
 use layout::DoneAnswer;
 use layout::PacingBook;
 use layout::Pool;
+use layout::same_counts;
 use records::Recorded;
 use records::find_texture;
 use rects::TexelRect;
@@ -41,7 +42,10 @@ pub fn note_write(
     let i = find_texture(textures, tracked, id);
     let history = history_at(textures, tracked, i, id);
     let Recorded::Writes(n) = history else {
-        return DoneAnswer { pool, outcome: 0 };
+        return DoneAnswer {
+            pool: same_counts(pool),
+            outcome: 0,
+        };
     };
     let t = texture_at(textures, i);
     if !in_shape(t.shape, slice, level) {
@@ -54,7 +58,10 @@ pub fn note_write(
         };
     }
     if 281474976710656 <= n {
-        return DoneAnswer { pool, outcome: 12 };
+        return DoneAnswer {
+            pool: same_counts(pool),
+            outcome: 12,
+        };
     }
     stamp_subresource(textures, newest, stamps, i, slice, level, rect, n + 1);
     set_history(textures, i, Recorded::Writes(n + 1));

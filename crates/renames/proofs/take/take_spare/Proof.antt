@@ -10,6 +10,9 @@ use Rattle.renames.proofs.take.take_spare.Tie as tie
 look-up-requires : tie.Need-look-up-requires
 look-up-requires c κs = search needs
 
+same-counts-requires : tie.Need-same-counts-requires
+same-counts-requires c κs = search needs
+
 same-length : tie.Need-same-length
 same-length c = search needs
 
@@ -27,8 +30,8 @@ same-length-5 c = search needs
 
 returns : tie.Need-returns
 returns c =
-    let look = c .before .before .look-up .ensures in
-    refused-call _ _ _ _ _ _ (c .before .before .before .before .before .before .before .before .before .before .before .before .before .before .pre) (look .place) _ (look .outcome) (c .if1 .taken)
+    let look = c .before .before .before .look-up .ensures in
+    rw (c .same-counts .ensures) (refused-call _ _ _ _ _ _ (c .before .before .before .before .before .before .before .before .before .before .before .before .before .before .before .pre) (look .place) _ (look .outcome) (c .before .if1 .taken))
 
 start-tracking-requires : tie.Need-start-tracking-requires
 start-tracking-requires c κs =
@@ -109,6 +112,7 @@ take-spare-spec =
     tie.close
     (tie.spec
     look-up-requires
+    same-counts-requires
     same-length
     same-length-2
     same-length-3

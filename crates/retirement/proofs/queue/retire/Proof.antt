@@ -16,16 +16,19 @@ retire-refusal-requires c κs =
     let l = lent (a .pool) (a .book) (a .textures .now) (a .retiring .now) (a .doomed .now) (a .spares .now) (a .newest .now) (a .stamps .now) in
     refusal-fits l (pool-fits l (b .pre))
 
+same-counts-requires : tie.Need-same-counts-requires
+same-counts-requires c κs = search needs
+
 same-length : tie.Need-same-length
 same-length c = search needs
 
 returns : tie.Need-returns
 returns c =
-    let b = c .before .before .before .before .before .before .before .before .before in
+    let b = c .before .before .before .before .before .before .before .before .before .before in
     let a = b .args in
     let l = lent (a .pool) (a .book) (a .textures .now) (a .retiring .now) (a .doomed .now) (a .spares .now) (a .newest .now) (a .stamps .now) in
-    let r = c .before .retire-refusal in
-    retire-refused l (b .pre) (a .id) (a .view) (a .seq) (r .result) (r .ensures) (omega (arith, c .if1 .taken))
+    let r = c .before .before .retire-refusal in
+    rw (c .same-counts .ensures) (retire-refused l (b .pre) (a .id) (a .view) (a .seq) (r .result) (r .ensures) (omega (arith, c .before .if1 .taken)))
 
 find-texture-requires : tie.Need-find-texture-requires
 find-texture-requires c κs =
@@ -101,6 +104,7 @@ retire-spec =
     tie.close
     (tie.spec
     retire-refusal-requires
+    same-counts-requires
     same-length
     returns
     find-texture-requires

@@ -52,22 +52,28 @@ enum-known-history c = search needs
 enum-told : tie.Need-enum-told
 enum-told c = search needs
 
+same-counts-requires : tie.Need-same-counts-requires
+same-counts-requires c κs = search needs
+
 same-length : tie.Need-same-length
 same-length c = search needs
 
 returns : tie.Need-returns
 returns c =
-    let s = c .before .before .before .before .before .before .before .before .before .before .before .before in
+    let s = c .before .before .before .before .before .before .before .before .before .before .before .before .before in
     let a = s .args in
-    regeneration-unrecorded (here s) (s .pre) (a .id)
-    (told (here s) (fit s) (a .id) (c .before .before .before .before .find-texture .result) (c .before .before .before .before .find-texture .ensures) (c .before .before .history-at .result) NoHistory (c .before .before .history-at .ensures) (c .enum-told .given .1))
+    rw (c .same-counts .ensures) (regeneration-unrecorded (here s) (s .pre) (a .id)
+    (told (here s) (fit s) (a .id) (c .before .before .before .before .before .find-texture .result) (c .before .before .before .before .before .find-texture .ensures) (c .before .before .before .history-at .result) NoHistory (c .before .before .before .history-at .ensures) (c .before .enum-told .given .1)))
+
+same-counts-requires-2 : tie.Need-same-counts-requires-2
+same-counts-requires-2 c κs = search needs
 
 same-length-2 : tie.Need-same-length-2
 same-length-2 c = search needs
 
 returns-2 : tie.Need-returns-2
 returns-2 c =
-    let w = c .before in regeneration-spent (here (start w)) (start w .pre) (start w .args .id) (count w) (recording w) (c .if1 .taken)
+    let w = c .before .before in rw (c .same-counts2 .ensures) (regeneration-spent (here (start w)) (start w .pre) (start w .args .id) (count w) (recording w) (c .before .if1 .taken))
 
 add-regenerate-history : tie.Need-add-regenerate-history
 add-regenerate-history c = search needs
@@ -76,8 +82,8 @@ regenerate-history-requires : tie.Need-regenerate-history-requires
 regenerate-history-requires c κs =
     let w = c .before .before .before .before in let f = fit (start w) in (held w, omega (arith, inside w, f .pages), omega (arith, f .stamps))
 
-add-t26 : tie.Need-add-t26
-add-t26 c = search needs
+add-t28 : tie.Need-add-t28
+add-t28 c = search needs
 
 set-history-requires : tie.Need-set-history-requires
 set-history-requires c κs = (held (c .before .before .before .before .before .before .before .before .before .before) .there, omega (arith, c .before .before .before .before .before .before .before .before .before .if1 .left))
@@ -108,13 +114,15 @@ note-mip-regeneration-spec =
     history-at-requires
     enum-known-history
     enum-told
+    same-counts-requires
     same-length
     returns
+    same-counts-requires-2
     same-length-2
     returns-2
     add-regenerate-history
     regenerate-history-requires
-    add-t26
+    add-t28
     set-history-requires
     same-length-3
     same-length-4

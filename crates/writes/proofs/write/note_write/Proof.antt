@@ -57,15 +57,18 @@ enum-known-history c = search needs
 enum-told : tie.Need-enum-told
 enum-told c = search needs
 
+same-counts-requires : tie.Need-same-counts-requires
+same-counts-requires c κs = search needs
+
 same-length : tie.Need-same-length
 same-length c = search needs
 
 returns : tie.Need-returns
 returns c =
-    let s = c .before .before .before .before .before .before .before .before .before .before .before .before in
+    let s = c .before .before .before .before .before .before .before .before .before .before .before .before .before in
     let a = s .args in
-    write-unrecorded (here s) (s .pre) (a .id) (a .slice) (a .level) (a .rect)
-    (told (here s) (fit s) (a .id) (c .before .before .before .before .find-texture .result) (c .before .before .before .before .find-texture .ensures) (c .before .before .history-at .result) NoHistory (c .before .before .history-at .ensures) (c .enum-told .given .1))
+    rw (c .same-counts .ensures) (write-unrecorded (here s) (s .pre) (a .id) (a .slice) (a .level) (a .rect)
+    (told (here s) (fit s) (a .id) (c .before .before .before .before .before .find-texture .result) (c .before .before .before .before .before .find-texture .ensures) (c .before .before .before .history-at .result) NoHistory (c .before .before .before .history-at .ensures) (c .before .enum-told .given .1)))
 
 texture-at-requires : tie.Need-texture-at-requires
 texture-at-requires c κs = held (c .before) .there
@@ -98,16 +101,19 @@ returns-2 c =
     (sym (c .before .before .before .before .before .before .before .before .before .before .before .before .before .in-shape .ensures) ∙ not-true _ (c .before .before .before .before .before .before .before .before .before .before .before .before .if1 .taken)) _
     (λ j. lent (withPages (d .ensures .0 j) (a .pool)) (a .book) (c .before .before .set-history .ensures j) (a .retiring .now) (a .doomed .now) (a .spares .now) (d .ensures .1 j) (d .ensures .2 j))
 
+same-counts-requires-2 : tie.Need-same-counts-requires-2
+same-counts-requires-2 c κs = search needs
+
 same-length-5 : tie.Need-same-length-5
 same-length-5 c = search needs
 
 returns-3 : tie.Need-returns-3
 returns-3 c =
-    let w = c .before .before .before .before .before in
+    let w = c .before .before .before .before .before .before in
     let s = start w in
     let a = s .args in
-    left-spent (here s) (s .pre) (a .id) (a .slice) (a .level) (a .rect) (count w) (recording w) (c .before .before .before .before .before .before .before .before .before .before .find-texture .result) (c .before .before .before .before .before .before .before .before .before .before .find-texture .ensures) (c .before .before .before .texture-at .result) (c .before .before .before .texture-at .ensures)
-    (sym (c .before .before .in-shape .ensures) ∙ not-false _ (c .before .if1 .left)) (c .if2 .taken)
+    rw (c .same-counts2 .ensures) (left-spent (here s) (s .pre) (a .id) (a .slice) (a .level) (a .rect) (count w) (recording w) (c .before .before .before .before .before .before .before .before .before .before .before .find-texture .result) (c .before .before .before .before .before .before .before .before .before .before .before .find-texture .ensures) (c .before .before .before .before .texture-at .result) (c .before .before .before .before .texture-at .ensures)
+    (sym (c .before .before .before .in-shape .ensures) ∙ not-false _ (c .before .before .if1 .left)) (c .before .if2 .taken))
 
 add-stamp-subresource : tie.Need-add-stamp-subresource
 add-stamp-subresource c = search needs
@@ -123,8 +129,8 @@ stamp-subresource-requires c κs =
       ap (λ (t : TextureRecord). inShape (t .shape) (a .slice) (a .level)) (sym (c .before .before .before .before .before .before .texture-at .ensures)) ∙ sym (c .before .before .before .before .before .in-shape .ensures) ∙ not-false _ (c .before .before .before .before .if1 .left),
     )
 
-add-t44 : tie.Need-add-t44
-add-t44 c = search needs
+add-t46 : tie.Need-add-t46
+add-t46 c = search needs
 
 set-history-requires-2 : tie.Need-set-history-requires-2
 set-history-requires-2 c κs = (held (c .before .before .before .before .before .before .before .before .before .before .before .before .before .before) .there, omega (arith, c .before .before .before .before .before .before .before .before .before .if2 .left))
@@ -156,6 +162,7 @@ note-write-spec =
     history-at-requires
     enum-known-history
     enum-told
+    same-counts-requires
     same-length
     returns
     texture-at-requires
@@ -166,11 +173,12 @@ note-write-spec =
     same-length-3
     same-length-4
     returns-2
+    same-counts-requires-2
     same-length-5
     returns-3
     add-stamp-subresource
     stamp-subresource-requires
-    add-t44
+    add-t46
     set-history-requires-2
     same-length-6
     same-length-7
