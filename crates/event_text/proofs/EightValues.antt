@@ -12,7 +12,7 @@ use Rattle.event_text.specs.Numbers.{value, decimal}
 use Rattle.event_text.proofs.Lanes.{Below, lanes}
 
 -- of each number the lower half
-halves : (k j : ℕ) (xs : List ℕ) → Below k (λ x. x) xs → Below k (λ x. 2 ^ j - 1) xs
+pub halves : (k j : ℕ) (xs : List ℕ) → Below k (λ x. x) xs → Below k (λ x. 2 ^ j - 1) xs
     → bitAnd (packed k (map (λ x. x) xs)) (packed k (map (λ x. 2 ^ j - 1) xs)) ≡ packed k (map (λ x. x % 2 ^ j) xs)
 halves k j xs p q = lanes bitAnd and-block refl k (λ x. x) (λ x. 2 ^ j - 1) xs p q ∙ ap (packed k) (same xs)
   where

@@ -3,6 +3,7 @@ pub mod EightRead
 pub mod EightValues
 pub mod Fields
 pub mod FirstLines
+pub mod FourDigits
 pub mod Lanes
 pub mod Leading
 pub mod Marks

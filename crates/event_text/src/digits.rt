@@ -3,7 +3,14 @@ ghost use mathlib.Core.Path.{_≡_};
 ghost use Prim.Native.Nat.{_+_, _≤_, _<_};
 ghost use lib.ListN.{length};
 ghost use lib.Seq.{sets};
+ghost use Rattle.event_text.specs.Eight.{packed};
 ghost use Rattle.event_text.specs.Numbers.{digitsOf, lastDigits};
+
+// The lower four bits of each of two numbers of sixteen.
+const LOW_OF_PAIRS: u64 = 983055;
+
+// "0" in each of four bytes.
+const ZEROS: u64 = 808464432;
 
 // The byte of a digit.
 fn digit(n: u64) -> u8
@@ -13,17 +20,27 @@ fn digit(n: u64) -> u8
     b'0' + n as u8
 }
 
-// The last four digits of a number.
+// Four digits, a byte each, the first as the lowest. Both hundreds are cut into digits at once: 103 / 1024 is a tenth, near enough below 100.
+fn four_digits(n: u64) -> u64
+    requires { ⌜ n < 10000 ⌝ }
+    ensures { λ r. ⌜ r ≡ packed 8 (lastDigits 4 n) ⌝ }
+{
+    let high = n / 100;
+    let pairs = high + (n - high * 100) * 65536;
+    let tens = (pairs * 103 / 1024) & LOW_OF_PAIRS;
+    tens + (pairs - tens * 10) * 256 + ZEROS
+}
+
+// The four digits of a number below 10,000, which the compiler can store at once.
 fn put_four(out: &mut [u8], at: usize, n: u64)
-    requires { ⌜ at + 4 ≤ length (now out) ⌝ }
+    requires { ⌜ (n < 10000) × (at + 4 ≤ length (now out)) ⌝ }
     ensures { λ _. ⌜ now (out .exit) ≡ sets (now (out .entry)) at (lastDigits 4 n) ⌝ }
 {
-    let tens = n / 10;
-    let hundreds = tens / 10;
-    out[at] = digit(hundreds / 10 % 10);
-    out[at + 1] = digit(hundreds % 10);
-    out[at + 2] = digit(tens % 10);
-    out[at + 3] = digit(n % 10);
+    let word = four_digits(n);
+    out[at] = (word % 256) as u8;
+    out[at + 1] = (word / 256 % 256) as u8;
+    out[at + 2] = (word / 65536 % 256) as u8;
+    out[at + 3] = (word / 16777216 % 256) as u8;
 }
 
 // The digits of a number below 10,000. Answers where they end.
@@ -51,9 +68,9 @@ fn put_small(out: &mut [u8], at: usize, n: u64) -> usize
     at + 4
 }
 
-// The last eight digits of a number.
+// The eight digits of a number below 100,000,000.
 fn put_eight(out: &mut [u8], at: usize, n: u64)
-    requires { ⌜ at + 8 ≤ length (now out) ⌝ }
+    requires { ⌜ (n < 100000000) × (at + 8 ≤ length (now out)) ⌝ }
     ensures { λ _. ⌜ now (out .exit) ≡ sets (now (out .entry)) at (lastDigits 8 n) ⌝ }
 {
     put_four(out, at, n / 10000);

@@ -1,18 +1,21 @@
 -- `put_four` meets its contract. Assumes nothing.
 use borrow.Author.Needs.{needs}
 use lib.ListN.{length-set}
-use Rattle.event_text.proofs.ShortNumbers.{four-last}
+use Rattle.event_text.proofs.FourDigits.{four-stored}
 use Rattle.event_text.proofs.digits.put_four.Statement.{statement}
 use Rattle.event_text.proofs.digits.put_four.Tie as tie
 
-digit-requires : tie.Need-digit-requires
-digit-requires c κs = search needs
+four-digits-requires : tie.Need-four-digits-requires
+four-digits-requires c κs = search needs
+
+cast-out : tie.Need-cast-out
+cast-out c = search needs
 
 slice-write-out : tie.Need-slice-write-out
 slice-write-out c = search needs
 
-digit-requires-2 : tie.Need-digit-requires-2
-digit-requires-2 c κs = search needs
+cast-out-2 : tie.Need-cast-out-2
+cast-out-2 c = search needs
 
 add-out : tie.Need-add-out
 add-out c = search needs
@@ -20,8 +23,8 @@ add-out c = search needs
 slice-write-out-2 : tie.Need-slice-write-out-2
 slice-write-out-2 c = simp length-set (search needs)
 
-digit-requires-3 : tie.Need-digit-requires-3
-digit-requires-3 c κs = search needs
+cast-out-3 : tie.Need-cast-out-3
+cast-out-3 c = search needs
 
 add-out-2 : tie.Need-add-out-2
 add-out-2 c = search needs
@@ -29,8 +32,8 @@ add-out-2 c = search needs
 slice-write-out-3 : tie.Need-slice-write-out-3
 slice-write-out-3 c = simp length-set (search needs)
 
-digit-requires-4 : tie.Need-digit-requires-4
-digit-requires-4 c κs = search needs
+cast-out-4 : tie.Need-cast-out-4
+cast-out-4 c = search needs
 
 add-out-3 : tie.Need-add-out-3
 add-out-3 c = search needs
@@ -42,23 +45,22 @@ same-length : tie.Need-same-length
 same-length c = search needs
 
 returns : tie.Need-returns
-returns c =
-    let a = c .before .before .before in
-    four-last _ _ _ _ _ _ _ (a .digit .ensures) (c .before .before .digit2 .ensures) (c .before .digit3 .ensures) (c .digit4 .ensures)
+returns c = four-stored _ (c .before .before .args .at) (c .before .before .args .n) _ (c .four-digits .ensures)
 
 pub put-four-spec : {M : Type 1} → statement M
 put-four-spec =
     tie.close
     (tie.spec
-    digit-requires
+    four-digits-requires
+    cast-out
     slice-write-out
-    digit-requires-2
+    cast-out-2
     add-out
     slice-write-out-2
-    digit-requires-3
+    cast-out-3
     add-out-2
     slice-write-out-3
-    digit-requires-4
+    cast-out-4
     add-out-3
     slice-write-out-4
     same-length
