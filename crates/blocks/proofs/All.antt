@@ -5,7 +5,7 @@ use mathlib.Core.List.{List, [], _∷_, _++_, map, flatMap}
 use Prim.Native.Nat.{ℕ, zero, suc, _+_, _<_}
 use native.Mathlib.Nat.{add-zero, not-suc-le-zero, le-of-suc-le-suc}
 use native.Mathlib.Omega.{arith}
-use lib.ListN.{length, getD, take, drop}
+use lib.ListN.{length, getD, drop}
 use Rattle.blocks.specs.Lists.{listed, keep}
 use Rattle.blocks.specs.All.{All, nil, cons}
 
@@ -27,11 +27,6 @@ module _ {ℓ} {A : Type ℓ} {P : A → Type 0} where
   pub all-right : (xs : List A) {ys : List A} → All P (xs ++ ys) → All P ys
   all-right [] p = p
   all-right (x ∷ xs) (cons p ps) = all-right xs ps
-
-  pub all-take : (n : ℕ) {xs : List A} → All P xs → All P (take n xs)
-  all-take zero p = nil
-  all-take (suc n) nil = nil
-  all-take (suc n) (cons p ps) = cons p (all-take n ps)
 
   pub all-drop : (n : ℕ) {xs : List A} → All P xs → All P (drop n xs)
   all-drop zero p = p

@@ -6,7 +6,7 @@ use native.Mathlib.Numerals.{add-one}
 use native.Mathlib.Nat.{add-suc}
 use native.Mathlib.Omega.{arith}
 use lib.ListN.{length, take, drop, getD, set, replicate, length-append, length-drop, length-reverse, length-replicate, getD-replicate, take-append-drop, List·getD-append}
-use lib.Seq.{paste, paste-zero, paste-suc, length-paste, drop-paste, getD-drop, getD-append-add, drop-cons, take-suc-set, set-append-left, take-set-lt, append-snoc, length-take-le, getD-take, sets, sets-eq, take-all, take-append-seam, drop-append-seam, drop-append-add, take-append-le, take-take, drop-at, drop-drop, set-at, take-at}
+use lib.Seq.{paste, paste-zero, paste-suc, drop-paste, getD-drop, getD-append-add, drop-cons, take-suc-set, set-append-left, take-set-lt, append-snoc, length-take-le, getD-take, sets, sets-eq, take-all, take-append-seam, drop-append-seam, drop-append-add, take-append-le, take-take, drop-at, drop-drop, set-at, take-at}
 use Rattle.blocks.specs.Lists.{over}
 use Rattle.blocks.specs.Blocks.{moved, turned, rotated}
 
@@ -15,10 +15,6 @@ use Rattle.blocks.specs.Blocks.{moved, turned, rotated}
 pub moved-none : (s : List ℕ) (to from : ℕ) → s ≡ moved s to from 0
 unfolding moved
 moved-none s to from = paste-zero s to (drop from s)
-
-pub length-moved : (s : List ℕ) (to from n : ℕ) → to + n ≤ length s → from + n ≤ length s → length (moved s to from n) ≡ length s
-unfolding moved
-length-moved s to from n h k = length-paste s to (drop from s) n h (omega (arith, length-drop from s))
 
 module _ (s₀ : List ℕ) (at k n : ℕ) (fits : at + k + n ≤ length s₀) where
   -- a turn of the loop that moves down
@@ -188,13 +184,6 @@ module _ {ℓ} {A : Type ℓ} where
       sym (ap (λ (l : List A). take at s ++ (take n (drop at s) ++ l)) (sym (drop-drop n at s))
       ∙ ap (λ (l : List A). take at s ++ l) (take-append-drop n (drop at s))
       ∙ take-append-drop at s)
-
-  pub length-turned : (at n : ℕ) (s : List A) → at + n ≤ length s → length (turned at n s) ≡ length s
-  unfolding turned
-  length-turned at n s h =
-      let f = length-take-le at s (omega arith) in
-      let m = length-take-le n (drop at s) (omega (arith, length-drop at s)) in
-      simp (length-append, length-reverse, length-drop, f, m) (omega arith)
 
   -- of no element and of one, nothing changes
   pub turned-none : (at n : ℕ) (s : List A) → at + n ≤ length s → n ≤ 1 → turned at n s ≡ s

@@ -95,10 +95,6 @@ module _ {ℓ} {A : Type ℓ} (f : ℕ → A) (n : ℕ) where
   unfolding left listed
   left-none i h = let e : n - i ≡ 0 = omega arith in rw e
 
-  pub length-left : (i : ℕ) → length (left f n i) ≡ n - i
-  unfolding left
-  length-left i = length-listed f i (n - i)
-
   -- those before i, and those from i on
   pub left-split : (i : ℕ) → i ≤ n → listed f 0 n ≡ listed f 0 i ++ left f n i
   unfolding left

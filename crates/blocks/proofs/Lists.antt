@@ -120,15 +120,6 @@ module _ {ℓ} {A : Type ℓ} (p : A → Bool) where
       go true e = ap (λ (l : List A). x ∷ l) e
       go false e = e
 
-  pub all-keep : (xs : List A) → all p (keep p xs) ≡ true
-  unfolding keep all
-  all-keep [] = refl
-  all-keep (x ∷ xs) = go (p x) refl (all-keep xs)
-    where
-      go : (b : Bool) → p x ≡ b → all p (keep p xs) ≡ true → all p (cond b (x ∷ keep p xs) (keep p xs)) ≡ true
-      go true e r = ap₂ (λ (c d : Bool). c && d) e r
-      go false e r = r
-
   pub length-keep : (xs : List A) → length (keep p xs) ≤ length xs
   unfolding keep
   length-keep [] = omega arith

@@ -1,7 +1,7 @@
 -- Laws of division rounded up. Assumes nothing.
 use mathlib.Core.Path.{_≡_, sym, ap, _∙_}
-use Prim.Native.Nat.{ℕ, zero, suc, _+_, _*_, _-_, _/_, _≤_, _<_}
-use native.Mathlib.Nat.{suc-mul, div-mul-le-self, lt-div-mul-add, le-div-iff-mul-le, div-lt-iff-lt-mul, div-zero, one-mul, mul-suc, mul-add, mul-le-mul-left}
+use Prim.Native.Nat.{ℕ, suc, _+_, _*_, _-_, _/_, _≤_, _<_}
+use native.Mathlib.Nat.{suc-mul, div-mul-le-self, lt-div-mul-add, le-div-iff-mul-le, div-lt-iff-lt-mul, one-mul, mul-suc, mul-add, mul-le-mul-left}
 use native.Mathlib.Omega.{arith}
 use Rattle.blocks.specs.Lists.{ceilDiv}
 
@@ -18,13 +18,6 @@ ceil-least a b h = let k = div-mul-le-self (a + (b - 1)) b in omega arith
 pub ceil-pos : (a b : ℕ) → 0 < b → 0 < a → 0 < ceilDiv a b
 unfolding ceilDiv
 ceil-pos a b h k = le-div-iff-mul-le {k = b} {x = 1} {y = a + (b - 1)} h .1 (omega (arith, one-mul b))
-
-pub ceil-mono : (a c b : ℕ) → a ≤ c → ceilDiv a b ≤ ceilDiv c b
-unfolding ceilDiv
-ceil-mono a c zero h = omega (arith, div-zero (a + (0 - 1)))
-ceil-mono a c (suc b) h =
-    let k = div-mul-le-self (a + (suc b - 1)) (suc b) in
-    le-div-iff-mul-le {k = suc b} {x = (a + (suc b - 1)) / suc b} {y = c + (suc b - 1)} (omega arith) .1 (omega arith)
 
 -- the part that x lies in is one of those that cover a
 pub ceil-below : (x a b : ℕ) → 0 < b → x < a → x / b < ceilDiv a b

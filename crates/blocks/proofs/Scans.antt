@@ -4,7 +4,7 @@ use mathlib.Core.List.{List, [], _∷_, _++_}
 use mathlib.Core.Bool.{Bool, true, false, _&&_, _||_}
 use Prim.Native.Nat.{ℕ, zero, suc, _+_, _≤_, _<_, max}
 use native.Mathlib.Numerals.{add-one}
-use native.Mathlib.Nat.{max-zero, zero-max}
+use native.Mathlib.Nat.{max-zero}
 use native.Mathlib.Decide.{decLt}
 use native.Mathlib.Omega.{arith}
 use borrow.Author.Tests.{leb-true, le-leb, eqb-true, eq-eqb}
@@ -129,11 +129,6 @@ module _ (b i : ℕ) (s : List ℕ) where
       joined true c d e = refl
 
 -- ---- the largest
-
-pub largest-append : (xs ys : List ℕ) → largest (xs ++ ys) ≡ max (largest xs) (largest ys)
-unfolding largest
-largest-append [] ys = sym (zero-max (largest ys))
-largest-append (x ∷ xs) ys = let e = largest-append xs ys in omega arith
 
 pub largest-more : (m i : ℕ) (s : List ℕ) → i < length s → max m (largest (from i s)) ≡ max (max m (getD s i 0)) (largest (from (i + 1) s))
 unfolding largest

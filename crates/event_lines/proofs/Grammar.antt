@@ -16,18 +16,15 @@ use Rattle.event_text.specs.Fields.{same, behind, firstField, firstLine}
 use Rattle.event_text.specs.Numbers.{isNumber, decimal, value}
 use Rattle.event_text.specs.Searches.{indexOf}
 use Rattle.event_text.proofs.Fields.{fields-first, same-true, same-self}
-use Rattle.event_text.proofs.Leading.{until}
+use Rattle.event_text.proofs.Leading.{no-way, until}
 use Rattle.event_text.proofs.FirstLines.{stops, line-until, until-found, until-length}
 use Rattle.event_lines.specs.declared.event.Word.{Word}
 use Rattle.event_lines.specs.declared.event.Event.{Event}
 use Rattle.event_lines.specs.Words.{Starts}
 use Rattle.event_lines.specs.Grammar.{Kind, below, held, dash, isKind, areKinds, kindsOf, heldBy, num, eventBy, event, eventOf}
-use Rattle.event_lines.specs.Reading.{Scanned, unreadFields, mayBe, scanFields, scan, most, limitsOf, limitTests, fits, numbersMade, dashMade}
+use Rattle.event_lines.specs.Reading.{Scanned, unreadFields, mayBe, scanFields, scan, limitsOf, limitTests, fits, numbersMade, dashMade}
 use Rattle.event_lines.proofs.Reading.{number-no-dash, scan-behind}
 use Rattle.event_lines.proofs.Limits.{word-numbers}
-
-no-way {ℓ} : {A : Type ℓ} → false ≡ true → A
-no-way e = absurd (let z : _≡_ {A = ℕ} 0 1 = cc in let y : ⊥ = omega arith in y)
 
 -- ---- what `scanFields` leaves
 
@@ -46,7 +43,7 @@ areFields i (f ∷ fs) = mayBe i f && areFields (suc i) fs
 
 scan-unread : (i : ℕ) (vs : List ℕ) (d : Bool) (fs : List (List ℕ)) → areFields i fs ≡ false → scanFields i vs d fs ≡ unreadFields
 unfolding scanFields areFields
-scan-unread i vs d [] e = no-way (sym e)
+scan-unread i vs d [] e = no-way e
 scan-unread i vs d (f ∷ fs) e = go (mayBe i f) (scan-unread (suc i) (set vs i (decimal f)) (d || same f dash) fs) e
   where
     go : (t : Bool) → (areFields (suc i) fs ≡ false → scanFields (suc i) (set vs i (decimal f)) (d || same f dash) fs ≡ unreadFields) → t && areFields (suc i) fs ≡ false
@@ -122,7 +119,7 @@ may-plain i f n e = go (isNumber f) (may-bound i f e .1)
   where
     go : (t : Bool) → t || (eqb i 1 && same f dash) ≡ true → t ≡ true
     go true q = refl
-    go false q = no-way (sym (ap (λ (u : Bool). u && same f dash) (ne-eqb i 1 n)) ∙ q)
+    go false q = no-way (sym q ∙ ap (λ (u : Bool). u && same f dash) (ne-eqb i 1 n))
 
 plain : (i : ℕ) (fs : List (List ℕ)) → 2 ≤ i → areFields i fs ≡ true → all isNumber fs ≡ true
 unfolding areFields all
@@ -192,8 +189,8 @@ kind-may i held f o e = let q = and-both (ltb i 9) (eqb i 1) o in rw (q .0, q .1
 kinds-fields : (i : ℕ) (ks : List Kind) (fs : List (List ℕ)) → okKinds i ks ≡ true → areKinds ks fs ≡ true → areFields i fs ≡ true
 unfolding okKinds areKinds areFields
 kinds-fields i [] [] o e = refl
-kinds-fields i [] (f ∷ fs) o e = no-way e
-kinds-fields i (k ∷ ks) [] o e = no-way e
+kinds-fields i [] (f ∷ fs) o e = no-way (sym e)
+kinds-fields i (k ∷ ks) [] o e = no-way (sym e)
 kinds-fields i (k ∷ ks) (f ∷ fs) o e =
     let p = and-both (okKind i k) (okKinds (suc i) ks) o in
     let q = and-both (isKind k f) (areKinds ks fs) e in
@@ -320,7 +317,7 @@ checked-event w fs = go (areFields 0 fs) refl
         ∙ sym (view-made w fs e)
     go false e =
         ap (checked w) (scan-unread 0 (replicate 9 0) false fs e)
-        ∙ sym (not-kinds w fs (not-passed (areKinds (kindsOf w) fs) (λ q. no-way (sym e ∙ kinds-fields 0 (kindsOf w) fs (word-ok w) q))))
+        ∙ sym (not-kinds w fs (not-passed (areKinds (kindsOf w) fs) (λ q. no-way (sym (kinds-fields 0 (kindsOf w) fs (word-ok w) q) ∙ e))))
 
 -- ---- the first line of a text
 

@@ -1,9 +1,9 @@
 -- Laws of digits read several at a time. Assumes nothing.
-use mathlib.Core.Path.{_≡_, refl, sym, ap, ap₂, _∙_, subst}
+use mathlib.Core.Path.{_≡_, refl, sym, ap, ap₂, _∙_}
 use mathlib.Core.Bool.{Bool, true, false, cond, _&&_}
 use mathlib.Core.List.{List, [], _∷_, _++_, append-nil}
 use Prim.Native.Nat.{ℕ, zero, suc, _+_, _*_, _-_, _^_, _≤_, _<_}
-use native.Mathlib.Nat.{add-mul, mul-assoc, mul-comm, add-assoc, add-zero, zero-add, mul-one, pow-suc, add-suc, one-le-pow, pow-le-pow-right}
+use native.Mathlib.Nat.{add-mul, mul-assoc, mul-comm, add-assoc, add-zero, zero-add, mul-one, pow-suc}
 use native.Mathlib.Omega.{arith}
 use borrow.Author.Tests.{leb-true, eqb-true}
 use lib.Arith.{digits-lt}

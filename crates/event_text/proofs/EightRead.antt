@@ -1,11 +1,11 @@
 -- Laws of the digits that eight bytes start with: the lowest mark says how many there are, and moved up to the end they are the number. Assumes nothing.
 use mathlib.Core.Path.{_≡_, refl, sym, ap, ap₂, _∙_, subst}
-use mathlib.Core.Bool.{Bool, true, false, cond, _&&_}
+use mathlib.Core.Bool.{Bool, true, false, cond}
 use mathlib.Core.List.{List, [], _∷_, _++_, map, map-append}
-use Prim.Native.Nat.{ℕ, zero, suc, _+_, _*_, _-_, _/_, _%_, _^_, _≤_, _<_}
+use Prim.Native.Nat.{ℕ, zero, suc, _+_, _*_, _-_, _%_, _^_, _≤_, _<_}
 use native.Mathlib.Nat.{min-le-left, lt-of-lt-of-le}
 use native.Mathlib.Omega.{arith}
-use lib.Bits.{bitXor, xor-lt}
+use lib.Bits.{bitXor}
 use lib.Count.{trailingZeros, trailing-le}
 use lib.Pow.{pow-mono}
 use lib.ListN.{length, take, drop, getD, replicate, length-take, length-drop, length-append, length-map, length-replicate}
@@ -13,11 +13,10 @@ use lib.Seq.{length-take-le, getD-drop, drop-drop, take-add}
 use Rattle.blocks.specs.Lists.{all}
 use Rattle.blocks.proofs.Lists.{not-passed}
 use Rattle.blocks.proofs.Scans.{four-read}
-use Rattle.event_text.specs.declared.eight.EightDigits.{EightDigits}
 use Rattle.event_text.specs.Eight.{packed, marksOf, valueOf, eightDigits}
 use Rattle.event_text.specs.Numbers.{isDigit, value, decimal, leadingDigits}
 use Rattle.event_text.proofs.DigitBlocks.{digit-small, lead-all}
-use Rattle.event_text.proofs.Lanes.{Below, packed-below, packed-append, packed-zeros, moved-up}
+use Rattle.event_text.proofs.Lanes.{packed-below, packed-append, packed-zeros, moved-up}
 use Rattle.event_text.proofs.Marks.{plain, plain-digit, mark, Bytes, below-by, map-itself, plain-word, marks-word, lowest-mark, no-mark, all-unmarked}
 use Rattle.event_text.proofs.EightValues.{Digits, digitsIn, value-eight, room-eight}
 

@@ -1,18 +1,15 @@
 -- Laws of fields and words. Assumes nothing.
-use mathlib.Core.Path.{_≡_, refl, sym, ap, ap₂, _∙_}
+use mathlib.Core.Path.{_≡_, refl, ap, ap₂}
 use mathlib.Core.Bool.{Bool, true, false, cond, _&&_}
 use mathlib.Core.List.{List, [], _∷_}
-use Prim.Native.Nat.{ℕ, suc, _+_, _-_, _≤_, _<_}
-use native.Mathlib.Numerals.{add-one}
-use native.Mathlib.Nat.{add-zero, zero-add}
+use Prim.Native.Nat.{ℕ, suc, _+_, _≤_, _<_}
 use native.Mathlib.Omega.{arith}
 use borrow.Author.Tests.{eq-eqb, ne-eqb, eqb-true}
 use lib.Dec.{eqb}
-use lib.ListN.{length, take, drop, getD, length-drop, drop-of-length-le}
-use lib.Seq.{drop-cons, drop-drop}
+use lib.ListN.{length, drop, getD}
 use Rattle.blocks.proofs.Lists.{and-both}
 use Rattle.blocks.proofs.Scans.{from, from-step, from-none}
-use Rattle.event_text.specs.Fields.{comma, inFirst, fieldsOf, firstField, fieldEnd, behind, same}
+use Rattle.event_text.specs.Fields.{comma, inFirst, fieldsOf, firstField, behind, same}
 
 -- ---- the first field and those behind it
 

@@ -5,17 +5,14 @@ use mathlib.Core.List.{List, [], _∷_}
 use Prim.Native.Nat.{ℕ, suc, _+_, _≤_, _<_}
 use native.Mathlib.Nat.{add-zero, zero-add}
 use native.Mathlib.Omega.{arith}
-use borrow.Author.Tests.{eq-eqb, ne-eqb, eqb-true, eqb-false}
+use borrow.Author.Tests.{eqb-true}
 use lib.Dec.{eqb}
 use lib.ListN.{length, take, drop, getD}
 use Rattle.blocks.proofs.Scans.{from, from-step, from-none}
 use Rattle.event_text.specs.Fields.{firstField, firstLine}
 use Rattle.event_text.specs.Numbers.{isDigit, leadingDigits}
 use Rattle.event_text.specs.Searches.{indexOf}
-use Rattle.event_text.proofs.Leading.{until}
-
-no-way {ℓ} : {A : Type ℓ} → true ≡ false → A
-no-way e = absurd (let z : _≡_ {A = ℕ} 0 1 = cc in let y : ⊥ = omega arith in y)
+use Rattle.event_text.proofs.Leading.{no-way, until}
 
 -- a comma or a line feed
 abbrev pub stops : ℕ → Bool

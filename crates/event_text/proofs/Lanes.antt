@@ -1,9 +1,8 @@
 -- Laws of numbers packed into one: operations on bits go number by number. Assumes nothing.
 use mathlib.Core.Path.{_≡_, sym, ap, _∙_, subst}
 use mathlib.Core.List.{List, [], _∷_, _++_, map}
-use Prim.Native.Nat.{ℕ, zero, suc, _+_, _*_, _-_, _/_, _%_, _^_, _≤_, _<_}
-use native.Mathlib.Nat.{add-mul, mul-assoc, mul-comm, add-assoc, add-comm, zero-mul, mul-one, add-zero, suc-mul}
-use native.Mathlib.Omega.{arith}
+use Prim.Native.Nat.{ℕ, zero, suc, _+_, _*_, _%_, _^_, _<_}
+use native.Mathlib.Nat.{add-mul, mul-assoc, add-assoc, zero-mul, mul-one, add-zero, suc-mul}
 use lib.Arith.{digits-lt}
 use lib.Pow.{pow-add, pow-pos, low, shl-lt}
 use lib.ListN.{length, replicate}

@@ -9,9 +9,8 @@ use lib.Dec.{eqb}
 use lib.ListN.{length, drop, getD, List·getD-eq-default}
 use lib.Seq.{getD-drop}
 use Rattle.blocks.specs.Lists.{all, tests, after}
-use Rattle.event_text.specs.declared.number.NumberAt.{NumberAt}
 use Rattle.event_text.specs.declared.number.NumberAt.the-variants.{Ends, Malformed}
-use Rattle.event_text.specs.Fields.{comma, firstField, fieldEnd}
+use Rattle.event_text.specs.Fields.{firstField, fieldEnd}
 use Rattle.event_text.specs.Numbers.{isDigit, decimal, isNumber, numberAt, leadingDigits, digitsAt}
 
 pub no-way {ℓ} : {A : Type ℓ} → true ≡ false → A

@@ -3,16 +3,15 @@ use mathlib.Core.Path.{_≡_, refl, sym, ap, ap₂, _∙_}
 use mathlib.Core.Bool.{Bool, true, false, cond, _&&_}
 use mathlib.Core.List.{List, [], _∷_, _++_}
 use Prim.Native.Nat.{ℕ, zero, suc, _+_, _*_, _-_, _/_, _%_, _^_, _≤_, _<_}
-use native.Mathlib.Nat.{add-zero, mod-eq-of-lt, pow-suc, div-lt-iff-lt-mul}
+use native.Mathlib.Nat.{pow-suc, div-lt-iff-lt-mul}
 use native.Mathlib.Omega.{arith}
-use borrow.Author.Tests.{lt-ltb, le-ltb, ltb-true, ltb-false, le-leb}
+use borrow.Author.Tests.{lt-ltb, ltb-true, ltb-false, le-leb}
 use lib.Dec.{ltb}
-use lib.ListN.{length, getD, set, length-append, List·getD-append}
-use lib.Seq.{sets, set-comm}
+use lib.ListN.{length, getD, length-append, List·getD-append}
 use Rattle.blocks.specs.Lists.{all, tests, after}
 use Rattle.blocks.proofs.Lists.{all-append}
 use Rattle.event_text.specs.declared.number.Number.the-variants.{Is}
-use Rattle.event_text.specs.Numbers.{isDigit, value, decimal, isNumber, numberOf, digits, digitsOf, lastDigits}
+use Rattle.event_text.specs.Numbers.{isDigit, value, decimal, isNumber, numberOf, digits, digitsOf}
 
 -- ---- a number printed and read is the number
 

@@ -1,5 +1,5 @@
 -- The digits that eight bytes start with, and the numbers by which they are told at once.
-use Prim.Native.Nat.{ℕ, zero, suc, _+_, _*_, _/_, _^_}
+use Prim.Native.Nat.{ℕ, _+_, _*_, _/_, _^_}
 use mathlib.Core.List.{List, [], _∷_}
 use lib.Bits.{bitAnd, bitOr}
 use lib.ListN.{length, take, drop}

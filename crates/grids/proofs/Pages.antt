@@ -19,11 +19,8 @@ use Rattle.grids.specs.Grids.{Tiling, TilingOk, columnsOf, rowsOf, stamp
 use Rattle.grids.specs.Scans.{rowsStamped, tilesStamped, StampRoom}
 use Rattle.tiles.proofs.Axes.{touched-between, touched-from, touched-to, last-tile-in, first-last, Found, tiles-found}
 use Rattle.grids.proofs.RowByRow.{tile-place, tile-at, same-tiles}
-use Rattle.grids.proofs.Stamps.{length-stamped, stamped-tile, stamp-in, touches-cut}
+use Rattle.grids.proofs.Stamps.{clash, length-stamped, stamped-tile, stamp-in, touches-cut}
 use Rattle.grids.proofs.Rows.{length-rows-stamped, rows-out, rows-in, rows-past}
-
-clash : {A : Type 0} → true ≡ false → A
-clash q = absurd (let z : _≡_ {A = ℕ} 0 1 = cc in let y : ⊥ = omega arith in y)
 
 module _ (g : Tiling) (ok : TilingOk g) (r : TexelRect) (n newest : ℕ) (page : List ℕ) (room : stampCount g ≤ length page) where
   -- the stamps of the page's grid after the write

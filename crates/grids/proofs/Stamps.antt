@@ -5,13 +5,16 @@ use mathlib.Core.List.{List}
 use Prim.Native.Nat.{ℕ, _+_, _*_, _/_, _≤_, _<_}
 use native.Mathlib.Omega.{arith}
 use lib.ListN.{length, length-replicate}
-use lib.Seq.{getD-take, length-take-le}
+use lib.Seq.{getD-take}
 use Rattle.blocks.proofs.Lists.{and-both}
 use Rattle.rects.specs.declared.rect.TexelRect.{TexelRect}
 use Rattle.tiles.specs.Axes.{touched}
 use Rattle.grids.specs.Grids.{Tiling, TilingOk, columnsOf, rowsOf, stampCount, StampGrid, newGrid, gridIn, stampOf, touches, isCutRect, stampedBy}
 use Rattle.tiles.proofs.Axes.{touched-texel, touched-has, cut-texel, tile-in}
 use Rattle.grids.proofs.RowByRow.{tile-place, length-rows, value-at}
+
+pub clash : {A : Type 0} → true ≡ false → A
+clash q = absurd (let z : _≡_ {A = ℕ} 0 1 = cc in let y : ⊥ = omega arith in y)
 
 -- a texel of the level
 pub record InLevel (g : Tiling) (x y : ℕ) : Type 0 where
@@ -110,20 +113,13 @@ module _ (g : Tiling) (ok : TilingOk g) where
       where
         go : (b : Bool) → touches g r (x / g .across .edge) (y / g .down .edge) ≡ b → (stampAt g (grid .stamps) x y ≤ held) × (InRect r x y → ⊥)
         go true e = let m : n ≤ held = rw (stamped-texel x y h, e) at le in absurd (omega arith)
-        go false e = (rw (stamped-texel x y h, e) at le, λ k. absurd (clash (sym (touches-texel r x y h k) ∙ e)))
-          where
-            clash : true ≡ false → ⊥
-            clash q = let z : _≡_ {A = ℕ} 0 1 = cc in omega arith
+        go false e = (rw (stamped-texel x y h, e) at le, λ k. clash (sym (touches-texel r x y h k) ∙ e))
 
 -- ---- the grid of a new history, and the grid that a page holds
 
 pub new-length : (g : Tiling) → length (newGrid g .stamps) ≡ stampCount g
 unfolding newGrid
 new-length g = length-replicate (stampCount g) 0
-
-pub length-in : (g : Tiling) (newest : ℕ) (page : List ℕ) → stampCount g ≤ length page → length (gridIn g newest page .stamps) ≡ stampCount g
-unfolding gridIn
-length-in g newest page h = length-take-le (stampCount g) page h
 
 pub stamp-in : (g : Tiling) (newest : ℕ) (page : List ℕ) (column row : ℕ) → column < columnsOf g → row < rowsOf g
     → stampOf (columnsOf g) (gridIn g newest page .stamps) column row ≡ stampOf (columnsOf g) page column row

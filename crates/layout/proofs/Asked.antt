@@ -7,7 +7,7 @@ use Rattle.layout.specs.Lent.{Lent}
 use Rattle.layout.specs.Reading.{modelOf}
 use Rattle.layout.specs.Writing.{after}
 use Rattle.layout.specs.IsPool.{isPool}
-use Rattle.layout.specs.Calls.{Told, refusal, answer, writtenBack, asked}
+use Rattle.layout.specs.Calls.{refusal, answer, writtenBack, asked}
 
 -- a refusal that does not apply, and one that does
 pub guard-passed : {A : Type 0} (b : Bool) (n : ℕ) (out : Out ℕ A) → b ≡ false → guard b n out ≡ out

@@ -3,7 +3,7 @@ use mathlib.Core.Path.{_≡_, refl, sym, ap, ap₂, _∙_, subst}
 use mathlib.Core.Bool.{true}
 use mathlib.Core.Option.{Option, none, some}
 use mathlib.Core.List.{List, [], _∷_}
-use Prim.Native.Nat.{ℕ, zero, suc, _+_, _*_, _%_, _≤_, _<_}
+use Prim.Native.Nat.{ℕ, _+_, _*_, _%_, _≤_, _<_}
 use native.Mathlib.Nat.{zero-add, mul-comm}
 use native.Mathlib.Omega.{arith}
 use borrow.Author.Tests.{ltb-true, leb-true, eqb-true}
@@ -22,7 +22,7 @@ use Rattle.grids.proofs.Tilings.{tiling-ok, count-bound}
 use Rattle.grids.proofs.RowByRow.{tile-place}
 use Rattle.stores.specs.declared.held.Held.{Held}
 use Rattle.stores.specs.declared.held.Held.the-variants.{Known, Unknown}
-use Rattle.stores.specs.Model.{WriteHistory, Spare, Retiring, Doomed, Places, pagesOf, handCount, versionsUsed}
+use Rattle.stores.specs.Model.{WriteHistory, Spare, Retiring, Doomed, Places, pagesOf, versionsUsed}
 use Rattle.stores.specs.Histories.{gridAt, gridPlace}
 use Rattle.stores.specs.Open.{arePlaces}
 use Rattle.stores.specs.Formed.{Given, HeldFormed, GridFormed, HistoryFormed, SpareFormed, RetiringFormed, DoomedFormed, StateFormed, Formed}
@@ -31,11 +31,12 @@ use Rattle.records.specs.declared.recorded.Recorded.{Recorded}
 use Rattle.records.specs.declared.recorded.Recorded.the-variants.{Writes, NoHistory}
 use Rattle.records.specs.declared.texture.TextureRecord.{TextureRecord}
 use Rattle.layout.specs.Lent.{Lent, versionPlaces}
-use Rattle.layout.specs.Reading.{trackedRecords, pageAt, gridRead, historyRead, recordPages, recordedPages, spareRead, stateRead, statesRead, retiringRead, handRead, doomedRead, modelOf}
+use Rattle.layout.specs.Reading.{trackedRecords, pageAt, gridRead, historyRead, recordPages, recordedPages, spareRead, stateRead, statesRead, retiringRead, doomedRead, modelOf}
 use Rattle.layout.specs.IsPool.{sizesFit, countsFit, runsFit, bytesFit, markFits, isGrid, isHistory, isHeldCount, isSpare, isState, isRetiring, isHand, isDoomed, isArrival, isFormed, isPool}
 use Rattle.layout.proofs.FitsTests.{all-holds, ascending-holds}
 use Rattle.layout.proofs.Fits.{Fits}
 use Rattle.layout.proofs.Runs.{kept-states, tracked-model, pages-model}
+use Rattle.layout.proofs.Rings.{hand-model}
 
 -- ---- 01's conditions of each part
 
@@ -164,17 +165,13 @@ module _ (l : Lent) (paged : 1024 * length (l .newest) ≡ length (l .stamps)) w
 
 -- the counts of what is read
 module _ (l : Lent) where
-  hand-read : (n : ℕ) → n ≤ 1 → handCount (handRead l n) ≡ n
-  hand-read zero h = refl
-  hand-read (suc n) h = omega arith
-
   pub versions-read : l .pool .popped ≤ 1 → versionsUsed (modelOf l)
       ≡ l .pool .queued + l .pool .popped + total (λ (t : TextureRecord). t .spares) (trackedRecords l) + l .pool .doomed
   unfolding modelOf
   versions-read h =
       ap₂ (λ (a b : ℕ). a + b)
       (ap₂ (λ (a b : ℕ). a + b)
-      (ap₂ (λ (a b : ℕ). a + b) (length-listed (retiringRead l) (l .pool .popped) (l .pool .queued)) (hand-read (l .pool .popped) h))
+      (ap₂ (λ (a b : ℕ). a + b) (length-listed (retiringRead l) (l .pool .popped) (l .pool .queued)) (hand-model l h))
       (kept-states l 0 0 (trackedRecords l)))
       (length-listed (doomedRead l) 0 (l .pool .doomed))
 

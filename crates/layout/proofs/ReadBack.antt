@@ -193,10 +193,6 @@ module _ (l : Lent) (p : Pool ℕ) (fits : Fits l) (formed : Formed p) (same : p
 
   -- ---- and it fits
 
-  after-newest : length (after p l .newest) ≡ length (l .newest)
-  unfolding after
-  after-newest = newest-kept
-
   bytes-back : bytesFit (after p l) ≡ true
   unfolding bytesFit
   bytes-back = ap (all bytesHold) records-back ∙ bytes-recorded (p .textures)

@@ -1,7 +1,7 @@
 -- What each call says and leaves, as 01 has it: stores that form no pool are refused with 1; otherwise it is the model's rule on the pool that the
 -- stores stand for, written back. Every contract of a call cites one of these.
 use Prim.Native.Nat.{ℕ, _/_}
-use mathlib.Core.Bool.{Bool, true, false, cond}
+use mathlib.Core.Bool.{Bool, cond}
 use mathlib.Core.Option.{Option, none, some}
 use mathlib.Core.List.{List, [], _∷_}
 use lib.Dec.{eqb}

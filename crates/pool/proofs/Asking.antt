@@ -7,8 +7,8 @@ use Rattle.stores.specs.NoteWrite.{recordsWrites, IsDirtyTileOf}
 use Rattle.layout.specs.Lent.{Lent}
 use Rattle.layout.specs.Reading.{modelOf}
 use Rattle.layout.specs.IsPool.{isPool, sizesFit}
-use Rattle.layout.specs.Calls.{Told, refusal, answer, openNumber}
-use Rattle.pool.specs.Queries.{recordsWritesCall, parkedBytesCall, pendingDestroyBytesCall, IsTile, DirtyTileCall}
+use Rattle.layout.specs.Calls.{refusal, answer, openNumber}
+use Rattle.pool.specs.Queries.{recordsWritesCall, parkedBytesCall, pendingDestroyBytesCall, DirtyTileCall}
 
 module _ (l : Lent) where
   pub opened : sizesFit l ≡ true → 0 ≡ openNumber l

@@ -1,7 +1,6 @@
 // The lengths of the lent slices, and the counts against the places that they have.
 ghost use mathlib.Core.Path.{_≡_};
 ghost use Prim.Native.Nat.{_≤_};
-ghost use lib.ListN.{length};
 ghost use Rattle.layout.specs.declared.pool.Pool.{Pool as Counts};
 ghost use Rattle.layout.specs.declared.book.PacingBook.{PacingBook};
 ghost use Rattle.layout.specs.Lent.{lent};

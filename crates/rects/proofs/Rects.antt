@@ -1,9 +1,9 @@
 -- When a rectangle lies on the block grid.
-use Prim.Native.Nat.{ℕ, _+_, _-_, _*_, _%_, _≤_, _<_}
+use Prim.Native.Nat.{ℕ, _+_, _-_, _%_, _≤_, _<_}
 use mathlib.Core.Path.{_≡_, refl, sym, _∙_}
 use mathlib.Core.Bool.{Bool, true, false, _&&_, _||_}
 use native.Mathlib.Omega.{arith}
-use native.Mathlib.Nat.{mod-one, mul-mod-left}
+use native.Mathlib.Nat.{mod-one}
 use lib.Dec.{eqb}
 use borrow.Author.Tests.{eqb-true, eqb-false, eq-eqb, ne-eqb}
 use Rattle.rects.specs.declared.rect.TexelRect.{TexelRect}
@@ -25,10 +25,6 @@ eqb-same a b c d f g = by (eqb a b) refl
     by : (t : Bool) → eqb a b ≡ t → eqb a b ≡ eqb c d
     by true e = e ∙ sym (eq-eqb c d (f (eqb-true a b e)))
     by false e = e ∙ sym (ne-eqb c d (λ q. eqb-false a b e (g q)))
-
--- a whole number of blocks
-pub multiple : (k block : ℕ) → (k * block) % block ≡ 0
-multiple k block = mul-mod-left k block
 
 -- a side that starts on the grid and ends at the level's edge
 pub side-at-edge : (block start size extent : ℕ) → start % block ≡ 0 → start + size ≡ extent → sideOnGrid block start size extent ≡ true

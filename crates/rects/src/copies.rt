@@ -4,7 +4,7 @@ ghost use mathlib.Core.Bool.{true};
 ghost use Prim.Native.Nat.{_≤_};
 ghost use Rattle.shapes.specs.Outcomes.{ofBytes};
 ghost use Rattle.rects.specs.Copies.{cutSize, regionTexels, copyOutcome, copyBytes};
-ghost use Rattle.shapes.specs.Shapes.{isShape, levelWidth, levelHeight};
+ghost use Rattle.shapes.specs.Shapes.{isShape};
 use crate::rect::Region;
 use shapes::BytesAnswer;
 use shapes::VersionShape;

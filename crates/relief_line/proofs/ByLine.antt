@@ -2,7 +2,7 @@
 use mathlib.Core.Path.{_≡_, refl, sym, ap, ap₂, _∙_, subst}
 use mathlib.Core.Bool.{Bool, true, false, cond}
 use mathlib.Core.List.{List, [], _∷_, _++_, map, flatMap, append-assoc, append-nil}
-use mathlib.Core.Logic.{_⊎_, ⊎-elim}
+use mathlib.Core.Logic.{⊎-elim}
 use Prim.Native.Nat.{ℕ, suc, _+_, _≤_, _<_}
 use native.Mathlib.Omega.{arith}
 use lib.Dec.{ltb, leb, eqb}
@@ -150,9 +150,6 @@ module _ {W : Type 0} where
       let r = ascending-parts us t vs asc in (omega (arith, h, r .0), (cons (r .0) (r .1 .0), r .1 .1))
 
   module _ (us : List (VersionState W)) (t : VersionState W) (vs : List (VersionState W)) {lo : ℕ} (asc : Ascending lo (us ++ (t ∷ vs))) where
-    abbrev mine : Aged → Type 0
-    mine a = a .id ≡ t .id
-
     abbrev others : Aged → Type 0
     others a = a .id ≡ t .id → ⊥
 

@@ -2,7 +2,6 @@
 use mathlib.Core.Path.{_≡_, refl, sym, _∙_}
 use mathlib.Core.Bool.{Bool, true, false, not, true≢false}
 use Prim.Native.Nat.{ℕ}
-use borrow.Author.Tests.{not-true}
 use Rattle.shapes.specs.declared.shape.VersionShape.{VersionShape}
 use Rattle.shapes.specs.Shapes.{sameShape}
 use Rattle.records.specs.declared.texture.TextureRecord.{TextureRecord}
@@ -12,7 +11,7 @@ use Rattle.layout.specs.Reading.{trackedRecords, modelOf}
 use Rattle.layout.specs.IsPool.{isPool}
 use Rattle.access.proofs.Ids.{hasId}
 use Rattle.trackings.specs.Refusal.{takeRefusal}
-use Rattle.trackings.specs.Cases.{Accepted, recordOf, TrackedAt}
+use Rattle.trackings.specs.Cases.{Accepted, recordOf}
 use Rattle.renames.specs.declared.look.Look.{Look}
 use Rattle.renames.specs.Looked.{Looked}
 use Rattle.renames.proofs.Said.{tracked-at, untracked-at, shape-as}

@@ -1,5 +1,5 @@
 -- The number that the code says, test by test, is the one that refuses the rule. Assumes nothing.
-use mathlib.Core.Path.{_≡_, refl, sym, ap, ap₂, _∙_}
+use mathlib.Core.Path.{_≡_, sym, ap, _∙_}
 use mathlib.Core.Bool.{Bool, true, false, cond, not, _&&_}
 use mathlib.Core.Option.{Option, none, some}
 use mathlib.Core.List.{List}
@@ -8,7 +8,6 @@ use native.Mathlib.Omega.{arith}
 use borrow.Author.Tests.{lt-ltb, le-ltb, le-leb, lt-leb, not-true, not-false}
 use lib.Dec.{ltb, leb}
 use lib.ListN.{length}
-use Rattle.blocks.specs.Lists.{total}
 use Rattle.tables.specs.Records.{recordAt}
 use Rattle.shapes.specs.declared.shape.VersionShape.{VersionShape}
 use Rattle.shapes.specs.Shapes.{isShape, sameShape}
@@ -27,7 +26,7 @@ use Rattle.layout.proofs.Stays.{ids-ascend}
 use Rattle.layout.proofs.Places.{not-found}
 use Rattle.access.proofs.Ids as ids
 use Rattle.access.proofs.Fields.{pages-bound, claims-bound}
-use Rattle.layout.specs.Calls.{Told, refusal, takenOf, takeSpareCall}
+use Rattle.layout.specs.Calls.{refusal, takenOf, takeSpareCall}
 use Rattle.layout.proofs.Asked.{asked-refused}
 use Rattle.layout.proofs.Tracked.{shape-at, pages-at, shape-passes}
 use Rattle.trackings.specs.Refusal.{trackingRefusal, begunRefusal, foundRefusal, takeRefusal}

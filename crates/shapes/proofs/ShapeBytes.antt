@@ -7,7 +7,7 @@ use native.Mathlib.Omega.{arith}
 use native.Mathlib.Nat.{mul-le-mul, pow-le-pow-right, mul-assoc, zero-mul, add-mul}
 use lib.Dec.{eqb}
 use borrow.Author.Tests.{eqb-true}
-use Rattle.blocks.specs.Lists.{ceilDiv, listed, total}
+use Rattle.blocks.specs.Lists.{listed, total}
 use Rattle.shapes.specs.declared.shape.VersionShape.{VersionShape}
 use Rattle.shapes.specs.Formats.{blockEdge, blockBytes}
 use Rattle.shapes.specs.Shapes.{isShape, slicesOf, levelWidth, levelHeight, levelDepth, levelBlocks, levelBytes, bytesOf}

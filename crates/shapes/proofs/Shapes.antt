@@ -10,7 +10,7 @@ use borrow.Author.Tests.{leb-true, eqb-true, le-leb, eq-eqb, ne-eqb}
 use Rattle.blocks.specs.Lists.{after, tests}
 use Rattle.shapes.specs.declared.shape.VersionShape.{VersionShape}
 use Rattle.shapes.specs.Shapes.{isShape, sameShape, slicesOf, levelExtent, levelWidth, levelHeight, levelDepth}
-use Rattle.blocks.proofs.Lists.{either, not-passed, passed}
+use Rattle.blocks.proofs.Lists.{either, passed}
 
 pub record ShapeBounds (s : VersionShape) : Type 0 where
   pub width : s .width ≤ 16384
@@ -72,13 +72,6 @@ pub same-self : (a : VersionShape) → sameShape a a ≡ true
 unfolding sameShape tests after
 same-self a = simp itself
 
-pub differ : (a b : VersionShape) → (a ≡ b → ⊥) → sameShape a b ≡ false
-differ a b h = not-passed (sameShape a b) (λ e. h (same-shape a b e))
-
-pub slices-pos : (s : VersionShape) → 1 ≤ slicesOf s
-unfolding slicesOf
-slices-pos s = either (λ (n : ℕ). 1 ≤ n) (eqb (s .kind) 1) 6 1 (λ e. omega arith) (λ e. omega arith)
-
 pub slices-bound : (s : VersionShape) → slicesOf s ≤ 6
 unfolding slicesOf
 slices-bound s = either (λ (n : ℕ). n ≤ 6) (eqb (s .kind) 1) 6 1 (λ e. omega arith) (λ e. omega arith)
@@ -123,10 +116,6 @@ width-pos s level = extent-pos (s .width) level
 pub height-pos : (s : VersionShape) (level : ℕ) → 1 ≤ levelHeight s level
 unfolding levelHeight
 height-pos s level = extent-pos (s .height) level
-
-pub depth-pos : (s : VersionShape) (level : ℕ) → 1 ≤ levelDepth s level
-unfolding levelDepth
-depth-pos s level = either (λ (n : ℕ). 1 ≤ n) (eqb (s .kind) 2) (levelExtent (s .depth) level) 1 (λ e. extent-pos (s .depth) level) (λ e. omega arith)
 
 pub depth-below : (s : VersionShape) (d m level : ℕ) → 1 ≤ m → 1 ≤ d → s .depth ≤ d * m → d ≤ 2 ^ level → levelDepth s level ≤ m
 unfolding levelDepth

@@ -12,7 +12,7 @@ use lib.Seq.{sets, length-sets}
 use Rattle.blocks.specs.Lists.{listed}
 use Rattle.tables.specs.Records.{recordAt}
 use Rattle.tables.specs.Rings.{placeOf, along, ring, laid}
-use Rattle.blocks.proofs.Listed.{length-listed, drop-listed, listed-same}
+use Rattle.blocks.proofs.Listed.{drop-listed, listed-same}
 use Rattle.tables.proofs.Records.{Codec, record-part, read-same, read-other, rewritten}
 
 -- ---- places
@@ -63,10 +63,6 @@ place-apart cap head i n h k b e =
 -- ---- a ring read
 
 module _ {ℓ} {A : Type ℓ} (w : ℕ) (rd : List ℕ → A) (cap head : ℕ) where
-  pub length-ring : (n : ℕ) (s : List ℕ) → length (ring w rd cap head n s) ≡ n
-  unfolding ring
-  length-ring n s = length-listed (along w rd cap head s) 0 n
-
   -- k dropped: the head moves on
   pub popped : (k n : ℕ) (s : List ℕ) → head < cap → k ≤ n → n ≤ cap
       → ring w rd cap (placeOf cap head k) (n - k) s ≡ drop k (ring w rd cap head n s)

@@ -5,7 +5,7 @@ use Prim.Native.Nat.{ℕ, suc, _+_, _-_, _*_, _/_, _%_, _≤_, _<_, min, max}
 use native.Mathlib.Nat.{mul-mod-left, mul-le-mul-right, div-mul-le-self, lt-div-mul-add, suc-mul, div-eq-of-lt-le, div-lt-iff-lt-mul, le-div-iff-mul-le}
 use native.Mathlib.Numerals.{add-one}
 use native.Mathlib.Omega.{arith}
-use borrow.Author.Tests.{ltb-true, ltb-false, lt-ltb}
+use borrow.Author.Tests.{ltb-true, lt-ltb}
 use Rattle.blocks.specs.Lists.{ceilDiv, tests, after}
 use Rattle.blocks.proofs.Numbers.{ceil-covers, ceil-least, ceil-below, ceil-at-most}
 use Rattle.blocks.proofs.Lists.{passed}
@@ -67,10 +67,6 @@ module _ (a : Axis) (start size : ℕ) where
   pub cut-some : isCut a start size ≡ true → start < cutEnd a start size
   unfolding isCut
   cut-some e = ltb-true _ _ e
-
-  pub cut-none : isCut a start size ≡ false → cutEnd a start size ≤ start
-  unfolding isCut
-  cut-none e = ltb-false _ _ e
 
   -- a run whose cut is empty has no texel in the level
   pub cut-texel : (x : ℕ) → x < a .extent → start ≤ x → x < start + size → isCut a start size ≡ true

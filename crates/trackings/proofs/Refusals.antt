@@ -8,12 +8,11 @@ use borrow.Author.Tests.{ltb-false, leb-false, not-false}
 use lib.Dec.{leb, ltb}
 use lib.ListN.{length}
 use Rattle.blocks.specs.Lists.{total}
-use Rattle.blocks.proofs.Lists.{either}
 use Rattle.shapes.specs.declared.shape.VersionShape.{VersionShape}
 use Rattle.shapes.specs.Shapes.{isShape, sameShape, bytesOf}
 use Rattle.stores.specs.Model.{Spare, VersionState, Pool, Out, refused, accepted, guard, find, limit, pagesOf, pagesUsed}
 use Rattle.stores.specs.Updates.{withTextures, withTrackings, change, insert, asDoomed, doomSpares}
-use Rattle.stores.specs.TakeSpare.{newState, historyFull, takeNew, takeRenewed, takeTracked, takeFound, takeSpare}
+use Rattle.stores.specs.TakeSpare.{newState, historyFull, takeRenewed, takeTracked, takeFound, takeSpare}
 use Rattle.layout.proofs.Asked.{guard-passed}
 use Rattle.trackings.specs.Begun.{freshPages}
 use Rattle.trackings.specs.Refusal.{trackingRefusal, begunRefusal, foundRefusal, takeRefusal}

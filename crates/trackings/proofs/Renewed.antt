@@ -1,13 +1,13 @@
 -- take_spare for a texture tracked with another shape: what the rule leaves, slice by slice. Assumes nothing.
 use mathlib.Core.Path.{_≡_, refl, sym, ap, ap₂, _∙_}
 use mathlib.Core.Bool.{Bool, true, false}
-use mathlib.Core.Option.{Option, none, some}
-use mathlib.Core.List.{List, [], _∷_, _++_, map}
+use mathlib.Core.Option.{none, some}
+use mathlib.Core.List.{List, _++_, map}
 use Prim.Native.Nat.{ℕ, suc, _+_, _*_, _-_, _^_, _/_, _≤_, _<_}
-use native.Mathlib.Nat.{add-zero, mul-le-mul}
+use native.Mathlib.Nat.{mul-le-mul}
 use native.Mathlib.Numerals.{add-one}
 use native.Mathlib.Omega.{arith}
-use lib.ListN.{length, take, drop, getD, set, replicate, length-append}
+use lib.ListN.{length, set, replicate, length-append}
 use lib.Seq.{sets}
 use Rattle.blocks.specs.Lists.{listed, total, removed}
 use Rattle.blocks.specs.Blocks.{moved}
@@ -27,9 +27,9 @@ use Rattle.records.specs.Texture.{readTexture, writeTexture}
 use Rattle.records.specs.Doomed.{writeDoomed}
 use Rattle.layout.specs.declared.pool.Pool.{Pool as Counts}
 use Rattle.layout.specs.Lent.{Lent, lent, versionPlaces}
-use Rattle.layout.specs.Reading.{trackedRecords, recordPages, spareRead, stateRead, modelOf}
-use Rattle.layout.specs.Writing.{textureRecord, doomedRecord, everySpare, firstPage, sparesAfter, doomedAfter, poolAfter, after}
-use Rattle.layout.specs.Calls.{Told, answer, TakenVersion, takenOf, takeSpareCall}
+use Rattle.layout.specs.Reading.{recordPages, spareRead, stateRead, modelOf}
+use Rattle.layout.specs.Writing.{doomedRecord, everySpare, firstPage, sparesAfter, doomedAfter, poolAfter, after}
+use Rattle.layout.specs.Calls.{answer, takenOf, takeSpareCall}
 use Rattle.layout.proofs.Fits.{Fits}
 use Rattle.layout.proofs.FromPool.{pool-fits, page-places}
 use Rattle.layout.proofs.Runs.{sparesOf, spareCount, firstSpare, firstPageOf, stateOf, tracked-model, kept-model, pages-model}
@@ -37,7 +37,7 @@ use Rattle.layout.proofs.Same.{doomed-model}
 use Rattle.layout.proofs.Rings.{doomed-pushed}
 use Rattle.layout.proofs.Stays.{put-together, book-stays, ids-ascend, retiring-stay, doomed-fit, doomed-bound}
 use Rattle.layout.proofs.Places.{changed}
-use Rattle.layout.proofs.Changes.{textures-set, sparesBefore, sparesAt, every-emptied, spares-removed}
+use Rattle.layout.proofs.Changes.{textures-set, sparesBefore, every-emptied, spares-removed}
 use Rattle.layout.proofs.Pages.{pagesAt, next-page, pages-in, set-parts}
 use Rattle.layout.proofs.Fresh.{no-page-reshaped}
 use Rattle.layout.proofs.Asked.{asked-accepted}
@@ -51,7 +51,7 @@ use Rattle.trackings.specs.Cases.{Accepted, recordOf, TrackedAt}
 use Rattle.trackings.specs.Holdings.{holdingAt, givenUp}
 use Rattle.trackings.proofs.Refusals.{shape-passed, counter-left, pages-left, renewed-begun, take-renewed}
 use Rattle.trackings.proofs.Counts.{counted, begunCounts, counts-after}
-use Rattle.trackings.proofs.Tracked.{spares-within, kept-fits, is-there, found-there, Here, here}
+use Rattle.trackings.proofs.Tracked.{spares-within, kept-fits, is-there, found-there, here}
 use Rattle.trackings.proofs.Trackings.{begun, begun-record, begun-pages, newest-begun, stamps-begun}
 
 -- what the code asks of a pool in which a texture's tracking is renewed

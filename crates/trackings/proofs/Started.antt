@@ -1,13 +1,13 @@
 -- take_spare for an untracked texture: what the rule leaves, slice by slice. Assumes nothing.
 use mathlib.Core.Path.{_≡_, refl, sym, ap, ap₂, _∙_}
 use mathlib.Core.Bool.{Bool, true}
-use mathlib.Core.Option.{Option, none}
-use mathlib.Core.List.{List, [], _∷_, _++_, map}
-use Prim.Native.Nat.{ℕ, suc, _+_, _*_, _-_, _^_, _≤_, _<_}
+use mathlib.Core.Option.{none}
+use mathlib.Core.List.{List, [], _∷_, _++_}
+use Prim.Native.Nat.{ℕ, suc, _+_, _*_, _-_, _≤_, _<_}
 use native.Mathlib.Nat.{add-zero}
 use native.Mathlib.Numerals.{add-one}
 use native.Mathlib.Omega.{arith}
-use lib.ListN.{length, take, drop, getD, replicate}
+use lib.ListN.{length, take, drop, replicate}
 use lib.Seq.{sets}
 use Rattle.blocks.specs.Lists.{total, inserted}
 use Rattle.blocks.specs.Blocks.{moved}
@@ -21,13 +21,11 @@ use Rattle.stores.specs.TakeSpare.{takeSpare}
 use Rattle.stores.proofs.States.{length-insert, total-insert}
 use Rattle.records.specs.declared.texture.TextureRecord.{TextureRecord}
 use Rattle.records.specs.Texture.{readTexture, writeTexture}
-use Rattle.records.specs.Find.{below}
 use Rattle.records.proofs.Places.{below-length}
-use Rattle.layout.specs.declared.pool.Pool.{Pool as Counts}
 use Rattle.layout.specs.Lent.{Lent, lent}
 use Rattle.layout.specs.Reading.{trackedRecords, recordPages, modelOf}
-use Rattle.layout.specs.Writing.{textureRecord, everySpare, poolAfter, after}
-use Rattle.layout.specs.Calls.{Told, answer, TakenVersion, takenOf, takeSpareCall}
+use Rattle.layout.specs.Writing.{everySpare, poolAfter, after}
+use Rattle.layout.specs.Calls.{answer, takenOf, takeSpareCall}
 use Rattle.layout.proofs.Fits.{Fits}
 use Rattle.layout.proofs.FromPool.{pool-fits, page-places, enough}
 use Rattle.layout.proofs.Runs.{spareCount, firstPageOf, tracked-records, tracked-model, kept-model, pages-model}
@@ -40,7 +38,7 @@ use Rattle.layout.proofs.Fresh.{no-page-new}
 use Rattle.layout.proofs.Asked.{asked-accepted}
 use Rattle.access.proofs.Fields.{pages-bound}
 use Rattle.trackings.specs.Begun.{freshPages, newRecord}
-use Rattle.trackings.specs.Cases.{Accepted, recordOf, TrackedAt}
+use Rattle.trackings.specs.Cases.{Accepted, TrackedAt}
 use Rattle.trackings.proofs.Refusals.{shape-passed, counter-left, pages-left, new-room, new-begun, take-new}
 use Rattle.trackings.proofs.Counts.{counted, counts-after}
 use Rattle.trackings.proofs.Tracked.{not-there}

@@ -3,7 +3,7 @@ use mathlib.Core.Path.{_≡_, sym, ap, ap₂, _∙_}
 use mathlib.Core.Bool.{Bool, true}
 use mathlib.Core.Option.{some}
 use mathlib.Core.List.{[]}
-use Prim.Native.Nat.{ℕ, suc, _+_, _*_, _^_, _≤_, _<_}
+use Prim.Native.Nat.{ℕ, _+_, _*_, _≤_, _<_}
 use native.Mathlib.Nat.{mul-one, mul-le-mul-left}
 use native.Mathlib.Omega.{arith}
 use lib.ListN.{length, getD}
@@ -11,20 +11,20 @@ use Rattle.blocks.specs.Lists.{total}
 use Rattle.tables.specs.Records.{table}
 use Rattle.shapes.specs.declared.shape.VersionShape.{VersionShape}
 use Rattle.shapes.specs.Shapes.{isShape, bytesOf}
-use Rattle.stores.specs.Model.{VersionState, find, limit, spareBytes}
+use Rattle.stores.specs.Model.{find, spareBytes}
 use Rattle.stores.proofs.States.{find-part}
 use Rattle.records.specs.declared.texture.TextureRecord.{TextureRecord}
 use Rattle.records.specs.Recorded.{RecordedFits}
 use Rattle.records.specs.Texture.{readTexture}
 use Rattle.records.specs.Find.{below}
-use Rattle.layout.specs.Lent.{Lent, versionPlaces}
+use Rattle.layout.specs.Lent.{Lent}
 use Rattle.layout.specs.Reading.{trackedRecords, modelOf}
 use Rattle.layout.proofs.Fits.{Fits}
 use Rattle.layout.proofs.FromPool.{pool-fits}
 use Rattle.layout.proofs.Runs.{sparesOf, firstSpare, stateOf}
 use Rattle.layout.proofs.Stays.{ids-ascend}
 use Rattle.layout.proofs.Places.{IsTracked, found}
-use Rattle.layout.proofs.Changes.{sparesAt, spares-in}
+use Rattle.layout.proofs.Changes.{spares-in}
 use Rattle.layout.proofs.Tracked.{record-read, spares-to, bytes-at, shape-at, count-at, shape-passes, history-fits}
 use Rattle.trackings.specs.Cases.{Accepted, recordOf, TrackedAt}
 

@@ -1,5 +1,4 @@
 -- `doomed_all` meets its contract: one batch after the other, and each leaves a pool. Assumes nothing.
-use borrow.Author.Needs.{needs}
 use mathlib.Core.Path.{_≡_, refl, sym, _∙_}
 use mathlib.Core.Bool.{true}
 use Prim.Native.Nat.{_-_}

@@ -1,5 +1,4 @@
 -- `note_all` meets its contract: one note after the other, and each leaves a pool. Assumes nothing.
-use borrow.Author.Needs.{needs}
 use mathlib.Core.Path.{_≡_, refl, _∙_}
 use mathlib.Core.Bool.{true}
 use Prim.Native.Nat.{_-_}

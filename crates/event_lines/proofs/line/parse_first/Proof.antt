@@ -1,6 +1,6 @@
 -- `parse_first` meets its contract: what was read is the event of the first line. Assumes nothing.
 use borrow.Author.Needs.{needs}
-use mathlib.Core.Path.{sym, _∙_}
+use mathlib.Core.Path.{_∙_}
 use native.Mathlib.Nat.{zero-add}
 use borrow.Author.Tests.{not-true, not-false}
 use Rattle.event_lines.proofs.Choices.{chosen, refused}

@@ -1,8 +1,7 @@
 -- `put_large` meets its contract: the digits of the number without its last eight are put, and then those. Assumes nothing.
 use borrow.Author.Needs.{needs}
-use mathlib.Core.Path.{_≡_, _∙_}
 use native.Mathlib.Omega.{arith}
-use Prim.Native.Nat.{_+_, _/_}
+use Prim.Native.Nat.{_/_}
 use Rattle.event_text.proofs.ShortNumbers.{eight-behind, room-behind, put-behind}
 use Rattle.event_text.proofs.digits.put_large.Statement.{statement}
 use Rattle.event_text.proofs.digits.put_large.Tie as tie

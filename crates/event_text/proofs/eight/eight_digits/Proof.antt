@@ -1,7 +1,5 @@
 -- `eight_digits` meets its contract. Assumes nothing.
 use borrow.Author.Needs.{needs}
-use mathlib.Core.Path.{_≡_, sym, ap, _∙_}
-use Prim.Native.Nat.{ℕ, _+_, _*_}
 use native.Mathlib.Omega.{arith}
 use Rattle.event_text.proofs.EightRead.{whole-room, whole-read, lowest, few, moved-room, moved-read, none-read}
 use Rattle.event_text.proofs.eight.eight_digits.Statement.{statement}

@@ -1,6 +1,6 @@
 -- `four_bytes` meets its contract. Assumes nothing.
 use borrow.Author.Needs.{needs}
-use Prim.Native.Nat.{_+_, _*_}
+use Prim.Native.Nat.{_+_}
 use native.Mathlib.Omega.{arith}
 use Rattle.event_text.proofs.EightRead.{four-packed}
 use Rattle.event_text.proofs.eight.four_bytes.Statement.{statement}

@@ -2,12 +2,12 @@
 use borrow.Author.Needs.{needs}
 use mathlib.Core.Path.{_≡_, sym, ap, _∙_}
 use mathlib.Core.List.{List}
-use Prim.Native.Nat.{ℕ, _+_, _-_, _≤_, _<_}
+use Prim.Native.Nat.{ℕ}
 use native.Mathlib.Omega.{arith}
 use lib.ListN.{drop}
 use Rattle.blocks.proofs.Scans.{from}
 use Rattle.event_text.specs.Numbers.{readOn, leadingDigits}
-use Rattle.event_text.proofs.Numbers.{read-done, read-more, read-over, read-stop, read-past, read-end, from-drop, digit-low, digit-high}
+use Rattle.event_text.proofs.Numbers.{read-done, read-more, read-over, read-stop, read-past, read-end, from-drop, digit-low}
 use Rattle.event_text.proofs.number.last_digit.Statement.{statement}
 use Rattle.event_text.proofs.number.last_digit.Tie as tie
 

@@ -1,7 +1,6 @@
 -- `number_at` meets its contract: the digits that the field starts with are all of it, or it is no number. Assumes nothing.
 use borrow.Author.Needs.{needs}
 use mathlib.Core.Path.{sym, _∙_}
-use native.Mathlib.Omega.{arith}
 use Rattle.event_text.proofs.Leading.{field-none, field-ends, field-other, at-end, inside-same}
 use Rattle.event_text.proofs.number.number_at.Statement.{statement}
 use Rattle.event_text.proofs.number.number_at.Tie as tie

@@ -4,8 +4,6 @@ use borrow.Author.Needs.{needs}
 use Rattle.histories.proofs.Regenerated.{level-next, level-wraps}
 use Rattle.histories.proofs.pages.next_level.Statement.{statement}
 use Rattle.histories.proofs.pages.next_level.Tie as tie
-use Rattle.histories.proofs.pages.next_level.Reads as reads
-use Rattle.histories.proofs.pages.next_level.Lts as lts
 
 -- src/pages.rt:72:8
 add-if1 : tie.Need-add-if1

@@ -9,11 +9,6 @@ use Rattle.histories.proofs.Written.{newest-stands, page-stands}
 use Rattle.histories.proofs.Regenerated.{remade-first, remade-later}
 use Rattle.histories.proofs.pages.regenerate_page.Statement.{statement}
 use Rattle.histories.proofs.pages.regenerate_page.Tie as tie
-use Rattle.histories.proofs.pages.regenerate_page.Reads as reads
-use Rattle.histories.proofs.pages.regenerate_page.Lts as lts
-use Rattle.rects.proofs.level_rect.Reads as level-rect-reads
-use Rattle.shapes.proofs.level_extent.Reads as level-extent-reads
-use Rattle.histories.proofs.pages.stamp_page.Reads as stamp-page-reads
 
 -- src/pages.rt:60:9
 returns : tie.Need-returns

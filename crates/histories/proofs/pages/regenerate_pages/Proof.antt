@@ -9,10 +9,6 @@ use Rattle.histories.specs.Written.{newestWritten, pagesWritten, remadeG
 use Rattle.histories.proofs.Regenerated.{level-first, level-after, next-below, remade-none, newest-remade, pages-remade}
 use Rattle.histories.proofs.pages.regenerate_pages.Statement.{statement}
 use Rattle.histories.proofs.pages.regenerate_pages.Tie as tie
-use Rattle.histories.proofs.pages.regenerate_pages.Reads as reads
-use Rattle.histories.proofs.pages.regenerate_pages.Lts as lts
-use Rattle.histories.proofs.pages.next_level.Reads as next-level-reads
-use Rattle.histories.proofs.pages.regenerate_page.Reads as regenerate-page-reads
 
 abbrev Inv-loop : tie.InvT-loop
 Inv-loop newest₀ stamps₀ page pages shape n level₀ k₀ newest stamps level k =

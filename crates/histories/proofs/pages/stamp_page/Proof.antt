@@ -8,11 +8,6 @@ use Rattle.grids.specs.Grids.{tiled, tilingOf}
 use Rattle.histories.proofs.Written.{part-fits, newest-back, page-back}
 use Rattle.histories.proofs.pages.stamp_page.Statement.{statement}
 use Rattle.histories.proofs.pages.stamp_page.Tie as tie
-use Rattle.histories.proofs.pages.stamp_page.Reads as reads
-use Rattle.histories.proofs.pages.stamp_page.Lts as lts
-use Rattle.grids.proofs.across_axis.Reads as across-axis-reads
-use Rattle.grids.proofs.down_axis.Reads as down-axis-reads
-use Rattle.grids.proofs.stamp.Reads as stamp-reads
 
 -- src/pages.rt:37:9
 across-axis-requires : tie.Need-across-axis-requires

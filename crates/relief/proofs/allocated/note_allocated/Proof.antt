@@ -1,6 +1,6 @@
 -- `note_allocated` meets its contract. Assumes nothing.
 use mathlib.Core.Path.{ap, ap₂, _∙_, subst}
-use Prim.Native.Nat.{_+_, _-_}
+use Prim.Native.Nat.{_+_}
 use native.Mathlib.Omega.{arith}
 use borrow.Author.Needs.{needs}
 use Rattle.layout.specs.Lent.{lent}

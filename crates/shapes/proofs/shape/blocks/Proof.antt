@@ -1,6 +1,5 @@
 -- `shapes::shape::blocks` meets its contract. By the edge.
 use borrow.Author.Needs.{needs}
-use Prim.Native.Nat.{ℕ}
 use mathlib.Core.Path.{refl, sym, ap, _∙_}
 use Rattle.blocks.specs.Lists.{ceilDiv}
 use Rattle.blocks.proofs.Numbers.{ceil-one}

@@ -1,7 +1,7 @@
 -- `shapes::shape::shape_blocks` meets its contract. The blocks so far and those of the levels that are left make the whole, and the extents are the last level's.
 use borrow.Author.Needs.{needs}
 use Prim.Native.Nat.{ℕ, _+_, _-_, _*_, _/_, _≤_, _<_, max}
-use mathlib.Core.Path.{_≡_, sym, ap, _∙_}
+use mathlib.Core.Path.{_≡_, ap, _∙_}
 use native.Mathlib.Omega.{arith}
 use lib.Dec.{lit≤}
 use Rattle.blocks.specs.Lists.{ceilDiv, total, listed}
