@@ -1,6 +1,5 @@
 -- `four_digits` meets its contract. Assumes nothing.
 use borrow.Author.Needs.{needs}
-use Prim.Native.Nat.{_-_, _*_, _/_}
 use native.Mathlib.Omega.{arith}
 use Rattle.event_text.proofs.FourDigits.{tens-of, four-are}
 use Rattle.event_text.proofs.digits.four_digits.Statement.{statement}
