@@ -1,7 +1,6 @@
 -- Which events note nothing of the line. Assumes nothing.
 use Prim.Native.Nat.{ℕ}
 use mathlib.Core.Path.{_≡_, refl}
-use mathlib.Core.Bool.{Bool, true}
 use mathlib.Core.List.{List, [], _∷_}
 use types.Run.{OneOf, miss}
 use denote.Enum.Declared.{tagOf}
@@ -17,9 +16,9 @@ use Rattle.event_sessions.specs.Parts.{sessionAfter}
 abbrev others : List ℕ
 others = 0 ∷ 2 ∷ 3 ∷ 4 ∷ 5 ∷ 6 ∷ 7 ∷ 8 ∷ 9 ∷ 10 ∷ 11 ∷ 12 ∷ 13 ∷ []
 
-module _ (taken : Bool) (latest : VersionShape) (pool : Pool) (book : PacingBook) where
+module _ (taken : ℕ) (latest : VersionShape) (pool : Pool) (book : PacingBook) where
   abbrev kept : Session
-  kept = record { opened = true; taken = taken; pool = pool; book = book; shape = latest }
+  kept = record { opened = 1; taken = taken; pool = pool; book = book; shape = latest }
 
   pub notes-nothing : (e : Event) → OneOf others (tagOf the-type e) → kept ≡ sessionAfter taken latest pool book e
   unfolding sessionAfter

@@ -5,6 +5,7 @@ use mathlib.Core.Bool.{Bool, true, false, cond}
 use mathlib.Core.Option.{Option, some}
 use mathlib.Core.List.{List, [], _∷_}
 use native.Mathlib.Omega.{arith}
+use lib.Dec.{eqb}
 use types.Run.{OneOf, miss}
 use denote.Enum.Declared.{tagOf}
 use Rattle.shapes.specs.declared.shape.VersionShape.{VersionShape}
@@ -54,14 +55,14 @@ module _ (s : Session) (textures retiring doomed spares newest stamps : List ℕ
       go false q = refl
 
   pub open-done : outcome ≡ 0 → (p : Pool) (b : PacingBook) → p ≡ openedPool working → b ≡ openedBook
-      → SaysOnly Done (stateOf (record { opened = true; taken = s .taken; pool = p; book = b; shape = s .shape }) textures retiring doomed spares newest stamps) (opens before working)
+      → SaysOnly Done (stateOf (record { opened = 1; taken = s .taken; pool = p; book = b; shape = s .shape }) textures retiring doomed spares newest stamps) (opens before working)
   unfolding SaysOnly opens InBuffers replyOf
   open-done z p b ep eb copies views = (tt, ap (λ (x : State). (some done, x)) same ∙ go (sizesFit (before .lent)) outcome-here)
     where
-      same : stateOf (record { opened = true; taken = s .taken; pool = p; book = b; shape = s .shape }) textures retiring doomed spares newest stamps ≡ openedState before working
+      same : stateOf (record { opened = 1; taken = s .taken; pool = p; book = b; shape = s .shape }) textures retiring doomed spares newest stamps ≡ openedState before working
       same = λ i. record {
         opened = true;
-        taken = s .taken;
+        taken = eqb (s .taken) 1;
         shape = s .shape;
         lent = lent (ep i) (eb i) textures retiring doomed spares newest stamps;
       }
@@ -117,7 +118,7 @@ module _ (a : Answer) (exit s : State) (e : Event) (copies views : ℕ) (copiesE
   alone-answers m = m copies views copiesExit viewsExit
 
   pub stepped-answers : s .opened ≡ true → (after : Lent) → Stepped copies views (opened (s .taken) (s .shape) (s .lent)) e a copiesExit viewsExit after
-      → exit ≡ opened (takenAfter (s .taken) e) (shapeAfter (s .shape) e) after → Answers
+      → exit ≡ opened (takenAfter true (s .taken) e) (shapeAfter (s .shape) e) after → Answers
   unfolding Stepped
   stepped-answers o after m x =
       let t = s .taken in
@@ -125,13 +126,31 @@ module _ (a : Answer) (exit s : State) (e : Event) (copies views : ℕ) (copiesE
       let l = s .lent in
       let here : s ≡ opened t h l = λ i. record { opened = o i; taken = t; shape = h; lent = l } in (
         m .0,
-        ap₂ (λ (r : Option Reply) (y : State). (r, y)) (m .1) (x ∙ ap (opened (takenAfter t e) (shapeAfter h e)) (m .2) ∙ sym (step-notes copies views t h l e))
+        ap₂ (λ (r : Option Reply) (y : State). (r, y)) (m .1) (x ∙ ap (opened (takenAfter true t e) (shapeAfter h e)) (m .2) ∙ sym (step-notes copies views t h l e))
             ∙ sym (ap (λ (y : State). step copies views y e) here),
       )
 
 -- the session after the event, in the state that it stands for
-pub session-state : (r : Session) (taken : Bool) (shape : VersionShape) (p : Pool) (b : PacingBook) (e : Event) (textures retiring doomed spares newest stamps : List ℕ)
+taken-noted : (taken : ℕ) (e : Event) → eqb (takenAfter 1 taken e) 1 ≡ takenAfter true (eqb taken 1) e
+taken-noted taken (Event.Open working) = refl
+taken-noted taken (Event.Take id shape records seq) = refl
+taken-noted taken (Event.Plan id held slice level cover) = refl
+taken-noted taken (Event.Retire id view seq) = refl
+taken-noted taken (Event.Write id slice level rect) = refl
+taken-noted taken (Event.Regen id) = refl
+taken-noted taken (Event.Pop settled) = refl
+taken-noted taken (Event.Park failed now) = refl
+taken-noted taken (Event.Note allocated) = refl
+taken-noted taken Event.Doomed = refl
+taken-noted taken Event.Drain = refl
+taken-noted taken (Event.Trim now) = refl
+taken-noted taken (Event.Forget id) = refl
+taken-noted taken Event.Unread = refl
+
+pub session-state : (r : Session) (taken : ℕ) (shape : VersionShape) (p : Pool) (b : PacingBook) (e : Event) (textures retiring doomed spares newest stamps : List ℕ)
     → r ≡ sessionAfter taken shape p b e
-    → stateOf r textures retiring doomed spares newest stamps ≡ opened (takenAfter taken e) (shapeAfter shape e) (lent p b textures retiring doomed spares newest stamps)
+    → stateOf r textures retiring doomed spares newest stamps ≡ opened (takenAfter true (eqb taken 1) e) (shapeAfter shape e) (lent p b textures retiring doomed spares newest stamps)
 unfolding sessionAfter
-session-state r taken shape p b e textures retiring doomed spares newest stamps q = ap (λ (x : Session). stateOf x textures retiring doomed spares newest stamps) q
+session-state r taken shape p b e textures retiring doomed spares newest stamps q =
+    ap (λ (x : Session). stateOf x textures retiring doomed spares newest stamps) q
+    ∙ ap (λ (t : Bool). opened t (shapeAfter shape e) (lent p b textures retiring doomed spares newest stamps)) (taken-noted taken e)

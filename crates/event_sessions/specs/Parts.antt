@@ -36,29 +36,29 @@ noShape = record {
 
 -- nothing opened
 unfoldable pub freshSession : Session
-freshSession = record { opened = false; taken = false; pool = openedPool 0; book = openedBook; shape = noShape }
+freshSession = record { opened = 0; taken = 0; pool = openedPool 0; book = openedBook; shape = noShape }
 
 -- ---- an opened session
 
 abbrev pub opened : Bool → VersionShape → Lent → State
 opened taken shape l = record { opened = true; taken = taken; shape = shape; lent = l }
 
--- what is noted of the line
-abbrev pub takenAfter : Bool → Event → Bool
-takenAfter taken (Event.Take id shape records seq) = true
-takenAfter taken (Event.Open working) = taken
-takenAfter taken (Event.Plan id held slice level cover) = taken
-takenAfter taken (Event.Retire id view seq) = taken
-takenAfter taken (Event.Write id slice level rect) = taken
-takenAfter taken (Event.Regen id) = taken
-takenAfter taken (Event.Pop settled) = taken
-takenAfter taken (Event.Park failed now) = taken
-takenAfter taken (Event.Note allocated) = taken
-takenAfter taken Event.Doomed = taken
-takenAfter taken Event.Drain = taken
-takenAfter taken (Event.Trim now) = taken
-takenAfter taken (Event.Forget id) = taken
-takenAfter taken Event.Unread = taken
+-- what is noted of the line: that it is a take line, as true or as 1
+abbrev pub takenAfter : {A : Type 0} → A → A → Event → A
+takenAfter noted taken (Event.Take id shape records seq) = noted
+takenAfter noted taken (Event.Open working) = taken
+takenAfter noted taken (Event.Plan id held slice level cover) = taken
+takenAfter noted taken (Event.Retire id view seq) = taken
+takenAfter noted taken (Event.Write id slice level rect) = taken
+takenAfter noted taken (Event.Regen id) = taken
+takenAfter noted taken (Event.Pop settled) = taken
+takenAfter noted taken (Event.Park failed now) = taken
+takenAfter noted taken (Event.Note allocated) = taken
+takenAfter noted taken Event.Doomed = taken
+takenAfter noted taken Event.Drain = taken
+takenAfter noted taken (Event.Trim now) = taken
+takenAfter noted taken (Event.Forget id) = taken
+takenAfter noted taken Event.Unread = taken
 
 abbrev pub shapeAfter : VersionShape → Event → VersionShape
 shapeAfter latest (Event.Take id shape records seq) = shape
@@ -76,9 +76,9 @@ shapeAfter latest (Event.Trim now) = latest
 shapeAfter latest (Event.Forget id) = latest
 shapeAfter latest Event.Unread = latest
 
-unfoldable pub sessionAfter : Bool → VersionShape → Pool → PacingBook → Event → Session
+unfoldable pub sessionAfter : ℕ → VersionShape → Pool → PacingBook → Event → Session
 sessionAfter taken latest pool book e =
-    record { opened = true; taken = takenAfter taken e; pool = pool; book = book; shape = shapeAfter latest e }
+    record { opened = 1; taken = takenAfter 1 taken e; pool = pool; book = book; shape = shapeAfter latest e }
 
 -- the answer of an event with buffers of so many numbers, and the stores at exit, are those of its step
 unfoldable pub Stepped : ℕ → ℕ → State → Event → Answer → List ℕ → List ℕ → Lent → Type 0

@@ -1,9 +1,10 @@
 -- What a line does (01, "Upload rectangle, event program"): the call that its event asks for, on the pool as the lines before left it.
 use Prim.Native.Nat.{ℕ}
 use mathlib.Core.Path.{_≡_}
-use mathlib.Core.Bool.{Bool, true, cond}
+use mathlib.Core.Bool.{Bool, true, false, cond}
 use mathlib.Core.Option.{Option, none, some}
 use mathlib.Core.List.{List}
+use lib.Dec.{eqb}
 use lib.ListN.{replicate}
 use Rattle.shapes.specs.declared.shape.VersionShape.{VersionShape}
 use Rattle.stores.specs.Model.{UploadFootprint}
@@ -28,8 +29,8 @@ pub record State : Type 0 where
 
 abbrev pub stateOf : Session → List ℕ → List ℕ → List ℕ → List ℕ → List ℕ → List ℕ → State
 stateOf s textures retiring doomed spares newest stamps = record {
-  opened = s .opened;
-  taken = s .taken;
+  opened = eqb (s .opened) 1;
+  taken = eqb (s .taken) 1;
   shape = s .shape;
   lent = lent (s .pool) (s .book) textures retiring doomed spares newest stamps;
 }

@@ -29,7 +29,7 @@ pub fn answer_event(
         ≡ step (length (now (copies .entry))) (length (now (views .entry))) (stateOf session (now (textures .entry)) (now (retiring .entry)) (now (doomed .entry)) (now (spares .entry)) (now (newest .entry)) (now (stamps .entry))) event) ⌝ }
 {
     let opened = session.opened;
-    if !opened {
+    if opened != 1 {
         return answer_unopened(
             session,
             textures,
@@ -55,7 +55,7 @@ pub fn answer_event(
         stamps,
         copies,
         views,
-        session.taken,
+        session.taken == 1,
         shape,
         event,
     );

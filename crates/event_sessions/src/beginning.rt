@@ -68,8 +68,8 @@ pub fn fresh() -> Session
     let book = no_book();
     let shape = no_shape();
     Session {
-        opened: false,
-        taken: false,
+        opened: 0,
+        taken: 0,
         pool,
         book,
         shape,

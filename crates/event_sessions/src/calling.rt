@@ -9,9 +9,17 @@ use event_answers::Answer;
 use event_calls::Called;
 use event_calls::call_doomed;
 use event_calls::call_drain;
+use event_calls::call_forget;
+use event_calls::call_note;
+use event_calls::call_park;
 use event_calls::call_plan;
+use event_calls::call_pop;
+use event_calls::call_regen;
+use event_calls::call_retire;
+use event_calls::call_take;
+use event_calls::call_trim;
+use event_calls::call_write;
 use event_lines::Event;
-use event_plain::call_plain;
 use layout::PacingBook;
 use layout::Pool;
 use shapes::VersionShape;
@@ -36,6 +44,25 @@ pub fn call_event(
     ensures { λ r. ⌜ Stepped (length (now (copies .entry))) (length (now (views .entry))) (opened taken shape (lent pool book (now (textures .entry)) (now (retiring .entry)) (now (doomed .entry)) (now (spares .entry)) (now (newest .entry)) (now (stamps .entry)))) event (r .answer) (now (copies .exit)) (now (views .exit)) (lent (r .pool) (r .book) (now (textures .exit)) (now (retiring .exit)) (now (doomed .exit)) (now (spares .exit)) (now (newest .exit)) (now (stamps .exit))) ⌝ }
 {
     match event {
+        Event::Take {
+            id,
+            shape,
+            records,
+            seq,
+        } => call_take(
+            pool,
+            book,
+            textures,
+            retiring,
+            doomed,
+            spares,
+            newest,
+            stamps,
+            id,
+            shape,
+            records,
+            seq,
+        ),
         Event::Plan {
             id,
             held,
@@ -68,6 +95,86 @@ pub fn call_event(
                 cover,
             )
         }
+        Event::Retire { id, view, seq } => call_retire(
+            pool,
+            book,
+            textures,
+            retiring,
+            doomed,
+            spares,
+            newest,
+            stamps,
+            id,
+            view,
+            seq,
+        ),
+        Event::Write {
+            id,
+            slice,
+            level,
+            rect,
+        } => call_write(
+            pool,
+            book,
+            textures,
+            retiring,
+            doomed,
+            spares,
+            newest,
+            stamps,
+            id,
+            slice,
+            level,
+            rect,
+        ),
+        Event::Regen(id) => call_regen(
+            pool,
+            book,
+            textures,
+            retiring,
+            doomed,
+            spares,
+            newest,
+            stamps,
+            id,
+        ),
+        Event::Pop(settled) => call_pop(
+            pool,
+            book,
+            textures,
+            retiring,
+            doomed,
+            spares,
+            newest,
+            stamps,
+            settled,
+        ),
+        Event::Park {
+            failed,
+            now: current,
+        } => call_park(
+            pool,
+            book,
+            textures,
+            retiring,
+            doomed,
+            spares,
+            newest,
+            stamps,
+            failed,
+            current,
+        ),
+        Event::Note(allocated) => call_note(
+            pool,
+            book,
+            textures,
+            retiring,
+            doomed,
+            spares,
+            newest,
+            stamps,
+            allocated,
+        ),
         Event::Doomed => call_doomed(
             pool,
             book,
@@ -90,7 +197,7 @@ pub fn call_event(
             stamps,
             views,
         ),
-        _ => call_plain(
+        Event::Trim(current) => call_trim(
             pool,
             book,
             textures,
@@ -99,7 +206,23 @@ pub fn call_event(
             spares,
             newest,
             stamps,
-            event,
+            current,
         ),
+        Event::Forget(id) => call_forget(
+            pool,
+            book,
+            textures,
+            retiring,
+            doomed,
+            spares,
+            newest,
+            stamps,
+            id,
+        ),
+        _ => Called {
+            pool,
+            book,
+            answer: Answer::Question,
+        },
     }
 }

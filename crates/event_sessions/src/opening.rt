@@ -1,6 +1,7 @@
 // `open`, and every other event before it.
 ghost use mathlib.Core.Path.{_≡_};
 ghost use mathlib.Core.Bool.{false};
+ghost use lib.Dec.{eqb};
 ghost use Rattle.event_sessions.specs.Sessions.{stateOf, opens};
 ghost use Rattle.event_sessions.specs.Parts.{SaysOnly, AnsweredAlone};
 use crate::answered::Answered;
@@ -33,7 +34,7 @@ fn open_session(
     let shape = session.shape;
     Answered {
         session: Session {
-            opened: true,
+            opened: 1,
             taken: session.taken,
             pool,
             book,
@@ -54,7 +55,7 @@ pub fn answer_unopened(
     stamps: &[u64],
     event: Event,
 ) -> Answered
-    requires { ⌜ session .opened ≡ false ⌝ }
+    requires { ⌜ eqb (session .opened) 1 ≡ false ⌝ }
     ensures { λ r. ⌜ AnsweredAlone (r .answer) (stateOf (r .session) (now (textures .entry)) (now (retiring .entry)) (now (doomed .entry)) (now (spares .entry)) (now (newest .entry)) (now (stamps .entry))) (stateOf session (now (textures .entry)) (now (retiring .entry)) (now (doomed .entry)) (now (spares .entry)) (now (newest .entry)) (now (stamps .entry))) event ⌝ }
 {
     match event {

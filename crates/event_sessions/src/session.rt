@@ -7,10 +7,10 @@ use layout::Pool;
 use shapes::VersionShape;
 
 // The pool and its pacing book count once it is opened; everything else of the pool is in the lent slices. The shape is that of the
-// latest take line, if one was taken since.
+// latest take line, if one was taken since. `opened` and `taken` are 1 or 0: a bool leaves padding that slows copies.
 pub struct Session {
-    pub opened: bool,
-    pub taken: bool,
+    pub opened: u64,
+    pub taken: u64,
     pub pool: Pool,
     pub book: PacingBook,
     pub shape: VersionShape,
@@ -19,7 +19,7 @@ pub struct Session {
 // An opened session after an event, with the pool and the book that its call left. A take line's shape is noted, whatever the call
 // says.
 pub fn session_after(
-    taken: bool,
+    taken: u64,
     latest: VersionShape,
     pool: Pool,
     book: PacingBook,
@@ -34,14 +34,14 @@ pub fn session_after(
             records: _,
             seq: _,
         } => Session {
-            opened: true,
-            taken: true,
+            opened: 1,
+            taken: 1,
             pool,
             book,
             shape,
         },
         _ => Session {
-            opened: true,
+            opened: 1,
             taken,
             pool,
             book,

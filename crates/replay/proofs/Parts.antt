@@ -4,15 +4,16 @@ use mathlib.Core.Bool.{true, false}
 use mathlib.Core.List.{List, _++_}
 use Prim.Native.Nat.{ℕ, _+_, _-_, _≤_}
 use native.Mathlib.Omega.{arith}
+use lib.Dec.{eqb}
 use lib.ListN.{length, take, drop, replicate, length-append, length-drop, length-replicate}
 use lib.Seq.{length-take-le}
 use Rattle.event_sessions.specs.declared.session.Session.{Session}
 use Rattle.event_sessions.specs.Parts.{freshSession}
 
 -- before an `open` nothing is asked of the stores
-pub fresh-holds {ℓ} : {A : Type ℓ} {s : Session} → s ≡ freshSession → s .opened ≡ true → A
+pub fresh-holds {ℓ} : {A : Type ℓ} {s : Session} → s ≡ freshSession → eqb (s .opened) 1 ≡ true → A
 unfolding freshSession
-fresh-holds e h = absurd (let o : false ≡ true = sym (ap (λ (s : Session). s .opened) e) ∙ h in let z : _≡_ {A = ℕ} 0 1 = cc in let y : ⊥ = omega arith in y)
+fresh-holds e h = absurd (let o : false ≡ true = sym (ap (λ (s : Session). eqb (s .opened) 1) e) ∙ h in let z : _≡_ {A = ℕ} 0 1 = cc in let y : ⊥ = omega arith in y)
 
 -- the bytes that are left to run
 pub rest-length : (list : List ℕ) (from : ℕ) → length (take (length list - from) (drop from list)) ≡ length list - from

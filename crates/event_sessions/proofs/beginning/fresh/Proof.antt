@@ -1,6 +1,5 @@
 -- `fresh` meets its contract. Assumes nothing.
 use borrow.Author.Needs.{needs}
-use mathlib.Core.Bool.{false}
 use Rattle.event_sessions.specs.Parts.{freshSession}
 use Rattle.event_sessions.proofs.beginning.fresh.Statement.{statement}
 use Rattle.event_sessions.proofs.beginning.fresh.Tie as tie
@@ -17,8 +16,8 @@ no-shape-requires c κs = search needs
 returns : tie.Need-returns
 unfolding freshSession
 returns c = λ i. record {
-  opened = false;
-  taken = false;
+  opened = 0;
+  taken = 0;
   pool = c .before .before .no-pool .ensures i;
   book = c .before .no-book .ensures i;
   shape = c .no-shape .ensures i;
