@@ -2,6 +2,7 @@
 use Prim.Native.Nat.{ℕ}
 use mathlib.Core.Path.{_≡_, refl}
 use mathlib.Core.Bool.{Bool, true, false}
+use mathlib.Core.Option.{some}
 use mathlib.Core.List.{List, [], _∷_}
 use lib.ListN.{replicate}
 use types.Run.{OneOf, miss}
@@ -10,7 +11,7 @@ use Rattle.shapes.specs.declared.shape.VersionShape.{VersionShape}
 use Rattle.stores.specs.declared.held.Held.{Held}
 use Rattle.stores.specs.Model.{UploadFootprint}
 use Rattle.layout.specs.Lent.{Lent}
-use Rattle.books.specs.LentLists.{lentTake, lentPlan, lentRetire, lentWrite, lentRegen, lentPop, lentPark, lentNote, lentDoomed, lentDrain, lentTrim, lentForget}
+use Rattle.books.specs.LentLists.{LentCall, lentCall, lentTake, lentPlan, lentRetire, lentWrite, lentRegen, lentPop, lentPark, lentNote, lentDoomed, lentDrain, lentTrim, lentForget}
 use Rattle.event_lines.specs.declared.event.Event.{Event}
 use Rattle.event_lines.proofs.event.Event.{the-type}
 use Rattle.event_answers.specs.Answers.{replyOf, InBuffers}
@@ -23,8 +24,8 @@ use Rattle.event_sessions.specs.Parts.{opened, Stepped, takenAfter, shap
 -- ---- the step of an opened session
 
 module _ (copies views : ℕ) (taken : Bool) (shape : VersionShape) (l : Lent) (a : Answer) (copiesExit viewsExit : List ℕ) (exit : Lent) where
-  -- the call that an event asks for, made with buffers of so many numbers
-  abbrev pub CallMade : Event → Type 0
+  -- an event's call was made, with buffers of so many numbers; a second `open` and an unread line have none
+  abbrev CallMade : Event → Type 0
   CallMade (Event.Take id s records seq) = Made l (lentTake id s records seq) a exit
   CallMade (Event.Plan id held slice level cover) =
       let upload : UploadFootprint = record { slice = slice; level = level; cover = cover } in
@@ -45,20 +46,25 @@ module _ (copies views : ℕ) (taken : Bool) (shape : VersionShape) (l : Lent) (
   abbrev SteppedHere : Event → Type 0
   SteppedHere e = Stepped copies views (opened taken shape l) e a copiesExit viewsExit exit
 
+  -- a call that fills no buffer
+  alone : (c : LentCall) → Made l c a exit → InBuffers a copiesExit viewsExit × (replyOf a copiesExit viewsExit ≡ some (lentCall l c .0)) × (exit ≡ lentCall l c .1)
+  unfolding Made
+  alone c m = (m .0 copiesExit viewsExit .0, m .0 copiesExit viewsExit .1, m .1)
+
   made-stepped : (e : Event) → CallMade e → SteppedHere e
-  unfolding Made MadeCopies MadeViews Stepped step
-  made-stepped (Event.Take id s records seq) m = (m .0 copiesExit viewsExit .0, m .0 copiesExit viewsExit .1, m .1)
+  unfolding MadeCopies MadeViews Stepped step
+  made-stepped (Event.Take id s records seq) m = alone _ m
   made-stepped (Event.Plan id held slice level cover) m = rw (m .0) (m .1 .0 viewsExit .0, m .1 .0 viewsExit .1, m .1 .1)
-  made-stepped (Event.Retire id view seq) m = (m .0 copiesExit viewsExit .0, m .0 copiesExit viewsExit .1, m .1)
-  made-stepped (Event.Write id slice level rect) m = (m .0 copiesExit viewsExit .0, m .0 copiesExit viewsExit .1, m .1)
-  made-stepped (Event.Regen id) m = (m .0 copiesExit viewsExit .0, m .0 copiesExit viewsExit .1, m .1)
-  made-stepped (Event.Pop settled) m = (m .0 copiesExit viewsExit .0, m .0 copiesExit viewsExit .1, m .1)
-  made-stepped (Event.Park failed now) m = (m .0 copiesExit viewsExit .0, m .0 copiesExit viewsExit .1, m .1)
-  made-stepped (Event.Note allocated) m = (m .0 copiesExit viewsExit .0, m .0 copiesExit viewsExit .1, m .1)
+  made-stepped (Event.Retire id view seq) m = alone _ m
+  made-stepped (Event.Write id slice level rect) m = alone _ m
+  made-stepped (Event.Regen id) m = alone _ m
+  made-stepped (Event.Pop settled) m = alone _ m
+  made-stepped (Event.Park failed now) m = alone _ m
+  made-stepped (Event.Note allocated) m = alone _ m
   made-stepped Event.Doomed m = (m .0 copiesExit .0, m .0 copiesExit .1, m .1)
   made-stepped Event.Drain m = (m .0 copiesExit .0, m .0 copiesExit .1, m .1)
-  made-stepped (Event.Trim now) m = (m .0 copiesExit viewsExit .0, m .0 copiesExit viewsExit .1, m .1)
-  made-stepped (Event.Forget id) m = (m .0 copiesExit viewsExit .0, m .0 copiesExit viewsExit .1, m .1)
+  made-stepped (Event.Trim now) m = alone _ m
+  made-stepped (Event.Forget id) m = alone _ m
   made-stepped (Event.Open working) m = absurd m
   made-stepped Event.Unread m = absurd m
 
