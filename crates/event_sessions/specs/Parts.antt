@@ -1,7 +1,7 @@
 -- What the parts of a step do.
 use Prim.Native.Nat.{ℕ}
 use mathlib.Core.Path.{_≡_}
-use mathlib.Core.Bool.{Bool, true, false}
+use mathlib.Core.Bool.{Bool, true}
 use mathlib.Core.Option.{Option}
 use mathlib.Core.List.{List}
 use Rattle.shapes.specs.declared.shape.VersionShape.{VersionShape}

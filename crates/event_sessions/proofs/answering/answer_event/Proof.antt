@@ -1,5 +1,4 @@
 -- `answer_event` meets its contract. Assumes nothing.
-use borrow.Author.Needs.{needs}
 use mathlib.Core.Path.{refl}
 use borrow.Author.Tests.{eq-eqb, ne-eqb}
 use Rattle.event_sessions.proofs.Opened.{alone-answers, stepped-answers, session-state}

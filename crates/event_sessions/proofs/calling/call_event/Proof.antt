@@ -1,5 +1,4 @@
 -- `call_event` meets its contract: each call is the step of its event. Assumes nothing.
-use borrow.Author.Needs.{needs}
 use mathlib.Core.Path.{refl}
 use borrow.Author.Tests.{not-true, not-false}
 use Rattle.event_sessions.proofs.Steps.{stepped, uncalled-stepped, untaken-stepped}
