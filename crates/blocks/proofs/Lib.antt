@@ -1,4 +1,5 @@
 pub mod Numbers
+pub mod PastBits
 pub mod Lists
 pub mod Listed
 pub mod All

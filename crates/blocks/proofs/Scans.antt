@@ -32,10 +32,10 @@ pub from-none : (i : ℕ) (s : List ℕ) → length s ≤ i → from i s ≡ []
 unfolding from
 from-none i s h = drop-of-length-le s h
 
--- the next four, and those past them
-from-four : (i : ℕ) (s : List ℕ) → from i s ≡ take 4 (drop i s) ++ from (i + 4) s
+-- the next w, and those past them
+from-block : (w i : ℕ) (s : List ℕ) → from i s ≡ take w (drop i s) ++ from (i + w) s
 unfolding from
-from-four i s = sym (take-append-drop 4 (drop i s)) ∙ ap (λ (l : List ℕ). take 4 (drop i s) ++ l) (drop-drop 4 i s)
+from-block w i s = sym (take-append-drop w (drop i s)) ∙ ap (λ (l : List ℕ). take w (drop i s) ++ l) (drop-drop w i s)
 
 -- the next four, one by one
 pub four-read : (i : ℕ) (s : List ℕ) → i + 4 ≤ length s → take 4 (drop i s) ≡ getD s i 0 ∷ getD s (i + 1) 0 ∷ getD s (i + 2) 0 ∷ getD s (i + 3) 0 ∷ []
@@ -62,14 +62,16 @@ module _ (p : ℕ → Bool) (i : ℕ) (s : List ℕ) where
   unfolding all
   all-done h = rw (from-none i s h)
 
-  all-four : all p (from i s) ≡ all p (take 4 (drop i s)) && all p (from (i + 4) s)
-  all-four = ap (all p) (from-four i s) ∙ all-append p (take 4 (drop i s)) (from (i + 4) s)
+  module _ (w : ℕ) where
+    all-block : all p (from i s) ≡ all p (take w (drop i s)) && all p (from (i + w) s)
+    all-block = ap (all p) (from-block w i s) ∙ all-append p (take w (drop i s)) (from (i + w) s)
 
-  pub all-four-more : all p (take 4 (drop i s)) ≡ true → all p (from i s) ≡ all p (from (i + 4) s)
-  all-four-more e = all-four ∙ ap (λ (b : Bool). b && all p (from (i + 4) s)) e
+    -- w of them pass, or one does not
+    pub all-block-more : all p (take w (drop i s)) ≡ true → all p (from i s) ≡ all p (from (i + w) s)
+    all-block-more e = all-block ∙ ap (λ (b : Bool). b && all p (from (i + w) s)) e
 
-  pub all-four-stop : all p (take 4 (drop i s)) ≡ false → all p (from i s) ≡ false
-  all-four-stop e = all-four ∙ ap (λ (b : Bool). b && all p (from (i + 4) s)) e
+    pub all-block-stop : all p (take w (drop i s)) ≡ false → all p (from i s) ≡ false
+    all-block-stop e = all-block ∙ ap (λ (b : Bool). b && all p (from (i + w) s)) e
 
   -- the four tests of a turn, as the code joins them
   pub all-four-read : i + 4 ≤ length s → p (getD s i 0) && p (getD s (i + 1) 0) && p (getD s (i + 2) 0) && p (getD s (i + 3) 0) ≡ all p (take 4 (drop i s))
@@ -108,7 +110,7 @@ module _ (b i : ℕ) (s : List ℕ) where
   member-done h = rw (from-none i s h)
 
   member-four : member b (from i s) ≡ member b (take 4 (drop i s)) || member b (from (i + 4) s)
-  member-four = ap (member b) (from-four i s) ∙ member-append b (take 4 (drop i s)) (from (i + 4) s)
+  member-four = ap (member b) (from-block 4 i s) ∙ member-append b (take 4 (drop i s)) (from (i + 4) s)
 
   pub member-four-more : member b (take 4 (drop i s)) ≡ false → member b (from i s) ≡ member b (from (i + 4) s)
   member-four-more e = member-four ∙ ap (λ (t : Bool). t || member b (from (i + 4) s)) e

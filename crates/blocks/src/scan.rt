@@ -1,10 +1,14 @@
 // Scans of a list of numbers, four a turn where the list is long: a number past the bound, a number looked for, the largest.
 ghost use mathlib.Core.Path.{_≡_};
-ghost use Prim.Native.Nat.{_+_, _≤_};
+ghost use Prim.Native.Nat.{_+_, _^_, _≤_, _<_};
+ghost use lib.Dec.{ltb};
 ghost use lib.ListN.{length, take, drop};
 ghost use Rattle.blocks.specs.Lists.{all};
 ghost use Rattle.blocks.specs.Blocks.{atMost, member, largest};
 use crate::number::larger;
+
+// The highest bit.
+const TOP: u64 = 9223372036854775808;
 
 // The four numbers from i on are at most b.
 fn four_within(s: &[u64], i: usize, b: u64) -> bool
@@ -14,12 +18,52 @@ fn four_within(s: &[u64], i: usize, b: u64) -> bool
     (s[i] <= b) & (s[i + 1] <= b) & (s[i + 2] <= b) & (s[i + 3] <= b)
 }
 
+// At least TOP if x passes b: then x, or b less x, has the highest bit.
+fn past(x: u64, b: u64) -> u64
+    requires { ⌜ b < 2 ^ 63 ⌝ }
+    ensures { λ r. ⌜ ltb r (2 ^ 63) ≡ atMost b x ⌝ }
+{
+    x | std::num::wrapping_sub_u64(b, x)
+}
+
+// At least TOP if one of the n numbers from `from` on passes b. There is no branch for each, so that the compiler can test several at once.
+fn some_past(s: &[u64], from: usize, n: usize, b: u64) -> u64
+    requires { ⌜ (from + n ≤ length (now s)) × (b < 2 ^ 63) ⌝ }
+    ensures { λ r. ⌜ ltb r (2 ^ 63) ≡ all (atMost b) (take n (drop from (now (s .entry)))) ⌝ }
+{
+    let mut bits = 0;
+    let mut k = 0;
+    while k < n {
+        bits = bits | past(s[from + k], b);
+        k += 1;
+    }
+    bits
+}
+
+// How far blocks of 64 numbers from the front on do not pass b.
+fn blocks_within(s: &[u64], b: u64) -> usize
+    ensures { λ r. ⌜ (r ≤ length (now (s .entry))) × (all (atMost b) (drop r (now (s .entry))) ≡ all (atMost b) (now (s .entry))) ⌝ }
+{
+    if TOP <= b {
+        return 0;
+    }
+    let n = s.len();
+    let mut i = 0;
+    while n - i >= 64 {
+        if TOP <= some_past(s, i, 64, b) {
+            return i;
+        }
+        i += 64;
+    }
+    i
+}
+
 // No number of s passes b.
 pub fn within(s: &[u64], b: u64) -> bool
     ensures { λ r. ⌜ r ≡ all (atMost b) (now (s .entry)) ⌝ }
 {
     let n = s.len();
-    let mut i = 0;
+    let mut i = blocks_within(s, b);
     while n - i >= 4 {
         if !four_within(s, i, b) {
             return false;

@@ -1,13 +1,13 @@
--- `within` meets its contract. What is left is within b where the whole is: four a turn, then one a turn. Assumes nothing.
+-- `within` meets its contract. What is left is within b where the whole is: behind blocks of 64, four a turn, then one a turn. Assumes nothing.
 use borrow.Author.Needs.{needs}
-use mathlib.Core.Path.{_≡_, sym, ap, _∙_}
+use mathlib.Core.Path.{_≡_, sym, _∙_}
 use Prim.Native.Nat.{_-_, _≤_}
 use native.Mathlib.Omega.{arith}
 use borrow.Author.Tests.{not-true, not-false, lt-leb, le-leb}
 use lib.ListN.{length}
 use Rattle.blocks.specs.Lists.{all}
 use Rattle.blocks.specs.Blocks.{atMost}
-use Rattle.blocks.proofs.Scans.{from, from-all, all-more, all-stop, all-done, all-four-more, all-four-stop}
+use Rattle.blocks.proofs.Scans.{from, all-more, all-stop, all-done, all-block-more, all-block-stop}
 use Rattle.blocks.proofs.scan.within.Statement.{statement}
 use Rattle.blocks.proofs.scan.within.Tie as tie
 
@@ -23,8 +23,12 @@ Inv-loop2 s b n i₀ i = (i ≤ n) × (n ≡ length s) × (all (atMost b) (from 
 abbrev μ-loop2 : tie.MeasureT-loop2
 μ-loop2 s b n i₀ i = n - i
 
+blocks-within-requires : tie.Need-blocks-within-requires Inv-loop μ-loop Inv-loop2 μ-loop2
+blocks-within-requires c κs = search needs
+
 loop-holds : tie.Need-loop-holds Inv-loop μ-loop Inv-loop2 μ-loop2
-loop-holds c = (search needs, search needs, ap (all (atMost _)) (from-all _))
+unfolding from
+loop-holds c = (search needs, search needs, c .blocks-within .ensures .1)
 
 sub-loop : tie.Need-sub-loop Inv-loop μ-loop Inv-loop2 μ-loop2
 sub-loop c = search needs
@@ -35,7 +39,7 @@ four-within-requires c κs = search needs
 returns : tie.Need-returns Inv-loop μ-loop Inv-loop2 μ-loop2
 returns c =
     let l = c .before .before .before in
-    sym (all-four-stop (atMost _) _ _ (sym (c .before .four-within .ensures) ∙ not-true _ (c .if1 .taken))) ∙ l .loop .inv .2
+    sym (all-block-stop (atMost _) _ _ 4 (sym (c .before .four-within .ensures) ∙ not-true _ (c .if1 .taken))) ∙ l .loop .inv .2
 
 add-i : tie.Need-add-i Inv-loop μ-loop Inv-loop2 μ-loop2
 add-i c = search needs
@@ -46,7 +50,7 @@ loop-less c = search needs
 loop-again : tie.Need-loop-again Inv-loop μ-loop Inv-loop2 μ-loop2
 loop-again c =
     let l = c .before .before .before in
-    (search needs, search needs, sym (all-four-more (atMost _) _ _ (sym (c .before .four-within .ensures) ∙ not-false _ (c .if1 .left))) ∙ l .loop .inv .2)
+    (search needs, search needs, sym (all-block-more (atMost _) _ _ 4 (sym (c .before .four-within .ensures) ∙ not-false _ (c .if1 .left))) ∙ l .loop .inv .2)
 
 loop2-holds : tie.Need-loop2-holds Inv-loop μ-loop Inv-loop2 μ-loop2
 loop2-holds c = (search needs, search needs, c .before .loop .inv .2)
@@ -86,6 +90,7 @@ within-spec =
     μ-loop
     Inv-loop2
     μ-loop2
+    blocks-within-requires
     loop-holds
     sub-loop
     four-within-requires
