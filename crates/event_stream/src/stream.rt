@@ -1,31 +1,26 @@
-// The lines of standard input run one after the other. Their output is written when its buffer has no room for another answer, and after each
-// block that was read, so a caller may ask line by line and wait. A write that fails ends it.
-ghost use mathlib.Core.List.{[]};
+// The lines of standard input run one after the other: what waits is fed, its output is written, and more is read where nothing waits, so a caller may
+// ask line by line and wait. A write that fails ends it.
 ghost use mathlib.Core.Path.{_≡_};
-ghost use Prim.Native.Nat.{_+_, _-_, _^_, _≤_, _<_};
-ghost use lib.ListN.{length, take, drop};
-ghost use Rattle.events.specs.Lines.{wholeLines, longestAnswer};
-use crate::input::Input;
+ghost use Prim.Native.Nat.{_≤_, _<_};
+ghost use lib.ListN.{length};
+ghost use Rattle.event_sessions.specs.Sessions.{stateOf};
+ghost use Rattle.event_sessions.specs.Parts.{freshSession};
+ghost use Rattle.events.specs.Lines.{longestAnswer};
+ghost use Rattle.event_stream.specs.Streams.{RunOf};
 use crate::input::read_more;
-use event_sessions::fresh;
-use events::run_lines;
+use crate::stopped::GOING;
+use crate::stopped::Stopped;
+use crate::stopped::reason;
+use event_blocks::Feed;
+use event_blocks::begin;
+use event_blocks::feed_block;
+use event_blocks::finish;
 use libc::STDOUT_FILENO;
 
-// The most bytes of a block, and so the most lines.
-const BLOCK: u64 = 65536;
-
-// The turns that are left: none where nothing more is to be done, or where the number of a line could pass the largest one.
-fn turns_left(turns: u64, going: bool, number: u64) -> u64
-    requires { ⌜ 0 < turns ⌝ }
-    ensures { λ r. ⌜ (r < turns) × (0 < r → number + 65536 < 2 ^ 64) ⌝ }
+fn wide(bytes: usize) -> u64
+    ensures { λ r. ⌜ r ≡ bytes ⌝ }
 {
-    if !going {
-        return 0;
-    }
-    if u64::MAX - BLOCK <= number {
-        return 0;
-    }
-    turns - 1
+    bytes as u64
 }
 
 // Writes the output that is in the buffer.
@@ -33,23 +28,6 @@ fn write_out(out: &[u8], filled: usize) -> bool
     requires { ⌜ filled ≤ length (now out) ⌝ }
 {
     io::write_all(STDOUT_FILENO, &out[0..filled])
-}
-
-// What is to be run next: the rest of the block if lines of it were run, otherwise what comes behind it.
-fn next_input(buf: &mut [u8], ran: usize, input: Input) -> Input
-    requires { ⌜ (input .from + ran ≤ input .end) × (input .end ≤ length (now buf)) × (196 < length (now buf))
-        × (ran ≡ 0 → wholeLines (take (input .end - input .from) (drop (input .from) (now buf))) ≡ []) ⌝ }
-    ensures { λ r. ⌜ (r .from ≤ r .end) × (r .end ≤ length (now (buf .entry))) ⌝ }
-{
-    let from = input.from + ran;
-    if (0 < ran) | input.ended {
-        return Input {
-            from,
-            end: input.end,
-            ended: input.ended,
-        };
-    }
-    read_more(buf, from, input.end)
 }
 
 pub fn run_all(
@@ -63,25 +41,35 @@ pub fn run_all(
     copies: &mut [u64],
     views: &mut [u64],
     out: &mut [u8],
-)
+) -> Stopped
     requires { ⌜ (196 < length (now buf)) × (length (now buf) ≤ 65536) × (longestAnswer (length (now copies)) (length (now views)) ≤ length (now out)) ⌝ }
+    ensures { λ r. ⌜ RunOf (length (now (copies .entry))) (length (now (views .entry)))
+        (stateOf freshSession (now (textures .entry)) (now (retiring .entry)) (now (doomed .entry)) (now (spares .entry)) (now (newest .entry)) (now (stamps .entry)))
+        (stateOf (r .session) (now (textures .exit)) (now (retiring .exit)) (now (doomed .exit)) (now (spares .exit)) (now (newest .exit)) (now (stamps .exit)))
+        (r .why) (r .bytes) (r .lines) ⌝ }
 {
-    let mut session = fresh();
-    let mut number = 0;
-    let mut input = Input {
-        from: 0,
-        end: 0,
-        ended: false,
-    };
-    // A proved loop has to end, and nothing says that the input does, so its turns are counted.
-    let mut turns = u64::MAX;
-    while 0 < turns {
-        let from = input.from;
-        let end = input.end;
-        let run = run_lines(
-            &buf[from..end],
-            number,
+    let mut at = begin();
+    let mut seen = 0;
+    let mut why = GOING;
+    while why == GOING {
+        let from = at.from;
+        let held = at.held;
+        let end = read_more(buf, at);
+        seen += wide(end - at.end);
+        let came = end - (from + held);
+        let fed = finish(buf, from, held, end);
+        let session = at.session;
+        let next = Feed {
             session,
+            number: at.number,
+            from,
+            held,
+            end: fed,
+            filled: 0,
+        };
+        at = feed_block(
+            next,
+            buf,
             textures,
             retiring,
             doomed,
@@ -92,12 +80,14 @@ pub fn run_all(
             views,
             out,
         );
-        let written = write_out(out, run.filled);
-        // Nothing is left where no line was run and nothing more comes.
-        let going = written & ((0 < run.from) | !input.ended);
-        session = run.session;
-        number = run.number;
-        turns = turns_left(turns, going, number);
-        input = next_input(buf, run.from, input);
+        let written = write_out(out, at.filled);
+        why = reason(came, written, seen);
+    }
+    let session = at.session;
+    Stopped {
+        why,
+        bytes: seen,
+        lines: at.number,
+        session,
     }
 }

@@ -3,3 +3,5 @@ pub mod Rooms
 pub mod Runs
 pub mod LongLines
 pub mod Outputs
+pub mod Cuts
+pub mod Texts

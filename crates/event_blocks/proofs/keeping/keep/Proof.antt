@@ -3,9 +3,9 @@ use borrow.Author.Needs.{needs}
 use mathlib.Core.Path.{_≡_}
 use Prim.Native.Nat.{_-_, _≤_}
 use native.Mathlib.Omega.{arith}
-use Rattle.event_stream.proofs.Blocks.{Moved, moved-none, moved-more, line-kept}
-use Rattle.event_stream.proofs.input.keep.Statement.{statement}
-use Rattle.event_stream.proofs.input.keep.Tie as tie
+use Rattle.event_blocks.proofs.Moves.{Moved, moved-none, moved-more, line-kept}
+use Rattle.event_blocks.proofs.keeping.keep.Statement.{statement}
+use Rattle.event_blocks.proofs.keeping.keep.Tie as tie
 
 abbrev Inv-loop : tie.InvT-loop
 Inv-loop buf₀ from end kept i₀ buf i = (i ≤ kept) × Moved from i buf₀ buf
@@ -51,7 +51,7 @@ returns c =
     let l = c .before in
     let a = l .before .before .before .args in
     let e : l .loop .i ≡ l .before .kept-bytes .result = omega (arith, c .loop-test .left, l .loop .inv .0) in
-    (search needs, line-kept (a .from) (a .end - a .from) _ (l .loop .i) (a .buf .now) (l .loop .buf) (l .before .kept-bytes .ensures) e (l .loop .inv .1))
+    (l .before .kept-bytes .ensures, line-kept (a .from) (a .end - a .from) _ (l .loop .i) (a .buf .now) (l .loop .buf) (l .before .kept-bytes .ensures) e (l .loop .inv .1))
 
 pub keep-spec : {M : Type 1} → statement M
 keep-spec =

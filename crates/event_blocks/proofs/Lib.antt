@@ -1,0 +1,4 @@
+pub mod Cutting
+pub mod Moves
+pub mod Turns
+pub mod Ends

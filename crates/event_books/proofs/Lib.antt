@@ -1,0 +1,3 @@
+pub mod Demand3Text
+pub mod Sample
+pub mod Cuttings
