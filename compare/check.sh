@@ -30,7 +30,7 @@ cargo test --release --offline -q >"$log" 2>&1 || {
     cat -- "$log"
     exit 1
 }
-COUNT=${COUNT:-5000} ./leaf_live.sh ../target/bin/leaf_answers || exit 1
+COUNT=${COUNT:-5000} ./leaf_live.sh ../target/bin/test_leaf || exit 1
 
 # compare_program NAME LINES OPTION ..: each kind of list has LINES lines in each of eight seeds.
 compare_program() {

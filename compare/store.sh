@@ -1,11 +1,11 @@
 #!/usr/bin/env bash
-# Writes the stored lists of events and the Rust's answers to them: stdin and stdout of crates/replay.
+# Writes the stored lists of events and the Rust's answers to them: stdin and stdout of crates/test_replay.
 # The lists are those of stored/, which show 01's traps, refusals and pacing one by one, and one from a seed of each kind.
 set -eu
 cd -- "$(dirname -- "${BASH_SOURCE[0]}")"
 cargo build --release --offline -q
 built=${CARGO_TARGET_DIR:-target}/release
-replay=../crates/replay
+replay=../crates/test_replay
 
 # A list from a seed, with a line feed behind its last line; no line is long.
 seeded_list() { # KIND SEED LINES TEXTURES VERSIONS PAGES ANSWERS

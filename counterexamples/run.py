@@ -2,8 +2,8 @@
 """For each edit of a rule or of a book that demand 3 rests on: a list of calls, keeping to renames, after which the live number of a texel that
 is not left out differs from the plain book's. So the edited definitions do not merely break a proof's text: the claim is false of them.
 
-Each edit is applied to a copy of the definitions of the crates stores and books, below target/counterexamples, and the counterexample is a computed
-theorem there. Run from anywhere, after 'rt check books'; 'run.py CRATE/EDIT ..' tries some of them. Exit status 0 if every edit is refuted.
+Each edit is applied to a copy of the definitions of the crates pool_rules and pool_books, below target/counterexamples, and the counterexample is a computed
+theorem there. Run from anywhere, after 'rt check pool_books'; 'run.py CRATE/EDIT ..' tries some of them. Exit status 0 if every edit is refuted.
 'run.py control' tries the same theorems over the definitions as they are, where each has to be refused."""
 import os
 import re
@@ -13,7 +13,7 @@ import sys
 
 root = os.path.dirname(os.path.dirname(os.path.abspath(__file__)))
 out = root + '/target/counterexamples'
-crates = ['blocks', 'shapes', 'rects', 'tiles', 'grids', 'stores', 'books']
+crates = ['base_blocks', 'grid_shapes', 'grid_rects', 'grid_axes', 'grid_stamps', 'pool_rules', 'pool_books']
 
 SHAPE = '(shapeOf 2 64 64 1 1 0)'
 
@@ -34,18 +34,18 @@ forget = ['between (forgetCall 7)']
 first = rename('Unknown', 900, 10)
 # edit: (calls, texel, the live version's number there, the plain book's)
 cases = {
-    'stores/copies_no_box': (first + write(0, 0) + settle(0) + rename('(Known 0)', 901, 11), (0, 0), 'some 0', 1),
-    'stores/stamps_first_write_only': (first + write(0, 0) + write(40, 40) + settle(0) + rename('(Known 0)', 901, 11), (40, 40), 'some 0', 2),
-    'stores/retires_one_write_ahead': (first + write(0, 0) + settle(0) + rename('(Known 1)', 901, 11), (0, 0), 'some 0', 1),
-    'stores/older_tracking_parks': (first + write(0, 0) + forget + rename('Unknown', 901, 10) + settle(0) + rename('(Known 0)', 902, 11), (0, 0), 'some 0', 1),
-    'stores/ignores_failed': (first + write(0, 0) + settle(5) + rename('(Known 0)', 901, 11), (50, 50), 'none', 0),
-    'stores/birth_strict': (rename('Unknown', 900, 5) + rename('Unknown', 901, 6) + write(0, 0) + settle(0) + settle(5) + rename('(Known 0)', 902, 11), (50, 50), 'none', 0),
-    'stores/box_left_out_without_full_cover': (first, (0, 0), 'none', 0),
-    'tiles/box_misses_last_column': (first + write(20, 5, 10, 10) + settle(0) + rename('(Known 0)', 901, 11), (20, 5), 'some 0', 1),
-    'books/regeneration_covers_level_0': (first + ['between (regenCall 7)'] + settle(0) + rename('(Known 0)', 901, 11), (0, 0), 'some 0', 1),
-    'books/copies_bring_nothing': (first, (0, 0), 'none', 0),
-    'books/covered_level_not_left_out': (rename('Unknown', 900, 10, 'fullCover'), (0, 0), 'none', 0),
-    'books/partial_write_ends_it': (rename('Unknown', 900, 10, 'fullCover') + write(0, 0), (50, 50), 'none', 0),
+    'pool_rules/copies_no_box': (first + write(0, 0) + settle(0) + rename('(Known 0)', 901, 11), (0, 0), 'some 0', 1),
+    'pool_rules/stamps_first_write_only': (first + write(0, 0) + write(40, 40) + settle(0) + rename('(Known 0)', 901, 11), (40, 40), 'some 0', 2),
+    'pool_rules/retires_one_write_ahead': (first + write(0, 0) + settle(0) + rename('(Known 1)', 901, 11), (0, 0), 'some 0', 1),
+    'pool_rules/older_tracking_parks': (first + write(0, 0) + forget + rename('Unknown', 901, 10) + settle(0) + rename('(Known 0)', 902, 11), (0, 0), 'some 0', 1),
+    'pool_rules/ignores_failed': (first + write(0, 0) + settle(5) + rename('(Known 0)', 901, 11), (50, 50), 'none', 0),
+    'pool_rules/birth_strict': (rename('Unknown', 900, 5) + rename('Unknown', 901, 6) + write(0, 0) + settle(0) + settle(5) + rename('(Known 0)', 902, 11), (50, 50), 'none', 0),
+    'pool_rules/box_left_out_without_full_cover': (first, (0, 0), 'none', 0),
+    'grid_axes/box_misses_last_column': (first + write(20, 5, 10, 10) + settle(0) + rename('(Known 0)', 901, 11), (20, 5), 'some 0', 1),
+    'pool_books/regeneration_covers_level_0': (first + ['between (regenCall 7)'] + settle(0) + rename('(Known 0)', 901, 11), (0, 0), 'some 0', 1),
+    'pool_books/copies_bring_nothing': (first, (0, 0), 'none', 0),
+    'pool_books/covered_level_not_left_out': (rename('Unknown', 900, 10, 'fullCover'), (0, 0), 'none', 0),
+    'pool_books/partial_write_ends_it': (rename('Unknown', 900, 10, 'fullCover') + write(0, 0), (50, 50), 'none', 0),
 }
 
 
@@ -93,7 +93,7 @@ def refute(case, edited=True):
     os.makedirs(d + '/proofs')
     own = 'Rattle.%s.specs.' % name
     # the edited crate and all above it are copied into one crate; those below are taken as they were proved
-    copied = crates[min(crates.index(crate), crates.index('stores')):]
+    copied = crates[min(crates.index(crate), crates.index('pool_rules')):]
     lower = crates[:crates.index(copied[0])]
 
     def here(text):

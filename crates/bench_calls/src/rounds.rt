@@ -1,8 +1,8 @@
 // The phases before and after the pops and parks of a round, with what each took.
 ghost use mathlib.Core.Path.{_≡_};
 ghost use mathlib.Core.Bool.{true};
-ghost use Rattle.layout.specs.Lent.{lent};
-ghost use Rattle.layout.specs.IsPool.{isPool};
+ghost use Rattle.pool_memory.specs.Lent.{lent};
+ghost use Rattle.pool_memory.specs.IsPool.{isPool};
 use bench_work::doomed_all;
 use bench_work::elapsed;
 use bench_work::note_all;
@@ -12,8 +12,8 @@ use bench_work::retire_all;
 use bench_work::take_all;
 use bench_work::trim_all;
 use bench_work::write_all;
-use layout::PacingBook;
-use layout::Pool;
+use pool_memory::PacingBook;
+use pool_memory::Pool;
 
 pub struct Renamed {
     pub pool: Pool,

@@ -3,8 +3,8 @@ ghost use mathlib.Core.Path.{_≡_};
 ghost use mathlib.Core.Bool.{true};
 ghost use Prim.Native.Nat.{_≤_};
 ghost use lib.ListN.{length};
-ghost use Rattle.layout.specs.Lent.{lent};
-ghost use Rattle.layout.specs.IsPool.{isPool};
+ghost use Rattle.pool_memory.specs.Lent.{lent};
+ghost use Rattle.pool_memory.specs.IsPool.{isPool};
 use crate::report::report;
 use crate::rounds::drain_round;
 use crate::rounds::rename_round;
@@ -17,8 +17,8 @@ use crate::totals::settled_in;
 use bench_work::open_work;
 use bench_work::settle_round;
 use bench_work::test_lines;
-use layout::PacingBook;
-use layout::Pool;
+use pool_memory::PacingBook;
+use pool_memory::Pool;
 
 struct Round {
     pool: Pool,

@@ -2,17 +2,17 @@
 // time that it took.
 ghost use mathlib.Core.Path.{_≡_};
 ghost use mathlib.Core.Bool.{true};
-ghost use Rattle.layout.specs.Lent.{lent};
-ghost use Rattle.layout.specs.IsPool.{isPool};
+ghost use Rattle.pool_memory.specs.Lent.{lent};
+ghost use Rattle.pool_memory.specs.IsPool.{isPool};
 use bench_work::elapsed;
 use bench_work::id_of;
 use bench_work::reading;
-use destruction::Handed;
-use destruction::drain_versions;
-use forgetting::forget_texture;
-use layout::PacingBook;
-use layout::Pool;
-use writes::note_mip_regeneration;
+use pool_forget_texture::forget_texture;
+use pool_memory::PacingBook;
+use pool_memory::Pool;
+use pool_note_write::note_mip_regeneration;
+use pool_take_doomed::Handed;
+use pool_take_doomed::drain_versions;
 
 pub struct Phase {
     pub pool: Pool,

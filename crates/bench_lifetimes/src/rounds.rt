@@ -1,8 +1,8 @@
 // A round: every texture is renamed and regenerated, and its versions are handed out. In the last of a lifetime every texture is forgotten.
 ghost use mathlib.Core.Path.{_≡_};
 ghost use mathlib.Core.Bool.{true};
-ghost use Rattle.layout.specs.Lent.{lent};
-ghost use Rattle.layout.specs.IsPool.{isPool};
+ghost use Rattle.pool_memory.specs.Lent.{lent};
+ghost use Rattle.pool_memory.specs.IsPool.{isPool};
 use crate::phases::Phase;
 use crate::phases::forget_all;
 use crate::phases::hand_out;
@@ -16,8 +16,8 @@ use bench_work::reading;
 use bench_work::retire_all;
 use bench_work::settle_round;
 use bench_work::take_all;
-use layout::PacingBook;
-use layout::Pool;
+use pool_memory::PacingBook;
+use pool_memory::Pool;
 
 // Every texture tracked and a version of it retired, with the time that the takes took.
 fn rename_all(

@@ -4,14 +4,14 @@ use mathlib.Core.Path.{_≡_, sym, ap, subst}
 use mathlib.Core.Bool.{Bool, true}
 use mathlib.Core.Option.{Option}
 use mathlib.Core.List.{List}
-use Rattle.shapes.specs.declared.shape.VersionShape.{VersionShape}
-use Rattle.rects.specs.declared.rect.TexelRect.{TexelRect}
-use Rattle.layout.specs.Lent.{Lent}
-use Rattle.layout.specs.IsPool.{isPool}
-use Rattle.layout.specs.Calls.{Told, TakenVersion, PoppedVersion, takeSpareCall, retireCall, noteWriteCall, popRetiredCall, parkCall, noteAllocatedCall, takeDoomedCall, trimCall, noteMipRegenerationCall, drainVersionsCall, forgetTextureCall}
-use Rattle.books.specs.Demand3.{Reply, done}
-use Rattle.books.specs.LentLists.{LentCall, lentTake, lentRetire, lentWrite, lentPop, lentPark, lentNote, lentDoomed, lentTrim, lentRegen, lentDrain, lentForget, said, filled, replyOf, takenReply, poppedReply, viewsReply, lentCall, EveryCallKeepsPool}
-use Rattle.books.proofs.LentLists.{calls-keep-pool}
+use Rattle.grid_shapes.specs.declared.shape.VersionShape.{VersionShape}
+use Rattle.grid_rects.specs.declared.rect.TexelRect.{TexelRect}
+use Rattle.pool_memory.specs.Lent.{Lent}
+use Rattle.pool_memory.specs.IsPool.{isPool}
+use Rattle.pool_memory.specs.Calls.{Told, TakenVersion, PoppedVersion, takeSpareCall, retireCall, noteWriteCall, popRetiredCall, parkCall, noteAllocatedCall, takeDoomedCall, trimCall, noteMipRegenerationCall, drainVersionsCall, forgetTextureCall}
+use Rattle.pool_books.specs.Demand3.{Reply, done}
+use Rattle.pool_books.specs.LentLists.{LentCall, lentTake, lentRetire, lentWrite, lentPop, lentPark, lentNote, lentDoomed, lentTrim, lentRegen, lentDrain, lentForget, said, filled, replyOf, takenReply, poppedReply, viewsReply, lentCall, EveryCallKeepsPool}
+use Rattle.pool_books.proofs.LentLists.{calls-keep-pool}
 
 module _ (l after : Lent) (e : isPool l ≡ true) where
   kept : (c : LentCall) (r : Reply) → (r, after) ≡ lentCall l c → isPool after ≡ true

@@ -4,12 +4,12 @@ use native.Mathlib.Omega.{arith}
 use mathlib.Core.Path.{_≡_, refl, sym, ap, subst, _∙_}
 use mathlib.Core.Bool.{Bool, true, false, cond}
 use mathlib.Core.List.{List}
-use Rattle.layout.specs.Lent.{lent}
-use Rattle.layout.specs.IsPool.{isPool}
-use Rattle.layout.specs.Calls.{openedPool, openedBook, openNumber}
+use Rattle.pool_memory.specs.Lent.{lent}
+use Rattle.pool_memory.specs.IsPool.{isPool}
+use Rattle.pool_memory.specs.Calls.{openedPool, openedBook, openNumber}
 use Rattle.pool.specs.declared.opening.OpenAnswer.{OpenAnswer}
-use Rattle.books.specs.LentLists.{OpenedIsPool}
-use Rattle.books.proofs.LentLists.{opened-is-pool}
+use Rattle.pool_books.specs.LentLists.{OpenedIsPool}
+use Rattle.pool_books.proofs.LentLists.{opened-is-pool}
 
 accepted : (b : Bool) → _≡_ {A = ℕ} (cond b 0 1) 0 → b ≡ true
 accepted true e = refl

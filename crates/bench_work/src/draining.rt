@@ -1,19 +1,19 @@
 // The phases of a round in which what settled is parked and the pool is looked after.
 ghost use mathlib.Core.Path.{_≡_};
 ghost use mathlib.Core.Bool.{true};
-ghost use Rattle.layout.specs.Lent.{lent};
-ghost use Rattle.layout.specs.IsPool.{isPool};
+ghost use Rattle.pool_memory.specs.Lent.{lent};
+ghost use Rattle.pool_memory.specs.IsPool.{isPool};
 use crate::clock::elapsed;
 use crate::clock::elapsed_if;
 use crate::clock::reading;
 use crate::clock::reading_if;
-use destruction::take_doomed;
-use layout::PacingBook;
-use layout::Pool;
-use parking::park;
-use relief::note_allocated;
-use retirement::pop_retired;
-use trimming::trim;
+use pool_memory::PacingBook;
+use pool_memory::Pool;
+use pool_note_allocated::note_allocated;
+use pool_park::park;
+use pool_retire::pop_retired;
+use pool_take_doomed::take_doomed;
+use pool_trim::trim;
 
 // The pool, and the time that the pops took.
 pub struct Pops {

@@ -1,8 +1,8 @@
 // The phases of a round in which every texture is renamed: a loop over the textures for each kind of call.
 ghost use mathlib.Core.Path.{_≡_};
 ghost use mathlib.Core.Bool.{true};
-ghost use Rattle.layout.specs.Lent.{lent};
-ghost use Rattle.layout.specs.IsPool.{isPool};
+ghost use Rattle.pool_memory.specs.Lent.{lent};
+ghost use Rattle.pool_memory.specs.IsPool.{isPool};
 use crate::workload::bench_shape;
 use crate::workload::copies_in;
 use crate::workload::held_from;
@@ -11,12 +11,12 @@ use crate::workload::id_of;
 use crate::workload::keep_at;
 use crate::workload::kept_at;
 use crate::workload::rect_of;
-use layout::PacingBook;
-use layout::Pool;
-use plans::preserve_plan;
-use renames::take_spare;
-use retirement::retire;
-use writes::note_write;
+use pool_memory::PacingBook;
+use pool_memory::Pool;
+use pool_note_write::note_write;
+use pool_preserve_plan::preserve_plan;
+use pool_retire::retire;
+use pool_take_spare::take_spare;
 
 // Each texture's spare is taken, or its tracking begun. What the spare holds is kept for its plan.
 pub fn take_all(

@@ -2,9 +2,9 @@
 use crate::clock::elapsed;
 use crate::clock::reading;
 use crate::printing::line;
-use layout::PacingBook;
-use layout::Pool;
-use pool_test::is_pool;
+use pool_formed::is_pool;
+use pool_memory::PacingBook;
+use pool_memory::Pool;
 use std::num::wrapping_add_u64;
 
 // What was timed, and a number that depends on everything read.

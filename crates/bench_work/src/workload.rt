@@ -1,9 +1,9 @@
 // What the calls are asked: flat textures that record their writes.
-use plans::PlanAnswer;
-use rects::TexelRect;
-use renames::Taken;
-use shapes::VersionShape;
-use stores::Held;
+use grid_rects::TexelRect;
+use grid_shapes::VersionShape;
+use pool_preserve_plan::PlanAnswer;
+use pool_rules::Held;
+use pool_take_spare::Taken;
 
 // Ids in no order, so that a search goes to another place each time.
 pub fn id_of(i: usize) -> u64 {

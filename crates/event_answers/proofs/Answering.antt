@@ -6,10 +6,10 @@ use native.Mathlib.Omega.{arith}
 use borrow.Author.Tests.{eq-eqb, ne-eqb}
 use lib.ListN.{length, take, drop, getD, length-drop}
 use lib.Seq.{sets, take-all, length-take-le}
-use Rattle.tables.specs.Records.{table, recordAt}
-use Rattle.tables.proofs.Records.{length-table}
-use Rattle.stores.specs.declared.held.Held.{Held}
-use Rattle.books.specs.LentLists.{readCopy}
+use Rattle.base_tables.specs.Records.{table, recordAt}
+use Rattle.base_tables.proofs.Records.{length-table}
+use Rattle.pool_rules.specs.declared.held.Held.{Held}
+use Rattle.pool_books.specs.LentLists.{readCopy}
 use Rattle.event_text.specs.Numbers.{digitsOf}
 use Rattle.event_answers.specs.declared.answer.Answer.{Answer}
 use Rattle.event_answers.specs.declared.answer.Answer.the-variants.{Question, Refused, Done, Spare, NoSpare, Version, NothingSettled, Views, Copies}

@@ -4,14 +4,14 @@ use mathlib.Core.List.{List, [], _∷_, _++_, flatMap}
 use Prim.Native.Nat.{ℕ, zero, suc, _+_, _*_, _≤_}
 use native.Mathlib.Omega.{arith}
 use lib.ListN.{length, take, length-append}
-use Rattle.tables.specs.Records.{table}
-use Rattle.tables.proofs.Records.{length-table}
-use Rattle.rects.specs.declared.rect.Region.{Region}
-use Rattle.rects.specs.declared.rect.Region.the-variants.{Whole, Part}
-use Rattle.stores.specs.declared.held.Held.{Held}
-use Rattle.stores.specs.declared.held.Held.the-variants.{Known, Unknown}
-use Rattle.stores.specs.Model.{PreserveCopy}
-use Rattle.books.specs.LentLists.{readCopy}
+use Rattle.base_tables.specs.Records.{table}
+use Rattle.base_tables.proofs.Records.{length-table}
+use Rattle.grid_rects.specs.declared.rect.Region.{Region}
+use Rattle.grid_rects.specs.declared.rect.Region.the-variants.{Whole, Part}
+use Rattle.pool_rules.specs.declared.held.Held.{Held}
+use Rattle.pool_rules.specs.declared.held.Held.the-variants.{Known, Unknown}
+use Rattle.pool_rules.specs.Model.{PreserveCopy}
+use Rattle.pool_books.specs.LentLists.{readCopy}
 use Rattle.event_text.specs.Numbers.{digitsOf}
 use Rattle.event_text.proofs.Printing.{digits-room}
 use Rattle.event_answers.specs.declared.answer.Answer.{Answer}

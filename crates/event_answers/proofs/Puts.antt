@@ -7,8 +7,8 @@ use native.Mathlib.Nat.{add-assoc}
 use native.Mathlib.Omega.{arith}
 use lib.ListN.{length, take, getD, set, length-append}
 use lib.Seq.{sets}
-use Rattle.blocks.proofs.Listed.{left, left-step, left-none, left-all, take-listed, listed-getD}
-use Rattle.layout.proofs.Rewritten.{sets-append}
+use Rattle.base_blocks.proofs.Listed.{left, left-step, left-none, left-all, take-listed, listed-getD}
+use Rattle.pool_memory.proofs.Rewritten.{sets-append}
 use Rattle.event_text.specs.Fields.{comma}
 use Rattle.event_text.specs.Numbers.{digitsOf}
 use Rattle.event_text.proofs.Printing.{digits-room}

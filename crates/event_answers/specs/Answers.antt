@@ -3,9 +3,9 @@ use Prim.Native.Nat.{ℕ, _*_, _≤_}
 use mathlib.Core.Option.{Option, none, some}
 use mathlib.Core.List.{List}
 use lib.ListN.{length}
-use Rattle.stores.specs.declared.held.Held.the-variants.{Unknown}
-use Rattle.books.specs.Demand3.{Reply, refusal, done, spareTaken, versionPopped}
-use Rattle.books.specs.LentLists.{copiesReply, viewsReply}
+use Rattle.pool_rules.specs.declared.held.Held.the-variants.{Unknown}
+use Rattle.pool_books.specs.Demand3.{Reply, refusal, done, spareTaken, versionPopped}
+use Rattle.pool_books.specs.LentLists.{copiesReply, viewsReply}
 use Rattle.event_answers.specs.declared.answer.Answer.{Answer}
 use Rattle.event_answers.specs.declared.answer.Answer.the-variants.{Question, Refused, Done, Spare, NoSpare, Version, NothingSettled, Views, Copies}
 

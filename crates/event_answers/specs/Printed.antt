@@ -4,12 +4,12 @@ use Prim.Native.Nat.{ℕ, _+_, _*_}
 use mathlib.Core.Option.{Option, none, some}
 use mathlib.Core.List.{List, [], _∷_, _++_, flatMap}
 use lib.ListN.{length}
-use Rattle.rects.specs.declared.rect.Region.{Region}
-use Rattle.rects.specs.declared.rect.Region.the-variants.{Whole, Part}
-use Rattle.stores.specs.declared.held.Held.{Held}
-use Rattle.stores.specs.declared.held.Held.the-variants.{Known, Unknown}
-use Rattle.stores.specs.Model.{PreserveCopy}
-use Rattle.books.specs.Demand3.{Reply, refusal, done, spareTaken, copiesPlanned, versionPopped, viewsHanded}
+use Rattle.grid_rects.specs.declared.rect.Region.{Region}
+use Rattle.grid_rects.specs.declared.rect.Region.the-variants.{Whole, Part}
+use Rattle.pool_rules.specs.declared.held.Held.{Held}
+use Rattle.pool_rules.specs.declared.held.Held.the-variants.{Known, Unknown}
+use Rattle.pool_rules.specs.Model.{PreserveCopy}
+use Rattle.pool_books.specs.Demand3.{Reply, refusal, done, spareTaken, copiesPlanned, versionPopped, viewsHanded}
 use Rattle.event_text.specs.Fields.{comma}
 use Rattle.event_text.specs.Numbers.{digitsOf}
 

@@ -1,5 +1,5 @@
 // What a line is answered with.
-use stores::Held;
+use pool_rules::Held;
 
 // Views and copies stand in the answer buffers: so many view numbers, and so many copies of seven numbers each.
 pub enum Answer {

@@ -2,8 +2,8 @@
 ghost use Prim.Native.Nat.{_+_, _*_, _≤_};
 ghost use mathlib.Core.List.{[], _∷_, flatMap};
 ghost use lib.ListN.{length, take};
-ghost use Rattle.tables.specs.Records.{table};
-ghost use Rattle.books.specs.LentLists.{readCopy};
+ghost use Rattle.base_tables.specs.Records.{table};
+ghost use Rattle.pool_books.specs.LentLists.{readCopy};
 ghost use Rattle.event_text.specs.Numbers.{digitsOf};
 ghost use Rattle.event_answers.specs.Printed.{copyRow, viewRow, mostRow};
 ghost use Rattle.event_answers.specs.Put.{Put, fieldsEnded};

@@ -18,7 +18,7 @@ use crate::row::put_pair;
 use crate::row::put_row;
 use crate::row::put_words;
 use event_text::put_text;
-use stores::Held;
+use pool_rules::Held;
 
 // The line of a spare.
 fn put_spare(out: &mut [u8], at: usize, number: u64, view: u64, held: Held) -> usize

@@ -2,8 +2,8 @@
 use mathlib.Core.Path.{_∙_}
 use Rattle.event_sessions.specs.Sessions.{stateOf}
 use Rattle.event_sessions.specs.Parts.{freshSession}
-use Rattle.event_blocks.specs.Blocks.{joined}
-use Rattle.event_blocks.proofs.Cutting.{every-cutting}
+use Rattle.event_feed.specs.Blocks.{joined}
+use Rattle.event_feed.proofs.Cutting.{every-cutting}
 use Rattle.event_books.specs.EventLists.{Demand3Text}
 use Rattle.event_books.specs.Cuttings.{Demand3Blocks}
 use Rattle.event_books.proofs.Demand3Text.{demand3-text}

@@ -5,22 +5,22 @@ use mathlib.Core.Path.{_≡_, refl, ap, ap₂, _∙_}
 use mathlib.Core.Bool.{Bool, true, false, cond}
 use mathlib.Core.Option.{Option, none, some}
 use mathlib.Core.List.{List, [], _∷_, _++_, map}
-use Rattle.shapes.specs.declared.shape.VersionShape.{VersionShape}
-use Rattle.stores.specs.Model.{Places}
-use Rattle.layout.specs.Lent.{Lent, versionPlaces}
-use Rattle.layout.specs.Reading.{modelOf}
-use Rattle.layout.specs.IsPool.{sizesFit}
-use Rattle.books.specs.Lists.{State as Books, Renames, start}
-use Rattle.books.specs.Demand3.{Reply, refusal, done, ThroughoutOf}
-use Rattle.books.specs.LentLists.{LentCall, roomOf, lentCall, openedLent, Demand3Lent}
-use Rattle.books.proofs.LentLists.{demand3-lent}
+use Rattle.grid_shapes.specs.declared.shape.VersionShape.{VersionShape}
+use Rattle.pool_rules.specs.Model.{Places}
+use Rattle.pool_memory.specs.Lent.{Lent, versionPlaces}
+use Rattle.pool_memory.specs.Reading.{modelOf}
+use Rattle.pool_memory.specs.IsPool.{sizesFit}
+use Rattle.pool_books.specs.Lists.{State as Books, Renames, start}
+use Rattle.pool_books.specs.Demand3.{Reply, refusal, done, ThroughoutOf}
+use Rattle.pool_books.specs.LentLists.{LentCall, roomOf, lentCall, openedLent, Demand3Lent}
+use Rattle.pool_books.proofs.LentLists.{demand3-lent}
 use Rattle.event_lines.specs.declared.event.Event.{Event}
 use Rattle.event_lines.specs.Grammar.{eventOf}
 use Rattle.event_answers.specs.Printed.{printed}
 use Rattle.event_sessions.specs.Sessions.{State, stateOf, opens, openedState, step}
 use Rattle.event_sessions.specs.Parts.{noShape, freshSession, opened, takenAfter, shapeAfter}
-use Rattle.events.specs.Lines.{lineOutput, lineState, output}
-use Rattle.events.specs.Texts.{allLines, textOutput}
+use Rattle.event_runs.specs.Lines.{lineOutput, lineState, output}
+use Rattle.event_runs.specs.Texts.{allLines, textOutput}
 use Rattle.event_books.specs.EventLists.{callOf, Opened, afterCall, replyTo, MayCall, call, opening, openingReply, next, reply, InRenames, Agree, AgreeThroughout, replies, repliesText, Demand3Text}
 
 -- ---- a line once the pool is opened

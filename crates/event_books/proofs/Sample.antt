@@ -4,28 +4,28 @@ use mathlib.Core.Bool.{true}
 use mathlib.Core.Option.{none}
 use mathlib.Core.List.{List, flatMap}
 use Prim.Native.Nat.{ℕ, _/_}
-use Rattle.blocks.specs.Lists.{all, tests, listed, total, keep, after, ceilDiv}
-use Rattle.shapes.specs.Formats.{blockEdge, blockBytes}
-use Rattle.shapes.specs.Shapes.{isShape, sameShape, slicesOf, levelExtent, levelWidth, levelHeight, levelDepth, levelBytes, bytesOf}
-use Rattle.rects.specs.Rects.{wholeLevel}
-use Rattle.tiles.specs.Axes.{tileEdge, axisOf, tilesOf, cutEnd, isCut, touched, oneTile, widened, spanAround, spanStart, spanSize}
-use Rattle.grids.specs.Grids.{tilingOf, columnsOf, rowsOf, stampCount, newGrid, rowByRow, stampOf, touches, isCutRect, stampedBy, dirtyTiles, boxOf, boxAround, boxSince}
-use Rattle.stores.specs.Budget.{budgetOf}
-use Rattle.stores.specs.Model.{guard, find, pagesOf}
-use Rattle.stores.specs.Updates.{change, insert}
-use Rattle.stores.specs.Histories.{gridAt, newHistory, stampWrite}
-use Rattle.stores.specs.TakeSpare.{takeSpare}
-use Rattle.stores.specs.PreservePlan.{boxCopy, copyOf, copies, preservePlan}
-use Rattle.stores.specs.Retire.{retire}
-use Rattle.stores.specs.NoteWrite.{noteWrite}
-use Rattle.stores.specs.PopRetired.{popRetired}
-use Rattle.stores.specs.Park.{park}
-use Rattle.layout.specs.Lent.{Lent, versionPlaces}
-use Rattle.layout.specs.Reading.{modelOf}
-use Rattle.layout.specs.IsPool.{sizesFit}
-use Rattle.stores.specs.Open.{arePlaces}
-use Rattle.books.specs.Lists.{afterTake, afterPlan, afterRetire, renameIn, marking, stepBetween, step, start}
-use Rattle.books.specs.Demand3.{perform, performBetween}
+use Rattle.base_blocks.specs.Lists.{all, tests, listed, total, keep, after, ceilDiv}
+use Rattle.grid_shapes.specs.Formats.{blockEdge, blockBytes}
+use Rattle.grid_shapes.specs.Shapes.{isShape, sameShape, slicesOf, levelExtent, levelWidth, levelHeight, levelDepth, levelBytes, bytesOf}
+use Rattle.grid_rects.specs.Rects.{wholeLevel}
+use Rattle.grid_axes.specs.Axes.{tileEdge, axisOf, tilesOf, cutEnd, isCut, touched, oneTile, widened, spanAround, spanStart, spanSize}
+use Rattle.grid_stamps.specs.Grids.{tilingOf, columnsOf, rowsOf, stampCount, newGrid, rowByRow, stampOf, touches, isCutRect, stampedBy, dirtyTiles, boxOf, boxAround, boxSince}
+use Rattle.pool_rules.specs.Budget.{budgetOf}
+use Rattle.pool_rules.specs.Model.{guard, find, pagesOf}
+use Rattle.pool_rules.specs.Updates.{change, insert}
+use Rattle.pool_rules.specs.Histories.{gridAt, newHistory, stampWrite}
+use Rattle.pool_rules.specs.TakeSpare.{takeSpare}
+use Rattle.pool_rules.specs.PreservePlan.{boxCopy, copyOf, copies, preservePlan}
+use Rattle.pool_rules.specs.Retire.{retire}
+use Rattle.pool_rules.specs.NoteWrite.{noteWrite}
+use Rattle.pool_rules.specs.PopRetired.{popRetired}
+use Rattle.pool_rules.specs.Park.{park}
+use Rattle.pool_memory.specs.Lent.{Lent, versionPlaces}
+use Rattle.pool_memory.specs.Reading.{modelOf}
+use Rattle.pool_memory.specs.IsPool.{sizesFit}
+use Rattle.pool_rules.specs.Open.{arePlaces}
+use Rattle.pool_books.specs.Lists.{afterTake, afterPlan, afterRetire, renameIn, marking, stepBetween, step, start}
+use Rattle.pool_books.specs.Demand3.{perform, performBetween}
 use Rattle.event_answers.specs.Printed.{row, optional, heldField, regionFields, copyRow, viewRow, replyRows, printed}
 use Rattle.event_sessions.specs.Parts.{freshSession}
 use Rattle.event_sessions.specs.Sessions.{stateOf}
@@ -33,8 +33,8 @@ use Rattle.event_text.specs.Fields.{inFirst, fieldsOf, same}
 use Rattle.event_text.specs.Numbers.{isDigit, value, decimal, isNumber, digits, digitsOf}
 use Rattle.event_lines.specs.Words.{wordOf, laterWord}
 use Rattle.event_lines.specs.Grammar.{isKind, areKinds, kindsOf, shapeOf, rectOf, takeEvent, planEvent, retireEvent, writeEvent, made, heldBy, num, eventBy, event, eventOf}
-use Rattle.events.specs.Lines.{inFirstLine, wholeLines}
-use Rattle.events.specs.Texts.{inLastLine, lastLine, ifAny, allLines}
+use Rattle.event_runs.specs.Lines.{inFirstLine, wholeLines}
+use Rattle.event_runs.specs.Texts.{inLastLine, lastLine, ifAny, allLines}
 use Rattle.event_books.specs.EventLists.{events, callOf, opening, openingReply, InRenames, replies, repliesText, Demand3Text}
 use Rattle.event_books.proofs.Demand3Text.{demand3-text}
 use Rattle.event_books.specs.Sample.{sampleText, sampleOutput, sampleEvents, places, Lengths, SampleHolds}

@@ -3,11 +3,11 @@ use Prim.Native.Nat.{ℕ}
 use mathlib.Core.Path.{_≡_}
 use mathlib.Core.Option.{none}
 use mathlib.Core.List.{List, _++_}
-use Rattle.layout.specs.Reading.{modelOf}
-use Rattle.layout.specs.IsPool.{sizesFit}
+use Rattle.pool_memory.specs.Reading.{modelOf}
+use Rattle.pool_memory.specs.IsPool.{sizesFit}
 use Rattle.event_sessions.specs.Sessions.{stateOf}
 use Rattle.event_sessions.specs.Parts.{freshSession}
-use Rattle.event_blocks.specs.Blocks.{first, joined, finishOutput, fedAll, outputs}
+use Rattle.event_feed.specs.Blocks.{first, joined, finishOutput, fedAll, outputs}
 use Rattle.event_books.specs.EventLists.{events, InRenames, AgreeThroughout, replies, repliesText}
 
 module _ (copies views : ℕ) (textures retiring doomed spares newest stamps : List ℕ) (blocks : List (List ℕ)) where

@@ -6,19 +6,19 @@ use mathlib.Core.Bool.{Bool, true, false, cond}
 use mathlib.Core.Option.{Option, none, some}
 use mathlib.Core.List.{List, [], _∷_, _++_, map}
 use lib.ListN.{replicate}
-use Rattle.shapes.specs.declared.shape.VersionShape.{VersionShape}
-use Rattle.stores.specs.Model.{Places, UploadFootprint}
-use Rattle.layout.specs.Reading.{modelOf}
-use Rattle.layout.specs.IsPool.{sizesFit}
-use Rattle.books.specs.Lists.{Allowed, State as Books, step as bookStep, start}
-use Rattle.books.specs.Demand3.{Agrees, Reply, refusal, done, replied}
-use Rattle.books.specs.LentLists.{LentCall, lentTake, lentPlan, lentRetire, lentWrite, lentRegen, lentPop, lentPark, lentNote, lentDoomed, lentDrain, lentTrim, lentForget, roomOf}
+use Rattle.grid_shapes.specs.declared.shape.VersionShape.{VersionShape}
+use Rattle.pool_rules.specs.Model.{Places, UploadFootprint}
+use Rattle.pool_memory.specs.Reading.{modelOf}
+use Rattle.pool_memory.specs.IsPool.{sizesFit}
+use Rattle.pool_books.specs.Lists.{Allowed, State as Books, step as bookStep, start}
+use Rattle.pool_books.specs.Demand3.{Agrees, Reply, refusal, done, replied}
+use Rattle.pool_books.specs.LentLists.{LentCall, lentTake, lentPlan, lentRetire, lentWrite, lentRegen, lentPop, lentPark, lentNote, lentDoomed, lentDrain, lentTrim, lentForget, roomOf}
 use Rattle.event_lines.specs.declared.event.Event.{Event}
 use Rattle.event_lines.specs.Grammar.{eventOf}
 use Rattle.event_answers.specs.Printed.{printed}
 use Rattle.event_sessions.specs.Sessions.{stateOf}
 use Rattle.event_sessions.specs.Parts.{noShape, freshSession, takenAfter, shapeAfter}
-use Rattle.events.specs.Texts.{allLines, textOutput}
+use Rattle.event_runs.specs.Texts.{allLines, textOutput}
 
 -- ---- the call that a line makes once the pool is opened; the answer's buffers have so many numbers
 

@@ -4,13 +4,13 @@ use mathlib.Core.Path.{_≡_}
 use mathlib.Core.Bool.{true, false}
 use mathlib.Core.List.{List, [], _∷_}
 use lib.ListN.{length}
-use Rattle.shapes.specs.declared.shape.VersionShape.{VersionShape}
-use Rattle.stores.specs.declared.held.Held.the-variants.{Known, Unknown}
-use Rattle.stores.specs.Model.{Places}
+use Rattle.grid_shapes.specs.declared.shape.VersionShape.{VersionShape}
+use Rattle.pool_rules.specs.declared.held.Held.the-variants.{Known, Unknown}
+use Rattle.pool_rules.specs.Model.{Places}
 use Rattle.event_lines.specs.declared.event.Event.{Event}
 use Rattle.event_sessions.specs.Sessions.{stateOf}
 use Rattle.event_sessions.specs.Parts.{freshSession}
-use Rattle.events.specs.Texts.{textOutput}
+use Rattle.event_runs.specs.Texts.{textOutput}
 use Rattle.event_books.specs.EventLists.{Claim}
 
 -- crates/event_program/stdin

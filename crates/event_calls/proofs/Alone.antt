@@ -3,12 +3,12 @@ use Prim.Native.Nat.{ℕ}
 use mathlib.Core.Path.{_≡_, refl, ap, _∙_}
 use mathlib.Core.Bool.{Bool}
 use mathlib.Core.Option.{Option, none, some}
-use Rattle.shapes.specs.declared.shape.VersionShape.{VersionShape}
-use Rattle.rects.specs.declared.rect.TexelRect.{TexelRect}
-use Rattle.layout.specs.Lent.{Lent}
-use Rattle.layout.specs.Calls.{Told, refusal, answer, TakenVersion, PoppedVersion, takeSpareCall, retireCall, noteWriteCall, noteMipRegenerationCall, popRetiredCall, parkCall, noteAllocatedCall, trimCall, forgetTextureCall}
-use Rattle.books.specs.Demand3.{Reply, done}
-use Rattle.books.specs.LentLists.{LentCall, lentTake, lentRetire, lentWrite, lentRegen, lentPop, lentPark, lentNote, lentTrim, lentForget, said, replyOf as toldReply, takenReply, poppedReply, lentCall}
+use Rattle.grid_shapes.specs.declared.shape.VersionShape.{VersionShape}
+use Rattle.grid_rects.specs.declared.rect.TexelRect.{TexelRect}
+use Rattle.pool_memory.specs.Lent.{Lent}
+use Rattle.pool_memory.specs.Calls.{Told, refusal, answer, TakenVersion, PoppedVersion, takeSpareCall, retireCall, noteWriteCall, noteMipRegenerationCall, popRetiredCall, parkCall, noteAllocatedCall, trimCall, forgetTextureCall}
+use Rattle.pool_books.specs.Demand3.{Reply, done}
+use Rattle.pool_books.specs.LentLists.{LentCall, lentTake, lentRetire, lentWrite, lentRegen, lentPop, lentPark, lentNote, lentTrim, lentForget, said, replyOf as toldReply, takenReply, poppedReply, lentCall}
 use Rattle.event_answers.specs.Answers.{replyOf, InBuffers}
 use Rattle.event_answers.specs.declared.answer.Answer.{Answer}
 use Rattle.event_calls.specs.Calls.{SaysAlone, Made, doneAnswer, takenAnswer, poppedAnswer}

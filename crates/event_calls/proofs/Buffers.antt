@@ -6,21 +6,21 @@ use mathlib.Core.List.{List, [], _∷_}
 use native.Mathlib.Nat.{mul-zero, mul-suc, add-comm}
 use native.Mathlib.Omega.{arith}
 use lib.ListN.{length, drop, length-append, length-replicate}
-use Rattle.blocks.specs.Lists.{over}
-use Rattle.tables.specs.Records.{flat}
-use Rattle.shapes.specs.declared.shape.VersionShape.{VersionShape}
-use Rattle.rects.specs.declared.rect.Region.{Region}
-use Rattle.rects.specs.declared.rect.Region.the-variants.{Whole, Part}
-use Rattle.stores.specs.declared.held.Held.{Held}
-use Rattle.stores.specs.Model.{Pool, PreserveCopy, UploadFootprint}
-use Rattle.stores.specs.PreservePlan.{preservePlan}
-use Rattle.stores.specs.TakeDoomed.{takeDoomed}
-use Rattle.stores.specs.DrainVersions.{drainVersions}
-use Rattle.layout.specs.Lent.{Lent}
-use Rattle.layout.specs.Calls.{Told, refusal, answer, asked, inBuffer, regionNumbers, copyNumbers, viewNumbers, preservePlanCall, takeDoomedCall, drainVersionsCall}
-use Rattle.books.specs.Demand3.{Reply, copiesPlanned, viewsHanded}
-use Rattle.books.specs.LentLists.{LentCall, lentTake, lentPlan, lentRetire, lentWrite, lentRegen, lentPop, lentPark, lentNote, lentDoomed, lentDrain, lentTrim, lentForget, said, filled, replyOf as toldReply, copiesReply, viewsReply, lentCall}
-use Rattle.books.proofs.Answers.{copies-read, views-read}
+use Rattle.base_blocks.specs.Lists.{over}
+use Rattle.base_tables.specs.Records.{flat}
+use Rattle.grid_shapes.specs.declared.shape.VersionShape.{VersionShape}
+use Rattle.grid_rects.specs.declared.rect.Region.{Region}
+use Rattle.grid_rects.specs.declared.rect.Region.the-variants.{Whole, Part}
+use Rattle.pool_rules.specs.declared.held.Held.{Held}
+use Rattle.pool_rules.specs.Model.{Pool, PreserveCopy, UploadFootprint}
+use Rattle.pool_rules.specs.PreservePlan.{preservePlan}
+use Rattle.pool_rules.specs.TakeDoomed.{takeDoomed}
+use Rattle.pool_rules.specs.DrainVersions.{drainVersions}
+use Rattle.pool_memory.specs.Lent.{Lent}
+use Rattle.pool_memory.specs.Calls.{Told, refusal, answer, asked, inBuffer, regionNumbers, copyNumbers, viewNumbers, preservePlanCall, takeDoomedCall, drainVersionsCall}
+use Rattle.pool_books.specs.Demand3.{Reply, copiesPlanned, viewsHanded}
+use Rattle.pool_books.specs.LentLists.{LentCall, lentTake, lentPlan, lentRetire, lentWrite, lentRegen, lentPop, lentPark, lentNote, lentDoomed, lentDrain, lentTrim, lentForget, said, filled, replyOf as toldReply, copiesReply, viewsReply, lentCall}
+use Rattle.pool_books.proofs.Answers.{copies-read, views-read}
 use Rattle.event_answers.specs.Answers.{replyOf, InBuffers}
 use Rattle.event_answers.specs.declared.answer.Answer.{Answer}
 use Rattle.event_calls.specs.Calls.{MadeCopies, MadeViews, blank, blanked, viewsAnswer, copiesAnswer}

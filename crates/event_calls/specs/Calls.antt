@@ -4,10 +4,10 @@ use mathlib.Core.Path.{_≡_}
 use mathlib.Core.Option.{Option, none, some}
 use mathlib.Core.List.{List}
 use lib.ListN.{length, replicate}
-use Rattle.layout.specs.Lent.{Lent}
-use Rattle.layout.specs.Calls.{Told, refusal, answer, TakenVersion, PoppedVersion}
-use Rattle.books.specs.Demand3.{Reply}
-use Rattle.books.specs.LentLists.{LentCall, lentTake, lentPlan, lentRetire, lentWrite, lentRegen, lentPop, lentPark, lentNote, lentDoomed, lentDrain, lentTrim, lentForget, lentCall}
+use Rattle.pool_memory.specs.Lent.{Lent}
+use Rattle.pool_memory.specs.Calls.{Told, refusal, answer, TakenVersion, PoppedVersion}
+use Rattle.pool_books.specs.Demand3.{Reply}
+use Rattle.pool_books.specs.LentLists.{LentCall, lentTake, lentPlan, lentRetire, lentWrite, lentRegen, lentPop, lentPark, lentNote, lentDoomed, lentDrain, lentTrim, lentForget, lentCall}
 use Rattle.event_answers.specs.Answers.{replyOf, InBuffers}
 use Rattle.event_answers.specs.declared.answer.Answer.{Answer}
 use Rattle.event_answers.specs.declared.answer.Answer.the-variants.{Refused, Done, Spare, NoSpare, Version, NothingSettled, Views, Copies}

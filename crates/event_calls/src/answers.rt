@@ -1,16 +1,16 @@
 // What a call answers, as the answer of a line.
 ghost use mathlib.Core.Path.{_≡_};
-ghost use Rattle.layout.specs.Calls.{toldNumber};
-ghost use Rattle.renames.specs.Answer.{takenTold};
-ghost use Rattle.plans.specs.Plan.{plannedTold};
-ghost use Rattle.retirement.specs.Answers.{poppedTold};
-ghost use Rattle.destruction.specs.Answer.{handedTold};
+ghost use Rattle.pool_memory.specs.Calls.{toldNumber};
+ghost use Rattle.pool_take_spare.specs.Answer.{takenTold};
+ghost use Rattle.pool_preserve_plan.specs.Plan.{plannedTold};
+ghost use Rattle.pool_retire.specs.Answers.{poppedTold};
+ghost use Rattle.pool_take_doomed.specs.Answer.{handedTold};
 ghost use Rattle.event_calls.specs.Calls.{doneAnswer, takenAnswer, poppedAnswer, viewsAnswer, copiesAnswer};
-use destruction::Handed;
 use event_answers::Answer;
-use plans::PlanAnswer;
-use renames::Taken;
-use retirement::Popped;
+use pool_preserve_plan::PlanAnswer;
+use pool_retire::Popped;
+use pool_take_doomed::Handed;
+use pool_take_spare::Taken;
 
 pub fn answer_done(outcome: u64) -> Answer
     ensures { λ r. ⌜ r ≡ doneAnswer (toldNumber outcome) ⌝ }

@@ -1,7 +1,7 @@
 // What a call leaves and answers.
 use event_answers::Answer;
-use layout::PacingBook;
-use layout::Pool;
+use pool_memory::PacingBook;
+use pool_memory::Pool;
 
 pub struct Called {
     pub pool: Pool,

@@ -1,15 +1,15 @@
 // Memory pressure, and versions handed back to be destroyed.
 ghost use mathlib.Core.Path.{_≡_};
 ghost use mathlib.Core.Bool.{true};
-ghost use Rattle.layout.specs.Lent.{lent};
-ghost use Rattle.layout.specs.IsPool.{isPool};
-ghost use Rattle.books.specs.LentLists.{lentDoomed, lentDrain, lentNote};
+ghost use Rattle.pool_memory.specs.Lent.{lent};
+ghost use Rattle.pool_memory.specs.IsPool.{isPool};
+ghost use Rattle.pool_books.specs.LentLists.{lentDoomed, lentDrain, lentNote};
 ghost use Rattle.event_calls.specs.Calls.{Made, MadeViews, blank};
 use crate::answers::answer_done;
 use crate::answers::answer_handed;
 use crate::called::Called;
-use layout::PacingBook;
-use layout::Pool;
+use pool_memory::PacingBook;
+use pool_memory::Pool;
 
 // Notes how much memory the process has allocated.
 pub fn call_note(
@@ -26,7 +26,7 @@ pub fn call_note(
     requires { ⌜ isPool (lent pool book (now textures) (now retiring) (now doomed) (now spares) (now newest) (now stamps)) ≡ true ⌝ }
     ensures { λ r. ⌜ Made (lent pool book (now (textures .entry)) (now (retiring .entry)) (now (doomed .entry)) (now (spares .entry)) (now (newest .entry)) (now (stamps .entry))) (lentNote allocated) (r .answer) (lent (r .pool) (r .book) (now (textures .exit)) (now (retiring .entry)) (now (doomed .exit)) (now (spares .exit)) (now (newest .entry)) (now (stamps .entry))) ⌝ }
 {
-    let said = relief::note_allocated(
+    let said = pool_note_allocated::note_allocated(
         pool,
         book,
         textures,
@@ -58,7 +58,7 @@ pub fn call_doomed(
     requires { ⌜ isPool (lent pool book (now textures) (now retiring) (now doomed) (now spares) (now newest) (now stamps)) ≡ true ⌝ }
     ensures { λ r. ⌜ MadeViews (lent pool book (now (textures .entry)) (now (retiring .entry)) (now (doomed .entry)) (now (spares .entry)) (now (newest .entry)) (now (stamps .entry))) (lentDoomed (blank (now (views .entry)))) (r .answer) (now (views .exit)) (lent (r .pool) (r .book) (now (textures .entry)) (now (retiring .entry)) (now (doomed .entry)) (now (spares .entry)) (now (newest .entry)) (now (stamps .entry))) ⌝ }
 {
-    let said = destruction::take_doomed(
+    let said = pool_take_doomed::take_doomed(
         pool,
         book,
         textures,
@@ -91,7 +91,7 @@ pub fn call_drain(
     requires { ⌜ isPool (lent pool book (now textures) (now retiring) (now doomed) (now spares) (now newest) (now stamps)) ≡ true ⌝ }
     ensures { λ r. ⌜ MadeViews (lent pool book (now (textures .entry)) (now (retiring .entry)) (now (doomed .entry)) (now (spares .entry)) (now (newest .entry)) (now (stamps .entry))) (lentDrain (blank (now (views .entry)))) (r .answer) (now (views .exit)) (lent (r .pool) (r .book) (now (textures .exit)) (now (retiring .entry)) (now (doomed .entry)) (now (spares .entry)) (now (newest .entry)) (now (stamps .entry))) ⌝ }
 {
-    let said = destruction::drain_versions(
+    let said = pool_take_doomed::drain_versions(
         pool,
         book,
         textures,

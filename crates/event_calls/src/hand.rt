@@ -1,15 +1,15 @@
 // A retired version, taken and parked.
 ghost use mathlib.Core.Path.{_≡_};
 ghost use mathlib.Core.Bool.{true};
-ghost use Rattle.layout.specs.Lent.{lent};
-ghost use Rattle.layout.specs.IsPool.{isPool};
-ghost use Rattle.books.specs.LentLists.{lentPark, lentPop};
+ghost use Rattle.pool_memory.specs.Lent.{lent};
+ghost use Rattle.pool_memory.specs.IsPool.{isPool};
+ghost use Rattle.pool_books.specs.LentLists.{lentPark, lentPop};
 ghost use Rattle.event_calls.specs.Calls.{Made};
 use crate::answers::answer_done;
 use crate::answers::answer_popped;
 use crate::called::Called;
-use layout::PacingBook;
-use layout::Pool;
+use pool_memory::PacingBook;
+use pool_memory::Pool;
 
 // Puts the queue's front in the hand if its submission is settled.
 pub fn call_pop(
@@ -26,7 +26,7 @@ pub fn call_pop(
     requires { ⌜ isPool (lent pool book (now textures) (now retiring) (now doomed) (now spares) (now newest) (now stamps)) ≡ true ⌝ }
     ensures { λ r. ⌜ Made (lent pool book (now (textures .entry)) (now (retiring .entry)) (now (doomed .entry)) (now (spares .entry)) (now (newest .entry)) (now (stamps .entry))) (lentPop settled) (r .answer) (lent (r .pool) (r .book) (now (textures .entry)) (now (retiring .entry)) (now (doomed .entry)) (now (spares .entry)) (now (newest .entry)) (now (stamps .entry))) ⌝ }
 {
-    let said = retirement::pop_retired(
+    let said = pool_retire::pop_retired(
         pool,
         book,
         textures,
@@ -59,7 +59,7 @@ pub fn call_park(
     requires { ⌜ isPool (lent pool book (now textures) (now retiring) (now doomed) (now spares) (now newest) (now stamps)) ≡ true ⌝ }
     ensures { λ r. ⌜ Made (lent pool book (now (textures .entry)) (now (retiring .entry)) (now (doomed .entry)) (now (spares .entry)) (now (newest .entry)) (now (stamps .entry))) (lentPark failed current) (r .answer) (lent (r .pool) (r .book) (now (textures .exit)) (now (retiring .entry)) (now (doomed .exit)) (now (spares .exit)) (now (newest .entry)) (now (stamps .entry))) ⌝ }
 {
-    let said = parking::park(
+    let said = pool_park::park(
         pool,
         book,
         textures,

@@ -1,18 +1,18 @@
 // The calls of a rename.
 ghost use mathlib.Core.Path.{_≡_};
 ghost use mathlib.Core.Bool.{true};
-ghost use Rattle.layout.specs.Lent.{lent};
-ghost use Rattle.layout.specs.IsPool.{isPool};
-ghost use Rattle.books.specs.LentLists.{lentPlan, lentRetire, lentTake};
+ghost use Rattle.pool_memory.specs.Lent.{lent};
+ghost use Rattle.pool_memory.specs.IsPool.{isPool};
+ghost use Rattle.pool_books.specs.LentLists.{lentPlan, lentRetire, lentTake};
 ghost use Rattle.event_calls.specs.Calls.{Made, MadeCopies, blank};
 use crate::answers::answer_done;
 use crate::answers::answer_planned;
 use crate::answers::answer_taken;
 use crate::called::Called;
-use layout::PacingBook;
-use layout::Pool;
-use shapes::VersionShape;
-use stores::Held;
+use grid_shapes::VersionShape;
+use pool_memory::PacingBook;
+use pool_memory::Pool;
+use pool_rules::Held;
 
 // Starts a rename.
 pub fn call_take(
@@ -32,7 +32,7 @@ pub fn call_take(
     requires { ⌜ isPool (lent pool book (now textures) (now retiring) (now doomed) (now spares) (now newest) (now stamps)) ≡ true ⌝ }
     ensures { λ r. ⌜ Made (lent pool book (now (textures .entry)) (now (retiring .entry)) (now (doomed .entry)) (now (spares .entry)) (now (newest .entry)) (now (stamps .entry))) (lentTake id shape records seq) (r .answer) (lent (r .pool) (r .book) (now (textures .exit)) (now (retiring .entry)) (now (doomed .exit)) (now (spares .exit)) (now (newest .exit)) (now (stamps .exit))) ⌝ }
 {
-    let said = renames::take_spare(
+    let said = pool_take_spare::take_spare(
         pool,
         book,
         textures,
@@ -73,7 +73,7 @@ pub fn call_plan(
     requires { ⌜ isPool (lent pool book (now textures) (now retiring) (now doomed) (now spares) (now newest) (now stamps)) ≡ true ⌝ }
     ensures { λ r. ⌜ MadeCopies (lent pool book (now (textures .entry)) (now (retiring .entry)) (now (doomed .entry)) (now (spares .entry)) (now (newest .entry)) (now (stamps .entry))) (lentPlan id shape held (record { slice = slice; level = level; cover = cover }) (blank (now (copies .entry)))) (r .answer) (now (copies .exit)) (lent (r .pool) (r .book) (now (textures .entry)) (now (retiring .entry)) (now (doomed .entry)) (now (spares .entry)) (now (newest .entry)) (now (stamps .entry))) ⌝ }
 {
-    let said = plans::preserve_plan(
+    let said = pool_preserve_plan::preserve_plan(
         pool,
         book,
         textures,
@@ -111,7 +111,7 @@ pub fn call_retire(
     requires { ⌜ isPool (lent pool book (now textures) (now retiring) (now doomed) (now spares) (now newest) (now stamps)) ≡ true ⌝ }
     ensures { λ r. ⌜ Made (lent pool book (now (textures .entry)) (now (retiring .entry)) (now (doomed .entry)) (now (spares .entry)) (now (newest .entry)) (now (stamps .entry))) (lentRetire id view seq) (r .answer) (lent (r .pool) (r .book) (now (textures .exit)) (now (retiring .exit)) (now (doomed .entry)) (now (spares .entry)) (now (newest .entry)) (now (stamps .entry))) ⌝ }
 {
-    let said = retirement::retire(
+    let said = pool_retire::retire(
         pool,
         book,
         textures,

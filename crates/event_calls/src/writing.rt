@@ -1,15 +1,15 @@
 // What was written.
 ghost use mathlib.Core.Path.{_≡_};
 ghost use mathlib.Core.Bool.{true};
-ghost use Rattle.layout.specs.Lent.{lent};
-ghost use Rattle.layout.specs.IsPool.{isPool};
-ghost use Rattle.books.specs.LentLists.{lentRegen, lentWrite};
+ghost use Rattle.pool_memory.specs.Lent.{lent};
+ghost use Rattle.pool_memory.specs.IsPool.{isPool};
+ghost use Rattle.pool_books.specs.LentLists.{lentRegen, lentWrite};
 ghost use Rattle.event_calls.specs.Calls.{Made};
 use crate::answers::answer_done;
 use crate::called::Called;
-use layout::PacingBook;
-use layout::Pool;
-use rects::TexelRect;
+use grid_rects::TexelRect;
+use pool_memory::PacingBook;
+use pool_memory::Pool;
 
 // Notes a write to one subresource.
 pub fn call_write(
@@ -29,7 +29,7 @@ pub fn call_write(
     requires { ⌜ isPool (lent pool book (now textures) (now retiring) (now doomed) (now spares) (now newest) (now stamps)) ≡ true ⌝ }
     ensures { λ r. ⌜ Made (lent pool book (now (textures .entry)) (now (retiring .entry)) (now (doomed .entry)) (now (spares .entry)) (now (newest .entry)) (now (stamps .entry))) (lentWrite id slice level rect) (r .answer) (lent (r .pool) (r .book) (now (textures .exit)) (now (retiring .entry)) (now (doomed .entry)) (now (spares .entry)) (now (newest .exit)) (now (stamps .exit))) ⌝ }
 {
-    let said = writes::note_write(
+    let said = pool_note_write::note_write(
         pool,
         book,
         textures,
@@ -63,7 +63,7 @@ pub fn call_regen(
     requires { ⌜ isPool (lent pool book (now textures) (now retiring) (now doomed) (now spares) (now newest) (now stamps)) ≡ true ⌝ }
     ensures { λ r. ⌜ Made (lent pool book (now (textures .entry)) (now (retiring .entry)) (now (doomed .entry)) (now (spares .entry)) (now (newest .entry)) (now (stamps .entry))) (lentRegen id) (r .answer) (lent (r .pool) (r .book) (now (textures .exit)) (now (retiring .entry)) (now (doomed .entry)) (now (spares .entry)) (now (newest .exit)) (now (stamps .exit))) ⌝ }
 {
-    let said = writes::note_mip_regeneration(
+    let said = pool_note_write::note_mip_regeneration(
         pool,
         book,
         textures,

@@ -10,8 +10,8 @@ use borrow.Author.Tests.{ne-eqb, ltb-true}
 use lib.Dec.{eqb, ltb}
 use lib.ListN.{length, getD, drop, set, replicate, List·getD-eq-default}
 use lib.Seq.{sets, sets-eq}
-use Rattle.blocks.specs.Lists.{over, all, tests, after}
-use Rattle.blocks.proofs.Lists.{and-both, getD-over-in, getD-over-past, not-passed}
+use Rattle.base_blocks.specs.Lists.{over, all, tests, after}
+use Rattle.base_blocks.proofs.Lists.{and-both, getD-over-in, getD-over-past, not-passed}
 use Rattle.event_text.specs.Fields.{same, behind, firstField, firstLine}
 use Rattle.event_text.specs.Numbers.{isNumber, decimal, value}
 use Rattle.event_text.specs.Searches.{indexOf}

@@ -7,8 +7,8 @@ use native.Mathlib.Omega.{arith}
 use borrow.Author.Tests.{eq-eqb, ne-eqb, eqb-true, eqb-false, leb-true, leb-false, lt-ltb, le-ltb}
 use lib.Dec.{eqb, ltb, leb}
 use lib.ListN.{length, getD}
-use Rattle.blocks.specs.Lists.{all, tests, after}
-use Rattle.blocks.proofs.Lists.{and-both, and-assoc, passed}
+use Rattle.base_blocks.specs.Lists.{all, tests, after}
+use Rattle.base_blocks.proofs.Lists.{and-both, and-assoc, passed}
 use Rattle.event_text.specs.Numbers.{isNumber, decimal}
 use Rattle.event_lines.specs.declared.event.Word.{Word}
 use Rattle.event_lines.specs.Grammar.{Kind, below, held, isKind, areKinds, kindsOf, num}

@@ -11,8 +11,8 @@ use borrow.Author.Tests.{eq-eqb, ne-eqb, eqb-true, lt-ltb, le-ltb}
 use lib.Dec.{eqb, ltb}
 use lib.ListN.{length, drop, getD, set, List·getD-eq-default}
 use lib.Seq.{drop-cons, drop-drop, getD-drop}
-use Rattle.blocks.specs.Lists.{all, tests, after}
-use Rattle.blocks.proofs.Lists.{not-passed, default-free}
+use Rattle.base_blocks.specs.Lists.{all, tests, after}
+use Rattle.base_blocks.proofs.Lists.{not-passed, default-free}
 use Rattle.event_text.specs.Fields.{firstLine, behind, same, fieldsOf}
 use Rattle.event_text.specs.Numbers.{isDigit, isNumber, value, decimal, leadingDigits}
 use Rattle.event_text.specs.Searches.{indexOf}

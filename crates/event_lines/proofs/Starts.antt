@@ -8,7 +8,7 @@ use borrow.Author.Tests.{eqb-true}
 use lib.Dec.{eqb}
 use lib.ListN.{length, getD, take, drop}
 use lib.Seq.{drop-cons}
-use Rattle.blocks.proofs.Lists.{and-both}
+use Rattle.base_blocks.proofs.Lists.{and-both}
 use Rattle.event_text.specs.Fields.{comma, firstField, firstLine, same}
 use Rattle.event_text.proofs.FirstLines.{stops, line-until, take-until, until-length}
 use Rattle.event_lines.specs.declared.event.Word.{Word}

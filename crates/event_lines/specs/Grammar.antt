@@ -6,10 +6,10 @@ use lib.Dec.{ltb, eqb}
 use lib.ListN.{getD}
 use Rattle.event_text.specs.Fields.{fieldsOf, same}
 use Rattle.event_text.specs.Numbers.{isNumber, decimal}
-use Rattle.rects.specs.declared.rect.TexelRect.{TexelRect}
-use Rattle.shapes.specs.declared.shape.VersionShape.{VersionShape}
-use Rattle.stores.specs.declared.held.Held.{Held}
-use Rattle.stores.specs.declared.held.Held.the-variants.{Known, Unknown}
+use Rattle.grid_rects.specs.declared.rect.TexelRect.{TexelRect}
+use Rattle.grid_shapes.specs.declared.shape.VersionShape.{VersionShape}
+use Rattle.pool_rules.specs.declared.held.Held.{Held}
+use Rattle.pool_rules.specs.declared.held.Held.the-variants.{Known, Unknown}
 use Rattle.event_lines.specs.declared.event.Word.{Word}
 use Rattle.event_lines.specs.declared.event.Event.{Event}
 use Rattle.event_lines.specs.Words.{wordOf}

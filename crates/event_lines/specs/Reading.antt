@@ -4,10 +4,10 @@ use mathlib.Core.Bool.{Bool, true, false, cond, _&&_, _||_}
 use mathlib.Core.List.{List, [], _∷_}
 use lib.Dec.{eqb, ltb, leb}
 use lib.ListN.{length, set, replicate}
-use Rattle.blocks.specs.Lists.{tests}
+use Rattle.base_blocks.specs.Lists.{tests}
 use Rattle.event_text.specs.Fields.{fieldsOf, firstLine, same}
 use Rattle.event_text.specs.Numbers.{isNumber, decimal}
-use Rattle.stores.specs.declared.held.Held.the-variants.{Known, Unknown}
+use Rattle.pool_rules.specs.declared.held.Held.the-variants.{Known, Unknown}
 use Rattle.event_lines.specs.declared.event.Word.{Word}
 use Rattle.event_lines.specs.declared.event.Event.{Event}
 use Rattle.event_lines.specs.declared.fields.Fields.{Fields}

@@ -1,7 +1,7 @@
 // What a line of the event program is.
-use rects::TexelRect;
-use shapes::VersionShape;
-use stores::Held;
+use grid_rects::TexelRect;
+use grid_shapes::VersionShape;
+use pool_rules::Held;
 
 // The words that a line can start with.
 pub enum Word {

@@ -14,9 +14,9 @@ use crate::event::Word;
 use crate::fields::read_fields;
 use crate::words::start_of;
 use event_text::find_byte;
-use rects::TexelRect;
-use shapes::VersionShape;
-use stores::Held;
+use grid_rects::TexelRect;
+use grid_shapes::VersionShape;
+use pool_rules::Held;
 
 // The largest number of a field where the Rust has u32, and of one that is 0 or 1.
 const SMALL: u64 = 4294967295;

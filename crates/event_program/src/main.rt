@@ -1,6 +1,6 @@
 // Document 01's event program: an event a line on standard input, its outcome and answer on standard output.
 
-// 8 textures, 64 versions, 6 pages, and answers of 90 entries. The numbers of a place are those of crates/layout/specs/Lent.antt.
+// 8 textures, 64 versions, 6 pages, and answers of 90 entries. The numbers of a place are those of crates/pool_memory/specs/Lent.antt.
 fn main() {
     let mut textures = [0; 160];
     let mut retiring = [0; 448];

@@ -1,7 +1,7 @@
 // The event program with larger stores, so that lists of events show how destruction is paced, regenerations over several slices, and batches and
 // drains that are too long for their answer.
 
-// 64 textures, 2,000 versions, 256 pages, and answers of 300 entries. The numbers of a place are those of crates/layout/specs/Lent.antt.
+// 64 textures, 2,000 versions, 256 pages, and answers of 300 entries. The numbers of a place are those of crates/pool_memory/specs/Lent.antt.
 fn main() {
     let mut textures = [0; 1280];
     let mut retiring = [0; 14000];

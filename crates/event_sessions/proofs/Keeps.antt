@@ -5,11 +5,11 @@ use mathlib.Core.Bool.{Bool, true, false, cond, false≢true}
 use mathlib.Core.Option.{Option, some}
 use mathlib.Core.List.{List}
 use lib.ListN.{replicate}
-use Rattle.layout.specs.IsPool.{isPool, sizesFit}
-use Rattle.layout.specs.Calls.{openedPool, openedBook}
-use Rattle.books.specs.Demand3.{Reply, refusal, done}
-use Rattle.books.specs.LentLists.{LentCall, lentTake, lentPlan, EveryCallKeepsPool, OpenedIsPool}
-use Rattle.books.proofs.LentLists.{calls-keep-pool, opened-is-pool}
+use Rattle.pool_memory.specs.IsPool.{isPool, sizesFit}
+use Rattle.pool_memory.specs.Calls.{openedPool, openedBook}
+use Rattle.pool_books.specs.Demand3.{Reply, refusal, done}
+use Rattle.pool_books.specs.LentLists.{LentCall, lentTake, lentPlan, EveryCallKeepsPool, OpenedIsPool}
+use Rattle.pool_books.proofs.LentLists.{calls-keep-pool, opened-is-pool}
 use Rattle.event_lines.specs.declared.event.Event.{Event}
 use Rattle.event_sessions.specs.Sessions.{State, stateOf, HoldsPool, opens, openedState, called, notCalled, takeLine, ifOpened, step}
 use Rattle.event_sessions.specs.Parts.{freshSession}

@@ -4,9 +4,9 @@ use mathlib.Core.Path.{_≡_, refl}
 use mathlib.Core.List.{List, [], _∷_}
 use types.Run.{OneOf, miss}
 use denote.Enum.Declared.{tagOf}
-use Rattle.shapes.specs.declared.shape.VersionShape.{VersionShape}
-use Rattle.layout.specs.declared.pool.Pool.{Pool}
-use Rattle.layout.specs.declared.book.PacingBook.{PacingBook}
+use Rattle.grid_shapes.specs.declared.shape.VersionShape.{VersionShape}
+use Rattle.pool_memory.specs.declared.pool.Pool.{Pool}
+use Rattle.pool_memory.specs.declared.book.PacingBook.{PacingBook}
 use Rattle.event_lines.specs.declared.event.Event.{Event}
 use Rattle.event_lines.proofs.event.Event.{the-type}
 use Rattle.event_sessions.specs.declared.session.Session.{Session}

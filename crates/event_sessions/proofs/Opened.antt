@@ -8,15 +8,15 @@ use native.Mathlib.Omega.{arith}
 use lib.Dec.{eqb}
 use types.Run.{OneOf, miss}
 use denote.Enum.Declared.{tagOf}
-use Rattle.shapes.specs.declared.shape.VersionShape.{VersionShape}
-use Rattle.layout.specs.declared.pool.Pool.{Pool}
-use Rattle.layout.specs.declared.book.PacingBook.{PacingBook}
-use Rattle.layout.specs.Lent.{Lent, lent, versionPlaces}
-use Rattle.layout.specs.Reading.{modelOf}
-use Rattle.layout.specs.IsPool.{sizesFit}
-use Rattle.layout.specs.Calls.{openNumber, openedPool, openedBook}
-use Rattle.books.specs.Demand3.{Reply, refusal, done}
-use Rattle.books.specs.LentLists.{openedLent}
+use Rattle.grid_shapes.specs.declared.shape.VersionShape.{VersionShape}
+use Rattle.pool_memory.specs.declared.pool.Pool.{Pool}
+use Rattle.pool_memory.specs.declared.book.PacingBook.{PacingBook}
+use Rattle.pool_memory.specs.Lent.{Lent, lent, versionPlaces}
+use Rattle.pool_memory.specs.Reading.{modelOf}
+use Rattle.pool_memory.specs.IsPool.{sizesFit}
+use Rattle.pool_memory.specs.Calls.{openNumber, openedPool, openedBook}
+use Rattle.pool_books.specs.Demand3.{Reply, refusal, done}
+use Rattle.pool_books.specs.LentLists.{openedLent}
 use Rattle.event_lines.specs.declared.event.Event.{Event}
 use Rattle.event_lines.proofs.event.Event.{the-type}
 use Rattle.event_answers.specs.Answers.{replyOf, InBuffers}

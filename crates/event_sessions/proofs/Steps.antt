@@ -7,11 +7,11 @@ use mathlib.Core.List.{List, [], _∷_}
 use lib.ListN.{replicate}
 use types.Run.{OneOf, miss}
 use denote.Enum.Declared.{tagOf}
-use Rattle.shapes.specs.declared.shape.VersionShape.{VersionShape}
-use Rattle.stores.specs.declared.held.Held.{Held}
-use Rattle.stores.specs.Model.{UploadFootprint}
-use Rattle.layout.specs.Lent.{Lent}
-use Rattle.books.specs.LentLists.{LentCall, lentCall, lentTake, lentPlan, lentRetire, lentWrite, lentRegen, lentPop, lentPark, lentNote, lentDoomed, lentDrain, lentTrim, lentForget}
+use Rattle.grid_shapes.specs.declared.shape.VersionShape.{VersionShape}
+use Rattle.pool_rules.specs.declared.held.Held.{Held}
+use Rattle.pool_rules.specs.Model.{UploadFootprint}
+use Rattle.pool_memory.specs.Lent.{Lent}
+use Rattle.pool_books.specs.LentLists.{LentCall, lentCall, lentTake, lentPlan, lentRetire, lentWrite, lentRegen, lentPop, lentPark, lentNote, lentDoomed, lentDrain, lentTrim, lentForget}
 use Rattle.event_lines.specs.declared.event.Event.{Event}
 use Rattle.event_lines.proofs.event.Event.{the-type}
 use Rattle.event_answers.specs.Answers.{replyOf, InBuffers}

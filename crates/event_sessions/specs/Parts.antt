@@ -4,12 +4,12 @@ use mathlib.Core.Path.{_≡_}
 use mathlib.Core.Bool.{Bool, true}
 use mathlib.Core.Option.{Option}
 use mathlib.Core.List.{List}
-use Rattle.shapes.specs.declared.shape.VersionShape.{VersionShape}
-use Rattle.layout.specs.declared.pool.Pool.{Pool}
-use Rattle.layout.specs.declared.book.PacingBook.{PacingBook}
-use Rattle.layout.specs.Lent.{Lent}
-use Rattle.layout.specs.Calls.{openedPool, openedBook}
-use Rattle.books.specs.Demand3.{Reply}
+use Rattle.grid_shapes.specs.declared.shape.VersionShape.{VersionShape}
+use Rattle.pool_memory.specs.declared.pool.Pool.{Pool}
+use Rattle.pool_memory.specs.declared.book.PacingBook.{PacingBook}
+use Rattle.pool_memory.specs.Lent.{Lent}
+use Rattle.pool_memory.specs.Calls.{openedPool, openedBook}
+use Rattle.pool_books.specs.Demand3.{Reply}
 use Rattle.event_lines.specs.declared.event.Event.{Event}
 use Rattle.event_answers.specs.Answers.{replyOf, InBuffers}
 use Rattle.event_answers.specs.declared.answer.Answer.{Answer}

@@ -6,12 +6,12 @@ use mathlib.Core.Option.{Option, none, some}
 use mathlib.Core.List.{List}
 use lib.Dec.{eqb}
 use lib.ListN.{replicate}
-use Rattle.shapes.specs.declared.shape.VersionShape.{VersionShape}
-use Rattle.stores.specs.Model.{UploadFootprint}
-use Rattle.layout.specs.Lent.{Lent, lent}
-use Rattle.layout.specs.IsPool.{isPool, sizesFit}
-use Rattle.books.specs.Demand3.{Reply, refusal, done}
-use Rattle.books.specs.LentLists.{LentCall, lentCall, lentTake, lentPlan, lentRetire, lentWrite, lentRegen, lentPop, lentPark, lentNote, lentDoomed, lentDrain, lentTrim, lentForget, openedLent}
+use Rattle.grid_shapes.specs.declared.shape.VersionShape.{VersionShape}
+use Rattle.pool_rules.specs.Model.{UploadFootprint}
+use Rattle.pool_memory.specs.Lent.{Lent, lent}
+use Rattle.pool_memory.specs.IsPool.{isPool, sizesFit}
+use Rattle.pool_books.specs.Demand3.{Reply, refusal, done}
+use Rattle.pool_books.specs.LentLists.{LentCall, lentCall, lentTake, lentPlan, lentRetire, lentWrite, lentRegen, lentPop, lentPark, lentNote, lentDoomed, lentDrain, lentTrim, lentForget, openedLent}
 use Rattle.event_lines.specs.declared.event.Event.{Event}
 use Rattle.event_sessions.specs.declared.session.Session.{Session}
 

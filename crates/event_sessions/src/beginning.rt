@@ -1,12 +1,12 @@
 // A session before its first line.
 ghost use mathlib.Core.Path.{_≡_};
-ghost use Rattle.layout.specs.Calls.{openedPool, openedBook};
+ghost use Rattle.pool_memory.specs.Calls.{openedPool, openedBook};
 ghost use Rattle.event_sessions.specs.Parts.{noShape, freshSession};
 use crate::session::Session;
-use layout::PacingBook;
-use layout::Pool;
-use shapes::VersionShape;
-use stores::VersionBudget;
+use grid_shapes::VersionShape;
+use pool_memory::PacingBook;
+use pool_memory::Pool;
+use pool_rules::VersionBudget;
 
 fn no_pool() -> Pool
     ensures { λ r. ⌜ r ≡ openedPool 0 ⌝ }

@@ -2,8 +2,8 @@
 ghost use mathlib.Core.Path.{_≡_};
 ghost use mathlib.Core.Bool.{true};
 ghost use lib.ListN.{length};
-ghost use Rattle.layout.specs.Lent.{lent};
-ghost use Rattle.layout.specs.IsPool.{isPool};
+ghost use Rattle.pool_memory.specs.Lent.{lent};
+ghost use Rattle.pool_memory.specs.IsPool.{isPool};
 ghost use Rattle.event_sessions.specs.Parts.{opened, Stepped};
 use event_answers::Answer;
 use event_calls::Called;
@@ -20,9 +20,9 @@ use event_calls::call_take;
 use event_calls::call_trim;
 use event_calls::call_write;
 use event_lines::Event;
-use layout::PacingBook;
-use layout::Pool;
-use shapes::VersionShape;
+use grid_shapes::VersionShape;
+use pool_memory::PacingBook;
+use pool_memory::Pool;
 
 // A plan goes by the shape of the latest take line: without one it is no call. Nor is a second `open`.
 pub fn call_event(

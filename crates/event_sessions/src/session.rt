@@ -2,9 +2,9 @@
 ghost use mathlib.Core.Path.{_≡_};
 ghost use Rattle.event_sessions.specs.Parts.{sessionAfter};
 use event_lines::Event;
-use layout::PacingBook;
-use layout::Pool;
-use shapes::VersionShape;
+use grid_shapes::VersionShape;
+use pool_memory::PacingBook;
+use pool_memory::Pool;
 
 // The pool and its pacing book count once it is opened; everything else of the pool is in the lent slices. The shape is that of the
 // latest take line, if one was taken since. `opened` and `taken` are 1 or 0: a bool leaves padding that slows copies.

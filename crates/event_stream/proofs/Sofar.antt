@@ -12,14 +12,14 @@ use lib.Seq.{take-take, take-all, length-take-le}
 use Rattle.event_answers.specs.Printed.{lineFeed}
 use Rattle.event_sessions.specs.Sessions.{State, HoldsPool}
 use Rattle.event_sessions.specs.Parts.{freshSession}
-use Rattle.events.specs.Lines.{inFirstLine, wholeLines, longestAnswer}
-use Rattle.events.specs.Texts.{lastLine, allLines, afterLines}
-use Rattle.events.proofs.Cuts.{Unfinished}
-use Rattle.event_blocks.specs.Blocks.{Carried, first, joined, ending, fed, finished, fedAll}
-use Rattle.event_blocks.specs.declared.feed.Feed.{Feed}
-use Rattle.event_blocks.specs.Places.{part, carriedOf, waiting, waits, Placed, Ready, Turn, Filled}
-use Rattle.event_blocks.proofs.Cutting.{fed-append, fed-plain, fed-holds, every-cutting}
-use Rattle.event_blocks.proofs.Turns.{drop-part}
+use Rattle.event_runs.specs.Lines.{inFirstLine, wholeLines, longestAnswer}
+use Rattle.event_runs.specs.Texts.{lastLine, allLines, afterLines}
+use Rattle.event_runs.proofs.Cuts.{Unfinished}
+use Rattle.event_feed.specs.Blocks.{Carried, first, joined, ending, fed, finished, fedAll}
+use Rattle.event_feed.specs.declared.feed.Feed.{Feed}
+use Rattle.event_feed.specs.Places.{part, carriedOf, waiting, waits, Placed, Ready, Turn, Filled}
+use Rattle.event_feed.proofs.Cutting.{fed-append, fed-plain, fed-holds, every-cutting}
+use Rattle.event_feed.proofs.Turns.{drop-part}
 use Rattle.event_stream.specs.Streams.{Reason, RunOf}
 
 -- ---- numbers

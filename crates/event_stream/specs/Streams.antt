@@ -6,8 +6,8 @@ use mathlib.Core.Bool.{Bool, true, false}
 use mathlib.Core.List.{List}
 use lib.ListN.{length}
 use Rattle.event_sessions.specs.Sessions.{State}
-use Rattle.events.specs.Lines.{wholeLines}
-use Rattle.events.specs.Texts.{allLines, afterLines}
+use Rattle.event_runs.specs.Lines.{wholeLines}
+use Rattle.event_runs.specs.Texts.{allLines, afterLines}
 
 -- the answer of `reason`, for a block of so many bytes whose output was written or not
 pub record Reason (came : ℕ) (written : Bool) (seen why : ℕ) : Type 0 where

@@ -2,8 +2,8 @@
 ghost use mathlib.Core.Path.{_≡_};
 ghost use Prim.Native.Nat.{_+_, _-_, _≤_, _<_};
 ghost use lib.ListN.{length, take};
-ghost use Rattle.event_blocks.specs.Places.{Placed};
-use event_blocks::Feed;
+ghost use Rattle.event_feed.specs.Places.{Placed};
+use event_feed::Feed;
 use libc::STDIN_FILENO;
 
 // Reads once, behind the `end` bytes that are there. There is room, so nothing comes only where the input has ended or cannot be read.

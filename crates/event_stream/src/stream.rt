@@ -5,16 +5,16 @@ ghost use Prim.Native.Nat.{_≤_, _<_};
 ghost use lib.ListN.{length};
 ghost use Rattle.event_sessions.specs.Sessions.{stateOf};
 ghost use Rattle.event_sessions.specs.Parts.{freshSession};
-ghost use Rattle.events.specs.Lines.{longestAnswer};
+ghost use Rattle.event_runs.specs.Lines.{longestAnswer};
 ghost use Rattle.event_stream.specs.Streams.{RunOf};
 use crate::input::read_more;
 use crate::stopped::GOING;
 use crate::stopped::Stopped;
 use crate::stopped::reason;
-use event_blocks::Feed;
-use event_blocks::begin;
-use event_blocks::feed_block;
-use event_blocks::finish;
+use event_feed::Feed;
+use event_feed::begin;
+use event_feed::feed_block;
+use event_feed::finish;
 use libc::STDOUT_FILENO;
 
 fn wide(bytes: usize) -> u64

@@ -10,8 +10,8 @@ use lib.Arith.{digits-lt}
 use lib.Dec.{eqb, leb}
 use lib.ListN.{length, take, drop, length-drop, take-append-drop}
 use lib.Seq.{length-take-le, drop-drop}
-use Rattle.blocks.specs.Lists.{all}
-use Rattle.blocks.proofs.Lists.{and-both}
+use Rattle.base_blocks.specs.Lists.{all}
+use Rattle.base_blocks.proofs.Lists.{and-both}
 use Rattle.event_text.specs.declared.eight.EightDigits.{EightDigits}
 use Rattle.event_text.specs.Eight.{eightDigits}
 use Rattle.event_text.specs.Numbers.{isDigit, value, decimal, leadingDigits, digitsAt, readOn, StartsDigits}

@@ -10,9 +10,9 @@ use lib.Count.{trailingZeros, trailing-le}
 use lib.Pow.{pow-mono}
 use lib.ListN.{length, take, drop, getD, replicate, length-take, length-drop, length-append, length-map, length-replicate}
 use lib.Seq.{length-take-le, getD-drop, drop-drop, take-add}
-use Rattle.blocks.specs.Lists.{all}
-use Rattle.blocks.proofs.Lists.{not-passed}
-use Rattle.blocks.proofs.Scans.{four-read}
+use Rattle.base_blocks.specs.Lists.{all}
+use Rattle.base_blocks.proofs.Lists.{not-passed}
+use Rattle.base_blocks.proofs.Scans.{four-read}
 use Rattle.event_text.specs.Eight.{packed, marksOf, valueOf, eightDigits}
 use Rattle.event_text.specs.Numbers.{isDigit, value, decimal, leadingDigits}
 use Rattle.event_text.proofs.DigitBlocks.{digit-small, lead-all}

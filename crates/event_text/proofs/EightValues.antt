@@ -6,7 +6,7 @@ use native.Mathlib.Omega.{arith}
 use lib.Bits.{bitAnd, and-block, and-mask}
 use lib.ListN.{length, getD}
 use lib.Pow.{high, low}
-use Rattle.blocks.proofs.Scans.{from, from-all, from-step, from-none}
+use Rattle.base_blocks.proofs.Scans.{from, from-all, from-step, from-none}
 use Rattle.event_text.specs.Eight.{packed, twosOf, foursOf, valueOf}
 use Rattle.event_text.specs.Numbers.{value, decimal}
 use Rattle.event_text.proofs.Lanes.{Below, lanes}

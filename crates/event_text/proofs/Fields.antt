@@ -7,8 +7,8 @@ use native.Mathlib.Omega.{arith}
 use borrow.Author.Tests.{eq-eqb, ne-eqb, eqb-true}
 use lib.Dec.{eqb}
 use lib.ListN.{length, drop, getD}
-use Rattle.blocks.proofs.Lists.{and-both}
-use Rattle.blocks.proofs.Scans.{from, from-step, from-none}
+use Rattle.base_blocks.proofs.Lists.{and-both}
+use Rattle.base_blocks.proofs.Scans.{from, from-step, from-none}
 use Rattle.event_text.specs.Fields.{comma, inFirst, fieldsOf, firstField, behind, same}
 
 -- ---- the first field and those behind it

@@ -8,7 +8,7 @@ use native.Mathlib.Omega.{arith}
 use borrow.Author.Tests.{eqb-true}
 use lib.Dec.{eqb}
 use lib.ListN.{length, take, drop, getD}
-use Rattle.blocks.proofs.Scans.{from, from-step, from-none}
+use Rattle.base_blocks.proofs.Scans.{from, from-step, from-none}
 use Rattle.event_text.specs.Fields.{firstField, firstLine}
 use Rattle.event_text.specs.Numbers.{isDigit, leadingDigits}
 use Rattle.event_text.specs.Searches.{indexOf}

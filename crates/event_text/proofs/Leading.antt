@@ -8,7 +8,7 @@ use borrow.Author.Tests.{eq-eqb, ne-eqb, eqb-true}
 use lib.Dec.{eqb}
 use lib.ListN.{length, drop, getD, List·getD-eq-default}
 use lib.Seq.{getD-drop}
-use Rattle.blocks.specs.Lists.{all, tests, after}
+use Rattle.base_blocks.specs.Lists.{all, tests, after}
 use Rattle.event_text.specs.declared.number.NumberAt.the-variants.{Ends, Malformed}
 use Rattle.event_text.specs.Fields.{firstField, fieldEnd}
 use Rattle.event_text.specs.Numbers.{isDigit, decimal, isNumber, numberAt, leadingDigits, digitsAt}

@@ -11,8 +11,8 @@ use lib.Bits.{bitAnd, bitOr, bitXor, and-block, or-block, xor-block, and-le-r, o
 use lib.Count.{trailingZeros, under}
 use lib.Dec.{eqb}
 use lib.ListN.{length, replicate}
-use Rattle.blocks.specs.Lists.{all}
-use Rattle.blocks.proofs.Lists.{and-both}
+use Rattle.base_blocks.specs.Lists.{all}
+use Rattle.base_blocks.proofs.Lists.{and-both}
 use Rattle.event_text.specs.Eight.{packed, marksOf}
 use Rattle.event_text.specs.Numbers.{isDigit, leadingDigits}
 use Rattle.event_text.proofs.Lanes.{Below, lanes}

@@ -8,9 +8,9 @@ use native.Mathlib.Omega.{arith}
 use borrow.Author.Tests.{eq-eqb, ne-eqb, eqb-true, eqb-false, le-leb, lt-leb, leb-true, lt-ltb, ltb-true, ltb-false}
 use lib.Dec.{eqb, leb, ltb}
 use lib.ListN.{length, drop, getD}
-use Rattle.blocks.specs.Lists.{all, tests, after}
-use Rattle.blocks.proofs.Lists.{passed, not-passed}
-use Rattle.blocks.proofs.Scans.{from, from-step, from-none}
+use Rattle.base_blocks.specs.Lists.{all, tests, after}
+use Rattle.base_blocks.proofs.Lists.{passed, not-passed}
+use Rattle.base_blocks.proofs.Scans.{from, from-step, from-none}
 use Rattle.event_text.specs.declared.number.Number.{Number}
 use Rattle.event_text.specs.declared.number.Number.the-variants.{Is, NoNumber}
 use Rattle.event_text.specs.declared.number.NumberAt.{NumberAt}

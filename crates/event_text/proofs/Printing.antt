@@ -8,8 +8,8 @@ use native.Mathlib.Omega.{arith}
 use borrow.Author.Tests.{lt-ltb, ltb-true, ltb-false, le-leb}
 use lib.Dec.{ltb}
 use lib.ListN.{length, getD, length-append, List·getD-append}
-use Rattle.blocks.specs.Lists.{all, tests, after}
-use Rattle.blocks.proofs.Lists.{all-append}
+use Rattle.base_blocks.specs.Lists.{all, tests, after}
+use Rattle.base_blocks.proofs.Lists.{all-append}
 use Rattle.event_text.specs.declared.number.Number.the-variants.{Is}
 use Rattle.event_text.specs.Numbers.{isDigit, value, decimal, isNumber, numberOf, digits, digitsOf}
 

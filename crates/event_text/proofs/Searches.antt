@@ -9,7 +9,7 @@ use borrow.Author.Tests.{eq-eqb, ne-eqb}
 use lib.Dec.{eqb}
 use lib.ListN.{length, drop, getD, length-drop}
 use lib.Seq.{drop-drop}
-use Rattle.blocks.proofs.Scans.{from, from-step, from-none}
+use Rattle.base_blocks.proofs.Scans.{from, from-step, from-none}
 use Rattle.event_text.specs.Searches.{indexOf, among}
 
 -- what is looked for, from i on

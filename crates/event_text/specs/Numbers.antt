@@ -5,7 +5,7 @@ use mathlib.Core.Bool.{Bool, cond, _&&_}
 use mathlib.Core.List.{List, [], _∷_, _++_}
 use lib.Dec.{leb, ltb}
 use lib.ListN.{length, drop}
-use Rattle.blocks.specs.Lists.{all, tests}
+use Rattle.base_blocks.specs.Lists.{all, tests}
 use Rattle.event_text.specs.declared.number.Number.{Number}
 use Rattle.event_text.specs.declared.number.Number.the-variants.{Is, NoNumber}
 use Rattle.event_text.specs.declared.number.NumberAt.{NumberAt}

@@ -2,12 +2,12 @@
 ghost use mathlib.Core.Path.{_≡_};
 ghost use Prim.Native.Nat.{_≤_};
 ghost use lib.ListN.{length};
-ghost use Rattle.tiles.specs.Axes.{AxisOk};
-ghost use Rattle.grids.specs.Grids.{tiled, stampCount, gridIn, boxSince, IsDirtyTile};
+ghost use Rattle.grid_axes.specs.Axes.{AxisOk};
+ghost use Rattle.grid_stamps.specs.Grids.{tiled, stampCount, gridIn, boxSince, IsDirtyTile};
 use crate::view::view_of;
-use grids::Dirty;
-use grids::DirtyTile;
-use tiles::Axis;
+use grid_axes::Axis;
+use grid_stamps::Dirty;
+use grid_stamps::DirtyTile;
 
 // The smallest box of whole tiles around those stamped above `held`, cut to the level.
 pub fn written_since(page: &[u64], across: Axis, down: Axis, newest: u64, held: u64) -> Dirty

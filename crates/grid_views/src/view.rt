@@ -2,11 +2,11 @@
 ghost use mathlib.Core.Path.{_≡_};
 ghost use Prim.Native.Nat.{_≤_};
 ghost use lib.ListN.{length};
-ghost use Rattle.tiles.specs.Axes.{AxisOk};
-ghost use Rattle.grids.specs.Grids.{tiled, stampCount, gridIn, boxSince, IsDirtyTile};
-use grids::Dirty;
-use grids::DirtyTile;
-use tiles::Axis;
+ghost use Rattle.grid_axes.specs.Axes.{AxisOk};
+ghost use Rattle.grid_stamps.specs.Grids.{tiled, stampCount, gridIn, boxSince, IsDirtyTile};
+use grid_axes::Axis;
+use grid_stamps::Dirty;
+use grid_stamps::DirtyTile;
 
 // The page's slice, and the columns and rows of its grid, each with its tiles' edge.
 pub struct GridView<'a> {
@@ -31,7 +31,7 @@ impl<'a> GridView<'a> {
         requires { ⌜ AxisOk (self .columns) × AxisOk (self .rows) × (stampCount (tiled (self .columns) (self .rows)) ≤ length (now (self .page))) ⌝ }
         ensures { λ r. ⌜ r ≡ boxSince (tiled (self .entry .columns) (self .entry .rows)) held (gridIn (tiled (self .entry .columns) (self .entry .rows)) newest (now (self .entry .page))) ⌝ }
     {
-        grids::written_since(self.page, self.columns, self.rows, newest, held)
+        grid_stamps::written_since(self.page, self.columns, self.rows, newest, held)
     }
 
     // Some tile stamped above `held`, or none if there is none. Which one is left open.
@@ -39,6 +39,6 @@ impl<'a> GridView<'a> {
         requires { ⌜ AxisOk (self .columns) × AxisOk (self .rows) × (stampCount (tiled (self .columns) (self .rows)) ≤ length (now (self .page))) ⌝ }
         ensures { λ r. ⌜ IsDirtyTile (tiled (self .entry .columns) (self .entry .rows)) held (now (self .entry .page)) r ⌝ }
     {
-        grids::dirty_tile(self.page, self.columns, self.rows, held)
+        grid_stamps::dirty_tile(self.page, self.columns, self.rows, held)
     }
 }

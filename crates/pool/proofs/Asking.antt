@@ -2,12 +2,12 @@
 use mathlib.Core.Path.{_≡_, refl, sym, ap, _∙_}
 use mathlib.Core.Bool.{Bool, true, false, cond}
 use Prim.Native.Nat.{ℕ}
-use Rattle.grids.specs.declared.dirty.DirtyTile.{DirtyTile}
-use Rattle.stores.specs.NoteWrite.{recordsWrites, IsDirtyTileOf}
-use Rattle.layout.specs.Lent.{Lent}
-use Rattle.layout.specs.Reading.{modelOf}
-use Rattle.layout.specs.IsPool.{isPool, sizesFit}
-use Rattle.layout.specs.Calls.{refusal, answer, openNumber}
+use Rattle.grid_stamps.specs.declared.dirty.DirtyTile.{DirtyTile}
+use Rattle.pool_rules.specs.NoteWrite.{recordsWrites, IsDirtyTileOf}
+use Rattle.pool_memory.specs.Lent.{Lent}
+use Rattle.pool_memory.specs.Reading.{modelOf}
+use Rattle.pool_memory.specs.IsPool.{isPool, sizesFit}
+use Rattle.pool_memory.specs.Calls.{refusal, answer, openNumber}
 use Rattle.pool.specs.Queries.{recordsWritesCall, parkedBytesCall, pendingDestroyBytesCall, DirtyTileCall}
 
 module _ (l : Lent) where

@@ -4,25 +4,25 @@ use mathlib.Core.Bool.{Bool, false}
 use mathlib.Core.List.{List}
 use Prim.Native.Nat.{ℕ, _/_}
 use lib.ListN.{length}
-use Rattle.shapes.specs.declared.shape.VersionShape.{VersionShape}
-use Rattle.rects.specs.declared.rect.TexelRect.{TexelRect}
-use Rattle.stores.specs.declared.held.Held.{Held}
-use Rattle.stores.specs.Model.{Pool, UploadFootprint}
-use Rattle.stores.specs.TakeSpare.{takeSpare}
-use Rattle.stores.specs.PreservePlan.{preservePlan}
-use Rattle.stores.specs.Retire.{retire}
-use Rattle.stores.specs.NoteWrite.{noteWrite, noteMipRegeneration}
-use Rattle.stores.specs.PopRetired.{popRetired}
-use Rattle.stores.specs.Park.{park}
-use Rattle.stores.specs.NoteAllocated.{noteAllocated}
-use Rattle.stores.specs.TakeDoomed.{takeDoomed}
-use Rattle.stores.specs.DrainVersions.{drainVersions}
-use Rattle.stores.specs.Trim.{trim}
-use Rattle.stores.specs.ForgetTexture.{forgetTexture}
-use Rattle.layout.specs.Lent.{Lent}
-use Rattle.layout.specs.IsPool.{isPool}
-use Rattle.layout.specs.Calls.{refusal, takenOf, poppedOf, inBuffer, copyNumbers, viewNumbers, takeSpareCall, preservePlanCall, retireCall, noteWriteCall, noteMipRegenerationCall, popRetiredCall, parkCall, noteAllocatedCall, takeDoomedCall, drainVersionsCall, trimCall, forgetTextureCall}
-use Rattle.layout.proofs.Asked.{asked-no-pool}
+use Rattle.grid_shapes.specs.declared.shape.VersionShape.{VersionShape}
+use Rattle.grid_rects.specs.declared.rect.TexelRect.{TexelRect}
+use Rattle.pool_rules.specs.declared.held.Held.{Held}
+use Rattle.pool_rules.specs.Model.{Pool, UploadFootprint}
+use Rattle.pool_rules.specs.TakeSpare.{takeSpare}
+use Rattle.pool_rules.specs.PreservePlan.{preservePlan}
+use Rattle.pool_rules.specs.Retire.{retire}
+use Rattle.pool_rules.specs.NoteWrite.{noteWrite, noteMipRegeneration}
+use Rattle.pool_rules.specs.PopRetired.{popRetired}
+use Rattle.pool_rules.specs.Park.{park}
+use Rattle.pool_rules.specs.NoteAllocated.{noteAllocated}
+use Rattle.pool_rules.specs.TakeDoomed.{takeDoomed}
+use Rattle.pool_rules.specs.DrainVersions.{drainVersions}
+use Rattle.pool_rules.specs.Trim.{trim}
+use Rattle.pool_rules.specs.ForgetTexture.{forgetTexture}
+use Rattle.pool_memory.specs.Lent.{Lent}
+use Rattle.pool_memory.specs.IsPool.{isPool}
+use Rattle.pool_memory.specs.Calls.{refusal, takenOf, poppedOf, inBuffer, copyNumbers, viewNumbers, takeSpareCall, preservePlanCall, retireCall, noteWriteCall, noteMipRegenerationCall, popRetiredCall, parkCall, noteAllocatedCall, takeDoomedCall, drainVersionsCall, trimCall, forgetTextureCall}
+use Rattle.pool_memory.proofs.Asked.{asked-no-pool}
 
 module _ (l : Lent) (e : isPool l ≡ false) where
   pub no-take : (id : ℕ) (shape : VersionShape) (records : Bool) (seq : ℕ) → (refusal 1, l) ≡ takeSpareCall l id shape records seq

@@ -2,13 +2,13 @@
 use Prim.Native.Nat.{ℕ}
 use mathlib.Core.Path.{_≡_}
 use mathlib.Core.Bool.{Bool, cond}
-use Rattle.grids.specs.declared.dirty.DirtyTile.{DirtyTile}
-use Rattle.grids.specs.declared.dirty.DirtyTile.the-variants.{At, NoTile}
-use Rattle.stores.specs.NoteWrite.{recordsWrites, IsDirtyTileOf}
-use Rattle.layout.specs.Lent.{Lent}
-use Rattle.layout.specs.Reading.{modelOf}
-use Rattle.layout.specs.IsPool.{isPool}
-use Rattle.layout.specs.Calls.{Told, refusal, answer}
+use Rattle.grid_stamps.specs.declared.dirty.DirtyTile.{DirtyTile}
+use Rattle.grid_stamps.specs.declared.dirty.DirtyTile.the-variants.{At, NoTile}
+use Rattle.pool_rules.specs.NoteWrite.{recordsWrites, IsDirtyTileOf}
+use Rattle.pool_memory.specs.Lent.{Lent}
+use Rattle.pool_memory.specs.Reading.{modelOf}
+use Rattle.pool_memory.specs.IsPool.{isPool}
+use Rattle.pool_memory.specs.Calls.{Told, refusal, answer}
 use Rattle.pool.specs.declared.queries.RecordsAnswer.{RecordsAnswer}
 use Rattle.pool.specs.declared.queries.RecordsAnswer.the-variants.{Records, NoPool as NoPoolRecords}
 use Rattle.pool.specs.declared.queries.BytesAnswer.{BytesAnswer}

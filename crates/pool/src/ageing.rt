@@ -1,11 +1,11 @@
 // Spares and textures that are idle or gone.
 ghost use mathlib.Core.Path.{_≡_};
-ghost use Rattle.layout.specs.Lent.{lent};
-ghost use Rattle.layout.specs.Calls.{toldNumber, forgetTextureCall, trimCall};
-use layout::DoneAnswer;
-use layout::PacingBook;
-use layout::Pool;
-use pool_test::is_pool;
+ghost use Rattle.pool_memory.specs.Lent.{lent};
+ghost use Rattle.pool_memory.specs.Calls.{toldNumber, forgetTextureCall, trimCall};
+use pool_formed::is_pool;
+use pool_memory::DoneAnswer;
+use pool_memory::PacingBook;
+use pool_memory::Pool;
 
 // Queues for destruction every spare that was idle too long, and forgets idle textures.
 pub fn trim(
@@ -34,7 +34,7 @@ pub fn trim(
     ) {
         return DoneAnswer { pool, outcome: 1 };
     }
-    trimming::trim(
+    pool_trim::trim(
         pool,
         book,
         textures,
@@ -74,7 +74,7 @@ pub fn forget_texture(
     ) {
         return DoneAnswer { pool, outcome: 1 };
     }
-    forgetting::forget_texture(
+    pool_forget_texture::forget_texture(
         pool,
         book,
         textures,

@@ -1,14 +1,14 @@
 // Memory pressure, and versions handed back to be destroyed.
 ghost use mathlib.Core.Path.{_≡_};
-ghost use Rattle.layout.specs.Lent.{lent};
-ghost use Rattle.layout.specs.Calls.{toldNumber, drainVersionsCall, noteAllocatedCall, takeDoomedCall};
-ghost use Rattle.destruction.specs.Answer.{handedTold};
-use destruction::DrainAnswer;
-use destruction::Handed;
-use layout::PacingBook;
-use layout::Pool;
-use pool_test::is_pool;
-use relief::NotedAnswer;
+ghost use Rattle.pool_memory.specs.Lent.{lent};
+ghost use Rattle.pool_memory.specs.Calls.{toldNumber, drainVersionsCall, noteAllocatedCall, takeDoomedCall};
+ghost use Rattle.pool_take_doomed.specs.Answer.{handedTold};
+use pool_formed::is_pool;
+use pool_memory::PacingBook;
+use pool_memory::Pool;
+use pool_note_allocated::NotedAnswer;
+use pool_take_doomed::DrainAnswer;
+use pool_take_doomed::Handed;
 
 // Notes how much memory the process has allocated, and gives spares back if that is too much.
 pub fn note_allocated(
@@ -41,7 +41,7 @@ pub fn note_allocated(
             outcome: 1,
         };
     }
-    relief::note_allocated(
+    pool_note_allocated::note_allocated(
         pool,
         book,
         textures,
@@ -85,7 +85,7 @@ pub fn take_doomed(
             handed: Handed::Refused(1),
         };
     }
-    destruction::take_doomed(
+    pool_take_doomed::take_doomed(
         pool,
         book,
         textures,
@@ -129,7 +129,7 @@ pub fn drain_versions(
             handed: Handed::Refused(1),
         };
     }
-    destruction::drain_versions(
+    pool_take_doomed::drain_versions(
         pool,
         book,
         textures,

@@ -1,14 +1,14 @@
 // A retired version, taken and parked.
 ghost use mathlib.Core.Path.{_≡_};
-ghost use Rattle.layout.specs.Lent.{lent};
-ghost use Rattle.layout.specs.Calls.{toldNumber, parkCall, popRetiredCall};
-ghost use Rattle.retirement.specs.Answers.{poppedTold};
-use layout::DoneAnswer;
-use layout::PacingBook;
-use layout::Pool;
-use pool_test::is_pool;
-use retirement::PopAnswer;
-use retirement::Popped;
+ghost use Rattle.pool_memory.specs.Lent.{lent};
+ghost use Rattle.pool_memory.specs.Calls.{toldNumber, parkCall, popRetiredCall};
+ghost use Rattle.pool_retire.specs.Answers.{poppedTold};
+use pool_formed::is_pool;
+use pool_memory::DoneAnswer;
+use pool_memory::PacingBook;
+use pool_memory::Pool;
+use pool_retire::PopAnswer;
+use pool_retire::Popped;
 
 // Puts the queue's front in the hand if its submission is settled.
 pub fn pop_retired(
@@ -40,7 +40,7 @@ pub fn pop_retired(
             popped: Popped::Refused(1),
         };
     }
-    retirement::pop_retired(
+    pool_retire::pop_retired(
         pool,
         book,
         textures,
@@ -81,7 +81,7 @@ pub fn park(
     ) {
         return DoneAnswer { pool, outcome: 1 };
     }
-    parking::park(
+    pool_park::park(
         pool,
         book,
         textures,

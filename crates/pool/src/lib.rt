@@ -1,8 +1,8 @@
 // The texture version pool: what a caller names. Each call takes the pool and its pacing book by value and the six slices that
 // the caller lends, and answers for any numbers in them: memory that forms no pool is refused with 1 and left as it is. To know
 // that, a call tests all the memory that is in use, so it costs what that memory costs. The same calls without the test, for
-// callers who are proved to pass a pool (or who keep the memory to themselves), are those of `renames`, `plans`, `retirement`,
-// `parking`, `writes`, `relief`, `destruction` and `trimming`.
+// callers who are proved to pass a pool (or who keep the memory to themselves), are those of `pool_take_spare`, `pool_preserve_plan`, `pool_retire`,
+// `pool_park`, `pool_note_write`, `pool_note_allocated`, `pool_take_doomed` and `pool_trim`.
 mod ageing;
 mod destroying;
 mod hand;

@@ -1,11 +1,11 @@
 // A pool just opened (the Rust's `new`).
 ghost use mathlib.Core.Path.{_≡_};
-ghost use Rattle.layout.specs.Lent.{lent};
-ghost use Rattle.layout.specs.Calls.{openNumber, openedPool, openedBook};
-use layout::PacingBook;
-use layout::Pool;
-use pool_test::sizes_fit;
-use stores::VersionBudget;
+ghost use Rattle.pool_memory.specs.Lent.{lent};
+ghost use Rattle.pool_memory.specs.Calls.{openNumber, openedPool, openedBook};
+use pool_formed::sizes_fit;
+use pool_memory::PacingBook;
+use pool_memory::Pool;
+use pool_rules::VersionBudget;
 
 // 01's number, 0 if the pool was opened, and the pool and pacing book to begin with.
 pub struct OpenAnswer {

@@ -1,11 +1,11 @@
 // Queries: they alter nothing, and refuse only memory that forms no pool.
 ghost use mathlib.Core.Path.{_≡_};
-ghost use Rattle.layout.specs.Lent.{lent};
+ghost use Rattle.pool_memory.specs.Lent.{lent};
 ghost use Rattle.pool.specs.Queries.{recordsTold, bytesTold, tileTold, recordsWritesCall, parkedBytesCall, pendingDestroyBytesCall, DirtyTileCall};
-use grids::DirtyTile;
-use layout::PacingBook;
-use layout::Pool;
-use pool_test::is_pool;
+use grid_stamps::DirtyTile;
+use pool_formed::is_pool;
+use pool_memory::PacingBook;
+use pool_memory::Pool;
 
 pub enum RecordsAnswer {
     Records(bool),
@@ -49,7 +49,7 @@ pub fn records_writes(
     ) {
         return RecordsAnswer::NoPool;
     }
-    let records = writes::records_writes(
+    let records = pool_note_write::records_writes(
         pool,
         book,
         textures,
@@ -148,7 +148,7 @@ pub fn dirty_tile(
     ) {
         return DirtyAnswer::NoPool;
     }
-    let tile = writes::dirty_tile(
+    let tile = pool_note_write::dirty_tile(
         pool,
         book,
         textures,

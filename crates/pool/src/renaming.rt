@@ -1,18 +1,18 @@
 // The calls of a rename.
 ghost use mathlib.Core.Path.{_≡_};
-ghost use Rattle.layout.specs.Lent.{lent};
-ghost use Rattle.layout.specs.Calls.{toldNumber, preservePlanCall, retireCall, takeSpareCall};
-ghost use Rattle.renames.specs.Answer.{takenTold};
-ghost use Rattle.plans.specs.Plan.{plannedTold};
-use layout::DoneAnswer;
-use layout::PacingBook;
-use layout::Pool;
-use plans::PlanAnswer;
-use pool_test::is_pool;
-use renames::TakeAnswer;
-use renames::Taken;
-use shapes::VersionShape;
-use stores::Held;
+ghost use Rattle.pool_memory.specs.Lent.{lent};
+ghost use Rattle.pool_memory.specs.Calls.{toldNumber, preservePlanCall, retireCall, takeSpareCall};
+ghost use Rattle.pool_take_spare.specs.Answer.{takenTold};
+ghost use Rattle.pool_preserve_plan.specs.Plan.{plannedTold};
+use grid_shapes::VersionShape;
+use pool_formed::is_pool;
+use pool_memory::DoneAnswer;
+use pool_memory::PacingBook;
+use pool_memory::Pool;
+use pool_preserve_plan::PlanAnswer;
+use pool_rules::Held;
+use pool_take_spare::TakeAnswer;
+use pool_take_spare::Taken;
 
 // Starts a rename: the texture's newest spare, if it has one.
 pub fn take_spare(
@@ -47,7 +47,7 @@ pub fn take_spare(
             taken: Taken::Refused(1),
         };
     }
-    renames::take_spare(
+    pool_take_spare::take_spare(
         pool,
         book,
         textures,
@@ -96,7 +96,7 @@ pub fn preserve_plan(
     ) {
         return PlanAnswer::Refused(1);
     }
-    plans::preserve_plan(
+    pool_preserve_plan::preserve_plan(
         pool,
         book,
         textures,
@@ -144,7 +144,7 @@ pub fn retire(
     ) {
         return DoneAnswer { pool, outcome: 1 };
     }
-    retirement::retire(
+    pool_retire::retire(
         pool,
         book,
         textures,

@@ -1,12 +1,12 @@
 // What was written.
 ghost use mathlib.Core.Path.{_≡_};
-ghost use Rattle.layout.specs.Lent.{lent};
-ghost use Rattle.layout.specs.Calls.{toldNumber, noteMipRegenerationCall, noteWriteCall};
-use layout::DoneAnswer;
-use layout::PacingBook;
-use layout::Pool;
-use pool_test::is_pool;
-use rects::TexelRect;
+ghost use Rattle.pool_memory.specs.Lent.{lent};
+ghost use Rattle.pool_memory.specs.Calls.{toldNumber, noteMipRegenerationCall, noteWriteCall};
+use grid_rects::TexelRect;
+use pool_formed::is_pool;
+use pool_memory::DoneAnswer;
+use pool_memory::PacingBook;
+use pool_memory::Pool;
 
 // Notes a write to one subresource.
 pub fn note_write(
@@ -38,7 +38,7 @@ pub fn note_write(
     ) {
         return DoneAnswer { pool, outcome: 1 };
     }
-    writes::note_write(
+    pool_note_write::note_write(
         pool,
         book,
         textures,
@@ -81,7 +81,7 @@ pub fn note_mip_regeneration(
     ) {
         return DoneAnswer { pool, outcome: 1 };
     }
-    writes::note_mip_regeneration(
+    pool_note_write::note_mip_regeneration(
         pool,
         book,
         textures,

@@ -1,6 +1,6 @@
 -- `hand_out` meets its contract: the pool is one after its versions were handed out. Assumes nothing.
 use borrow.Author.Needs.{needs}
-use Rattle.destruction.specs.Answer.{handedTold}
+use Rattle.pool_take_doomed.specs.Answer.{handedTold}
 use Rattle.bench_work.proofs.Keeps.{drain-keeps}
 use Rattle.bench_lifetimes.proofs.phases.hand_out.Statement.{statement}
 use Rattle.bench_lifetimes.proofs.phases.hand_out.Tie as tie

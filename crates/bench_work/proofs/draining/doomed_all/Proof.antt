@@ -4,9 +4,9 @@ use mathlib.Core.Bool.{true}
 use Prim.Native.Nat.{_-_}
 use native.Mathlib.Omega.{arith}
 use lib.ListN.{length}
-use Rattle.layout.specs.Lent.{lent}
-use Rattle.layout.specs.IsPool.{isPool}
-use Rattle.destruction.specs.Answer.{handedTold}
+use Rattle.pool_memory.specs.Lent.{lent}
+use Rattle.pool_memory.specs.IsPool.{isPool}
+use Rattle.pool_take_doomed.specs.Answer.{handedTold}
 use Rattle.bench_work.proofs.Keeps.{doomed-keeps}
 use Rattle.bench_work.proofs.draining.doomed_all.Statement.{statement}
 use Rattle.bench_work.proofs.draining.doomed_all.Tie as tie

@@ -5,10 +5,10 @@ use mathlib.Core.Bool.{true}
 use Prim.Native.Nat.{_-_}
 use native.Mathlib.Omega.{arith}
 use lib.ListN.{length}
-use Rattle.layout.specs.Lent.{lent}
-use Rattle.layout.specs.IsPool.{isPool}
-use Rattle.layout.specs.Calls.{toldNumber}
-use Rattle.retirement.specs.Answers.{poppedTold}
+use Rattle.pool_memory.specs.Lent.{lent}
+use Rattle.pool_memory.specs.IsPool.{isPool}
+use Rattle.pool_memory.specs.Calls.{toldNumber}
+use Rattle.pool_retire.specs.Answers.{poppedTold}
 use Rattle.bench_work.proofs.Keeps.{park-keeps, pop-keeps}
 use Rattle.bench_work.proofs.draining.settle_all.Statement.{statement}
 use Rattle.bench_work.proofs.draining.settle_all.Tie as tie

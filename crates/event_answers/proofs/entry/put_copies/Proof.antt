@@ -5,9 +5,9 @@ use mathlib.Core.List.{flatMap}
 use Prim.Native.Nat.{_+_, _*_, _-_, _≤_}
 use native.Mathlib.Omega.{arith}
 use lib.ListN.{length}
-use Rattle.tables.specs.Records.{recordAt}
-use Rattle.tables.proofs.Records.{table-left}
-use Rattle.books.specs.LentLists.{readCopy}
+use Rattle.base_tables.specs.Records.{recordAt}
+use Rattle.base_tables.proofs.Records.{table-left}
+use Rattle.pool_books.specs.LentLists.{readCopy}
 use Rattle.event_answers.specs.Printed.{copyRow}
 use Rattle.event_answers.proofs.Puts.{PutTo, put-none, put-next, put-all, put-as}
 use Rattle.event_answers.proofs.Answering.{copy-from}

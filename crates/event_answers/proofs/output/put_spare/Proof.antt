@@ -3,7 +3,7 @@ use borrow.Author.Needs.{needs}
 use mathlib.Core.Path.{sym, ap}
 use mathlib.Core.List.{[], _∷_}
 use Rattle.event_text.specs.Numbers.{digitsOf}
-use Rattle.stores.specs.declared.held.Held.{Held}
+use Rattle.pool_rules.specs.declared.held.Held.{Held}
 use Rattle.event_answers.specs.Printed.{acceptedRow, heldField}
 use Rattle.event_answers.proofs.Puts.{put-as, text-put}
 use Rattle.event_answers.proofs.Answering.{show-unknown}

@@ -1,6 +1,6 @@
 -- `call_forget` meets its contract: the call, with its answer as a line's. Assumes nothing.
 use borrow.Author.Needs.{needs}
-use Rattle.layout.specs.Calls.{toldNumber}
+use Rattle.pool_memory.specs.Calls.{toldNumber}
 use Rattle.event_calls.proofs.Alone.{made-forget}
 use Rattle.event_calls.proofs.ageing.call_forget.Statement.{statement}
 use Rattle.event_calls.proofs.ageing.call_forget.Tie as tie

@@ -1,6 +1,6 @@
 -- `call_trim` meets its contract: the call, with its answer as a line's. Assumes nothing.
 use borrow.Author.Needs.{needs}
-use Rattle.layout.specs.Calls.{toldNumber}
+use Rattle.pool_memory.specs.Calls.{toldNumber}
 use Rattle.event_calls.proofs.Alone.{made-trim}
 use Rattle.event_calls.proofs.ageing.call_trim.Statement.{statement}
 use Rattle.event_calls.proofs.ageing.call_trim.Tie as tie

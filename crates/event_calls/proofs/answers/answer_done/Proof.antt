@@ -2,7 +2,7 @@
 use borrow.Author.Tests.{eq-eqb, ne-eqb}
 use mathlib.Core.Path.{sym, ap}
 use mathlib.Core.Bool.{Bool, cond}
-use Rattle.layout.specs.Calls.{Told, refusal, answer}
+use Rattle.pool_memory.specs.Calls.{Told, refusal, answer}
 use Rattle.event_calls.specs.Calls.{doneAnswer}
 use Rattle.event_calls.proofs.answers.answer_done.Statement.{statement}
 use Rattle.event_calls.proofs.answers.answer_done.Tie as tie

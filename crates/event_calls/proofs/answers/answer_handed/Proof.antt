@@ -1,8 +1,8 @@
 -- `answer_handed` meets its contract. Assumes nothing.
 use borrow.Author.Needs.{needs}
 use mathlib.Core.Path.{sym, ap}
-use Rattle.destruction.specs.declared.answer.Handed.{Handed}
-use Rattle.destruction.specs.Answer.{handedTold}
+use Rattle.pool_take_doomed.specs.declared.answer.Handed.{Handed}
+use Rattle.pool_take_doomed.specs.Answer.{handedTold}
 use Rattle.event_calls.specs.Calls.{viewsAnswer}
 use Rattle.event_calls.proofs.answers.answer_handed.Statement.{statement}
 use Rattle.event_calls.proofs.answers.answer_handed.Tie as tie

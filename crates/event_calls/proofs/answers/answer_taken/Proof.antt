@@ -1,8 +1,8 @@
 -- `answer_taken` meets its contract. Assumes nothing.
 use borrow.Author.Needs.{needs}
 use mathlib.Core.Path.{sym, ap}
-use Rattle.renames.specs.declared.answer.Taken.{Taken}
-use Rattle.renames.specs.Answer.{takenTold}
+use Rattle.pool_take_spare.specs.declared.answer.Taken.{Taken}
+use Rattle.pool_take_spare.specs.Answer.{takenTold}
 use Rattle.event_calls.specs.Calls.{takenAnswer}
 use Rattle.event_calls.proofs.answers.answer_taken.Statement.{statement}
 use Rattle.event_calls.proofs.answers.answer_taken.Tie as tie

@@ -1,6 +1,6 @@
 -- `call_doomed` meets its contract: the call, with its answer as a line's. Assumes nothing.
 use borrow.Author.Needs.{needs}
-use Rattle.destruction.specs.Answer.{handedTold}
+use Rattle.pool_take_doomed.specs.Answer.{handedTold}
 use Rattle.event_calls.proofs.Buffers.{made-doomed}
 use Rattle.event_calls.proofs.destroying.call_doomed.Statement.{statement}
 use Rattle.event_calls.proofs.destroying.call_doomed.Tie as tie

@@ -1,6 +1,6 @@
 -- `call_drain` meets its contract: the call, with its answer as a line's. Assumes nothing.
 use borrow.Author.Needs.{needs}
-use Rattle.destruction.specs.Answer.{handedTold}
+use Rattle.pool_take_doomed.specs.Answer.{handedTold}
 use Rattle.event_calls.proofs.Buffers.{made-drain}
 use Rattle.event_calls.proofs.destroying.call_drain.Statement.{statement}
 use Rattle.event_calls.proofs.destroying.call_drain.Tie as tie

@@ -1,6 +1,6 @@
 -- `call_pop` meets its contract: the call, with its answer as a line's. Assumes nothing.
 use borrow.Author.Needs.{needs}
-use Rattle.retirement.specs.Answers.{poppedTold}
+use Rattle.pool_retire.specs.Answers.{poppedTold}
 use Rattle.event_calls.proofs.Alone.{made-pop}
 use Rattle.event_calls.proofs.hand.call_pop.Statement.{statement}
 use Rattle.event_calls.proofs.hand.call_pop.Tie as tie

@@ -1,6 +1,6 @@
 -- `call_plan` meets its contract: the call, with its answer as a line's. Assumes nothing.
 use borrow.Author.Needs.{needs}
-use Rattle.plans.specs.Plan.{plannedTold}
+use Rattle.pool_preserve_plan.specs.Plan.{plannedTold}
 use Rattle.event_calls.proofs.Buffers.{made-plan}
 use Rattle.event_calls.proofs.renaming.call_plan.Statement.{statement}
 use Rattle.event_calls.proofs.renaming.call_plan.Tie as tie

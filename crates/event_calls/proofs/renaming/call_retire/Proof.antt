@@ -1,6 +1,6 @@
 -- `call_retire` meets its contract: the call, with its answer as a line's. Assumes nothing.
 use borrow.Author.Needs.{needs}
-use Rattle.layout.specs.Calls.{toldNumber}
+use Rattle.pool_memory.specs.Calls.{toldNumber}
 use Rattle.event_calls.proofs.Alone.{made-retire}
 use Rattle.event_calls.proofs.renaming.call_retire.Statement.{statement}
 use Rattle.event_calls.proofs.renaming.call_retire.Tie as tie

@@ -1,6 +1,6 @@
 -- `call_take` meets its contract: the call, with its answer as a line's. Assumes nothing.
 use borrow.Author.Needs.{needs}
-use Rattle.renames.specs.Answer.{takenTold}
+use Rattle.pool_take_spare.specs.Answer.{takenTold}
 use Rattle.event_calls.proofs.Alone.{made-take}
 use Rattle.event_calls.proofs.renaming.call_take.Statement.{statement}
 use Rattle.event_calls.proofs.renaming.call_take.Tie as tie

@@ -1,6 +1,6 @@
 -- `call_regen` meets its contract: the call, with its answer as a line's. Assumes nothing.
 use borrow.Author.Needs.{needs}
-use Rattle.layout.specs.Calls.{toldNumber}
+use Rattle.pool_memory.specs.Calls.{toldNumber}
 use Rattle.event_calls.proofs.Alone.{made-regen}
 use Rattle.event_calls.proofs.writing.call_regen.Statement.{statement}
 use Rattle.event_calls.proofs.writing.call_regen.Tie as tie

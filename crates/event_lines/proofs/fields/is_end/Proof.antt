@@ -3,7 +3,7 @@ use borrow.Author.Needs.{needs}
 use mathlib.Core.Path.{sym, ap}
 use lib.Dec.{eqb}
 use lib.ListN.{List·getD-eq-default}
-use Rattle.blocks.proofs.Lists.{default-free}
+use Rattle.base_blocks.proofs.Lists.{default-free}
 use Rattle.event_lines.proofs.fields.is_end.Statement.{statement}
 use Rattle.event_lines.proofs.fields.is_end.Tie as tie
 

@@ -4,7 +4,7 @@ use mathlib.Core.Path.{_≡_, refl, sym, ap, _∙_}
 use mathlib.Core.Bool.{Bool, true, false, cond}
 use lib.Dec.{eqb}
 use lib.ListN.{getD}
-use Rattle.blocks.specs.Lists.{tests, after}
+use Rattle.base_blocks.specs.Lists.{tests, after}
 use Rattle.event_lines.specs.declared.event.Event.{Event}
 use Rattle.event_lines.specs.Grammar.{made}
 use Rattle.event_lines.specs.Reading.{numbersMade, fits, limitsOf, limitTests}

@@ -1,7 +1,7 @@
 -- `plan_event` meets its contract. Assumes nothing.
 use borrow.Author.Needs.{needs}
 use Rattle.event_lines.specs.Grammar.{planEvent}
-use Rattle.blocks.specs.Lists.{tests, after}
+use Rattle.base_blocks.specs.Lists.{tests, after}
 use Rattle.event_lines.specs.Reading.{fits, limitsOf, limitTests}
 use Rattle.event_lines.proofs.Choices.{chosen, refused}
 use Rattle.event_lines.proofs.line.plan_event.Statement.{statement}

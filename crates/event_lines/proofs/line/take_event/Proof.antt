@@ -5,7 +5,7 @@ use lib.Dec.{eqb}
 use lib.ListN.{getD}
 use Rattle.event_lines.specs.declared.event.Event.{Event}
 use Rattle.event_lines.specs.Grammar.{takeEvent}
-use Rattle.blocks.specs.Lists.{tests, after}
+use Rattle.base_blocks.specs.Lists.{tests, after}
 use Rattle.event_lines.specs.Reading.{fits, limitsOf, limitTests}
 use Rattle.event_lines.proofs.Choices.{chosen, refused}
 use Rattle.event_lines.proofs.line.take_event.Statement.{statement}

@@ -4,7 +4,7 @@ use mathlib.Core.Path.{ap, _∙_}
 use lib.ListN.{getD}
 use Rattle.event_lines.specs.declared.event.Event.{Event}
 use Rattle.event_lines.specs.Grammar.{writeEvent}
-use Rattle.blocks.specs.Lists.{tests, after}
+use Rattle.base_blocks.specs.Lists.{tests, after}
 use Rattle.event_lines.specs.Reading.{fits, limitsOf, limitTests}
 use Rattle.event_lines.proofs.Choices.{chosen, refused}
 use Rattle.event_lines.proofs.line.write_event.Statement.{statement}

@@ -1,6 +1,6 @@
 -- `no_book` meets its contract. Assumes nothing.
 use mathlib.Core.Path.{refl}
-use Rattle.layout.specs.Calls.{openedBook}
+use Rattle.pool_memory.specs.Calls.{openedBook}
 use Rattle.event_sessions.proofs.beginning.no_book.Statement.{statement}
 use Rattle.event_sessions.proofs.beginning.no_book.Tie as tie
 

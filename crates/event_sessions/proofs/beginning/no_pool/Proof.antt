@@ -1,6 +1,6 @@
 -- `no_pool` meets its contract. Assumes nothing.
 use borrow.Author.Needs.{needs}
-use Rattle.layout.specs.Calls.{openedPool}
+use Rattle.pool_memory.specs.Calls.{openedPool}
 use Rattle.event_sessions.proofs.beginning.no_pool.Statement.{statement}
 use Rattle.event_sessions.proofs.beginning.no_pool.Tie as tie
 

@@ -8,7 +8,7 @@ use lib.ListN.{length}
 use Rattle.event_sessions.specs.Sessions.{stateOf}
 use Rattle.event_sessions.specs.Parts.{freshSession}
 use Rattle.event_sessions.proofs.Keeps.{fresh-holds}
-use Rattle.event_blocks.specs.Places.{carriedOf, waiting}
+use Rattle.event_feed.specs.Places.{carriedOf, waiting}
 use Rattle.event_stream.proofs.Sofar.{Going, leftWhile, going-first, going-ready, going-next, going-less, stopped}
 use Rattle.event_stream.proofs.stream.run_all.Statement.{statement}
 use Rattle.event_stream.proofs.stream.run_all.Tie as tie

@@ -5,7 +5,7 @@ use Prim.Native.Nat.{_-_, _≤_}
 use native.Mathlib.Omega.{arith}
 use lib.ListN.{length, length-set}
 use lib.Seq.{paste, paste-zero}
-use Rattle.blocks.proofs.Blocks.{copy-step, copy-done}
+use Rattle.base_blocks.proofs.Blocks.{copy-step, copy-done}
 use Rattle.event_text.proofs.digits.put_text.Statement.{statement}
 use Rattle.event_text.proofs.digits.put_text.Tie as tie
 

@@ -3,7 +3,7 @@ use borrow.Author.Needs.{needs}
 use mathlib.Core.Path.{_≡_, sym, _∙_}
 use Prim.Native.Nat.{_+_, _-_, _≤_}
 use lib.ListN.{length}
-use Rattle.blocks.proofs.Scans.{from}
+use Rattle.base_blocks.proofs.Scans.{from}
 use Rattle.event_text.specs.Fields.{firstField, firstLine}
 use Rattle.event_text.proofs.Leading.{until}
 use Rattle.event_text.proofs.FirstLines.{stops, end-start, end-more, end-stop, end-done}

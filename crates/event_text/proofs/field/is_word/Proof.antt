@@ -3,7 +3,7 @@ use borrow.Author.Needs.{needs}
 use mathlib.Core.Path.{_≡_, sym, _∙_}
 use Prim.Native.Nat.{_-_, _≤_}
 use lib.ListN.{length}
-use Rattle.blocks.proofs.Scans.{from}
+use Rattle.base_blocks.proofs.Scans.{from}
 use Rattle.event_text.specs.Fields.{same}
 use Rattle.event_text.proofs.Fields.{same-length, same-more, same-stop, same-done, same-all}
 use Rattle.event_text.proofs.field.is_word.Statement.{statement}

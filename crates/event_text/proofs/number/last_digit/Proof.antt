@@ -5,7 +5,7 @@ use mathlib.Core.List.{List}
 use Prim.Native.Nat.{ℕ}
 use native.Mathlib.Omega.{arith}
 use lib.ListN.{drop}
-use Rattle.blocks.proofs.Scans.{from}
+use Rattle.base_blocks.proofs.Scans.{from}
 use Rattle.event_text.specs.Numbers.{readOn, leadingDigits}
 use Rattle.event_text.proofs.Numbers.{read-done, read-more, read-over, read-stop, read-past, read-end, from-drop, digit-low}
 use Rattle.event_text.proofs.number.last_digit.Statement.{statement}

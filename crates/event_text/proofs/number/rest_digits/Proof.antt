@@ -6,7 +6,7 @@ use Prim.Native.Nat.{ℕ, _+_, _^_, _-_, _≤_, _<_}
 use native.Mathlib.Decide.{decLt}
 use native.Mathlib.Omega.{arith}
 use lib.ListN.{drop}
-use Rattle.blocks.proofs.Scans.{from}
+use Rattle.base_blocks.proofs.Scans.{from}
 use Rattle.event_text.specs.Numbers.{readOn, leadingDigits}
 use Rattle.event_text.proofs.Numbers.{read-more, read-stop, read-end, from-drop, digit-low, digit-high, tens-room, value-room, value-digit}
 use Rattle.event_text.proofs.number.rest_digits.Statement.{statement}

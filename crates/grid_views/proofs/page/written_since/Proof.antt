@@ -37,14 +37,14 @@ use denote.Triple.Table.{entered, cited}
 use denote.Triple.Walked.{says, needs, Stays, stay-dropped, walkOf, goes-dropped, Walks, ends-at, walked, walk-meets}
 use denote.Exit.{yes}
 use denote.Triple.Clauses.{ensured, lasts}
-use Rattle.tiles.specs.Axes.{AxisOk}
-use Rattle.tiles.specs.declared.axis.Axis.{Axis}
-use Rattle.tiles.proofs.axis.Axis as X
-use Rattle.tiles.proofs.axis.Axis.Laws as X′
-use Rattle.grids.specs.Grids.{tiled, stampCount, gridIn, boxSince}
-use Rattle.grids.specs.declared.since.Dirty.{Dirty}
-use Rattle.grids.proofs.since.Dirty as S
-use Rattle.grids.proofs.since.Dirty.Laws as S′
+use Rattle.grid_axes.specs.Axes.{AxisOk}
+use Rattle.grid_axes.specs.declared.axis.Axis.{Axis}
+use Rattle.grid_axes.proofs.axis.Axis as X
+use Rattle.grid_axes.proofs.axis.Axis.Laws as X′
+use Rattle.grid_stamps.specs.Grids.{tiled, stampCount, gridIn, boxSince}
+use Rattle.grid_stamps.specs.declared.since.Dirty.{Dirty}
+use Rattle.grid_stamps.proofs.since.Dirty as S
+use Rattle.grid_stamps.proofs.since.Dirty.Laws as S′
 use Rattle.grid_views.specs.declared.view.GridView.{GridView}
 use Rattle.grid_views.proofs.view.GridView as T
 use Rattle.grid_views.proofs.view.GridView.Laws as T′

@@ -32,9 +32,9 @@ use denote.Triple.Spec.{Meets, tripleOf}
 use denote.Triple.Table.{entered}
 use denote.Triple.Walked.{says, Stays, stay-dropped, walkOf, goes-dropped, Walks, ends-at, walked, walk-meets}
 use denote.Exit.{yes}
-use Rattle.tiles.specs.declared.axis.Axis.{Axis}
-use Rattle.tiles.proofs.axis.Axis as X
-use Rattle.tiles.proofs.axis.Axis.Laws as X′
+use Rattle.grid_axes.specs.declared.axis.Axis.{Axis}
+use Rattle.grid_axes.proofs.axis.Axis as X
+use Rattle.grid_axes.proofs.axis.Axis.Laws as X′
 use Rattle.grid_views.specs.declared.view.GridView.{GridView}
 use Rattle.grid_views.proofs.view.GridView as T
 use Rattle.grid_views.proofs.view.GridView.Laws as T′

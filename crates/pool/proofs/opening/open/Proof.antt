@@ -1,8 +1,8 @@
 -- `open` meets its contract: the slices' sizes decide. Assumes nothing.
 use borrow.Author.Needs.{needs}
 use mathlib.Core.Path.{sym, _∙_}
-use Rattle.layout.specs.Lent.{lent}
-use Rattle.layout.specs.Calls.{openedPool, openedBook}
+use Rattle.pool_memory.specs.Lent.{lent}
+use Rattle.pool_memory.specs.Calls.{openedPool, openedBook}
 use Rattle.pool.proofs.Asking.{opened, not-opened}
 use Rattle.pool.proofs.opening.open.Statement.{statement}
 use Rattle.pool.proofs.opening.open.Tie as tie

@@ -1,6 +1,6 @@
 -- `opened_book` meets its contract. Assumes nothing.
 use mathlib.Core.Path.{refl}
-use Rattle.layout.specs.Calls.{openedBook}
+use Rattle.pool_memory.specs.Calls.{openedBook}
 use Rattle.pool.proofs.opening.opened_book.Statement.{statement}
 use Rattle.pool.proofs.opening.opened_book.Tie as tie
 

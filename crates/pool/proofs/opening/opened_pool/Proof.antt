@@ -1,6 +1,6 @@
 -- `opened_pool` meets its contract. Assumes nothing.
 use borrow.Author.Needs.{needs}
-use Rattle.layout.specs.Calls.{openedPool}
+use Rattle.pool_memory.specs.Calls.{openedPool}
 use Rattle.pool.proofs.opening.opened_pool.Statement.{statement}
 use Rattle.pool.proofs.opening.opened_pool.Tie as tie
 

@@ -1,4 +1,4 @@
--- `GridView::dirty_tile` meets its contract: a walk of its MIR, by hand. The view is taken apart, and `grids::dirty_tile` is called on the page, the two axes and the number. All that the proof knows of that function is that it meets its contract.
+-- `GridView::dirty_tile` meets its contract: a walk of its MIR, by hand. The view is taken apart, and `grid_stamps::dirty_tile` is called on the page, the two axes and the number. All that the proof knows of that function is that it meets its contract.
 -- What the fields own goes to the callee, beside the lifetime's token, which comes back. Nothing of the view is kept for the exit: the contract says nothing of it there.
 use mathlib.Core.Path.{_≡_, refl}
 use Prim.Native.Nat.{ℕ, _<_, _≤_, _^_}
@@ -42,17 +42,17 @@ use denote.Triple.Table.{entered, cited}
 use denote.Triple.Walked.{says, needs, Stays, stay-dropped, walkOf, goes-dropped, Walks, ends-at, walked, walk-meets}
 use denote.Exit.{yes}
 use denote.Triple.Clauses.{ensured, lasts}
-use Rattle.tiles.specs.Axes.{AxisOk}
-use Rattle.tiles.proofs.axis.Axis as X
-use Rattle.tiles.proofs.axis.Axis.Laws as X′
-use Rattle.grids.specs.Grids.{tiled, stampCount, IsDirtyTile}
-use Rattle.grids.specs.declared.dirty.DirtyTile.{DirtyTile}
-use Rattle.grids.proofs.dirty.DirtyTile as S
-use Rattle.grids.proofs.dirty.DirtyTile.Laws as S′
-use Rattle.grids.proofs.dirty_tile as asked
-use Rattle.grids.proofs.dirty_tile.Symbol as asked-def
-use Rattle.grids.proofs.dirty_tile.Symbol.{name as #asked}
-use Rattle.grids.proofs.dirty_tile.Met as asked-thm
+use Rattle.grid_axes.specs.Axes.{AxisOk}
+use Rattle.grid_axes.proofs.axis.Axis as X
+use Rattle.grid_axes.proofs.axis.Axis.Laws as X′
+use Rattle.grid_stamps.specs.Grids.{tiled, stampCount, IsDirtyTile}
+use Rattle.grid_stamps.specs.declared.dirty.DirtyTile.{DirtyTile}
+use Rattle.grid_stamps.proofs.dirty.DirtyTile as S
+use Rattle.grid_stamps.proofs.dirty.DirtyTile.Laws as S′
+use Rattle.grid_stamps.proofs.dirty_tile as asked
+use Rattle.grid_stamps.proofs.dirty_tile.Symbol as asked-def
+use Rattle.grid_stamps.proofs.dirty_tile.Symbol.{name as #asked}
+use Rattle.grid_stamps.proofs.dirty_tile.Met as asked-thm
 use Rattle.grid_views.specs.declared.view.GridView.{GridView}
 use Rattle.grid_views.proofs.view.GridView as T
 use Rattle.grid_views.proofs.view.GridView.Laws as T′
@@ -185,4 +185,4 @@ dirty-tile-spec 𝓤 H 𝓜 𝓖 𝓡 =
     entered 𝓤 H (tripleOf 𝓤 H (𝓖 .A) reader.signature (reader.spec 𝓤 H (𝓖 .A) (𝓜 .mem) (𝓡 .run)))
     (tables 𝓤 H 𝓜 𝓡 code.env .C) (tables 𝓤 H 𝓜 𝓡 code.env .Λ) #reader code.function (code.unfolded 𝓤 H 𝓜 𝓡)
     (reader-meets 𝓤 H (𝓖 .A) (givenOf 𝓤 H 𝓜 𝓖) (𝓜 .mem) (𝓡 .run) (tablesOf 𝓤 H 𝓜 (tables 𝓤 H 𝓜 𝓡 code.env))
-    (cited 𝓤 H (Asked 𝓤 H (𝓖 .A) (𝓜 .mem) (𝓡 .run)) 𝓜 𝓡 code.env #asked asked-def.routine code.calls-grids·dirty-tile (asked-thm.met 𝓤 H 𝓜 𝓖 𝓡)))
+    (cited 𝓤 H (Asked 𝓤 H (𝓖 .A) (𝓜 .mem) (𝓡 .run)) 𝓜 𝓡 code.env #asked asked-def.routine code.calls-grid-stamps·dirty-tile (asked-thm.met 𝓤 H 𝓜 𝓖 𝓡)))

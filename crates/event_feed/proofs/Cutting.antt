@@ -1,0 +1,198 @@
+-- No cutting of an input into blocks shows. After any blocks, what is carried is what their lines leave, and the first 196 bytes behind the last line
+-- feed; a block more is then the same as the input with the block behind it, since a line's event is that of its first 196 bytes with the same rest.
+-- Assumes nothing.
+use mathlib.Core.Path.{_≡_, refl, sym, ap, ap₂, _∙_}
+use mathlib.Core.List.{List, [], _∷_, _++_, append-nil, append-assoc}
+use Prim.Native.Nat.{ℕ, zero, suc, _+_, _<_}
+use native.Mathlib.Omega.{arith}
+use lib.ListN.{length, take, drop, take-append-drop, length-append}
+use Rattle.event_sessions.specs.Sessions.{State, HoldsPool}
+use Rattle.event_runs.specs.Lines.{wholeLines, output}
+use Rattle.event_runs.specs.Texts.{lastLine, ifAny, allLines, afterLines, textOutput}
+use Rattle.event_runs.proofs.Cuts.{Unfinished, inFront, lines-append, last-append, front-lines, front-last, last-unfinished, take-unfinished, line-more}
+use Rattle.event_runs.proofs.Texts.{after-append, output-append, after-holds, cut-output, cut-after, cut-count, cut-last, cut-any, cut-any-after}
+use Rattle.event_feed.specs.Places.{Turn}
+use Rattle.event_feed.specs.Blocks.{Carried, first, joined, ending, fed, fedOutput, finished, finishOutput, fedAll, outputs, EveryCutting}
+
+-- more bytes than any event has
+long : 195 < 196
+long = omega arith
+
+-- ---- the end of an input
+
+-- a line with the line feed that it lacks is a line, if it has a byte
+ending-line : (x : List ℕ) → Unfinished x → wholeLines (x ++ ending x) ≡ ifAny x
+unfolding ending ifAny wholeLines
+ending-line [] h = refl
+ending-line (b ∷ x) h = line-more (b ∷ x) [] h
+
+any-count : (k : ℕ) (x : List ℕ) → 0 < k → length (ifAny (take k x)) ≡ length (ifAny x)
+unfolding ifAny
+any-count zero x h = absurd (let y : ⊥ = omega arith in y)
+any-count (suc k) [] h = refl
+any-count (suc k) (b ∷ x) h = refl
+
+-- ---- what is cut off a line does not show
+
+module _ (x ys : List ℕ) (h : Unfinished x) where
+  cut : Unfinished (take 196 x)
+  cut = take-unfinished 196 x h
+
+  cut-lines : wholeLines (take 196 x ++ ys) ≡ inFront (take 196 x) (wholeLines ys)
+  cut-lines = front-lines (take 196 x) ys cut
+
+  same-count : length (wholeLines (take 196 x ++ ys)) ≡ length (wholeLines (x ++ ys))
+  same-count = ap length cut-lines ∙ cut-count 196 x (wholeLines ys) ∙ ap length (sym (front-lines x ys h))
+
+  same-last : take 196 (lastLine (take 196 x ++ ys)) ≡ take 196 (lastLine (x ++ ys))
+  same-last = ap (take 196) (front-last (take 196 x) ys cut) ∙ cut-last 196 x (wholeLines ys) (lastLine ys) ∙ ap (take 196) (sym (front-last x ys h))
+
+  module _ (cs vs : ℕ) (s : State) where
+    same-after : afterLines cs vs s (wholeLines (take 196 x ++ ys)) ≡ afterLines cs vs s (wholeLines (x ++ ys))
+    same-after = ap (afterLines cs vs s) cut-lines ∙ cut-after cs vs 196 long s x (wholeLines ys) ∙ ap (afterLines cs vs s) (sym (front-lines x ys h))
+
+    same-output : (n : ℕ) → output cs vs n s (wholeLines (take 196 x ++ ys)) ≡ output cs vs n s (wholeLines (x ++ ys))
+    same-output n = ap (output cs vs n s) cut-lines ∙ cut-output cs vs 196 long n s x (wholeLines ys) ∙ ap (output cs vs n s) (sym (front-lines x ys h))
+
+module _ (cs vs : ℕ) where
+  -- what is carried after the bytes xs, from line n in state s
+  abbrev reached : ℕ → State → List ℕ → Carried
+  reached n s xs = record {
+    state = afterLines cs vs s (wholeLines xs);
+    number = n + length (wholeLines xs);
+    line = take 196 (lastLine xs);
+  }
+
+  module _ (n : ℕ) (s : State) (xs ys : List ℕ) where
+    abbrev here : Carried
+    here = reached n s xs
+
+    last-plain : Unfinished (lastLine xs)
+    last-plain = last-unfinished xs
+
+    reached-more : fed cs vs here ys ≡ reached n s (xs ++ ys)
+    unfolding fed
+    reached-more = λ i. record {
+      state = state-is i;
+      number = number-is i;
+      line = (same-last (lastLine xs) ys last-plain ∙ ap (take 196) (sym (last-append xs ys))) i;
+    }
+      where
+        state-is : afterLines cs vs (here .state) (wholeLines (here .line ++ ys)) ≡ afterLines cs vs s (wholeLines (xs ++ ys))
+        state-is =
+            same-after (lastLine xs) ys last-plain cs vs (here .state) ∙ sym (after-append cs vs s (wholeLines xs) (wholeLines (lastLine xs ++ ys)))
+            ∙ ap (afterLines cs vs s) (sym (lines-append xs ys))
+
+        number-is : here .number + length (wholeLines (here .line ++ ys)) ≡ n + length (wholeLines (xs ++ ys))
+        number-is =
+            let a = same-count (lastLine xs) ys last-plain in
+            let b = ap length (lines-append xs ys) in
+            let d = length-append (wholeLines xs) (wholeLines (lastLine xs ++ ys)) in
+            omega arith
+
+    reached-output : output cs vs n s (wholeLines (xs ++ ys)) ≡ output cs vs n s (wholeLines xs) ++ fedOutput cs vs here ys
+    unfolding fedOutput
+    reached-output =
+        ap (output cs vs n s) (lines-append xs ys) ∙ output-append cs vs n s (wholeLines xs) (wholeLines (lastLine xs ++ ys))
+        ∙ ap (λ (l : List ℕ). output cs vs n s (wholeLines xs) ++ l) (sym (same-output (lastLine xs) ys last-plain cs vs (here .state) (here .number)))
+
+  -- ---- a block in two parts
+
+  pub fed-append : (c : Carried) (xs ys : List ℕ) → fed cs vs (fed cs vs c xs) ys ≡ fed cs vs c (xs ++ ys)
+  unfolding fed
+  fed-append c xs ys =
+      reached-more (c .number) (c .state) (c .line ++ xs) ys ∙ ap (reached (c .number) (c .state)) (append-assoc (c .line) xs ys)
+
+  pub fed-output-append : (c : Carried) (xs ys : List ℕ) → fedOutput cs vs c (xs ++ ys) ≡ fedOutput cs vs c xs ++ fedOutput cs vs (fed cs vs c xs) ys
+  unfolding fed fedOutput
+  fed-output-append c xs ys =
+      ap (λ (l : List ℕ). output cs vs (c .number) (c .state) (wholeLines l)) (sym (append-assoc (c .line) xs ys))
+      ∙ reached-output (c .number) (c .state) (c .line ++ xs) ys
+
+  -- a turn that left bytes: what is carried and what is put, with the rest fed behind it, are those of the whole block
+  pub turn-rest : (c after : Carried) (block left : List ℕ) (filled : ℕ) (out exit : List ℕ) (t : Turn cs vs c after block left filled out exit)
+      → (fed cs vs after left ≡ fed cs vs c block) × (fedOutput cs vs c (take (t .used) block) ++ fedOutput cs vs after left ≡ fedOutput cs vs c block)
+  turn-rest c after block left filled out exit t =
+      let x = take (t .used) block in
+      let y = drop (t .used) block in
+      let whole = take-append-drop (t .used) block in (
+        ap₂ (fed cs vs) (t .carried) (t .rest) ∙ fed-append c x y ∙ ap (fed cs vs c) whole,
+        ap (λ (l : List ℕ). fedOutput cs vs c x ++ l) (ap₂ (fedOutput cs vs) (t .carried) (t .rest)) ∙ sym (fed-output-append c x y) ∙ ap (fedOutput cs vs c) whole,
+      )
+
+  -- what a block leaves can be carried
+  pub fed-plain : (c : Carried) (block : List ℕ) → Unfinished (fed cs vs c block .line)
+  unfolding fed
+  fed-plain c block = take-unfinished 196 (lastLine (c .line ++ block)) (last-unfinished (c .line ++ block))
+
+  pub fed-holds : (c : Carried) (block : List ℕ) → HoldsPool (c .state) → HoldsPool (fed cs vs c block .state)
+  unfolding fed
+  fed-holds c block h = after-holds cs vs (c .state) (wholeLines (c .line ++ block)) h
+
+  -- ---- every cutting
+
+  fed-joined : (s : State) (xs : List ℕ) (blocks : List (List ℕ)) → fedAll cs vs (reached 0 s xs) blocks ≡ reached 0 s (xs ++ joined blocks)
+  unfolding fedAll joined
+  fed-joined s xs [] = ap (reached 0 s) (sym (append-nil xs))
+  fed-joined s xs (b ∷ bs) =
+      ap (λ (c : Carried). fedAll cs vs c bs) (reached-more 0 s xs b) ∙ fed-joined s (xs ++ b) bs ∙ ap (reached 0 s) (append-assoc xs b (joined bs))
+
+  outputs-joined : (s : State) (xs : List ℕ) (blocks : List (List ℕ))
+      → output cs vs 0 s (wholeLines xs) ++ outputs cs vs (reached 0 s xs) blocks ≡ output cs vs 0 s (wholeLines (xs ++ joined blocks))
+  unfolding outputs joined
+  outputs-joined s xs [] = append-nil _ ∙ ap (λ (l : List ℕ). output cs vs 0 s (wholeLines l)) (sym (append-nil xs))
+  outputs-joined s xs (b ∷ bs) =
+      ap (λ (c : Carried). output cs vs 0 s (wholeLines xs) ++ (fedOutput cs vs (reached 0 s xs) b ++ outputs cs vs c bs)) (reached-more 0 s xs b)
+      ∙ sym (append-assoc (output cs vs 0 s (wholeLines xs)) (fedOutput cs vs (reached 0 s xs) b) (outputs cs vs (reached 0 s (xs ++ b)) bs))
+      ∙ ap (λ (l : List ℕ). l ++ outputs cs vs (reached 0 s (xs ++ b)) bs) (sym (reached-output 0 s xs b))
+      ∙ outputs-joined s (xs ++ b) bs ∙ ap (λ (l : List ℕ). output cs vs 0 s (wholeLines l)) (append-assoc xs b (joined bs))
+
+  first-reached : (s : State) → first s ≡ reached 0 s []
+  unfolding wholeLines lastLine afterLines
+  first-reached s = refl
+
+  first-output : (s : State) (blocks : List (List ℕ)) → outputs cs vs (reached 0 s []) blocks ≡ output cs vs 0 s (wholeLines (joined blocks))
+  unfolding wholeLines output
+  first-output s blocks = outputs-joined s [] blocks
+
+  finished-state : (s : State) (xs : List ℕ) → finished cs vs (reached 0 s xs) .state ≡ afterLines cs vs s (allLines xs)
+  unfolding finished fed allLines
+  finished-state s xs =
+      ap (afterLines cs vs (afterLines cs vs s (wholeLines xs))) (ending-line (take 196 (lastLine xs)) (take-unfinished 196 (lastLine xs) (last-unfinished xs)))
+      ∙ cut-any-after cs vs 196 long (afterLines cs vs s (wholeLines xs)) (lastLine xs) ∙ sym (after-append cs vs s (wholeLines xs) (ifAny (lastLine xs)))
+
+  finished-number : (s : State) (xs : List ℕ) → finished cs vs (reached 0 s xs) .number ≡ length (allLines xs)
+  unfolding finished fed allLines
+  finished-number s xs =
+      let a = ap length (ending-line (take 196 (lastLine xs)) (take-unfinished 196 (lastLine xs) (last-unfinished xs))) in
+      let b = any-count 196 (lastLine xs) (omega arith) in
+      let d = length-append (wholeLines xs) (ifAny (lastLine xs)) in
+      omega arith
+
+  finished-output : (s : State) (xs : List ℕ) → output cs vs 0 s (wholeLines xs) ++ finishOutput cs vs (reached 0 s xs) ≡ textOutput cs vs s xs
+  unfolding finishOutput fedOutput textOutput allLines
+  finished-output s xs =
+      let n = 0 + length (wholeLines xs) in
+      let t = afterLines cs vs s (wholeLines xs) in
+      ap (λ (l : List ℕ). output cs vs 0 s (wholeLines xs) ++ l)
+      (ap (output cs vs n t) (ending-line (take 196 (lastLine xs)) (take-unfinished 196 (lastLine xs) (last-unfinished xs))) ∙ cut-any cs vs 196 long n t (lastLine xs))
+      ∙ sym (output-append cs vs 0 s (wholeLines xs) (ifAny (lastLine xs)))
+
+  pub every-cutting : EveryCutting cs vs
+  every-cutting = record { output-is = output-is; state-is = state-is; number-is = number-is }
+    where
+      at-end : (s : State) (blocks : List (List ℕ)) → fedAll cs vs (first s) blocks ≡ reached 0 s (joined blocks)
+      at-end s blocks = ap (λ (c : Carried). fedAll cs vs c blocks) (first-reached s) ∙ fed-joined s [] blocks
+
+      before : (s : State) (blocks : List (List ℕ)) → outputs cs vs (first s) blocks ≡ output cs vs 0 s (wholeLines (joined blocks))
+      before s blocks = ap (λ (c : Carried). outputs cs vs c blocks) (first-reached s) ∙ first-output s blocks
+
+      state-is : (s : State) (blocks : List (List ℕ)) → finished cs vs (fedAll cs vs (first s) blocks) .state ≡ afterLines cs vs s (allLines (joined blocks))
+      state-is s blocks = ap (λ (c : Carried). finished cs vs c .state) (at-end s blocks) ∙ finished-state s (joined blocks)
+
+      number-is : (s : State) (blocks : List (List ℕ)) → finished cs vs (fedAll cs vs (first s) blocks) .number ≡ length (allLines (joined blocks))
+      number-is s blocks = ap (λ (c : Carried). finished cs vs c .number) (at-end s blocks) ∙ finished-number s (joined blocks)
+
+      output-is : (s : State) (blocks : List (List ℕ))
+          → outputs cs vs (first s) blocks ++ finishOutput cs vs (fedAll cs vs (first s) blocks) ≡ textOutput cs vs s (joined blocks)
+      output-is s blocks = ap₂ (λ (a b : List ℕ). a ++ b) (before s blocks) (ap (finishOutput cs vs) (at-end s blocks)) ∙ finished-output s (joined blocks)

@@ -1,0 +1,78 @@
+-- Laws of the room that an answer needs. Assumes nothing.
+use mathlib.Core.Path.{_≡_, sym}
+use mathlib.Core.Bool.{Bool, true, false, cond}
+use mathlib.Core.List.{List, [], _∷_}
+use Prim.Native.Nat.{ℕ, suc, _+_, _-_, _/_, _≤_, _<_, min, max}
+use native.Mathlib.Nat.{le-max-left, le-max-right}
+use native.Mathlib.Omega.{arith}
+use borrow.Author.Tests.{le-leb, lt-leb}
+use lib.Dec.{eqb}
+use lib.ListN.{length, drop, length-drop}
+use Rattle.event_text.specs.Searches.{indexOf}
+use Rattle.event_answers.specs.declared.answer.Answer.{Answer}
+use Rattle.event_answers.specs.declared.answer.Answer.the-variants.{Question, Refused, Done, Spare, NoSpare, Version, NothingSettled, Views, Copies}
+use Rattle.event_answers.specs.Answers.{replyOf, entries, InBuffers}
+use Rattle.event_answers.specs.Printed.{lineFeed, printed, mostBytes}
+use Rattle.event_answers.proofs.Most.{printed-most}
+use Rattle.event_runs.specs.Lines.{longestAnswer}
+use Rattle.event_runs.specs.Ends.{lineEnd, nextEnd}
+
+-- an answer has no more entries than its buffers have room for
+pub entries-most : (a : Answer) (copies views : List ℕ) → InBuffers a copies views → entries a ≤ max (length copies / 7) (length views)
+unfolding entries InBuffers
+entries-most Question copies views h = omega arith
+entries-most (Refused n) copies views h = omega arith
+entries-most Done copies views h = omega arith
+entries-most (Spare view held) copies views h = omega arith
+entries-most NoSpare copies views h = omega arith
+entries-most (Version id view) copies views h = omega arith
+entries-most NothingSettled copies views h = omega arith
+entries-most (Views n) copies views h = omega (arith, le-max-right (length copies / 7) (length views))
+entries-most (Copies n) copies views h = omega (arith, le-max-left (length copies / 7) (length views))
+
+-- ---- whether the buffer has it
+
+-- `room` is the longest answer, or one byte more than the buffer has if the answer is longer: a test of either decides the same
+module _ (input : List ℕ) (from longest room filled size : ℕ) (fits : filled ≤ size) (is-room : room ≡ min longest (size + 1)) where
+  pub next-full : size - filled < room → nextEnd input from longest filled size ≡ length input
+  unfolding nextEnd
+  next-full h = rw (lt-leb (filled + longest) size (omega arith))
+
+  pub next-line : room ≤ size - filled → nextEnd input from longest filled size ≡ lineEnd input from
+  unfolding nextEnd
+  next-line h = rw (le-leb (filled + longest) size (omega arith))
+
+-- the longest answer's room is enough for each
+pub answer-fits : (a : Answer) (copies views : List ℕ) (m n filled size : ℕ) → InBuffers a copies views → length copies ≡ m → length views ≡ n
+    → filled + longestAnswer m n ≤ size → filled + mostBytes (entries a) ≤ size
+answer-fits a copies views m n filled size h p q r =
+    let e : entries a ≤ max (m / 7) n = rw (sym p, sym q) (entries-most a copies views h) in omega arith
+
+-- ---- the end of a line
+
+index-within : (b : ℕ) (s : List ℕ) → indexOf b s ≤ length s
+unfolding indexOf
+index-within b [] = omega arith
+index-within b (x ∷ xs) = go (eqb x b) (index-within b xs)
+  where
+    go : (t : Bool) → indexOf b xs ≤ length xs → cond t 0 (suc (indexOf b xs)) ≤ suc (length xs)
+    go true h = omega arith
+    go false h = omega arith
+
+pub find-end : (input : List ℕ) (from r : ℕ) → r ≡ from + indexOf lineFeed (drop from input) → r ≡ lineEnd input from
+unfolding lineEnd
+find-end input from r e = e
+
+-- it stands behind `from`, and in the input
+pub find-within : (input : List ℕ) (from r : ℕ) → from ≤ length input → r ≡ from + indexOf lineFeed (drop from input) → (from ≤ r) × (r ≤ length input)
+find-within input from r h e =
+    let w : indexOf lineFeed (drop from input) ≤ length input - from = rw (sym (length-drop from input)) (index-within lineFeed (drop from input)) in
+    (omega arith, omega arith)
+
+-- and its output ends inside the buffer
+pub output-fits : (a : Answer) (copies views : List ℕ) (m n filled size number end : ℕ) → InBuffers a copies views → length copies ≡ m → length views ≡ n
+    → filled + longestAnswer m n ≤ size → end ≡ filled + length (printed number (replyOf a copies views)) → end ≤ size
+output-fits a copies views m n filled size number end h p q r e =
+    let k = answer-fits a copies views m n filled size h p q r in
+    let o = printed-most a copies views number in
+    omega arith

@@ -1,0 +1,97 @@
+-- The lines of an input, run one after the other (01, "Upload rectangle, event program").
+use Prim.Native.Nat.{ℕ, _+_, _/_, _≤_, max}
+use mathlib.Core.Path.{_≡_}
+use mathlib.Core.Bool.{Bool, cond}
+use mathlib.Core.List.{List, [], _∷_, _++_}
+use lib.Dec.{eqb, leb}
+use lib.ListN.{length}
+use lib.Seq.{sets}
+use Rattle.event_lines.specs.declared.event.Event.{Event}
+use Rattle.event_lines.specs.Grammar.{eventOf}
+use Rattle.event_answers.specs.Printed.{lineFeed, printed, mostBytes}
+use Rattle.event_sessions.specs.Sessions.{State, stateOf, step}
+use Rattle.event_runs.specs.declared.run.Run.{Run}
+
+-- ---- lines
+
+-- b in front of the first line, if there is one
+unfoldable pub inFirstLine : ℕ → List (List ℕ) → List (List ℕ)
+inFirstLine b [] = []
+inFirstLine b (line ∷ lines) = (b ∷ line) ∷ lines
+
+-- the lines of an input that a line feed ends; what stands behind the last line feed is left out
+unfoldable pub wholeLines : List ℕ → List (List ℕ)
+wholeLines [] = []
+wholeLines (b ∷ bs) = cond (eqb b lineFeed) ([] ∷ wholeLines bs) (inFirstLine b (wholeLines bs))
+
+-- ---- what lines do; the answer buffers have so many numbers, as in `step`
+
+module _ (copies views : ℕ) where
+  -- the output of line n, and the state after it
+  unfoldable pub lineOutput : ℕ → State → List ℕ → List ℕ
+  lineOutput n s line = printed n (step copies views s (eventOf line) .0)
+
+  unfoldable pub lineState : State → List ℕ → State
+  lineState s line = step copies views s (eventOf line) .1
+
+  -- the output of the lines behind line n
+  unfoldable pub output : ℕ → State → List (List ℕ) → List ℕ
+  output n s [] = []
+  output n s (line ∷ lines) = lineOutput (n + 1) s line ++ output (n + 1) (lineState s line) lines
+
+  -- Line n, which is this event, was run: `after` is the state after it, and its output stands behind the filled bytes of the buffer, up to `end`.
+  pub record EventRan (n : ℕ) (before after : State) (event : Event) (filled end : ℕ) (out exit : List ℕ) : Type 0 where
+    pub state : after ≡ step copies views before event .1
+    pub length-is : end ≡ filled + length (printed n (step copies views before event .0))
+    pub put : exit ≡ sets out filled (printed n (step copies views before event .0))
+    pub fits : end ≤ length out
+
+  -- no line's output has more bytes
+  abbrev pub longestAnswer : ℕ
+  longestAnswer = mostBytes (max (copies / 7) views)
+
+-- ---- lines run as long as the output's buffer has room for the longest answer
+
+pub record Progress : Type 0 where
+  pub state : State
+  -- lines run so far
+  pub number : ℕ
+  -- bytes of the input before the next line
+  pub from : ℕ
+  -- bytes of output in the buffer
+  pub filled : ℕ
+  -- the buffer
+  pub out : List ℕ
+
+abbrev pub progressOf : Run → List ℕ → List ℕ → List ℕ → List ℕ → List ℕ → List ℕ → List ℕ → Progress
+progressOf r textures retiring doomed spares newest stamps out = record {
+  state = stateOf (r .session) textures retiring doomed spares newest stamps;
+  number = r .number;
+  from = r .from;
+  filled = r .filled;
+  out = out;
+}
+
+-- before the first line of an input, of which n lines have been run before
+abbrev pub start : State → ℕ → List ℕ → Progress
+start s n out = record { state = s; number = n; from = 0; filled = 0; out = out }
+
+module _ (copies views : ℕ) where
+  unfoldable pub hasRoom : Progress → Bool
+  hasRoom p = leb (p .filled + longestAnswer copies views) (length (p .out))
+
+  -- the next line run: its output stands behind what was in the buffer
+  unfoldable pub ran : Progress → List ℕ → Progress
+  ran p line =
+      let text = lineOutput copies views (p .number + 1) (p .state) line in
+      record {
+        state = lineState copies views (p .state) line;
+        number = p .number + 1;
+        from = p .from + (length line + 1);
+        filled = p .filled + length text;
+        out = sets (p .out) (p .filled) text;
+      }
+
+  unfoldable pub ranAll : Progress → List (List ℕ) → Progress
+  ranAll p [] = p
+  ranAll p (line ∷ lines) = cond (hasRoom p) (ranAll (ran p line) lines) p

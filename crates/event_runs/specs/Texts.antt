@@ -1,0 +1,37 @@
+-- The lines of an input to its end, and all of their output (01, "Upload rectangle, event program").
+use Prim.Native.Nat.{ℕ}
+use mathlib.Core.Bool.{cond}
+use mathlib.Core.List.{List, [], _∷_, _++_}
+use lib.Dec.{eqb}
+use Rattle.event_answers.specs.Printed.{lineFeed}
+use Rattle.event_sessions.specs.Sessions.{State}
+use Rattle.event_runs.specs.Lines.{wholeLines, lineState, output}
+
+-- b in front of the last line, if no line feed stands between them
+unfoldable pub inLastLine : ℕ → List (List ℕ) → List ℕ → List ℕ
+inLastLine b [] last = b ∷ last
+inLastLine b (line ∷ lines) last = last
+
+-- what stands behind the last line feed of an input
+unfoldable pub lastLine : List ℕ → List ℕ
+lastLine [] = []
+lastLine (b ∷ bs) = cond (eqb b lineFeed) (lastLine bs) (inLastLine b (wholeLines bs) (lastLine bs))
+
+-- it is a line too where it has a byte
+unfoldable pub ifAny : List ℕ → List (List ℕ)
+ifAny [] = []
+ifAny (b ∷ bs) = (b ∷ bs) ∷ []
+
+-- the lines of an input, the last one with a line feed behind it or without
+unfoldable pub allLines : List ℕ → List (List ℕ)
+allLines input = wholeLines input ++ ifAny (lastLine input)
+
+module _ (copies views : ℕ) where
+  -- the state after lines
+  unfoldable pub afterLines : State → List (List ℕ) → State
+  afterLines s [] = s
+  afterLines s (line ∷ lines) = afterLines (lineState copies views s line) lines
+
+  -- the output of an input, no line having been run before
+  unfoldable pub textOutput : State → List ℕ → List ℕ
+  textOutput s input = output copies views 0 s (allLines input)

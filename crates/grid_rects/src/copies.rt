@@ -1,0 +1,63 @@
+// What a copy of a region moves.
+ghost use mathlib.Core.Path.{_≡_};
+ghost use mathlib.Core.Bool.{true};
+ghost use Prim.Native.Nat.{_≤_};
+ghost use Rattle.grid_shapes.specs.Outcomes.{ofBytes};
+ghost use Rattle.grid_rects.specs.Copies.{cutSize, regionTexels, copyOutcome, copyBytes};
+ghost use Rattle.grid_shapes.specs.Shapes.{isShape};
+use crate::rect::Region;
+use grid_shapes::BytesAnswer;
+use grid_shapes::VersionShape;
+use grid_shapes::block_bytes;
+use grid_shapes::block_edge;
+use grid_shapes::is_shape;
+use grid_shapes::level_depth;
+use grid_shapes::level_extent;
+
+// How many of `size` texels from `start` on lie within `extent`.
+pub fn cut_size(extent: u64, start: u64, size: u64) -> u64
+    ensures { λ r. ⌜ r ≡ cutSize extent start size ⌝ }
+{
+    if extent <= start {
+        return 0;
+    }
+    let room = extent - start;
+    if size < room { size } else { room }
+}
+
+// Texels of the region in a level of `width` by `height`, at one depth.
+fn region_texels(width: u64, height: u64, region: Region) -> u64
+    requires { ⌜ (width ≤ 16384) × (height ≤ 16384) ⌝ }
+    ensures { λ r. ⌜ r ≡ regionTexels width height region ⌝ }
+{
+    match region {
+        Region::Whole => width * height,
+        Region::Part(r) => cut_size(width, r.x, r.width) * cut_size(height, r.y, r.height),
+    }
+}
+
+// Bytes of a copy of the region, in a level that the shape has.
+fn level_copy_bytes(s: VersionShape, level: u64, region: Region) -> u64
+    requires { ⌜ isShape s ≡ true ⌝ }
+    ensures { λ r. ⌜ r ≡ copyBytes s level region ⌝ }
+{
+    let edge = block_edge(s.format);
+    let texels = region_texels(
+        level_extent(s.width, level),
+        level_extent(s.height, level),
+        region,
+    );
+    texels * level_depth(s, level) * block_bytes(s.format) / (edge * edge)
+}
+
+pub fn copy_bytes(s: VersionShape, level: u64, region: Region) -> BytesAnswer
+    ensures { λ r. ⌜ ofBytes r ≡ copyOutcome s level region ⌝ }
+{
+    if !is_shape(s) {
+        return BytesAnswer::NoShape;
+    }
+    if s.levels <= level {
+        return BytesAnswer::Bytes(0);
+    }
+    BytesAnswer::Bytes(level_copy_bytes(s, level, region))
+}

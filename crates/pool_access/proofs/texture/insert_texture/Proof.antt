@@ -1,0 +1,40 @@
+-- `insert_texture` meets its contract: the numbers put in are the record's. Assumes nothing.
+use borrow.Author.Needs.{needs}
+use mathlib.Core.Path.{ap, _∙_}
+use mathlib.Core.List.{List}
+use Prim.Native.Nat.{ℕ, _+_, _*_, _-_}
+use lib.Seq.{sets}
+use Rattle.base_blocks.specs.Blocks.{moved}
+use Rattle.pool_access.proofs.texture.insert_texture.Statement.{statement}
+use Rattle.pool_access.proofs.texture.insert_texture.Tie as tie
+
+texture-numbers-requires : tie.Need-texture-numbers-requires
+texture-numbers-requires c κs = search needs
+
+slice-aggregate-insert-record : tie.Need-slice-aggregate-insert-record
+slice-aggregate-insert-record c = search needs
+
+insert-record-requires : tie.Need-insert-record-requires
+insert-record-requires c κs = search needs
+
+same-length : tie.Need-same-length
+same-length c = search needs
+
+returns : tie.Need-returns
+returns c =
+    let put = c .before .before in
+    let made = put .before .before .before in
+    let a = made .before .before .args in
+    let s = a .s .now in
+    let i = a .i in
+    put .insert-record .ensures ∙ ap (λ (l : List ℕ). sets (moved s (20 * i + 20) (20 * i) (20 * (a .n - i))) (20 * i) l) (made .texture-numbers .ensures)
+
+pub insert-texture-spec : {M : Type 1} → statement M
+insert-texture-spec =
+    tie.close
+    (tie.spec
+    texture-numbers-requires
+    slice-aggregate-insert-record
+    insert-record-requires
+    same-length
+    returns)

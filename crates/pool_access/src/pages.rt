@@ -1,0 +1,62 @@
+// The pages that a texture's history takes, and where they begin: behind those of the textures before it.
+ghost use mathlib.Core.Path.{_≡_};
+ghost use Prim.Native.Nat.{_+_, _*_, _≤_};
+ghost use lib.ListN.{length};
+ghost use Rattle.base_blocks.specs.Lists.{total};
+ghost use Rattle.base_tables.specs.Records.{recordAt, table};
+ghost use Rattle.pool_rules.specs.Model.{pagesOf};
+ghost use Rattle.pool_records.specs.Texture.{readTexture};
+ghost use Rattle.pool_memory.specs.Reading.{recordPages};
+use grid_shapes::VersionShape;
+use grid_shapes::slices;
+use pool_records::Recorded;
+use pool_records::TextureRecord;
+
+// The pages of a history of that shape: one a slice and level.
+pub fn shape_pages(shape: VersionShape) -> usize
+    requires { ⌜ pagesOf shape ≤ 4096 ⌝ }
+    ensures { λ r. ⌜ r ≡ pagesOf shape ⌝ }
+{
+    (slices(shape) * shape.levels) as usize
+}
+
+// The pages that a texture's record claims.
+pub fn history_pages(t: TextureRecord) -> usize
+    requires { ⌜ recordPages t ≤ 4096 ⌝ }
+    ensures { λ r. ⌜ r ≡ recordPages t ⌝ }
+{
+    let history = t.history;
+    match history {
+        Recorded::Writes(_) => shape_pages(t.shape),
+        Recorded::NoHistory => 0,
+    }
+}
+
+// The pages that record i of the textures' slice claims, by three of its numbers: history, kind and levels.
+pub fn pages_at(textures: &[u64], i: usize) -> usize
+    requires { ⌜ (20 * i + 20 ≤ length (now textures)) × (recordPages (recordAt 20 readTexture (now textures) i) ≤ 4096) ⌝ }
+    ensures { λ r. ⌜ r ≡ recordPages (recordAt 20 readTexture (now (textures .entry)) i) ⌝ }
+{
+    if textures[20 * i + 14] == 0 {
+        return 0;
+    }
+    let levels = textures[20 * i + 5];
+    if textures[20 * i + 6] == 1 {
+        return (6 * levels) as usize;
+    }
+    levels as usize
+}
+
+// How many pages the first i textures claim, which is where those of texture i begin.
+pub fn pages_before(textures: &[u64], i: usize) -> usize
+    requires { ⌜ (20 * i ≤ length (now textures)) × (total recordPages (table 20 readTexture i (now textures)) ≤ 4096) ⌝ }
+    ensures { λ r. ⌜ r ≡ total recordPages (table 20 readTexture i (now (textures .entry))) ⌝ }
+{
+    let mut sum = 0;
+    let mut j = 0;
+    while j < i {
+        sum += pages_at(textures, j);
+        j += 1;
+    }
+    sum
+}

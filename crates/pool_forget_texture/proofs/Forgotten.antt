@@ -1,0 +1,295 @@
+-- `forget_texture` on a pool: what it leaves of a tracked texture, slice by slice, and nothing changed where none is tracked. Assumes nothing.
+use mathlib.Core.Path.{_≡_, refl, sym, ap, ap₂, _∙_}
+use mathlib.Core.Bool.{true, false}
+use mathlib.Core.List.{List, [], map, append-nil}
+use Prim.Native.Nat.{ℕ, _+_, _-_, _*_, _/_, _≤_, _<_, _^_}
+use native.Mathlib.Nat.{add-zero, sub-zero}
+use native.Mathlib.Omega.{arith}
+use lib.ListN.{length, getD, length-append}
+use Rattle.base_blocks.specs.Lists.{total, removed, ascending}
+use Rattle.base_blocks.specs.Blocks.{moved}
+use Rattle.base_blocks.proofs.Lists.{total-get}
+use Rattle.base_tables.specs.Rings.{laid}
+use Rattle.grid_shapes.specs.Shapes.{bytesOf}
+use Rattle.pool_rules.specs.Model.{Spare, Doomed, VersionState, Pool, accepted, spareBytes, doomedBytes}
+use Rattle.pool_rules.specs.Updates.{withTextures, asDoomed, doomSpares}
+use Rattle.pool_rules.specs.ForgetTexture.{forgetTexture}
+use Rattle.pool_rules.proofs.Moves.{as-doomed-bytes, as-doomed-length}
+use Rattle.pool_records.specs.Doomed.{writeDoomed}
+use Rattle.pool_records.specs.Texture.{readTexture}
+use Rattle.pool_records.specs.Find.{idOf}
+use Rattle.pool_memory.specs.declared.pool.Pool.{Pool as Counts}
+use Rattle.pool_memory.specs.Lent.{Lent, lent, versionPlaces}
+use Rattle.pool_memory.specs.Reading.{trackedRecords, recordPages, modelOf}
+use Rattle.pool_memory.specs.Writing.{doomedRecord, poolAfter, bookAfter, doomedAfter, sparesAfter, newestAfter, stampsAfter, after}
+use Rattle.pool_memory.specs.IsPool.{isPool}
+use Rattle.pool_memory.specs.Calls.{answer, forgetTextureCall}
+use Rattle.pool_memory.proofs.Fits.{Fits}
+use Rattle.pool_memory.proofs.FromPool.{pool-fits}
+use Rattle.pool_memory.proofs.Asked.{asked-accepted}
+use Rattle.pool_memory.proofs.Runs.{firstSpare, stateOf, tracked-model, model-at}
+use Rattle.pool_memory.proofs.Rings.{hand-model, head-stays, first-stays, doomed-pushed}
+use Rattle.pool_memory.proofs.Same.{book-same, queued-model, doomed-model}
+use Rattle.pool_memory.proofs.Places.{IsTracked, place, taken-out, given as given′, not-taken-out, not-given}
+use Rattle.pool_memory.proofs.Stays.{put-together, ids-ascend, textures-fit, doomed-fit, nothing-changed, retiring-stay, doomed-bound}
+use Rattle.pool_memory.proofs.Counts.{tracked-removed, kept-removed, used-removed}
+use Rattle.pool_memory.proofs.Changes.{sparesAt, every-removed, textures-removed, spares-removed}
+use Rattle.pool_memory.proofs.Pages.{newest-removed, stamps-removed}
+use Rattle.pool_memory.proofs.Tracked.{record-read, spares-to, pages-to, bytes-at, shape-at, count-at}
+use Rattle.pool_take_doomed.specs.Given.{givenRecords}
+use Rattle.pool_take_doomed.proofs.Pushed.{given-spares}
+use Rattle.pool_access.proofs.Totals.{total-next}
+use Rattle.pool_access.proofs.Ids.{hasId, found, not-found}
+use Rattle.pool_forget_texture.specs.declared.owned.Owned.{Owned}
+use Rattle.pool_forget_texture.specs.Owned.{textureIn, sparesTo, pagesTo, ownedAt, without}
+use Rattle.pool_forget_texture.proofs.TextureRuns.{spares-in, spares-within, pages-within, bytes-within}
+
+-- the pool without texture i, whose spares wait to be destroyed
+abbrev given : Lent → ℕ → List (Doomed ℕ)
+given l i = asDoomed (bytesOf (stateOf l i .shape)) (stateOf l i .spares)
+
+abbrev forgotten : Lent → ℕ → Pool ℕ
+forgotten l i = doomSpares (given l i) (withTextures (removed i 1 (modelOf l .textures)) (modelOf l))
+
+-- as the code counts them
+abbrev places : Lent → ℕ
+places l = length (l .retiring) / 7
+
+module _ (l : Lent) (f : Fits l) (i : ℕ) (h : i < l .pool .tracked) where
+  abbrev T : List ℕ
+  T = l .textures
+
+  abbrev out : List (Doomed ℕ)
+  out = given l i
+
+  abbrev left : Pool ℕ
+  left = forgotten l i
+
+  -- ---- what the calls of its parts ask for
+
+  pub owned-fits : (20 * i + 20 ≤ length T) × (sparesTo T (i + 1) ≤ 4096) × (pagesTo T (i + 1) ≤ 4096)
+  owned-fits = (
+    omega (arith, textures-fit l f),
+    omega (arith, total-next 20 readTexture (λ t. t .spares) T i, spares-within l i h f, f .versions, f .most),
+    omega (arith, total-next 20 readTexture recordPages T i, pages-within l i h f, f .pages, f .newest),
+  )
+
+  module _ (own : Owned) (e : own ≡ ownedAt T i) where
+    first-is : own .first ≡ sparesTo T i
+    unfolding ownedAt
+    first-is = ap (λ (o : Owned). o .first) e
+
+    spares-is : own .spares ≡ textureIn T i .spares
+    unfolding ownedAt
+    spares-is = ap (λ (o : Owned). o .spares) e
+
+    page-is : own .page ≡ pagesTo T i
+    unfolding ownedAt
+    page-is = ap (λ (o : Owned). o .page) e
+
+    pages-is : own .pages ≡ recordPages (textureIn T i)
+    unfolding ownedAt
+    pages-is = ap (λ (o : Owned). o .pages) e
+
+    bytes-is : own .bytes * own .spares ≡ bytesOf (textureIn T i .shape) * textureIn T i .spares
+    unfolding ownedAt
+    bytes-is = ap (λ (o : Owned). o .bytes * o .spares) e ∙ ap (λ (b : ℕ). b * textureIn T i .spares) (bytes-at l i h f)
+
+    pub own-spares : own .first + own .spares ≤ l .pool .kept
+    own-spares = omega (arith, first-is, spares-is, spares-within l i h f)
+
+    pub own-pages : own .page + own .pages ≤ l .pool .pages
+    own-pages = omega (arith, page-is, pages-is, pages-within l i h f)
+
+    pub push-fits : (2 * places l ≤ length (l .doomed)) × (l .pool .first < places l) × (l .pool .doomed + own .spares ≤ places l)
+        × (3 * (own .first + own .spares) ≤ length (l .spares))
+    unfolding versionPlaces
+    push-fits = (omega (arith, f .doomed), f .first, omega (arith, own-spares, f .versions), omega (arith, own-spares, f .versions, f .spares))
+
+    spare-bytes : own .bytes * own .spares ≤ l .pool .parked
+    unfolding modelOf
+    spare-bytes =
+        let same : spareBytes (stateOf l i) ≡ own .bytes * own .spares =
+        ap₂ (λ (b n : ℕ). b * n) (ap bytesOf (shape-at l i h)) (count-at l i h) ∙ sym bytes-is in
+        let least = total-get spareBytes (modelOf l .textures) i (stateOf l 0) (omega (arith, tracked-model l)) in
+        omega (arith, same, ap spareBytes (model-at l i (stateOf l 0) h), least, f .formed .parked)
+
+    pub counts-fit : (1 ≤ l .pool .tracked) × (own .spares ≤ l .pool .kept) × (own .pages ≤ l .pool .pages) × (l .pool .doomed + own .spares ≤ 4096)
+        × (l .pool .since ≤ 4096) × (own .bytes * own .spares ≤ l .pool .parked) × (l .pool .dooming + own .bytes * own .spares < 2 ^ 64)
+    unfolding modelOf
+    counts-fit =
+        let dooming : l .pool .dooming ≤ 17592186044416 * length (modelOf l .doomed) =
+        omega (arith, f .formed .dooming, doomed-bound (f .formed .doomed)) in (
+          omega arith,
+          omega (arith, own-spares),
+          omega (arith, own-pages),
+          omega (arith, own-spares, f .versions, f .most),
+          omega (arith, f .formed .since, doomed-model l, doomed-fit l f, f .most),
+          spare-bytes,
+          omega (arith, dooming, doomed-model l, doomed-fit l f, f .most, bytes-is, bytes-within l i h f),
+        )
+
+  -- ---- what is left
+
+  out-count : length out ≡ textureIn T i .spares
+  out-count = as-doomed-length (bytesOf (stateOf l i .shape)) (stateOf l i .spares) ∙ count-at l i h
+
+  out-each : bytesOf (stateOf l i .shape) ≡ textureIn T i .bytes
+  out-each = ap bytesOf (shape-at l i h) ∙ sym (bytes-at l i h f)
+
+  out-bytes : doomedBytes out ≡ textureIn T i .bytes * textureIn T i .spares
+  out-bytes =
+      as-doomed-bytes (bytesOf (stateOf l i .shape)) (stateOf l i .spares)
+      ∙ ap₂ (λ (b n : ℕ). b * n) out-each (count-at l i h)
+
+  out-records : map doomedRecord out ≡ givenRecords (l .spares) (textureIn T i .bytes) (sparesTo T i) (textureIn T i .spares)
+  out-records =
+      ap₂ (λ (b : ℕ) (ss : List (Spare ℕ)). map doomedRecord (asDoomed b ss)) out-each (spares-in l i h)
+      ∙ sym (given-spares l (textureIn T i .bytes) (sparesTo T i) (textureIn T i .spares))
+
+  own-spares-are : sparesAt l i ≡ textureIn T i .spares
+  own-spares-are = ap (λ t. t .spares) (record-read l i h)
+
+  spares-there : firstSpare l i + sparesAt l i ≤ l .pool .kept
+  spares-there = omega (arith, spares-to l i h, own-spares-are, spares-within l i h f)
+
+  counts-left : without (l .pool) (ownedAt T i) ≡ poolAfter left l
+  unfolding without ownedAt poolAfter modelOf
+  counts-left = λ j. record {
+    tracked = sym (tracked-removed l left i 1 (omega arith) refl) j;
+    kept = sym (kept-removed l left (f .kept) (firstSpare l i) (sparesAt l i) spares-there (every-removed l i h)
+        ∙ ap (λ (n : ℕ). l .pool .kept - n) own-spares-are) j;
+    pages = sym (used-removed l left (f .claimed) i h refl ∙ ap (λ (n : ℕ). l .pool .pages - n) (ap recordPages (record-read l i h))) j;
+    head = sym (head-stays l left (f .head) (omega (arith, hand-model l (f .hand)))) j;
+    popped = sym (hand-model l (f .hand)) j;
+    queued = sym (queued-model l) j;
+    first = sym (first-stays l left (f .first) (omega (arith, doomed-model l, length-append (modelOf l .doomed) out))) j;
+    doomed = sym (length-append (modelOf l .doomed) out ∙ ap₂ (λ (m n : ℕ). m + n) (doomed-model l) out-count) j;
+    since = sym (ap (λ (n : ℕ). l .pool .since + n) out-count) j;
+    trackings = l .pool .trackings;
+    parked = sym (ap (λ (n : ℕ). l .pool .parked - n) out-bytes) j;
+    dooming = sym (ap (λ (n : ℕ). l .pool .dooming + n) out-bytes) j;
+    cap = l .pool .cap;
+    line = l .pool .line;
+  }
+
+  doomed-left : laid 2 writeDoomed (versionPlaces l) (l .pool .first) (l .pool .doomed)
+      (givenRecords (l .spares) (textureIn T i .bytes) (sparesTo T i) (textureIn T i .spares)) (l .doomed) ≡ doomedAfter left l
+  doomed-left =
+      ap (λ rs. laid 2 writeDoomed (versionPlaces l) (l .pool .first) (l .pool .doomed) rs (l .doomed)) (sym out-records)
+      ∙ doomed-pushed l left (f .first) (omega (arith, f .doomed)) (doomed-fit l f) out refl
+
+  spares-left : moved (l .spares) (3 * sparesTo T i) (3 * sparesTo T i + 3 * textureIn T i .spares)
+      (3 * (l .pool .kept - (sparesTo T i + textureIn T i .spares)))
+      ≡ sparesAfter left l
+  spares-left =
+      sym (ap₂ (λ (k n : ℕ). moved (l .spares) (3 * k) (3 * k + 3 * n) (3 * (l .pool .kept - (k + n)))) (spares-to l i h) own-spares-are)
+      ∙ spares-removed l left (f .kept) (omega (arith, f .spares, f .versions)) (firstSpare l i) (sparesAt l i)
+      spares-there (every-removed l i h)
+
+  newest-left : moved (l .newest) (pagesTo T i) (pagesTo T i + recordPages (textureIn T i))
+      (l .pool .pages - (pagesTo T i + recordPages (textureIn T i)))
+      ≡ newestAfter left l
+  newest-left =
+      sym (ap₂ (λ (k n : ℕ). moved (l .newest) k (k + n) (l .pool .pages - (k + n))) (pages-to l i h) (ap recordPages (record-read l i h)))
+      ∙ newest-removed l left (f .claimed) i h refl (f .pages)
+
+  stamps-left : moved (l .stamps) (1024 * pagesTo T i) (1024 * pagesTo T i + 1024 * recordPages (textureIn T i))
+      (1024 * (l .pool .pages - (pagesTo T i + recordPages (textureIn T i)))) ≡ stampsAfter left l
+  stamps-left =
+      sym (ap₂ (λ (k n : ℕ). moved (l .stamps) (1024 * k) (1024 * k + 1024 * n) (1024 * (l .pool .pages - (k + n)))) (pages-to l i h)
+      (ap recordPages (record-read l i h)))
+      ∙ stamps-removed l left (f .claimed) i h refl (ids-ascend l f) (omega (arith, f .stamps, f .pages))
+
+  book-left : l .book ≡ bookAfter left
+  unfolding bookAfter
+  book-left = sym (book-same l (f .mark))
+
+  pub left-behind : (own : Owned) → own ≡ ownedAt T i → (c : Counts) (textures doomed spares newest stamps : List ℕ)
+      → c ≡ without (l .pool) own
+      → textures ≡ moved T (20 * i) (20 * i + 20 * 1) (20 * (l .pool .tracked - (i + 1)))
+      → doomed ≡ laid 2 writeDoomed (places l) (l .pool .first) (l .pool .doomed) (givenRecords (l .spares) (own .bytes) (own .first) (own .spares))
+      (l .doomed)
+      → spares ≡ moved (l .spares) (3 * own .first) (3 * own .first + 3 * own .spares) (3 * (l .pool .kept - (own .first + own .spares)))
+      → newest ≡ moved (l .newest) (own .page) (own .page + own .pages) (l .pool .pages - (own .page + own .pages))
+      → stamps ≡ moved (l .stamps) (1024 * own .page) (1024 * own .page + 1024 * own .pages) (1024 * (l .pool .pages - (own .page + own .pages)))
+      → lent c (l .book) textures (l .retiring) doomed spares newest stamps ≡ after left l
+  unfolding ownedAt versionPlaces
+  left-behind own e c textures doomed spares newest stamps e1 e2 e3 e4 e5 e6 =
+      put-together left l c (l .book) textures (l .retiring) doomed spares newest stamps
+      (e1 ∙ ap (without (l .pool)) e ∙ counts-left)
+      book-left
+      (e2 ∙ textures-removed l left f i 1 (omega arith) refl)
+      (retiring-stay l f left refl refl)
+      (e3 ∙ ap (λ (o : Owned). laid 2 writeDoomed (versionPlaces l) (l .pool .first) (l .pool .doomed)
+      (givenRecords (l .spares) (o .bytes) (o .first) (o .spares)) (l .doomed)) e
+      ∙ doomed-left)
+      (e4 ∙ ap (λ (o : Owned). moved (l .spares) (3 * o .first) (3 * o .first + 3 * o .spares) (3 * (l .pool .kept - (o .first + o .spares)))) e
+      ∙ spares-left)
+      (e5 ∙ ap (λ (o : Owned). moved (l .newest) (o .page) (o .page + o .pages) (l .pool .pages - (o .page + o .pages))) e ∙ newest-left)
+      (e6 ∙ ap (λ (o : Owned). moved (l .stamps) (1024 * o .page) (1024 * o .page + 1024 * o .pages)
+      (1024 * (l .pool .pages - (o .page + o .pages)))) e ∙ stamps-left)
+
+-- ---- the call
+
+module _ (l : Lent) (pool : isPool l ≡ true) (id : ℕ) where
+  abbrev f : Fits l
+  f = pool-fits l pool
+
+  abbrev up : ascending idOf (trackedRecords l) ≡ true
+  up = ids-ascend l f
+
+  rule-tracked : IsTracked l id up → forgetTexture (modelOf l) id ≡ accepted tt (forgotten l (place l id up))
+  unfolding forgetTexture
+  rule-tracked t =
+      ap₂ (λ (ds : List (Doomed ℕ)) (ts : List (VersionState ℕ)). accepted tt (doomSpares ds (withTextures ts (modelOf l))))
+      (given′ l id up t (λ (s : VersionState ℕ). asDoomed (bytesOf (s .shape)) (s .spares))) (taken-out l id up t)
+
+  none-doomed : doomSpares [] (withTextures (modelOf l .textures) (modelOf l)) ≡ modelOf l
+  unfolding total
+  none-doomed = λ j. record {
+    textures = modelOf l .textures;
+    retiring = modelOf l .retiring;
+    hand = modelOf l .hand;
+    doomed = append-nil (modelOf l .doomed) j;
+    since = add-zero (modelOf l .since) j;
+    trackings = modelOf l .trackings;
+    parked = sub-zero (modelOf l .parked) j;
+    dooming = add-zero (modelOf l .dooming) j;
+    places = modelOf l .places;
+    budget = modelOf l .budget;
+    pacing = modelOf l .pacing;
+  }
+
+  rule-untracked : (IsTracked l id up → ⊥) → forgetTexture (modelOf l) id ≡ accepted tt (modelOf l)
+  unfolding forgetTexture
+  rule-untracked t =
+      ap₂ (λ (ds : List (Doomed ℕ)) (ts : List (VersionState ℕ)). accepted tt (doomSpares ds (withTextures ts (modelOf l))))
+      (not-given l id up t (λ (s : VersionState ℕ). asDoomed (bytesOf (s .shape)) (s .spares))) (not-taken-out l id up t)
+      ∙ ap (accepted tt) none-doomed
+
+  -- i is where the search ended
+  module _ (i : ℕ) (at : i ≡ place l id up) where
+    pub there : hasId (l .textures) (l .pool .tracked) i id ≡ true → i < l .pool .tracked
+    there q = found (l .textures) (l .pool .tracked) i id q .0
+
+    is-there : hasId (l .textures) (l .pool .tracked) i id ≡ true → IsTracked l id up
+    is-there q =
+        let w = found (l .textures) (l .pool .tracked) i id q in
+        (omega (arith, at, w .0), ap (λ (k : ℕ). getD (trackedRecords l) k (readTexture []) .id) (sym at) ∙ ap idOf (record-read l i (w .0)) ∙ w .1)
+
+    is-nowhere : hasId (l .textures) (l .pool .tracked) i id ≡ false → IsTracked l id up → ⊥
+    is-nowhere q (h, e) = not-found (l .textures) (l .pool .tracked) i id up at q (place l id up) h (ap idOf (sym (record-read l (place l id up) h)) ∙ e)
+
+    pub forget-tracked : hasId (l .textures) (l .pool .tracked) i id ≡ true → (r : Lent) → r ≡ after (forgotten l i) l
+        → (answer tt, r) ≡ forgetTextureCall l id
+    unfolding forgetTextureCall
+    forget-tracked q r e =
+        ap (λ (s : Lent). (answer tt, s)) (e ∙ ap (λ (k : ℕ). after (forgotten l k) l) at)
+        ∙ sym (asked-accepted (λ a. a) l (λ (p : Pool ℕ). forgetTexture p id) pool tt (forgotten l (place l id up)) (rule-tracked (is-there q)))
+
+    pub forget-untracked : hasId (l .textures) (l .pool .tracked) i id ≡ false → (answer tt, l) ≡ forgetTextureCall l id
+    unfolding forgetTextureCall
+    forget-untracked q =
+        sym (asked-accepted (λ a. a) l (λ (p : Pool ℕ). forgetTexture p id) pool tt (modelOf l) (rule-untracked (is-nowhere q))
+        ∙ ap (λ (s : Lent). (answer tt, s)) (nothing-changed l f))

@@ -1,0 +1,27 @@
+-- `move_down` meets its contract: what stands there already stays, and otherwise it is moved. Assumes nothing.
+use borrow.Author.Needs.{needs}
+use mathlib.Core.Path.{_≡_, sym, ap, _∙_}
+use Prim.Native.Nat.{ℕ, _+_}
+use native.Mathlib.Omega.{arith}
+use Rattle.base_blocks.specs.Blocks.{moved}
+use Rattle.pool_memory.proofs.Rewritten.{moved-self}
+use Rattle.pool_forget_texture.proofs.pages.move_down.Statement.{statement}
+use Rattle.pool_forget_texture.proofs.pages.move_down.Tie as tie
+
+returns : tie.Need-returns
+returns c =
+    let a = c .before .before .args in
+    let near : a .to ≡ a .to + a .gap = omega (arith, c .if1 .taken) in
+    sym (moved-self (a .s .now) (a .to) (a .n)) ∙ ap (λ (k : ℕ). moved (a .s .now) (a .to) k (a .n)) near
+
+shift-down-requires : tie.Need-shift-down-requires
+shift-down-requires c κs = search needs
+
+same-length : tie.Need-same-length
+same-length c = search needs
+
+returns-2 : tie.Need-returns-2
+returns-2 c = c .before .before .shift-down .ensures
+
+pub move-down-spec : {M : Type 1} → statement M
+move-down-spec = tie.close (tie.spec returns shift-down-requires same-length returns-2)

@@ -1,0 +1,48 @@
+-- What one texture owns, as its record and those before it say, and the pool's counts without it.
+use Prim.Native.Nat.{ℕ, _+_, _-_, _*_}
+use mathlib.Core.List.{List}
+use Rattle.base_blocks.specs.Lists.{total}
+use Rattle.base_tables.specs.Records.{recordAt, table}
+use Rattle.pool_records.specs.declared.texture.TextureRecord.{TextureRecord}
+use Rattle.pool_records.specs.Texture.{readTexture}
+use Rattle.pool_memory.specs.declared.pool.Pool.{Pool as Counts}
+use Rattle.pool_memory.specs.Reading.{recordPages}
+use Rattle.pool_forget_texture.specs.declared.owned.Owned.{Owned}
+
+-- the record of texture i
+abbrev pub textureIn : List ℕ → ℕ → TextureRecord
+textureIn textures i = recordAt 20 readTexture textures i
+
+-- where the spares and the pages of texture i begin
+abbrev pub sparesTo : List ℕ → ℕ → ℕ
+sparesTo textures i = total (λ (t : TextureRecord). t .spares) (table 20 readTexture i textures)
+
+abbrev pub pagesTo : List ℕ → ℕ → ℕ
+pagesTo textures i = total recordPages (table 20 readTexture i textures)
+
+unfoldable pub ownedAt : List ℕ → ℕ → Owned
+ownedAt textures i = record {
+  first = sparesTo textures i;
+  spares = textureIn textures i .spares;
+  page = pagesTo textures i;
+  pages = recordPages (textureIn textures i);
+  bytes = textureIn textures i .bytes;
+}
+
+unfoldable pub without : Counts → Owned → Counts
+without c own = record {
+  tracked = c .tracked - 1;
+  kept = c .kept - own .spares;
+  pages = c .pages - own .pages;
+  head = c .head;
+  popped = c .popped;
+  queued = c .queued;
+  first = c .first;
+  doomed = c .doomed + own .spares;
+  since = c .since + own .spares;
+  trackings = c .trackings;
+  parked = c .parked - own .bytes * own .spares;
+  dooming = c .dooming + own .bytes * own .spares;
+  cap = c .cap;
+  line = c .line;
+}

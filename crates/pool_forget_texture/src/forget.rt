@@ -1,0 +1,65 @@
+// forget_texture: stop tracking a released texture, queueing its spares for destruction.
+ghost use mathlib.Core.Path.{_≡_};
+ghost use mathlib.Core.Bool.{true};
+ghost use Rattle.pool_memory.specs.Lent.{lent};
+ghost use Rattle.pool_memory.specs.IsPool.{isPool};
+ghost use Rattle.pool_memory.specs.Calls.{toldNumber, forgetTextureCall};
+use crate::owned::counts_without;
+use crate::owned::owned_at;
+use crate::pages::move_pages;
+use base_tables::remove_records;
+use pool_access::has_id;
+use pool_access::remove_texture;
+use pool_memory::DoneAnswer;
+use pool_memory::PacingBook;
+use pool_memory::Pool;
+use pool_records::find_texture;
+use pool_take_doomed::push_spares;
+
+// An untracked id changes nothing.
+pub fn forget_texture(
+    pool: Pool,
+    book: PacingBook,
+    textures: &mut [u64],
+    retiring: &[u64],
+    doomed: &mut [u64],
+    spares: &mut [u64],
+    newest: &mut [u64],
+    stamps: &mut [u64],
+    id: u64,
+) -> DoneAnswer
+    requires { ⌜ isPool (lent pool book (now textures) (now retiring) (now doomed) (now spares) (now newest) (now stamps)) ≡ true ⌝ }
+    ensures { λ r. ⌜ (
+      toldNumber (r .outcome),
+      lent (r .pool) book (now (textures .exit)) (now (retiring .entry)) (now (doomed .exit)) (now (spares .exit))
+          (now (newest .exit)) (now (stamps .exit)),
+    )
+        ≡ forgetTextureCall (lent pool book (now (textures .entry)) (now (retiring .entry)) (now (doomed .entry)) (now (spares .entry))
+        (now (newest .entry)) (now (stamps .entry))) id ⌝ }
+{
+    let tracked = pool.tracked;
+    let i = find_texture(textures, tracked, id);
+    if !has_id(textures, tracked, i, id) {
+        return DoneAnswer { pool, outcome: 0 };
+    }
+    let own = owned_at(textures, i);
+    let places = retiring.len() / 7;
+    push_spares(
+        doomed,
+        places,
+        pool.first,
+        pool.doomed,
+        spares,
+        own.first,
+        own.spares,
+        own.bytes,
+    );
+    remove_records(spares, 3, pool.kept, own.first, own.spares);
+    let later = pool.pages - (own.page + own.pages);
+    move_pages(newest, stamps, own.page, own.pages, later);
+    remove_texture(textures, tracked, i);
+    DoneAnswer {
+        pool: counts_without(pool, own),
+        outcome: 0,
+    }
+}

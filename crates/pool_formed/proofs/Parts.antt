@@ -1,0 +1,305 @@
+-- The parts that the test goes by are together what it takes to form a pool. Assumes nothing.
+use mathlib.Core.Path.{_≡_, refl, sym, ap, ap₂, _∙_}
+use mathlib.Core.Bool.{Bool, true, _&&_}
+use mathlib.Core.List.{List, [], _∷_}
+use Prim.Native.Nat.{ℕ, _+_, _*_, _/_, _≤_, _<_}
+use native.Mathlib.Omega.{arith}
+use borrow.Author.Tests.{leb-true, ltb-true, eqb-true, le-leb, eq-eqb}
+use lib.Dec.{leb, ltb, eqb}
+use lib.ListN.{length}
+use Rattle.base_blocks.specs.Lists.{all, listed, total, ascending, tests, after}
+use Rattle.base_blocks.specs.All.{All, nil, cons}
+use Rattle.base_blocks.proofs.Lists.{and-both, passed, pass}
+use Rattle.base_blocks.proofs.All.{all-at}
+use Rattle.base_blocks.proofs.Listed.{length-listed}
+use Rattle.pool_rules.specs.Model.{Places, limit, spareBytes, doomedBytes}
+use Rattle.pool_rules.specs.Open.{arePlaces}
+use Rattle.pool_records.specs.declared.texture.TextureRecord.{TextureRecord}
+use Rattle.pool_memory.specs.Lent.{Lent, versionPlaces}
+use Rattle.pool_memory.specs.Reading.{trackedRecords, recordPages, statesRead, retiringRead, handRead, doomedRead, modelOf}
+use Rattle.pool_memory.specs.IsPool.{sizesFit, countsFit, runsFit, bytesHold, bytesFit, markFits, stateId, isSpare, isState, isRetiring, isHand, isDoomed, isArrival, isFormed, isPool}
+use Rattle.pool_formed.specs.Parts.{lengthsFit, placesHold, retiringAt, retiringFit, doomedAt, doomedFit, ringsFit, numbersFit}
+use Rattle.pool_formed_textures.specs.Textures.{isRecord, recordSpares, claim, spareAt, historiesFit, texturesFit}
+use Rattle.pool_formed_textures.proofs.Tests.{same-test}
+use Rattle.pool_formed_textures.proofs.States.{states-ids, states-bytes, states-test}
+use Rattle.pool_formed.proofs.RingTests.{hand-test}
+
+pub sizes-lengths : (l : Lent) → sizesFit l
+    ≡ lengthsFit (length (l .textures)) (length (l .retiring)) (length (l .doomed)) (length (l .spares)) (length (l .newest)) (length (l .stamps))
+unfolding sizesFit lengthsFit arePlaces modelOf versionPlaces tests after
+sizes-lengths l = refl
+
+pub counts-places : (l : Lent) → countsFit l ≡ placesHold (l .pool) (length (l .textures) / 20) (length (l .retiring) / 7) (length (l .newest))
+unfolding countsFit placesHold modelOf versionPlaces
+counts-places l = refl
+
+-- ---- the parts, of lent memory
+
+abbrev pub numbersOf : Lent → Bool
+numbersOf l = numbersFit (l .pool) (l .book)
+
+abbrev pub ringsOf : Lent → Bool
+ringsOf l = ringsFit (l .pool) (versionPlaces l) (l .retiring) (l .doomed)
+
+abbrev pub texturesOf : Lent → Bool
+texturesOf l = texturesFit (l .pool) (l .textures) (l .spares) (l .newest) (l .stamps)
+
+abbrev pub partsOf : Lent → List Bool
+partsOf l = sizesFit l ∷ countsFit l ∷ numbersOf l ∷ ringsOf l ∷ texturesOf l ∷ []
+
+pass-all : (bs : List Bool) → All (λ (b : Bool). b ≡ true) bs → tests bs ≡ true
+pass-all bs ps = pass bs (λ k h. all-at bs k true h ps)
+
+flip : (a b : ℕ) → eqb a b ≡ true → eqb b a ≡ true
+flip a b e = eq-eqb b a (sym (eqb-true a b e))
+
+-- 01's conditions, each by its name
+record Conditions (l : Lent) : Type 0 where
+  ids : ascending stateId (statesRead l 0 0 (trackedRecords l)) ≡ true
+  states : all isState (statesRead l 0 0 (trackedRecords l)) ≡ true
+  queue : all isRetiring (listed (retiringRead l) (l .pool .popped) (l .pool .queued)) ≡ true
+  hand : isHand (handRead l (l .pool .popped)) ≡ true
+  doomed : all isDoomed (listed (doomedRead l) 0 (l .pool .doomed)) ≡ true
+  trackings : leb (l .pool .trackings) limit ≡ true
+  parked : eqb (l .pool .parked) (total spareBytes (statesRead l 0 0 (trackedRecords l))) ≡ true
+  dooming : eqb (l .pool .dooming) (doomedBytes (listed (doomedRead l) 0 (l .pool .doomed))) ≡ true
+  cap : leb (l .pool .parked) (l .pool .cap) ≡ true
+  slot : ltb (l .book .slot) 8 ≡ true
+  arrivals : all isArrival (l .book .arrivals) ≡ true
+  since : leb (l .pool .since) (length (listed (doomedRead l) 0 (l .pool .doomed))) ≡ true
+
+module _ (l : Lent) where
+  abbrev ts : List TextureRecord
+  ts = trackedRecords l
+
+  kept : runsFit l ≡ true → total recordSpares ts ≡ l .pool .kept
+  unfolding runsFit
+  kept runs = eqb-true _ _ (passed _ runs 0)
+
+  conditions : isFormed (modelOf l) ≡ true → Conditions l
+  unfolding isFormed modelOf
+  conditions e = record {
+    ids = passed _ e 0;
+    states = passed _ e 1;
+    queue = passed _ e 2;
+    hand = passed _ e 3;
+    doomed = passed _ e 4;
+    trackings = passed _ e 5;
+    parked = passed _ e 6;
+    dooming = passed _ e 7;
+    cap = passed _ e 8;
+    slot = passed _ e 9;
+    arrivals = passed _ e 11;
+    since = passed _ e 12;
+  }
+
+  formed : length (l .book .arrivals) ≡ 8 → Conditions l → isFormed (modelOf l) ≡ true
+  unfolding isFormed modelOf
+  formed eight c =
+      pass-all _
+      (cons (c .ids)
+      (cons (c .states)
+      (cons (c .queue)
+      (cons (c .hand)
+      (cons (c .doomed)
+      (cons (c .trackings)
+      (cons (c .parked)
+      (cons (c .dooming)
+      (cons (c .cap) (cons (c .slot) (cons (eq-eqb (length (l .book .arrivals)) 8 eight) (cons (c .arrivals) (cons (c .since) nil)))))))))))))
+
+  few-popped : countsFit l ≡ true → l .pool .popped ≤ 1
+  unfolding countsFit
+  few-popped e = leb-true _ _ (passed _ e 3)
+
+  -- ---- what forms a pool passes the parts
+
+  module _ (few : l .pool .popped ≤ 1) (mark : markFits l ≡ true) (c : Conditions l) where
+    to-numbers : numbersOf l ≡ true
+    unfolding numbersFit markFits
+    to-numbers =
+        let k = length-listed (doomedRead l) 0 (l .pool .doomed) in
+        let s = leb-true (l .pool .since) (length (listed (doomedRead l) 0 (l .pool .doomed))) (c .since) in
+        pass-all _ (cons (c .trackings) (cons (c .cap) (cons (c .slot) (cons mark (cons (le-leb (l .pool .since) (l .pool .doomed) (omega (arith, s, k))) (cons (c .arrivals) nil))))))
+
+    to-queue : retiringFit (versionPlaces l) (l .pool .head) (l .pool .popped + l .pool .queued) (l .retiring) ≡ true
+    unfolding retiringFit retiringAt retiringRead
+    to-queue = hand-test l (l .pool .popped) (l .pool .queued) few ∙ ap₂ (λ (a b : Bool). a && b) (c .hand) (c .queue)
+
+    to-doomed : doomedFit (versionPlaces l) (l .pool .first) (l .pool .doomed) (l .pool .dooming) (l .doomed) ≡ true
+    unfolding doomedFit doomedAt doomedRead
+    to-doomed = pass-all _ (cons (c .doomed) (cons (c .dooming) nil))
+
+    to-rings : ringsOf l ≡ true
+    unfolding ringsFit
+    to-rings = pass-all _ (cons to-queue (cons to-doomed nil))
+
+    module _ (runs : runsFit l ≡ true) (bytes : bytesFit l ≡ true) where
+      to-claim : claim ts (l .pool .kept) (l .pool .pages) ≡ true
+      unfolding claim runsFit
+      to-claim =
+          pass-all _ (cons (flip (total recordSpares ts) (l .pool .kept) (passed _ runs 0)) (cons (flip (total recordPages ts) (l .pool .pages) (passed _ runs 1)) nil))
+
+      to-textures : texturesOf l ≡ true
+      unfolding texturesFit bytesFit
+      to-textures =
+          let q = and-both (all isRecord ts) _ (sym (states-test l 0 0 ts) ∙ ap₂ (λ (a b : Bool). a && b) (c .states) bytes) in
+          let r = and-both (historiesFit (l .newest) (l .stamps) 0 ts) _ (q .1) in
+          pass-all _
+          (cons (sym (states-ids l 0 0 ts) ∙ c .ids)
+          (cons (q .0)
+          (cons to-claim
+          (cons (ap (λ (n : ℕ). all isSpare (listed (spareAt (l .spares)) 0 n)) (sym (kept runs)) ∙ r .1)
+          (cons (ap (eqb (l .pool .parked)) (sym (states-bytes l 0 0 ts)) ∙ c .parked) (cons (r .0) nil))))))
+
+  -- ---- and what passes them forms a pool
+
+  module _ (few : l .pool .popped ≤ 1) (n : numbersOf l ≡ true) (r : ringsOf l ≡ true) (t : texturesOf l ≡ true) where
+    from-queue : isHand (handRead l (l .pool .popped)) && all isRetiring (listed (retiringRead l) (l .pool .popped) (l .pool .queued)) ≡ true
+    unfolding ringsFit retiringFit retiringAt retiringRead
+    from-queue = sym (hand-test l (l .pool .popped) (l .pool .queued) few) ∙ passed _ r 0
+
+    from-doomed : doomedFit (versionPlaces l) (l .pool .first) (l .pool .doomed) (l .pool .dooming) (l .doomed) ≡ true
+    unfolding ringsFit
+    from-doomed = passed _ r 1
+
+    from-claim : claim ts (l .pool .kept) (l .pool .pages) ≡ true
+    unfolding texturesFit
+    from-claim = passed _ t 2
+
+    from-runs : runsFit l ≡ true
+    unfolding claim runsFit
+    from-runs =
+        pass-all _ (cons (flip (l .pool .kept) (total recordSpares ts) (passed _ from-claim 0)) (cons (flip (l .pool .pages) (total recordPages ts) (passed _ from-claim 1)) nil))
+
+    from-records : all isState (statesRead l 0 0 ts) && all bytesHold ts ≡ true
+    unfolding texturesFit
+    from-records =
+        states-test l 0 0 ts
+        ∙ ap₂ (λ (a b : Bool). a && b) (passed _ t 1)
+        (ap₂ (λ (a b : Bool). a && b) (passed _ t 5) (ap (λ (n : ℕ). all isSpare (listed (spareAt (l .spares)) 0 n)) (kept from-runs) ∙ passed _ t 3))
+
+    from-states : all isState (statesRead l 0 0 ts) ≡ true
+    from-states = and-both (all isState (statesRead l 0 0 ts)) (all bytesHold ts) from-records .0
+
+    from-bytes : bytesFit l ≡ true
+    unfolding bytesFit
+    from-bytes = and-both (all isState (statesRead l 0 0 ts)) (all bytesHold ts) from-records .1
+
+    from-mark : markFits l ≡ true
+    unfolding numbersFit markFits
+    from-mark = passed _ n 3
+
+    from-parts : Conditions l
+    unfolding numbersFit doomedFit doomedAt doomedRead texturesFit
+    from-parts =
+        let q = and-both (isHand (handRead l (l .pool .popped))) _ from-queue in
+        let s = leb-true (l .pool .since) (l .pool .doomed) (passed _ n 4) in
+        let k = length-listed (doomedRead l) 0 (l .pool .doomed) in
+        record {
+          ids = states-ids l 0 0 ts ∙ passed _ t 0;
+          states = from-states;
+          queue = q .1;
+          hand = q .0;
+          doomed = passed _ from-doomed 0;
+          trackings = passed _ n 0;
+          parked = ap (eqb (l .pool .parked)) (states-bytes l 0 0 ts) ∙ passed _ t 4;
+          dooming = passed _ from-doomed 1;
+          cap = passed _ n 1;
+          slot = passed _ n 2;
+          arrivals = passed _ n 5;
+          since = le-leb (l .pool .since) (length (listed (doomedRead l) 0 (l .pool .doomed))) (omega (arith, s, k));
+        }
+
+  -- ---- together
+
+  pub pool-parts : length (l .book .arrivals) ≡ 8 → isPool l ≡ tests (partsOf l)
+  unfolding isPool
+  pool-parts eight =
+      same-test (isPool l) (tests (partsOf l))
+      (λ e.
+      let f = few-popped (passed _ e 1) in
+      let m = passed _ e 4 in
+      let c = conditions (passed _ e 5) in
+      pass-all _ (cons (passed _ e 0) (cons (passed _ e 1) (cons (to-numbers f m c) (cons (to-rings f m c) (cons (to-textures f m c (passed _ e 2) (passed _ e 3)) nil))))))
+      (λ e.
+      let f = few-popped (passed _ e 1) in
+      let n = passed _ e 2 in
+      let r = passed _ e 3 in
+      let t = passed _ e 4 in
+      pass-all _ (cons (passed _ e 0) (cons (passed _ e 1) (cons (from-runs f n r t)
+      (cons (from-bytes f n r t) (cons (from-mark f n r t) (cons (formed eight (from-parts f n r t)) nil)))))))
+
+  -- where all but the last pass, the last decides
+  pub last-part : length (l .book .arrivals) ≡ 8 → sizesFit l ≡ true → countsFit l ≡ true → numbersOf l ≡ true → ringsOf l ≡ true → texturesOf l ≡ isPool l
+  unfolding tests after
+  last-part eight s c n r = sym (pool-parts eight ∙ rw (s, c, n, r))
+
+-- ---- what the sizes and counts that passed say
+
+pub record SizesFit (l : Lent) : Type 0 where
+  pub versions : versionPlaces l ≤ 4096
+  pub textures : length (l .textures) ≡ 20 * (length (l .textures) / 20)
+  pub retiring : length (l .retiring) ≡ 7 * versionPlaces l
+  pub doomed : length (l .doomed) ≡ 2 * versionPlaces l
+  pub spares : length (l .spares) ≡ 3 * versionPlaces l
+  pub stamps : length (l .stamps) ≡ 1024 * length (l .newest)
+
+places-versions : (p : Places) → arePlaces p ≡ true → p .versions ≤ 4096
+unfolding arePlaces
+places-versions p e = leb-true _ _ (passed _ e 3)
+
+pub sizes : (l : Lent) → sizesFit l ≡ true → SizesFit l
+unfolding sizesFit modelOf
+sizes l e = record {
+  versions = places-versions _ (passed _ e 0);
+  textures = eqb-true _ _ (passed _ e 1);
+  retiring = eqb-true _ _ (passed _ e 2);
+  doomed = eqb-true _ _ (passed _ e 3);
+  spares = eqb-true _ _ (passed _ e 4);
+  stamps = eqb-true _ _ (passed _ e 5);
+}
+
+pub record CountsFit (l : Lent) : Type 0 where
+  pub tracked : l .pool .tracked ≤ length (l .textures) / 20
+  pub head : l .pool .head < versionPlaces l
+  pub first : l .pool .first < versionPlaces l
+  pub used : l .pool .queued + l .pool .popped + l .pool .kept + l .pool .doomed ≤ versionPlaces l
+  pub pages : l .pool .pages ≤ length (l .newest)
+
+pub counts : (l : Lent) → countsFit l ≡ true → CountsFit l
+unfolding countsFit modelOf
+counts l e = record {
+  tracked = leb-true _ _ (passed _ e 0);
+  head = ltb-true _ _ (passed _ e 1);
+  first = ltb-true _ _ (passed _ e 2);
+  used = leb-true _ _ (passed _ e 4);
+  pages = leb-true _ _ (passed _ e 5);
+}
+
+module _ (l : Lent) (s : sizesFit l ≡ true) where
+  pub few-versions : length (l .retiring) / 7 ≤ 4096
+  unfolding versionPlaces
+  few-versions = sizes l s .versions
+
+  module _ (p : placesHold (l .pool) (length (l .textures) / 20) (length (l .retiring) / 7) (length (l .newest)) ≡ true) where
+    counted : CountsFit l
+    counted = counts l (counts-places l ∙ p)
+
+    pub rings-room : (7 * (length (l .retiring) / 7) ≤ length (l .retiring)) × (2 * (length (l .retiring) / 7) ≤ length (l .doomed)) × (length (l .retiring) / 7 ≤ 4096)
+        × (l .pool .head < length (l .retiring) / 7) × (l .pool .first < length (l .retiring) / 7)
+        × (l .pool .popped + l .pool .queued ≤ length (l .retiring) / 7) × (l .pool .doomed ≤ length (l .retiring) / 7)
+    unfolding versionPlaces
+    rings-room =
+        let z = sizes l s in
+        (omega (arith, z .retiring), omega (arith, z .doomed), few-versions, counted .head, counted .first, omega (arith, counted .used), omega (arith, counted .used))
+
+    pub textures-room : (20 * l .pool .tracked ≤ length (l .textures)) × (3 * l .pool .kept ≤ length (l .spares)) × (l .pool .kept ≤ 4096)
+        × (l .pool .pages ≤ length (l .newest)) × (length (l .stamps) ≡ 1024 * length (l .newest))
+    textures-room =
+        let z = sizes l s in (
+          omega (arith, z .textures, counted .tracked),
+          omega (arith, z .spares, counted .used),
+          omega (arith, z .versions, counted .used),
+          counted .pages,
+          z .stamps,
+        )

@@ -1,0 +1,83 @@
+// The lengths of the lent slices, and the counts against the places that they have.
+ghost use mathlib.Core.Path.{_≡_};
+ghost use Prim.Native.Nat.{_≤_};
+ghost use Rattle.pool_memory.specs.declared.pool.Pool.{Pool as Counts};
+ghost use Rattle.pool_memory.specs.declared.book.PacingBook.{PacingBook};
+ghost use Rattle.pool_memory.specs.Lent.{lent};
+ghost use Rattle.pool_memory.specs.IsPool.{sizesFit};
+ghost use Rattle.pool_formed.specs.Parts.{lengthsFit, placesHold};
+use pool_memory::Pool;
+
+// The slices are of whole places, as many as may be lent, and fit together.
+fn lengths_fit(
+    textures: usize,
+    retiring: usize,
+    doomed: usize,
+    spares: usize,
+    newest: usize,
+    stamps: usize,
+) -> bool
+    ensures { λ r. ⌜ r ≡ lengthsFit textures retiring doomed spares newest stamps ⌝ }
+{
+    if newest > 4096 {
+        return false;
+    }
+    let places = textures / 20;
+    let versions = retiring / 7;
+    (1 <= places)
+        & (places <= 4096)
+        & (1 <= versions)
+        & (versions <= 4096)
+        & (newest <= 4096)
+        & (textures == 20 * places)
+        & (retiring == 7 * versions)
+        & (doomed == 2 * versions)
+        & (spares == 3 * versions)
+        & (stamps == 1024 * newest)
+}
+
+// The lent slices have the sizes that a pool needs, whatever its counts are.
+pub fn sizes_fit(
+    textures: &[u64],
+    retiring: &[u64],
+    doomed: &[u64],
+    spares: &[u64],
+    newest: &[u64],
+    stamps: &[u64],
+) -> bool
+    ensures { λ r. ⌜ ((pool : Counts) (book : PacingBook)
+        → r ≡ sizesFit (lent pool book (now (textures .entry)) (now (retiring .entry)) (now (doomed .entry)) (now (spares .entry)) (now (newest .entry)) (now (stamps .entry)))) ⌝ }
+{
+    lengths_fit(
+        textures.len(),
+        retiring.len(),
+        doomed.len(),
+        spares.len(),
+        newest.len(),
+        stamps.len(),
+    )
+}
+
+// The counts fit their places. Each is tested before it is added, so that no sum can pass a word.
+pub fn counts_fit(pool: Pool, places: usize, versions: usize, pages: usize) -> bool
+    requires { ⌜ versions ≤ 4096 ⌝ }
+    ensures { λ r. ⌜ r ≡ placesHold pool places versions pages ⌝ }
+{
+    if pool.popped > 1 {
+        return false;
+    }
+    if pool.queued > versions {
+        return false;
+    }
+    if pool.kept > versions {
+        return false;
+    }
+    if pool.doomed > versions {
+        return false;
+    }
+    (pool.tracked <= places)
+        & (pool.head < versions)
+        & (pool.first < versions)
+        & (pool.queued + pool.popped + pool.kept + pool.doomed <= versions)
+        & (pool.pages <= pages)
+}

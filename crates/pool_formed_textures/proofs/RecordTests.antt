@@ -1,0 +1,119 @@
+-- What a pass learns at one texture's record. Assumes nothing.
+use mathlib.Core.Path.{_≡_, sym, ap, ap₂, _∙_, subst}
+use mathlib.Core.Bool.{Bool, true, false, _&&_}
+use mathlib.Core.List.{List, []}
+use Prim.Native.Nat.{ℕ, _+_, _*_, _≤_, _<_}
+use native.Mathlib.Nat.{add-zero, mul-le-mul}
+use native.Mathlib.Omega.{arith}
+use borrow.Author.Tests.{lt-ltb, le-ltb}
+use lib.Dec.{leb, eqb}
+use lib.ListN.{take, drop, getD}
+use lib.Seq.{getD-drop}
+use Rattle.base_blocks.specs.Lists.{all, total, ascending, tests, after}
+use Rattle.base_blocks.proofs.Lists.{all-get, total-get, passed}
+use Rattle.base_blocks.proofs.Listed.{left, ascending-more, ascending-stop}
+use Rattle.base_tables.specs.Records.{recordAt}
+use Rattle.base_tables.proofs.Records.{length-table, getD-table, record-part}
+use Rattle.grid_shapes.specs.declared.shape.VersionShape.{VersionShape}
+use Rattle.grid_shapes.specs.Shapes.{isShape, slicesOf, bytesOf}
+use Rattle.grid_shapes.proofs.Shapes.{shape-bounds, slices-bound}
+use Rattle.grid_shapes.proofs.ShapeBytes.{bytes-bound}
+use Rattle.pool_rules.specs.Model.{limit}
+use Rattle.pool_records.specs.declared.texture.TextureRecord.{TextureRecord}
+use Rattle.pool_records.specs.Texture.{readTexture}
+use Rattle.pool_records.specs.Find.{textures, idOf}
+use Rattle.pool_records.proofs.Codecs.{texture-codec}
+use Rattle.pool_memory.specs.IsPool.{bytesHold}
+use Rattle.pool_memory.proofs.Runs.{bytes-held}
+use Rattle.pool_formed_textures.specs.Textures.{writesFit, isRecord, recordSpares}
+use Rattle.pool_formed_textures.proofs.Tests.{fails}
+
+-- ---- records
+
+-- record i of the textures' slice
+abbrev pub textureAt : List ℕ → ℕ → TextureRecord
+textureAt s i = recordAt 20 readTexture s i
+
+-- read out of the part of the slice that holds it
+pub texture-read : (s : List ℕ) (i : ℕ) (p : List ℕ) → p ≡ take 20 (drop (20 * i) s) → readTexture p ≡ textureAt s i
+texture-read s i p e = ap readTexture e ∙ record-part texture-codec s i
+
+-- ---- ids
+
+id-here : (s : List ℕ) (i : ℕ) → getD s (20 * i) 0 ≡ idOf (textureAt s i)
+unfolding recordAt readTexture
+id-here s i = sym (getD-drop (20 * i) s 0 0 ∙ ap (λ (k : ℕ). getD s k 0) (add-zero (20 * i)))
+
+id-next : (s : List ℕ) (i : ℕ) → getD s (20 * i + 20) 0 ≡ idOf (textureAt s (i + 1))
+id-next s i = ap (λ (k : ℕ). getD s k 0) (let e : 20 * i + 20 ≡ 20 * (i + 1) = omega arith in e) ∙ id-here s (i + 1)
+
+module _ (s : List ℕ) (n i : ℕ) (h : i + 1 < n) where
+  pub ids-more : getD s (20 * i) 0 < getD s (20 * i + 20) 0 → ascending idOf (left (textureAt s) n i) ≡ ascending idOf (left (textureAt s) n (i + 1))
+  ids-more q = ascending-more (textureAt s) n idOf i h (lt-ltb (idOf (textureAt s i)) (idOf (textureAt s (i + 1))) (omega (arith, id-here s i, id-next s i)))
+
+  pub ids-stop : getD s (20 * i + 20) 0 ≤ getD s (20 * i) 0 → ascending idOf (left (textureAt s) n i) ≡ false
+  ids-stop q = ascending-stop (textureAt s) n idOf i h (le-ltb (idOf (textureAt s i)) (idOf (textureAt s (i + 1))) (omega (arith, id-here s i, id-next s i)))
+
+-- ---- single records
+
+module _ (t u : TextureRecord) (e : t ≡ u) where
+  pub record-unshaped : isShape (t .shape) ≡ false → false ≡ isRecord u
+  unfolding isRecord
+  record-unshaped q = sym (fails _ 0 q) ∙ ap isRecord e
+
+  pub record-test : (w : Bool) (bytes : ℕ) → isShape (t .shape) ≡ true → w ≡ writesFit (t .history) → bytes ≡ bytesOf (t .shape)
+      → leb (t .epoch) limit && leb (t .birth) limit && leb (t .rename) limit && leb (t .due) limit && w && eqb (t .bytes) bytes ≡ isRecord u
+  unfolding isRecord bytesHold tests after
+  record-test w bytes q ew eb =
+      ap₂ (λ (y : Bool) (n : ℕ). leb (t .epoch) limit && leb (t .birth) limit && leb (t .rename) limit && leb (t .due) limit && y && eqb (t .bytes) n) ew eb
+      ∙ ap (λ (x : Bool). x && leb (t .epoch) limit && leb (t .birth) limit && leb (t .rename) limit && leb (t .due) limit && writesFit (t .history) && eqb (t .bytes) (bytesOf (t .shape)))
+      (sym q)
+      ∙ ap isRecord e
+
+pub pages-small : (s : VersionShape) (k : ℕ) → k ≡ slicesOf s → isShape s ≡ true → k * s .levels ≤ 90
+pages-small s k e h = mul-le-mul {n₂ = 6} {m₂ = 15} (omega (arith, e, slices-bound s)) (shape-bounds s h .levels-bound)
+
+pub bytes-small : (s : VersionShape) (b k : ℕ) → b ≡ bytesOf s → isShape s ≡ true → k ≤ 4096 → b * k ≤ 72057594037927936
+bytes-small s b k e h q = mul-le-mul {n₂ = 17592186044416} {m₂ = 4096} (omega (arith, e, bytes-bound s h)) q
+
+-- ---- what passed, of the record at i
+
+pub record-shape : (t : TextureRecord) → isRecord t ≡ true → isShape (t .shape) ≡ true
+unfolding isRecord
+record-shape t e = passed _ e 0
+
+pub record-holds : (t : TextureRecord) → isRecord t ≡ true → bytesHold t ≡ true
+unfolding isRecord
+record-holds t e = passed _ e 6
+
+module _ (s : List ℕ) (n : ℕ) (ok : all isRecord (textures n s) ≡ true) where
+  pub shape-at : (i : ℕ) → i < n → isShape (textureAt s i .shape) ≡ true
+  shape-at i h =
+      let e = getD-table 20 readTexture n i s (readTexture []) h in
+      let f = all-get isRecord (textures n s) i (readTexture []) ok (omega (arith, length-table 20 readTexture n s)) in
+      record-shape (textureAt s i) (rw e at f)
+
+  pub bytes-at : (i : ℕ) → i < n → textureAt s i .bytes ≡ bytesOf (textureAt s i .shape)
+  bytes-at i h =
+      let e = getD-table 20 readTexture n i s (readTexture []) h in
+      let f = all-get isRecord (textures n s) i (readTexture []) ok (omega (arith, length-table 20 readTexture n s)) in
+      bytes-held (textureAt s i) (record-holds (textureAt s i) (rw e at f))
+
+pub spares-at : (s : List ℕ) (n i : ℕ) → i < n → textureAt s i .spares ≤ total recordSpares (textures n s)
+spares-at s n i h =
+    let e = getD-table 20 readTexture n i s (readTexture []) h in
+    let f = total-get recordSpares (textures n s) i (readTexture []) (omega (arith, length-table 20 readTexture n s)) in
+    rw e at f
+
+-- ---- the record at i, read out of its part of the slice
+
+module _ (s : List ℕ) (i : ℕ) (p : List ℕ) (e : p ≡ take 20 (drop (20 * i) s)) where
+  pub read-shape : (n : ℕ) → all isRecord (textures n s) ≡ true → i < n → isShape (readTexture p .shape) ≡ true
+  read-shape n ok h = ap (λ (t : TextureRecord). isShape (t .shape)) (texture-read s i p e) ∙ shape-at s n ok i h
+
+  pub read-bytes : (n : ℕ) → all isRecord (textures n s) ≡ true → i < n → readTexture p .bytes ≡ bytesOf (readTexture p .shape)
+  read-bytes n ok h = subst (λ (t : TextureRecord). t .bytes ≡ bytesOf (t .shape)) (sym (texture-read s i p e)) (bytes-at s n ok i h)
+
+  pub read-spares : getD p 18 0 ≡ textureAt s i .spares
+  unfolding readTexture
+  read-spares = ap (λ (t : TextureRecord). t .spares) (texture-read s i p e)

@@ -1,0 +1,110 @@
+// The textures' records, each by itself.
+ghost use mathlib.Core.Path.{_≡_};
+ghost use mathlib.Core.Bool.{true};
+ghost use Prim.Native.Nat.{_+_, _*_, _≤_};
+ghost use lib.ListN.{length};
+ghost use Rattle.base_blocks.specs.Lists.{all, ascending};
+ghost use Rattle.grid_shapes.specs.Shapes.{isShape, bytesOf};
+ghost use Rattle.pool_rules.specs.Model.{pagesOf};
+ghost use Rattle.pool_records.specs.Texture.{readTexture};
+ghost use Rattle.pool_records.specs.Find.{textures as textures′, idOf};
+ghost use Rattle.pool_memory.specs.Reading.{recordPages};
+ghost use Rattle.pool_formed_textures.specs.Textures.{writesFit, isRecord, recordBytes};
+use crate::limits::MOST_COUNTED;
+use base_tables::record_at;
+use grid_shapes::VersionShape;
+use grid_shapes::is_shape;
+use grid_shapes::shape_bytes;
+use grid_shapes::slices;
+use pool_records::Recorded;
+use pool_records::read_texture;
+
+// The ids of the first n records ascend.
+pub fn ids_ascend(textures: &[u64], n: usize) -> bool
+    requires { ⌜ 20 * n ≤ length (now textures) ⌝ }
+    ensures { λ r. ⌜ r ≡ ascending idOf (textures′ n (now (textures .entry))) ⌝ }
+{
+    let mut i = 0;
+    while i + 1 < n {
+        if textures[20 * i + 20] <= textures[20 * i] {
+            return false;
+        }
+        i += 1;
+    }
+    true
+}
+
+// A write count, if there is a history, is at most 2^48.
+fn writes_fit(h: Recorded) -> bool
+    ensures { λ r. ⌜ r ≡ writesFit h ⌝ }
+{
+    match h {
+        Recorded::Writes(n) => n <= MOST_COUNTED,
+        Recorded::NoHistory => true,
+    }
+}
+
+// The record's shape passes refusal 2, its bytes are that shape's, and its other numbers are at most 2^48.
+fn is_record(p: &[u64]) -> bool
+    requires { ⌜ 20 ≤ length (now p) ⌝ }
+    ensures { λ r. ⌜ r ≡ isRecord (readTexture (now (p .entry))) ⌝ }
+{
+    let t = read_texture(p);
+    let shape = t.shape;
+    let history = t.history;
+    if !is_shape(shape) {
+        return false;
+    }
+    (t.epoch <= MOST_COUNTED)
+        & (t.birth <= MOST_COUNTED)
+        & (t.rename <= MOST_COUNTED)
+        & (t.due <= MOST_COUNTED)
+        & writes_fit(history)
+        & (t.bytes == shape_bytes(shape))
+}
+
+// Every one of the first n records does.
+pub fn records_fit(textures: &[u64], n: usize) -> bool
+    requires { ⌜ 20 * n ≤ length (now textures) ⌝ }
+    ensures { λ r. ⌜ r ≡ all isRecord (textures′ n (now (textures .entry))) ⌝ }
+{
+    let mut i = 0;
+    while i < n {
+        if !is_record(record_at(textures, 20, i)) {
+            return false;
+        }
+        i += 1;
+    }
+    true
+}
+
+// One page for each slice and level.
+pub fn pages_of(s: VersionShape) -> u64
+    requires { ⌜ isShape s ≡ true ⌝ }
+    ensures { λ r. ⌜ (r ≤ 90) × (r ≡ pagesOf s) ⌝ }
+{
+    slices(s) * s.levels
+}
+
+// How many pages a record claims.
+pub fn record_pages(p: &[u64]) -> usize
+    requires { ⌜ (20 ≤ length (now p)) × (isShape (readTexture (now p) .shape) ≡ true) ⌝ }
+    ensures { λ r. ⌜ (r ≤ 90) × (r ≡ recordPages (readTexture (now (p .entry)))) ⌝ }
+{
+    let t = read_texture(p);
+    let shape = t.shape;
+    let history = t.history;
+    match history {
+        Recorded::Writes(_) => pages_of(shape) as usize,
+        Recorded::NoHistory => 0,
+    }
+}
+
+// The bytes of a record's spares.
+pub fn record_bytes(p: &[u64]) -> u64
+    requires { ⌜ (20 ≤ length (now p)) × (isShape (readTexture (now p) .shape) ≡ true) × (readTexture (now p) .spares ≤ 4096)
+        × (readTexture (now p) .bytes ≡ bytesOf (readTexture (now p) .shape)) ⌝ }
+    ensures { λ r. ⌜ r ≡ recordBytes (readTexture (now (p .entry))) ⌝ }
+{
+    p[19] * p[18]
+}

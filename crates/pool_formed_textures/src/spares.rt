@@ -1,0 +1,26 @@
+// The spares, which stand packed whichever texture they are of.
+ghost use mathlib.Core.Path.{_≡_};
+ghost use Prim.Native.Nat.{_*_, _≤_};
+ghost use lib.ListN.{length};
+ghost use Rattle.base_blocks.specs.Lists.{all, listed};
+ghost use Rattle.pool_memory.specs.IsPool.{isSpare};
+ghost use Rattle.pool_formed_textures.specs.Textures.{spareAt};
+use crate::limits::MOST_COUNTED;
+
+// The first n spares: what each holds is unknown (0) or at most 2^48 (one more stands there), and so is its parking number.
+pub fn spares_fit(spares: &[u64], n: usize) -> bool
+    requires { ⌜ 3 * n ≤ length (now spares) ⌝ }
+    ensures { λ r. ⌜ r ≡ all isSpare (listed (spareAt (now (spares .entry))) 0 n) ⌝ }
+{
+    let mut k = 0;
+    while k < n {
+        if spares[3 * k + 1] > MOST_COUNTED + 1 {
+            return false;
+        }
+        if spares[3 * k + 2] > MOST_COUNTED {
+            return false;
+        }
+        k += 1;
+    }
+    true
+}

@@ -1,0 +1,42 @@
+// The textures with their spares and histories, the cheap conditions first.
+ghost use mathlib.Core.Path.{_≡_};
+ghost use Prim.Native.Nat.{_*_, _≤_};
+ghost use lib.ListN.{length};
+ghost use Rattle.pool_formed_textures.specs.Textures.{texturesFit};
+use crate::history::histories_fit;
+use crate::record::ids_ascend;
+use crate::record::records_fit;
+use crate::runs::parked_bytes;
+use crate::runs::runs_fit;
+use crate::spares::spares_fit;
+use pool_memory::Pool;
+
+pub fn textures_fit(
+    pool: Pool,
+    textures: &[u64],
+    spares: &[u64],
+    newest: &[u64],
+    stamps: &[u64],
+) -> bool
+    requires { ⌜ (20 * pool .tracked ≤ length (now textures)) × (3 * pool .kept ≤ length (now spares)) × (pool .kept ≤ 4096)
+        × (pool .pages ≤ length (now newest)) × (length (now stamps) ≡ 1024 * length (now newest)) ⌝ }
+    ensures { λ r. ⌜ r ≡ texturesFit pool (now (textures .entry)) (now (spares .entry)) (now (newest .entry)) (now (stamps .entry)) ⌝ }
+{
+    let n = pool.tracked;
+    if !ids_ascend(textures, n) {
+        return false;
+    }
+    if !records_fit(textures, n) {
+        return false;
+    }
+    if !runs_fit(textures, n, pool.kept, pool.pages) {
+        return false;
+    }
+    if !spares_fit(spares, pool.kept) {
+        return false;
+    }
+    if pool.parked != parked_bytes(textures, n) {
+        return false;
+    }
+    histories_fit(textures, n, newest, stamps)
+}

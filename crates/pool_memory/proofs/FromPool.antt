@@ -1,0 +1,340 @@
+-- Lent memory that passes the test has every one of the facts. Assumes nothing.
+use mathlib.Core.Path.{_≡_, refl, sym, ap, ap₂, _∙_, subst}
+use mathlib.Core.Bool.{true}
+use mathlib.Core.Option.{Option, none, some}
+use mathlib.Core.List.{List, [], _∷_}
+use Prim.Native.Nat.{ℕ, _+_, _*_, _%_, _≤_, _<_}
+use native.Mathlib.Nat.{zero-add, mul-comm}
+use native.Mathlib.Omega.{arith}
+use borrow.Author.Tests.{ltb-true, leb-true, eqb-true}
+use lib.Dec.{leb, eqb}
+use lib.ListN.{length, take, drop, getD, length-drop}
+use lib.Seq.{length-take-le}
+use Rattle.base_blocks.specs.Lists.{listed, all, total}
+use Rattle.base_blocks.specs.All.{All, nil, cons}
+use Rattle.base_blocks.specs.Blocks.{largest}
+use Rattle.base_blocks.proofs.Lists.{passed, and-both, all-get}
+use Rattle.base_blocks.proofs.Listed.{length-listed, getD-listed}
+use Rattle.grid_shapes.specs.declared.shape.VersionShape.{VersionShape}
+use Rattle.grid_shapes.specs.Shapes.{isShape, slicesOf}
+use Rattle.grid_stamps.specs.Grids.{Tiling, tilingOf, stampCount, StampGrid, gridIn}
+use Rattle.grid_stamps.proofs.Tilings.{tiling-ok, count-bound}
+use Rattle.grid_stamps.proofs.RowByRow.{tile-place}
+use Rattle.pool_rules.specs.declared.held.Held.{Held}
+use Rattle.pool_rules.specs.declared.held.Held.the-variants.{Known, Unknown}
+use Rattle.pool_rules.specs.Model.{WriteHistory, Spare, Retiring, Doomed, Places, pagesOf, versionsUsed}
+use Rattle.pool_rules.specs.Histories.{gridAt, gridPlace}
+use Rattle.pool_rules.specs.Open.{arePlaces}
+use Rattle.pool_rules.specs.Formed.{Given, HeldFormed, GridFormed, HistoryFormed, SpareFormed, RetiringFormed, DoomedFormed, StateFormed, Formed}
+use Rattle.pool_rules.proofs.GridPlaces.{place-level}
+use Rattle.pool_records.specs.declared.recorded.Recorded.{Recorded}
+use Rattle.pool_records.specs.declared.recorded.Recorded.the-variants.{Writes, NoHistory}
+use Rattle.pool_records.specs.declared.texture.TextureRecord.{TextureRecord}
+use Rattle.pool_memory.specs.Lent.{Lent, versionPlaces}
+use Rattle.pool_memory.specs.Reading.{trackedRecords, pageAt, gridRead, historyRead, recordPages, recordedPages, spareRead, stateRead, statesRead, retiringRead, doomedRead, modelOf}
+use Rattle.pool_memory.specs.IsPool.{sizesFit, countsFit, runsFit, bytesFit, markFits, isGrid, isHistory, isHeldCount, isSpare, isState, isRetiring, isHand, isDoomed, isArrival, isFormed, isPool}
+use Rattle.pool_memory.proofs.FitsTests.{all-holds, ascending-holds}
+use Rattle.pool_memory.proofs.Fits.{Fits}
+use Rattle.pool_memory.proofs.Runs.{kept-states, tracked-model, pages-model}
+use Rattle.pool_memory.proofs.Rings.{hand-model}
+
+-- ---- 01's conditions of each part
+
+grid-formed : (g : Tiling) (writes newest : ℕ) (page : List ℕ) → stampCount g ≤ length page → isGrid writes (gridIn g newest page) ≡ true
+    → GridFormed g writes (gridIn g newest page)
+unfolding isGrid gridIn
+grid-formed g writes newest page h e =
+    let q = and-both (eqb (largest (take (stampCount g) page)) newest) (leb newest writes) e in
+    record {
+      size = length-take-le (stampCount g) page h;
+      newest = eqb-true _ _ (q .0);
+      below = leb-true _ _ (q .1);
+    }
+
+pub length-page : (l : Lent) → 1024 * length (l .newest) ≡ length (l .stamps) → (page : ℕ) → page < length (l .newest)
+    → length (pageAt (l .stamps) page) ≡ 1024
+length-page l paged page h = length-take-le 1024 (drop (1024 * page) (l .stamps)) (omega (arith, length-drop (1024 * page) (l .stamps)))
+
+module _ (l : Lent) (paged : 1024 * length (l .newest) ≡ length (l .stamps)) (s : VersionShape) (shaped : isShape s ≡ true)
+    (page : ℕ) (room : page + pagesOf s ≤ length (l .newest)) where
+  -- the history that is read there
+  abbrev readHistory : ℕ → WriteHistory
+  readHistory writes = record { writes = writes; grids = listed (gridRead l s page) 0 (pagesOf s) }
+
+  -- the grid of a subresource is that of its page
+  pub grid-place : (writes slice level : ℕ) → slice < slicesOf s → level < s .levels
+      → (gridPlace s slice level < pagesOf s)
+      × (gridAt s (readHistory writes) slice level ≡ gridRead l s page (gridPlace s slice level))
+  unfolding gridAt pagesOf
+  grid-place writes slice level p q =
+      let h : gridPlace s slice level < slicesOf s * s .levels =
+      omega (arith, tile-place (s .levels) (slicesOf s) level slice q p, mul-comm (s .levels) (slicesOf s)) in
+      let k = gridPlace s slice level in
+      (h, getD-listed (gridRead l s page) 0 (slicesOf s * s .levels) k _ h ∙ ap (gridRead l s page) (zero-add k))
+
+  page-formed : (n k : ℕ) → k < pagesOf s → isGrid n (gridRead l s page k) ≡ true → GridFormed (tilingOf s (k % s .levels)) n (gridRead l s page k)
+  unfolding gridRead
+  page-formed n k h e =
+      let c = count-bound (tilingOf s (k % s .levels)) (tiling-ok s shaped (k % s .levels)) in
+      grid-formed (tilingOf s (k % s .levels)) n (getD (l .newest) (page + k) 0) (pageAt (l .stamps) (page + k))
+      (omega (arith, c, length-page l paged (page + k) (omega arith))) e
+
+  length-grids : length (listed (gridRead l s page) 0 (pagesOf s)) ≡ slicesOf s * s .levels
+  unfolding pagesOf
+  length-grids = length-listed (gridRead l s page) 0 (slicesOf s * s .levels)
+
+  history-formed : (h : Recorded) → isHistory (historyRead l s page h) ≡ true → Given (HistoryFormed s) (historyRead l s page h)
+  unfolding isHistory
+  history-formed NoHistory e = tt
+  history-formed (Writes n) e =
+      let q = and-both (leb n 281474976710656) (all (isGrid n) (listed (gridRead l s page) 0 (pagesOf s))) e in
+      record { writes = leb-true _ _ (q .0); size = length-grids; grids = λ slice level a b. go slice level a b (q .1) }
+    where
+      go : (slice level : ℕ) → slice < slicesOf s → level < s .levels → all (isGrid n) (listed (gridRead l s page) 0 (pagesOf s)) ≡ true
+          → GridFormed (tilingOf s level) n (gridAt s (readHistory n) slice level)
+      go slice level a b e =
+          let k = gridPlace s slice level in
+          let w = grid-place n slice level a b in
+          let d : StampGrid = record { newest = 0; stamps = [] } in
+          let f : getD (readHistory n .grids) k d ≡ gridRead l s page k =
+          getD-listed (gridRead l s page) 0 (pagesOf s) k d (w .0) ∙ ap (gridRead l s page) (zero-add k) in
+          let g = all-get (isGrid n) (readHistory n .grids) k d e (omega (arith, w .0, length-listed (gridRead l s page) 0 (pagesOf s))) in
+          subst (λ (m : ℕ). GridFormed (tilingOf s m) n (gridAt s (readHistory n) slice level)) (place-level slice level (s .levels) b)
+          (subst (λ (x : StampGrid). GridFormed (tilingOf s (k % s .levels)) n x) (sym (w .1))
+          (page-formed n k (w .0) (ap (isGrid n) (sym f) ∙ g)))
+
+spare-formed : (s : Spare ℕ) → isSpare s ≡ true → SpareFormed s
+unfolding isSpare
+spare-formed s e =
+    let q = and-both (isHeldCount (s .held)) (leb (s .parked) 281474976710656) e in record { held = go (s .held) (q .0); parked = leb-true _ _ (q .1) }
+  where
+    go : (h : Held) → isHeldCount h ≡ true → HeldFormed h
+    go (Known n) e = leb-true _ _ e
+    go Unknown e = tt
+
+retiring-formed : (v : Retiring ℕ) → isRetiring v ≡ true → RetiringFormed v
+unfolding isRetiring
+retiring-formed v e = record {
+  seq = leb-true _ _ (passed _ e 0);
+  epoch = leb-true _ _ (passed _ e 1);
+  birth = leb-true _ _ (passed _ e 2);
+  held = leb-true _ _ (passed _ e 3);
+  bytes = leb-true _ _ (passed _ e 4);
+}
+
+hand-formed : (o : Option (Retiring ℕ)) → isHand o ≡ true → Given RetiringFormed o
+hand-formed none e = tt
+hand-formed (some v) e = retiring-formed v e
+
+doomed-formed : (d : Doomed ℕ) → isDoomed d ≡ true → DoomedFormed d
+unfolding isDoomed
+doomed-formed d e = record { bytes = leb-true _ _ e }
+
+arrival-formed : (n : ℕ) → isArrival n ≡ true → n ≤ 4096
+unfolding isArrival
+arrival-formed n e = leb-true _ _ e
+
+module _ (l : Lent) (paged : 1024 * length (l .newest) ≡ length (l .stamps)) where
+  state-formed : (first page : ℕ) (t : TextureRecord) → page + recordPages t ≤ length (l .newest) → isState (stateRead l first page t) ≡ true
+      → StateFormed (stateRead l first page t)
+  unfolding isState stateRead
+  state-formed first page t room e = record {
+    shape = passed _ e 0;
+    epoch = leb-true _ _ (passed _ e 1);
+    birth = leb-true _ _ (passed _ e 2);
+    rename = leb-true _ _ (passed _ e 3);
+    due = leb-true _ _ (passed _ e 4);
+    history = go (t .history) room (passed _ e 5);
+    spares = all-holds isSpare spare-formed (listed (spareRead l) first (t .spares)) (passed _ e 6);
+  }
+    where
+      go : (h : Recorded) → page + recordedPages h (t .shape) ≤ length (l .newest) → isHistory (historyRead l (t .shape) page h) ≡ true
+          → Given (HistoryFormed (t .shape)) (historyRead l (t .shape) page h)
+      go NoHistory room f = tt
+      go (Writes n) room f = history-formed l paged (t .shape) (passed _ e 0) page room (Writes n) f
+
+  states-formed : (first page : ℕ) (ts : List TextureRecord) → page + total recordPages ts ≤ length (l .newest)
+      → all isState (statesRead l first page ts) ≡ true
+      → All StateFormed (statesRead l first page ts)
+  unfolding statesRead total all
+  states-formed first page [] room e = nil
+  states-formed first page (t ∷ ts) room e =
+      let rest = statesRead l (first + t .spares) (page + recordPages t) ts in
+      let q = and-both (isState (stateRead l first page t)) (all isState rest) e in
+      cons (state-formed first page t (omega arith) (q .0)) (states-formed (first + t .spares) (page + recordPages t) ts (omega arith) (q .1))
+
+-- the counts of what is read
+module _ (l : Lent) where
+  pub versions-read : l .pool .popped ≤ 1 → versionsUsed (modelOf l)
+      ≡ l .pool .queued + l .pool .popped + total (λ (t : TextureRecord). t .spares) (trackedRecords l) + l .pool .doomed
+  unfolding modelOf
+  versions-read h =
+      ap₂ (λ (a b : ℕ). a + b)
+      (ap₂ (λ (a b : ℕ). a + b)
+      (ap₂ (λ (a b : ℕ). a + b) (length-listed (retiringRead l) (l .pool .popped) (l .pool .queued)) (hand-model l h))
+      (kept-states l 0 0 (trackedRecords l)))
+      (length-listed (doomedRead l) 0 (l .pool .doomed))
+
+  pub version-places : modelOf l .places .versions ≡ versionPlaces l
+  unfolding modelOf
+  version-places = refl
+
+  pub page-places : modelOf l .places .pages ≡ length (l .newest)
+  unfolding modelOf
+  page-places = refl
+
+-- the places that may be lent
+pub record Enough (n : Places) : Type 0 where
+  pub texture : 1 ≤ n .textures
+  pub textures : n .textures ≤ 4096
+  pub version : 1 ≤ n .versions
+  pub versions : n .versions ≤ 4096
+  pub pages : n .pages ≤ 4096
+
+pub enough : (n : Places) → arePlaces n ≡ true → Enough n
+unfolding arePlaces
+enough n e = record {
+  texture = leb-true _ _ (passed _ e 0);
+  textures = leb-true _ _ (passed _ e 1);
+  version = leb-true _ _ (passed _ e 2);
+  versions = leb-true _ _ (passed _ e 3);
+  pages = leb-true _ _ (passed _ e 4);
+}
+
+-- ---- the slices' lengths
+
+module _ (l : Lent) (e : sizesFit l ≡ true) where
+  pub are-places : arePlaces (modelOf l .places) ≡ true
+  unfolding sizesFit
+  are-places = passed _ e 0
+
+  pub whole-textures : 20 * modelOf l .places .textures ≡ length (l .textures)
+  unfolding sizesFit
+  whole-textures = sym (eqb-true _ _ (passed _ e 1))
+
+  pub whole-retiring : 7 * versionPlaces l ≡ length (l .retiring)
+  unfolding sizesFit
+  whole-retiring = sym (eqb-true _ _ (passed _ e 2))
+
+  pub whole-doomed : 2 * versionPlaces l ≡ length (l .doomed)
+  unfolding sizesFit
+  whole-doomed = sym (eqb-true _ _ (passed _ e 3))
+
+  pub whole-spares : 3 * versionPlaces l ≡ length (l .spares)
+  unfolding sizesFit
+  whole-spares = sym (eqb-true _ _ (passed _ e 4))
+
+  pub whole-stamps : 1024 * length (l .newest) ≡ length (l .stamps)
+  unfolding sizesFit
+  whole-stamps = sym (eqb-true _ _ (passed _ e 5))
+
+  pub some-version : 1 ≤ versionPlaces l
+  some-version = omega (arith, enough (modelOf l .places) are-places .version, version-places l)
+
+  pub most-versions : versionPlaces l ≤ 4096
+  most-versions = omega (arith, enough (modelOf l .places) are-places .versions, version-places l)
+
+  pub most-pages : length (l .newest) ≤ 4096
+  most-pages = omega (arith, enough (modelOf l .places) are-places .pages, page-places l)
+
+-- ---- the whole
+
+module _ (l : Lent) (e : isPool l ≡ true) where
+  sized : sizesFit l ≡ true
+  unfolding isPool
+  sized = passed _ e 0
+
+  counted : countsFit l ≡ true
+  unfolding isPool
+  counted = passed _ e 1
+
+  claiming : runsFit l ≡ true
+  unfolding isPool
+  claiming = passed _ e 2
+
+  bytes-hold : bytesFit l ≡ true
+  unfolding isPool
+  bytes-hold = passed _ e 3
+
+  forming : isFormed (modelOf l) ≡ true
+  unfolding isPool
+  forming = passed _ e 5
+
+  marked : l .book .pressed ≤ 1
+  unfolding isPool markFits
+  marked = leb-true _ _ (passed _ e 4)
+
+  pages-claimed : total recordPages (trackedRecords l) ≡ l .pool .pages
+  unfolding runsFit
+  pages-claimed = eqb-true _ _ (passed _ claiming 1)
+
+  spares-claimed : total (λ (t : TextureRecord). t .spares) (trackedRecords l) ≡ l .pool .kept
+  unfolding runsFit
+  spares-claimed = eqb-true _ _ (passed _ claiming 0)
+
+  pages-counted : l .pool .pages ≤ length (l .newest)
+  unfolding countsFit
+  pages-counted = leb-true _ _ (passed _ counted 5)
+
+  hand-counted : l .pool .popped ≤ 1
+  unfolding countsFit
+  hand-counted = leb-true _ _ (passed _ counted 3)
+
+  versions-counted : l .pool .queued + l .pool .popped + l .pool .kept + l .pool .doomed ≤ versionPlaces l
+  unfolding countsFit
+  versions-counted = leb-true _ _ (passed _ counted 4)
+
+  tracked-counted : l .pool .tracked ≤ modelOf l .places .textures
+  unfolding countsFit
+  tracked-counted = leb-true _ _ (passed _ counted 0)
+
+  textures-formed : All StateFormed (modelOf l .textures)
+  unfolding isFormed modelOf
+  textures-formed = states-formed l (whole-stamps l sized) 0 0 (trackedRecords l) (omega (arith, pages-claimed, pages-counted)) (passed _ forming 1)
+
+  model-formed : Formed (modelOf l)
+  unfolding isFormed
+  model-formed = record {
+    ids = ascending-holds (modelOf l .textures) (passed _ forming 0);
+    textures = textures-formed;
+    retiring = all-holds isRetiring retiring-formed (modelOf l .retiring) (passed _ forming 2);
+    hand = hand-formed (modelOf l .hand) (passed _ forming 3);
+    doomed = all-holds isDoomed doomed-formed (modelOf l .doomed) (passed _ forming 4);
+    trackings = leb-true _ _ (passed _ forming 5);
+    places = omega (arith, tracked-model l, tracked-counted);
+    versions = omega (arith, versions-read l hand-counted, versions-counted, spares-claimed, version-places l);
+    pages = omega (arith, pages-model l, pages-claimed, pages-counted, page-places l);
+    parked = eqb-true _ _ (passed _ forming 6);
+    dooming = eqb-true _ _ (passed _ forming 7);
+    cap = leb-true _ _ (passed _ forming 8);
+    slot = ltb-true _ _ (passed _ forming 9);
+    eight = eqb-true _ _ (passed _ forming 10);
+    arrivals = all-holds isArrival arrival-formed (modelOf l .pacing .arrivals) (passed _ forming 11);
+    since = leb-true _ _ (passed _ forming 12);
+    most = enough (modelOf l .places) (are-places l sized) .versions;
+  }
+
+  pub pool-fits : Fits l
+  unfolding countsFit
+  pool-fits = record {
+    places = are-places l sized;
+    textures = whole-textures l sized;
+    retiring = whole-retiring l sized;
+    doomed = whole-doomed l sized;
+    spares = whole-spares l sized;
+    stamps = whole-stamps l sized;
+    least = some-version l sized;
+    most = most-versions l sized;
+    newest = most-pages l sized;
+    tracked = tracked-counted;
+    head = ltb-true _ _ (passed _ counted 1);
+    first = ltb-true _ _ (passed _ counted 2);
+    hand = hand-counted;
+    versions = versions-counted;
+    pages = pages-counted;
+    kept = spares-claimed;
+    claimed = pages-claimed;
+    bytes = bytes-hold;
+    mark = marked;
+    formed = model-formed;
+  }

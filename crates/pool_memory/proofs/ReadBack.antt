@@ -1,0 +1,226 @@
+-- What was written back is what is read, and it forms a pool again. Assumes nothing.
+use mathlib.Core.Path.{_≡_, refl, sym, ap, _∙_, subst}
+use mathlib.Core.Bool.{Bool, true, false}
+use mathlib.Core.Option.{Option, none, some}
+use mathlib.Core.List.{_++_, map}
+use Prim.Native.Nat.{ℕ, _+_, _-_, _*_, _/_, _≤_, _<_}
+use native.Mathlib.Omega.{arith}
+use lib.Dec.{eqb}
+use lib.ListN.{length, length-map}
+use Rattle.base_blocks.specs.Lists.{listed, over, all, total}
+use Rattle.base_blocks.proofs.Lists.{length-over}
+use Rattle.base_tables.specs.Records.{flat}
+use Rattle.base_tables.specs.Rings.{laid}
+use Rattle.base_tables.proofs.Records.{length-flat, reread}
+use Rattle.base_tables.proofs.Rings.{place-in, length-laid}
+use Rattle.pool_rules.specs.Model.{Retiring, VersionState, Places, Pool, pagesUsed, handCount, versionsUsed}
+use Rattle.pool_rules.specs.Open.{arePlaces}
+use Rattle.pool_rules.specs.Formed.{Formed}
+use Rattle.pool_records.specs.declared.texture.TextureRecord.{TextureRecord}
+use Rattle.pool_records.specs.Texture.{writeTexture}
+use Rattle.pool_records.specs.Spare.{writeSpare}
+use Rattle.pool_records.specs.Retiring.{writeRetiring}
+use Rattle.pool_records.specs.Doomed.{writeDoomed}
+use Rattle.pool_records.proofs.Codecs.{texture-codec, spare-codec}
+use Rattle.pool_memory.specs.Lent.{Lent, versionPlaces}
+use Rattle.pool_memory.specs.Reading.{trackedRecords, recordPages, statesRead, retiringRead, handRead, doomedRead, modelOf}
+use Rattle.pool_memory.specs.Writing.{textureRecord, spareRecord, retiringRecord, doomedRecord, texturesAfter, everySpare, sparesAfter, newestAfter, stampsAfter, headAfter, handList, retiringAfter, firstAfter, doomedAfter, poolAfter, markOf, bookAfter, after}
+use Rattle.pool_memory.specs.IsPool.{bytesHold, bytesFit, isPool}
+use Rattle.pool_memory.proofs.Fits.{Fits}
+use Rattle.pool_memory.proofs.FromPool.{version-places, page-places}
+use Rattle.pool_memory.proofs.Runs.{pages-model}
+use Rattle.pool_memory.proofs.ToPool.{fits-pool}
+use Rattle.pool_memory.proofs.ReadStates.{states-back, length-every-spare, kept-recorded, pages-recorded, bytes-recorded, length-newests, length-new-pages}
+use Rattle.pool_memory.proofs.ReadRings.{hand-back, queue-back, doomed-back}
+
+-- one version at most in the hand, and a mark is 0 or 1, whatever they are read back from
+hand-few : (o : Option (Retiring ℕ)) → handCount o ≤ 1
+hand-few none = omega arith
+hand-few (some v) = omega arith
+
+mark-few : (b : Bool) → markOf b ≤ 1
+mark-few true = omega arith
+mark-few false = omega arith
+
+mark-back : (b : Bool) → eqb (markOf b) 1 ≡ b
+mark-back true = refl
+mark-back false = refl
+
+module _ (l : Lent) (p : Pool ℕ) (fits : Fits l) (formed : Formed p) (same : p .places ≡ modelOf l .places) where
+  -- ---- the pool has room in the slices
+
+  texture-room : length (p .textures) ≤ modelOf l .places .textures
+  texture-room = omega (arith, formed .places, ap (λ (n : Places). n .textures) same)
+
+  version-room : versionsUsed p ≤ versionPlaces l
+  version-room = omega (arith, formed .versions, ap (λ (n : Places). n .versions) same, version-places l)
+
+  page-room : total pagesUsed (p .textures) ≤ length (l .newest)
+  page-room = omega (arith, formed .pages, ap (λ (n : Places). n .pages) same, page-places l)
+
+  pages-before : total pagesUsed (modelOf l .textures) ≤ length (l .newest)
+  pages-before = omega (arith, pages-model l, fits .claimed, fits .pages)
+
+  -- ---- the slices keep their lengths
+
+  length-textures : length (flat writeTexture (map textureRecord (p .textures))) ≡ 20 * length (p .textures)
+  length-textures = length-flat texture-codec (map textureRecord (p .textures)) ∙ ap (λ (n : ℕ). 20 * n) (length-map (p .textures) textureRecord)
+
+  textures-kept : length (texturesAfter p l) ≡ length (l .textures)
+  unfolding texturesAfter
+  textures-kept = length-over _ (l .textures) (omega (arith, length-textures, fits .textures, texture-room))
+
+  length-spares : length (flat writeSpare (map spareRecord (everySpare (p .textures))))
+      ≡ 3 * total (λ (t : VersionState ℕ). length (t .spares)) (p .textures)
+  length-spares =
+      length-flat spare-codec (map spareRecord (everySpare (p .textures)))
+      ∙ ap (λ (n : ℕ). 3 * n) (length-map (everySpare (p .textures)) spareRecord ∙ length-every-spare (p .textures))
+
+  spares-kept : length (sparesAfter p l) ≡ length (l .spares)
+  unfolding sparesAfter
+  spares-kept = length-over _ (l .spares) (omega (arith, length-spares, fits .spares, version-room))
+
+  newest-kept : length (newestAfter p l) ≡ length (l .newest)
+  unfolding newestAfter
+  newest-kept = length-over _ (l .newest) (omega (arith, length-newests (p .textures) (formed .textures), page-room))
+
+  stamps-kept : length (stampsAfter p l) ≡ length (l .stamps)
+  unfolding stampsAfter
+  stamps-kept =
+      length-over _ (l .stamps)
+      (omega (arith, length-new-pages l (fits .stamps) pages-before (p .textures) (formed .textures), page-room, fits .stamps))
+
+  retiring-kept : length (retiringAfter p l) ≡ length (l .retiring)
+  unfolding retiringAfter
+  retiring-kept = length-laid 7 writeRetiring (versionPlaces l) (headAfter p l) (map retiringRecord (handList (p .hand) ++ p .retiring)) 0 (l .retiring)
+
+  doomed-kept : length (doomedAfter p l) ≡ length (l .doomed)
+  unfolding doomedAfter
+  doomed-kept = length-laid 2 writeDoomed (versionPlaces l) (firstAfter p l) (map doomedRecord (p .doomed)) 0 (l .doomed)
+
+  versions-kept : versionPlaces (after p l) ≡ versionPlaces l
+  unfolding versionPlaces after
+  versions-kept = ap (λ (n : ℕ). n / 7) retiring-kept
+
+  pub places-kept : modelOf (after p l) .places ≡ modelOf l .places
+  unfolding modelOf after
+  places-kept = λ i. record { textures = textures-kept i / 20; versions = versions-kept i; pages = newest-kept i }
+
+  -- ---- both rings begin inside their places
+
+  head-in : headAfter p l < versionPlaces l
+  unfolding headAfter
+  head-in = place-in (versionPlaces l) (l .pool .head) (l .pool .popped - handCount (p .hand)) (fits .head) (omega (arith, fits .versions))
+
+  first-in : firstAfter p l < versionPlaces l
+  unfolding firstAfter
+  first-in = place-in (versionPlaces l) (l .pool .first) (l .pool .doomed - length (p .doomed)) (fits .first) (omega (arith, fits .versions))
+
+  -- ---- each part is read back
+
+  records-back : trackedRecords (after p l) ≡ map textureRecord (p .textures)
+  unfolding after poolAfter texturesAfter
+  records-back = reread texture-codec (map textureRecord (p .textures)) (length (p .textures)) (l .textures) (length-map (p .textures) textureRecord)
+
+  textures-back : statesRead (after p l) 0 0 (map textureRecord (p .textures)) ≡ p .textures
+  unfolding after sparesAfter newestAfter stampsAfter over
+  textures-back = states-back l (after p l) (fits .stamps) pages-before 0 0 (p .textures) (formed .textures) _ _ _ refl refl refl
+
+  ring-laid-back : after p l .retiring
+      ≡ laid 7 writeRetiring (versionPlaces (after p l)) (after p l .pool .head) 0 (map retiringRecord (handList (p .hand) ++ p .retiring)) (l .retiring)
+  unfolding after poolAfter retiringAfter
+  ring-laid-back =
+      ap (λ (n : ℕ). laid 7 writeRetiring n (headAfter p l) 0 (map retiringRecord (handList (p .hand) ++ p .retiring)) (l .retiring)) (sym versions-kept)
+
+  ring-room : 7 * versionPlaces (after p l) ≤ length (l .retiring)
+  ring-room = omega (arith, versions-kept, fits .retiring)
+
+  ring-head : after p l .pool .head < versionPlaces (after p l)
+  unfolding after poolAfter
+  ring-head = omega (arith, head-in, versions-kept)
+
+  waiting-room : length (p .retiring) + handCount (p .hand) ≤ versionPlaces (after p l)
+  waiting-room = omega (arith, version-room, versions-kept)
+
+  hand-read-back : handRead (after p l) (handCount (p .hand)) ≡ p .hand
+  hand-read-back = hand-back (after p l) (l .retiring) ring-room ring-head (p .hand) (p .retiring) waiting-room ring-laid-back
+
+  queue-read-back : listed (retiringRead (after p l)) (handCount (p .hand)) (length (p .retiring)) ≡ p .retiring
+  queue-read-back = queue-back (after p l) (l .retiring) ring-room ring-head (p .hand) (p .retiring) waiting-room ring-laid-back
+
+  destroy-laid-back : after p l .doomed
+      ≡ laid 2 writeDoomed (versionPlaces (after p l)) (after p l .pool .first) 0 (map doomedRecord (p .doomed)) (l .doomed)
+  unfolding after poolAfter doomedAfter
+  destroy-laid-back = ap (λ (n : ℕ). laid 2 writeDoomed n (firstAfter p l) 0 (map doomedRecord (p .doomed)) (l .doomed)) (sym versions-kept)
+
+  ring-first : after p l .pool .first < versionPlaces (after p l)
+  unfolding after poolAfter
+  ring-first = omega (arith, first-in, versions-kept)
+
+  doomed-read-back : listed (doomedRead (after p l)) 0 (length (p .doomed)) ≡ p .doomed
+  doomed-read-back =
+      doomed-back (after p l) (l .doomed) (omega (arith, versions-kept, fits .doomed)) ring-first (p .doomed)
+      (omega (arith, version-room, versions-kept)) destroy-laid-back
+
+  -- ---- the whole pool
+
+  states-read-back : statesRead (after p l) 0 0 (trackedRecords (after p l)) ≡ p .textures
+  states-read-back = ap (statesRead (after p l) 0 0) records-back ∙ textures-back
+
+  places-read-back : modelOf (after p l) .places ≡ p .places
+  places-read-back = places-kept ∙ sym same
+
+  pub read-back : modelOf (after p l) ≡ p
+  unfolding modelOf after poolAfter bookAfter
+  read-back = λ i. record {
+    textures = states-read-back i;
+    retiring = queue-read-back i;
+    hand = hand-read-back i;
+    doomed = doomed-read-back i;
+    since = p .since;
+    trackings = p .trackings;
+    parked = p .parked;
+    dooming = p .dooming;
+    places = places-read-back i;
+    budget = p .budget;
+    pacing = record {
+      arrivals = p .pacing .arrivals;
+      slot = p .pacing .slot;
+      pressed = mark-back (p .pacing .pressed) i;
+      excess = p .pacing .excess;
+    };
+  }
+
+  -- ---- and it fits
+
+  bytes-back : bytesFit (after p l) ≡ true
+  unfolding bytesFit
+  bytes-back = ap (all bytesHold) records-back ∙ bytes-recorded (p .textures)
+
+  pub after-fits : Fits (after p l)
+  unfolding after poolAfter bookAfter
+  after-fits = record {
+    places = ap arePlaces places-kept ∙ fits .places;
+    textures = ap (λ (n : Places). 20 * n .textures) places-kept ∙ fits .textures ∙ sym textures-kept;
+    retiring = ap (λ (n : ℕ). 7 * n) versions-kept ∙ fits .retiring ∙ sym retiring-kept;
+    doomed = ap (λ (n : ℕ). 2 * n) versions-kept ∙ fits .doomed ∙ sym doomed-kept;
+    spares = ap (λ (n : ℕ). 3 * n) versions-kept ∙ fits .spares ∙ sym spares-kept;
+    stamps = ap (λ (n : ℕ). 1024 * n) newest-kept ∙ fits .stamps ∙ sym stamps-kept;
+    least = omega (arith, fits .least, versions-kept);
+    most = omega (arith, fits .most, versions-kept);
+    newest = omega (arith, fits .newest, newest-kept);
+    tracked = omega (arith, texture-room, ap (λ (n : Places). n .textures) places-kept);
+    head = ring-head;
+    first = ring-first;
+    hand = hand-few (p .hand);
+    versions = omega (arith, version-room, versions-kept);
+    pages = omega (arith, page-room, newest-kept);
+    kept = ap (total (λ (t : TextureRecord). t .spares)) records-back ∙ kept-recorded (p .textures);
+    claimed = ap (total recordPages) records-back ∙ pages-recorded (p .textures);
+    bytes = bytes-back;
+    mark = mark-few (p .pacing .pressed);
+    formed = subst (λ (q : Pool ℕ). Formed q) (sym read-back) formed;
+  }
+
+  pub after-pool : isPool (after p l) ≡ true
+  after-pool = fits-pool (after p l) after-fits

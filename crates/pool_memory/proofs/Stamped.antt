@@ -1,0 +1,171 @@
+-- The pages of a texture whose history was written: each grid's stamps stand over its page. Assumes nothing.
+use mathlib.Core.Path.{_≡_, refl, sym, ap, ap₂, _∙_}
+use mathlib.Core.Bool.{true}
+use mathlib.Core.Option.{some}
+use mathlib.Core.List.{List, [], _∷_, _++_, append-assoc}
+use Prim.Native.Nat.{ℕ, zero, suc, _+_, _*_, _%_, _≤_, _<_}
+use native.Mathlib.Nat.{add-zero, zero-add, mul-zero}
+use native.Mathlib.Omega.{arith}
+use lib.ListN.{length, take, drop, getD, set, length-append, length-drop}
+use lib.Seq.{sets, take-append-add, drop-at, drop-append-add, length-take-le}
+use Rattle.base_blocks.specs.Lists.{over}
+use Rattle.base_blocks.proofs.Lists.{length-over}
+use Rattle.base_blocks.proofs.Listed.{length-listed, getD-listed}
+use Rattle.grid_shapes.specs.declared.shape.VersionShape.{VersionShape}
+use Rattle.grid_stamps.specs.Grids.{StampGrid, gridIn, tilingOf, stampCount}
+use Rattle.pool_rules.specs.Model.{hasHistory, pagesOf, pagesUsed}
+use Rattle.pool_records.specs.declared.recorded.Recorded.{Recorded}
+use Rattle.pool_records.specs.declared.recorded.Recorded.the-variants.{Writes, NoHistory}
+use Rattle.pool_records.specs.Texture.{readTexture}
+use Rattle.pool_memory.specs.Lent.{Lent}
+use Rattle.pool_memory.specs.Reading.{trackedRecords, recordedPages, pageAt, gridRead, historyRead, stateRead}
+use Rattle.pool_memory.specs.Writing.{gridsOf, pageBefore, pagesFrom}
+use Rattle.pool_memory.proofs.Rewritten.{sets-self, sets-part}
+use Rattle.pool_memory.proofs.Runs.{firstSpare, firstPageOf, stateOf, pages-state}
+use Rattle.pool_memory.proofs.Kept.{pages-of}
+use Rattle.pool_memory.proofs.Same.{over-front}
+use Rattle.pool_memory.proofs.Pages.{pagesAt}
+
+-- ---- pages, grid by grid
+
+module _ (before : ℕ → List ℕ) (d : StampGrid) where
+  -- each grid's page has 1,024 numbers
+  abbrev pub Whole : ℕ → List StampGrid → Type 0
+  Whole k gs = (j : ℕ) → j < length gs → length (over (getD gs j d .stamps) (before (k + j))) ≡ 1024
+
+  whole-head : (k : ℕ) (g : StampGrid) (gs : List StampGrid) → Whole k (g ∷ gs) → length (over (g .stamps) (before k)) ≡ 1024
+  whole-head k g gs w = ap (λ (j : ℕ). length (over (g .stamps) (before j))) (sym (add-zero k)) ∙ w 0 (omega arith)
+
+  whole-tail : (k : ℕ) (g : StampGrid) (gs : List StampGrid) → Whole k (g ∷ gs) → Whole (suc k) gs
+  whole-tail k g gs w j q =
+      ap (λ (m : ℕ). length (over (getD gs j d .stamps) (before m))) (let e : suc k + j ≡ k + suc j = omega arith in e) ∙ w (suc j) (omega arith)
+
+  pub length-pages : (k : ℕ) (gs : List StampGrid) → Whole k gs → length (pagesFrom before k gs) ≡ 1024 * length gs
+  unfolding pagesFrom
+  length-pages k [] w = sym (mul-zero 1024)
+  length-pages k (g ∷ gs) w =
+      length-append (over (g .stamps) (before k)) (pagesFrom before (suc k) gs)
+      ∙ ap₂ (λ (a b : ℕ). a + b) (whole-head k g gs w) (length-pages (suc k) gs (whole-tail k g gs w))
+      ∙ (let e : 1024 + 1024 * length gs ≡ 1024 * suc (length gs) = omega arith in e)
+
+  -- grid m changed
+  pub pages-set : (k : ℕ) (gs : List StampGrid) (m : ℕ) (g : StampGrid) → Whole k gs → m < length gs
+      → pagesFrom before k (set gs m g)
+      ≡ take (1024 * m) (pagesFrom before k gs) ++ (over (g .stamps) (before (k + m)) ++ drop (1024 * m + 1024) (pagesFrom before k gs))
+  unfolding pagesFrom
+  pages-set k [] m g w h = absurd (let y : ⊥ = omega arith in y)
+  pages-set k (x ∷ gs) zero g w h =
+      ap₂ (λ (j : ℕ) (l : List ℕ). over (g .stamps) (before j) ++ l) (sym (add-zero k))
+      (sym (drop-at (over (x .stamps) (before k)) (pagesFrom before (suc k) gs) 1024 (whole-head k x gs w)))
+  pages-set k (x ∷ gs) (suc m) g w h =
+      let one = over (x .stamps) (before k) in
+      let rest = pagesFrom before (suc k) gs in
+      let e : 1024 * suc m ≡ length one + 1024 * m = omega (arith, whole-head k x gs w) in
+      let f : 1024 * suc m + 1024 ≡ length one + (1024 * m + 1024) = omega (arith, whole-head k x gs w) in
+      ap (λ (l : List ℕ). one ++ l) (pages-set (suc k) gs m g (whole-tail k x gs w) (omega arith))
+      ∙ sym (append-assoc one (take (1024 * m) rest) (over (g .stamps) (before (suc k + m)) ++ drop (1024 * m + 1024) rest))
+      ∙ ap₂ (λ (a b : List ℕ). a ++ (over (g .stamps) (before (suc k + m)) ++ b))
+      (sym (ap (λ (n : ℕ). take n (one ++ rest)) e ∙ take-append-add one rest (1024 * m)))
+      (sym (ap (λ (n : ℕ). drop n (one ++ rest)) f ∙ drop-append-add one rest (1024 * m + 1024)))
+      ∙ ap (λ (j : ℕ). take (1024 * suc m) (one ++ rest) ++ (over (g .stamps) (before j) ++ drop (1024 * suc m + 1024) (one ++ rest)))
+      (let q : suc k + m ≡ k + suc m = omega arith in q)
+
+-- ---- a slice of pages with some of them written
+
+module _ (s : List ℕ) (at : ℕ) (before : ℕ → List ℕ) (d : StampGrid) (gs : List StampGrid) (w : Whole before d 0 gs)
+    (fits : at + 1024 * length gs ≤ length s)
+    (k : ℕ) (h : k < length gs) where
+  -- and after a stamp on it
+  pub page-stamped : (g : StampGrid) → length (over (g .stamps) (before k)) ≡ 1024
+      → take (at + 1024 * k) (sets s at (pagesFrom before 0 gs))
+      ++ (over (g .stamps) (before k) ++ drop (at + 1024 * k + 1024) (sets s at (pagesFrom before 0 gs)))
+      ≡ sets s at (pagesFrom before 0 (set gs k g))
+  page-stamped g q =
+      let n = length-pages before d 0 gs w in
+      sets-part s at (pagesFrom before 0 gs) (omega arith) (over (g .stamps) (before k)) (1024 * k) 1024 q (omega arith)
+      ∙ ap (sets s at)
+      (sym (pages-set before d 0 gs k g w h
+      ∙ ap (λ (j : ℕ). take (1024 * k) (pagesFrom before 0 gs) ++ (over (g .stamps) (before j) ++ drop (1024 * k + 1024) (pagesFrom before 0 gs)))
+      (zero-add k)))
+
+-- ---- texture i
+
+module _ (l : Lent) (i : ℕ) where
+  abbrev pub gridsAt : List StampGrid
+  gridsAt = gridsOf (stateOf l i .history)
+
+  -- its pages as they stood
+  abbrev pub pagesStood : ℕ → List ℕ
+  pagesStood = pageBefore l (some (firstPageOf l i))
+
+  pub used-at : pagesUsed (stateOf l i) ≡ pagesAt l i
+  unfolding stateOf
+  used-at = pages-state l (firstSpare l i) (firstPageOf l i) (getD (trackedRecords l) i (readTexture []))
+
+  length-read : (s : VersionShape) (page : ℕ) (h : Recorded) → length (gridsOf (historyRead l s page h)) ≡ recordedPages h s
+  length-read s page NoHistory = refl
+  length-read s page (Writes n) = length-listed (gridRead l s page) 0 (pagesOf s)
+
+  pub length-grids : length gridsAt ≡ pagesAt l i
+  unfolding stateOf stateRead
+  length-grids =
+      let t = getD (trackedRecords l) i (readTexture []) in
+      length-read (t .shape) (firstPageOf l i) (t .history)
+
+  grid-in : (s : VersionShape) (page : ℕ) (h : Recorded) (k : ℕ) (d : StampGrid) → k < recordedPages h s
+      → getD (gridsOf (historyRead l s page h)) k d ≡ gridRead l s page k
+  grid-in s page NoHistory k d q = absurd (let y : ⊥ = omega arith in y)
+  grid-in s page (Writes n) k d q = getD-listed (gridRead l s page) 0 (pagesOf s) k d q ∙ ap (gridRead l s page) (zero-add k)
+
+  -- grid k is the one that its page holds
+  pub grid-of : (k : ℕ) (d : StampGrid) → k < pagesAt l i → getD gridsAt k d ≡ gridRead l (stateOf l i .shape) (firstPageOf l i) k
+  unfolding stateOf stateRead
+  grid-of k d q =
+      let t = getD (trackedRecords l) i (readTexture []) in
+      grid-in (t .shape) (firstPageOf l i) (t .history) k d q
+
+  recorded : (s : VersionShape) (page : ℕ) (h : Recorded) (k : ℕ) → k < recordedPages h s → hasHistory (historyRead l s page h) ≡ true
+  recorded s page NoHistory k q = absurd (let y : ⊥ = omega arith in y)
+  recorded s page (Writes n) k q = refl
+
+  pub has-pages : (k : ℕ) → k < pagesAt l i → hasHistory (stateOf l i .history) ≡ true
+  unfolding stateOf stateRead
+  has-pages k q =
+      let t = getD (trackedRecords l) i (readTexture []) in
+      recorded (t .shape) (firstPageOf l i) (t .history) k q
+
+  pub page-stood : (k : ℕ) → pagesStood k ≡ pageAt (l .stamps) (firstPageOf l i + k)
+  unfolding pageBefore
+  page-stood k = refl
+
+  -- a grid that was read, laid over its page, is the page
+  pub read-over : (k : ℕ) (d : StampGrid) → k < pagesAt l i → over (getD gridsAt k d .stamps) (pagesStood k) ≡ pagesStood k
+  unfolding gridRead gridIn pageBefore
+  read-over k d q =
+      ap (λ (g : StampGrid). over (g .stamps) (pagesStood k)) (grid-of k d q)
+      ∙ over-front (stampCount (tilingOf (stateOf l i .shape) (k % stateOf l i .shape .levels))) (pagesStood k)
+
+  module _ (fits : 1024 * (firstPageOf l i + pagesAt l i) ≤ length (l .stamps)) where
+    pub length-stood : (k : ℕ) → k < pagesAt l i → length (pagesStood k) ≡ 1024
+    unfolding pageBefore
+    length-stood k q =
+        length-take-le 1024 (drop (1024 * (firstPageOf l i + k)) (l .stamps)) (omega (arith, length-drop (1024 * (firstPageOf l i + k)) (l .stamps)))
+
+    pub whole-read : (d : StampGrid) → Whole pagesStood d 0 gridsAt
+    whole-read d k q =
+        let r : k < pagesAt l i = omega (arith, length-grids) in
+        ap (λ (j : ℕ). length (over (getD gridsAt k d .stamps) (pagesStood j))) (zero-add k) ∙ ap length (read-over k d r) ∙ length-stood k r
+
+    -- grids of no more than 1,024 stamps
+    pub whole-grids : (d : StampGrid) (gs : List StampGrid) → length gs ≡ pagesAt l i
+        → ((k : ℕ) → k < length gs → length (getD gs k d .stamps) ≤ 1024) → Whole pagesStood d 0 gs
+    whole-grids d gs n small k q =
+        let e = length-stood k (omega arith) in
+        ap (λ (j : ℕ). length (over (getD gs k d .stamps) (pagesStood j))) (zero-add k)
+        ∙ length-over (getD gs k d .stamps) (pagesStood k) (omega (arith, small k q)) ∙ e
+
+    -- the slice as it stands
+    pub stood : sets (l .stamps) (1024 * firstPageOf l i) (pagesFrom pagesStood 0 gridsAt) ≡ l .stamps
+    stood =
+        ap (sets (l .stamps) (1024 * firstPageOf l i)) (pages-of l i (some (firstPageOf l i)) (λ e. refl))
+        ∙ sets-self (l .stamps) (1024 * firstPageOf l i) (1024 * pagesUsed (stateOf l i)) (omega (arith, used-at))

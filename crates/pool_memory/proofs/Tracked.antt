@@ -1,0 +1,83 @@
+-- Texture i of the model by its record, as the code reads it: where its runs begin, what it has, and what holds of it in a pool. Assumes nothing.
+use mathlib.Core.Path.{_≡_, ap, sym, _∙_, subst}
+use mathlib.Core.Bool.{true}
+use mathlib.Core.Option.{Option, none, some}
+use mathlib.Core.List.{[]}
+use Prim.Native.Nat.{ℕ, _<_, _^_}
+use native.Mathlib.Omega.{arith}
+use lib.ListN.{length, getD}
+use Rattle.base_blocks.specs.Lists.{total}
+use Rattle.base_blocks.proofs.Lists.{all-get}
+use Rattle.base_blocks.proofs.All.{all-at}
+use Rattle.base_tables.specs.Records.{recordAt, table}
+use Rattle.base_tables.proofs.Records.{getD-table, take-table}
+use Rattle.grid_shapes.specs.Shapes.{isShape, bytesOf}
+use Rattle.pool_rules.specs.Model.{WriteHistory, pagesUsed}
+use Rattle.pool_rules.specs.Formed.{Given, HistoryFormed, StateFormed}
+use Rattle.pool_records.specs.declared.texture.TextureRecord.{TextureRecord}
+use Rattle.pool_records.specs.Recorded.{RecordedFits, recordedNumber}
+use Rattle.pool_records.specs.Texture.{readTexture}
+use Rattle.pool_memory.specs.Lent.{Lent}
+use Rattle.pool_memory.specs.Reading.{trackedRecords, recordPages, stateRead, modelOf}
+use Rattle.pool_memory.specs.Writing.{recordedOf, textureRecord}
+use Rattle.pool_memory.specs.IsPool.{bytesHold, bytesFit}
+use Rattle.pool_memory.proofs.Fits.{Fits}
+use Rattle.pool_memory.proofs.Runs.{sparesOf, firstSpare, firstPageOf, stateOf, tracked-records, tracked-model, model-at, bytes-held, record-state, pages-state}
+use Rattle.pool_memory.proofs.Changes.{count-state}
+
+-- the record that the code reads
+abbrev pub textureAt : Lent → ℕ → TextureRecord
+textureAt l i = recordAt 20 readTexture (l .textures) i
+
+module _ (l : Lent) (i : ℕ) (h : i < l .pool .tracked) where
+  pub record-read : getD (trackedRecords l) i (readTexture []) ≡ textureAt l i
+  record-read = getD-table 20 readTexture (l .pool .tracked) i (l .textures) (readTexture []) h
+
+  -- its spares and its pages begin behind those of the textures before it
+  pub spares-to : firstSpare l i ≡ total sparesOf (table 20 readTexture i (l .textures))
+  unfolding firstSpare
+  spares-to = ap (total sparesOf) (take-table 20 readTexture i (l .pool .tracked) (l .textures) (omega arith))
+
+  pub pages-to : firstPageOf l i ≡ total recordPages (table 20 readTexture i (l .textures))
+  unfolding firstPageOf
+  pages-to = ap (total recordPages) (take-table 20 readTexture i (l .pool .tracked) (l .textures) (omega arith))
+
+  -- the record's bytes are those of one version of its shape
+  bytes-tracked : Fits l → getD (trackedRecords l) i (readTexture []) .bytes ≡ bytesOf (getD (trackedRecords l) i (readTexture []) .shape)
+  unfolding bytesFit
+  bytes-tracked f =
+      bytes-held (getD (trackedRecords l) i (readTexture []))
+      (all-get bytesHold (trackedRecords l) i (readTexture []) (f .bytes) (omega (arith, h, tracked-records l)))
+
+  pub bytes-at : Fits l → textureAt l i .bytes ≡ bytesOf (textureAt l i .shape)
+  bytes-at f = subst (λ (t : TextureRecord). t .bytes ≡ bytesOf (t .shape)) record-read (bytes-tracked f)
+
+  pub record-at : Fits l → textureRecord (stateOf l i) ≡ textureAt l i
+  unfolding stateOf
+  record-at f = record-state l (firstSpare l i) (firstPageOf l i) (getD (trackedRecords l) i (readTexture [])) (bytes-tracked f) ∙ record-read
+
+  pub shape-at : stateOf l i .shape ≡ textureAt l i .shape
+  unfolding stateOf stateRead
+  shape-at = ap (λ (t : TextureRecord). t .shape) record-read
+
+  pub count-at : length (stateOf l i .spares) ≡ textureAt l i .spares
+  count-at = count-state l i ∙ ap sparesOf record-read
+
+  pub pages-at : pagesUsed (stateOf l i) ≡ recordPages (textureAt l i)
+  unfolding stateOf
+  pages-at = pages-state l (firstSpare l i) (firstPageOf l i) (getD (trackedRecords l) i (readTexture [])) ∙ ap recordPages record-read
+
+  pub state-formed : Fits l → StateFormed (stateOf l i)
+  state-formed f =
+      subst StateFormed (model-at l i (stateOf l 0) h)
+      (all-at (modelOf l .textures) i (stateOf l 0) (omega (arith, h, tracked-model l)) (f .formed .textures))
+
+  pub shape-passes : Fits l → isShape (textureAt l i .shape) ≡ true
+  shape-passes f = ap isShape (sym shape-at) ∙ state-formed f .shape
+
+  pub history-fits : Fits l → RecordedFits (textureAt l i .history)
+  history-fits f = subst (λ (t : TextureRecord). RecordedFits (t .history)) (record-at f) (go (stateOf l i .history) (state-formed f .history))
+    where
+      go : (o : Option WriteHistory) → Given (HistoryFormed (stateOf l i .shape)) o → recordedNumber (recordedOf o) < 2 ^ 64
+      go none g = omega arith
+      go (some w) g = omega (arith, g .writes)

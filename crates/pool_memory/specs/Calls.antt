@@ -1,0 +1,157 @@
+-- What each call says and leaves, as 01 has it: stores that form no pool are refused with 1; otherwise it is the model's rule on the pool that the
+-- stores stand for, written back. Every contract of a call cites one of these.
+use Prim.Native.Nat.{ℕ, _/_}
+use mathlib.Core.Bool.{Bool, cond}
+use mathlib.Core.Option.{Option, none, some}
+use mathlib.Core.List.{List, [], _∷_}
+use lib.Dec.{eqb}
+use lib.ListN.{length, replicate}
+use Rattle.base_blocks.specs.Lists.{over}
+use Rattle.base_tables.specs.Records.{flat}
+use Rattle.grid_shapes.specs.declared.shape.VersionShape.{VersionShape}
+use Rattle.grid_rects.specs.declared.rect.TexelRect.{TexelRect}
+use Rattle.grid_rects.specs.declared.rect.Region.{Region}
+use Rattle.grid_rects.specs.declared.rect.Region.the-variants.{Whole, Part}
+use Rattle.pool_rules.specs.declared.held.Held.{Held}
+use Rattle.pool_rules.specs.Budget.{budgetOf}
+use Rattle.pool_rules.specs.Model.{Spare, Retiring, Pool, Out, refused, accepted, PreserveCopy, UploadFootprint}
+use Rattle.pool_rules.specs.TakeSpare.{takeSpare}
+use Rattle.pool_rules.specs.PreservePlan.{preservePlan}
+use Rattle.pool_rules.specs.Retire.{retire}
+use Rattle.pool_rules.specs.NoteWrite.{noteWrite, noteMipRegeneration}
+use Rattle.pool_rules.specs.PopRetired.{popRetired}
+use Rattle.pool_rules.specs.Park.{park}
+use Rattle.pool_rules.specs.NoteAllocated.{noteAllocated}
+use Rattle.pool_rules.specs.TakeDoomed.{takeDoomed}
+use Rattle.pool_rules.specs.DrainVersions.{drainVersions}
+use Rattle.pool_rules.specs.Trim.{trim}
+use Rattle.pool_rules.specs.ForgetTexture.{forgetTexture}
+use Rattle.pool_memory.specs.declared.pool.Pool.{Pool as Counts}
+use Rattle.pool_memory.specs.declared.book.PacingBook.{PacingBook}
+use Rattle.pool_memory.specs.Lent.{Lent}
+use Rattle.pool_memory.specs.Reading.{modelOf}
+use Rattle.pool_memory.specs.Writing.{after}
+use Rattle.pool_memory.specs.IsPool.{isPool, sizesFit}
+
+-- ---- opening
+
+-- nothing tracked, nothing queued; the budget is that of the working set
+unfoldable pub openedPool : ℕ → Counts
+openedPool working = record {
+  tracked = 0;
+  kept = 0;
+  pages = 0;
+  head = 0;
+  popped = 0;
+  queued = 0;
+  first = 0;
+  doomed = 0;
+  since = 0;
+  trackings = 0;
+  parked = 0;
+  dooming = 0;
+  cap = budgetOf working .cap;
+  line = budgetOf working .line;
+}
+
+unfoldable pub openedBook : PacingBook
+openedBook = record { arrivals = replicate 8 0; slot = 0; pressed = 0; excess = 0 }
+
+-- 1 to 4,096 texture places, 1 to 4,096 version places, 0 to 4,096 pages; the slices keep what they hold
+unfoldable pub openNumber : Lent → ℕ
+openNumber l = cond (sizesFit l) 0 1
+
+-- ---- what a call says
+
+-- 01's number of a refusal, or outcome 0 with the answer's values
+pub data Told (A : Type 0) : Type 0 where
+  refusal : ℕ → Told A
+  answer : A → Told A
+
+-- a call that answers nothing but its outcome
+abbrev pub toldNumber : ℕ → Told (Unit {0})
+toldNumber n = cond (eqb n 0) (answer tt) (refusal n)
+
+-- a refusal leaves everything as it was
+abbrev pub writtenBack : {A B : Type 0} → (A → B) → Lent → Out ℕ A → Told B × Lent
+writtenBack f l (refused n) = (refusal n, l)
+writtenBack f l (accepted a p) = (answer (f a), after p l)
+
+unfoldable pub asked : {A B : Type 0} → (A → B) → Lent → (Pool ℕ → Out ℕ A) → Told B × Lent
+asked f l rule = cond (isPool l) (writtenBack f l (rule (modelOf l))) (refusal 1, l)
+
+-- ---- the calls that answer numbers
+
+-- a spare's view number and held writes
+pub record TakenVersion : Type 0 where
+  pub view : ℕ
+  pub held : Held
+
+abbrev pub takenOf : Option (Spare ℕ) → Option TakenVersion
+takenOf none = none
+takenOf (some s) = some (record { view = s .view; held = s .held })
+
+unfoldable pub takeSpareCall : Lent → ℕ → VersionShape → Bool → ℕ → Told (Option TakenVersion) × Lent
+takeSpareCall l id shape records seq = asked takenOf l (λ (p : Pool ℕ). takeSpare p id shape records seq)
+
+unfoldable pub retireCall : Lent → ℕ → ℕ → ℕ → Told (Unit {0}) × Lent
+retireCall l id view seq = asked (λ a. a) l (λ (p : Pool ℕ). retire p id view seq)
+
+unfoldable pub noteWriteCall : Lent → ℕ → ℕ → ℕ → TexelRect → Told (Unit {0}) × Lent
+noteWriteCall l id slice level r = asked (λ a. a) l (λ (p : Pool ℕ). noteWrite p id slice level r)
+
+unfoldable pub noteMipRegenerationCall : Lent → ℕ → Told (Unit {0}) × Lent
+noteMipRegenerationCall l id = asked (λ a. a) l (λ (p : Pool ℕ). noteMipRegeneration p id)
+
+-- the popped version's id and view number
+pub record PoppedVersion : Type 0 where
+  pub id : ℕ
+  pub view : ℕ
+
+abbrev pub poppedOf : Option (Retiring ℕ) → Option PoppedVersion
+poppedOf none = none
+poppedOf (some v) = some (record { id = v .id; view = v .view })
+
+unfoldable pub popRetiredCall : Lent → ℕ → Told (Option PoppedVersion) × Lent
+popRetiredCall l settled = asked poppedOf l (λ (p : Pool ℕ). popRetired p settled)
+
+unfoldable pub parkCall : Lent → ℕ → ℕ → Told (Unit {0}) × Lent
+parkCall l failed now = asked (λ a. a) l (λ (p : Pool ℕ). park p failed now)
+
+unfoldable pub noteAllocatedCall : Lent → ℕ → Told (Unit {0}) × Lent
+noteAllocatedCall l allocated = asked (λ a. a) l (λ (p : Pool ℕ). noteAllocated p allocated)
+
+unfoldable pub trimCall : Lent → ℕ → Told (Unit {0}) × Lent
+trimCall l now = asked (λ a. a) l (λ (p : Pool ℕ). trim p now)
+
+unfoldable pub forgetTextureCall : Lent → ℕ → Told (Unit {0}) × Lent
+forgetTextureCall l id = asked (λ a. a) l (λ (p : Pool ℕ). forgetTexture p id)
+
+-- ---- the calls that fill an answer buffer
+
+-- how many entries the answer has, and the buffer: entries past an accepted answer keep what they held
+abbrev pub inBuffer : {A : Type 0} → (A → List ℕ) → List ℕ → Told (List A) × Lent → Told ℕ × (List ℕ × Lent)
+inBuffer wr buffer (refusal n, l) = (refusal n, (buffer, l))
+inBuffer wr buffer (answer xs, l) = (answer (length xs), (over (flat wr xs) buffer, l))
+
+-- seven numbers a copy: slice, level, whole or not, left, top, width, height
+abbrev pub regionNumbers : Region → List ℕ
+regionNumbers Whole = 1 ∷ 0 ∷ 0 ∷ 0 ∷ 0 ∷ []
+regionNumbers (Part r) = 0 ∷ r .x ∷ r .y ∷ r .width ∷ r .height ∷ []
+
+unfoldable pub copyNumbers : PreserveCopy → List ℕ
+copyNumbers c = c .slice ∷ c .level ∷ regionNumbers (c .region)
+
+unfoldable pub preservePlanCall : Lent → List ℕ → ℕ → VersionShape → Held → UploadFootprint → Told ℕ × (List ℕ × Lent)
+preservePlanCall l buffer id shape held u =
+    inBuffer copyNumbers buffer (asked (λ a. a) l (λ (p : Pool ℕ). preservePlan p id shape held u (length buffer / 7)))
+
+-- one view number an entry
+abbrev pub viewNumbers : ℕ → List ℕ
+viewNumbers n = n ∷ []
+
+unfoldable pub takeDoomedCall : Lent → List ℕ → Told ℕ × (List ℕ × Lent)
+takeDoomedCall l buffer = inBuffer viewNumbers buffer (asked (λ a. a) l (λ (p : Pool ℕ). takeDoomed p (length buffer)))
+
+unfoldable pub drainVersionsCall : Lent → List ℕ → Told ℕ × (List ℕ × Lent)
+drainVersionsCall l buffer = inBuffer viewNumbers buffer (asked (λ a. a) l (λ (p : Pool ℕ). drainVersions p (length buffer)))

@@ -1,0 +1,120 @@
+-- Whether lent memory forms a pool (01, "Outcomes"): what the packing needs, then 01's conditions in 01's order.
+use Prim.Native.Nat.{ℕ, _+_, _*_}
+use mathlib.Core.Bool.{Bool, true, _&&_}
+use mathlib.Core.Option.{Option, none, some}
+use mathlib.Core.List.{[], _∷_}
+use lib.Dec.{leb, ltb, eqb}
+use lib.ListN.{length}
+use Rattle.base_blocks.specs.Lists.{all, total, ascending, tests}
+use Rattle.grid_shapes.specs.Shapes.{isShape, bytesOf}
+use Rattle.grid_stamps.specs.Grids.{StampGrid}
+use Rattle.base_blocks.specs.Blocks.{largest}
+use Rattle.pool_rules.specs.declared.held.Held.{Held}
+use Rattle.pool_rules.specs.declared.held.Held.the-variants.{Known, Unknown}
+use Rattle.pool_rules.specs.Model.{WriteHistory, Spare, Retiring, Doomed, VersionState, Pool, limit, spareBytes, doomedBytes}
+use Rattle.pool_rules.specs.Open.{arePlaces}
+use Rattle.pool_records.specs.declared.texture.TextureRecord.{TextureRecord}
+use Rattle.pool_memory.specs.Lent.{Lent, versionPlaces}
+use Rattle.pool_memory.specs.Reading.{trackedRecords, recordPages, modelOf}
+
+-- the slices' lengths are those of whole places, as many as may be lent, and fit together
+unfoldable pub sizesFit : Lent → Bool
+sizesFit l = tests (
+    arePlaces (modelOf l .places)
+    ∷ eqb (length (l .textures)) (20 * modelOf l .places .textures)
+    ∷ eqb (length (l .retiring)) (7 * versionPlaces l)
+    ∷ eqb (length (l .doomed)) (2 * versionPlaces l)
+    ∷ eqb (length (l .spares)) (3 * versionPlaces l)
+    ∷ eqb (length (l .stamps)) (1024 * length (l .newest)) ∷ [])
+
+-- the counts fit their places: no more textures, versions and pages than places, one version at most in the hand, and both rings begin inside theirs
+unfoldable pub countsFit : Lent → Bool
+countsFit l = tests (
+    leb (l .pool .tracked) (modelOf l .places .textures)
+    ∷ ltb (l .pool .head) (versionPlaces l)
+    ∷ ltb (l .pool .first) (versionPlaces l)
+    ∷ leb (l .pool .popped) 1
+    ∷ leb (l .pool .queued + l .pool .popped + l .pool .kept + l .pool .doomed) (versionPlaces l)
+    ∷ leb (l .pool .pages) (length (l .newest)) ∷ [])
+
+-- the records claim just the spares and pages that are counted
+unfoldable pub runsFit : Lent → Bool
+runsFit l = tests (
+    eqb (total (λ (t : TextureRecord). t .spares) (trackedRecords l)) (l .pool .kept)
+    ∷ eqb (total recordPages (trackedRecords l)) (l .pool .pages) ∷ [])
+
+-- every record's bytes are those of one version of its shape
+unfoldable pub bytesHold : TextureRecord → Bool
+bytesHold t = eqb (t .bytes) (bytesOf (t .shape))
+
+unfoldable pub bytesFit : Lent → Bool
+bytesFit l = all bytesHold (trackedRecords l)
+
+-- the pressure mark is 0 or 1
+unfoldable pub markFits : Lent → Bool
+markFits l = leb (l .book .pressed) 1
+
+-- ---- 01's conditions
+
+abbrev pub stateId : VersionState ℕ → ℕ
+stateId t = t .id
+
+-- no stamp passes its texture's write count; `newest` is the largest stamp
+unfoldable pub isGrid : ℕ → StampGrid → Bool
+isGrid writes g = eqb (largest (g .stamps)) (g .newest) && leb (g .newest) writes
+
+unfoldable pub isHistory : Option WriteHistory → Bool
+isHistory none = true
+isHistory (some h) = leb (h .writes) limit && all (isGrid (h .writes)) (h .grids)
+
+abbrev pub isHeldCount : Held → Bool
+isHeldCount (Known n) = leb n limit
+isHeldCount Unknown = true
+
+unfoldable pub isSpare : Spare ℕ → Bool
+isSpare s = isHeldCount (s .held) && leb (s .parked) limit
+
+-- the shape passes 2; counts and submissions are at most 2^48
+unfoldable pub isState : VersionState ℕ → Bool
+isState t = tests (
+    isShape (t .shape)
+    ∷ leb (t .epoch) limit
+    ∷ leb (t .birth) limit
+    ∷ leb (t .rename) limit
+    ∷ leb (t .due) limit
+    ∷ isHistory (t .history)
+    ∷ all isSpare (t .spares) ∷ [])
+
+-- no version's bytes pass 2^44
+unfoldable pub isRetiring : Retiring ℕ → Bool
+isRetiring v = tests (
+    leb (v .seq) limit ∷ leb (v .epoch) limit ∷ leb (v .birth) limit ∷ leb (v .held) limit ∷ leb (v .bytes) 17592186044416 ∷ [])
+
+abbrev pub isHand : Option (Retiring ℕ) → Bool
+isHand none = true
+isHand (some v) = isRetiring v
+
+unfoldable pub isDoomed : Doomed ℕ → Bool
+isDoomed d = leb (d .bytes) 17592186044416
+
+unfoldable pub isArrival : ℕ → Bool
+isArrival n = leb n 4096
+
+unfoldable pub isFormed : Pool ℕ → Bool
+isFormed p = tests (
+    ascending stateId (p .textures)
+    ∷ all isState (p .textures)
+    ∷ all isRetiring (p .retiring)
+    ∷ isHand (p .hand)
+    ∷ all isDoomed (p .doomed)
+    ∷ leb (p .trackings) limit
+    ∷ eqb (p .parked) (total spareBytes (p .textures))
+    ∷ eqb (p .dooming) (doomedBytes (p .doomed))
+    ∷ leb (p .parked) (p .budget .cap)
+    ∷ ltb (p .pacing .slot) 8
+    ∷ eqb (length (p .pacing .arrivals)) 8
+    ∷ all isArrival (p .pacing .arrivals)
+    ∷ leb (p .since) (length (p .doomed)) ∷ [])
+
+unfoldable pub isPool : Lent → Bool
+isPool l = tests (sizesFit l ∷ countsFit l ∷ runsFit l ∷ bytesFit l ∷ markFits l ∷ isFormed (modelOf l) ∷ [])

@@ -1,0 +1,41 @@
+-- What a caller lends a call: the counts, the pacing book and six slices.
+--
+--   textures   a record of 20 numbers for each tracked texture, packed in ascending id
+--   retiring   a ring of records of 7: the popped version if there is one, then the queue, the oldest first
+--   doomed     a ring of records of 2: the destroy queue, the oldest first
+--   spares     records of 3, packed texture by texture in ascending id, the oldest first
+--   newest     one number for each page in use: the newest stamp of its grid
+--   stamps     1,024 numbers a page, packed as `newest` is: texture by texture, slice by slice, level by level
+--
+-- What stands past the counts, outside the rings and past a grid's stamps is free: it is never read.
+use Prim.Native.Nat.{ℕ, _/_}
+use mathlib.Core.List.{List}
+use lib.ListN.{length}
+use Rattle.pool_memory.specs.declared.pool.Pool.{Pool}
+use Rattle.pool_memory.specs.declared.book.PacingBook.{PacingBook}
+
+pub record Lent : Type 0 where
+  pub pool : Pool
+  pub book : PacingBook
+  pub textures : List ℕ
+  pub retiring : List ℕ
+  pub doomed : List ℕ
+  pub spares : List ℕ
+  pub newest : List ℕ
+  pub stamps : List ℕ
+
+abbrev pub lent : Pool → PacingBook → List ℕ → List ℕ → List ℕ → List ℕ → List ℕ → List ℕ → Lent
+lent pool book textures retiring doomed spares newest stamps = record {
+  pool = pool;
+  book = book;
+  textures = textures;
+  retiring = retiring;
+  doomed = doomed;
+  spares = spares;
+  newest = newest;
+  stamps = stamps;
+}
+
+-- how many versions the lent slices have places for
+unfoldable pub versionPlaces : Lent → ℕ
+versionPlaces l = length (l .retiring) / 7

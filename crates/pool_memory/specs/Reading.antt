@@ -1,0 +1,100 @@
+-- The pool of the model that lent memory stands for.
+use Prim.Native.Nat.{ℕ, zero, suc, _+_, _*_, _/_, _%_}
+use mathlib.Core.Option.{Option, none, some}
+use mathlib.Core.List.{List, [], _∷_}
+use lib.Dec.{eqb}
+use lib.ListN.{length, take, drop, getD}
+use Rattle.base_blocks.specs.Lists.{listed}
+use Rattle.base_tables.specs.Records.{recordAt, table}
+use Rattle.base_tables.specs.Rings.{along}
+use Rattle.grid_shapes.specs.declared.shape.VersionShape.{VersionShape}
+use Rattle.grid_stamps.specs.Grids.{StampGrid, gridIn, tilingOf}
+use Rattle.pool_rules.specs.Model.{WriteHistory, Spare, Retiring, Doomed, VersionState, Pool, pagesOf}
+use Rattle.pool_records.specs.declared.recorded.Recorded.{Recorded}
+use Rattle.pool_records.specs.declared.recorded.Recorded.the-variants.{Writes, NoHistory}
+use Rattle.pool_records.specs.declared.texture.TextureRecord.{TextureRecord}
+use Rattle.pool_records.specs.Texture.{readTexture}
+use Rattle.pool_records.specs.Spare.{readSpare}
+use Rattle.pool_records.specs.Retiring.{readRetiring}
+use Rattle.pool_records.specs.Doomed.{readDoomed}
+use Rattle.pool_records.specs.Views.{spareOf, retiringOf, doomedOf}
+use Rattle.pool_memory.specs.Lent.{Lent, versionPlaces}
+
+-- the records of the tracked textures
+abbrev pub trackedRecords : Lent → List TextureRecord
+trackedRecords l = table 20 readTexture (l .pool .tracked) (l .textures)
+
+-- ---- histories
+
+-- page k of the stamps
+abbrev pub pageAt : List ℕ → ℕ → List ℕ
+pageAt stamps k = take 1024 (drop (1024 * k) stamps)
+
+-- the k-th grid of a history whose first page is `page`: slice by slice, level by level
+unfoldable pub gridRead : Lent → VersionShape → ℕ → ℕ → StampGrid
+gridRead l s page k = gridIn (tilingOf s (k % s .levels)) (getD (l .newest) (page + k) 0) (pageAt (l .stamps) (page + k))
+
+abbrev pub historyRead : Lent → VersionShape → ℕ → Recorded → Option WriteHistory
+historyRead l s page NoHistory = none
+historyRead l s page (Writes n) = some (record { writes = n; grids = listed (gridRead l s page) 0 (pagesOf s) })
+
+abbrev pub recordedPages : Recorded → VersionShape → ℕ
+recordedPages NoHistory s = 0
+recordedPages (Writes n) s = pagesOf s
+
+-- how many pages a texture's record claims
+abbrev pub recordPages : TextureRecord → ℕ
+recordPages t = recordedPages (t .history) (t .shape)
+
+-- ---- textures
+
+unfoldable pub spareRead : Lent → ℕ → Spare ℕ
+spareRead l k = spareOf (recordAt 3 readSpare (l .spares) k)
+
+-- the state of a texture whose spares begin at place `first` and whose pages at `page`
+unfoldable pub stateRead : Lent → ℕ → ℕ → TextureRecord → VersionState ℕ
+stateRead l first page t = record {
+  id = t .id;
+  shape = t .shape;
+  epoch = t .epoch;
+  history = historyRead l (t .shape) page (t .history);
+  birth = t .birth;
+  rename = t .rename;
+  due = t .due;
+  spares = listed (spareRead l) first (t .spares);
+}
+
+-- each texture's spares and pages stand behind those of the textures before it
+unfoldable pub statesRead : Lent → ℕ → ℕ → List TextureRecord → List (VersionState ℕ)
+statesRead l first page [] = []
+statesRead l first page (t ∷ ts) = stateRead l first page t ∷ statesRead l (first + t .spares) (page + recordPages t) ts
+
+-- ---- the rings
+
+unfoldable pub retiringRead : Lent → ℕ → Retiring ℕ
+retiringRead l k = retiringOf (along 7 readRetiring (versionPlaces l) (l .pool .head) (l .retiring) k)
+
+-- the ring's front, where a version is in the hand
+abbrev pub handRead : Lent → ℕ → Option (Retiring ℕ)
+handRead l zero = none
+handRead l (suc n) = some (retiringRead l 0)
+
+unfoldable pub doomedRead : Lent → ℕ → Doomed ℕ
+doomedRead l k = doomedOf (along 2 readDoomed (versionPlaces l) (l .pool .first) (l .doomed) k)
+
+-- ---- the pool
+
+unfoldable pub modelOf : Lent → Pool ℕ
+modelOf l = record {
+  textures = statesRead l 0 0 (trackedRecords l);
+  retiring = listed (retiringRead l) (l .pool .popped) (l .pool .queued);
+  hand = handRead l (l .pool .popped);
+  doomed = listed (doomedRead l) 0 (l .pool .doomed);
+  since = l .pool .since;
+  trackings = l .pool .trackings;
+  parked = l .pool .parked;
+  dooming = l .pool .dooming;
+  places = record { textures = length (l .textures) / 20; versions = versionPlaces l; pages = length (l .newest) };
+  budget = record { cap = l .pool .cap; line = l .pool .line };
+  pacing = record { arrivals = l .book .arrivals; slot = l .book .slot; pressed = eqb (l .book .pressed) 1; excess = l .book .excess };
+}

@@ -1,0 +1,152 @@
+-- What a call leaves in the lent memory: the pool after it, written over what stood there. Numbers that are free stay as they were.
+use Prim.Native.Nat.{ℕ, suc, _+_, _-_}
+use mathlib.Core.Bool.{Bool, true, false, cond, _&&_}
+use mathlib.Core.Option.{Option, none, some}
+use mathlib.Core.List.{List, [], _∷_, _++_, map, flatMap}
+use lib.Dec.{eqb}
+use lib.ListN.{length, replicate}
+use Rattle.base_blocks.specs.Lists.{over, total}
+use Rattle.base_tables.specs.Records.{flat}
+use Rattle.base_tables.specs.Rings.{placeOf, laid}
+use Rattle.grid_shapes.specs.declared.shape.VersionShape.{VersionShape}
+use Rattle.grid_shapes.specs.Shapes.{sameShape, bytesOf}
+use Rattle.grid_stamps.specs.Grids.{StampGrid}
+use Rattle.pool_rules.specs.Model.{WriteHistory, Spare, Retiring, Doomed, VersionState, Pool, hasHistory, pagesUsed, handCount}
+use Rattle.pool_records.specs.declared.recorded.Recorded.{Recorded}
+use Rattle.pool_records.specs.declared.recorded.Recorded.the-variants.{Writes, NoHistory}
+use Rattle.pool_records.specs.declared.texture.TextureRecord.{TextureRecord}
+use Rattle.pool_records.specs.declared.spare.SpareRecord.{SpareRecord}
+use Rattle.pool_records.specs.declared.retiring.RetiringRecord.{RetiringRecord}
+use Rattle.pool_records.specs.declared.doomed.DoomedRecord.{DoomedRecord}
+use Rattle.pool_records.specs.Texture.{writeTexture}
+use Rattle.pool_records.specs.Spare.{writeSpare}
+use Rattle.pool_records.specs.Retiring.{writeRetiring}
+use Rattle.pool_records.specs.Doomed.{writeDoomed}
+use Rattle.pool_memory.specs.declared.pool.Pool.{Pool as Counts}
+use Rattle.pool_memory.specs.declared.book.PacingBook.{PacingBook}
+use Rattle.pool_memory.specs.Lent.{Lent, lent, versionPlaces}
+use Rattle.pool_memory.specs.Reading.{pageAt, modelOf}
+
+-- ---- records
+
+abbrev pub recordedOf : Option WriteHistory → Recorded
+recordedOf none = NoHistory
+recordedOf (some h) = Writes (h .writes)
+
+abbrev pub textureRecord : VersionState ℕ → TextureRecord
+textureRecord t = record {
+  id = t .id;
+  shape = t .shape;
+  epoch = t .epoch;
+  history = recordedOf (t .history);
+  birth = t .birth;
+  rename = t .rename;
+  due = t .due;
+  spares = length (t .spares);
+  bytes = bytesOf (t .shape);
+}
+
+abbrev pub spareRecord : Spare ℕ → SpareRecord
+spareRecord s = record { view = s .view; held = s .held; parked = s .parked }
+
+abbrev pub retiringRecord : Retiring ℕ → RetiringRecord
+retiringRecord v = record { id = v .id; view = v .view; seq = v .seq; epoch = v .epoch; birth = v .birth; held = v .held; bytes = v .bytes }
+
+abbrev pub doomedRecord : Doomed ℕ → DoomedRecord
+doomedRecord d = record { view = d .view; bytes = d .bytes }
+
+-- ---- packed slices
+
+unfoldable pub texturesAfter : Pool ℕ → Lent → List ℕ
+texturesAfter p l = over (flat writeTexture (map textureRecord (p .textures))) (l .textures)
+
+-- every texture's spares, in ascending id
+abbrev pub everySpare : List (VersionState ℕ) → List (Spare ℕ)
+everySpare ts = flatMap (λ (t : VersionState ℕ). t .spares) ts
+
+unfoldable pub sparesAfter : Pool ℕ → Lent → List ℕ
+sparesAfter p l = over (flat writeSpare (map spareRecord (everySpare (p .textures)))) (l .spares)
+
+abbrev pub gridsOf : Option WriteHistory → List StampGrid
+gridsOf none = []
+gridsOf (some h) = h .grids
+
+abbrev pub newestOf : VersionState ℕ → List ℕ
+newestOf t = map (λ (g : StampGrid). g .newest) (gridsOf (t .history))
+
+unfoldable pub newestAfter : Pool ℕ → Lent → List ℕ
+newestAfter p l = over (flatMap newestOf (p .textures)) (l .newest)
+
+-- ---- pages: a texture of the same id and shape that had a history has it still, and its pages keep what stands past the stamps; a fresh page is
+-- all 0
+
+-- the first page of the texture with that id, shape and a history
+unfoldable pub firstPage : ℕ → VersionShape → ℕ → List (VersionState ℕ) → Option ℕ
+firstPage id shape page [] = none
+firstPage id shape page (t ∷ ts) =
+    cond (eqb (t .id) id && sameShape (t .shape) shape && hasHistory (t .history)) (some page) (firstPage id shape (page + pagesUsed t) ts)
+
+unfoldable pub pageBefore : Lent → Option ℕ → ℕ → List ℕ
+pageBefore l none k = replicate 1024 0
+pageBefore l (some page) k = pageAt (l .stamps) (page + k)
+
+-- the grids' stamps, each laid over its page as it stood
+unfoldable pub pagesFrom : (ℕ → List ℕ) → ℕ → List StampGrid → List ℕ
+pagesFrom before k [] = []
+pagesFrom before k (g ∷ gs) = over (g .stamps) (before k) ++ pagesFrom before (suc k) gs
+
+unfoldable pub pagesAfter : Lent → VersionState ℕ → List ℕ
+pagesAfter l t = pagesFrom (pageBefore l (firstPage (t .id) (t .shape) 0 (modelOf l .textures))) 0 (gridsOf (t .history))
+
+unfoldable pub stampsAfter : Pool ℕ → Lent → List ℕ
+stampsAfter p l = over (flatMap (pagesAfter l) (p .textures)) (l .stamps)
+
+-- ---- rings: a head moves on by as many as left at the front, by parking and by a take of doomed versions
+
+unfoldable pub headAfter : Pool ℕ → Lent → ℕ
+headAfter p l = placeOf (versionPlaces l) (l .pool .head) (l .pool .popped - handCount (p .hand))
+
+abbrev pub handList : Option (Retiring ℕ) → List (Retiring ℕ)
+handList none = []
+handList (some v) = v ∷ []
+
+unfoldable pub retiringAfter : Pool ℕ → Lent → List ℕ
+retiringAfter p l = laid 7 writeRetiring (versionPlaces l) (headAfter p l) 0 (map retiringRecord (handList (p .hand) ++ p .retiring)) (l .retiring)
+
+unfoldable pub firstAfter : Pool ℕ → Lent → ℕ
+firstAfter p l = placeOf (versionPlaces l) (l .pool .first) (l .pool .doomed - length (p .doomed))
+
+unfoldable pub doomedAfter : Pool ℕ → Lent → List ℕ
+doomedAfter p l = laid 2 writeDoomed (versionPlaces l) (firstAfter p l) 0 (map doomedRecord (p .doomed)) (l .doomed)
+
+-- ---- all of it
+
+unfoldable pub poolAfter : Pool ℕ → Lent → Counts
+poolAfter p l = record {
+  tracked = length (p .textures);
+  kept = total (λ (t : VersionState ℕ). length (t .spares)) (p .textures);
+  pages = total pagesUsed (p .textures);
+  head = headAfter p l;
+  popped = handCount (p .hand);
+  queued = length (p .retiring);
+  first = firstAfter p l;
+  doomed = length (p .doomed);
+  since = p .since;
+  trackings = p .trackings;
+  parked = p .parked;
+  dooming = p .dooming;
+  cap = p .budget .cap;
+  line = p .budget .line;
+}
+
+-- the pressure mark as a number
+abbrev pub markOf : Bool → ℕ
+markOf true = 1
+markOf false = 0
+
+unfoldable pub bookAfter : Pool ℕ → PacingBook
+bookAfter p = record { arrivals = p .pacing .arrivals; slot = p .pacing .slot; pressed = markOf (p .pacing .pressed); excess = p .pacing .excess }
+
+unfoldable pub after : Pool ℕ → Lent → Lent
+after p l =
+    lent (poolAfter p l) (bookAfter p) (texturesAfter p l) (retiringAfter p l) (doomedAfter p l) (sparesAfter p l) (newestAfter p l) (stampsAfter p l)

@@ -1,0 +1,38 @@
+// One texture gives up its oldest spares: they go to the back of the destroy ring, the others move down behind the spares of the
+// textures before, and the texture's record counts those that are left.
+ghost use mathlib.Core.Path.{_≡_};
+ghost use Prim.Native.Nat.{_+_, _-_, _*_, _≤_, _<_};
+ghost use lib.ListN.{length, set};
+ghost use Rattle.base_blocks.specs.Blocks.{moved};
+ghost use Rattle.base_tables.specs.Rings.{laid};
+ghost use Rattle.pool_records.specs.Doomed.{writeDoomed};
+ghost use Rattle.pool_take_doomed.specs.Given.{givenRecords};
+use base_blocks::shift_down;
+use pool_take_doomed::push_spares;
+
+// Texture i has n spares from place `from` on and gives `count` of them, each of so many bytes; the others move down to place
+// `to`. The destroy ring has `queued` versions.
+pub fn give_spares(
+    textures: &mut [u64],
+    i: usize,
+    doomed: &mut [u64],
+    cap: usize,
+    first: usize,
+    queued: usize,
+    spares: &mut [u64],
+    from: usize,
+    to: usize,
+    n: usize,
+    count: usize,
+    bytes: u64,
+)
+    requires { ⌜ (20 * i + 20 ≤ length (now textures)) × (2 * cap ≤ length (now doomed)) × (first < cap) × (queued + count ≤ cap)
+        × (3 * (from + n) ≤ length (now spares)) × (to ≤ from) × (count ≤ n) ⌝ }
+    ensures { λ _. ⌜ (now (textures .exit) ≡ set (now (textures .entry)) (20 * i + 18) (n - count))
+        × (now (doomed .exit) ≡ laid 2 writeDoomed cap first queued (givenRecords (now (spares .entry)) bytes from count) (now (doomed .entry)))
+        × (now (spares .exit) ≡ moved (now (spares .entry)) (3 * to) (3 * (from + count)) (3 * (n - count))) ⌝ }
+{
+    push_spares(doomed, cap, first, queued, spares, from, count, bytes);
+    shift_down(spares, 3 * to, 3 * (from + count - to), 3 * (n - count));
+    textures[20 * i + 18] = (n - count) as u64;
+}

@@ -1,0 +1,142 @@
+// Relief: each texture, in ascending id, gives the spares that were picked of it.
+ghost use mathlib.Core.Path.{_≡_};
+ghost use mathlib.Core.Bool.{true};
+ghost use Prim.Native.Nat.{_+_, _-_, _*_, _≤_, _<_, _^_};
+ghost use lib.ListN.{length, set};
+ghost use Rattle.base_blocks.specs.Blocks.{moved};
+ghost use Rattle.base_tables.specs.Records.{recordAt, table};
+ghost use Rattle.base_tables.specs.Rings.{laid};
+ghost use Rattle.grid_shapes.specs.Shapes.{isShape, bytesOf};
+ghost use Rattle.pool_records.specs.Texture.{readTexture};
+ghost use Rattle.pool_records.specs.Doomed.{writeDoomed};
+ghost use Rattle.pool_memory.specs.Lent.{lent};
+ghost use Rattle.pool_memory.specs.IsPool.{isPool};
+ghost use Rattle.pool_take_doomed.specs.Given.{givenRecords};
+ghost use Rattle.pool_relief_line.specs.Line.{IsLine, takenAt, gives};
+ghost use Rattle.pool_relief_line.specs.Parked.{parkings, bytesFrom};
+ghost use Rattle.pool_note_allocated.specs.Relieved.{Relieves};
+use crate::give::give_spares;
+use pool_memory::PacingBook;
+use pool_memory::Pool;
+use pool_relief_line::texture_gives;
+use pool_relief_line::version_bytes;
+
+// What one texture did: how many spares it had, how many of them it gave, their bytes, and the bytes freed by then.
+pub struct Step {
+    pub spares: usize,
+    pub count: usize,
+    pub bytes: u64,
+    pub freed: u64,
+}
+
+// Texture i gives what was picked of it. Its spares begin at place `from`; those that it keeps move down to place `to`.
+fn relieve_texture(
+    textures: &mut [u64],
+    i: usize,
+    doomed: &mut [u64],
+    cap: usize,
+    first: usize,
+    queued: usize,
+    spares: &mut [u64],
+    from: usize,
+    to: usize,
+    line: u64,
+    freed: u64,
+    excess: u64,
+) -> Step
+    requires { ⌜ (20 * i + 20 ≤ length (now textures)) × (isShape (recordAt 20 readTexture (now textures) i .shape) ≡ true)
+        × (2 * cap ≤ length (now doomed)) × (first < cap) × (queued + recordAt 20 readTexture (now textures) i .spares ≤ cap)
+        × (3 * (from + recordAt 20 readTexture (now textures) i .spares) ≤ length (now spares)) × (to ≤ from)
+        × (freed + bytesOf (recordAt 20 readTexture (now textures) i .shape) * recordAt 20 readTexture (now textures) i .spares < 2 ^ 64) ⌝ }
+    ensures { λ r. ⌜ (r .spares ≡ recordAt 20 readTexture (now (textures .entry)) i .spares) × (r .count ≤ r .spares)
+        × (r .count ≡ gives freed excess (bytesOf (recordAt 20 readTexture (now (textures .entry)) i .shape)) line (parkings (now (spares .entry)) from (r .spares)))
+        × (r .bytes ≡ bytesOf (recordAt 20 readTexture (now (textures .entry)) i .shape) * r .count)
+        × (r .freed ≡ freed + bytesOf (recordAt 20 readTexture (now (textures .entry)) i .shape)
+        * takenAt freed excess (bytesOf (recordAt 20 readTexture (now (textures .entry)) i .shape)) line (parkings (now (spares .entry)) from (r .spares)))
+        × (now (textures .exit) ≡ set (now (textures .entry)) (20 * i + 18) (r .spares - r .count))
+        × (now (doomed .exit) ≡ laid 2 writeDoomed cap first queued
+        (givenRecords (now (spares .entry)) (bytesOf (recordAt 20 readTexture (now (textures .entry)) i .shape)) from (r .count)) (now (doomed .entry)))
+        × (now (spares .exit) ≡ moved (now (spares .entry)) (3 * to) (3 * (from + r .count)) (3 * (r .spares - r .count))) ⌝ }
+{
+    let n = textures[20 * i + 18] as usize;
+    let bytes = version_bytes(textures, i);
+    let given = texture_gives(spares, from, n, line, bytes, freed, excess);
+    let count = given.count;
+    give_spares(
+        textures,
+        i,
+        doomed,
+        cap,
+        first,
+        queued,
+        spares,
+        from,
+        to,
+        n,
+        count,
+        bytes,
+    );
+    Step {
+        spares: n,
+        count,
+        bytes: bytes * count as u64,
+        freed: given.freed,
+    }
+}
+
+// What relief left and took: how many spares are kept, and the bytes of those that were given up.
+pub struct Relief {
+    pub kept: usize,
+    pub bytes: u64,
+}
+
+// Every texture gives what was picked of it, by the line. `freed` are the bytes queued already and those parked before the line.
+pub fn relieve(
+    pool: Pool,
+    book: PacingBook,
+    textures: &mut [u64],
+    retiring: &[u64],
+    doomed: &mut [u64],
+    spares: &mut [u64],
+    newest: &[u64],
+    stamps: &[u64],
+    line: u64,
+    freed: u64,
+    excess: u64,
+) -> Relief
+    requires { ⌜ (isPool (lent pool book (now textures) (now retiring) (now doomed) (now spares) (now newest) (now stamps)) ≡ true)
+        × IsLine (pool .dooming) excess (λ k. bytesFrom (now spares) k 0 (table 20 readTexture (pool .tracked) (now textures))) line
+        × (freed ≡ pool .dooming + bytesFrom (now spares) line 0 (table 20 readTexture (pool .tracked) (now textures))) ⌝ }
+    ensures { λ r. ⌜ Relieves (lent pool book (now (textures .entry)) (now (retiring .entry)) (now (doomed .entry)) (now (spares .entry)) (now (newest .entry)) (now (stamps .entry)))
+        excess (r .kept) (r .bytes) (now (textures .exit)) (now (doomed .exit)) (now (spares .exit)) ⌝ }
+{
+    let cap = retiring.len() / 7;
+    let mut i = 0;
+    let mut from = 0;
+    let mut kept = 0;
+    let mut bytes = 0;
+    let mut sum = freed;
+    while i < pool.tracked {
+        let queued = pool.doomed + (from - kept);
+        let step = relieve_texture(
+            textures,
+            i,
+            doomed,
+            cap,
+            pool.first,
+            queued,
+            spares,
+            from,
+            kept,
+            line,
+            sum,
+            excess,
+        );
+        kept += step.spares - step.count;
+        from += step.spares;
+        bytes += step.bytes;
+        sum = step.freed;
+        i += 1;
+    }
+    Relief { kept, bytes }
+}

@@ -1,0 +1,21 @@
+-- The pool's counts with other pages in use.
+use Prim.Native.Nat.{ℕ}
+use Rattle.pool_memory.specs.declared.pool.Pool.{Pool as Counts}
+
+abbrev pub withPages : ℕ → Counts → Counts
+withPages pages c = record {
+  tracked = c .tracked;
+  kept = c .kept;
+  pages = pages;
+  head = c .head;
+  popped = c .popped;
+  queued = c .queued;
+  first = c .first;
+  doomed = c .doomed;
+  since = c .since;
+  trackings = c .trackings;
+  parked = c .parked;
+  dooming = c .dooming;
+  cap = c .cap;
+  line = c .line;
+}

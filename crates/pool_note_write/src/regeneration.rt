@@ -1,0 +1,51 @@
+// A reported mip regeneration: one more write, which stamps every level but the first whole.
+ghost use mathlib.Core.Path.{_≡_};
+ghost use mathlib.Core.Bool.{true};
+ghost use Rattle.pool_memory.specs.Lent.{lent};
+ghost use Rattle.pool_memory.specs.IsPool.{isPool};
+ghost use Rattle.pool_memory.specs.Calls.{toldNumber, noteMipRegenerationCall};
+use crate::history::history_at;
+use crate::history::regenerate_history;
+use crate::history::set_history;
+use pool_memory::DoneAnswer;
+use pool_memory::PacingBook;
+use pool_memory::Pool;
+use pool_memory::same_counts;
+use pool_records::Recorded;
+use pool_records::find_texture;
+
+pub fn note_mip_regeneration(
+    pool: Pool,
+    book: PacingBook,
+    textures: &mut [u64],
+    retiring: &[u64],
+    doomed: &[u64],
+    spares: &[u64],
+    newest: &mut [u64],
+    stamps: &mut [u64],
+    id: u64,
+) -> DoneAnswer
+    requires { ⌜ isPool (lent pool book (now textures) (now retiring) (now doomed) (now spares) (now newest) (now stamps)) ≡ true ⌝ }
+    ensures { λ r. ⌜
+        (toldNumber (r .outcome), lent (r .pool) book (now (textures .exit)) (now (retiring .entry)) (now (doomed .entry)) (now (spares .entry)) (now (newest .exit)) (now (stamps .exit)))
+        ≡ noteMipRegenerationCall (lent pool book (now (textures .entry)) (now (retiring .entry)) (now (doomed .entry)) (now (spares .entry)) (now (newest .entry)) (now (stamps .entry))) id ⌝ }
+{
+    let tracked = pool.tracked;
+    let i = find_texture(textures, tracked, id);
+    let history = history_at(textures, tracked, i, id);
+    let Recorded::Writes(n) = history else {
+        return DoneAnswer {
+            pool: same_counts(pool),
+            outcome: 0,
+        };
+    };
+    if 281474976710656 <= n {
+        return DoneAnswer {
+            pool: same_counts(pool),
+            outcome: 12,
+        };
+    }
+    regenerate_history(textures, newest, stamps, i, n + 1);
+    set_history(textures, i, Recorded::Writes(n + 1));
+    DoneAnswer { pool, outcome: 0 }
+}

@@ -1,0 +1,69 @@
+// A reported write: it is counted, and the tiles that it touches are stamped.
+ghost use mathlib.Core.Path.{_≡_};
+ghost use mathlib.Core.Bool.{true};
+ghost use Rattle.pool_memory.specs.Lent.{lent};
+ghost use Rattle.pool_memory.specs.IsPool.{isPool};
+ghost use Rattle.pool_memory.specs.Calls.{toldNumber, noteWriteCall};
+use crate::history::drop_history;
+use crate::history::history_at;
+use crate::history::in_shape;
+use crate::history::set_history;
+use crate::history::stamp_subresource;
+use grid_rects::TexelRect;
+use pool_access::texture_at;
+use pool_memory::DoneAnswer;
+use pool_memory::PacingBook;
+use pool_memory::Pool;
+use pool_memory::same_counts;
+use pool_records::Recorded;
+use pool_records::find_texture;
+
+// A write outside the texture's slices or levels drops its history, even where the count is spent.
+pub fn note_write(
+    pool: Pool,
+    book: PacingBook,
+    textures: &mut [u64],
+    retiring: &[u64],
+    doomed: &[u64],
+    spares: &[u64],
+    newest: &mut [u64],
+    stamps: &mut [u64],
+    id: u64,
+    slice: u64,
+    level: u64,
+    rect: TexelRect,
+) -> DoneAnswer
+    requires { ⌜ isPool (lent pool book (now textures) (now retiring) (now doomed) (now spares) (now newest) (now stamps)) ≡ true ⌝ }
+    ensures { λ r. ⌜
+        (toldNumber (r .outcome), lent (r .pool) book (now (textures .exit)) (now (retiring .entry)) (now (doomed .entry)) (now (spares .entry)) (now (newest .exit)) (now (stamps .exit)))
+        ≡ noteWriteCall (lent pool book (now (textures .entry)) (now (retiring .entry)) (now (doomed .entry)) (now (spares .entry)) (now (newest .entry)) (now (stamps .entry))) id slice level rect ⌝ }
+{
+    let tracked = pool.tracked;
+    let i = find_texture(textures, tracked, id);
+    let history = history_at(textures, tracked, i, id);
+    let Recorded::Writes(n) = history else {
+        return DoneAnswer {
+            pool: same_counts(pool),
+            outcome: 0,
+        };
+    };
+    let t = texture_at(textures, i);
+    if !in_shape(t.shape, slice, level) {
+        let mut left = pool;
+        left.pages = drop_history(textures, newest, stamps, pool.pages, i);
+        set_history(textures, i, Recorded::NoHistory);
+        return DoneAnswer {
+            pool: left,
+            outcome: 0,
+        };
+    }
+    if 281474976710656 <= n {
+        return DoneAnswer {
+            pool: same_counts(pool),
+            outcome: 12,
+        };
+    }
+    stamp_subresource(textures, newest, stamps, i, slice, level, rect, n + 1);
+    set_history(textures, i, Recorded::Writes(n + 1));
+    DoneAnswer { pool, outcome: 0 }
+}

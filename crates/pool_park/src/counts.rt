@@ -1,0 +1,32 @@
+// The pool's counts after parking.
+ghost use mathlib.Core.Path.{_≡_};
+ghost use Prim.Native.Nat.{_+_, _≤_, _<_, _^_};
+ghost use Rattle.pool_park.specs.Counts.{handKept, handDoomed};
+use pool_memory::Pool;
+
+// The hand's version parked. The ring begins at `head` without it.
+pub fn hand_kept(pool: Pool, head: usize, bytes: u64) -> Pool
+    requires { ⌜ (pool .kept ≤ 4096) × (pool .parked + bytes ≤ pool .cap) ⌝ }
+    ensures { λ r. ⌜ r ≡ handKept head bytes pool ⌝ }
+{
+    let mut after = pool;
+    after.kept = pool.kept + 1;
+    after.head = head;
+    after.popped = 0;
+    after.parked = pool.parked + bytes;
+    after
+}
+
+// The hand's version queued for destruction.
+pub fn hand_doomed(pool: Pool, head: usize, bytes: u64) -> Pool
+    requires { ⌜ (pool .doomed ≤ 4096) × (pool .since ≤ 4096) × (pool .dooming + bytes < 2 ^ 64) ⌝ }
+    ensures { λ r. ⌜ r ≡ handDoomed head bytes pool ⌝ }
+{
+    let mut after = pool;
+    after.head = head;
+    after.popped = 0;
+    after.doomed = pool.doomed + 1;
+    after.since = pool.since + 1;
+    after.dooming = pool.dooming + bytes;
+    after
+}

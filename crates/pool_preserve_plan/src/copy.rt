@@ -1,0 +1,103 @@
+// One subresource's copy.
+ghost use mathlib.Core.Path.{_≡_};
+ghost use mathlib.Core.Bool.{true};
+ghost use Prim.Native.Nat.{_+_, _*_, _≤_, _<_};
+ghost use lib.ListN.{length};
+ghost use Rattle.grid_shapes.specs.Shapes.{isShape, slicesOf};
+ghost use Rattle.grid_stamps.specs.Grids.{tilingOf, boxSince};
+ghost use Rattle.pool_rules.specs.Model.{pagesOf};
+ghost use Rattle.pool_rules.specs.PreservePlan.{sameRect};
+ghost use Rattle.pool_preserve_plan.specs.Copies.{gridOn, boxPlanned, SinceFits, footprint, plannedAt, copyNumbersOf};
+use crate::since::Since;
+use crate::since::Upload;
+use grid_rects::Region;
+use grid_rects::TexelRect;
+use grid_rects::level_rect;
+use grid_shapes::VersionShape;
+use grid_shapes::level_extent;
+use grid_stamps::Dirty;
+use grid_stamps::across_axis;
+use grid_stamps::down_axis;
+use grid_views::written_since;
+
+// A subresource of a plan: left out, or copied whole or in part.
+pub enum Planned {
+    Skipped,
+    Copied(Region),
+}
+
+fn same_rect(a: TexelRect, b: TexelRect) -> bool
+    ensures { λ r. ⌜ r ≡ sameRect a b ⌝ }
+{
+    (a.x == b.x) & (a.y == b.y) & (a.width == b.width) & (a.height == b.height)
+}
+
+// A box equal to the level is reported as whole.
+fn box_planned(shape: VersionShape, level: u64, dirty: Dirty) -> Planned
+    ensures { λ r. ⌜ r ≡ boxPlanned shape level dirty ⌝ }
+{
+    let Dirty::Box(part) = dirty else {
+        return Planned::Skipped;
+    };
+    let width = level_extent(shape.width, level);
+    let height = level_extent(shape.height, level);
+    if same_rect(part, level_rect(width, height)) {
+        return Planned::Copied(Region::Whole);
+    }
+    Planned::Copied(Region::Part(part))
+}
+
+// The box since `held`, from the grid on page k.
+fn page_since(
+    newest: &[u64],
+    stamps: &[u64],
+    k: usize,
+    shape: VersionShape,
+    level: u64,
+    held: u64,
+) -> Dirty
+    requires { ⌜ (isShape shape ≡ true) × (k < length (now newest)) × (1024 * k + 1024 ≤ length (now stamps)) ⌝ }
+    ensures { λ r. ⌜ r ≡ boxSince (tilingOf shape level) held (gridOn shape level (now (newest .entry)) (now (stamps .entry)) k) ⌝ }
+{
+    let across = across_axis(shape, level);
+    let down = down_axis(shape, level);
+    let a = 1024 * k;
+    let e = a + 1024;
+    written_since(&stamps[a..e], across, down, newest[k], held)
+}
+
+// The copy of a slice's level: none where the upload rewrites it entirely, whole where nothing is known, otherwise the box since
+// the held writes.
+pub fn copy_at(
+    newest: &[u64],
+    stamps: &[u64],
+    shape: VersionShape,
+    since: Since,
+    upload: Upload,
+    slice: u64,
+    level: u64,
+) -> Planned
+    requires { ⌜ (isShape shape ≡ true) × (slice < slicesOf shape) × (level < shape .levels)
+        × SinceFits since (pagesOf shape) (length (now newest)) (length (now stamps)) ⌝ }
+    ensures { λ r. ⌜ r ≡ plannedAt (now (newest .entry)) (now (stamps .entry)) shape since (footprint upload) slice level ⌝ }
+{
+    if upload.cover & ((slice == upload.slice) & (level == upload.level)) {
+        return Planned::Skipped;
+    }
+    let Since::After { page, held } = since else {
+        return Planned::Copied(Region::Whole);
+    };
+    let k = page + (slice * shape.levels + level) as usize;
+    let dirty = page_since(newest, stamps, k, shape, level, held);
+    box_planned(shape, level, dirty)
+}
+
+// Seven numbers a copy: slice, level, whole or not, left, top, width, height.
+pub fn copy_numbers(slice: u64, level: u64, region: Region) -> [u64; 7]
+    ensures { λ r. ⌜ r ≡ copyNumbersOf slice level region ⌝ }
+{
+    match region {
+        Region::Whole => [slice, level, 1, 0, 0, 0, 0],
+        Region::Part(r) => [slice, level, 0, r.x, r.y, r.width, r.height],
+    }
+}

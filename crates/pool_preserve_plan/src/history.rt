@@ -1,0 +1,90 @@
+// The write history of a plan's texture.
+ghost use mathlib.Core.Path.{_≡_};
+ghost use mathlib.Core.Bool.{true};
+ghost use Prim.Native.Nat.{_*_, _≤_};
+ghost use lib.ListN.{length};
+ghost use Rattle.base_blocks.specs.Lists.{ascending, total};
+ghost use Rattle.base_tables.specs.Records.{table};
+ghost use Rattle.pool_records.specs.Texture.{readTexture};
+ghost use Rattle.pool_records.specs.Find.{idOf};
+ghost use Rattle.pool_memory.specs.Reading.{recordPages};
+ghost use Rattle.pool_preserve_plan.specs.Plan.{historyFound, sinceHeld, sinceOf, isOther, isSpent};
+use crate::since::Since;
+use grid_shapes::VersionShape;
+use grid_shapes::same_shape;
+use pool_access::has_id;
+use pool_access::pages_before;
+use pool_access::texture_at;
+use pool_records::Recorded;
+use pool_records::find_texture;
+use pool_rules::Held;
+
+// A texture tracked with another shape; one with no history, tracked or not; the first page and the write count of a history.
+pub enum Found {
+    OtherShape,
+    NothingRecorded,
+    History { page: usize, writes: u64 },
+}
+
+pub fn find_history(textures: &[u64], tracked: usize, id: u64, shape: VersionShape) -> Found
+    requires { ⌜ (20 * tracked ≤ length (now textures)) × (ascending idOf (table 20 readTexture tracked (now textures)) ≡ true)
+        × (total recordPages (table 20 readTexture tracked (now textures)) ≤ 4096) ⌝ }
+    ensures { λ r. ⌜ r ≡ historyFound (now (textures .entry)) tracked id shape ⌝ }
+{
+    let i = find_texture(textures, tracked, id);
+    if !has_id(textures, tracked, i, id) {
+        return Found::NothingRecorded;
+    }
+    let t = texture_at(textures, i);
+    if !same_shape(t.shape, shape) {
+        return Found::OtherShape;
+    }
+    let history = t.history;
+    let Recorded::Writes(writes) = history else {
+        return Found::NothingRecorded;
+    };
+    let page = pages_before(textures, i);
+    Found::History { page, writes }
+}
+
+// The copies are bounded from that page on, where the held writes are known.
+fn since_held(page: usize, held: Held) -> Since
+    ensures { λ r. ⌜ r ≡ sinceHeld page held ⌝ }
+{
+    match held {
+        Held::Known(n) => Since::After { page, held: n },
+        Held::Unknown => Since::Nothing,
+    }
+}
+
+// What bounds the copies.
+pub fn since_of(found: Found, held: Held) -> Since
+    ensures { λ r. ⌜ r ≡ sinceOf found held ⌝ }
+{
+    match found {
+        Found::OtherShape => Since::Nothing,
+        Found::NothingRecorded => Since::Nothing,
+        Found::History { page, .. } => since_held(page, held),
+    }
+}
+
+pub fn is_other(found: Found) -> bool
+    ensures { λ r. ⌜ r ≡ isOther found ⌝ }
+{
+    match found {
+        Found::OtherShape => true,
+        Found::NothingRecorded => false,
+        Found::History { .. } => false,
+    }
+}
+
+// Whether the history's write count is spent.
+pub fn is_spent(found: Found) -> bool
+    ensures { λ r. ⌜ r ≡ isSpent found ⌝ }
+{
+    match found {
+        Found::OtherShape => false,
+        Found::NothingRecorded => false,
+        Found::History { writes, .. } => 281474976710656 <= writes,
+    }
+}

@@ -1,0 +1,44 @@
+-- A texture's record: twenty numbers, of which the second to the thirteenth are the shape and the last is the bytes of one version of that shape.
+use Prim.Native.Nat.{ℕ}
+use mathlib.Core.List.{List, [], _∷_, _++_}
+use lib.ListN.{getD}
+use Rattle.grid_shapes.specs.declared.shape.VersionShape.{VersionShape}
+use Rattle.pool_records.specs.declared.texture.TextureRecord.{TextureRecord}
+use Rattle.pool_records.specs.Recorded.{recordedOf, recordedNumber}
+
+abbrev pub shapeIn : List ℕ → VersionShape
+shapeIn s = record {
+  format = getD s 1 0;
+  width = getD s 2 0;
+  height = getD s 3 0;
+  depth = getD s 4 0;
+  levels = getD s 5 0;
+  kind = getD s 6 0;
+  storage = getD s 7 0;
+  usage = getD s 8 0;
+  red = getD s 9 0;
+  green = getD s 10 0;
+  blue = getD s 11 0;
+  alpha = getD s 12 0;
+}
+
+abbrev pub shapeNumbers : VersionShape → List ℕ
+shapeNumbers s =
+    s .format ∷ s .width ∷ s .height ∷ s .depth ∷ s .levels ∷ s .kind ∷ s .storage ∷ s .usage ∷ s .red ∷ s .green ∷ s .blue ∷ s .alpha ∷ []
+
+unfoldable pub readTexture : List ℕ → TextureRecord
+readTexture s = record {
+  id = getD s 0 0;
+  shape = shapeIn s;
+  epoch = getD s 13 0;
+  history = recordedOf (getD s 14 0);
+  birth = getD s 15 0;
+  rename = getD s 16 0;
+  due = getD s 17 0;
+  spares = getD s 18 0;
+  bytes = getD s 19 0;
+}
+
+unfoldable pub writeTexture : TextureRecord → List ℕ
+writeTexture x =
+    x .id ∷ (shapeNumbers (x .shape) ++ (x .epoch ∷ recordedNumber (x .history) ∷ x .birth ∷ x .rename ∷ x .due ∷ x .spares ∷ x .bytes ∷ []))

@@ -1,0 +1,36 @@
+// A spare: a retired version kept for its texture's next rename. Three numbers.
+ghost use mathlib.Core.Path.{_≡_};
+ghost use Prim.Native.Nat.{_≤_};
+ghost use lib.ListN.{length};
+ghost use Rattle.pool_records.specs.Held.{HeldFits};
+ghost use Rattle.pool_records.specs.Spare.{readSpare, writeSpare};
+use crate::held::held_number;
+use crate::held::read_held;
+use pool_rules::Held;
+
+pub struct SpareRecord {
+    pub view: u64,
+    pub held: Held,
+    pub parked: u64,
+}
+
+pub fn read_spare(p: &[u64]) -> SpareRecord
+    requires { ⌜ 3 ≤ length (now p) ⌝ }
+    ensures { λ r. ⌜ r ≡ readSpare (now (p .entry)) ⌝ }
+{
+    let held = read_held(p[1]);
+    SpareRecord {
+        view: p[0],
+        held,
+        parked: p[2],
+    }
+}
+
+pub fn spare_numbers(x: SpareRecord) -> [u64; 3]
+    requires { ⌜ HeldFits (x .held) ⌝ }
+    ensures { λ r. ⌜ r ≡ writeSpare x ⌝ }
+{
+    let held = x.held;
+    let n = held_number(held);
+    [x.view, n, x.parked]
+}

@@ -1,0 +1,40 @@
+-- The parking numbers of spares as they stand in their slice, and what they sum up to.
+use Prim.Native.Nat.{ℕ, _+_, _*_, _≤_, _<_}
+use mathlib.Core.Path.{_≡_}
+use mathlib.Core.Bool.{true}
+use mathlib.Core.List.{List, [], _∷_}
+use lib.ListN.{length}
+use Rattle.base_blocks.specs.Lists.{listed, total}
+use Rattle.base_tables.specs.Records.{recordAt, table}
+use Rattle.grid_shapes.specs.Shapes.{isShape, bytesOf}
+use Rattle.pool_records.specs.declared.texture.TextureRecord.{TextureRecord}
+use Rattle.pool_records.specs.Texture.{readTexture}
+use Rattle.pool_records.specs.Spare.{readSpare}
+use Rattle.pool_relief_line.specs.Line.{countBefore}
+
+unfoldable pub parkedAt : List ℕ → ℕ → ℕ
+parkedAt spares k = recordAt 3 readSpare spares k .parked
+
+-- of the n spares from place `from` on
+unfoldable pub parkings : List ℕ → ℕ → ℕ → List ℕ
+parkings spares from n = listed (parkedAt spares) from n
+
+-- bytes of the spares parked before a line, of textures whose spares begin at place `from`
+unfoldable pub bytesFrom : List ℕ → ℕ → ℕ → List TextureRecord → ℕ
+bytesFrom spares line from [] = 0
+bytesFrom spares line from (t ∷ ts) =
+    bytesOf (t .shape) * countBefore line (parkings spares from (t .spares)) + bytesFrom spares line (from + t .spares) ts
+
+abbrev pub recordSpares : TextureRecord → ℕ
+recordSpares t = t .spares
+
+-- bytes of a texture's spares, each its texture's
+abbrev pub recordBytes : TextureRecord → ℕ
+recordBytes t = bytesOf (t .shape) * t .spares
+
+-- n textures and their spares, as far as they are counted: they are there, and their bytes sum up to 2^56 at most
+pub record Countable (textures : List ℕ) (n : ℕ) (spares : List ℕ) : Type 0 where
+  pub fits : 20 * n ≤ length textures
+  pub runs : 3 * total recordSpares (table 20 readTexture n textures) ≤ length spares
+  pub shapes : (i : ℕ) → i < n → isShape (recordAt 20 readTexture textures i .shape) ≡ true
+  pub bytes : total recordBytes (table 20 readTexture n textures) ≤ 72057594037927936

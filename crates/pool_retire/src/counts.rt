@@ -1,0 +1,34 @@
+// The counts of the retiring ring.
+ghost use mathlib.Core.Path.{_≡_};
+ghost use Prim.Native.Nat.{_≤_, _<_};
+ghost use Rattle.pool_retire.specs.Counts.{ringCount, oneQueued, frontPopped};
+use pool_memory::Pool;
+
+// The versions in the ring: the hand and the queue.
+pub fn ring_count(pool: Pool) -> usize
+    requires { ⌜ ringCount pool ≤ 4096 ⌝ }
+    ensures { λ r. ⌜ r ≡ ringCount pool ⌝ }
+{
+    pool.popped + pool.queued
+}
+
+// One more queued.
+pub fn one_queued(pool: Pool) -> Pool
+    requires { ⌜ pool .queued ≤ 4096 ⌝ }
+    ensures { λ r. ⌜ r ≡ oneQueued pool ⌝ }
+{
+    let mut after = pool;
+    after.queued = pool.queued + 1;
+    after
+}
+
+// The queue's front in the hand.
+pub fn front_popped(pool: Pool) -> Pool
+    requires { ⌜ 0 < pool .queued ⌝ }
+    ensures { λ r. ⌜ r ≡ frontPopped pool ⌝ }
+{
+    let mut after = pool;
+    after.popped = 1;
+    after.queued = pool.queued - 1;
+    after
+}

@@ -1,0 +1,74 @@
+// pop_retired: the queue's front goes to the hand if its submission is settled. Nothing moves: the hand is the ring's front.
+ghost use mathlib.Core.Path.{_≡_};
+ghost use mathlib.Core.Bool.{true};
+ghost use Rattle.pool_memory.specs.Lent.{lent};
+ghost use Rattle.pool_memory.specs.IsPool.{isPool};
+ghost use Rattle.pool_memory.specs.Calls.{popRetiredCall};
+ghost use Rattle.pool_retire.specs.Answers.{poppedTold};
+use crate::counts::front_popped;
+use pool_access::retiring_at;
+use pool_memory::PacingBook;
+use pool_memory::Pool;
+
+const LIMIT: u64 = 281474976710656;
+
+pub enum Popped {
+    Version { id: u64, view: u64 },
+    NothingSettled,
+    Refused(u64),
+}
+
+pub struct PopAnswer {
+    pub pool: Pool,
+    pub popped: Popped,
+}
+
+pub fn pop_retired(
+    pool: Pool,
+    book: PacingBook,
+    textures: &[u64],
+    retiring: &[u64],
+    doomed: &[u64],
+    spares: &[u64],
+    newest: &[u64],
+    stamps: &[u64],
+    settled: u64,
+) -> PopAnswer
+    requires { ⌜ isPool (lent pool book (now textures) (now retiring) (now doomed) (now spares) (now newest) (now stamps)) ≡ true ⌝ }
+    ensures { λ r. ⌜ (poppedTold (r .popped), lent (r .pool) book (now (textures .entry)) (now (retiring .entry)) (now (doomed .entry)) (now (spares .entry)) (now (newest .entry)) (now (stamps .entry)))
+        ≡ popRetiredCall (lent pool book (now (textures .entry)) (now (retiring .entry)) (now (doomed .entry)) (now (spares .entry)) (now (newest .entry)) (now (stamps .entry))) settled ⌝ }
+{
+    if settled > LIMIT {
+        return PopAnswer {
+            pool,
+            popped: Popped::Refused(3),
+        };
+    }
+    if pool.popped != 0 {
+        return PopAnswer {
+            pool,
+            popped: Popped::Refused(9),
+        };
+    }
+    if pool.queued == 0 {
+        return PopAnswer {
+            pool,
+            popped: Popped::NothingSettled,
+        };
+    }
+    let places = retiring.len() / 7;
+    let front = retiring_at(retiring, places, pool.head, 0);
+    if front.seq > settled {
+        return PopAnswer {
+            pool,
+            popped: Popped::NothingSettled,
+        };
+    }
+    PopAnswer {
+        pool: front_popped(pool),
+        popped: Popped::Version {
+            id: front.id,
+            view: front.view,
+        },
+    }
+}

@@ -1,0 +1,159 @@
+// retire: the version that a rename just replaced is queued, with what parking it will need to know.
+ghost use mathlib.Core.Path.{_≡_};
+ghost use mathlib.Core.Bool.{true, cond};
+ghost use Prim.Native.Nat.{_+_, _*_, _≤_, _<_};
+ghost use lib.ListN.{length};
+ghost use lib.Seq.{sets};
+ghost use Rattle.base_tables.specs.Records.{recordAt};
+ghost use Rattle.pool_records.specs.Recorded.{RecordedFits};
+ghost use Rattle.pool_records.specs.Texture.{readTexture, writeTexture};
+ghost use Rattle.pool_memory.specs.Lent.{lent};
+ghost use Rattle.pool_memory.specs.IsPool.{isPool};
+ghost use Rattle.pool_memory.specs.Calls.{toldNumber, retireCall};
+ghost use Rattle.pool_retire.specs.Counts.{ringCount};
+ghost use Rattle.pool_retire.specs.Noted.{retireRefusal, hasId, writesCounted, retiredRecord, bornAt};
+use crate::counts::one_queued;
+use crate::counts::ring_count;
+use pool_access::has_id;
+use pool_access::push_retiring;
+use pool_access::put_texture;
+use pool_access::retiring_at;
+use pool_access::texture_at;
+use pool_memory::DoneAnswer;
+use pool_memory::PacingBook;
+use pool_memory::Pool;
+use pool_memory::same_counts;
+use pool_records::Recorded;
+use pool_records::RetiringRecord;
+use pool_records::TextureRecord;
+use pool_records::find_texture;
+
+const LIMIT: u64 = 281474976710656;
+
+// The number of the first refusal, or 0.
+fn retire_refusal(pool: Pool, retiring: &[u64], places: usize, seq: u64) -> u64
+    requires { ⌜ (7 * places ≤ length (now retiring)) × (pool .head < places) × (ringCount pool + pool .kept + pool .doomed ≤ places) × (places ≤ 4096) ⌝ }
+    ensures { λ r. ⌜ r ≡ retireRefusal pool (now (retiring .entry)) places seq ⌝ }
+{
+    if seq > LIMIT {
+        return 3;
+    }
+    let n = ring_count(pool);
+    if places <= n + pool.kept + pool.doomed {
+        return 7;
+    }
+    let queued = pool.queued;
+    if queued == 0 {
+        return 0;
+    }
+    let last = retiring_at(retiring, places, pool.head, n - 1);
+    if seq < last.seq {
+        return 8;
+    }
+    0
+}
+
+// The writes of a history; 0 without one.
+fn writes_counted(history: Recorded) -> u64
+    ensures { λ r. ⌜ r ≡ writesCounted history ⌝ }
+{
+    match history {
+        Recorded::Writes(n) => n,
+        Recorded::NoHistory => 0,
+    }
+}
+
+// What is noted of the version. Of an untracked texture the tracking and all else are 0.
+fn retired_version(
+    textures: &[u64],
+    tracked: usize,
+    i: usize,
+    id: u64,
+    view: u64,
+    seq: u64,
+) -> RetiringRecord
+    requires { ⌜ 20 * tracked ≤ length (now textures) ⌝ }
+    ensures { λ r. ⌜ r ≡ retiredRecord (hasId (now (textures .entry)) tracked i id) (recordAt 20 readTexture (now (textures .entry)) i) id view seq ⌝ }
+{
+    if !has_id(textures, tracked, i, id) {
+        return RetiringRecord {
+            id,
+            view,
+            seq,
+            epoch: 0,
+            birth: 0,
+            held: 0,
+            bytes: 0,
+        };
+    }
+    let t = texture_at(textures, i);
+    let history = t.history;
+    RetiringRecord {
+        id,
+        view,
+        seq,
+        epoch: t.epoch,
+        birth: t.birth,
+        held: writes_counted(history),
+        bytes: t.bytes,
+    }
+}
+
+// A record whose live version became live in this submission.
+fn born_at(t: TextureRecord, seq: u64) -> TextureRecord
+    ensures { λ r. ⌜ r ≡ bornAt seq t ⌝ }
+{
+    let mut u = t;
+    u.birth = seq;
+    u
+}
+
+// A tracked texture's live version became live in this submission.
+fn note_birth(textures: &mut [u64], tracked: usize, i: usize, id: u64, seq: u64)
+    requires { ⌜ (20 * tracked ≤ length (now textures))
+        × (hasId (now textures) tracked i id ≡ true → RecordedFits (recordAt 20 readTexture (now textures) i .history)) ⌝ }
+    ensures { λ _. ⌜ now (textures .exit)
+        ≡ cond (hasId (now (textures .entry)) tracked i id)
+        (sets (now (textures .entry)) (20 * i) (writeTexture (bornAt seq (recordAt 20 readTexture (now (textures .entry)) i)))) (now (textures .entry)) ⌝ }
+{
+    if !has_id(textures, tracked, i, id) {
+        return;
+    }
+    let t = texture_at(textures, i);
+    put_texture(textures, i, born_at(t, seq));
+}
+
+pub fn retire(
+    pool: Pool,
+    book: PacingBook,
+    textures: &mut [u64],
+    retiring: &mut [u64],
+    doomed: &[u64],
+    spares: &[u64],
+    newest: &[u64],
+    stamps: &[u64],
+    id: u64,
+    view: u64,
+    seq: u64,
+) -> DoneAnswer
+    requires { ⌜ isPool (lent pool book (now textures) (now retiring) (now doomed) (now spares) (now newest) (now stamps)) ≡ true ⌝ }
+    ensures { λ r. ⌜ (toldNumber (r .outcome), lent (r .pool) book (now (textures .exit)) (now (retiring .exit)) (now (doomed .entry)) (now (spares .entry)) (now (newest .entry)) (now (stamps .entry)))
+        ≡ retireCall (lent pool book (now (textures .entry)) (now (retiring .entry)) (now (doomed .entry)) (now (spares .entry)) (now (newest .entry)) (now (stamps .entry))) id view seq ⌝ }
+{
+    let places = retiring.len() / 7;
+    let refusal = retire_refusal(pool, retiring, places, seq);
+    if refusal != 0 {
+        return DoneAnswer {
+            pool: same_counts(pool),
+            outcome: refusal,
+        };
+    }
+    let i = find_texture(textures, pool.tracked, id);
+    let version = retired_version(textures, pool.tracked, i, id, view, seq);
+    note_birth(textures, pool.tracked, i, id, seq);
+    push_retiring(retiring, places, pool.head, ring_count(pool), version);
+    DoneAnswer {
+        pool: one_queued(pool),
+        outcome: 0,
+    }
+}

@@ -1,0 +1,34 @@
+-- take_doomed: hand back the next batch of versions to destroy.
+use Prim.Native.Nat.{ℕ, suc, _+_, _-_, _%_, min, max}
+use mathlib.Core.Bool.{cond}
+use mathlib.Core.List.{List, [], _∷_, map}
+use lib.Dec.{ltb}
+use lib.ListN.{length, take, drop, set}
+use Rattle.base_blocks.specs.Lists.{ceilDiv, total}
+use Rattle.pool_rules.specs.Model.{Doomed, Pool, Out, accepted, guard, doomedBytes}
+use Rattle.pool_rules.specs.Updates.{withDoomed, withPacing}
+
+module _ {W : Type 0} where
+  -- the arrivals with those since the last take
+  abbrev pub arrived : Pool W → List ℕ
+  arrived p = set (p .pacing .arrivals) (p .pacing .slot) (p .since)
+
+  -- the average number queued per take over the last eight plus an eighth of the queue, both rounded up, at least 64
+  abbrev pub paced : Pool W → ℕ
+  paced p = min (max 64 (ceilDiv (total (λ (n : ℕ). n) (arrived p)) 8 + ceilDiv (length (p .doomed)) 8)) (length (p .doomed))
+
+  -- how many more it takes to cover the excess
+  unfoldable pub coverMore : ℕ → ℕ → List (Doomed W) → ℕ
+  coverMore covered excess [] = 0
+  coverMore covered excess (d ∷ ds) = cond (ltb covered excess) (suc (coverMore (covered + d .bytes) excess ds)) 0
+
+  abbrev pub batch : Pool W → ℕ
+  batch p = paced p + coverMore (doomedBytes (take (paced p) (p .doomed))) (p .pacing .excess) (drop (paced p) (p .doomed))
+
+  -- `buffer` is how many views the answer has room for
+  unfoldable pub takeDoomed : Pool W → ℕ → Out W (List W)
+  takeDoomed p buffer =
+      guard (ltb buffer (batch p)) 11
+      (accepted (map (λ (d : Doomed W). d .view) (take (batch p) (p .doomed)))
+      (withPacing (record { arrivals = arrived p; slot = suc (p .pacing .slot) % 8; pressed = p .pacing .pressed; excess = 0 })
+      (withDoomed (drop (batch p) (p .doomed)) 0 (p .dooming - doomedBytes (take (batch p) (p .doomed))) p)))

@@ -1,0 +1,26 @@
+-- The batch of a take, by the arrivals and the destroy ring.
+use Prim.Native.Nat.{ℕ, _+_, min, max}
+use mathlib.Core.List.{List}
+use lib.ListN.{take, drop}
+use Rattle.base_blocks.specs.Lists.{listed, total, ceilDiv}
+use Rattle.base_tables.specs.Rings.{along}
+use Rattle.pool_records.specs.Doomed.{readDoomed}
+use Rattle.pool_records.specs.Views.{doomedOf}
+use Rattle.pool_rules.specs.Model.{Doomed, doomedBytes}
+use Rattle.pool_rules.specs.TakeDoomed.{coverMore}
+
+-- version j of the destroy ring
+unfoldable pub doomedEntry : ℕ → ℕ → List ℕ → ℕ → Doomed ℕ
+doomedEntry cap first s j = doomedOf (along 2 readDoomed cap first s j)
+
+-- the first n of them
+abbrev pub doomedEntries : ℕ → ℕ → List ℕ → ℕ → List (Doomed ℕ)
+doomedEntries cap first s n = listed (doomedEntry cap first s) 0 n
+
+-- the average number queued per take plus an eighth of the n queued, both rounded up, at least 64
+unfoldable pub pacedOf : List ℕ → ℕ → ℕ
+pacedOf arrivals n = min (max 64 (ceilDiv (total (λ (n : ℕ). n) arrivals) 8 + ceilDiv n 8)) n
+
+-- so many, and more until the excess is covered
+unfoldable pub batchOf : ℕ → ℕ → List (Doomed ℕ) → ℕ
+batchOf least excess ds = least + coverMore (doomedBytes (take least ds)) excess (drop least ds)

@@ -1,0 +1,30 @@
+// Spares given up: their views go to the back of the destroy ring, each with its texture's bytes.
+ghost use mathlib.Core.Path.{_≡_};
+ghost use Prim.Native.Nat.{_+_, _*_, _≤_, _<_};
+ghost use lib.ListN.{length};
+ghost use Rattle.base_tables.specs.Rings.{laid};
+ghost use Rattle.pool_records.specs.Doomed.{writeDoomed};
+ghost use Rattle.pool_take_doomed.specs.Given.{givenRecords};
+use base_tables::ring_push;
+
+// The k spares from place `from` on, behind the n versions of the ring.
+pub fn push_spares(
+    doomed: &mut [u64],
+    cap: usize,
+    first: usize,
+    n: usize,
+    spares: &[u64],
+    from: usize,
+    k: usize,
+    bytes: u64,
+)
+    requires { ⌜ (2 * cap ≤ length (now doomed)) × (first < cap) × (n + k ≤ cap) × (3 * (from + k) ≤ length (now spares)) ⌝ }
+    ensures { λ _. ⌜ now (doomed .exit) ≡ laid 2 writeDoomed cap first n (givenRecords (now (spares .entry)) bytes from k) (now (doomed .entry)) ⌝ }
+{
+    let mut j = 0;
+    while j < k {
+        let entry = [spares[3 * (from + j)], bytes];
+        ring_push(doomed, 2, cap, first, n + j, &entry);
+        j += 1;
+    }
+}

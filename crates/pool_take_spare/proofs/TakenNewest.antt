@@ -1,0 +1,243 @@
+-- take_spare for a texture tracked with the same shape: what the rule leaves, slice by slice. Assumes nothing.
+use mathlib.Core.Path.{_≡_, refl, sym, ap, ap₂, _∙_}
+use mathlib.Core.Bool.{Bool, true}
+use mathlib.Core.Option.{Option, none, some}
+use mathlib.Core.List.{List, [], _∷_, map}
+use Prim.Native.Nat.{ℕ, suc, _+_, _*_, _-_, _<_}
+use native.Mathlib.Omega.{arith}
+use lib.Dec.{eqb}
+use lib.ListN.{length, take, getD, set}
+use lib.Seq.{sets}
+use Rattle.base_blocks.specs.Lists.{total, removed}
+use Rattle.base_blocks.specs.Blocks.{moved}
+use Rattle.base_blocks.proofs.Lists.{either}
+use Rattle.base_blocks.proofs.Listed.{getD-listed}
+use Rattle.base_tables.specs.Records.{recordAt, table}
+use Rattle.grid_shapes.specs.declared.shape.VersionShape.{VersionShape}
+use Rattle.grid_shapes.specs.Shapes.{sameShape, bytesOf}
+use Rattle.pool_rules.specs.Model.{Spare, VersionState, Pool, find, pagesUsed}
+use Rattle.pool_rules.specs.Updates.{withSpares, withRename, withTextures, withParked, change}
+use Rattle.pool_rules.specs.TakeSpare.{newest, others, takenBytes, takeSpare}
+use Rattle.pool_rules.proofs.States.{length-change, total-change, total-unchanged}
+use Rattle.pool_records.specs.declared.texture.TextureRecord.{TextureRecord}
+use Rattle.pool_records.specs.declared.spare.SpareRecord.{SpareRecord}
+use Rattle.pool_records.specs.Texture.{readTexture, writeTexture}
+use Rattle.pool_records.specs.Recorded.{RecordedFits}
+use Rattle.pool_records.specs.Spare.{readSpare}
+use Rattle.pool_memory.specs.declared.pool.Pool.{Pool as Counts}
+use Rattle.pool_memory.specs.Lent.{Lent, lent}
+use Rattle.pool_memory.specs.Reading.{spareRead, stateRead, modelOf}
+use Rattle.pool_memory.specs.Writing.{textureRecord, everySpare, poolAfter, sparesAfter, after}
+use Rattle.pool_memory.specs.Calls.{Told, answer, TakenVersion, takenOf, takeSpareCall}
+use Rattle.pool_memory.proofs.Fits.{Fits}
+use Rattle.pool_memory.proofs.FromPool.{pool-fits}
+use Rattle.pool_memory.proofs.Runs.{sparesOf, spareCount, firstSpare, stateOf, tracked-model, kept-model, pages-model}
+use Rattle.pool_memory.proofs.Kept.{pagedOf}
+use Rattle.pool_memory.proofs.Same.{doomed-model}
+use Rattle.pool_memory.proofs.Stays.{put-together, book-stays, ids-ascend, spares-stay, newest-stay, stamps-stay, retiring-stay, doomed-stay}
+use Rattle.pool_memory.proofs.Places.{changed}
+use Rattle.pool_memory.proofs.Changes.{textures-set, sparesBefore, sparesAt, every-taken, every-kept, spares-removed, newest-at, others-taken}
+use Rattle.pool_memory.proofs.Asked.{asked-accepted}
+use Rattle.pool_memory.proofs.Tracked.{record-read, spares-to, bytes-at, record-at, shape-at, count-at}
+use Rattle.pool_tracking.specs.Cases.{Accepted, recordOf, TrackedAt}
+use Rattle.pool_take_spare.specs.Renamed.{renamedRecord}
+use Rattle.pool_tracking.proofs.Refusals.{take-tracked}
+use Rattle.pool_tracking.proofs.Counts.{counted, counts-after}
+use Rattle.pool_tracking.proofs.Tracked.{spares-within, kept-fits, is-there, found-there}
+
+-- ---- lists
+
+empty {ℓ} : {A : Type ℓ} (xs : List A) → length xs ≡ 0 → xs ≡ []
+empty [] e = refl
+empty (x ∷ xs) e = absurd (let y : ⊥ = omega arith in y)
+
+-- what a change leaves alone
+pub map-unchanged : {A : Type 0} (f : VersionState ℕ → A) (id : ℕ) (g : VersionState ℕ → VersionState ℕ) → ((t : VersionState ℕ) → f (g t) ≡ f t)
+    → (ts : List (VersionState ℕ)) → map f (change id g ts) ≡ map f ts
+unfolding change
+map-unchanged f id g e [] = refl
+map-unchanged {A = A} f id g e (t ∷ ts) =
+    ap₂ (λ (x : A) (xs : List A). x ∷ xs) (either (λ (u : VersionState ℕ). f u ≡ f t) (eqb (t .id) id) (g t) t (λ q. e t) (λ q. refl)) (map-unchanged f id g e ts)
+
+-- the state after the rename
+abbrev renamedState : ℕ → VersionState ℕ → VersionState ℕ
+renamedState seq u = withRename seq (withSpares (others (u .spares)) u)
+
+-- its record
+fewer : (ss : List (Spare ℕ)) → length (others ss) ≡ length ss - 1
+fewer [] = refl
+fewer (s ∷ []) = refl
+fewer (s ∷ t ∷ ts) = ap suc (fewer (t ∷ ts)) ∙ (let e : suc (suc (length ts) - 1) ≡ suc (suc (length ts)) - 1 = omega arith in e)
+
+renamed-record : (seq : ℕ) (u : VersionState ℕ) → textureRecord (renamedState seq u) ≡ renamedRecord seq (length (u .spares) - 1) (textureRecord u)
+renamed-record seq u = ap (λ (n : ℕ). renamedRecord seq n (textureRecord u)) (fewer (u .spares))
+
+-- a renamed record has its history still
+pub renamed-fits : (x t u : TextureRecord) (seq left : ℕ) → RecordedFits (u .history) → x ≡ renamedRecord seq left t → t ≡ u → RecordedFits (x .history)
+renamed-fits x t u seq left fits e q = rw (sym (ap (λ (r : TextureRecord). r .history) e ∙ ap (λ (r : TextureRecord). r .history) q)) at fits
+
+-- ---- the rule
+
+module _ (l : Lent) (i id : ℕ) (shape : VersionShape) (records : Bool) (seq : ℕ) (ok : Accepted l i id shape records seq) (h : TrackedAt l i id)
+    (same : sameShape (recordOf l i .shape) shape ≡ true) where
+  abbrev f : Fits l
+  f = pool-fits l (ok .0)
+
+  abbrev u : VersionState ℕ
+  u = stateOf l i
+
+  abbrev t : TextureRecord
+  t = recordOf l i
+
+  abbrev count : ℕ
+  count = recordOf l i .spares
+
+  there : find id (modelOf l .textures) ≡ some u
+  there = found-there l f i (h .0) id (ok .1 .0) (h .1)
+
+  abbrev after-take : Pool ℕ
+  after-take =
+      withParked (modelOf l .parked - takenBytes (u .shape) (newest (u .spares)))
+      (withTextures (change id (renamedState seq) (modelOf l .textures)) (modelOf l))
+
+  ruled : takeSpareCall l id shape records seq ≡ (answer (takenOf (newest (u .spares))), after after-take l)
+  unfolding takeSpareCall
+  ruled =
+      asked-accepted takenOf l (λ (p : Pool ℕ). takeSpare p id shape records seq) (ok .0) (newest (u .spares)) after-take
+      (take-tracked (modelOf l) id shape records seq (ok .1 .1) u there (ap (λ (s : VersionShape). sameShape s shape) (shape-at l i (h .0)) ∙ same))
+
+  changed-there : change id (renamedState seq) (modelOf l .textures) ≡ set (modelOf l .textures) i (renamedState seq u)
+  changed-there =
+      changed l id (ids-ascend l f) (is-there l f i (h .0) id (ok .1 .0) (h .1)) (renamedState seq)
+      ∙ ap (λ (k : ℕ). set (modelOf l .textures) k (renamedState seq (stateOf l k))) (sym (ok .1 .0))
+
+  -- how many spares the texture has
+  spares-counted : length (u .spares) ≡ count
+  spares-counted = count-at l i (h .0)
+
+  record-left : textureRecord (renamedState seq u) ≡ renamedRecord seq (count - 1) t
+  record-left =
+      renamed-record seq u
+      ∙ ap₂ (λ (n : ℕ) (r : TextureRecord). renamedRecord seq (n - 1) r) spares-counted
+      (record-at l i (h .0) f)
+
+  -- the rename and the spare left, whatever the counts and the spares are
+  left-as : (c : Counts) (spares : List ℕ) → c ≡ poolAfter after-take l → spares ≡ sparesAfter after-take l
+      → lent c (l .book) (sets (l .textures) (20 * i) (writeTexture (renamedRecord seq (count - 1) t))) (l .retiring) (l .doomed) spares (l .newest) (l .stamps) ≡ after after-take l
+  left-as c spares e1 e2 =
+      let kept = map-unchanged pagedOf id (renamedState seq) (λ (v : VersionState ℕ). refl) (modelOf l .textures) in
+      put-together after-take l c (l .book) (sets (l .textures) (20 * i) (writeTexture (renamedRecord seq (count - 1) t))) (l .retiring) (l .doomed) spares (l .newest) (l .stamps)
+      e1 (book-stays l f after-take refl)
+      (ap (λ (r : TextureRecord). sets (l .textures) (20 * i) (writeTexture r)) (sym record-left) ∙ textures-set l after-take f i (renamedState seq u) (h .0) changed-there)
+      (retiring-stay l f after-take refl refl) (doomed-stay l f after-take refl) e2 (newest-stay l f after-take kept) (stamps-stay l f after-take kept)
+
+  kept-left : total spareCount (change id (renamedState seq) (modelOf l .textures)) + (count - (count - 1)) ≡ l .pool .kept
+  kept-left =
+      omega (arith, total-change spareCount id (renamedState seq) u (modelOf l .textures) (f .formed .ids) there, kept-model l, f .kept, fewer (u .spares), spares-counted)
+
+  tracked-left : l .pool .tracked ≡ length (change id (renamedState seq) (modelOf l .textures))
+  tracked-left = sym (length-change id (renamedState seq) (modelOf l .textures) ∙ tracked-model l)
+
+  pages-left : l .pool .pages ≡ total pagesUsed (change id (renamedState seq) (modelOf l .textures))
+  pages-left =
+      sym (total-unchanged pagesUsed id (renamedState seq) (λ (v : VersionState ℕ). refl) (modelOf l .textures) ∙ pages-model l ∙ f .claimed)
+
+  counts-left : (kept parked : ℕ) → kept + (count - (count - 1)) ≡ l .pool .kept → parked ≡ after-take .parked
+      → counted (l .pool) (l .pool .tracked) kept (l .pool .pages) (l .pool .doomed) (l .pool .since) (l .pool .trackings) parked (l .pool .dooming) ≡ poolAfter after-take l
+  unfolding modelOf
+  counts-left kept parked e1 e2 =
+      ap (λ (n : ℕ). counted (l .pool) (l .pool .tracked) kept (l .pool .pages) (l .pool .doomed) (l .pool .since) (l .pool .trackings) n (l .pool .dooming)) e2
+      ∙ counts-after l f after-take refl refl refl refl (l .pool .tracked) kept (l .pool .pages) (l .pool .doomed) tracked-left (omega (arith, kept-left, e1)) pages-left
+      (sym (doomed-model l)) (omega arith)
+
+  -- the parked bytes, less those of what is taken
+  parked-left : (o : Option (Spare ℕ)) → newest (u .spares) ≡ o → (bytes : ℕ) → bytes ≡ takenBytes (u .shape) o → l .pool .parked - bytes ≡ after-take .parked
+  unfolding modelOf
+  parked-left o e bytes q = ap (λ (n : ℕ). l .pool .parked - n) (q ∙ ap (takenBytes (u .shape)) (sym e))
+
+  -- ---- no spare
+
+  pub no-spare : count ≡ 0
+      → (answer none, lent (l .pool) (l .book) (sets (l .textures) (20 * i) (writeTexture (renamedRecord seq 0 t))) (l .retiring) (l .doomed) (l .spares) (l .newest) (l .stamps))
+      ≡ takeSpareCall l id shape records seq
+  no-spare e =
+      let none-there : u .spares ≡ [] = empty (u .spares) (spares-counted ∙ e) in
+      ap₂ (λ (a : Told (Option TakenVersion)) (m : Lent). (a, m)) (ap (λ (ss : List (Spare ℕ)). answer (takenOf (newest ss))) (sym none-there))
+      (ap (λ (n : ℕ). lent (l .pool) (l .book) (sets (l .textures) (20 * i) (writeTexture (renamedRecord seq n t))) (l .retiring) (l .doomed) (l .spares) (l .newest) (l .stamps))
+      (let q : 0 ≡ count - 1 = omega arith in q)
+      ∙ left-as (l .pool) (l .spares)
+      (counts-left (l .pool .kept) (l .pool .parked) (omega arith)
+      ((let q : l .pool .parked ≡ l .pool .parked - 0 = omega arith in q) ∙ parked-left none (ap newest none-there) 0 refl))
+      (spares-stay l f after-take (ap everySpare changed-there ∙ every-kept l i (h .0) (renamedState seq u) (ap others none-there ∙ sym none-there))))
+      ∙ sym ruled
+
+  -- ---- the newest of them
+
+  module _ (some-spare : 0 < count) (k : ℕ) (at : k ≡ firstSpare l i + (count - 1)) where
+    last-spare : newest (u .spares) ≡ some (spareRead l k)
+    unfolding stateOf stateRead
+    last-spare =
+        newest-at (u .spares) (spareRead l 0) (omega (arith, spares-counted))
+        ∙ ap some
+        (ap (λ (n : ℕ). getD (u .spares) (n - 1) (spareRead l 0)) spares-counted
+        ∙ getD-listed (spareRead l) (firstSpare l i) (sparesAt l i) (count - 1) (spareRead l 0) (omega (arith, ap sparesOf (record-read l i (h .0))))
+        ∙ ap (spareRead l) (sym at))
+
+    all-but-last : everySpare (change id (renamedState seq) (modelOf l .textures)) ≡ removed k 1 (sparesBefore l)
+    all-but-last =
+        ap everySpare changed-there
+        ∙ every-taken l i (h .0) (renamedState seq u) (count - 1) (omega (arith, ap sparesOf (record-read l i (h .0))))
+        (others-taken (u .spares) ∙ ap (λ (n : ℕ). take (n - 1) (u .spares)) spares-counted)
+        ∙ ap₂ (λ (a b : ℕ). removed a b (sparesBefore l)) (sym at) (let q : sparesAt l i - (count - 1) ≡ 1 = omega (arith, ap sparesOf (record-read l i (h .0))) in q)
+
+    pub spare-taken : (
+      answer (some (record { view = recordAt 3 readSpare (l .spares) k .view; held = recordAt 3 readSpare (l .spares) k .held })),
+      lent
+          (counted (l .pool) (l .pool .tracked) (l .pool .kept - 1) (l .pool .pages) (l .pool .doomed) (l .pool .since) (l .pool .trackings) (l .pool .parked - bytesOf (t .shape)) (l .pool .dooming))
+          (l .book) (sets (l .textures) (20 * i) (writeTexture (renamedRecord seq (count - 1) t))) (l .retiring) (l .doomed)
+          (moved (l .spares) (3 * k) (3 * k + 3 * 1) (3 * (l .pool .kept - (k + 1)))) (l .newest) (l .stamps),
+    )
+        ≡ takeSpareCall l id shape records seq
+    unfolding recordAt spareRead
+    spare-taken =
+        ap₂ (λ (a : Told (Option TakenVersion)) (m : Lent). (a, m)) (ap (λ (o : Option (Spare ℕ)). answer (takenOf o)) (sym last-spare))
+        (left-as _ _
+        (counts-left (l .pool .kept - 1) (l .pool .parked - bytesOf (t .shape)) (omega (arith, spares-within l f i (h .0)))
+        (parked-left (some (spareRead l k)) last-spare (bytesOf (t .shape)) (ap bytesOf (sym (shape-at l i (h .0))))))
+        (spares-removed l after-take (f .kept) (kept-fits l f i (h .0)) k 1 (omega (arith, spares-within l f i (h .0))) all-but-last))
+        ∙ sym ruled
+
+  -- ---- as the code has them: its record, its slices and its numbers by their equations
+
+  module _ (t′ x : TextureRecord) (textures : List ℕ) (is-record : t′ ≡ t) where
+    pub left-without : t′ .spares ≡ 0 → x ≡ renamedRecord seq 0 t′ → textures ≡ sets (l .textures) (20 * i) (writeTexture x)
+        → (answer none, lent (l .pool) (l .book) textures (l .retiring) (l .doomed) (l .spares) (l .newest) (l .stamps)) ≡ takeSpareCall l id shape records seq
+    left-without e r w =
+        ap (λ (ts : List ℕ). (answer none, lent (l .pool) (l .book) ts (l .retiring) (l .doomed) (l .spares) (l .newest) (l .stamps)))
+        (w ∙ ap (λ (y : TextureRecord). sets (l .textures) (20 * i) (writeTexture y)) (r ∙ ap (renamedRecord seq 0) is-record))
+        ∙ no-spare (sym (ap sparesOf is-record) ∙ e)
+
+    module _ (first k : ℕ) (s : SpareRecord) (spares : List ℕ) where
+      pub left-with : 0 < t′ .spares → first ≡ total sparesOf (table 20 readTexture i (l .textures)) → k ≡ first + (t′ .spares - 1)
+          → s ≡ recordAt 3 readSpare (l .spares) k → x ≡ renamedRecord seq (t′ .spares - 1) t′
+          → textures ≡ sets (l .textures) (20 * i) (writeTexture x) → spares ≡ moved (l .spares) (3 * k) (3 * k + 3 * 1) (3 * (l .pool .kept - (k + 1)))
+          → (
+            answer (some (record { view = s .view; held = s .held })),
+            lent
+                (counted (l .pool) (l .pool .tracked) (l .pool .kept - 1) (l .pool .pages) (l .pool .doomed) (l .pool .since) (l .pool .trackings) (l .pool .parked - t′ .bytes) (l .pool .dooming))
+                (l .book) textures (l .retiring) (l .doomed) spares (l .newest) (l .stamps),
+          )
+          ≡ takeSpareCall l id shape records seq
+      left-with some-spare e1 e2 e3 e4 e5 e6 =
+          let n : t′ .spares ≡ count = ap sparesOf is-record in
+          let at : k ≡ firstSpare l i + (count - 1) = omega (arith, e1, e2, n, spares-to l i (h .0)) in
+          let tex : textures ≡ sets (l .textures) (20 * i) (writeTexture (renamedRecord seq (count - 1) t)) =
+          e5 ∙ ap (λ (y : TextureRecord). sets (l .textures) (20 * i) (writeTexture y)) (e4 ∙ ap₂ (λ (m : ℕ) (r : TextureRecord). renamedRecord seq (m - 1) r) n is-record) in
+          let by : t′ .bytes ≡ bytesOf (t .shape) = ap (λ (r : TextureRecord). r .bytes) is-record ∙ bytes-at l i (h .0) f in
+          (λ j. (
+            answer (some (record { view = e3 j .view; held = e3 j .held })),
+            lent
+                (counted (l .pool) (l .pool .tracked) (l .pool .kept - 1) (l .pool .pages) (l .pool .doomed) (l .pool .since) (l .pool .trackings) (l .pool .parked - by j) (l .pool .dooming))
+                (l .book) (tex j) (l .retiring) (l .doomed) (e6 j) (l .newest) (l .stamps),
+          ))
+          ∙ spare-taken (omega (arith, n)) k at

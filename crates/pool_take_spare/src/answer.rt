@@ -1,0 +1,16 @@
+// What take_spare answers.
+use pool_memory::Pool;
+use pool_rules::Held;
+
+// The texture's newest spare, with the writes that it holds; no spare; or 01's number of a refusal.
+pub enum Taken {
+    Spare { view: u64, held: Held },
+    NoSpare,
+    Refused(u64),
+}
+
+// The pool after the call comes with it. After a refusal it is as it was.
+pub struct TakeAnswer {
+    pub pool: Pool,
+    pub taken: Taken,
+}

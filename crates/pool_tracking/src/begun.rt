@@ -1,0 +1,56 @@
+// A tracking just begun.
+ghost use mathlib.Core.Path.{_≡_};
+ghost use mathlib.Core.Bool.{true};
+ghost use Prim.Native.Nat.{_≤_};
+ghost use Rattle.grid_shapes.specs.Shapes.{isShape};
+ghost use Rattle.pool_rules.specs.Model.{pagesOf};
+ghost use Rattle.pool_tracking.specs.Begun.{freshHistory, freshPages, newRecord};
+use grid_shapes::VersionShape;
+use grid_shapes::shape_bytes;
+use pool_access::shape_pages;
+use pool_records::Recorded;
+use pool_records::TextureRecord;
+
+// Its write history, if writes are recorded.
+fn fresh_history(records: bool) -> Recorded
+    ensures { λ r. ⌜ r ≡ freshHistory records ⌝ }
+{
+    if records {
+        Recorded::Writes(0)
+    } else {
+        Recorded::NoHistory
+    }
+}
+
+// The pages of that history.
+pub fn fresh_pages(shape: VersionShape, records: bool) -> usize
+    requires { ⌜ pagesOf shape ≤ 4096 ⌝ }
+    ensures { λ r. ⌜ r ≡ freshPages shape records ⌝ }
+{
+    if records { shape_pages(shape) } else { 0 }
+}
+
+// The texture's record.
+pub fn new_record(
+    id: u64,
+    shape: VersionShape,
+    records: bool,
+    epoch: u64,
+    seq: u64,
+) -> TextureRecord
+    requires { ⌜ isShape shape ≡ true ⌝ }
+    ensures { λ r. ⌜ r ≡ newRecord id shape records epoch seq ⌝ }
+{
+    let history = fresh_history(records);
+    TextureRecord {
+        id,
+        shape,
+        epoch,
+        history,
+        birth: 0,
+        rename: seq,
+        due: seq,
+        spares: 0,
+        bytes: shape_bytes(shape),
+    }
+}

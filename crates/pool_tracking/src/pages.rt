@@ -1,0 +1,51 @@
+// The pages of a tracking's history, made anew.
+ghost use mathlib.Core.Path.{_≡_};
+ghost use Prim.Native.Nat.{_+_, _*_, _-_, _≤_};
+ghost use lib.ListN.{length, replicate};
+ghost use lib.Seq.{sets};
+ghost use Rattle.base_blocks.specs.Blocks.{moved};
+use base_blocks::fill;
+use base_blocks::shift_down;
+use base_blocks::shift_up;
+
+// The n numbers from index `from` on move to index `to`.
+fn move_block(s: &mut [u64], to: usize, from: usize, n: usize)
+    requires { ⌜ (to + n ≤ length (now s)) × (from + n ≤ length (now s)) ⌝ }
+    ensures { λ _. ⌜ now (s .exit) ≡ moved (now (s .entry)) to from n ⌝ }
+{
+    if to < from {
+        shift_down(s, to, from - to, n);
+        return;
+    }
+    if from < to {
+        shift_up(s, from, to - from, n);
+    }
+}
+
+// The `old` numbers from index `at` on make way for n times 0, and the `later` numbers behind them move.
+fn renew_block(s: &mut [u64], at: usize, old: usize, n: usize, later: usize)
+    requires { ⌜ (at + old + later ≤ length (now s)) × (at + n + later ≤ length (now s)) ⌝ }
+    ensures { λ _. ⌜ now (s .exit) ≡ sets (moved (now (s .entry)) (at + n) (at + old) later) at (replicate n 0) ⌝ }
+{
+    move_block(s, at + n, at + old, later);
+    fill(s, at, n, 0);
+}
+
+// Of the `used` pages, the `old` from `page` on make way for n fresh ones, all 0.
+pub fn renew_pages(
+    newest: &mut [u64],
+    stamps: &mut [u64],
+    used: usize,
+    page: usize,
+    old: usize,
+    n: usize,
+)
+    requires { ⌜ (page + old ≤ used) × (used ≤ length (now newest)) × (used + n ≤ length (now newest) + old) × (length (now newest) ≤ 4096) × (1024 * length (now newest) ≡ length (now stamps)) ⌝ }
+    ensures { λ _. ⌜
+        (now (newest .exit) ≡ sets (moved (now (newest .entry)) (page + n) (page + old) (used - (page + old))) page (replicate n 0))
+        × (now (stamps .exit) ≡ sets (moved (now (stamps .entry)) (1024 * page + 1024 * n) (1024 * page + 1024 * old) (1024 * (used - (page + old)))) (1024 * page) (replicate (1024 * n) 0)) ⌝ }
+{
+    let later = used - (page + old);
+    renew_block(newest, page, old, n, later);
+    renew_block(stamps, 1024 * page, 1024 * old, 1024 * n, 1024 * later);
+}

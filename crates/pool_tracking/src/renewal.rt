@@ -1,0 +1,104 @@
+// A texture that is tracked with another shape: its spares are queued for destruction and its tracking is renewed.
+ghost use mathlib.Core.Path.{_≡_};
+ghost use mathlib.Core.Bool.{false};
+ghost use mathlib.Core.Option.{none};
+ghost use Prim.Native.Nat.{_+_, _*_, _-_, _^_, _≤_, _<_};
+ghost use lib.ListN.{length};
+ghost use Rattle.base_blocks.specs.Blocks.{moved};
+ghost use Rattle.base_tables.specs.Rings.{laid};
+ghost use Rattle.grid_shapes.specs.Shapes.{sameShape};
+ghost use Rattle.pool_records.specs.Doomed.{writeDoomed};
+ghost use Rattle.pool_memory.specs.Lent.{lent};
+ghost use Rattle.pool_memory.specs.Calls.{answer, takeSpareCall};
+ghost use Rattle.pool_take_doomed.specs.Given.{givenRecords};
+ghost use Rattle.pool_tracking.specs.Cases.{Accepted, recordOf, TrackedAt};
+ghost use Rattle.pool_tracking.specs.Holdings.{givenUp};
+use crate::begun::fresh_pages;
+use crate::begun::new_record;
+use crate::holding::holding_at;
+use crate::pages::renew_pages;
+use base_tables::remove_records;
+use grid_shapes::VersionShape;
+use pool_access::put_texture;
+use pool_memory::PacingBook;
+use pool_memory::Pool;
+use pool_take_doomed::push_spares;
+
+// The k spares from place `from` on leave their slice for the destroy ring, which has that many places.
+fn give_up(
+    pool: Pool,
+    doomed: &mut [u64],
+    spares: &mut [u64],
+    places: usize,
+    from: usize,
+    k: usize,
+    bytes: u64,
+) -> Pool
+    requires { ⌜ (2 * places ≤ length (now doomed)) × (pool .first < places) × (pool .doomed + k ≤ places)
+        × (from + k ≤ pool .kept) × (3 * pool .kept ≤ length (now spares)) × (bytes * k ≤ pool .parked)
+        × (pool .dooming + bytes * k < 2 ^ 64) × (pool .since + k < 2 ^ 64) ⌝ }
+    ensures { λ r. ⌜ (r ≡ givenUp pool k bytes)
+        × (now (doomed .exit) ≡ laid 2 writeDoomed places (pool .first) (pool .doomed) (givenRecords (now (spares .entry)) bytes from k) (now (doomed .entry)))
+        × (now (spares .exit) ≡ moved (now (spares .entry)) (3 * from) (3 * from + 3 * k) (3 * (pool .kept - (from + k)))) ⌝ }
+{
+    push_spares(
+        doomed,
+        places,
+        pool.first,
+        pool.doomed,
+        spares,
+        from,
+        k,
+        bytes,
+    );
+    remove_records(spares, 3, pool.kept, from, k);
+    let all = bytes * k as u64;
+    let mut after = pool;
+    after.kept = pool.kept - k;
+    after.doomed = pool.doomed + k;
+    after.since = pool.since + k as u64;
+    after.parked = pool.parked - all;
+    after.dooming = pool.dooming + all;
+    after
+}
+
+pub fn renew_tracking(
+    pool: Pool,
+    book: PacingBook,
+    textures: &mut [u64],
+    retiring: &[u64],
+    doomed: &mut [u64],
+    spares: &mut [u64],
+    newest: &mut [u64],
+    stamps: &mut [u64],
+    i: usize,
+    id: u64,
+    shape: VersionShape,
+    records: bool,
+    seq: u64,
+) -> Pool
+    requires { ⌜ Accepted (lent pool book (now textures) (now retiring) (now doomed) (now spares) (now newest) (now stamps)) i id shape records seq
+        × TrackedAt (lent pool book (now textures) (now retiring) (now doomed) (now spares) (now newest) (now stamps)) i id
+        × (sameShape (recordOf (lent pool book (now textures) (now retiring) (now doomed) (now spares) (now newest) (now stamps)) i .shape) shape ≡ false) ⌝ }
+    ensures { λ r. ⌜ (answer none, lent r book (now (textures .exit)) (now (retiring .entry)) (now (doomed .exit)) (now (spares .exit)) (now (newest .exit)) (now (stamps .exit)))
+        ≡ takeSpareCall (lent pool book (now (textures .entry)) (now (retiring .entry)) (now (doomed .entry)) (now (spares .entry)) (now (newest .entry)) (now (stamps .entry))) id shape records seq ⌝ }
+{
+    let places = retiring.len() / 7;
+    let old = holding_at(textures, i);
+    let epoch = pool.trackings + 1;
+    let fresh = fresh_pages(shape, records);
+    let mut after = give_up(
+        pool,
+        doomed,
+        spares,
+        places,
+        old.first,
+        old.spares,
+        old.bytes,
+    );
+    put_texture(textures, i, new_record(id, shape, records, epoch, seq));
+    renew_pages(newest, stamps, pool.pages, old.page, old.pages, fresh);
+    after.pages = pool.pages - old.pages + fresh;
+    after.trackings = epoch;
+    after
+}

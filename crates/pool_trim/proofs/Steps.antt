@@ -1,0 +1,191 @@
+-- One texture more of a trim's pass: the textures, what is given up, and the slices. Assumes nothing.
+use mathlib.Core.Path.{_≡_, sym, ap, ap₂, _∙_}
+use mathlib.Core.Bool.{Bool, true, false, cond}
+use mathlib.Core.List.{List, [], _∷_, _++_, map, flatMap, map-append, append-nil}
+use Prim.Native.Nat.{ℕ, _+_, _-_, _*_, _≤_, _<_}
+use native.Mathlib.Numerals.{add-one}
+use native.Mathlib.Omega.{arith}
+use lib.ListN.{length, take, drop, length-append, length-map}
+use lib.Seq.{sets}
+use Rattle.base_blocks.specs.Lists.{over, total}
+use Rattle.base_blocks.specs.Blocks.{moved}
+use Rattle.base_blocks.proofs.Lists.{total-append}
+use Rattle.base_tables.specs.Records.{flat}
+use Rattle.base_tables.specs.Rings.{laid}
+use Rattle.pool_rules.specs.Model.{Doomed, VersionState, Pool, pagesUsed}
+use Rattle.pool_rules.specs.Trim.{idle, thinned}
+use Rattle.pool_records.specs.declared.texture.TextureRecord.{TextureRecord}
+use Rattle.pool_records.specs.declared.doomed.DoomedRecord.{DoomedRecord}
+use Rattle.pool_records.specs.Texture.{writeTexture}
+use Rattle.pool_records.specs.Spare.{writeSpare}
+use Rattle.pool_records.specs.Doomed.{writeDoomed}
+use Rattle.pool_memory.specs.Lent.{Lent}
+use Rattle.pool_memory.specs.Reading.{recordPages, modelOf}
+use Rattle.pool_memory.specs.Writing.{textureRecord, spareRecord, doomedRecord, everySpare, newestOf, texturesAfter, sparesAfter, newestAfter, pagesAfter, stampsAfter}
+use Rattle.pool_memory.proofs.Fits.{Fits}
+use Rattle.pool_memory.proofs.Parts.{flat-append}
+use Rattle.pool_memory.proofs.Packed.{flat-step}
+use Rattle.pool_memory.proofs.Runs.{firstSpare, firstPageOf, stateOf, tracked-model, model-at}
+use Rattle.pool_memory.proofs.Rings.{laid-append}
+use Rattle.pool_memory.proofs.Kept.{used-paged}
+use Rattle.pool_memory.proofs.Changes.{spares-rest}
+use Rattle.pool_memory.proofs.Stays.{ids-ascend}
+use Rattle.pool_memory.proofs.Passes.{texture-packed, spares-packed, newest-packed, stamps-packed}
+use Rattle.pool_memory.proofs.Tracked.{record-read, spares-to, pages-to, pages-at}
+use Rattle.pool_forget_texture.specs.Owned.{textureIn, sparesTo, pagesTo}
+use Rattle.pool_trim.specs.Look.{lookedRecord}
+use Rattle.pool_trim.specs.Pass.{trimmedOne, givenOne, trimmed}
+use Rattle.pool_forget_texture.proofs.TextureRuns.{spares-within}
+use Rattle.pool_trim.proofs.Looks.{count, looked, looked-paged, looked-spares, lookHere, few, left-count, record-here}
+
+-- what a call leaves of the packed slices depends on the textures alone
+module _ (l : Lent) (p q : Pool ℕ) (e : p .textures ≡ q .textures) where
+  pub textures-as : texturesAfter p l ≡ texturesAfter q l
+  unfolding texturesAfter
+  textures-as = ap (λ (ts : List (VersionState ℕ)). over (flat writeTexture (map textureRecord ts)) (l .textures)) e
+
+  pub spares-as : sparesAfter p l ≡ sparesAfter q l
+  unfolding sparesAfter
+  spares-as = ap (λ (ts : List (VersionState ℕ)). over (flat writeSpare (map spareRecord (everySpare ts))) (l .spares)) e
+
+  pub newest-as : newestAfter p l ≡ newestAfter q l
+  unfolding newestAfter
+  newest-as = ap (λ (ts : List (VersionState ℕ)). over (flatMap newestOf ts) (l .newest)) e
+
+  pub stamps-as : stampsAfter p l ≡ stampsAfter q l
+  unfolding stampsAfter
+  stamps-as = ap (λ (ts : List (VersionState ℕ)). over (flatMap (pagesAfter l) ts) (l .stamps)) e
+
+-- what the first i give up
+abbrev pub givenTo : Lent → ℕ → ℕ → List (Doomed ℕ)
+givenTo l now i = flatMap (givenOne now) (take i (modelOf l .textures))
+
+abbrev pub keptTo : Lent → ℕ → ℕ → List (VersionState ℕ)
+keptTo l now i = trimmed l now i .textures
+
+module _ (l : Lent) (now i : ℕ) (h : i < l .pool .tracked) where
+  next : {B : Type 0} (g : VersionState ℕ → List B)
+      → flatMap g (take (i + 1) (modelOf l .textures)) ≡ flatMap g (take i (modelOf l .textures)) ++ g (stateOf l i)
+  next {B = B} g =
+      ap (λ (n : ℕ). flatMap g (take n (modelOf l .textures))) (add-one i)
+      ∙ flat-step g (modelOf l .textures) i (stateOf l 0) (omega (arith, tracked-model l))
+      ∙ ap (λ (t : VersionState ℕ). flatMap g (take i (modelOf l .textures)) ++ g t) (model-at l i (stateOf l 0) h)
+
+  pub given-next : givenTo l now (i + 1) ≡ givenTo l now i ++ givenOne now (stateOf l i)
+  given-next = next (givenOne now)
+
+  pub dropped-next : idle now (thinned now (stateOf l i)) ≡ true → keptTo l now (i + 1) ≡ keptTo l now i
+  unfolding trimmed trimmedOne
+  dropped-next e =
+      next (trimmedOne now)
+      ∙ ap (λ (b : Bool). flatMap (trimmedOne now) (take i (modelOf l .textures)) ++ cond b [] (looked now (stateOf l i) ∷ [])) e
+      ∙ append-nil (flatMap (trimmedOne now) (take i (modelOf l .textures)))
+
+  pub stays-next : idle now (thinned now (stateOf l i)) ≡ false → keptTo l now (i + 1) ≡ keptTo l now i ++ (looked now (stateOf l i) ∷ [])
+  unfolding trimmed trimmedOne
+  stays-next e =
+      next (trimmedOne now)
+      ∙ ap (λ (b : Bool). flatMap (trimmedOne now) (take i (modelOf l .textures)) ++ cond b [] (looked now (stateOf l i) ∷ [])) e
+
+  -- ---- the destroy ring
+
+  pub doomed-next : (places first n k : ℕ) (d : List ℕ) → k ≡ length (givenTo l now i)
+      → d ≡ laid 2 writeDoomed places first n (map doomedRecord (givenTo l now i)) (l .doomed)
+      → laid 2 writeDoomed places first (n + k) (map doomedRecord (givenOne now (stateOf l i))) d
+      ≡ laid 2 writeDoomed places first n (map doomedRecord (givenTo l now (i + 1))) (l .doomed)
+  doomed-next places first n k d e q =
+      ap₂ (λ (m : ℕ) (s : List ℕ). laid 2 writeDoomed places first (n + m) (map doomedRecord (givenOne now (stateOf l i))) s)
+      (e ∙ sym (length-map (givenTo l now i) doomedRecord)) q
+      ∙ sym (ap (λ (ds : List (Doomed ℕ)). laid 2 writeDoomed places first n (map doomedRecord ds) (l .doomed)) given-next
+      ∙ ap (λ (rs : List DoomedRecord). laid 2 writeDoomed places first n rs (l .doomed))
+      (map-append doomedRecord (givenTo l now i) (givenOne now (stateOf l i)))
+      ∙ laid-append 2 writeDoomed places first (map doomedRecord (givenTo l now i)) (map doomedRecord (givenOne now (stateOf l i))) n (l .doomed))
+
+  module _ (f : Fits l) where
+    abbrev t₀ : TextureRecord
+    t₀ = textureIn (l .textures) i
+
+    abbrev k₀ : ℕ
+    k₀ = count now (stateOf l i)
+
+    abbrev p : Pool ℕ
+    p = trimmed l now i
+
+    abbrev q : Pool ℕ
+    q = trimmed l now (i + 1)
+
+    -- ---- a texture that stays
+
+    module _ (e : idle now (thinned now (stateOf l i)) ≡ false) where
+      abbrev more : keptTo l now (i + 1) ≡ keptTo l now i ++ (looked now (stateOf l i) ∷ [])
+      more = stays-next e
+
+      pub textures-stay : (to : ℕ) → to ≡ length (keptTo l now i) → 20 * to + 20 ≤ length (l .textures)
+          → sets (texturesAfter p l) (20 * to) (writeTexture (lookedRecord (lookHere l now i h) t₀)) ≡ texturesAfter q l
+      textures-stay to at room =
+          ap₂ (λ (n : ℕ) (r : TextureRecord). sets (texturesAfter p l) (20 * n) (writeTexture r)) at (sym (record-here l now i h f))
+          ∙ texture-packed l p q (looked now (stateOf l i)) more (omega arith)
+
+      pub spares-stay : (to : ℕ) → to ≡ length (everySpare (keptTo l now i)) → to ≤ sparesTo (l .textures) i
+          → moved (sparesAfter p l) (3 * to) (3 * (sparesTo (l .textures) i + k₀)) (3 * (t₀ .spares - k₀)) ≡ sparesAfter q l
+      spares-stay to at low =
+          let first = spares-to l i h in
+          let own = ap (λ (t : TextureRecord). t .spares) (record-read l i h) in
+          let fewer = few l now i h in
+          let within = spares-within l i h f in
+          ap₂ (λ (n m : ℕ). moved (sparesAfter p l) (3 * n) (3 * (m + k₀)) (3 * (t₀ .spares - k₀))) at (sym first)
+          ∙ spares-packed l p q (looked now (stateOf l i)) more (f .kept) (omega (arith, f .spares, f .versions)) (firstSpare l i + k₀)
+          (t₀ .spares - k₀)
+          (looked-spares now (stateOf l i) ∙ spares-rest l i h k₀ (omega (arith, own, fewer))
+          ∙ ap (λ (n : ℕ). take (n - k₀) (drop (firstSpare l i + k₀) (everySpare (modelOf l .textures)))) own)
+          (omega (arith, at, first, low)) (omega (arith, first, fewer, within))
+
+      module _ (used : ℕ) (low : used ≤ pagesTo (l .textures) i) where
+        before : used ≤ firstPageOf l i
+        before = omega (arith, pages-to l i h)
+
+        pub newest-stays : length (flatMap newestOf (keptTo l now i)) ≡ used
+            → (moved (newestAfter p l) used (pagesTo (l .textures) i) (recordPages t₀) ≡ newestAfter q l)
+            × (length (flatMap newestOf (keptTo l now (i + 1))) ≡ used + recordPages t₀)
+        newest-stays n =
+            let w = newest-packed l p q (looked now (stateOf l i)) more (f .claimed) i h (looked-paged now (stateOf l i)) used before (f .pages) n in (
+              ap₂ (λ (a b : ℕ). moved (newestAfter p l) used a b) (sym (pages-to l i h)) (sym (ap recordPages (record-read l i h))) ∙ w .0,
+              w .1 ∙ ap (λ (m : ℕ). used + m) (ap recordPages (record-read l i h)),
+            )
+
+        pub stamps-stay : length (flatMap (pagesAfter l) (keptTo l now i)) ≡ 1024 * used
+            → (moved (stampsAfter p l) (1024 * used) (1024 * pagesTo (l .textures) i) (1024 * recordPages t₀) ≡ stampsAfter q l)
+            × (length (flatMap (pagesAfter l) (keptTo l now (i + 1))) ≡ 1024 * (used + recordPages t₀))
+        stamps-stay n =
+            let w = stamps-packed l p q (looked now (stateOf l i)) more (f .claimed) i h (looked-paged now (stateOf l i)) used before
+            (ids-ascend l f) (omega (arith, f .stamps, f .pages)) n in (
+              ap₂ (λ (a b : ℕ). moved (stampsAfter p l) (1024 * used) (1024 * a) (1024 * b)) (sym (pages-to l i h))
+                  (sym (ap recordPages (record-read l i h))) ∙ w .0,
+              w .1 ∙ ap (λ (m : ℕ). 1024 * (used + m)) (ap recordPages (record-read l i h)),
+            )
+
+      -- ---- the counts
+
+      pub tracked-stays : length (keptTo l now (i + 1)) ≡ length (keptTo l now i) + 1
+      tracked-stays = ap length more ∙ length-append (keptTo l now i) (looked now (stateOf l i) ∷ [])
+
+      pub kept-stay : length (everySpare (keptTo l now (i + 1))) ≡ length (everySpare (keptTo l now i)) + (t₀ .spares - k₀)
+      unfolding flatMap
+      kept-stay =
+          ap (λ (ts : List (VersionState ℕ)). length (everySpare ts)) more
+          ∙ ap length (flat-append (λ (t : VersionState ℕ). t .spares) (keptTo l now i) (looked now (stateOf l i) ∷ []))
+          ∙ length-append (everySpare (keptTo l now i)) (looked now (stateOf l i) .spares ++ [])
+          ∙ ap (λ (n : ℕ). length (everySpare (keptTo l now i)) + n)
+          (ap length (append-nil (looked now (stateOf l i) .spares) ∙ looked-spares now (stateOf l i)) ∙ left-count l now i h)
+
+      one-used : (t : VersionState ℕ) → total pagesUsed (t ∷ []) ≡ pagesUsed t
+      unfolding total
+      one-used t = omega arith
+
+      pub pages-stay : total pagesUsed (keptTo l now (i + 1)) ≡ total pagesUsed (keptTo l now i) + recordPages t₀
+      pages-stay =
+          ap (total pagesUsed) more
+          ∙ total-append pagesUsed (keptTo l now i) (looked now (stateOf l i) ∷ [])
+          ∙ ap (λ (n : ℕ). total pagesUsed (keptTo l now i) + n)
+          (used-paged (looked now (stateOf l i) ∷ []) (stateOf l i ∷ []) (ap (λ x. x ∷ []) (looked-paged now (stateOf l i)))
+          ∙ one-used (stateOf l i) ∙ pages-at l i h)

@@ -1,0 +1,76 @@
+// Where a trim's pass over the textures stands, and the pool's counts after it.
+ghost use mathlib.Core.Path.{_≡_};
+ghost use Prim.Native.Nat.{_+_, _-_, _*_, _≤_, _<_, _^_};
+ghost use Rattle.pool_trim.specs.Pass.{noPass, passOn, countsAfter};
+use crate::look::Look;
+use pool_memory::Pool;
+
+// The next texture's spares begin at place `first` and its pages at `page`. Of the textures before it `tracked` stay, with `kept`
+// spares and `pages` pages, and `count` spares were given up, of `freed` bytes.
+pub struct Pass {
+    pub first: usize,
+    pub page: usize,
+    pub tracked: usize,
+    pub kept: usize,
+    pub pages: usize,
+    pub count: usize,
+    pub freed: u64,
+}
+
+pub fn no_pass() -> Pass
+    ensures { λ r. ⌜ r ≡ noPass ⌝ }
+{
+    Pass {
+        first: 0,
+        page: 0,
+        tracked: 0,
+        kept: 0,
+        pages: 0,
+        count: 0,
+        freed: 0,
+    }
+}
+
+// One texture more.
+pub fn pass_on(pass: Pass, look: Look) -> Pass
+    requires { ⌜ (look .aged ≤ look .own) × (pass .first + look .own ≤ 4096) × (pass .page + look .claimed ≤ 4096)
+        × (pass .tracked + look .staying ≤ 4096)
+        × (pass .kept + (look .own - look .aged) ≤ 4096) × (pass .pages + look .paged ≤ 4096) × (pass .count + look .aged ≤ 4096)
+        × (pass .freed + look .bytes * look .aged < 2 ^ 64) ⌝ }
+    ensures { λ r. ⌜ r ≡ passOn pass look ⌝ }
+{
+    let given = look.aged as u64;
+    Pass {
+        first: pass.first + look.own,
+        page: pass.page + look.claimed,
+        tracked: pass.tracked + look.staying,
+        kept: pass.kept + (look.own - look.aged),
+        pages: pass.pages + look.paged,
+        count: pass.count + look.aged,
+        freed: pass.freed + look.bytes * given,
+    }
+}
+
+// The counts after the pass. The spares given up wait to be destroyed.
+pub fn counts_after(pool: Pool, pass: Pass) -> Pool
+    requires { ⌜ (pool .doomed + pass .count ≤ 4096) × (pool .since ≤ 4096) × (pass .freed ≤ pool .parked) × (pool .dooming + pass .freed < 2 ^ 64) ⌝ }
+    ensures { λ r. ⌜ r ≡ countsAfter pool pass ⌝ }
+{
+    let given = pass.count as u64;
+    Pool {
+        tracked: pass.tracked,
+        kept: pass.kept,
+        pages: pass.pages,
+        head: pool.head,
+        popped: pool.popped,
+        queued: pool.queued,
+        first: pool.first,
+        doomed: pool.doomed + pass.count,
+        since: pool.since + given,
+        trackings: pool.trackings,
+        parked: pool.parked - pass.freed,
+        dooming: pool.dooming + pass.freed,
+        cap: pool.cap,
+        line: pool.line,
+    }
+}

@@ -1,0 +1,110 @@
+// Extents of levels, and their tiles over every extent that a level can have.
+ghost use Prim.Native.Nat.{_≤_, _<_};
+use crate::print::figure;
+use crate::print::figure_of;
+use crate::print::figure_of_two;
+use base_blocks::larger;
+use base_blocks::smaller;
+
+// What was seen of the edges so far: the least and the largest, by how much one exceeds the larger of 16 and a 32nd of the extent
+// rounded up, what is left of one by whole blocks, and the most tiles along an axis.
+struct Seen {
+    least: u64,
+    largest: u64,
+    over: u64,
+    left: u64,
+    tiles: u64,
+}
+
+fn print_extent(base: u64, level: u64) {
+    figure_of_two(
+        b"level_extent",
+        base,
+        level,
+        grid_shapes::level_extent(base, level),
+    );
+}
+
+// By how much an edge exceeds; an edge that is too short shows as a number that is too large.
+fn excess(edge: u64, least: u64) -> u64 {
+    if edge < least {
+        return u64::MAX;
+    }
+    edge - least
+}
+
+// How many tiles lie along an axis.
+fn tile_count(extent: u64, block: u64) -> u64
+    requires { ⌜ (extent ≤ 16384) × (0 < block) × (block ≤ 16) ⌝ }
+{
+    grid_axes::tiles(grid_axes::axis_of(extent, block))
+}
+
+// One extent more.
+fn look(seen: Seen, extent: u64, block: u64) -> Seen
+    requires { ⌜ (extent ≤ 16384) × (0 < block) × (block ≤ 16) ⌝ }
+{
+    let edge = grid_axes::tile_edge(extent, block);
+    let least = larger(16, (extent + 31) / 32);
+    Seen {
+        least: smaller(seen.least, edge),
+        largest: larger(seen.largest, edge),
+        over: larger(seen.over, excess(edge, least)),
+        left: larger(seen.left, edge % block),
+        tiles: larger(seen.tiles, tile_count(extent, block)),
+    }
+}
+
+// Every extent from 1 to 16,384.
+fn look_at_all(block: u64) -> Seen
+    requires { ⌜ (0 < block) × (block ≤ 16) ⌝ }
+{
+    let mut seen = Seen {
+        least: u64::MAX,
+        largest: 0,
+        over: 0,
+        left: 0,
+        tiles: 0,
+    };
+    let mut extent = 1;
+    while extent <= 16384 {
+        seen = look(seen, extent, block);
+        extent += 1;
+    }
+    seen
+}
+
+fn print_tiles(block: u64)
+    requires { ⌜ (0 < block) × (block ≤ 16) ⌝ }
+{
+    let seen = look_at_all(block);
+    figure_of(b"least_tile_edge", block, seen.least);
+    figure_of(b"largest_tile_edge", block, seen.largest);
+    figure_of(b"most_tile_edge_over", block, seen.over);
+    figure_of(b"most_tile_edge_left", block, seen.left);
+    figure_of(b"most_tiles", block, seen.tiles);
+}
+
+// The stamps of a square level.
+fn stamps(extent: u64, block: u64) -> u64
+    requires { ⌜ (extent ≤ 16384) × (0 < block) × (block ≤ 16) ⌝ }
+{
+    let axis = grid_axes::axis_of(extent, block);
+    grid_stamps::stamp_count(axis, axis)
+}
+
+pub fn print_extents() {
+    print_extent(0, 0);
+    print_extent(0, 14);
+    print_extent(1, 0);
+    print_extent(5, 1);
+    print_extent(5, 2);
+    print_extent(5, 3);
+    print_extent(16384, 0);
+    print_extent(16384, 13);
+    print_extent(16384, 14);
+    print_extent(16384, 15);
+    print_tiles(1);
+    print_tiles(4);
+    figure(b"most_stamps", stamps(16384, 1));
+}
