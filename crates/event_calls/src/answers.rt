@@ -2,7 +2,7 @@
 ghost use mathlib.Core.Path.{_≡_};
 ghost use Rattle.pool_memory.specs.Calls.{toldNumber};
 ghost use Rattle.pool_take_spare.specs.Answer.{takenTold};
-ghost use Rattle.pool_preserve_plan.specs.Plan.{plannedTold};
+ghost use Rattle.pool_preserve_plan.specs.PreservePlan.{plannedTold};
 ghost use Rattle.pool_retire.specs.Answers.{poppedTold};
 ghost use Rattle.pool_take_doomed.specs.Answer.{handedTold};
 ghost use Rattle.event_calls.specs.Calls.{doneAnswer, takenAnswer, poppedAnswer, viewsAnswer, copiesAnswer};

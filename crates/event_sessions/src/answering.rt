@@ -4,7 +4,7 @@ ghost use lib.ListN.{length};
 ghost use Rattle.event_answers.specs.Answers.{replyOf, InBuffers};
 ghost use Rattle.event_sessions.specs.Sessions.{stateOf, HoldsPool, step};
 use crate::answered::Answered;
-use crate::calling::call_event;
+use crate::call_event::call_event;
 use crate::opening::answer_unopened;
 use crate::session::Session;
 use crate::session::session_after;

@@ -2,7 +2,7 @@
 mod answered;
 mod answering;
 mod beginning;
-mod calling;
+mod call_event;
 mod opening;
 mod session;
 

@@ -9,12 +9,12 @@ use Rattle.pool_memory.specs.Lent.{Lent}
 use Rattle.pool_memory.specs.Reading.{modelOf}
 use Rattle.pool_memory.specs.IsPool.{isPool}
 use Rattle.pool_memory.specs.Calls.{Told, refusal, answer}
-use Rattle.pool.specs.declared.queries.RecordsAnswer.{RecordsAnswer}
-use Rattle.pool.specs.declared.queries.RecordsAnswer.the-variants.{Records, NoPool as NoPoolRecords}
-use Rattle.pool.specs.declared.queries.BytesAnswer.{BytesAnswer}
-use Rattle.pool.specs.declared.queries.BytesAnswer.the-variants.{Bytes, NoPool as NoPoolBytes}
-use Rattle.pool.specs.declared.queries.DirtyAnswer.{DirtyAnswer}
-use Rattle.pool.specs.declared.queries.DirtyAnswer.the-variants.{Tile, NoTile as Clean, NoPool as NoPoolTile}
+use Rattle.pool.specs.declared.calls.records_writes.RecordsAnswer.{RecordsAnswer}
+use Rattle.pool.specs.declared.calls.records_writes.RecordsAnswer.the-variants.{Records, NoPool as NoPoolRecords}
+use Rattle.pool.specs.declared.calls.parked_bytes.BytesAnswer.{BytesAnswer}
+use Rattle.pool.specs.declared.calls.parked_bytes.BytesAnswer.the-variants.{Bytes, NoPool as NoPoolBytes}
+use Rattle.pool.specs.declared.calls.dirty_tile.DirtyAnswer.{DirtyAnswer}
+use Rattle.pool.specs.declared.calls.dirty_tile.DirtyAnswer.the-variants.{Tile, NoTile as Clean, NoPool as NoPoolTile}
 
 -- ---- 01's number and value for each case of an answer
 

@@ -3,32 +3,26 @@
 // that, a call tests all the memory that is in use, so it costs what that memory costs. The same calls without the test, for
 // callers who are proved to pass a pool (or who keep the memory to themselves), are those of `pool_take_spare`, `pool_preserve_plan`, `pool_retire`,
 // `pool_park`, `pool_note_write`, `pool_note_allocated`, `pool_take_doomed` and `pool_trim`.
-mod ageing;
-mod destroying;
-mod hand;
-mod opening;
-mod queries;
-mod renaming;
-mod writing;
+mod calls;
 
-pub use ageing::forget_texture;
-pub use ageing::trim;
-pub use destroying::drain_versions;
-pub use destroying::note_allocated;
-pub use destroying::take_doomed;
-pub use hand::park;
-pub use hand::pop_retired;
-pub use opening::OpenAnswer;
-pub use opening::open;
-pub use queries::BytesAnswer;
-pub use queries::DirtyAnswer;
-pub use queries::RecordsAnswer;
-pub use queries::dirty_tile;
-pub use queries::parked_bytes;
-pub use queries::pending_destroy_bytes;
-pub use queries::records_writes;
-pub use renaming::preserve_plan;
-pub use renaming::retire;
-pub use renaming::take_spare;
-pub use writing::note_mip_regeneration;
-pub use writing::note_write;
+pub use calls::dirty_tile::DirtyAnswer;
+pub use calls::dirty_tile::dirty_tile;
+pub use calls::drain_versions::drain_versions;
+pub use calls::forget_texture::forget_texture;
+pub use calls::note_allocated::note_allocated;
+pub use calls::note_mip_regeneration::note_mip_regeneration;
+pub use calls::note_write::note_write;
+pub use calls::open::OpenAnswer;
+pub use calls::open::open;
+pub use calls::park::park;
+pub use calls::parked_bytes::BytesAnswer;
+pub use calls::parked_bytes::parked_bytes;
+pub use calls::pending_destroy_bytes::pending_destroy_bytes;
+pub use calls::pop_retired::pop_retired;
+pub use calls::preserve_plan::preserve_plan;
+pub use calls::records_writes::RecordsAnswer;
+pub use calls::records_writes::records_writes;
+pub use calls::retire::retire;
+pub use calls::take_doomed::take_doomed;
+pub use calls::take_spare::take_spare;
+pub use calls::trim::trim;

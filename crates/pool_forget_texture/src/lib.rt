@@ -1,8 +1,8 @@
 // forget_texture, and what it takes to leave a texture out of the lent stores: what it owns, and the pages behind its own moved down.
-mod forget;
+mod calls;
 mod owned;
 mod pages;
 
-pub use forget::forget_texture;
+pub use calls::forget_texture::forget_texture;
 pub use pages::move_down;
 pub use pages::move_pages;

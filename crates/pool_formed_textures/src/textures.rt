@@ -3,12 +3,12 @@ ghost use mathlib.Core.Path.{_≡_};
 ghost use Prim.Native.Nat.{_*_, _≤_};
 ghost use lib.ListN.{length};
 ghost use Rattle.pool_formed_textures.specs.Textures.{texturesFit};
-use crate::history::histories_fit;
-use crate::record::ids_ascend;
-use crate::record::records_fit;
-use crate::runs::parked_bytes;
-use crate::runs::runs_fit;
-use crate::spares::spares_fit;
+use crate::histories_fit::histories_fit;
+use crate::records_fit::ids_ascend;
+use crate::records_fit::records_fit;
+use crate::runs_fit::parked_bytes;
+use crate::runs_fit::runs_fit;
+use crate::spares_fit::spares_fit;
 use pool_memory::Pool;
 
 pub fn textures_fit(

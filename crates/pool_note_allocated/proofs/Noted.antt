@@ -31,7 +31,7 @@ use Rattle.pool_memory.proofs.Rings.{hand-model, head-stays, first-stays}
 use Rattle.pool_memory.proofs.Same.{queued-model, doomed-model}
 use Rattle.pool_memory.proofs.Stays.{put-together, nothing-changed, newest-stay, stamps-stay, retiring-stay}
 use Rattle.pool_memory.proofs.Asked.{asked-accepted}
-use Rattle.pool_note_allocated.specs.Relieved.{relievedPool, givenUp, Relieves, countsAfter, notedBook}
+use Rattle.pool_note_allocated.specs.NoteAllocated.{relievedPool, givenUp, Relieves, countsAfter, notedBook}
 use Rattle.pool_relief_line.proofs.Picked.{picked-none}
 use Rattle.pool_note_allocated.proofs.Chosen.{share, dooming-most}
 

@@ -30,7 +30,7 @@ use Rattle.pool_memory.proofs.Stays.{textures-fit, doomed-fit}
 use Rattle.pool_take_doomed.specs.Given.{givenRecords}
 use Rattle.pool_relief_line.specs.Line.{IsLine, takenAt, gives}
 use Rattle.pool_relief_line.specs.Parked.{parkedAt, parkings, bytesFrom}
-use Rattle.pool_note_allocated.specs.Relieved.{relievedPool, givenUp, Relieves}
+use Rattle.pool_note_allocated.specs.NoteAllocated.{relievedPool, givenUp, Relieves}
 use Rattle.pool_note_allocated.proofs.Thinned.{first-next, texturesTo, sparesTo, doomedTo, keptTo, bytesTo, textures-next, record-next, kept-most, kept-next, spares-next, spare-next, doomed-next, bytes-next, none-given, none-counted, all-given}
 use Rattle.pool_note_allocated.proofs.Chosen.{share, freedTo, countable, share-gives, share-most, freed-next, freed-fits}
 

@@ -1,1 +1,1 @@
-pub mod Relieved
+pub mod NoteAllocated

@@ -14,7 +14,7 @@ ghost use Rattle.pool_memory.specs.IsPool.{isPool};
 ghost use Rattle.pool_take_doomed.specs.Given.{givenRecords};
 ghost use Rattle.pool_relief_line.specs.Line.{IsLine, takenAt, gives};
 ghost use Rattle.pool_relief_line.specs.Parked.{parkings, bytesFrom};
-ghost use Rattle.pool_note_allocated.specs.Relieved.{Relieves};
+ghost use Rattle.pool_note_allocated.specs.NoteAllocated.{Relieves};
 use crate::give::give_spares;
 use pool_memory::PacingBook;
 use pool_memory::Pool;

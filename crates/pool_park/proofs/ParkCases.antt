@@ -50,11 +50,11 @@ use Rattle.pool_memory.proofs.Changes.{sparesBefore, sparesAt, every-appended, 
 use Rattle.pool_memory.proofs.Counts.{kept-inserted}
 use Rattle.pool_memory.proofs.Stays.{put-together, textures-fit, ring-fits, doomed-fit, book-stays, textures-stay, spares-stay, newest-stay, stamps-stay, doomed-stay, doomed-bound}
 use Rattle.pool_memory.proofs.Tracked.{textureAt, record-read, bytes-at, record-at, shape-passes}
-use Rattle.pool_park.specs.declared.decision.Parking.{Parking}
-use Rattle.pool_park.specs.declared.decision.Parking.the-variants.{Destroyed, Kept}
+use Rattle.pool_park.specs.declared.park_or_destroy.Parking.{Parking}
+use Rattle.pool_park.specs.declared.park_or_destroy.Parking.the-variants.{Destroyed, Kept}
 use Rattle.pool_park.specs.Counts.{handKept, handDoomed}
 use Rattle.pool_retire.specs.Noted.{hasId}
-use Rattle.pool_park.specs.Parked.{parkRefusal, parkingOf, spareParked, oneMore, sparesEnd}
+use Rattle.pool_park.specs.Park.{parkRefusal, parkingOf, spareParked, oneMore, sparesEnd}
 use Rattle.pool_retire.proofs.Tracked.{map-change, inside, found-here, found-nowhere, changed-here, history-here}
 use Rattle.pool_retire.proofs.PopCases.{front-read}
 use Rattle.pool_park.proofs.Parked.{Says, decision-says, held-fits}

@@ -21,9 +21,9 @@ use Rattle.pool_records.specs.Recorded.{RecordedFits}
 use Rattle.pool_records.specs.Spare.{writeSpare}
 use Rattle.pool_records.specs.Texture.{readTexture, writeTexture}
 use Rattle.pool_memory.specs.declared.pool.Pool.{Pool}
-use Rattle.pool_park.specs.declared.decision.Parking.{Parking}
-use Rattle.pool_park.specs.declared.decision.Parking.the-variants.{Destroyed, Kept}
-use Rattle.pool_park.specs.Parked.{parkRefusal, parkingOf, heldParked, oneMore, sparesEnd}
+use Rattle.pool_park.specs.declared.park_or_destroy.Parking.{Parking}
+use Rattle.pool_park.specs.declared.park_or_destroy.Parking.the-variants.{Destroyed, Kept}
+use Rattle.pool_park.specs.Park.{parkRefusal, parkingOf, heldParked, oneMore, sparesEnd}
 
 -- ---- the code's refusals, in order
 

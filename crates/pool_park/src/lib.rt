@@ -1,7 +1,7 @@
 // park, on stores that form a pool: the version in the hand is kept as its texture's newest spare, or queued for destruction.
+mod calls;
 mod counts;
-mod decision;
-mod hand;
-mod keeping;
+mod keep_version;
+mod park_or_destroy;
 
-pub use hand::park;
+pub use calls::park::park;

@@ -36,7 +36,7 @@ use Rattle.pool_access.proofs.Ids as ids
 use Rattle.pool_preserve_plan.specs.declared.history.Found.{Found}
 use Rattle.pool_preserve_plan.specs.declared.history.Found.the-variants.{OtherShape, NothingRecorded, History}
 use Rattle.pool_preserve_plan.specs.Copies.{SinceFits}
-use Rattle.pool_preserve_plan.specs.Plan.{recordedFound, foundOf, foundAt, historyFound, sinceOf, isOther, isSpent}
+use Rattle.pool_preserve_plan.specs.PreservePlan.{recordedFound, foundOf, foundAt, historyFound, sinceOf, isOther, isSpent}
 
 -- ---- as the code finds it
 

@@ -32,7 +32,7 @@ use Rattle.pool_preserve_plan.specs.declared.since.Since.{Since}
 use Rattle.pool_preserve_plan.specs.declared.history.Found.{Found}
 use Rattle.pool_preserve_plan.specs.declared.history.Found.the-variants.{OtherShape, NothingRecorded, History}
 use Rattle.pool_preserve_plan.specs.Copies.{SinceFits, gridOn, boxPlanned, plannedSince, plannedAt, copyList, inOrder, copiesAt, sliceCopies, lentCopies, withCopies}
-use Rattle.pool_preserve_plan.specs.Plan.{sinceOf, isOther, skipsSpent, planRefusal}
+use Rattle.pool_preserve_plan.specs.PreservePlan.{sinceOf, isOther, skipsSpent, planRefusal}
 use Rattle.pool_preserve_plan.proofs.Passes.{list-most, with-front}
 use Rattle.pool_preserve_plan.proofs.Finding.{historyIn, spent-found, foundIn, plan-found, found-fits}
 

@@ -1,2 +1,2 @@
 pub mod Copies
-pub mod Plan
+pub mod PreservePlan

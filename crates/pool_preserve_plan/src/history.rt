@@ -8,7 +8,7 @@ ghost use Rattle.base_tables.specs.Records.{table};
 ghost use Rattle.pool_records.specs.Texture.{readTexture};
 ghost use Rattle.pool_records.specs.Find.{idOf};
 ghost use Rattle.pool_memory.specs.Reading.{recordPages};
-ghost use Rattle.pool_preserve_plan.specs.Plan.{historyFound, sinceHeld, sinceOf, isOther, isSpent};
+ghost use Rattle.pool_preserve_plan.specs.PreservePlan.{historyFound, sinceHeld, sinceOf, isOther, isSpent};
 use crate::since::Since;
 use grid_shapes::VersionShape;
 use grid_shapes::same_shape;

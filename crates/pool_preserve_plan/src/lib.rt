@@ -1,11 +1,11 @@
 // The call `preserve_plan`: the copies that bring a rename's new version up to the live one.
+mod calls;
 mod copy;
-mod count;
-mod fill;
+mod count_copies;
 mod history;
-mod plan;
-mod refusal;
+mod plan_refusal;
+mod put_copies;
 mod since;
 
-pub use plan::PlanAnswer;
-pub use plan::preserve_plan;
+pub use calls::preserve_plan::PlanAnswer;
+pub use calls::preserve_plan::preserve_plan;

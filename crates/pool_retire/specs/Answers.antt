@@ -1,8 +1,8 @@
 -- What the answer of a pop says: 01's number, and the values of an accepted one.
 use mathlib.Core.Option.{Option, none, some}
 use Rattle.pool_memory.specs.Calls.{Told, refusal, answer, PoppedVersion}
-use Rattle.pool_retire.specs.declared.popping.Popped.{Popped}
-use Rattle.pool_retire.specs.declared.popping.Popped.the-variants.{Version, NothingSettled, Refused}
+use Rattle.pool_retire.specs.declared.calls.pop_retired.Popped.{Popped}
+use Rattle.pool_retire.specs.declared.calls.pop_retired.Popped.the-variants.{Version, NothingSettled, Refused}
 
 abbrev pub poppedTold : Popped → Told (Option PoppedVersion)
 poppedTold (Version id view) = answer (some (record { id = id; view = view }))

@@ -16,7 +16,7 @@ use Rattle.base_tables.specs.Rings.{placeOf, along}
 use Rattle.pool_records.specs.Doomed.{readDoomed}
 use Rattle.pool_rules.specs.Model.{Doomed, doomedBytes}
 use Rattle.pool_rules.specs.TakeDoomed.{coverMore}
-use Rattle.pool_take_doomed.specs.Batch.{doomedEntry, doomedEntries, pacedOf, batchOf}
+use Rattle.pool_take_doomed.specs.NextBatch.{doomedEntry, doomedEntries, pacedOf, batchOf}
 
 -- eight numbers, summed one by one
 pub eight-sum : (a : List ℕ) → length a ≡ 8

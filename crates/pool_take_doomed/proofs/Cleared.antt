@@ -14,7 +14,7 @@ use Rattle.base_tables.proofs.Records.{length-table, flat-append, length-flat}
 use Rattle.pool_records.specs.declared.texture.TextureRecord.{TextureRecord}
 use Rattle.pool_records.specs.Texture.{readTexture, writeTexture}
 use Rattle.pool_records.proofs.Codecs.{texture-codec}
-use Rattle.pool_take_doomed.specs.Drained.{spareless, cleared}
+use Rattle.pool_take_doomed.specs.DrainVersions.{spareless, cleared}
 
 -- an element of the second of two lists set
 set-past : (a b : List ℕ) (k x : ℕ) → set (a ++ b) (length a + k) x ≡ a ++ set b k x

@@ -12,7 +12,7 @@ use Rattle.base_blocks.proofs.Lists.{length-over, drop-over}
 use Rattle.base_blocks.proofs.Listed.{length-listed, listed-more}
 use Rattle.pool_memory.specs.declared.pool.Pool.{Pool}
 use Rattle.pool_take_doomed.specs.Views.{numberAt, column}
-use Rattle.pool_take_doomed.specs.Drained.{drainedViews}
+use Rattle.pool_take_doomed.specs.DrainVersions.{drainedViews}
 
 -- one number more stored behind the others
 sets-more : (vs : List ℕ) (x : ℕ) (l : List ℕ) (i : ℕ) → sets l i (vs ++ (x ∷ [])) ≡ set (sets l i vs) (i + length vs) x

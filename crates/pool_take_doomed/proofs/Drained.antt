@@ -35,7 +35,7 @@ use Rattle.pool_memory.proofs.Rings.{head-stays, hand-model, retiring-drained, 
 use Rattle.pool_memory.proofs.Same.{mark-same}
 use Rattle.pool_memory.proofs.Stays.{put-together, ring-fits, doomed-fit, newest-stay, stamps-stay}
 use Rattle.pool_take_doomed.specs.Views.{numberAt, column}
-use Rattle.pool_take_doomed.specs.Drained.{drainedViews, drainedCounts, drainedBook, spareless, cleared}
+use Rattle.pool_take_doomed.specs.DrainVersions.{drainedViews, drainedCounts, drainedBook, spareless, cleared}
 use Rattle.pool_take_doomed.proofs.Columns.{length-column}
 use Rattle.pool_take_doomed.proofs.Taken.{flat-views}
 

@@ -31,8 +31,8 @@ use Rattle.pool_memory.proofs.Rings.{head-stays, hand-model, first-taken, doome
 use Rattle.pool_memory.proofs.Same.{mark-same, queued-model, doomed-model}
 use Rattle.pool_memory.proofs.Stays.{put-together, doomed-fit, textures-stay, retiring-stay, spares-stay, newest-stay, stamps-stay}
 use Rattle.pool_take_doomed.specs.Views.{numberAt, column}
-use Rattle.pool_take_doomed.specs.Batch.{doomedEntry, doomedEntries, pacedOf, batchOf}
-use Rattle.pool_take_doomed.specs.Taken.{takenCounts, takenBook}
+use Rattle.pool_take_doomed.specs.NextBatch.{doomedEntry, doomedEntries, pacedOf, batchOf}
+use Rattle.pool_take_doomed.specs.TakeDoomed.{takenCounts, takenBook}
 use Rattle.pool_take_doomed.proofs.Columns.{length-column, front-sets}
 use Rattle.pool_take_doomed.proofs.Batches.{bytes-part}
 

@@ -1,6 +1,6 @@
 pub mod Given
 pub mod Views
-pub mod Batch
+pub mod NextBatch
 pub mod Answer
-pub mod Taken
-pub mod Drained
+pub mod TakeDoomed
+pub mod DrainVersions

@@ -12,8 +12,8 @@ use Rattle.pool_memory.specs.IsPool.{isPool}
 use Rattle.pool_access.proofs.Ids.{hasId}
 use Rattle.pool_tracking.specs.Refusal.{takeRefusal}
 use Rattle.pool_tracking.specs.Cases.{Accepted, recordOf}
-use Rattle.pool_take_spare.specs.declared.look.Look.{Look}
-use Rattle.pool_take_spare.specs.Looked.{Looked}
+use Rattle.pool_take_spare.specs.declared.look_up.Look.{Look}
+use Rattle.pool_take_spare.specs.LookUp.{Looked}
 use Rattle.pool_take_spare.proofs.Said.{tracked-at, untracked-at, shape-as}
 
 module _ (l : Lent) (id : ℕ) (shape : VersionShape) (records : Bool) (seq : ℕ) (pool : isPool l ≡ true) (i n : ℕ) (at : i ≡ below id (trackedRecords l))

@@ -40,7 +40,7 @@ use Rattle.pool_memory.proofs.Changes.{textures-set, sparesBefore, sparesAt, ev
 use Rattle.pool_memory.proofs.Asked.{asked-accepted}
 use Rattle.pool_memory.proofs.Tracked.{record-read, spares-to, bytes-at, record-at, shape-at, count-at}
 use Rattle.pool_tracking.specs.Cases.{Accepted, recordOf, TrackedAt}
-use Rattle.pool_take_spare.specs.Renamed.{renamedRecord}
+use Rattle.pool_take_spare.specs.TakeNewest.{renamedRecord}
 use Rattle.pool_tracking.proofs.Refusals.{take-tracked}
 use Rattle.pool_tracking.proofs.Counts.{counted, counts-after}
 use Rattle.pool_tracking.proofs.Tracked.{spares-within, kept-fits, is-there, found-there}

@@ -1,3 +1,3 @@
 pub mod Answer
-pub mod Renamed
-pub mod Looked
+pub mod TakeNewest
+pub mod LookUp

@@ -1,10 +1,10 @@
 // The call that starts a rename: `take_spare`.
 mod answer;
-mod look;
-mod newest;
-mod refusal;
-mod take;
+mod calls;
+mod look_up;
+mod take_newest;
+mod take_refusal;
 
 pub use answer::TakeAnswer;
 pub use answer::Taken;
-pub use take::take_spare;
+pub use calls::take_spare::take_spare;

@@ -17,7 +17,7 @@ use Rattle.pool_records.specs.Spare.{readSpare}
 use Rattle.pool_records.specs.Texture.{readTexture}
 use Rattle.pool_rules.specs.Model.{Spare}
 use Rattle.pool_rules.specs.Trim.{aged, agedCount}
-use Rattle.pool_trim.specs.Look.{spareIn, isIdle, dueAfter}
+use Rattle.pool_trim.specs.LookAt.{spareIn, isIdle, dueAfter}
 
 -- no sum is needed to test an age
 pub by-difference : (seq k now : ℕ) → ltb seq (now - k) ≡ ltb (seq + k) now

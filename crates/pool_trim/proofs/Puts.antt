@@ -15,8 +15,8 @@ use Rattle.pool_records.specs.declared.texture.TextureRecord.{TextureRecord}
 use Rattle.pool_records.specs.Texture.{readTexture, writeTexture}
 use Rattle.pool_records.proofs.Codecs.{texture-codec}
 use Rattle.pool_access.proofs.Fields.{spares-number}
-use Rattle.pool_trim.specs.declared.look.Look.{Look}
-use Rattle.pool_trim.specs.Look.{lookedRecord, lookedPut}
+use Rattle.pool_trim.specs.declared.look_at.Look.{Look}
+use Rattle.pool_trim.specs.LookAt.{lookedRecord, lookedPut}
 use Rattle.pool_trim.proofs.Ages.{due-at}
 
 module _ (T : List ℕ) (to i : ℕ) (look : Look) where

@@ -33,7 +33,7 @@ use Rattle.pool_memory.proofs.Stays.{ids-ascend}
 use Rattle.pool_memory.proofs.Passes.{texture-packed, spares-packed, newest-packed, stamps-packed}
 use Rattle.pool_memory.proofs.Tracked.{record-read, spares-to, pages-to, pages-at}
 use Rattle.pool_forget_texture.specs.Owned.{textureIn, sparesTo, pagesTo}
-use Rattle.pool_trim.specs.Look.{lookedRecord}
+use Rattle.pool_trim.specs.LookAt.{lookedRecord}
 use Rattle.pool_trim.specs.Pass.{trimmedOne, givenOne, trimmed}
 use Rattle.pool_forget_texture.proofs.TextureRuns.{spares-within}
 use Rattle.pool_trim.proofs.Looks.{count, looked, looked-paged, looked-spares, lookHere, few, left-count, record-here}

@@ -39,11 +39,11 @@ use Rattle.pool_memory.proofs.Stays.{put-together, textures-fit, doomed-fit, re
 use Rattle.pool_memory.proofs.Counts.{count-spares}
 use Rattle.pool_memory.proofs.Tracked.{record-read}
 use Rattle.pool_access.proofs.Totals.{total-first}
-use Rattle.pool_trim.specs.declared.look.Look.{Look}
+use Rattle.pool_trim.specs.declared.look_at.Look.{Look}
 use Rattle.pool_trim.specs.declared.pass.Pass.{Pass}
 use Rattle.pool_forget_texture.specs.Owned.{textureIn}
 use Rattle.pool_trim.specs.Pass.{trimmedOne, givenOne, trimmed, countsAfter}
-use Rattle.pool_trim.specs.Young.{allYoung}
+use Rattle.pool_trim.specs.NothingAged.{allYoung}
 use Rattle.pool_forget_texture.proofs.TextureRuns.{spares-within, pages-within}
 use Rattle.pool_trim.proofs.Steps.{givenTo, keptTo}
 use Rattle.pool_trim.proofs.Trimmed.{Sofar, Seen, record-now}

@@ -31,10 +31,10 @@ use Rattle.pool_memory.proofs.Stays.{textures-fit}
 use Rattle.pool_memory.proofs.Passes.{textures-start, spares-start, newest-start, stamps-start, texture-unread, spare-unread}
 use Rattle.pool_take_doomed.specs.Given.{givenRecords}
 use Rattle.pool_access.proofs.Totals.{total-none, total-next}
-use Rattle.pool_trim.specs.declared.look.Look.{Look}
+use Rattle.pool_trim.specs.declared.look_at.Look.{Look}
 use Rattle.pool_trim.specs.declared.pass.Pass.{Pass}
 use Rattle.pool_forget_texture.specs.Owned.{textureIn, sparesTo, pagesTo}
-use Rattle.pool_trim.specs.Look.{spareIn, lookOf, lookAt, lookedRecord, lookedPut}
+use Rattle.pool_trim.specs.LookAt.{spareIn, lookOf, lookAt, lookedRecord, lookedPut}
 use Rattle.pool_trim.specs.Pass.{noPass, passOn, givenOne, trimmed}
 use Rattle.pool_forget_texture.proofs.TextureRuns.{spares-in, spares-within, pages-within}
 use Rattle.pool_trim.proofs.Looks.{count, lookHere, few, idle-here, none-left, given-count, given-bytes, bytes-few, given-records}

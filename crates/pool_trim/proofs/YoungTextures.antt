@@ -30,9 +30,9 @@ use Rattle.pool_access.proofs.Totals.{total-none, total-next, total-with}
 use Rattle.pool_access.proofs.Fields.{spares-number}
 use Rattle.pool_forget_texture.specs.Owned.{textureIn, sparesTo}
 use Rattle.pool_forget_texture.proofs.TextureRuns.{spares-in}
-use Rattle.pool_trim.specs.Look.{spareIn}
+use Rattle.pool_trim.specs.LookAt.{spareIn}
 use Rattle.pool_trim.specs.Pass.{trimmedOne, givenOne, trimmed}
-use Rattle.pool_trim.specs.Young.{youngAt, allYoung}
+use Rattle.pool_trim.specs.NothingAged.{youngAt, allYoung}
 use Rattle.pool_trim.proofs.Ages.{agedFrom, aged-start, aged-more, aged-stop, aged-end, parked-at, due-at}
 
 -- ---- the loop over n textures

@@ -1,3 +1,3 @@
-pub mod Look
+pub mod LookAt
 pub mod Pass
-pub mod Young
+pub mod NothingAged

@@ -10,7 +10,7 @@ use Rattle.pool_rules.specs.Trim.{agedCount, thinned, idle, lookedAt}
 use Rattle.pool_memory.specs.declared.pool.Pool.{Pool as Counts}
 use Rattle.pool_memory.specs.Lent.{Lent}
 use Rattle.pool_memory.specs.Reading.{modelOf}
-use Rattle.pool_trim.specs.declared.look.Look.{Look}
+use Rattle.pool_trim.specs.declared.look_at.Look.{Look}
 use Rattle.pool_trim.specs.declared.pass.Pass.{Pass}
 
 -- ---- the counts

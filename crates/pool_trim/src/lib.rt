@@ -1,7 +1,7 @@
 // trim: the spares idle past the bound are given up, and idle textures are tracked no longer.
-mod idle;
-mod look;
+mod calls;
+mod look_at;
+mod nothing_aged;
 mod pass;
-mod young;
 
-pub use idle::trim;
+pub use calls::trim::trim;

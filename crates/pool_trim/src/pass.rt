@@ -2,7 +2,7 @@
 ghost use mathlib.Core.Path.{_≡_};
 ghost use Prim.Native.Nat.{_+_, _-_, _*_, _≤_, _<_, _^_};
 ghost use Rattle.pool_trim.specs.Pass.{noPass, passOn, countsAfter};
-use crate::look::Look;
+use crate::look_at::Look;
 use pool_memory::Pool;
 
 // The next texture's spares begin at place `first` and its pages at `page`. Of the textures before it `tracked` stay, with `kept`

@@ -1,8 +1,8 @@
 -- `answer_planned` meets its contract. Assumes nothing.
 use borrow.Author.Needs.{needs}
 use mathlib.Core.Path.{sym, ap}
-use Rattle.pool_preserve_plan.specs.declared.plan.PlanAnswer.{PlanAnswer}
-use Rattle.pool_preserve_plan.specs.Plan.{plannedTold}
+use Rattle.pool_preserve_plan.specs.declared.calls.preserve_plan.PlanAnswer.{PlanAnswer}
+use Rattle.pool_preserve_plan.specs.PreservePlan.{plannedTold}
 use Rattle.event_calls.specs.Calls.{copiesAnswer}
 use Rattle.event_calls.proofs.answers.answer_planned.Statement.{statement}
 use Rattle.event_calls.proofs.answers.answer_planned.Tie as tie

@@ -1,7 +1,7 @@
 -- `answer_popped` meets its contract. Assumes nothing.
 use borrow.Author.Needs.{needs}
 use mathlib.Core.Path.{sym, ap}
-use Rattle.pool_retire.specs.declared.popping.Popped.{Popped}
+use Rattle.pool_retire.specs.declared.calls.pop_retired.Popped.{Popped}
 use Rattle.pool_retire.specs.Answers.{poppedTold}
 use Rattle.event_calls.specs.Calls.{poppedAnswer}
 use Rattle.event_calls.proofs.answers.answer_popped.Statement.{statement}

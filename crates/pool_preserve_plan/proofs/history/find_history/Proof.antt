@@ -7,7 +7,7 @@ use borrow.Author.Tests.{not-true, not-false}
 use Rattle.pool_records.specs.declared.recorded.Recorded.the-variants.{Writes, NoHistory}
 use Rattle.pool_access.proofs.Ids.{hasId}
 use Rattle.pool_access.proofs.Ids as ids
-use Rattle.pool_preserve_plan.specs.Plan.{foundAt, historyFound}
+use Rattle.pool_preserve_plan.specs.PreservePlan.{foundAt, historyFound}
 use Rattle.pool_preserve_plan.proofs.Finding.{found-none, found-other, found-recorded, found-place, pages-part}
 use borrow.Author.Needs.{needs}
 use Rattle.pool_preserve_plan.proofs.history.find_history.Statement.{statement}

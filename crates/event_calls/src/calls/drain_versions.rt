@@ -1,0 +1,44 @@
+// The call of a drain line.
+ghost use mathlib.Core.Path.{_≡_};
+ghost use mathlib.Core.Bool.{true};
+ghost use Rattle.pool_memory.specs.Lent.{lent};
+ghost use Rattle.pool_memory.specs.IsPool.{isPool};
+ghost use Rattle.pool_books.specs.LentLists.{lentDrain};
+ghost use Rattle.event_calls.specs.Calls.{MadeViews, blank};
+use crate::answers::answer_handed;
+use crate::called::Called;
+use pool_memory::PacingBook;
+use pool_memory::Pool;
+
+// Hands back every version but the one in the hand.
+pub fn call_drain(
+    pool: Pool,
+    book: PacingBook,
+    textures: &mut [u64],
+    retiring: &[u64],
+    doomed: &[u64],
+    spares: &[u64],
+    newest: &[u64],
+    stamps: &[u64],
+    views: &mut [u64],
+) -> Called
+    requires { ⌜ isPool (lent pool book (now textures) (now retiring) (now doomed) (now spares) (now newest) (now stamps)) ≡ true ⌝ }
+    ensures { λ r. ⌜ MadeViews (lent pool book (now (textures .entry)) (now (retiring .entry)) (now (doomed .entry)) (now (spares .entry)) (now (newest .entry)) (now (stamps .entry))) (lentDrain (blank (now (views .entry)))) (r .answer) (now (views .exit)) (lent (r .pool) (r .book) (now (textures .exit)) (now (retiring .entry)) (now (doomed .entry)) (now (spares .entry)) (now (newest .entry)) (now (stamps .entry))) ⌝ }
+{
+    let said = pool_take_doomed::drain_versions(
+        pool,
+        book,
+        textures,
+        retiring,
+        doomed,
+        spares,
+        newest,
+        stamps,
+        views,
+    );
+    let handed = said.handed;
+    let answer = answer_handed(handed);
+    let pool = said.pool;
+    let book = said.book;
+    Called { pool, book, answer }
+}

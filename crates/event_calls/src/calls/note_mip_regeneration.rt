@@ -1,0 +1,42 @@
+// The call of a regen line.
+ghost use mathlib.Core.Path.{_≡_};
+ghost use mathlib.Core.Bool.{true};
+ghost use Rattle.pool_memory.specs.Lent.{lent};
+ghost use Rattle.pool_memory.specs.IsPool.{isPool};
+ghost use Rattle.pool_books.specs.LentLists.{lentRegen};
+ghost use Rattle.event_calls.specs.Calls.{Made};
+use crate::answers::answer_done;
+use crate::called::Called;
+use pool_memory::PacingBook;
+use pool_memory::Pool;
+
+// Notes that every level but the first was made anew.
+pub fn call_regen(
+    pool: Pool,
+    book: PacingBook,
+    textures: &mut [u64],
+    retiring: &[u64],
+    doomed: &[u64],
+    spares: &[u64],
+    newest: &mut [u64],
+    stamps: &mut [u64],
+    id: u64,
+) -> Called
+    requires { ⌜ isPool (lent pool book (now textures) (now retiring) (now doomed) (now spares) (now newest) (now stamps)) ≡ true ⌝ }
+    ensures { λ r. ⌜ Made (lent pool book (now (textures .entry)) (now (retiring .entry)) (now (doomed .entry)) (now (spares .entry)) (now (newest .entry)) (now (stamps .entry))) (lentRegen id) (r .answer) (lent (r .pool) (r .book) (now (textures .exit)) (now (retiring .entry)) (now (doomed .entry)) (now (spares .entry)) (now (newest .exit)) (now (stamps .exit))) ⌝ }
+{
+    let said = pool_note_write::note_mip_regeneration(
+        pool,
+        book,
+        textures,
+        retiring,
+        doomed,
+        spares,
+        newest,
+        stamps,
+        id,
+    );
+    let answer = answer_done(said.outcome);
+    let pool = said.pool;
+    Called { pool, book, answer }
+}

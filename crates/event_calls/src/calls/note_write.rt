@@ -1,0 +1,49 @@
+// The call of a write line.
+ghost use mathlib.Core.Path.{_≡_};
+ghost use mathlib.Core.Bool.{true};
+ghost use Rattle.pool_memory.specs.Lent.{lent};
+ghost use Rattle.pool_memory.specs.IsPool.{isPool};
+ghost use Rattle.pool_books.specs.LentLists.{lentWrite};
+ghost use Rattle.event_calls.specs.Calls.{Made};
+use crate::answers::answer_done;
+use crate::called::Called;
+use grid_rects::TexelRect;
+use pool_memory::PacingBook;
+use pool_memory::Pool;
+
+// Notes a write to one subresource.
+pub fn call_write(
+    pool: Pool,
+    book: PacingBook,
+    textures: &mut [u64],
+    retiring: &[u64],
+    doomed: &[u64],
+    spares: &[u64],
+    newest: &mut [u64],
+    stamps: &mut [u64],
+    id: u64,
+    slice: u64,
+    level: u64,
+    rect: TexelRect,
+) -> Called
+    requires { ⌜ isPool (lent pool book (now textures) (now retiring) (now doomed) (now spares) (now newest) (now stamps)) ≡ true ⌝ }
+    ensures { λ r. ⌜ Made (lent pool book (now (textures .entry)) (now (retiring .entry)) (now (doomed .entry)) (now (spares .entry)) (now (newest .entry)) (now (stamps .entry))) (lentWrite id slice level rect) (r .answer) (lent (r .pool) (r .book) (now (textures .exit)) (now (retiring .entry)) (now (doomed .entry)) (now (spares .entry)) (now (newest .exit)) (now (stamps .exit))) ⌝ }
+{
+    let said = pool_note_write::note_write(
+        pool,
+        book,
+        textures,
+        retiring,
+        doomed,
+        spares,
+        newest,
+        stamps,
+        id,
+        slice,
+        level,
+        rect,
+    );
+    let answer = answer_done(said.outcome);
+    let pool = said.pool;
+    Called { pool, book, answer }
+}

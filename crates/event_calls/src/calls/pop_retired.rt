@@ -1,0 +1,43 @@
+// The call of a pop line.
+ghost use mathlib.Core.Path.{_≡_};
+ghost use mathlib.Core.Bool.{true};
+ghost use Rattle.pool_memory.specs.Lent.{lent};
+ghost use Rattle.pool_memory.specs.IsPool.{isPool};
+ghost use Rattle.pool_books.specs.LentLists.{lentPop};
+ghost use Rattle.event_calls.specs.Calls.{Made};
+use crate::answers::answer_popped;
+use crate::called::Called;
+use pool_memory::PacingBook;
+use pool_memory::Pool;
+
+// Puts the queue's front in the hand if its submission is settled.
+pub fn call_pop(
+    pool: Pool,
+    book: PacingBook,
+    textures: &[u64],
+    retiring: &[u64],
+    doomed: &[u64],
+    spares: &[u64],
+    newest: &[u64],
+    stamps: &[u64],
+    settled: u64,
+) -> Called
+    requires { ⌜ isPool (lent pool book (now textures) (now retiring) (now doomed) (now spares) (now newest) (now stamps)) ≡ true ⌝ }
+    ensures { λ r. ⌜ Made (lent pool book (now (textures .entry)) (now (retiring .entry)) (now (doomed .entry)) (now (spares .entry)) (now (newest .entry)) (now (stamps .entry))) (lentPop settled) (r .answer) (lent (r .pool) (r .book) (now (textures .entry)) (now (retiring .entry)) (now (doomed .entry)) (now (spares .entry)) (now (newest .entry)) (now (stamps .entry))) ⌝ }
+{
+    let said = pool_retire::pop_retired(
+        pool,
+        book,
+        textures,
+        retiring,
+        doomed,
+        spares,
+        newest,
+        stamps,
+        settled,
+    );
+    let popped = said.popped;
+    let answer = answer_popped(popped);
+    let pool = said.pool;
+    Called { pool, book, answer }
+}

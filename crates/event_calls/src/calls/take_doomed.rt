@@ -1,0 +1,44 @@
+// The call of a doomed line.
+ghost use mathlib.Core.Path.{_≡_};
+ghost use mathlib.Core.Bool.{true};
+ghost use Rattle.pool_memory.specs.Lent.{lent};
+ghost use Rattle.pool_memory.specs.IsPool.{isPool};
+ghost use Rattle.pool_books.specs.LentLists.{lentDoomed};
+ghost use Rattle.event_calls.specs.Calls.{MadeViews, blank};
+use crate::answers::answer_handed;
+use crate::called::Called;
+use pool_memory::PacingBook;
+use pool_memory::Pool;
+
+// Hands back the next batch of versions to destroy.
+pub fn call_doomed(
+    pool: Pool,
+    book: PacingBook,
+    textures: &[u64],
+    retiring: &[u64],
+    doomed: &[u64],
+    spares: &[u64],
+    newest: &[u64],
+    stamps: &[u64],
+    views: &mut [u64],
+) -> Called
+    requires { ⌜ isPool (lent pool book (now textures) (now retiring) (now doomed) (now spares) (now newest) (now stamps)) ≡ true ⌝ }
+    ensures { λ r. ⌜ MadeViews (lent pool book (now (textures .entry)) (now (retiring .entry)) (now (doomed .entry)) (now (spares .entry)) (now (newest .entry)) (now (stamps .entry))) (lentDoomed (blank (now (views .entry)))) (r .answer) (now (views .exit)) (lent (r .pool) (r .book) (now (textures .entry)) (now (retiring .entry)) (now (doomed .entry)) (now (spares .entry)) (now (newest .entry)) (now (stamps .entry))) ⌝ }
+{
+    let said = pool_take_doomed::take_doomed(
+        pool,
+        book,
+        textures,
+        retiring,
+        doomed,
+        spares,
+        newest,
+        stamps,
+        views,
+    );
+    let handed = said.handed;
+    let answer = answer_handed(handed);
+    let pool = said.pool;
+    let book = said.book;
+    Called { pool, book, answer }
+}

@@ -1,0 +1,54 @@
+// drain_versions, on any memory: every version but the one in the hand.
+ghost use mathlib.Core.Path.{_≡_};
+ghost use Rattle.pool_memory.specs.Lent.{lent};
+ghost use Rattle.pool_memory.specs.Calls.{drainVersionsCall};
+ghost use Rattle.pool_take_doomed.specs.Answer.{handedTold};
+use pool_formed::is_pool;
+use pool_memory::PacingBook;
+use pool_memory::Pool;
+use pool_take_doomed::DrainAnswer;
+use pool_take_doomed::Handed;
+
+// Hands back every version but the one in the hand.
+pub fn drain_versions(
+    pool: Pool,
+    book: PacingBook,
+    textures: &mut [u64],
+    retiring: &[u64],
+    doomed: &[u64],
+    spares: &[u64],
+    newest: &[u64],
+    stamps: &[u64],
+    buffer: &mut [u64],
+) -> DrainAnswer
+    ensures { λ r. ⌜ (handedTold (r .handed), (now (buffer .exit), lent (r .pool) (r .book) (now (textures .exit)) (now (retiring .entry)) (now (doomed .entry)) (now (spares .entry)) (now (newest .entry)) (now (stamps .entry))))
+        ≡ drainVersionsCall (lent pool book (now (textures .entry)) (now (retiring .entry)) (now (doomed .entry)) (now (spares .entry)) (now (newest .entry)) (now (stamps .entry))) (now (buffer .entry)) ⌝ }
+{
+    if !is_pool(
+        pool,
+        book,
+        textures,
+        retiring,
+        doomed,
+        spares,
+        newest,
+        stamps,
+    ) {
+        return DrainAnswer {
+            pool,
+            book,
+            handed: Handed::Refused(1),
+        };
+    }
+    pool_take_doomed::drain_versions(
+        pool,
+        book,
+        textures,
+        retiring,
+        doomed,
+        spares,
+        newest,
+        stamps,
+        buffer,
+    )
+}

@@ -1,0 +1,48 @@
+// forget_texture, on any memory: a released texture is no longer tracked.
+ghost use mathlib.Core.Path.{_≡_};
+ghost use Rattle.pool_memory.specs.Lent.{lent};
+ghost use Rattle.pool_memory.specs.Calls.{toldNumber, forgetTextureCall};
+use pool_formed::is_pool;
+use pool_memory::DoneAnswer;
+use pool_memory::PacingBook;
+use pool_memory::Pool;
+
+// Stops tracking a released texture.
+pub fn forget_texture(
+    pool: Pool,
+    book: PacingBook,
+    textures: &mut [u64],
+    retiring: &[u64],
+    doomed: &mut [u64],
+    spares: &mut [u64],
+    newest: &mut [u64],
+    stamps: &mut [u64],
+    id: u64,
+) -> DoneAnswer
+    ensures { λ r. ⌜ (toldNumber (r .outcome), lent (r .pool) book (now (textures .exit)) (now (retiring .entry)) (now (doomed .exit)) (now (spares .exit)) (now (newest .exit)) (now (stamps .exit)))
+        ≡ forgetTextureCall (lent pool book (now (textures .entry)) (now (retiring .entry)) (now (doomed .entry)) (now (spares .entry)) (now (newest .entry)) (now (stamps .entry))) id ⌝ }
+{
+    if !is_pool(
+        pool,
+        book,
+        textures,
+        retiring,
+        doomed,
+        spares,
+        newest,
+        stamps,
+    ) {
+        return DoneAnswer { pool, outcome: 1 };
+    }
+    pool_forget_texture::forget_texture(
+        pool,
+        book,
+        textures,
+        retiring,
+        doomed,
+        spares,
+        newest,
+        stamps,
+        id,
+    )
+}

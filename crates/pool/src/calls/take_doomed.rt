@@ -1,0 +1,54 @@
+// take_doomed, on any memory: the next batch of versions to destroy.
+ghost use mathlib.Core.Path.{_≡_};
+ghost use Rattle.pool_memory.specs.Lent.{lent};
+ghost use Rattle.pool_memory.specs.Calls.{takeDoomedCall};
+ghost use Rattle.pool_take_doomed.specs.Answer.{handedTold};
+use pool_formed::is_pool;
+use pool_memory::PacingBook;
+use pool_memory::Pool;
+use pool_take_doomed::DrainAnswer;
+use pool_take_doomed::Handed;
+
+// Hands back the next batch of versions to destroy.
+pub fn take_doomed(
+    pool: Pool,
+    book: PacingBook,
+    textures: &[u64],
+    retiring: &[u64],
+    doomed: &[u64],
+    spares: &[u64],
+    newest: &[u64],
+    stamps: &[u64],
+    buffer: &mut [u64],
+) -> DrainAnswer
+    ensures { λ r. ⌜ (handedTold (r .handed), (now (buffer .exit), lent (r .pool) (r .book) (now (textures .entry)) (now (retiring .entry)) (now (doomed .entry)) (now (spares .entry)) (now (newest .entry)) (now (stamps .entry))))
+        ≡ takeDoomedCall (lent pool book (now (textures .entry)) (now (retiring .entry)) (now (doomed .entry)) (now (spares .entry)) (now (newest .entry)) (now (stamps .entry))) (now (buffer .entry)) ⌝ }
+{
+    if !is_pool(
+        pool,
+        book,
+        textures,
+        retiring,
+        doomed,
+        spares,
+        newest,
+        stamps,
+    ) {
+        return DrainAnswer {
+            pool,
+            book,
+            handed: Handed::Refused(1),
+        };
+    }
+    pool_take_doomed::take_doomed(
+        pool,
+        book,
+        textures,
+        retiring,
+        doomed,
+        spares,
+        newest,
+        stamps,
+        buffer,
+    )
+}

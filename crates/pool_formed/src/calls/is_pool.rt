@@ -1,0 +1,39 @@
+// Whether lent memory forms a pool.
+ghost use mathlib.Core.Path.{_≡_};
+ghost use Rattle.pool_memory.specs.Lent.{lent};
+ghost use Rattle.pool_memory.specs.IsPool.{isPool};
+use crate::numbers_fit::numbers_fit;
+use crate::rings_fit::rings_fit;
+use crate::sizes::counts_fit;
+use crate::sizes::sizes_fit;
+use pool_formed_textures::textures_fit;
+use pool_memory::PacingBook;
+use pool_memory::Pool;
+
+pub fn is_pool(
+    pool: Pool,
+    book: PacingBook,
+    textures: &[u64],
+    retiring: &[u64],
+    doomed: &[u64],
+    spares: &[u64],
+    newest: &[u64],
+    stamps: &[u64],
+) -> bool
+    ensures { λ r. ⌜ r ≡ isPool (lent pool book (now (textures .entry)) (now (retiring .entry)) (now (doomed .entry)) (now (spares .entry)) (now (newest .entry)) (now (stamps .entry))) ⌝ }
+{
+    if !sizes_fit(textures, retiring, doomed, spares, newest, stamps) {
+        return false;
+    }
+    let versions = retiring.len() / 7;
+    if !counts_fit(pool, textures.len() / 20, versions, newest.len()) {
+        return false;
+    }
+    if !numbers_fit(pool, book) {
+        return false;
+    }
+    if !rings_fit(pool, versions, retiring, doomed) {
+        return false;
+    }
+    textures_fit(pool, textures, spares, newest, stamps)
+}

@@ -1,0 +1,41 @@
+// drain_versions, with the pacing book lent.
+ghost use mathlib.Core.Path.{_≡_};
+ghost use Rattle.pool_memory.specs.Lent.{lent};
+ghost use Rattle.pool_memory.specs.Calls.{drainVersionsCall};
+ghost use Rattle.pool_take_doomed.specs.Answer.{handedTold};
+use crate::answer::HandedAnswer;
+use pool_memory::PacingBook;
+use pool_memory::Pool;
+
+// Hands back every version but the one in the hand.
+pub fn drain_versions(
+    pool: Pool,
+    book: &mut PacingBook,
+    textures: &mut [u64],
+    retiring: &[u64],
+    doomed: &[u64],
+    spares: &[u64],
+    newest: &[u64],
+    stamps: &[u64],
+    buffer: &mut [u64],
+) -> HandedAnswer
+    ensures { λ r. ⌜ (handedTold (r .handed), (now (buffer .exit), lent (r .pool) (now (book .exit)) (now (textures .exit)) (now (retiring .entry)) (now (doomed .entry)) (now (spares .entry)) (now (newest .entry)) (now (stamps .entry))))
+        ≡ drainVersionsCall (lent pool (now (book .entry)) (now (textures .entry)) (now (retiring .entry)) (now (doomed .entry)) (now (spares .entry)) (now (newest .entry)) (now (stamps .entry))) (now (buffer .entry)) ⌝ }
+{
+    let answer = pool::drain_versions(
+        pool,
+        *book,
+        textures,
+        retiring,
+        doomed,
+        spares,
+        newest,
+        stamps,
+        buffer,
+    );
+    *book = answer.book;
+    HandedAnswer {
+        pool: answer.pool,
+        handed: answer.handed,
+    }
+}

@@ -1,0 +1,40 @@
+// note_allocated, with the pacing book lent.
+ghost use mathlib.Core.Path.{_≡_};
+ghost use Rattle.pool_memory.specs.Lent.{lent};
+ghost use Rattle.pool_memory.specs.Calls.{toldNumber, noteAllocatedCall};
+use pool_memory::DoneAnswer;
+use pool_memory::PacingBook;
+use pool_memory::Pool;
+
+// Notes how much memory the process has allocated, and gives spares back if that is too much.
+pub fn note_allocated(
+    pool: Pool,
+    book: &mut PacingBook,
+    textures: &mut [u64],
+    retiring: &[u64],
+    doomed: &mut [u64],
+    spares: &mut [u64],
+    newest: &[u64],
+    stamps: &[u64],
+    allocated: u64,
+) -> DoneAnswer
+    ensures { λ r. ⌜ (toldNumber (r .outcome), lent (r .pool) (now (book .exit)) (now (textures .exit)) (now (retiring .entry)) (now (doomed .exit)) (now (spares .exit)) (now (newest .entry)) (now (stamps .entry)))
+        ≡ noteAllocatedCall (lent pool (now (book .entry)) (now (textures .entry)) (now (retiring .entry)) (now (doomed .entry)) (now (spares .entry)) (now (newest .entry)) (now (stamps .entry))) allocated ⌝ }
+{
+    let answer = pool::note_allocated(
+        pool,
+        *book,
+        textures,
+        retiring,
+        doomed,
+        spares,
+        newest,
+        stamps,
+        allocated,
+    );
+    *book = answer.book;
+    DoneAnswer {
+        pool: answer.pool,
+        outcome: answer.outcome,
+    }
+}

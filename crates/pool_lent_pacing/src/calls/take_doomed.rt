@@ -1,0 +1,41 @@
+// take_doomed, with the pacing book lent.
+ghost use mathlib.Core.Path.{_≡_};
+ghost use Rattle.pool_memory.specs.Lent.{lent};
+ghost use Rattle.pool_memory.specs.Calls.{takeDoomedCall};
+ghost use Rattle.pool_take_doomed.specs.Answer.{handedTold};
+use crate::answer::HandedAnswer;
+use pool_memory::PacingBook;
+use pool_memory::Pool;
+
+// Hands back the next batch of versions to destroy.
+pub fn take_doomed(
+    pool: Pool,
+    book: &mut PacingBook,
+    textures: &[u64],
+    retiring: &[u64],
+    doomed: &[u64],
+    spares: &[u64],
+    newest: &[u64],
+    stamps: &[u64],
+    buffer: &mut [u64],
+) -> HandedAnswer
+    ensures { λ r. ⌜ (handedTold (r .handed), (now (buffer .exit), lent (r .pool) (now (book .exit)) (now (textures .entry)) (now (retiring .entry)) (now (doomed .entry)) (now (spares .entry)) (now (newest .entry)) (now (stamps .entry))))
+        ≡ takeDoomedCall (lent pool (now (book .entry)) (now (textures .entry)) (now (retiring .entry)) (now (doomed .entry)) (now (spares .entry)) (now (newest .entry)) (now (stamps .entry))) (now (buffer .entry)) ⌝ }
+{
+    let answer = pool::take_doomed(
+        pool,
+        *book,
+        textures,
+        retiring,
+        doomed,
+        spares,
+        newest,
+        stamps,
+        buffer,
+    );
+    *book = answer.book;
+    HandedAnswer {
+        pool: answer.pool,
+        handed: answer.handed,
+    }
+}

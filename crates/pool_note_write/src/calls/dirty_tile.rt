@@ -1,0 +1,76 @@
+// dirty_tile: some tile that was written since.
+ghost use mathlib.Core.Path.{_≡_};
+ghost use mathlib.Core.Bool.{true};
+ghost use Prim.Native.Nat.{_*_, _≤_};
+ghost use lib.ListN.{length};
+ghost use Rattle.grid_stamps.specs.Grids.{tilingOf, IsDirtyTile};
+ghost use Rattle.pool_rules.specs.Histories.{inShape};
+ghost use Rattle.pool_rules.specs.NoteWrite.{IsDirtyTileOf};
+ghost use Rattle.pool_memory.specs.Lent.{lent};
+ghost use Rattle.pool_memory.specs.Reading.{pageAt, modelOf};
+ghost use Rattle.pool_memory.specs.IsPool.{isPool};
+ghost use Rattle.pool_note_write.specs.History.{textureAt, pagesEnd, HistoryAt, pageOf};
+use crate::history::history_at;
+use crate::history::in_shape;
+use crate::history::page_of;
+use grid_stamps::DirtyTile;
+use grid_stamps::across_axis;
+use grid_stamps::down_axis;
+use pool_access::texture_at;
+use pool_memory::PacingBook;
+use pool_memory::Pool;
+use pool_records::Recorded;
+use pool_records::find_texture;
+
+// Some tile of a subresource of texture i, on its page.
+fn dirty_subresource(
+    textures: &[u64],
+    stamps: &[u64],
+    i: usize,
+    slice: u64,
+    level: u64,
+    held: u64,
+) -> DirtyTile
+    requires { ⌜ HistoryAt (now textures) i × (1024 * pagesEnd (now textures) i ≤ length (now stamps)) × (inShape (textureAt (now textures) i .shape) slice level ≡ true) ⌝ }
+    ensures { λ r. ⌜ IsDirtyTile (tilingOf (textureAt (now (textures .entry)) i .shape) level) held (pageAt (now (stamps .entry)) (pageOf (now (textures .entry)) i slice level)) r ⌝ }
+{
+    let t = texture_at(textures, i);
+    let shape = t.shape;
+    let a = 1024 * page_of(textures, i, shape.levels, slice, level);
+    let e = a + 1024;
+    let across = across_axis(shape, level);
+    let down = down_axis(shape, level);
+    grid_views::dirty_tile(&stamps[a..e], across, down, held)
+}
+
+// Some tile of a subresource stamped above `held`, or none if there is none. Which one is left open.
+// None where the texture is not tracked, has no history or lacks the subresource.
+pub fn dirty_tile(
+    pool: Pool,
+    book: PacingBook,
+    textures: &[u64],
+    retiring: &[u64],
+    doomed: &[u64],
+    spares: &[u64],
+    newest: &[u64],
+    stamps: &[u64],
+    id: u64,
+    slice: u64,
+    level: u64,
+    held: u64,
+) -> DirtyTile
+    requires { ⌜ isPool (lent pool book (now textures) (now retiring) (now doomed) (now spares) (now newest) (now stamps)) ≡ true ⌝ }
+    ensures { λ r. ⌜ IsDirtyTileOf (modelOf (lent pool book (now (textures .entry)) (now (retiring .entry)) (now (doomed .entry)) (now (spares .entry)) (now (newest .entry)) (now (stamps .entry)))) id slice level held r ⌝ }
+{
+    let tracked = pool.tracked;
+    let i = find_texture(textures, tracked, id);
+    let history = history_at(textures, tracked, i, id);
+    let Recorded::Writes(_) = history else {
+        return DirtyTile::NoTile;
+    };
+    let t = texture_at(textures, i);
+    if !in_shape(t.shape, slice, level) {
+        return DirtyTile::NoTile;
+    }
+    dirty_subresource(textures, stamps, i, slice, level, held)
+}

@@ -1,0 +1,36 @@
+// records_writes: whether a texture keeps a history.
+ghost use mathlib.Core.Path.{_≡_};
+ghost use mathlib.Core.Bool.{true};
+ghost use Rattle.pool_rules.specs.NoteWrite.{recordsWrites};
+ghost use Rattle.pool_memory.specs.Lent.{lent};
+ghost use Rattle.pool_memory.specs.Reading.{modelOf};
+ghost use Rattle.pool_memory.specs.IsPool.{isPool};
+use crate::history::history_at;
+use pool_memory::PacingBook;
+use pool_memory::Pool;
+use pool_records::Recorded;
+use pool_records::find_texture;
+
+// Whether the texture keeps a write history, so that its writes are to be reported.
+pub fn records_writes(
+    pool: Pool,
+    book: PacingBook,
+    textures: &[u64],
+    retiring: &[u64],
+    doomed: &[u64],
+    spares: &[u64],
+    newest: &[u64],
+    stamps: &[u64],
+    id: u64,
+) -> bool
+    requires { ⌜ isPool (lent pool book (now textures) (now retiring) (now doomed) (now spares) (now newest) (now stamps)) ≡ true ⌝ }
+    ensures { λ r. ⌜ r ≡ recordsWrites (modelOf (lent pool book (now (textures .entry)) (now (retiring .entry)) (now (doomed .entry)) (now (spares .entry)) (now (newest .entry)) (now (stamps .entry)))) id ⌝ }
+{
+    let tracked = pool.tracked;
+    let i = find_texture(textures, tracked, id);
+    let history = history_at(textures, tracked, i, id);
+    match history {
+        Recorded::Writes(_) => true,
+        Recorded::NoHistory => false,
+    }
+}

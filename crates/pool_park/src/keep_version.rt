@@ -1,0 +1,75 @@
+// A version kept as its texture's newest spare.
+ghost use mathlib.Core.Path.{_≡_};
+ghost use Prim.Native.Nat.{_+_, _*_, _-_, _≤_, _<_};
+ghost use lib.ListN.{length};
+ghost use lib.Seq.{sets};
+ghost use Rattle.base_blocks.specs.Blocks.{moved};
+ghost use Rattle.base_blocks.specs.Lists.{total};
+ghost use Rattle.base_tables.specs.Records.{recordAt, table};
+ghost use Rattle.pool_records.specs.Held.{HeldFits};
+ghost use Rattle.pool_records.specs.Recorded.{RecordedFits};
+ghost use Rattle.pool_records.specs.Spare.{writeSpare};
+ghost use Rattle.pool_records.specs.Texture.{readTexture, writeTexture};
+ghost use Rattle.pool_park.specs.Park.{heldParked, spareParked, oneMore, sparesEnd};
+use pool_access::first_spare;
+use pool_access::insert_spare;
+use pool_access::put_texture;
+use pool_access::texture_at;
+use pool_records::RetiringRecord;
+use pool_records::SpareRecord;
+use pool_records::TextureRecord;
+use pool_rules::Held;
+
+// Unknown if a submission that the version was live through failed.
+fn held_parked(v: RetiringRecord, failed: u64) -> Held
+    ensures { λ r. ⌜ r ≡ heldParked failed v ⌝ }
+{
+    if (failed != 0) & (v.birth <= failed) {
+        return Held::Unknown;
+    }
+    Held::Known(v.held)
+}
+
+pub fn spare_parked(v: RetiringRecord, failed: u64, current: u64) -> SpareRecord
+    ensures { λ r. ⌜ r ≡ spareParked failed current v ⌝ }
+{
+    let held = held_parked(v, failed);
+    SpareRecord {
+        view: v.view,
+        held,
+        parked: current,
+    }
+}
+
+// A texture with one more spare.
+fn one_more(t: TextureRecord) -> TextureRecord
+    requires { ⌜ t .spares ≤ 4096 ⌝ }
+    ensures { λ r. ⌜ r ≡ oneMore t ⌝ }
+{
+    let mut u = t;
+    u.spares = t.spares + 1;
+    u
+}
+
+// The version is the newest spare of texture i, behind those that it has. All `tracked` textures have `kept`.
+pub fn keep_version(
+    textures: &mut [u64],
+    spares: &mut [u64],
+    tracked: usize,
+    kept: usize,
+    i: usize,
+    x: SpareRecord,
+)
+    requires { ⌜ (20 * i + 20 ≤ length (now textures)) × RecordedFits (recordAt 20 readTexture (now textures) i .history)
+        × (sparesEnd (now textures) i ≤ kept) × (kept ≤ 4096) × (3 * kept + 3 ≤ length (now spares)) × HeldFits (x .held)
+        × (20 * tracked ≤ length (now textures)) × (i < tracked) × (total (λ t. t .spares) (table 20 readTexture tracked (now textures)) ≡ kept) ⌝ }
+    ensures { λ _. ⌜ (now (textures .exit) ≡ sets (now (textures .entry)) (20 * i) (writeTexture (oneMore (recordAt 20 readTexture (now (textures .entry)) i))))
+        × (now (spares .exit)
+        ≡ sets (moved (now (spares .entry)) (3 * sparesEnd (now (textures .entry)) i + 3) (3 * sparesEnd (now (textures .entry)) i) (3 * (kept - sparesEnd (now (textures .entry)) i)))
+        (3 * sparesEnd (now (textures .entry)) i) (writeSpare x)) ⌝ }
+{
+    let t = texture_at(textures, i);
+    let end = first_spare(textures, tracked, kept, i) + t.spares as usize;
+    insert_spare(spares, kept, end, x);
+    put_texture(textures, i, one_more(t));
+}

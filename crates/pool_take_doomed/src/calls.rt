@@ -1,0 +1,3 @@
+// The calls that lib.rt hands on, a file each.
+pub mod drain_versions;
+pub mod take_doomed;

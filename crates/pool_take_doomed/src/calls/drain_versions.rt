@@ -1,0 +1,131 @@
+// drain_versions: hand out the queue, then the destroy queue, then the spares; the hand stays as it is.
+ghost use mathlib.Core.Path.{_≡_};
+ghost use mathlib.Core.Bool.{true};
+ghost use Prim.Native.Nat.{_+_, _*_, _≤_, _<_};
+ghost use lib.ListN.{length};
+ghost use Rattle.base_blocks.specs.Lists.{over};
+ghost use Rattle.pool_memory.specs.Lent.{lent};
+ghost use Rattle.pool_memory.specs.IsPool.{isPool};
+ghost use Rattle.pool_memory.specs.Calls.{drainVersionsCall};
+ghost use Rattle.pool_take_doomed.specs.Answer.{handedTold};
+ghost use Rattle.pool_take_doomed.specs.DrainVersions.{drainedViews, drainedCounts, drainedBook, cleared};
+use crate::answer::DrainAnswer;
+use crate::answer::Handed;
+use crate::copy_column::copy_column;
+use base_tables::ring_drop;
+use pool_memory::PacingBook;
+use pool_memory::Pool;
+
+// The views of all that is handed out, stored at the buffer's front.
+fn copy_views(
+    pool: Pool,
+    places: usize,
+    retiring: &[u64],
+    doomed: &[u64],
+    spares: &[u64],
+    buffer: &mut [u64],
+)
+    requires { ⌜ (7 * places ≤ length (now retiring)) × (2 * places ≤ length (now doomed)) × (3 * places ≤ length (now spares))
+        × (pool .head < places) × (pool .first < places) × (pool .queued + pool .popped + pool .kept + pool .doomed ≤ places)
+        × (pool .queued + pool .doomed + pool .kept ≤ length (now buffer)) ⌝ }
+    ensures { λ _. ⌜ now (buffer .exit)
+        ≡ over (drainedViews pool places (now (retiring .entry)) (now (doomed .entry)) (now (spares .entry))) (now (buffer .entry)) ⌝ }
+{
+    let queued = pool.queued;
+    let waiting = pool.doomed;
+    let from = pool.popped;
+    copy_column(buffer, 0, retiring, 7, 1, places, pool.head, from, queued);
+    copy_column(buffer, queued, doomed, 2, 0, places, pool.first, 0, waiting);
+    copy_column(
+        buffer,
+        queued + waiting,
+        spares,
+        3,
+        0,
+        places,
+        0,
+        0,
+        pool.kept,
+    );
+}
+
+// The first n textures have no spares any more.
+fn clear_spares(textures: &mut [u64], n: usize)
+    requires { ⌜ 20 * n ≤ length (now textures) ⌝ }
+    ensures { λ _. ⌜ now (textures .exit) ≡ cleared n (now (textures .entry)) ⌝ }
+{
+    let mut i = 0;
+    while i < n {
+        textures[20 * i + 18] = 0;
+        i += 1;
+    }
+}
+
+// The counts once nothing is left but the hand.
+fn drained_counts(pool: Pool, places: usize) -> Pool
+    requires { ⌜ (pool .first < places) × (pool .doomed ≤ places) ⌝ }
+    ensures { λ r. ⌜ r ≡ drainedCounts pool places ⌝ }
+{
+    let first = ring_drop(places, pool.first, pool.doomed);
+    Pool {
+        tracked: pool.tracked,
+        kept: 0,
+        pages: pool.pages,
+        head: pool.head,
+        popped: pool.popped,
+        queued: 0,
+        first,
+        doomed: 0,
+        since: 0,
+        trackings: pool.trackings,
+        parked: 0,
+        dooming: 0,
+        cap: pool.cap,
+        line: pool.line,
+    }
+}
+
+// The pacing book with its arrivals cleared; slot, mark and excess stay.
+fn drained_book(book: PacingBook) -> PacingBook
+    ensures { λ r. ⌜ r ≡ drainedBook book ⌝ }
+{
+    PacingBook {
+        arrivals: [0; 8],
+        slot: book.slot,
+        pressed: book.pressed,
+        excess: book.excess,
+    }
+}
+
+pub fn drain_versions(
+    pool: Pool,
+    book: PacingBook,
+    textures: &mut [u64],
+    retiring: &[u64],
+    doomed: &[u64],
+    spares: &[u64],
+    newest: &[u64],
+    stamps: &[u64],
+    buffer: &mut [u64],
+) -> DrainAnswer
+    requires { ⌜ isPool (lent pool book (now textures) (now retiring) (now doomed) (now spares) (now newest) (now stamps)) ≡ true ⌝ }
+    ensures { λ r. ⌜ (handedTold (r .handed), (now (buffer .exit), lent (r .pool) (r .book) (now (textures .exit)) (now (retiring .entry)) (now (doomed .entry)) (now (spares .entry)) (now (newest .entry)) (now (stamps .entry))))
+        ≡ drainVersionsCall (lent pool book (now (textures .entry)) (now (retiring .entry)) (now (doomed .entry)) (now (spares .entry)) (now (newest .entry)) (now (stamps .entry))) (now (buffer .entry)) ⌝ }
+{
+    let places = retiring.len() / 7;
+    let count = pool.queued + pool.doomed + pool.kept;
+    if buffer.len() < count {
+        return DrainAnswer {
+            pool,
+            book,
+            handed: Handed::Refused(11),
+        };
+    }
+    copy_views(pool, places, retiring, doomed, spares, buffer);
+    clear_spares(textures, pool.tracked);
+    DrainAnswer {
+        pool: drained_counts(pool, places),
+        book: drained_book(book),
+        handed: Handed::Views(count),
+    }
+}

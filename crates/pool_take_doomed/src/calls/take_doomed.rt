@@ -1,0 +1,80 @@
+// take_doomed: hand back the next batch of versions to destroy.
+ghost use mathlib.Core.Path.{_≡_};
+ghost use mathlib.Core.Bool.{true};
+ghost use Prim.Native.Nat.{_≤_, _<_};
+ghost use Rattle.pool_memory.specs.Lent.{lent};
+ghost use Rattle.pool_memory.specs.IsPool.{isPool};
+ghost use Rattle.pool_memory.specs.Calls.{takeDoomedCall};
+ghost use Rattle.pool_take_doomed.specs.Answer.{handedTold};
+ghost use Rattle.pool_take_doomed.specs.TakeDoomed.{takenCounts, takenBook};
+use crate::answer::DrainAnswer;
+use crate::answer::Handed;
+use crate::copy_column::copy_column;
+use crate::next_batch::Batch;
+use crate::next_batch::arrived;
+use crate::next_batch::next_batch;
+use base_tables::ring_drop;
+use pool_memory::PacingBook;
+use pool_memory::Pool;
+
+// The counts once the batch has left the destroy ring's front.
+fn taken_counts(pool: Pool, places: usize, batch: Batch) -> Pool
+    requires { ⌜ (pool .first < places) × (batch .count ≤ places) × (batch .count ≤ pool .doomed) × (batch .bytes ≤ pool .dooming) ⌝ }
+    ensures { λ r. ⌜ r ≡ takenCounts pool places (batch .count) (batch .bytes) ⌝ }
+{
+    let first = ring_drop(places, pool.first, batch.count);
+    let mut left = pool;
+    left.first = first;
+    left.doomed = pool.doomed - batch.count;
+    left.since = 0;
+    left.dooming = pool.dooming - batch.bytes;
+    left
+}
+
+// The pacing book once these arrivals are noted: the next slot, and no excess.
+fn taken_book(book: PacingBook, arrivals: [u64; 8]) -> PacingBook
+    requires { ⌜ book .slot < 8 ⌝ }
+    ensures { λ r. ⌜ r ≡ takenBook book arrivals ⌝ }
+{
+    PacingBook {
+        arrivals,
+        slot: (book.slot + 1) % 8,
+        pressed: book.pressed,
+        excess: 0,
+    }
+}
+
+pub fn take_doomed(
+    pool: Pool,
+    book: PacingBook,
+    textures: &[u64],
+    retiring: &[u64],
+    doomed: &[u64],
+    spares: &[u64],
+    newest: &[u64],
+    stamps: &[u64],
+    buffer: &mut [u64],
+) -> DrainAnswer
+    requires { ⌜ isPool (lent pool book (now textures) (now retiring) (now doomed) (now spares) (now newest) (now stamps)) ≡ true ⌝ }
+    ensures { λ r. ⌜ (handedTold (r .handed), (now (buffer .exit), lent (r .pool) (r .book) (now (textures .entry)) (now (retiring .entry)) (now (doomed .entry)) (now (spares .entry)) (now (newest .entry)) (now (stamps .entry))))
+        ≡ takeDoomedCall (lent pool book (now (textures .entry)) (now (retiring .entry)) (now (doomed .entry)) (now (spares .entry)) (now (newest .entry)) (now (stamps .entry))) (now (buffer .entry)) ⌝ }
+{
+    let places = retiring.len() / 7;
+    let first = pool.first;
+    let arrivals = arrived(book, pool.since);
+    let batch = next_batch(doomed, places, first, pool.doomed, arrivals, book.excess);
+    let count = batch.count;
+    if buffer.len() < count {
+        return DrainAnswer {
+            pool,
+            book,
+            handed: Handed::Refused(11),
+        };
+    }
+    copy_column(buffer, 0, doomed, 2, 0, places, first, 0, count);
+    DrainAnswer {
+        pool: taken_counts(pool, places, batch),
+        book: taken_book(book, arrivals),
+        handed: Handed::Views(count),
+    }
+}

@@ -1,0 +1,101 @@
+// How many versions the next take hands back: the average number queued per take over the last eight plus an eighth of the
+// queue, at least 64, then as many more as cover the excess.
+ghost use mathlib.Core.Path.{_≡_};
+ghost use Prim.Native.Nat.{ℕ, _*_, _^_, _≤_, _<_};
+ghost use lib.ListN.{length, set};
+ghost use Rattle.base_blocks.specs.Lists.{total};
+ghost use Rattle.pool_rules.specs.Model.{doomedBytes};
+ghost use Rattle.pool_take_doomed.specs.NextBatch.{doomedEntries, pacedOf, batchOf};
+use base_blocks::larger;
+use base_blocks::smaller;
+use base_tables::place;
+use pool_memory::PacingBook;
+
+// How many versions, and their bytes.
+pub struct Batch {
+    pub count: usize,
+    pub bytes: u64,
+}
+
+// The arrivals with those since the last take in their slot.
+pub fn arrived(book: PacingBook, since: u64) -> [u64; 8]
+    requires { ⌜ book .slot < 8 ⌝ }
+    ensures { λ r. ⌜ r ≡ set (book .arrivals) (book .slot) since ⌝ }
+{
+    let slot = book.slot;
+    let mut arrivals = book.arrivals;
+    arrivals[slot] = since;
+    arrivals
+}
+
+// The eight arrivals together.
+fn arrivals_sum(a: [u64; 8]) -> u64
+    requires { ⌜ total (λ (n : ℕ). n) a ≤ 32768 ⌝ }
+    ensures { λ r. ⌜ r ≡ total (λ (n : ℕ). n) a ⌝ }
+{
+    a[0] + a[1] + a[2] + a[3] + a[4] + a[5] + a[6] + a[7]
+}
+
+// The batch for a queue of n, before the excess is looked at.
+fn paced(a: [u64; 8], n: u64) -> u64
+    requires { ⌜ (total (λ (n : ℕ). n) a ≤ 32768) × (n ≤ 4096) ⌝ }
+    ensures { λ r. ⌜ r ≡ pacedOf a n ⌝ }
+{
+    let sum = arrivals_sum(a);
+    let share = (sum + 7) / 8 + (n + 7) / 8;
+    smaller(larger(64, share), n)
+}
+
+// The bytes of the first k versions of the ring.
+fn bytes_of(doomed: &[u64], cap: usize, first: usize, k: usize) -> u64
+    requires { ⌜ (2 * cap ≤ length (now doomed)) × (first < cap) × (k ≤ cap)
+        × (doomedBytes (doomedEntries cap first (now doomed) k) < 2 ^ 64) ⌝ }
+    ensures { λ r. ⌜ r ≡ doomedBytes (doomedEntries cap first (now (doomed .entry)) k) ⌝ }
+{
+    let mut sum = 0;
+    let mut i = 0;
+    while i < k {
+        let p = place(cap, first, i);
+        sum += doomed[2 * p + 1];
+        i += 1;
+    }
+    sum
+}
+
+// The first `least` of the n versions of the ring, and more until their bytes cover the excess.
+fn covering(doomed: &[u64], cap: usize, first: usize, n: usize, least: usize, excess: u64) -> Batch
+    requires { ⌜ (2 * cap ≤ length (now doomed)) × (first < cap) × (n ≤ cap) × (least ≤ n)
+        × (doomedBytes (doomedEntries cap first (now doomed) n) < 2 ^ 64) ⌝ }
+    ensures { λ r. ⌜ (r .count ≡ batchOf least excess (doomedEntries cap first (now (doomed .entry)) n)) × (r .count ≤ n)
+        × (r .bytes ≡ doomedBytes (doomedEntries cap first (now (doomed .entry)) (r .count))) ⌝ }
+{
+    let mut count = least;
+    let mut bytes = bytes_of(doomed, cap, first, least);
+    while count < n {
+        if excess <= bytes {
+            return Batch { count, bytes };
+        }
+        let p = place(cap, first, count);
+        bytes += doomed[2 * p + 1];
+        count += 1;
+    }
+    Batch { count, bytes }
+}
+
+// The next batch of the n versions of the ring.
+pub fn next_batch(
+    doomed: &[u64],
+    cap: usize,
+    first: usize,
+    n: usize,
+    arrivals: [u64; 8],
+    excess: u64,
+) -> Batch
+    requires { ⌜ (2 * cap ≤ length (now doomed)) × (first < cap) × (n ≤ cap) × (cap ≤ 4096) × (total (λ (n : ℕ). n) arrivals ≤ 32768)
+        × (doomedBytes (doomedEntries cap first (now doomed) n) < 2 ^ 64) ⌝ }
+    ensures { λ r. ⌜ (r .count ≡ batchOf (pacedOf arrivals n) excess (doomedEntries cap first (now (doomed .entry)) n)) × (r .count ≤ n)
+        × (r .bytes ≡ doomedBytes (doomedEntries cap first (now (doomed .entry)) (r .count))) ⌝ }
+{
+    let least = paced(arrivals, n as u64) as usize;
+    covering(doomed, cap, first, n, least, excess)
+}

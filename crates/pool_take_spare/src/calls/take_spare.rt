@@ -1,0 +1,116 @@
+// take_spare: start a rename, handing back the texture's newest spare if it has one.
+ghost use mathlib.Core.Path.{_≡_};
+ghost use mathlib.Core.Bool.{true};
+ghost use Rattle.pool_memory.specs.Lent.{lent};
+ghost use Rattle.pool_memory.specs.IsPool.{isPool};
+ghost use Rattle.pool_memory.specs.Calls.{takeSpareCall};
+ghost use Rattle.pool_take_spare.specs.Answer.{takenTold};
+use crate::answer::TakeAnswer;
+use crate::answer::Taken;
+use crate::look_up::look_up;
+use crate::take_newest::take_newest;
+use grid_shapes::VersionShape;
+use pool_memory::PacingBook;
+use pool_memory::Pool;
+use pool_memory::same_counts;
+use pool_tracking::renew_tracking;
+use pool_tracking::start_tracking;
+
+// The lent stores form a pool. A texture that is not tracked, or tracked with another shape, has a tracking begun and no spare.
+pub fn take_spare(
+    pool: Pool,
+    book: PacingBook,
+    textures: &mut [u64],
+    retiring: &[u64],
+    doomed: &mut [u64],
+    spares: &mut [u64],
+    newest: &mut [u64],
+    stamps: &mut [u64],
+    id: u64,
+    shape: VersionShape,
+    records: bool,
+    seq: u64,
+) -> TakeAnswer
+    requires { ⌜ isPool (lent pool book (now textures) (now retiring) (now doomed) (now spares) (now newest) (now stamps)) ≡ true ⌝ }
+    ensures { λ r. ⌜ (takenTold (r .taken), lent (r .pool) book (now (textures .exit)) (now (retiring .entry)) (now (doomed .exit)) (now (spares .exit)) (now (newest .exit)) (now (stamps .exit)))
+        ≡ takeSpareCall (lent pool book (now (textures .entry)) (now (retiring .entry)) (now (doomed .entry)) (now (spares .entry)) (now (newest .entry)) (now (stamps .entry))) id shape records seq ⌝ }
+{
+    let look = look_up(
+        pool,
+        book,
+        textures,
+        retiring,
+        doomed,
+        spares,
+        newest,
+        stamps,
+        id,
+        shape,
+        records,
+        seq,
+    );
+    if look.outcome != 0 {
+        return TakeAnswer {
+            pool: same_counts(pool),
+            taken: Taken::Refused(look.outcome),
+        };
+    }
+    let i = look.place;
+    if !look.tracked {
+        let after = start_tracking(
+            pool,
+            book,
+            textures,
+            retiring,
+            doomed,
+            spares,
+            newest,
+            stamps,
+            i,
+            id,
+            shape,
+            records,
+            seq,
+        );
+        return TakeAnswer {
+            pool: after,
+            taken: Taken::NoSpare,
+        };
+    }
+    if look.same {
+        return take_newest(
+            pool,
+            book,
+            textures,
+            retiring,
+            doomed,
+            spares,
+            newest,
+            stamps,
+            i,
+            id,
+            shape,
+            records,
+            seq,
+        );
+    }
+    let after = renew_tracking(
+        pool,
+        book,
+        textures,
+        retiring,
+        doomed,
+        spares,
+        newest,
+        stamps,
+        i,
+        id,
+        shape,
+        records,
+        seq,
+    );
+    TakeAnswer {
+        pool: after,
+        taken: Taken::NoSpare,
+    }
+}

@@ -1,0 +1,150 @@
+// trim: queue for destruction every spare idle past the bound, and forget idle textures.
+ghost use mathlib.Core.Path.{_≡_};
+ghost use mathlib.Core.Bool.{true};
+ghost use Prim.Native.Nat.{_+_, _*_, _≤_};
+ghost use lib.ListN.{length};
+ghost use Rattle.base_tables.specs.Records.{recordAt};
+ghost use Rattle.pool_records.specs.Recorded.{RecordedFits};
+ghost use Rattle.pool_records.specs.Texture.{readTexture};
+ghost use Rattle.pool_memory.specs.Lent.{lent};
+ghost use Rattle.pool_memory.specs.IsPool.{isPool};
+ghost use Rattle.pool_memory.specs.Writing.{after};
+ghost use Rattle.pool_memory.specs.Calls.{toldNumber, trimCall};
+ghost use Rattle.pool_trim.specs.LookAt.{lookedPut};
+ghost use Rattle.pool_trim.specs.Pass.{trimmed};
+use crate::look_at::Look;
+use crate::look_at::look_at;
+use crate::nothing_aged::nothing_aged;
+use crate::pass::counts_after;
+use crate::pass::no_pass;
+use crate::pass::pass_on;
+use pool_access::put_texture;
+use pool_access::texture_at;
+use pool_forget_texture::move_down;
+use pool_forget_texture::move_pages;
+use pool_memory::DoneAnswer;
+use pool_memory::PacingBook;
+use pool_memory::Pool;
+use pool_take_doomed::push_spares;
+
+// Record i written at place `to` as it is after the look. Nothing is written where the texture is dropped, nor where the record stands
+// there already.
+fn put_looked(textures: &mut [u64], to: usize, i: usize, look: Look)
+    requires { ⌜ (20 * i + 20 ≤ length (now textures)) × (20 * to + 20 ≤ length (now textures))
+        × RecordedFits (recordAt 20 readTexture (now textures) i .history) × (look .aged ≤ look .own) ⌝ }
+    ensures { λ _. ⌜ now (textures .exit) ≡ lookedPut (now (textures .entry)) to i look ⌝ }
+{
+    if look.staying == 0 {
+        return;
+    }
+    let left = (look.own - look.aged) as u64;
+    if (to == i) & (textures[20 * i + 17] == look.due) & (textures[20 * i + 18] == left) {
+        return;
+    }
+    let mut t = texture_at(textures, i);
+    t.due = look.due;
+    t.spares = left;
+    put_texture(textures, to, t);
+}
+
+// The textures in ascending id. What stays moves down to what stays before it, so that no number is written before it is read.
+fn trim_textures(
+    pool: Pool,
+    book: PacingBook,
+    textures: &mut [u64],
+    retiring: &[u64],
+    doomed: &mut [u64],
+    spares: &mut [u64],
+    newest: &mut [u64],
+    stamps: &mut [u64],
+    current: u64,
+) -> Pool
+    requires { ⌜ isPool (lent pool book (now textures) (now retiring) (now doomed) (now spares) (now newest) (now stamps)) ≡ true ⌝ }
+    ensures { λ r. ⌜
+        lent r book (now (textures .exit)) (now (retiring .entry)) (now (doomed .exit)) (now (spares .exit)) (now (newest .exit)) (now (stamps .exit))
+        ≡ after (trimmed (lent pool book (now (textures .entry)) (now (retiring .entry)) (now (doomed .entry)) (now (spares .entry))
+        (now (newest .entry)) (now (stamps .entry))) current (pool .tracked))
+        (lent pool book (now (textures .entry)) (now (retiring .entry)) (now (doomed .entry)) (now (spares .entry))
+        (now (newest .entry)) (now (stamps .entry))) ⌝ }
+{
+    let places = retiring.len() / 7;
+    let tracked = pool.tracked;
+    let ring = pool.first;
+    let waiting = pool.doomed;
+    let mut pass = no_pass();
+    let mut i = 0;
+    while i < tracked {
+        let look = look_at(textures, spares, i, pass.first, current);
+        push_spares(
+            doomed,
+            places,
+            ring,
+            waiting + pass.count,
+            spares,
+            pass.first,
+            look.aged,
+            look.bytes,
+        );
+        move_down(
+            spares,
+            3 * pass.kept,
+            3 * (pass.first + look.aged - pass.kept),
+            3 * (look.own - look.aged),
+        );
+        move_pages(
+            newest,
+            stamps,
+            pass.pages,
+            pass.page - pass.pages,
+            look.paged,
+        );
+        put_looked(textures, pass.tracked, i, look);
+        pass = pass_on(pass, look);
+        i += 1;
+    }
+    counts_after(pool, pass)
+}
+
+// `current` is 01's now, the submission that is being built.
+pub fn trim(
+    pool: Pool,
+    book: PacingBook,
+    textures: &mut [u64],
+    retiring: &[u64],
+    doomed: &mut [u64],
+    spares: &mut [u64],
+    newest: &mut [u64],
+    stamps: &mut [u64],
+    current: u64,
+) -> DoneAnswer
+    requires { ⌜ isPool (lent pool book (now textures) (now retiring) (now doomed) (now spares) (now newest) (now stamps)) ≡ true ⌝ }
+    ensures { λ r. ⌜ (
+      toldNumber (r .outcome),
+      lent (r .pool) book (now (textures .exit)) (now (retiring .entry)) (now (doomed .exit)) (now (spares .exit))
+          (now (newest .exit)) (now (stamps .exit)),
+    )
+        ≡ trimCall (lent pool book (now (textures .entry)) (now (retiring .entry)) (now (doomed .entry)) (now (spares .entry))
+        (now (newest .entry)) (now (stamps .entry))) current ⌝ }
+{
+    if current > 281474976710656 {
+        return DoneAnswer { pool, outcome: 3 };
+    }
+    if nothing_aged(textures, spares, pool.tracked, current) {
+        return DoneAnswer { pool, outcome: 0 };
+    }
+    let counts = trim_textures(
+        pool,
+        book,
+        textures,
+        retiring,
+        doomed,
+        spares,
+        newest,
+        stamps,
+        current,
+    );
+    DoneAnswer {
+        pool: counts,
+        outcome: 0,
+    }
+}
