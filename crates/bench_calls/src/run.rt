@@ -17,8 +17,13 @@ use crate::totals::settled_in;
 use bench_work::open_work;
 use bench_work::settle_round;
 use bench_work::test_lines;
+use grid_stamps::PAGE_STAMPS;
 use pool_memory::PacingBook;
 use pool_memory::Pool;
+use pool_records::DOOMED_STRIDE;
+use pool_records::RETIRING_STRIDE;
+use pool_records::SPARE_STRIDE;
+use pool_records::TEXTURE_STRIDE;
 
 struct Round {
     pool: Pool,
@@ -167,11 +172,11 @@ pub fn run_part(
     requires { ⌜ (t ≤ 4096) × (v ≤ 4096) × (p ≤ 4096) × (81920 ≤ length (now textures)) × (28672 ≤ length (now retiring)) × (8192 ≤ length (now doomed))
         × (12288 ≤ length (now spares)) × (4096 ≤ length (now newest)) × (4194304 ≤ length (now stamps)) ⌝ }
 {
-    let a = 20 * t;
-    let b = 7 * v;
-    let c = 2 * v;
-    let d = 3 * v;
-    let e = 1024 * p;
+    let a = TEXTURE_STRIDE * t;
+    let b = RETIRING_STRIDE * v;
+    let c = DOOMED_STRIDE * v;
+    let d = SPARE_STRIDE * v;
+    let e = PAGE_STAMPS * p;
     run(
         &mut textures[..a],
         &mut retiring[..b],

@@ -7,6 +7,11 @@ use crate::totals::added;
 use crate::totals::counted;
 use crate::totals::no_totals;
 use bench_work::open_work;
+use grid_stamps::PAGE_STAMPS;
+use pool_records::DOOMED_STRIDE;
+use pool_records::RETIRING_STRIDE;
+use pool_records::SPARE_STRIDE;
+use pool_records::TEXTURE_STRIDE;
 
 // Nothing is done where the memory is not enough for a pool.
 fn run(
@@ -70,11 +75,11 @@ pub fn run_part(
     requires { ⌜ (t ≤ 4096) × (p ≤ 4096) × (81920 ≤ length (now textures)) × (28672 ≤ length (now retiring)) × (8192 ≤ length (now doomed))
         × (12288 ≤ length (now spares)) × (4096 ≤ length (now newest)) × (4194304 ≤ length (now stamps)) ⌝ }
 {
-    let a = 20 * t;
-    let b = 7 * t;
-    let c = 2 * t;
-    let d = 3 * t;
-    let e = 1024 * p;
+    let a = TEXTURE_STRIDE * t;
+    let b = RETIRING_STRIDE * t;
+    let c = DOOMED_STRIDE * t;
+    let d = SPARE_STRIDE * t;
+    let e = PAGE_STAMPS * p;
     run(
         &mut textures[..a],
         &mut retiring[..b],

@@ -11,6 +11,7 @@ use crate::workload::id_of;
 use crate::workload::keep_at;
 use crate::workload::kept_at;
 use crate::workload::rect_of;
+use pool_memory::COPY_STRIDE;
 use pool_memory::PacingBook;
 use pool_memory::Pool;
 use pool_note_write::note_write;
@@ -79,7 +80,7 @@ pub fn plan_all(
     requires { ⌜ isPool (lent pool book (now textures) (now retiring) (now doomed) (now spares) (now newest) (now stamps)) ≡ true ⌝ }
 {
     let shape = bench_shape(n, 1);
-    let mut copies = [0; 7];
+    let mut copies = [0; COPY_STRIDE];
     let mut sum = 0;
     let mut i = 0;
     while i < n {

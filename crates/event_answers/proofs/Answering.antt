@@ -17,6 +17,7 @@ use Rattle.event_answers.specs.Answers.{replyOf, entries, InBuffers}
 use Rattle.event_answers.specs.Printed.{question, dash, accepted, row, acceptedRow, optional, heldField, regionFields, copyRow, viewRow, replyRows, printed}
 use Rattle.event_answers.specs.Put.{Put, fieldsEnded}
 use Rattle.event_answers.proofs.Puts.{put-as, put-then, row-ended, put-row, put-field, put-accepted}
+use Rattle.pool_memory.specs.MemoryConstants.{copyStride}
 
 -- ---- the line of a copy
 
@@ -45,9 +46,9 @@ module _ (s : List ℕ) where
     part-copy t r = copied (put-as (ap fieldsEnded (part t)) r)
 
 -- the numbers from a copy's first on
-pub copy-from : (s : List ℕ) (i : ℕ) → readCopy (take (length s - 7 * i) (drop (7 * i) s)) ≡ recordAt 7 readCopy s i
+pub copy-from : (s : List ℕ) (i : ℕ) → readCopy (take (length s - copyStride * i) (drop (copyStride * i) s)) ≡ recordAt copyStride readCopy s i
 unfolding recordAt
-copy-from s i = ap readCopy (take-all (length s - 7 * i) (drop (7 * i) s) (omega (arith, length-drop (7 * i) s)))
+copy-from s i = ap readCopy (take-all (length s - copyStride * i) (drop (copyStride * i) s) (omega (arith, length-drop (copyStride * i) s)))
 
 -- ---- an answer
 
@@ -100,10 +101,10 @@ module _ {a b : List ℕ} {i j : ℕ} (n : ℕ) (copies views : List ℕ) where
     show-views h p =
         put-as (ap (λ (x : ℕ). acceptedRow n (digitsOf x ∷ []) ++ flatMap (viewRow n) (take m views)) (sym (length-take-le m views h))) (put-then count p)
 
-    pub show-copies : Put c k (flatMap (copyRow n) (table 7 readCopy m copies)) j b → Shown a i n (Copies m) copies views j b
+    pub show-copies : Put c k (flatMap (copyRow n) (table copyStride readCopy m copies)) j b → Shown a i n (Copies m) copies views j b
     unfolding printed replyOf replyRows
     show-copies p =
-        put-as (ap (λ (x : ℕ). acceptedRow n (digitsOf x ∷ []) ++ flatMap (copyRow n) (table 7 readCopy m copies)) (sym (length-table 7 readCopy m copies))) (put-then count p)
+        put-as (ap (λ (x : ℕ). acceptedRow n (digitsOf x ∷ []) ++ flatMap (copyRow n) (table copyStride readCopy m copies)) (sym (length-table copyStride readCopy m copies))) (put-then count p)
 
 -- a spare of unknown writes
 pub show-unknown : {a b c d : List ℕ} {i j k l : ℕ} (n view : ℕ) → Put a i (digitsOf n ++ (44 ∷ 48 ∷ [])) j b → Put b j (44 ∷ digitsOf view) k c
@@ -117,6 +118,6 @@ module _ {answer : Answer} (m : ℕ) (copies views : List ℕ) where
   unfolding entries InBuffers
   views-fit e h = (ap entries e, subst (λ (x : Answer). InBuffers x copies views) e h)
 
-  pub copies-fit : answer ≡ Copies m → InBuffers answer copies views → (entries answer ≡ m) × (7 * m ≤ length copies)
+  pub copies-fit : answer ≡ Copies m → InBuffers answer copies views → (entries answer ≡ m) × (copyStride * m ≤ length copies)
   unfolding entries InBuffers
   copies-fit e h = (ap entries e, subst (λ (x : Answer). InBuffers x copies views) e h)

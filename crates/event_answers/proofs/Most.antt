@@ -20,6 +20,7 @@ use Rattle.event_answers.specs.Answers.{replyOf, entries}
 use Rattle.event_answers.specs.Printed.{question, dash, accepted, row, acceptedRow, optional, heldField, regionFields, copyRow, viewRow, replyRows, printed, mostBytes}
 use Rattle.event_answers.specs.Put.{fieldsEnded}
 use Rattle.event_answers.proofs.Puts.{row-ended}
+use Rattle.pool_memory.specs.MemoryConstants.{copyStride}
 
 -- ---- a line
 
@@ -97,4 +98,4 @@ printed-most NoSpare copies views n = pair-most n (dash ∷ dash ∷ []) (omega 
 printed-most (Version id view) copies views n = pair-most n (digitsOf id ∷ digitsOf view ∷ []) (digits-room id, (digits-room view, tt))
 printed-most NothingSettled copies views n = pair-most n (dash ∷ dash ∷ []) (omega arith, (omega arith, tt))
 printed-most (Views k) copies views n = list-most n k (viewRow n) (view-most n) (take k views) (length-take-most k views)
-printed-most (Copies k) copies views n = list-most n k (copyRow n) (copy-most n) (table 7 readCopy k copies) (omega (arith, length-table 7 readCopy k copies))
+printed-most (Copies k) copies views n = list-most n k (copyRow n) (copy-most n) (table copyStride readCopy k copies) (omega (arith, length-table copyStride readCopy k copies))

@@ -8,6 +8,7 @@ use Rattle.pool_books.specs.Demand3.{Reply, refusal, done, spareTaken, versionP
 use Rattle.pool_books.specs.LentLists.{copiesReply, viewsReply}
 use Rattle.event_answers.specs.declared.answer.Answer.{Answer}
 use Rattle.event_answers.specs.declared.answer.Answer.the-variants.{Question, Refused, Done, Spare, NoSpare, Version, NothingSettled, Views, Copies}
+use Rattle.pool_memory.specs.MemoryConstants.{copyStride}
 
 unfoldable pub replyOf : Answer → List ℕ → List ℕ → Option Reply
 replyOf Question copies views = none
@@ -42,4 +43,4 @@ InBuffers NoSpare copies views = Unit {0}
 InBuffers (Version id view) copies views = Unit {0}
 InBuffers NothingSettled copies views = Unit {0}
 InBuffers (Views n) copies views = n ≤ length views
-InBuffers (Copies n) copies views = 7 * n ≤ length copies
+InBuffers (Copies n) copies views = copyStride * n ≤ length copies

@@ -7,11 +7,13 @@ ghost use Rattle.pool_books.specs.LentLists.{readCopy};
 ghost use Rattle.event_text.specs.Numbers.{digitsOf};
 ghost use Rattle.event_answers.specs.Printed.{copyRow, viewRow, mostRow};
 ghost use Rattle.event_answers.specs.Put.{Put, fieldsEnded};
+ghost use Rattle.pool_memory.specs.MemoryConstants.{copyStride};
 use crate::row::put_field;
 use crate::row::put_last;
 use crate::row::put_row;
 use event_text::put_number;
 use event_text::put_text;
+use pool_memory::COPY_STRIDE;
 
 // The lines of the first n view numbers.
 pub fn put_views(out: &mut [u8], at: usize, number: u64, views: &[u64], n: usize) -> usize
@@ -41,7 +43,7 @@ fn put_box(out: &mut [u8], at: usize, left: u64, top: u64, width: u64, height: u
 
 // The line of the copy that stands in the first seven numbers.
 fn put_copy(out: &mut [u8], at: usize, number: u64, copy: &[u64]) -> usize
-    requires { ⌜ (at + mostRow ≤ length (now out)) × (7 ≤ length (now copy)) ⌝ }
+    requires { ⌜ (at + mostRow ≤ length (now out)) × (copyStride ≤ length (now copy)) ⌝ }
     ensures { λ r. ⌜ (r ≤ at + mostRow) × Put (now (out .entry)) at (copyRow number (readCopy (now (copy .entry)))) r (now (out .exit)) ⌝ }
 {
     let start = put_number(out, at, number);
@@ -55,13 +57,13 @@ fn put_copy(out: &mut [u8], at: usize, number: u64, copy: &[u64]) -> usize
 
 // The lines of the first n copies.
 pub fn put_copies(out: &mut [u8], at: usize, number: u64, copies: &[u64], n: usize) -> usize
-    requires { ⌜ (at + mostRow * n ≤ length (now out)) × (7 * n ≤ length (now copies)) ⌝ }
-    ensures { λ r. ⌜ Put (now (out .entry)) at (flatMap (copyRow number) (table 7 readCopy n (now (copies .entry)))) r (now (out .exit)) ⌝ }
+    requires { ⌜ (at + mostRow * n ≤ length (now out)) × (copyStride * n ≤ length (now copies)) ⌝ }
+    ensures { λ r. ⌜ Put (now (out .entry)) at (flatMap (copyRow number) (table copyStride readCopy n (now (copies .entry)))) r (now (out .exit)) ⌝ }
 {
     let mut end = at;
     let mut i = 0;
     while i < n {
-        let from = 7 * i;
+        let from = COPY_STRIDE * i;
         end = put_copy(out, end, number, &copies[from..]);
         i += 1;
     }

@@ -24,6 +24,7 @@ use Rattle.pool_books.proofs.Answers.{copies-read, views-read}
 use Rattle.event_answers.specs.Answers.{replyOf, InBuffers}
 use Rattle.event_answers.specs.declared.answer.Answer.{Answer}
 use Rattle.event_calls.specs.Calls.{MadeCopies, MadeViews, blank, blanked, viewsAnswer, copiesAnswer}
+use Rattle.pool_memory.specs.MemoryConstants.{copyStride}
 
 -- ---- the reply, without the buffer
 
@@ -42,7 +43,7 @@ module _ (l : Lent) (b c : List ℕ) (same : length b ≡ length c) where
       → lentCall l (lentPlan id shape held u b) ≡ lentCall l (lentPlan id shape held u c)
   unfolding lentCall preservePlanCall
   any-buffer-plan id shape held u =
-      let o : ℕ → Told (List PreserveCopy) × Lent = λ n. asked (λ a. a) l (λ (p : Pool ℕ). preservePlan p id shape held u (n / 7)) in
+      let o : ℕ → Told (List PreserveCopy) × Lent = λ n. asked (λ a. a) l (λ (p : Pool ℕ). preservePlan p id shape held u (n / copyStride)) in
       copies-said b (o (length b)) ∙ ap (λ (n : ℕ). said copiesPlanned (o n)) same ∙ sym (copies-said c (o (length c)))
 
   any-buffer-doomed : lentCall l (lentDoomed b) ≡ lentCall l (lentDoomed c)
@@ -77,11 +78,11 @@ any-buffer l (lentForget id) = refl
 
 -- ---- the entries stand in the buffer
 
-long-copy : (c : PreserveCopy) → length (copyNumbers c) ≡ 7
+long-copy : (c : PreserveCopy) → length (copyNumbers c) ≡ copyStride
 unfolding copyNumbers
 long-copy c = go (c .region)
   where
-    go : (r : Region) → length (c .slice ∷ c .level ∷ regionNumbers r) ≡ 7
+    go : (r : Region) → length (c .slice ∷ c .level ∷ regionNumbers r) ≡ copyStride
     go Whole = refl
     go (Part r) = refl
 
@@ -105,7 +106,7 @@ module _ (other : List ℕ) where
   copies-stand : (b : List ℕ) (o : Told (List PreserveCopy) × Lent) → CopiesStand (inBuffer copyNumbers b o)
   unfolding InBuffers
   copies-stand b (refusal n, l) = tt
-  copies-stand b (answer cs, l) = omega (arith, stands 7 copyNumbers long-copy cs b)
+  copies-stand b (answer cs, l) = omega (arith, stands copyStride copyNumbers long-copy cs b)
 
   abbrev ViewsStand : Told ℕ × (List ℕ × Lent) → Type 0
   ViewsStand (t, (exit, l)) = InBuffers (viewsAnswer t) other exit
@@ -132,7 +133,7 @@ module _ (l after : Lent) (b exit : List ℕ) (t : Told ℕ) where
       → (a : Answer) → a ≡ copiesAnswer t → MadeCopies l (lentPlan id shape held u (blank b)) a exit after
   unfolding MadeCopies lentCall preservePlanCall
   made-plan id shape held u e a q =
-      let o = asked (λ a. a) l (λ (p : Pool ℕ). preservePlan p id shape held u (length b / 7)) in
+      let o = asked (λ a. a) l (λ (p : Pool ℕ). preservePlan p id shape held u (length b / copyStride)) in
       let k : (toldReply (λ (n : ℕ). copiesReply n exit) t, after) ≡ lentCall l (lentPlan id shape held u (blank b)) =
       ap (filled copiesReply) e ∙ any-buffer l (lentPlan id shape held u b) in
       rw q (

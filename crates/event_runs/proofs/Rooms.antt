@@ -16,9 +16,10 @@ use Rattle.event_answers.specs.Printed.{lineFeed, printed, mostBytes}
 use Rattle.event_answers.proofs.Most.{printed-most}
 use Rattle.event_runs.specs.Lines.{longestAnswer}
 use Rattle.event_runs.specs.Ends.{lineEnd, nextEnd}
+use Rattle.pool_memory.specs.MemoryConstants.{copyStride}
 
 -- an answer has no more entries than its buffers have room for
-pub entries-most : (a : Answer) (copies views : List ℕ) → InBuffers a copies views → entries a ≤ max (length copies / 7) (length views)
+pub entries-most : (a : Answer) (copies views : List ℕ) → InBuffers a copies views → entries a ≤ max (length copies / copyStride) (length views)
 unfolding entries InBuffers
 entries-most Question copies views h = omega arith
 entries-most (Refused n) copies views h = omega arith
@@ -27,8 +28,8 @@ entries-most (Spare view held) copies views h = omega arith
 entries-most NoSpare copies views h = omega arith
 entries-most (Version id view) copies views h = omega arith
 entries-most NothingSettled copies views h = omega arith
-entries-most (Views n) copies views h = omega (arith, le-max-right (length copies / 7) (length views))
-entries-most (Copies n) copies views h = omega (arith, le-max-left (length copies / 7) (length views))
+entries-most (Views n) copies views h = omega (arith, le-max-right (length copies / copyStride) (length views))
+entries-most (Copies n) copies views h = omega (arith, le-max-left (length copies / copyStride) (length views))
 
 -- ---- whether the buffer has it
 
@@ -46,7 +47,7 @@ module _ (input : List ℕ) (from longest room filled size : ℕ) (fits : filled
 pub answer-fits : (a : Answer) (copies views : List ℕ) (m n filled size : ℕ) → InBuffers a copies views → length copies ≡ m → length views ≡ n
     → filled + longestAnswer m n ≤ size → filled + mostBytes (entries a) ≤ size
 answer-fits a copies views m n filled size h p q r =
-    let e : entries a ≤ max (m / 7) n = rw (sym p, sym q) (entries-most a copies views h) in omega arith
+    let e : entries a ≤ max (m / copyStride) n = rw (sym p, sym q) (entries-most a copies views h) in omega arith
 
 -- ---- the end of a line
 

@@ -11,6 +11,7 @@ use Rattle.event_lines.specs.Grammar.{eventOf}
 use Rattle.event_answers.specs.Printed.{lineFeed, printed, mostBytes}
 use Rattle.event_sessions.specs.Sessions.{State, stateOf, step}
 use Rattle.event_runs.specs.declared.run.Run.{Run}
+use Rattle.pool_memory.specs.MemoryConstants.{copyStride}
 
 -- ---- lines
 
@@ -48,7 +49,7 @@ module _ (copies views : ℕ) where
 
   -- no line's output has more bytes
   abbrev pub longestAnswer : ℕ
-  longestAnswer = mostBytes (max (copies / 7) views)
+  longestAnswer = mostBytes (max (copies / copyStride) views)
 
 -- ---- lines run as long as the output's buffer has room for the longest answer
 

@@ -4,22 +4,24 @@ ghost use Prim.Native.Nat.{_+_, _/_, _^_, _≤_, _<_, min, max};
 ghost use lib.ListN.{length};
 ghost use Rattle.event_sessions.specs.Sessions.{stateOf, HoldsPool};
 ghost use Rattle.event_runs.specs.Lines.{longestAnswer, progressOf, start, wholeLines, ranAll};
+ghost use Rattle.pool_memory.specs.MemoryConstants.{copyStride};
 use crate::line::run_line;
 use crate::run::Run;
 use event_lines::parse_first;
 use event_sessions::Session;
+use pool_memory::COPY_STRIDE;
 
 // The most bytes of a line of output.
 const ROW: usize = 147;
 
 // The most entries of an answer in buffers of so many numbers.
 fn most_entries(copies: usize, views: usize) -> usize
-    ensures { λ r. ⌜ r ≡ max (copies / 7) views ⌝ }
+    ensures { λ r. ⌜ r ≡ max (copies / copyStride) views ⌝ }
 {
-    if copies / 7 < views {
+    if copies / COPY_STRIDE < views {
         return views;
     }
-    copies / 7
+    copies / COPY_STRIDE
 }
 
 // The bytes of the longest answer in buffers of so many numbers. Where an output of `size` bytes has no room for them it is `size` + 1 instead, since

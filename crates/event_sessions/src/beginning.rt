@@ -6,6 +6,7 @@ use crate::session::Session;
 use grid_shapes::VersionShape;
 use pool_memory::PacingBook;
 use pool_memory::Pool;
+use pool_rules::DESTROY_SPREAD_DRAINS;
 use pool_rules::VersionBudget;
 
 fn no_pool() -> Pool
@@ -34,7 +35,7 @@ fn no_book() -> PacingBook
     ensures { λ r. ⌜ r ≡ openedBook ⌝ }
 {
     PacingBook {
-        arrivals: [0; 8],
+        arrivals: [0; DESTROY_SPREAD_DRAINS],
         slot: 0,
         pressed: 0,
         excess: 0,

@@ -13,6 +13,7 @@ use Rattle.grid_axes.specs.declared.axis.Axis.{Axis}
 use Rattle.grid_axes.specs.declared.axis.Span.{Span}
 use Rattle.grid_axes.specs.declared.axis.Touched.the-variants.{Tiles, NoTiles}
 use Rattle.grid_axes.specs.Axes.{tileEdge, axisOf, AxisOk, tilesOf, cutEnd, isCut, touched, touchedTiles, SpanIn, spanStart, spanSize}
+use Rattle.grid_axes.specs.AxisConstants.{maxTilesPerAxis, minTileTexels}
 
 -- ---- tile edges
 
@@ -20,28 +21,28 @@ module _ (extent block : ℕ) (pos : 0 < block) where
   -- a tile's side is a whole number of blocks
   pub edge-multiple : tileEdge extent block % block ≡ 0
   unfolding tileEdge
-  edge-multiple = mul-mod-left (ceilDiv (max 16 (ceilDiv extent 32)) block) block
+  edge-multiple = mul-mod-left (ceilDiv (max minTileTexels (ceilDiv extent maxTilesPerAxis)) block) block
 
   -- it is at least 16 and at least a 32nd of the extent, and exceeds the larger of the two by less than a block
-  pub edge-least : max 16 (ceilDiv extent 32) ≤ tileEdge extent block
+  pub edge-least : max minTileTexels (ceilDiv extent maxTilesPerAxis) ≤ tileEdge extent block
   unfolding tileEdge
-  edge-least = ceil-covers (max 16 (ceilDiv extent 32)) block pos
+  edge-least = ceil-covers (max minTileTexels (ceilDiv extent maxTilesPerAxis)) block pos
 
-  pub edge-bound : tileEdge extent block < max 16 (ceilDiv extent 32) + block
+  pub edge-bound : tileEdge extent block < max minTileTexels (ceilDiv extent maxTilesPerAxis) + block
   unfolding tileEdge
-  edge-bound = ceil-least (max 16 (ceilDiv extent 32)) block pos
+  edge-bound = ceil-least (max minTileTexels (ceilDiv extent maxTilesPerAxis)) block pos
 
   -- at most 32 tiles lie along the axis
-  pub tiles-bound : tilesOf (axisOf extent block) ≤ 32
+  pub tiles-bound : tilesOf (axisOf extent block) ≤ maxTilesPerAxis
   unfolding tilesOf axisOf
   tiles-bound =
       ceil-at-most extent (tileEdge extent block) 32 (omega (arith, edge-least))
-      (omega (arith, edge-least, ceil-covers extent 32 (omega arith)))
+      (omega (arith, edge-least, ceil-covers extent maxTilesPerAxis (omega arith)))
 
   pub axis-ok : extent ≤ 16384 → block ≤ 16 → AxisOk (axisOf extent block)
   unfolding axisOf
   axis-ok h k =
-      let c : ceilDiv extent 32 * 32 < extent + 32 = ceil-least extent 32 (omega arith) in
+      let c : ceilDiv extent maxTilesPerAxis * 32 < extent + 32 = ceil-least extent maxTilesPerAxis (omega arith) in
       record { extent = h; wide = omega (arith, edge-least); narrow = omega (arith, edge-bound); tiles = tiles-bound }
 
 -- ---- tiles and texels

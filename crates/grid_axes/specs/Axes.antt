@@ -9,10 +9,11 @@ use Rattle.grid_axes.specs.declared.axis.Axis.{Axis}
 use Rattle.grid_axes.specs.declared.axis.Span.{Span}
 use Rattle.grid_axes.specs.declared.axis.Touched.{Touched}
 use Rattle.grid_axes.specs.declared.axis.Touched.the-variants.{Tiles, NoTiles}
+use Rattle.grid_axes.specs.AxisConstants.{maxTilesPerAxis, minTileTexels}
 
 -- extent / 32 rounded up, at least 16, raised to a multiple of the block edge
 unfoldable pub tileEdge : ℕ → ℕ → ℕ
-tileEdge extent block = ceilDiv (max 16 (ceilDiv extent 32)) block * block
+tileEdge extent block = ceilDiv (max minTileTexels (ceilDiv extent maxTilesPerAxis)) block * block
 
 -- the axis of a level with that many texels, in a format of that block edge
 unfoldable pub axisOf : ℕ → ℕ → Axis
@@ -27,7 +28,7 @@ pub record AxisOk (a : Axis) : Type 0 where
   pub extent : a .extent ≤ 16384
   pub wide : 0 < a .edge
   pub narrow : a .edge ≤ 16384
-  pub tiles : tilesOf a ≤ 32
+  pub tiles : tilesOf a ≤ maxTilesPerAxis
 
 -- `size` texels from `start` on, cut to the level, end before this texel
 unfoldable pub cutEnd : Axis → ℕ → ℕ → ℕ

@@ -1,1 +1,2 @@
+pub mod AxisConstants
 pub mod Axes

@@ -2,6 +2,11 @@
 ghost use mathlib.Core.Path.{_≡_};
 ghost use Prim.Native.Nat.{_/_, _≤_, _<_};
 ghost use Rattle.grid_axes.specs.Axes.{tileEdge, axisOf, AxisOk, tilesOf, touchedTiles, SpanIn, spanStart, spanSize};
+use crate::constants::MAX_TILES_PER_AXIS;
+use crate::constants::MIN_TILE_TEXELS;
+
+// Added before a division by MAX_TILES_PER_AXIS, so that it rounds up. A difference in the code would ask for one proof more.
+const ROUND_UP: u64 = MAX_TILES_PER_AXIS - 1;
 
 // Texels along the axis, and texels along a tile's side.
 pub struct Axis {
@@ -26,7 +31,7 @@ pub fn tile_edge(extent: u64, block: u64) -> u64
     requires { ⌜ (extent ≤ 16384) × (0 < block) × (block ≤ 16) ⌝ }
     ensures { λ r. ⌜ r ≡ tileEdge extent block ⌝ }
 {
-    let least = base_blocks::larger(16, (extent + 31) / 32);
+    let least = base_blocks::larger(MIN_TILE_TEXELS, (extent + ROUND_UP) / MAX_TILES_PER_AXIS);
     (least + (block - 1)) / block * block
 }
 
@@ -45,8 +50,8 @@ fn tile_of(texel: u64, edge: u64) -> u64
     requires { ⌜ 0 < edge ⌝ }
     ensures { λ r. ⌜ r ≡ texel / edge ⌝ }
 {
-    if edge == 16 {
-        return texel / 16;
+    if edge == MIN_TILE_TEXELS {
+        return texel / MIN_TILE_TEXELS;
     }
     texel / edge
 }

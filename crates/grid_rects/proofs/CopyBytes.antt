@@ -13,6 +13,7 @@ use Rattle.grid_rects.specs.Copies.{cutSize, regionTexels, copyBytes}
 use Rattle.base_blocks.proofs.Numbers.{ceil-one}
 use Rattle.grid_shapes.proofs.Formats.{block-bytes-bound}
 use Rattle.grid_shapes.proofs.Shapes.{ShapeBounds, shape-bounds, width-bound, height-bound, depth-bound}
+use Rattle.grid_shapes.specs.ShapeConstants.{mostShapeBytes}
 
 pub cut-bound : (extent start size : ℕ) → cutSize extent start size ≤ extent
 unfolding cutSize
@@ -48,7 +49,7 @@ module _ (s : VersionShape) (z : ShapeBounds s) (level : ℕ) (r : Region) where
       let most = div-le-self (texelsIn s level r * levelDepth s level * blockBytes (s .format)) (blockEdge (s .format) * blockEdge (s .format)) in
       le-trans most blocks-bound
 
-pub copy-bound : (s : VersionShape) (level : ℕ) (r : Region) → isShape s ≡ true → copyBytes s level r ≤ 17592186044416
+pub copy-bound : (s : VersionShape) (level : ℕ) (r : Region) → isShape s ≡ true → copyBytes s level r ≤ mostShapeBytes
 copy-bound s level r e = omega (arith, bounds-copy s (shape-bounds s e) level r)
 
 -- with blocks of one texel a copy of a whole level moves the level's bytes

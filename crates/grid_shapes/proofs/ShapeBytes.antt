@@ -15,6 +15,7 @@ use Rattle.base_blocks.proofs.Lists.{either}
 use Rattle.base_blocks.proofs.Numbers.{ceil-bound}
 use Rattle.grid_shapes.proofs.Formats.{block-edge-pos, block-bytes-bound}
 use Rattle.grid_shapes.proofs.Shapes.{ShapeBounds, shape-bounds, extent-below, depth-below, depth-flat, width-bound, height-bound, depth-bound, pow-pos}
+use Rattle.grid_shapes.specs.ShapeConstants.{mostShapeBytes}
 
 -- n terms of at most c each
 sum-bound : (f : ℕ → ℕ) (c a n : ℕ) → ((k : ℕ) → a ≤ k → f k ≤ c) → total f (listed (λ (k : ℕ). k) a n) ≤ n * c
@@ -65,7 +66,7 @@ module _ (s : VersionShape) (z : ShapeBounds s) where
   later-bound level h =
       shrunk 4 4096 512 level refl refl (omega arith) (omega arith) (omega arith) (pow-le-pow-right {n = 2} (omega arith) {i = 2} {j = level} h)
 
-  levels-of : (n : ℕ) → n ≤ 15 → total (levelBytes s) (listed (λ (k : ℕ). k) 0 n) ≤ 17592186044416
+  levels-of : (n : ℕ) → n ≤ 15 → total (levelBytes s) (listed (λ (k : ℕ). k) 0 n) ≤ mostShapeBytes
   unfolding total listed
   levels-of zero h = omega arith
   levels-of (suc zero) h = omega (arith, level-bound 0)
@@ -83,14 +84,14 @@ module _ (s : VersionShape) (z : ShapeBounds s) where
       apart : s .kind ≡ 1 → s .kind ≡ 2 → ⊥
       apart p q = omega arith
 
-  pub bounds-bytes : bytesOf s ≤ 17592186044416
+  pub bounds-bytes : bytesOf s ≤ mostShapeBytes
   unfolding bytesOf slicesOf
   bounds-bytes =
-      either (λ (n : ℕ). total (levelBytes s) (listed (λ (k : ℕ). k) 0 (s .levels)) * n ≤ 17592186044416) (eqb (s .kind) 1) 6 1
+      either (λ (n : ℕ). total (levelBytes s) (listed (λ (k : ℕ). k) 0 (s .levels)) * n ≤ mostShapeBytes) (eqb (s .kind) 1) 6 1
       (λ e. omega (arith, sum-bound (levelBytes s) 4294967296 0 (s .levels) (λ k g. cube-level (eqb-true _ _ e) k), z .levels-bound))
       (λ e. omega (arith, levels-of (s .levels) (z .levels-bound)))
 
-pub bytes-bound : (s : VersionShape) → isShape s ≡ true → bytesOf s ≤ 17592186044416
+pub bytes-bound : (s : VersionShape) → isShape s ≡ true → bytesOf s ≤ mostShapeBytes
 bytes-bound s e = bounds-bytes s (shape-bounds s e)
 
 -- each level has its blocks times the bytes of one

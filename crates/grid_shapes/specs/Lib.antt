@@ -1,3 +1,4 @@
+pub mod ShapeConstants
 pub mod Outcomes
 pub mod Formats
 pub mod Shapes

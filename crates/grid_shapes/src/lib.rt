@@ -2,10 +2,12 @@
 //
 // Functions for callers outside the pool have no `requires` and answer or refuse every input: `is_shape`, `same_shape`,
 // `slices`, `level_extent`, `level_depth`, `bytes` and `records_every_write`. `shape_bytes` is the pool's own.
+mod constants;
 mod format;
 mod recording;
 mod shape;
 
+pub use constants::MOST_SHAPE_BYTES;
 pub use format::block_bytes;
 pub use format::block_edge;
 pub use recording::RecordsAnswer;

@@ -13,9 +13,10 @@ use Rattle.grid_stamps.specs.Grids.{Tiling, tilingOf, TilingOk, columnsO
 use Rattle.grid_shapes.proofs.Formats.{block-edge-pos, block-edge-bound}
 use Rattle.grid_shapes.proofs.Shapes.{shape-bounds, width-pos, height-pos, width-bound, height-bound}
 use Rattle.grid_axes.proofs.Axes.{axis-ok, edge-multiple}
+use Rattle.grid_stamps.specs.StampConstants.{pageStamps}
 
 -- at most 1,024 stamps
-pub count-bound : (g : Tiling) → TilingOk g → stampCount g ≤ 1024
+pub count-bound : (g : Tiling) → TilingOk g → stampCount g ≤ pageStamps
 unfolding stampCount columnsOf rowsOf
 count-bound g ok = omega (arith, mul-le-mul (ok .across .tiles) (ok .down .tiles))
 

@@ -1,2 +1,3 @@
+pub mod StampConstants
 pub mod Grids
 pub mod Scans

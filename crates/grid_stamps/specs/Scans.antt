@@ -10,6 +10,7 @@ use Rattle.base_blocks.specs.Lists.{listed, keep}
 use Rattle.grid_axes.specs.declared.axis.Span.{Span}
 use Rattle.grid_stamps.specs.declared.since.Seen.{Seen}
 use Rattle.grid_stamps.specs.Grids.{Tile}
+use Rattle.grid_axes.specs.AxisConstants.{maxTilesPerAxis}
 
 unfoldable pub nothingSeen : Seen
 nothingSeen = record { any = false; left = 0; right = 0; top = 0; bottom = 0 }
@@ -54,7 +55,7 @@ tilesStamped columns across down n page =
 pub record StampRoom (columns : ℕ) (across down : Span) (size : ℕ) : Type 0 where
   pub wide : across .first ≤ across .last
   pub right : across .last < columns
-  pub narrow : columns ≤ 32
+  pub narrow : columns ≤ maxTilesPerAxis
   pub high : down .first ≤ down .last
-  pub low : down .last < 32
+  pub low : down .last < maxTilesPerAxis
   pub room : (down .last + 1) * columns ≤ size

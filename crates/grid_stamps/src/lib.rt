@@ -1,11 +1,13 @@
 // One subresource's stamp grid: a page of stamps, a stamp for each tile. The functions are the pool's own and say what they
 // require; a page is a part of the lent store.
+mod constants;
 mod dirty;
 mod grid;
 mod newest;
 mod since;
 mod stamping;
 
+pub use constants::PAGE_STAMPS;
 pub use dirty::DirtyTile;
 pub use dirty::dirty_tile;
 pub use grid::across_axis;

@@ -5,6 +5,7 @@ ghost use lib.ListN.{length};
 ghost use Rattle.grid_axes.specs.Axes.{AxisOk, SpanIn};
 ghost use Rattle.grid_stamps.specs.Grids.{tiled, stampCount, dirtyTiles, gridIn, boxOf, boxSince};
 ghost use Rattle.grid_stamps.specs.Scans.{nothingSeen, visited, allJoined, dirtyRow};
+ghost use Rattle.grid_axes.specs.AxisConstants.{maxTilesPerAxis};
 use grid_axes::Axis;
 use grid_axes::Span;
 use grid_axes::span_size;
@@ -71,7 +72,7 @@ fn visit_row(seen: Seen, line: &[u64], held: u64, row: u64) -> Seen
 
 // Every row of a page.
 fn visit_page(page: &[u64], columns: usize, rows: usize, held: u64) -> Seen
-    requires { ⌜ (columns * rows ≤ length (now page)) × (columns ≤ 32) × (rows ≤ 32) ⌝ }
+    requires { ⌜ (columns * rows ≤ length (now page)) × (columns ≤ maxTilesPerAxis) × (rows ≤ maxTilesPerAxis) ⌝ }
     ensures { λ r. ⌜ r ≡ allJoined nothingSeen (dirtyTiles columns rows held (now (page .entry))) ⌝ }
 {
     let mut seen = Seen {

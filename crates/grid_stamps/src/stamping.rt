@@ -6,6 +6,7 @@ ghost use Rattle.base_blocks.specs.Lists.{over};
 ghost use Rattle.grid_axes.specs.Axes.{AxisOk};
 ghost use Rattle.grid_stamps.specs.Grids.{tiled, stampCount, gridIn, stampedBy};
 ghost use Rattle.grid_stamps.specs.Scans.{rowsStamped, StampRoom, tilesStamped};
+ghost use Rattle.grid_axes.specs.AxisConstants.{maxTilesPerAxis};
 use grid_axes::Axis;
 use grid_axes::Span;
 use grid_axes::Touched;
@@ -23,7 +24,7 @@ fn stamp_rows(
     bottom: usize,
     n: u64,
 )
-    requires { ⌜ (left + width ≤ columns) × (bottom * columns ≤ length (now page)) × (columns ≤ 32) × (bottom ≤ 32) × (top ≤ bottom) ⌝ }
+    requires { ⌜ (left + width ≤ columns) × (bottom * columns ≤ length (now page)) × (columns ≤ maxTilesPerAxis) × (bottom ≤ maxTilesPerAxis) × (top ≤ bottom) ⌝ }
     ensures { λ _. ⌜ now (page .exit) ≡ rowsStamped columns left width n top (bottom - top) (now (page .entry)) ⌝ }
 {
     let mut row = top;

@@ -23,6 +23,7 @@ use Rattle.pool_memory.specs.Lent.{Lent}
 use Rattle.pool_memory.specs.IsPool.{isPool}
 use Rattle.pool_memory.specs.Calls.{refusal, takenOf, poppedOf, inBuffer, copyNumbers, viewNumbers, takeSpareCall, preservePlanCall, retireCall, noteWriteCall, noteMipRegenerationCall, popRetiredCall, parkCall, noteAllocatedCall, takeDoomedCall, drainVersionsCall, trimCall, forgetTextureCall}
 use Rattle.pool_memory.proofs.Asked.{asked-no-pool}
+use Rattle.pool_memory.specs.MemoryConstants.{copyStride}
 
 module _ (l : Lent) (e : isPool l ≡ false) where
   pub no-take : (id : ℕ) (shape : VersionShape) (records : Bool) (seq : ℕ) → (refusal 1, l) ≡ takeSpareCall l id shape records seq
@@ -65,7 +66,7 @@ module _ (l : Lent) (e : isPool l ≡ false) where
     pub no-plan : (id : ℕ) (shape : VersionShape) (held : Held) (u : UploadFootprint) → (refusal 1, (buffer, l)) ≡ preservePlanCall l buffer id shape held u
     unfolding preservePlanCall
     no-plan id shape held u =
-        sym (ap (inBuffer copyNumbers buffer) (asked-no-pool (λ a. a) l (λ (p : Pool ℕ). preservePlan p id shape held u (length buffer / 7)) e))
+        sym (ap (inBuffer copyNumbers buffer) (asked-no-pool (λ a. a) l (λ (p : Pool ℕ). preservePlan p id shape held u (length buffer / copyStride)) e))
 
     pub no-doomed : (refusal 1, (buffer, l)) ≡ takeDoomedCall l buffer
     unfolding takeDoomedCall

@@ -18,6 +18,7 @@ use Rattle.pool_records.specs.declared.texture.TextureRecord.{TextureRecord}
 use Rattle.pool_records.specs.Recorded.{recordedOf}
 use Rattle.pool_records.specs.Texture.{readTexture}
 use Rattle.pool_memory.specs.Reading.{recordPages, recordedPages}
+use Rattle.pool_records.specs.RecordConstants.{textureStride}
 
 -- ---- the pages of a shape
 
@@ -67,14 +68,14 @@ all-pages (suc n) s h = refl
 
 module _ (s : List ℕ) (i : ℕ) where
   abbrev texture : TextureRecord
-  texture = recordAt 20 readTexture s i
+  texture = recordAt textureStride readTexture s i
 
   -- number k of the record
   abbrev number : ℕ → ℕ
-  number k = getD s (20 * i + k) 0
+  number k = getD s (textureStride * i + k) 0
 
-  from-front : (k : ℕ) → getD (drop (20 * i) s) k 0 ≡ number k
-  from-front k = getD-drop (20 * i) s k 0
+  from-front : (k : ℕ) → getD (drop (textureStride * i) s) k 0 ≡ number k
+  from-front k = getD-drop (textureStride * i) s k 0
 
   pub spares-number : number 18 ≡ texture .spares
   unfolding recordAt readTexture
@@ -83,11 +84,11 @@ module _ (s : List ℕ) (i : ℕ) where
   -- no history
   pub pages-none : number 14 ≡ 0 → 0 ≡ recordPages texture
   unfolding recordAt readTexture
-  pages-none e = sym (no-pages (getD (drop (20 * i) s) 14 0) (texture .shape) (from-front 14 ∙ e))
+  pages-none e = sym (no-pages (getD (drop (textureStride * i) s) 14 0) (texture .shape) (from-front 14 ∙ e))
 
   pages-some : (number 14 ≡ 0 → ⊥) → recordPages texture ≡ pagesOf (texture .shape)
   unfolding recordAt readTexture
-  pages-some h = all-pages (getD (drop (20 * i) s) 14 0) (texture .shape) (λ e. h (sym (from-front 14) ∙ e))
+  pages-some h = all-pages (getD (drop (textureStride * i) s) 14 0) (texture .shape) (λ e. h (sym (from-front 14) ∙ e))
 
   -- that of a cube
   pub pages-six : (number 14 ≡ 0 → ⊥) → number 6 ≡ 1 → 6 * number 5 ≡ recordPages texture

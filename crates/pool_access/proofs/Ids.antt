@@ -14,36 +14,37 @@ use Rattle.base_tables.proofs.Records.{length-table, getD-table}
 use Rattle.pool_records.specs.Texture.{readTexture}
 use Rattle.pool_records.specs.Find.{textures, idOf, below}
 use Rattle.pool_records.proofs.Places.{id-at, below-found}
+use Rattle.pool_records.specs.RecordConstants.{textureStride}
 
 module _ (s : List ℕ) (n i id : ℕ) where
   -- record i is there and has the id
   abbrev pub hasId : Bool
-  hasId = ltb i n && eqb (idOf (recordAt 20 readTexture s i)) id
+  hasId = ltb i n && eqb (idOf (recordAt textureStride readTexture s i)) id
 
   pub no-record : n ≤ i → false ≡ hasId
-  no-record h = sym (ap (λ (b : Bool). b && eqb (idOf (recordAt 20 readTexture s i)) id) (le-ltb i n h))
+  no-record h = sym (ap (λ (b : Bool). b && eqb (idOf (recordAt textureStride readTexture s i)) id) (le-ltb i n h))
 
-  first-number : i < n → idOf (recordAt 20 readTexture s i) ≡ getD s (20 * i) 0
-  first-number h = sym (ap idOf (getD-table 20 readTexture n i s (readTexture []) h)) ∙ id-at n i s h
+  first-number : i < n → idOf (recordAt textureStride readTexture s i) ≡ getD s (textureStride * i) 0
+  first-number h = sym (ap idOf (getD-table textureStride readTexture n i s (readTexture []) h)) ∙ id-at n i s h
 
-  pub by-number : i < n → eqb (getD s (20 * i) 0) id ≡ hasId
+  pub by-number : i < n → eqb (getD s (textureStride * i) 0) id ≡ hasId
   by-number h = sym (ap₂ (λ (b : Bool) (k : ℕ). b && eqb k id) (lt-ltb i n h) (first-number h))
 
   -- the test passes: the texture is record i
-  pub found : hasId ≡ true → (i < n) × (idOf (recordAt 20 readTexture s i) ≡ id)
+  pub found : hasId ≡ true → (i < n) × (idOf (recordAt textureStride readTexture s i) ≡ id)
   found e =
-      let q = and-both (ltb i n) (eqb (idOf (recordAt 20 readTexture s i)) id) e in
-      (ltb-true i n (q .0), eqb-true (idOf (recordAt 20 readTexture s i)) id (q .1))
+      let q = and-both (ltb i n) (eqb (idOf (recordAt textureStride readTexture s i)) id) e in
+      (ltb-true i n (q .0), eqb-true (idOf (recordAt textureStride readTexture s i)) id (q .1))
 
-  has : i < n → idOf (recordAt 20 readTexture s i) ≡ id → hasId ≡ true
-  has h e = ap₂ (λ (a b : Bool). a && b) (lt-ltb i n h) (eq-eqb (idOf (recordAt 20 readTexture s i)) id e)
+  has : i < n → idOf (recordAt textureStride readTexture s i) ≡ id → hasId ≡ true
+  has h e = ap₂ (λ (a b : Bool). a && b) (lt-ltb i n h) (eq-eqb (idOf (recordAt textureStride readTexture s i)) id e)
 
 -- it fails at the place of the id: no record has it
 pub not-found : (s : List ℕ) (n i id : ℕ) → ascending idOf (textures n s) ≡ true → i ≡ below id (textures n s) → hasId s n i id ≡ false
-    → (j : ℕ) → j < n → idOf (recordAt 20 readTexture s j) ≡ id → ⊥
+    → (j : ℕ) → j < n → idOf (recordAt textureStride readTexture s j) ≡ id → ⊥
 not-found s n i id up place fails j h e =
     let d = readTexture [] in
     let same : i ≡ j =
-    place ∙ below-found id (textures n s) j d (omega (arith, length-table 20 readTexture n s)) up (ap idOf (getD-table 20 readTexture n j s d h) ∙ e) in
+    place ∙ below-found id (textures n s) j d (omega (arith, length-table textureStride readTexture n s)) up (ap idOf (getD-table textureStride readTexture n j s d h) ∙ e) in
     let passes : hasId s n i id ≡ true = ap (λ (k : ℕ). hasId s n k id) same ∙ has s n j id h e in
     true≢false (sym passes ∙ fails)

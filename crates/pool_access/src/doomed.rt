@@ -5,25 +5,27 @@ ghost use lib.ListN.{length};
 ghost use lib.Seq.{sets};
 ghost use Rattle.base_tables.specs.Rings.{placeOf, along};
 ghost use Rattle.pool_records.specs.Doomed.{readDoomed, writeDoomed};
+ghost use Rattle.pool_records.specs.RecordConstants.{doomedStride};
 use base_tables::ring_push;
 use base_tables::ring_record;
+use pool_records::DOOMED_STRIDE;
 use pool_records::DoomedRecord;
 use pool_records::read_doomed;
 
 // The k-th record from the oldest.
 pub fn doomed_at(s: &[u64], cap: usize, first: usize, k: usize) -> DoomedRecord
-    requires { ⌜ (2 * cap ≤ length (now s)) × (first < cap) × (k < cap) ⌝ }
-    ensures { λ r. ⌜ r ≡ along 2 readDoomed cap first (now (s .entry)) k ⌝ }
+    requires { ⌜ (doomedStride * cap ≤ length (now s)) × (first < cap) × (k < cap) ⌝ }
+    ensures { λ r. ⌜ r ≡ along doomedStride readDoomed cap first (now (s .entry)) k ⌝ }
 {
-    let part = ring_record(s, 2, cap, first, k);
+    let part = ring_record(s, DOOMED_STRIDE, cap, first, k);
     read_doomed(part)
 }
 
 // A version put behind the n of the ring. Its two numbers come by themselves: most callers have them from different places.
 pub fn push_doomed(s: &mut [u64], cap: usize, first: usize, n: usize, view: u64, bytes: u64)
-    requires { ⌜ (2 * cap ≤ length (now s)) × (first < cap) × (n < cap) ⌝ }
-    ensures { λ _. ⌜ now (s .exit) ≡ sets (now (s .entry)) (2 * placeOf cap first n) (writeDoomed (record { view = view; bytes = bytes })) ⌝ }
+    requires { ⌜ (doomedStride * cap ≤ length (now s)) × (first < cap) × (n < cap) ⌝ }
+    ensures { λ _. ⌜ now (s .exit) ≡ sets (now (s .entry)) (doomedStride * placeOf cap first n) (writeDoomed (record { view = view; bytes = bytes })) ⌝ }
 {
     let numbers = [view, bytes];
-    ring_push(s, 2, cap, first, n, &numbers);
+    ring_push(s, DOOMED_STRIDE, cap, first, n, &numbers);
 }

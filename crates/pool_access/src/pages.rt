@@ -7,14 +7,20 @@ ghost use Rattle.base_tables.specs.Records.{recordAt, table};
 ghost use Rattle.pool_rules.specs.Model.{pagesOf};
 ghost use Rattle.pool_records.specs.Texture.{readTexture};
 ghost use Rattle.pool_memory.specs.Reading.{recordPages};
+ghost use Rattle.pool_records.specs.RecordConstants.{textureStride};
+ghost use Rattle.pool_rules.specs.RuleConstants.{mostPlaces};
 use grid_shapes::VersionShape;
 use grid_shapes::slices;
 use pool_records::Recorded;
+use pool_records::TEXTURE_HISTORY_AT;
+use pool_records::TEXTURE_KIND_AT;
+use pool_records::TEXTURE_LEVELS_AT;
+use pool_records::TEXTURE_STRIDE;
 use pool_records::TextureRecord;
 
 // The pages of a history of that shape: one a slice and level.
 pub fn shape_pages(shape: VersionShape) -> usize
-    requires { ⌜ pagesOf shape ≤ 4096 ⌝ }
+    requires { ⌜ pagesOf shape ≤ mostPlaces ⌝ }
     ensures { λ r. ⌜ r ≡ pagesOf shape ⌝ }
 {
     (slices(shape) * shape.levels) as usize
@@ -22,7 +28,7 @@ pub fn shape_pages(shape: VersionShape) -> usize
 
 // The pages that a texture's record claims.
 pub fn history_pages(t: TextureRecord) -> usize
-    requires { ⌜ recordPages t ≤ 4096 ⌝ }
+    requires { ⌜ recordPages t ≤ mostPlaces ⌝ }
     ensures { λ r. ⌜ r ≡ recordPages t ⌝ }
 {
     let history = t.history;
@@ -34,14 +40,14 @@ pub fn history_pages(t: TextureRecord) -> usize
 
 // The pages that record i of the textures' slice claims, by three of its numbers: history, kind and levels.
 pub fn pages_at(textures: &[u64], i: usize) -> usize
-    requires { ⌜ (20 * i + 20 ≤ length (now textures)) × (recordPages (recordAt 20 readTexture (now textures) i) ≤ 4096) ⌝ }
-    ensures { λ r. ⌜ r ≡ recordPages (recordAt 20 readTexture (now (textures .entry)) i) ⌝ }
+    requires { ⌜ (textureStride * i + textureStride ≤ length (now textures)) × (recordPages (recordAt textureStride readTexture (now textures) i) ≤ mostPlaces) ⌝ }
+    ensures { λ r. ⌜ r ≡ recordPages (recordAt textureStride readTexture (now (textures .entry)) i) ⌝ }
 {
-    if textures[20 * i + 14] == 0 {
+    if textures[TEXTURE_STRIDE * i + TEXTURE_HISTORY_AT] == 0 {
         return 0;
     }
-    let levels = textures[20 * i + 5];
-    if textures[20 * i + 6] == 1 {
+    let levels = textures[TEXTURE_STRIDE * i + TEXTURE_LEVELS_AT];
+    if textures[TEXTURE_STRIDE * i + TEXTURE_KIND_AT] == 1 {
         return (6 * levels) as usize;
     }
     levels as usize
@@ -49,8 +55,8 @@ pub fn pages_at(textures: &[u64], i: usize) -> usize
 
 // How many pages the first i textures claim, which is where those of texture i begin.
 pub fn pages_before(textures: &[u64], i: usize) -> usize
-    requires { ⌜ (20 * i ≤ length (now textures)) × (total recordPages (table 20 readTexture i (now textures)) ≤ 4096) ⌝ }
-    ensures { λ r. ⌜ r ≡ total recordPages (table 20 readTexture i (now (textures .entry))) ⌝ }
+    requires { ⌜ (textureStride * i ≤ length (now textures)) × (total recordPages (table textureStride readTexture i (now textures)) ≤ mostPlaces) ⌝ }
+    ensures { λ r. ⌜ r ≡ total recordPages (table textureStride readTexture i (now (textures .entry))) ⌝ }
 {
     let mut sum = 0;
     let mut j = 0;

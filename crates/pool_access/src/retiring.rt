@@ -5,26 +5,28 @@ ghost use lib.ListN.{length};
 ghost use lib.Seq.{sets};
 ghost use Rattle.base_tables.specs.Rings.{placeOf, along};
 ghost use Rattle.pool_records.specs.Retiring.{readRetiring, writeRetiring};
+ghost use Rattle.pool_records.specs.RecordConstants.{retiringStride};
 use base_tables::ring_push;
 use base_tables::ring_record;
+use pool_records::RETIRING_STRIDE;
 use pool_records::RetiringRecord;
 use pool_records::read_retiring;
 use pool_records::retiring_numbers;
 
 // The k-th record from the oldest.
 pub fn retiring_at(s: &[u64], cap: usize, head: usize, k: usize) -> RetiringRecord
-    requires { ⌜ (7 * cap ≤ length (now s)) × (head < cap) × (k < cap) ⌝ }
-    ensures { λ r. ⌜ r ≡ along 7 readRetiring cap head (now (s .entry)) k ⌝ }
+    requires { ⌜ (retiringStride * cap ≤ length (now s)) × (head < cap) × (k < cap) ⌝ }
+    ensures { λ r. ⌜ r ≡ along retiringStride readRetiring cap head (now (s .entry)) k ⌝ }
 {
-    let part = ring_record(s, 7, cap, head, k);
+    let part = ring_record(s, RETIRING_STRIDE, cap, head, k);
     read_retiring(part)
 }
 
 // A record put behind the n of the ring.
 pub fn push_retiring(s: &mut [u64], cap: usize, head: usize, n: usize, x: RetiringRecord)
-    requires { ⌜ (7 * cap ≤ length (now s)) × (head < cap) × (n < cap) ⌝ }
-    ensures { λ _. ⌜ now (s .exit) ≡ sets (now (s .entry)) (7 * placeOf cap head n) (writeRetiring x) ⌝ }
+    requires { ⌜ (retiringStride * cap ≤ length (now s)) × (head < cap) × (n < cap) ⌝ }
+    ensures { λ _. ⌜ now (s .exit) ≡ sets (now (s .entry)) (retiringStride * placeOf cap head n) (writeRetiring x) ⌝ }
 {
     let numbers = retiring_numbers(x);
-    ring_push(s, 7, cap, head, n, &numbers);
+    ring_push(s, RETIRING_STRIDE, cap, head, n, &numbers);
 }

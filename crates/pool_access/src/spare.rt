@@ -11,40 +11,45 @@ ghost use Rattle.base_tables.specs.Records.{recordAt, table};
 ghost use Rattle.pool_records.specs.Held.{HeldFits};
 ghost use Rattle.pool_records.specs.Spare.{readSpare, writeSpare};
 ghost use Rattle.pool_records.specs.Texture.{readTexture};
+ghost use Rattle.pool_records.specs.RecordConstants.{spareStride, textureStride};
+ghost use Rattle.pool_rules.specs.RuleConstants.{mostPlaces};
 use base_tables::insert_record;
 use base_tables::record_at;
+use pool_records::SPARE_STRIDE;
 use pool_records::SpareRecord;
+use pool_records::TEXTURE_SPARES_AT;
+use pool_records::TEXTURE_STRIDE;
 use pool_records::read_spare;
 use pool_records::spare_numbers;
 
 // Record k.
 pub fn spare_at(s: &[u64], k: usize) -> SpareRecord
-    requires { ⌜ 3 * k + 3 ≤ length (now s) ⌝ }
-    ensures { λ r. ⌜ r ≡ recordAt 3 readSpare (now (s .entry)) k ⌝ }
+    requires { ⌜ spareStride * k + spareStride ≤ length (now s) ⌝ }
+    ensures { λ r. ⌜ r ≡ recordAt spareStride readSpare (now (s .entry)) k ⌝ }
 {
-    let part = record_at(s, 3, k);
+    let part = record_at(s, SPARE_STRIDE, k);
     read_spare(part)
 }
 
 // Of n records, one more put in before record k.
 pub fn insert_spare(s: &mut [u64], n: usize, k: usize, x: SpareRecord)
-    requires { ⌜ (3 * n + 3 ≤ length (now s)) × (k ≤ n) × HeldFits (x .held) ⌝ }
-    ensures { λ _. ⌜ now (s .exit) ≡ sets (moved (now (s .entry)) (3 * k + 3) (3 * k) (3 * (n - k))) (3 * k) (writeSpare x) ⌝ }
+    requires { ⌜ (spareStride * n + spareStride ≤ length (now s)) × (k ≤ n) × HeldFits (x .held) ⌝ }
+    ensures { λ _. ⌜ now (s .exit) ≡ sets (moved (now (s .entry)) (spareStride * k + spareStride) (spareStride * k) (spareStride * (n - k))) (spareStride * k) (writeSpare x) ⌝ }
 {
     let numbers = spare_numbers(x);
-    insert_record(s, 3, n, k, &numbers);
+    insert_record(s, SPARE_STRIDE, n, k, &numbers);
 }
 
 // How many spares the first i textures have, which is where those of texture i begin. `textures` is the textures' slice, of which
 // the sum reads one number a record.
 pub fn spares_before(textures: &[u64], i: usize) -> usize
-    requires { ⌜ (20 * i ≤ length (now textures)) × (total (λ t. t .spares) (table 20 readTexture i (now textures)) ≤ 4096) ⌝ }
-    ensures { λ r. ⌜ r ≡ total (λ t. t .spares) (table 20 readTexture i (now (textures .entry))) ⌝ }
+    requires { ⌜ (textureStride * i ≤ length (now textures)) × (total (λ t. t .spares) (table textureStride readTexture i (now textures)) ≤ mostPlaces) ⌝ }
+    ensures { λ r. ⌜ r ≡ total (λ t. t .spares) (table textureStride readTexture i (now (textures .entry))) ⌝ }
 {
     let mut sum = 0;
     let mut j = 0;
     while j < i {
-        sum += textures[20 * j + 18] as usize;
+        sum += textures[TEXTURE_STRIDE * j + TEXTURE_SPARES_AT] as usize;
         j += 1;
     }
     sum
@@ -52,13 +57,13 @@ pub fn spares_before(textures: &[u64], i: usize) -> usize
 
 // How many spares the textures from `from` to `to` have.
 fn spares_between(textures: &[u64], from: usize, to: usize) -> usize
-    requires { ⌜ (20 * to ≤ length (now textures)) × (from ≤ to) × (total (λ t. t .spares) (table 20 readTexture to (now textures)) ≤ 4096) ⌝ }
-    ensures { λ r. ⌜ total (λ t. t .spares) (table 20 readTexture from (now (textures .entry))) + r ≡ total (λ t. t .spares) (table 20 readTexture to (now (textures .entry))) ⌝ }
+    requires { ⌜ (textureStride * to ≤ length (now textures)) × (from ≤ to) × (total (λ t. t .spares) (table textureStride readTexture to (now textures)) ≤ mostPlaces) ⌝ }
+    ensures { λ r. ⌜ total (λ t. t .spares) (table textureStride readTexture from (now (textures .entry))) + r ≡ total (λ t. t .spares) (table textureStride readTexture to (now (textures .entry))) ⌝ }
 {
     let mut sum = 0;
     let mut j = from;
     while j < to {
-        sum += textures[20 * j + 18] as usize;
+        sum += textures[TEXTURE_STRIDE * j + TEXTURE_SPARES_AT] as usize;
         j += 1;
     }
     sum
@@ -83,8 +88,8 @@ fn fewer(n: usize, i: usize) -> Stretch
 
 // Where the spares of texture i begin, of n textures that have `kept` in all: summed up from the nearer end.
 pub fn first_spare(textures: &[u64], n: usize, kept: usize, i: usize) -> usize
-    requires { ⌜ (20 * n ≤ length (now textures)) × (i ≤ n) × (total (λ t. t .spares) (table 20 readTexture n (now textures)) ≡ kept) × (kept ≤ 4096) ⌝ }
-    ensures { λ r. ⌜ r ≡ total (λ t. t .spares) (table 20 readTexture i (now (textures .entry))) ⌝ }
+    requires { ⌜ (textureStride * n ≤ length (now textures)) × (i ≤ n) × (total (λ t. t .spares) (table textureStride readTexture n (now textures)) ≡ kept) × (kept ≤ mostPlaces) ⌝ }
+    ensures { λ r. ⌜ r ≡ total (λ t. t .spares) (table textureStride readTexture i (now (textures .entry))) ⌝ }
 {
     let near = fewer(n, i);
     let sum = spares_between(textures, near.from, near.to);

@@ -15,6 +15,7 @@ use Rattle.grid_rects.specs.declared.rect.Region.the-variants.{Whole, Part}
 use Rattle.pool_rules.specs.Model.{PreserveCopy}
 use Rattle.pool_memory.specs.Calls.{copyNumbers, viewNumbers, regionNumbers}
 use Rattle.pool_books.specs.LentLists.{readCopy}
+use Rattle.pool_memory.specs.MemoryConstants.{copyStride}
 
 -- records that are read as they were written, whatever else is read
 module _ {A : Type 0} (w : ℕ) (rd : List ℕ → A) (wr : A → List ℕ) (long : (a : A) → length (wr a) ≡ w)
@@ -39,11 +40,11 @@ module _ {A : Type 0} (w : ℕ) (rd : List ℕ → A) (wr : A → List ℕ) (lon
       (λ j q. record-flat (x ∷ xs) rest (0 + j) x (omega arith))
       ∙ listed-getD x (x ∷ xs)
 
-long-copy : (c : PreserveCopy) → length (copyNumbers c) ≡ 7
+long-copy : (c : PreserveCopy) → length (copyNumbers c) ≡ copyStride
 unfolding copyNumbers
 long-copy c = go (c .region)
   where
-    go : (r : Region) → length (c .slice ∷ c .level ∷ regionNumbers r) ≡ 7
+    go : (r : Region) → length (c .slice ∷ c .level ∷ regionNumbers r) ≡ copyStride
     go Whole = refl
     go (Part r) = refl
 
@@ -55,8 +56,8 @@ read-copy c l = go (c .region)
     go Whole = refl
     go (Part r) = refl
 
-pub copies-read : (cs : List PreserveCopy) (buffer : List ℕ) → table 7 readCopy (length cs) (over (flat copyNumbers cs) buffer) ≡ cs
-copies-read = table-over 7 readCopy copyNumbers long-copy read-copy
+pub copies-read : (cs : List PreserveCopy) (buffer : List ℕ) → table copyStride readCopy (length cs) (over (flat copyNumbers cs) buffer) ≡ cs
+copies-read = table-over copyStride readCopy copyNumbers long-copy read-copy
 
 flat-views : (vs : List ℕ) → flat viewNumbers vs ≡ vs
 unfolding flat

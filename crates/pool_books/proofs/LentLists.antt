@@ -36,6 +36,7 @@ use Rattle.pool_books.specs.LentLists.{LentCall, lentTake, lentPlan, len
 use Rattle.pool_books.proofs.End.{demand3-of}
 use Rattle.pool_books.proofs.Places.{SamePlaces, take-spare-places, preserve-plan-places, retire-places, note-write-places, note-mip-regeneration-places, pop-retired-places, park-places, note-allocated-places, take-doomed-places, drain-versions-places, trim-places, forget-texture-places}
 use Rattle.pool_books.proofs.Answers.{copies-read, views-read}
+use Rattle.pool_memory.specs.MemoryConstants.{copyStride}
 
 -- the stores stand for the pool
 abbrev Represents : Lent → Pool ℕ → Type 0
@@ -108,8 +109,8 @@ simulates l p (lentTake id shape records seq) k r =
     says l p r (λ q. takeSpare q id shape records seq) (closed p k .take-spare id shape records seq) (take-spare-places p id shape records seq)
     takenOf takenReply _ taken-reply
 simulates l p (lentPlan id shape held u buffer) k r =
-    fills l p r (λ q. preservePlan q id shape held u (length buffer / 7)) (closed p k .preserve-plan id shape held u (length buffer / 7))
-    (preserve-plan-places p id shape held u (length buffer / 7)) copyNumbers buffer copiesReply _ (λ cs. ap copiesPlanned (copies-read cs buffer))
+    fills l p r (λ q. preservePlan q id shape held u (length buffer / copyStride)) (closed p k .preserve-plan id shape held u (length buffer / copyStride))
+    (preserve-plan-places p id shape held u (length buffer / copyStride)) copyNumbers buffer copiesReply _ (λ cs. ap copiesPlanned (copies-read cs buffer))
 simulates l p (lentRetire id view seq) k r =
     does l p r (λ q. retire q id view seq) (closed p k .retires id view seq) (retire-places p id view seq) (λ a. a)
 simulates l p (lentWrite id slice level rect) k r =

@@ -18,6 +18,7 @@ use Rattle.pool_books.specs.Carry.{mapSpare, mapRetiring, mapDoomed, map
 use Rattle.pool_books.proofs.Mapped.{map-cond, map-both, map-take, map-drop, map-keep, map-swap, map-over, map-flat, flat-over}
 use Rattle.pool_books.proofs.Natural.{Carried, alike, guard-eq, bytes-map, spares-map, as-doomed}
 use mathlib.Core.Option.{Option·map}
+use Rattle.pool_rules.specs.RuleConstants.{destroySpreadDrains, minDestroysPerDrain, spareMaxIdleSubmits}
 
 module _ {W X : Type 0} (f : W → X) where
   cover-map : (a b : ℕ) (ds : List (Doomed W)) → coverMore a b (map (mapDoomed f) ds) ≡ coverMore a b ds
@@ -28,7 +29,7 @@ module _ {W X : Type 0} (f : W → X) where
   aged-map : (now : ℕ) (ss : List (Spare W)) → agedCount now (map (mapSpare f) ss) ≡ agedCount now ss
   unfolding agedCount
   aged-map now [] = refl
-  aged-map now (s ∷ ss) = ap (λ n. cond (ltb (s .parked + 8) now) (suc n) 0) (aged-map now ss)
+  aged-map now (s ∷ ss) = ap (λ n. cond (ltb (s .parked + spareMaxIdleSubmits) now) (suc n) 0) (aged-map now ss)
 
   empty-map : (ss : List (Spare W)) → isEmpty (map (mapSpare f) ss) ≡ isEmpty ss
   empty-map [] = refl
@@ -94,7 +95,7 @@ module _ {W X : Type 0} (f : W → X) where
     -- ---- take_doomed
 
     paced-map : paced (mapPool f p) ≡ paced p
-    paced-map = ap (λ n. min (max 64 (ceilDiv (total (λ (n : ℕ). n) (arrived p)) 8 + ceilDiv n 8)) n) (length-map (p .doomed) (mapDoomed f))
+    paced-map = ap (λ n. min (max minDestroysPerDrain (ceilDiv (total (λ (n : ℕ). n) (arrived p)) destroySpreadDrains + ceilDiv n destroySpreadDrains)) n) (length-map (p .doomed) (mapDoomed f))
 
     batch-map : batch (mapPool f p) ≡ batch p
     batch-map =
@@ -115,7 +116,7 @@ module _ {W X : Type 0} (f : W → X) where
     doomed-map n =
         guard-eq f _ _ 11 (ap (ltb n) batch-map)
         (alike (ap (map (λ (d : Doomed X). d .view)) taken-map ∙ views-map (take (batch p) (p .doomed)))
-        (λ i. withPacing (record { arrivals = arrived p; slot = suc (p .pacing .slot) % 8; pressed = p .pacing .pressed; excess = 0 })
+        (λ i. withPacing (record { arrivals = arrived p; slot = suc (p .pacing .slot) % destroySpreadDrains; pressed = p .pacing .pressed; excess = 0 })
         (withDoomed ((ap (λ b. drop b (map (mapDoomed f) (p .doomed))) batch-map ∙ map-drop (mapDoomed f) (batch p) (p .doomed)) i) 0
         (p .dooming - (ap doomedBytes taken-map ∙ bytes-map f (take (batch p) (p .doomed))) i) (mapPool f p))))
 
@@ -141,7 +142,7 @@ module _ {W X : Type 0} (f : W → X) where
     drain-map n =
         guard-eq f _ _ 11 (ap (λ l. ltb n (length l)) every-map ∙ ap (ltb n) (length-map (everyView p) f))
         (alike every-map
-        (λ i. withPacing (record { arrivals = replicate 8 0; slot = p .pacing .slot; pressed = p .pacing .pressed; excess = p .pacing .excess })
+        (λ i. withPacing (record { arrivals = replicate destroySpreadDrains 0; slot = p .pacing .slot; pressed = p .pacing .pressed; excess = p .pacing .excess })
         (withParked 0
         (withDoomed [] 0 0
         (withRetiring [] (Option·map (mapRetiring f) (p .hand))

@@ -25,6 +25,7 @@ use Rattle.pool_memory.specs.IsPool.{isPool, sizesFit}
 use Rattle.pool_memory.specs.Calls.{openedPool, openedBook, Told, refusal as refusedWith, answer, TakenVersion, PoppedVersion, takeSpareCall, retireCall as retireLent, noteWriteCall, noteMipRegenerationCall, popRetiredCall, parkCall as parkLent, noteAllocatedCall, trimCall as trimLent, forgetTextureCall, preservePlanCall, takeDoomedCall, drainVersionsCall}
 use Rattle.pool_books.specs.Lists.{writeCall, regenCall, popCall, parkCall, noteCall, doomedCall, drainCall, trimCall, forgetCall, Call, takeCall, planCall, retireCall, between, Renames, start}
 use Rattle.pool_books.specs.Demand3.{Reply, refusal, done, spareTaken, copiesPlanned, versionPopped, viewsHanded, ThroughoutOf}
+use Rattle.pool_memory.specs.MemoryConstants.{copyStride}
 
 -- ---- calls, named as in the event lines, each with its arguments and its answer's buffer
 
@@ -45,7 +46,7 @@ pub data LentCall : Type 0 where
 -- the model's call: a buffer has room for a copy in every seven numbers, and for a view number in each
 abbrev pub roomOf : LentCall → Call
 roomOf (lentTake id shape records seq) = takeCall id shape records seq
-roomOf (lentPlan id shape held u buffer) = planCall id shape held u (length buffer / 7)
+roomOf (lentPlan id shape held u buffer) = planCall id shape held u (length buffer / copyStride)
 roomOf (lentRetire id view seq) = retireCall id view seq
 roomOf (lentWrite id slice level r) = between (writeCall id slice level r)
 roomOf (lentRegen id) = between (regenCall id)
@@ -81,7 +82,7 @@ readCopy s = record {
 
 -- the first n entries of a buffer
 abbrev pub copiesReply : ℕ → List ℕ → Reply
-copiesReply n buffer = copiesPlanned (table 7 readCopy n buffer)
+copiesReply n buffer = copiesPlanned (table copyStride readCopy n buffer)
 
 abbrev pub viewsReply : ℕ → List ℕ → Reply
 viewsReply n buffer = viewsHanded (take n buffer)

@@ -43,6 +43,10 @@ use Rattle.pool_access.proofs.Ids.{hasId, found, not-found}
 use Rattle.pool_forget_texture.specs.declared.owned.Owned.{Owned}
 use Rattle.pool_forget_texture.specs.Owned.{textureIn, sparesTo, pagesTo, ownedAt, without}
 use Rattle.pool_forget_texture.proofs.TextureRuns.{spares-in, spares-within, pages-within, bytes-within}
+use Rattle.grid_shapes.specs.ShapeConstants.{mostShapeBytes}
+use Rattle.grid_stamps.specs.StampConstants.{pageStamps}
+use Rattle.pool_records.specs.RecordConstants.{doomedStride, retiringStride, spareStride, textureStride}
+use Rattle.pool_rules.specs.RuleConstants.{mostPlaces}
 
 -- the pool without texture i, whose spares wait to be destroyed
 abbrev given : Lent → ℕ → List (Doomed ℕ)
@@ -53,7 +57,7 @@ forgotten l i = doomSpares (given l i) (withTextures (removed i 1 (modelOf l .te
 
 -- as the code counts them
 abbrev places : Lent → ℕ
-places l = length (l .retiring) / 7
+places l = length (l .retiring) / retiringStride
 
 module _ (l : Lent) (f : Fits l) (i : ℕ) (h : i < l .pool .tracked) where
   abbrev T : List ℕ
@@ -67,11 +71,11 @@ module _ (l : Lent) (f : Fits l) (i : ℕ) (h : i < l .pool .tracked) where
 
   -- ---- what the calls of its parts ask for
 
-  pub owned-fits : (20 * i + 20 ≤ length T) × (sparesTo T (i + 1) ≤ 4096) × (pagesTo T (i + 1) ≤ 4096)
+  pub owned-fits : (textureStride * i + textureStride ≤ length T) × (sparesTo T (i + 1) ≤ mostPlaces) × (pagesTo T (i + 1) ≤ mostPlaces)
   owned-fits = (
     omega (arith, textures-fit l f),
-    omega (arith, total-next 20 readTexture (λ t. t .spares) T i, spares-within l i h f, f .versions, f .most),
-    omega (arith, total-next 20 readTexture recordPages T i, pages-within l i h f, f .pages, f .newest),
+    omega (arith, total-next textureStride readTexture (λ t. t .spares) T i, spares-within l i h f, f .versions, f .most),
+    omega (arith, total-next textureStride readTexture recordPages T i, pages-within l i h f, f .pages, f .newest),
   )
 
   module _ (own : Owned) (e : own ≡ ownedAt T i) where
@@ -101,8 +105,8 @@ module _ (l : Lent) (f : Fits l) (i : ℕ) (h : i < l .pool .tracked) where
     pub own-pages : own .page + own .pages ≤ l .pool .pages
     own-pages = omega (arith, page-is, pages-is, pages-within l i h f)
 
-    pub push-fits : (2 * places l ≤ length (l .doomed)) × (l .pool .first < places l) × (l .pool .doomed + own .spares ≤ places l)
-        × (3 * (own .first + own .spares) ≤ length (l .spares))
+    pub push-fits : (doomedStride * places l ≤ length (l .doomed)) × (l .pool .first < places l) × (l .pool .doomed + own .spares ≤ places l)
+        × (spareStride * (own .first + own .spares) ≤ length (l .spares))
     unfolding versionPlaces
     push-fits = (omega (arith, f .doomed), f .first, omega (arith, own-spares, f .versions), omega (arith, own-spares, f .versions, f .spares))
 
@@ -114,11 +118,11 @@ module _ (l : Lent) (f : Fits l) (i : ℕ) (h : i < l .pool .tracked) where
         let least = total-get spareBytes (modelOf l .textures) i (stateOf l 0) (omega (arith, tracked-model l)) in
         omega (arith, same, ap spareBytes (model-at l i (stateOf l 0) h), least, f .formed .parked)
 
-    pub counts-fit : (1 ≤ l .pool .tracked) × (own .spares ≤ l .pool .kept) × (own .pages ≤ l .pool .pages) × (l .pool .doomed + own .spares ≤ 4096)
-        × (l .pool .since ≤ 4096) × (own .bytes * own .spares ≤ l .pool .parked) × (l .pool .dooming + own .bytes * own .spares < 2 ^ 64)
+    pub counts-fit : (1 ≤ l .pool .tracked) × (own .spares ≤ l .pool .kept) × (own .pages ≤ l .pool .pages) × (l .pool .doomed + own .spares ≤ mostPlaces)
+        × (l .pool .since ≤ mostPlaces) × (own .bytes * own .spares ≤ l .pool .parked) × (l .pool .dooming + own .bytes * own .spares < 2 ^ 64)
     unfolding modelOf
     counts-fit =
-        let dooming : l .pool .dooming ≤ 17592186044416 * length (modelOf l .doomed) =
+        let dooming : l .pool .dooming ≤ mostShapeBytes * length (modelOf l .doomed) =
         omega (arith, f .formed .dooming, doomed-bound (f .formed .doomed)) in (
           omega arith,
           omega (arith, own-spares),
@@ -173,17 +177,17 @@ module _ (l : Lent) (f : Fits l) (i : ℕ) (h : i < l .pool .tracked) where
     line = l .pool .line;
   }
 
-  doomed-left : laid 2 writeDoomed (versionPlaces l) (l .pool .first) (l .pool .doomed)
+  doomed-left : laid doomedStride writeDoomed (versionPlaces l) (l .pool .first) (l .pool .doomed)
       (givenRecords (l .spares) (textureIn T i .bytes) (sparesTo T i) (textureIn T i .spares)) (l .doomed) ≡ doomedAfter left l
   doomed-left =
-      ap (λ rs. laid 2 writeDoomed (versionPlaces l) (l .pool .first) (l .pool .doomed) rs (l .doomed)) (sym out-records)
+      ap (λ rs. laid doomedStride writeDoomed (versionPlaces l) (l .pool .first) (l .pool .doomed) rs (l .doomed)) (sym out-records)
       ∙ doomed-pushed l left (f .first) (omega (arith, f .doomed)) (doomed-fit l f) out refl
 
-  spares-left : moved (l .spares) (3 * sparesTo T i) (3 * sparesTo T i + 3 * textureIn T i .spares)
-      (3 * (l .pool .kept - (sparesTo T i + textureIn T i .spares)))
+  spares-left : moved (l .spares) (spareStride * sparesTo T i) (spareStride * sparesTo T i + spareStride * textureIn T i .spares)
+      (spareStride * (l .pool .kept - (sparesTo T i + textureIn T i .spares)))
       ≡ sparesAfter left l
   spares-left =
-      sym (ap₂ (λ (k n : ℕ). moved (l .spares) (3 * k) (3 * k + 3 * n) (3 * (l .pool .kept - (k + n)))) (spares-to l i h) own-spares-are)
+      sym (ap₂ (λ (k n : ℕ). moved (l .spares) (spareStride * k) (spareStride * k + spareStride * n) (spareStride * (l .pool .kept - (k + n)))) (spares-to l i h) own-spares-are)
       ∙ spares-removed l left (f .kept) (omega (arith, f .spares, f .versions)) (firstSpare l i) (sparesAt l i)
       spares-there (every-removed l i h)
 
@@ -194,10 +198,10 @@ module _ (l : Lent) (f : Fits l) (i : ℕ) (h : i < l .pool .tracked) where
       sym (ap₂ (λ (k n : ℕ). moved (l .newest) k (k + n) (l .pool .pages - (k + n))) (pages-to l i h) (ap recordPages (record-read l i h)))
       ∙ newest-removed l left (f .claimed) i h refl (f .pages)
 
-  stamps-left : moved (l .stamps) (1024 * pagesTo T i) (1024 * pagesTo T i + 1024 * recordPages (textureIn T i))
-      (1024 * (l .pool .pages - (pagesTo T i + recordPages (textureIn T i)))) ≡ stampsAfter left l
+  stamps-left : moved (l .stamps) (pageStamps * pagesTo T i) (pageStamps * pagesTo T i + pageStamps * recordPages (textureIn T i))
+      (pageStamps * (l .pool .pages - (pagesTo T i + recordPages (textureIn T i)))) ≡ stampsAfter left l
   stamps-left =
-      sym (ap₂ (λ (k n : ℕ). moved (l .stamps) (1024 * k) (1024 * k + 1024 * n) (1024 * (l .pool .pages - (k + n)))) (pages-to l i h)
+      sym (ap₂ (λ (k n : ℕ). moved (l .stamps) (pageStamps * k) (pageStamps * k + pageStamps * n) (pageStamps * (l .pool .pages - (k + n)))) (pages-to l i h)
       (ap recordPages (record-read l i h)))
       ∙ stamps-removed l left (f .claimed) i h refl (ids-ascend l f) (omega (arith, f .stamps, f .pages))
 
@@ -207,12 +211,12 @@ module _ (l : Lent) (f : Fits l) (i : ℕ) (h : i < l .pool .tracked) where
 
   pub left-behind : (own : Owned) → own ≡ ownedAt T i → (c : Counts) (textures doomed spares newest stamps : List ℕ)
       → c ≡ without (l .pool) own
-      → textures ≡ moved T (20 * i) (20 * i + 20 * 1) (20 * (l .pool .tracked - (i + 1)))
-      → doomed ≡ laid 2 writeDoomed (places l) (l .pool .first) (l .pool .doomed) (givenRecords (l .spares) (own .bytes) (own .first) (own .spares))
+      → textures ≡ moved T (textureStride * i) (textureStride * i + textureStride * 1) (textureStride * (l .pool .tracked - (i + 1)))
+      → doomed ≡ laid doomedStride writeDoomed (places l) (l .pool .first) (l .pool .doomed) (givenRecords (l .spares) (own .bytes) (own .first) (own .spares))
       (l .doomed)
-      → spares ≡ moved (l .spares) (3 * own .first) (3 * own .first + 3 * own .spares) (3 * (l .pool .kept - (own .first + own .spares)))
+      → spares ≡ moved (l .spares) (spareStride * own .first) (spareStride * own .first + spareStride * own .spares) (spareStride * (l .pool .kept - (own .first + own .spares)))
       → newest ≡ moved (l .newest) (own .page) (own .page + own .pages) (l .pool .pages - (own .page + own .pages))
-      → stamps ≡ moved (l .stamps) (1024 * own .page) (1024 * own .page + 1024 * own .pages) (1024 * (l .pool .pages - (own .page + own .pages)))
+      → stamps ≡ moved (l .stamps) (pageStamps * own .page) (pageStamps * own .page + pageStamps * own .pages) (pageStamps * (l .pool .pages - (own .page + own .pages)))
       → lent c (l .book) textures (l .retiring) doomed spares newest stamps ≡ after left l
   unfolding ownedAt versionPlaces
   left-behind own e c textures doomed spares newest stamps e1 e2 e3 e4 e5 e6 =
@@ -221,14 +225,14 @@ module _ (l : Lent) (f : Fits l) (i : ℕ) (h : i < l .pool .tracked) where
       book-left
       (e2 ∙ textures-removed l left f i 1 (omega arith) refl)
       (retiring-stay l f left refl refl)
-      (e3 ∙ ap (λ (o : Owned). laid 2 writeDoomed (versionPlaces l) (l .pool .first) (l .pool .doomed)
+      (e3 ∙ ap (λ (o : Owned). laid doomedStride writeDoomed (versionPlaces l) (l .pool .first) (l .pool .doomed)
       (givenRecords (l .spares) (o .bytes) (o .first) (o .spares)) (l .doomed)) e
       ∙ doomed-left)
-      (e4 ∙ ap (λ (o : Owned). moved (l .spares) (3 * o .first) (3 * o .first + 3 * o .spares) (3 * (l .pool .kept - (o .first + o .spares)))) e
+      (e4 ∙ ap (λ (o : Owned). moved (l .spares) (spareStride * o .first) (spareStride * o .first + spareStride * o .spares) (spareStride * (l .pool .kept - (o .first + o .spares)))) e
       ∙ spares-left)
       (e5 ∙ ap (λ (o : Owned). moved (l .newest) (o .page) (o .page + o .pages) (l .pool .pages - (o .page + o .pages))) e ∙ newest-left)
-      (e6 ∙ ap (λ (o : Owned). moved (l .stamps) (1024 * o .page) (1024 * o .page + 1024 * o .pages)
-      (1024 * (l .pool .pages - (o .page + o .pages)))) e ∙ stamps-left)
+      (e6 ∙ ap (λ (o : Owned). moved (l .stamps) (pageStamps * o .page) (pageStamps * o .page + pageStamps * o .pages)
+      (pageStamps * (l .pool .pages - (o .page + o .pages)))) e ∙ stamps-left)
 
 -- ---- the call
 

@@ -14,6 +14,9 @@ use Rattle.pool_memory.proofs.Runs.{sparesOf, stateOf}
 use Rattle.pool_memory.proofs.Tracked.{record-read, spares-to, shape-passes}
 use Rattle.pool_access.proofs.Totals.{total-with}
 use Rattle.pool_forget_texture.specs.Owned.{textureIn, sparesTo, pagesTo}
+use Rattle.grid_shapes.specs.ShapeConstants.{mostShapeBytes}
+use Rattle.pool_records.specs.RecordConstants.{textureStride}
+use Rattle.pool_rules.specs.RuleConstants.{mostPlaces}
 
 module _ (l : Lent) (i : ℕ) (h : i < l .pool .tracked) where
   pub spares-in : stateOf l i .spares ≡ listed (spareRead l) (sparesTo (l .textures) i) (textureIn (l .textures) i .spares)
@@ -23,13 +26,13 @@ module _ (l : Lent) (i : ℕ) (h : i < l .pool .tracked) where
   module _ (f : Fits l) where
     -- they lie within what is counted
     pub spares-within : sparesTo (l .textures) i + textureIn (l .textures) i .spares ≤ l .pool .kept
-    spares-within = omega (arith, f .kept, total-with 20 readTexture sparesOf (l .textures) i (l .pool .tracked) h)
+    spares-within = omega (arith, f .kept, total-with textureStride readTexture sparesOf (l .textures) i (l .pool .tracked) h)
 
     pub pages-within : pagesTo (l .textures) i + recordPages (textureIn (l .textures) i) ≤ l .pool .pages
-    pages-within = omega (arith, f .claimed, total-with 20 readTexture recordPages (l .textures) i (l .pool .tracked) h)
+    pages-within = omega (arith, f .claimed, total-with textureStride readTexture recordPages (l .textures) i (l .pool .tracked) h)
 
     -- what its spares take
-    pub bytes-within : bytesOf (textureIn (l .textures) i .shape) * textureIn (l .textures) i .spares ≤ 17592186044416 * 4096
+    pub bytes-within : bytesOf (textureIn (l .textures) i .shape) * textureIn (l .textures) i .spares ≤ mostShapeBytes * mostPlaces
     bytes-within =
-        let few : textureIn (l .textures) i .spares ≤ 4096 = omega (arith, spares-within, f .versions, f .most) in
+        let few : textureIn (l .textures) i .spares ≤ mostPlaces = omega (arith, spares-within, f .versions, f .most) in
         mul-le-mul (bytes-bound (textureIn (l .textures) i .shape) (shape-passes l i h f)) few

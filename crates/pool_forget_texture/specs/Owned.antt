@@ -8,17 +8,18 @@ use Rattle.pool_records.specs.Texture.{readTexture}
 use Rattle.pool_memory.specs.declared.pool.Pool.{Pool as Counts}
 use Rattle.pool_memory.specs.Reading.{recordPages}
 use Rattle.pool_forget_texture.specs.declared.owned.Owned.{Owned}
+use Rattle.pool_records.specs.RecordConstants.{textureStride}
 
 -- the record of texture i
 abbrev pub textureIn : List ℕ → ℕ → TextureRecord
-textureIn textures i = recordAt 20 readTexture textures i
+textureIn textures i = recordAt textureStride readTexture textures i
 
 -- where the spares and the pages of texture i begin
 abbrev pub sparesTo : List ℕ → ℕ → ℕ
-sparesTo textures i = total (λ (t : TextureRecord). t .spares) (table 20 readTexture i textures)
+sparesTo textures i = total (λ (t : TextureRecord). t .spares) (table textureStride readTexture i textures)
 
 abbrev pub pagesTo : List ℕ → ℕ → ℕ
-pagesTo textures i = total recordPages (table 20 readTexture i textures)
+pagesTo textures i = total recordPages (table textureStride readTexture i textures)
 
 unfoldable pub ownedAt : List ℕ → ℕ → Owned
 ownedAt textures i = record {

@@ -7,6 +7,8 @@ ghost use Rattle.base_tables.specs.Records.{table};
 ghost use Rattle.pool_records.specs.Texture.{readTexture};
 ghost use Rattle.pool_memory.specs.Reading.{recordPages};
 ghost use Rattle.pool_forget_texture.specs.Owned.{ownedAt, without};
+ghost use Rattle.pool_records.specs.RecordConstants.{textureStride};
+ghost use Rattle.pool_rules.specs.RuleConstants.{mostPlaces};
 use pool_access::history_pages;
 use pool_access::pages_before;
 use pool_access::spares_before;
@@ -23,9 +25,9 @@ pub struct Owned {
 }
 
 pub fn owned_at(textures: &[u64], i: usize) -> Owned
-    requires { ⌜ (20 * i + 20 ≤ length (now textures))
-        × (total (λ t. t .spares) (table 20 readTexture (i + 1) (now textures)) ≤ 4096)
-        × (total recordPages (table 20 readTexture (i + 1) (now textures)) ≤ 4096) ⌝ }
+    requires { ⌜ (textureStride * i + textureStride ≤ length (now textures))
+        × (total (λ t. t .spares) (table textureStride readTexture (i + 1) (now textures)) ≤ mostPlaces)
+        × (total recordPages (table textureStride readTexture (i + 1) (now textures)) ≤ mostPlaces) ⌝ }
     ensures { λ r. ⌜ r ≡ ownedAt (now (textures .entry)) i ⌝ }
 {
     let t = texture_at(textures, i);
@@ -43,8 +45,8 @@ pub fn owned_at(textures: &[u64], i: usize) -> Owned
 
 // The counts without the texture. Its spares wait to be destroyed.
 pub fn counts_without(pool: Pool, own: Owned) -> Pool
-    requires { ⌜ (1 ≤ pool .tracked) × (own .spares ≤ pool .kept) × (own .pages ≤ pool .pages) × (pool .doomed + own .spares ≤ 4096)
-        × (pool .since ≤ 4096) × (own .bytes * own .spares ≤ pool .parked) × (pool .dooming + own .bytes * own .spares < 2 ^ 64) ⌝ }
+    requires { ⌜ (1 ≤ pool .tracked) × (own .spares ≤ pool .kept) × (own .pages ≤ pool .pages) × (pool .doomed + own .spares ≤ mostPlaces)
+        × (pool .since ≤ mostPlaces) × (own .bytes * own .spares ≤ pool .parked) × (pool .dooming + own .bytes * own .spares < 2 ^ 64) ⌝ }
     ensures { λ r. ⌜ r ≡ without pool own ⌝ }
 {
     let count = own.spares as u64;

@@ -13,20 +13,21 @@ use Rattle.pool_memory.specs.declared.book.PacingBook.{PacingBook}
 use Rattle.pool_memory.specs.IsPool.{isArrival}
 use Rattle.pool_formed.specs.Parts.{placesHold, numbersFit}
 use Rattle.pool_formed_textures.proofs.Tests.{fails}
+use Rattle.pool_rules.specs.RuleConstants.{destroySpreadDrains, mostPlaces}
 
 -- ---- the numbers
 
-arrivals-same : (xs : List ℕ) → all (atMost 4096) xs ≡ all isArrival xs
+arrivals-same : (xs : List ℕ) → all (atMost mostPlaces) xs ≡ all isArrival xs
 unfolding all atMost isArrival
 arrivals-same [] = refl
-arrivals-same (x ∷ xs) = ap (λ (b : Bool). leb x 4096 && b) (arrivals-same xs)
+arrivals-same (x ∷ xs) = ap (λ (b : Bool). leb x mostPlaces && b) (arrivals-same xs)
 
-pub numbers-test : (pool : Pool) (book : PacingBook) (w : Bool) → w ≡ all (atMost 4096) (book .arrivals)
-    → leb (pool .trackings) limit && leb (pool .parked) (pool .cap) && ltb (book .slot) 8 && leb (book .pressed) 1 && leb (pool .since) (pool .doomed) && w
+pub numbers-test : (pool : Pool) (book : PacingBook) (w : Bool) → w ≡ all (atMost mostPlaces) (book .arrivals)
+    → leb (pool .trackings) limit && leb (pool .parked) (pool .cap) && ltb (book .slot) destroySpreadDrains && leb (book .pressed) 1 && leb (pool .since) (pool .doomed) && w
     ≡ numbersFit pool book
 unfolding numbersFit tests after
 numbers-test pool book w e =
-    ap (λ (b : Bool). leb (pool .trackings) limit && leb (pool .parked) (pool .cap) && ltb (book .slot) 8 && leb (book .pressed) 1 && leb (pool .since) (pool .doomed) && b)
+    ap (λ (b : Bool). leb (pool .trackings) limit && leb (pool .parked) (pool .cap) && ltb (book .slot) destroySpreadDrains && leb (book .pressed) 1 && leb (pool .since) (pool .doomed) && b)
     (e ∙ arrivals-same (book .arrivals))
 
 -- ---- the counts

@@ -23,13 +23,16 @@ use Rattle.pool_formed_textures.specs.Textures.{isRecord, recordSpares, claim, 
 use Rattle.pool_formed_textures.proofs.Tests.{same-test}
 use Rattle.pool_formed_textures.proofs.States.{states-ids, states-bytes, states-test}
 use Rattle.pool_formed.proofs.RingTests.{hand-test}
+use Rattle.grid_stamps.specs.StampConstants.{pageStamps}
+use Rattle.pool_records.specs.RecordConstants.{doomedStride, retiringStride, spareStride, textureStride}
+use Rattle.pool_rules.specs.RuleConstants.{destroySpreadDrains, mostPlaces}
 
 pub sizes-lengths : (l : Lent) → sizesFit l
     ≡ lengthsFit (length (l .textures)) (length (l .retiring)) (length (l .doomed)) (length (l .spares)) (length (l .newest)) (length (l .stamps))
 unfolding sizesFit lengthsFit arePlaces modelOf versionPlaces tests after
 sizes-lengths l = refl
 
-pub counts-places : (l : Lent) → countsFit l ≡ placesHold (l .pool) (length (l .textures) / 20) (length (l .retiring) / 7) (length (l .newest))
+pub counts-places : (l : Lent) → countsFit l ≡ placesHold (l .pool) (length (l .textures) / textureStride) (length (l .retiring) / retiringStride) (length (l .newest))
 unfolding countsFit placesHold modelOf versionPlaces
 counts-places l = refl
 
@@ -64,7 +67,7 @@ record Conditions (l : Lent) : Type 0 where
   parked : eqb (l .pool .parked) (total spareBytes (statesRead l 0 0 (trackedRecords l))) ≡ true
   dooming : eqb (l .pool .dooming) (doomedBytes (listed (doomedRead l) 0 (l .pool .doomed))) ≡ true
   cap : leb (l .pool .parked) (l .pool .cap) ≡ true
-  slot : ltb (l .book .slot) 8 ≡ true
+  slot : ltb (l .book .slot) destroySpreadDrains ≡ true
   arrivals : all isArrival (l .book .arrivals) ≡ true
   since : leb (l .pool .since) (length (listed (doomedRead l) 0 (l .pool .doomed))) ≡ true
 
@@ -93,7 +96,7 @@ module _ (l : Lent) where
     since = passed _ e 12;
   }
 
-  formed : length (l .book .arrivals) ≡ 8 → Conditions l → isFormed (modelOf l) ≡ true
+  formed : length (l .book .arrivals) ≡ destroySpreadDrains → Conditions l → isFormed (modelOf l) ≡ true
   unfolding isFormed modelOf
   formed eight c =
       pass-all _
@@ -105,7 +108,7 @@ module _ (l : Lent) where
       (cons (c .trackings)
       (cons (c .parked)
       (cons (c .dooming)
-      (cons (c .cap) (cons (c .slot) (cons (eq-eqb (length (l .book .arrivals)) 8 eight) (cons (c .arrivals) (cons (c .since) nil)))))))))))))
+      (cons (c .cap) (cons (c .slot) (cons (eq-eqb (length (l .book .arrivals)) destroySpreadDrains eight) (cons (c .arrivals) (cons (c .since) nil)))))))))))))
 
   few-popped : countsFit l ≡ true → l .pool .popped ≤ 1
   unfolding countsFit
@@ -212,7 +215,7 @@ module _ (l : Lent) where
 
   -- ---- together
 
-  pub pool-parts : length (l .book .arrivals) ≡ 8 → isPool l ≡ tests (partsOf l)
+  pub pool-parts : length (l .book .arrivals) ≡ destroySpreadDrains → isPool l ≡ tests (partsOf l)
   unfolding isPool
   pool-parts eight =
       same-test (isPool l) (tests (partsOf l))
@@ -230,21 +233,21 @@ module _ (l : Lent) where
       (cons (from-bytes f n r t) (cons (from-mark f n r t) (cons (formed eight (from-parts f n r t)) nil)))))))
 
   -- where all but the last pass, the last decides
-  pub last-part : length (l .book .arrivals) ≡ 8 → sizesFit l ≡ true → countsFit l ≡ true → numbersOf l ≡ true → ringsOf l ≡ true → texturesOf l ≡ isPool l
+  pub last-part : length (l .book .arrivals) ≡ destroySpreadDrains → sizesFit l ≡ true → countsFit l ≡ true → numbersOf l ≡ true → ringsOf l ≡ true → texturesOf l ≡ isPool l
   unfolding tests after
   last-part eight s c n r = sym (pool-parts eight ∙ rw (s, c, n, r))
 
 -- ---- what the sizes and counts that passed say
 
 pub record SizesFit (l : Lent) : Type 0 where
-  pub versions : versionPlaces l ≤ 4096
-  pub textures : length (l .textures) ≡ 20 * (length (l .textures) / 20)
-  pub retiring : length (l .retiring) ≡ 7 * versionPlaces l
-  pub doomed : length (l .doomed) ≡ 2 * versionPlaces l
-  pub spares : length (l .spares) ≡ 3 * versionPlaces l
-  pub stamps : length (l .stamps) ≡ 1024 * length (l .newest)
+  pub versions : versionPlaces l ≤ mostPlaces
+  pub textures : length (l .textures) ≡ textureStride * (length (l .textures) / textureStride)
+  pub retiring : length (l .retiring) ≡ retiringStride * versionPlaces l
+  pub doomed : length (l .doomed) ≡ doomedStride * versionPlaces l
+  pub spares : length (l .spares) ≡ spareStride * versionPlaces l
+  pub stamps : length (l .stamps) ≡ pageStamps * length (l .newest)
 
-places-versions : (p : Places) → arePlaces p ≡ true → p .versions ≤ 4096
+places-versions : (p : Places) → arePlaces p ≡ true → p .versions ≤ mostPlaces
 unfolding arePlaces
 places-versions p e = leb-true _ _ (passed _ e 3)
 
@@ -260,7 +263,7 @@ sizes l e = record {
 }
 
 pub record CountsFit (l : Lent) : Type 0 where
-  pub tracked : l .pool .tracked ≤ length (l .textures) / 20
+  pub tracked : l .pool .tracked ≤ length (l .textures) / textureStride
   pub head : l .pool .head < versionPlaces l
   pub first : l .pool .first < versionPlaces l
   pub used : l .pool .queued + l .pool .popped + l .pool .kept + l .pool .doomed ≤ versionPlaces l
@@ -277,24 +280,24 @@ counts l e = record {
 }
 
 module _ (l : Lent) (s : sizesFit l ≡ true) where
-  pub few-versions : length (l .retiring) / 7 ≤ 4096
+  pub few-versions : length (l .retiring) / retiringStride ≤ mostPlaces
   unfolding versionPlaces
   few-versions = sizes l s .versions
 
-  module _ (p : placesHold (l .pool) (length (l .textures) / 20) (length (l .retiring) / 7) (length (l .newest)) ≡ true) where
+  module _ (p : placesHold (l .pool) (length (l .textures) / textureStride) (length (l .retiring) / retiringStride) (length (l .newest)) ≡ true) where
     counted : CountsFit l
     counted = counts l (counts-places l ∙ p)
 
-    pub rings-room : (7 * (length (l .retiring) / 7) ≤ length (l .retiring)) × (2 * (length (l .retiring) / 7) ≤ length (l .doomed)) × (length (l .retiring) / 7 ≤ 4096)
-        × (l .pool .head < length (l .retiring) / 7) × (l .pool .first < length (l .retiring) / 7)
-        × (l .pool .popped + l .pool .queued ≤ length (l .retiring) / 7) × (l .pool .doomed ≤ length (l .retiring) / 7)
+    pub rings-room : (retiringStride * (length (l .retiring) / retiringStride) ≤ length (l .retiring)) × (doomedStride * (length (l .retiring) / retiringStride) ≤ length (l .doomed)) × (length (l .retiring) / retiringStride ≤ mostPlaces)
+        × (l .pool .head < length (l .retiring) / retiringStride) × (l .pool .first < length (l .retiring) / retiringStride)
+        × (l .pool .popped + l .pool .queued ≤ length (l .retiring) / retiringStride) × (l .pool .doomed ≤ length (l .retiring) / retiringStride)
     unfolding versionPlaces
     rings-room =
         let z = sizes l s in
         (omega (arith, z .retiring), omega (arith, z .doomed), few-versions, counted .head, counted .first, omega (arith, counted .used), omega (arith, counted .used))
 
-    pub textures-room : (20 * l .pool .tracked ≤ length (l .textures)) × (3 * l .pool .kept ≤ length (l .spares)) × (l .pool .kept ≤ 4096)
-        × (l .pool .pages ≤ length (l .newest)) × (length (l .stamps) ≡ 1024 * length (l .newest))
+    pub textures-room : (textureStride * l .pool .tracked ≤ length (l .textures)) × (spareStride * l .pool .kept ≤ length (l .spares)) × (l .pool .kept ≤ mostPlaces)
+        × (l .pool .pages ≤ length (l .newest)) × (length (l .stamps) ≡ pageStamps * length (l .newest))
     textures-room =
         let z = sizes l s in (
           omega (arith, z .textures, counted .tracked),

@@ -23,29 +23,31 @@ use Rattle.pool_memory.specs.IsPool.{isDoomed, isRetiring, isHand}
 use Rattle.pool_formed.specs.Parts.{retiringAt, retiringFit, doomedAt, doomedFit, ringsFit}
 use Rattle.pool_memory.specs.Lent.{Lent}
 use Rattle.pool_formed_textures.proofs.Tests.{fails}
+use Rattle.grid_shapes.specs.ShapeConstants.{mostShapeBytes}
+use Rattle.pool_records.specs.RecordConstants.{doomedStride, retiringStride}
 
 -- ---- rings
 
-pub retiring-read : (cap head i : ℕ) (s p : List ℕ) → p ≡ take 7 (drop (7 * placeOf cap head i) s) → retiringOf (readRetiring p) ≡ retiringAt cap head s i
+pub retiring-read : (cap head i : ℕ) (s p : List ℕ) → p ≡ take retiringStride (drop (retiringStride * placeOf cap head i) s) → retiringOf (readRetiring p) ≡ retiringAt cap head s i
 unfolding retiringAt
 retiring-read cap head i s p e = ap (λ l. retiringOf (readRetiring l)) e ∙ ap retiringOf (ring-part retiring-codec cap head s i)
 
-pub doomed-read : (cap first i : ℕ) (s p : List ℕ) → p ≡ take 2 (drop (2 * placeOf cap first i) s) → doomedOf (readDoomed p) ≡ doomedAt cap first s i
+pub doomed-read : (cap first i : ℕ) (s p : List ℕ) → p ≡ take doomedStride (drop (doomedStride * placeOf cap first i) s) → doomedOf (readDoomed p) ≡ doomedAt cap first s i
 unfolding doomedAt
 doomed-read cap first i s p e = ap (λ l. doomedOf (readDoomed l)) e ∙ ap doomedOf (ring-part doomed-codec cap first s i)
 
-module _ (cap first i : ℕ) (s p : List ℕ) (e : p ≡ take 2 (drop (2 * placeOf cap first i) s)) where
+module _ (cap first i : ℕ) (s p : List ℕ) (e : p ≡ take doomedStride (drop (doomedStride * placeOf cap first i) s)) where
   pub doomed-bytes : getD p 1 0 ≡ doomedAt cap first s i .bytes
   unfolding readDoomed
   doomed-bytes = ap (λ d. d .bytes) (doomed-read cap first i s p e)
 
-  pub doomed-fits : getD p 1 0 ≤ 17592186044416 → isDoomed (doomedAt cap first s i) ≡ true
+  pub doomed-fits : getD p 1 0 ≤ mostShapeBytes → isDoomed (doomedAt cap first s i) ≡ true
   unfolding isDoomed
-  doomed-fits h = le-leb (doomedAt cap first s i .bytes) 17592186044416 (omega (arith, doomed-bytes))
+  doomed-fits h = le-leb (doomedAt cap first s i .bytes) mostShapeBytes (omega (arith, doomed-bytes))
 
-  pub doomed-large : 17592186044416 < getD p 1 0 → isDoomed (doomedAt cap first s i) ≡ false
+  pub doomed-large : mostShapeBytes < getD p 1 0 → isDoomed (doomedAt cap first s i) ≡ false
   unfolding isDoomed
-  doomed-large h = lt-leb (doomedAt cap first s i .bytes) 17592186044416 (omega (arith, doomed-bytes))
+  doomed-large h = lt-leb (doomedAt cap first s i .bytes) mostShapeBytes (omega (arith, doomed-bytes))
 
 -- ---- the destroy queue's end
 

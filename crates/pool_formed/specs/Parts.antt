@@ -13,22 +13,25 @@ use Rattle.pool_records.specs.Views.{retiringOf, doomedOf}
 use Rattle.pool_memory.specs.declared.pool.Pool.{Pool}
 use Rattle.pool_memory.specs.declared.book.PacingBook.{PacingBook}
 use Rattle.pool_memory.specs.IsPool.{isRetiring, isDoomed, isArrival}
+use Rattle.grid_stamps.specs.StampConstants.{pageStamps}
+use Rattle.pool_records.specs.RecordConstants.{doomedStride, retiringStride, spareStride, textureStride}
+use Rattle.pool_rules.specs.RuleConstants.{destroySpreadDrains, mostPlaces}
 
 -- ---- sizes and counts
 
 -- the six lengths fit together
 unfoldable pub lengthsFit : ℕ → ℕ → ℕ → ℕ → ℕ → ℕ → Bool
 lengthsFit textures retiring doomed spares newest stamps = tests (
-    leb 1 (textures / 20)
-    ∷ leb (textures / 20) 4096
-    ∷ leb 1 (retiring / 7)
-    ∷ leb (retiring / 7) 4096
-    ∷ leb newest 4096
-    ∷ eqb textures (20 * (textures / 20))
-    ∷ eqb retiring (7 * (retiring / 7))
-    ∷ eqb doomed (2 * (retiring / 7))
-    ∷ eqb spares (3 * (retiring / 7))
-    ∷ eqb stamps (1024 * newest) ∷ [])
+    leb 1 (textures / textureStride)
+    ∷ leb (textures / textureStride) mostPlaces
+    ∷ leb 1 (retiring / retiringStride)
+    ∷ leb (retiring / retiringStride) mostPlaces
+    ∷ leb newest mostPlaces
+    ∷ eqb textures (textureStride * (textures / textureStride))
+    ∷ eqb retiring (retiringStride * (retiring / retiringStride))
+    ∷ eqb doomed (doomedStride * (retiring / retiringStride))
+    ∷ eqb spares (spareStride * (retiring / retiringStride))
+    ∷ eqb stamps (pageStamps * newest) ∷ [])
 
 -- the counts fit so many places
 unfoldable pub placesHold : Pool → ℕ → ℕ → ℕ → Bool
@@ -43,14 +46,14 @@ placesHold pool places versions pages = tests (
 -- ---- rings
 
 unfoldable pub retiringAt : ℕ → ℕ → List ℕ → ℕ → Retiring ℕ
-retiringAt cap head retiring k = retiringOf (along 7 readRetiring cap head retiring k)
+retiringAt cap head retiring k = retiringOf (along retiringStride readRetiring cap head retiring k)
 
 -- the popped version, if there is one, and the queue
 unfoldable pub retiringFit : ℕ → ℕ → ℕ → List ℕ → Bool
 retiringFit cap head n retiring = all isRetiring (listed (retiringAt cap head retiring) 0 n)
 
 unfoldable pub doomedAt : ℕ → ℕ → List ℕ → ℕ → Doomed ℕ
-doomedAt cap first doomed k = doomedOf (along 2 readDoomed cap first doomed k)
+doomedAt cap first doomed k = doomedOf (along doomedStride readDoomed cap first doomed k)
 
 -- the destroy queue and its bytes
 unfoldable pub doomedFit : ℕ → ℕ → ℕ → ℕ → List ℕ → Bool
@@ -69,7 +72,7 @@ unfoldable pub numbersFit : Pool → PacingBook → Bool
 numbersFit pool book = tests (
     leb (pool .trackings) limit
     ∷ leb (pool .parked) (pool .cap)
-    ∷ ltb (book .slot) 8
+    ∷ ltb (book .slot) destroySpreadDrains
     ∷ leb (book .pressed) 1
     ∷ leb (pool .since) (pool .doomed)
     ∷ all isArrival (book .arrivals) ∷ [])

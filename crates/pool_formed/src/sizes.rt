@@ -6,7 +6,14 @@ ghost use Rattle.pool_memory.specs.declared.book.PacingBook.{PacingBook};
 ghost use Rattle.pool_memory.specs.Lent.{lent};
 ghost use Rattle.pool_memory.specs.IsPool.{sizesFit};
 ghost use Rattle.pool_formed.specs.Parts.{lengthsFit, placesHold};
+ghost use Rattle.pool_rules.specs.RuleConstants.{mostPlaces};
+use grid_stamps::PAGE_STAMPS;
 use pool_memory::Pool;
+use pool_records::DOOMED_STRIDE;
+use pool_records::RETIRING_STRIDE;
+use pool_records::SPARE_STRIDE;
+use pool_records::TEXTURE_STRIDE;
+use pool_rules::MOST_PLACES;
 
 // The slices are of whole places, as many as may be lent, and fit together.
 fn lengths_fit(
@@ -19,21 +26,21 @@ fn lengths_fit(
 ) -> bool
     ensures { λ r. ⌜ r ≡ lengthsFit textures retiring doomed spares newest stamps ⌝ }
 {
-    if newest > 4096 {
+    if newest > MOST_PLACES {
         return false;
     }
-    let places = textures / 20;
-    let versions = retiring / 7;
+    let places = textures / TEXTURE_STRIDE;
+    let versions = retiring / RETIRING_STRIDE;
     (1 <= places)
-        & (places <= 4096)
+        & (places <= MOST_PLACES)
         & (1 <= versions)
-        & (versions <= 4096)
-        & (newest <= 4096)
-        & (textures == 20 * places)
-        & (retiring == 7 * versions)
-        & (doomed == 2 * versions)
-        & (spares == 3 * versions)
-        & (stamps == 1024 * newest)
+        & (versions <= MOST_PLACES)
+        & (newest <= MOST_PLACES)
+        & (textures == TEXTURE_STRIDE * places)
+        & (retiring == RETIRING_STRIDE * versions)
+        & (doomed == DOOMED_STRIDE * versions)
+        & (spares == SPARE_STRIDE * versions)
+        & (stamps == PAGE_STAMPS * newest)
 }
 
 // The lent slices have the sizes that a pool needs, whatever its counts are.
@@ -60,7 +67,7 @@ pub fn sizes_fit(
 
 // The counts fit their places. Each is tested before it is added, so that no sum can pass a word.
 pub fn counts_fit(pool: Pool, places: usize, versions: usize, pages: usize) -> bool
-    requires { ⌜ versions ≤ 4096 ⌝ }
+    requires { ⌜ versions ≤ mostPlaces ⌝ }
     ensures { λ r. ⌜ r ≡ placesHold pool places versions pages ⌝ }
 {
     if pool.popped > 1 {

@@ -18,6 +18,8 @@ use Rattle.pool_memory.specs.Reading.{recordPages}
 use Rattle.pool_formed_textures.specs.Textures.{isRecord, recordSpares, recordBytes, claim}
 use Rattle.pool_formed_textures.proofs.Tests.{same-test}
 use Rattle.pool_formed_textures.proofs.RecordTests.{textureAt, record-shape}
+use Rattle.grid_shapes.specs.ShapeConstants.{mostShapeBytes}
+use Rattle.pool_rules.specs.RuleConstants.{mostPlaces}
 
 -- ---- spares and pages claimed: what is left of both
 
@@ -57,12 +59,12 @@ module _ (s : List ℕ) (n i : ℕ) (a b : ℕ) where
 -- ---- parked bytes
 
 -- no texture's spares have more than 2^44 bytes each
-pub parked-bound : (ts : List TextureRecord) → all isRecord ts ≡ true → total recordBytes ts ≤ 17592186044416 * total recordSpares ts
+pub parked-bound : (ts : List TextureRecord) → all isRecord ts ≡ true → total recordBytes ts ≤ mostShapeBytes * total recordSpares ts
 unfolding all total recordBytes
 parked-bound [] e = omega arith
 parked-bound (t ∷ ts) e =
     let q = and-both (isRecord t) (all isRecord ts) e in
-    let one = mul-le-mul-right {m = bytesOf (t .shape)} {n = 17592186044416} (t .spares) (bytes-bound (t .shape) (record-shape t (q .0))) in
+    let one = mul-le-mul-right {m = bytesOf (t .shape)} {n = mostShapeBytes} (t .spares) (bytes-bound (t .shape) (record-shape t (q .0))) in
     omega (arith, one, parked-bound ts (q .1))
 
 -- ---- a running sum of the bytes
@@ -71,5 +73,5 @@ module _ (s : List ℕ) (n i sum b : ℕ) (h : i < n) (so-far : sum + total reco
   pub parked-more : sum + b + total recordBytes (left (textureAt s) n (i + 1)) ≡ total recordBytes (textures n s)
   parked-more = omega (arith, so-far, e, total-more (textureAt s) n recordBytes i h)
 
-  pub parked-room : all isRecord (textures n s) ≡ true → total recordSpares (textures n s) ≤ 4096 → sum + b ≤ 72057594037927936
+  pub parked-room : all isRecord (textures n s) ≡ true → total recordSpares (textures n s) ≤ mostPlaces → sum + b ≤ 72057594037927936
   parked-room ok q = omega (arith, parked-more, parked-bound (textures n s) ok, q)

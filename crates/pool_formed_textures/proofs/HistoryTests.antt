@@ -23,6 +23,7 @@ use Rattle.pool_memory.specs.Reading.{recordPages, recordedPages}
 use Rattle.pool_memory.specs.IsPool.{isGrid}
 use Rattle.pool_formed_textures.specs.Textures.{gridsFit, historyFits, historiesFit}
 use Rattle.pool_formed_textures.proofs.RecordTests.{textureAt}
+use Rattle.grid_stamps.specs.StampConstants.{pageStamps}
 
 -- ---- grids
 
@@ -30,7 +31,7 @@ module _ (s : VersionShape) (level : ℕ) (a d : Axis) (ea : a ≡ tilingOf s le
   tiling-same : tiled a d ≡ tilingOf s level
   tiling-same = λ j. record { across = ea j; down = ed j }
 
-  pub grid-ready : (m : ℕ) → isShape s ≡ true → m ≡ 1024 → AxisOk a × AxisOk d × (stampCount (tiled a d) ≤ m) × (0 < stampCount (tiled a d))
+  pub grid-ready : (m : ℕ) → isShape s ≡ true → m ≡ pageStamps → AxisOk a × AxisOk d × (stampCount (tiled a d) ≤ m) × (0 < stampCount (tiled a d))
   grid-ready m h e =
       let ok = tiling-ok s h level in
       let small = count-bound (tilingOf s level) ok in

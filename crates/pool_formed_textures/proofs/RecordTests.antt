@@ -27,31 +27,34 @@ use Rattle.pool_memory.specs.IsPool.{bytesHold}
 use Rattle.pool_memory.proofs.Runs.{bytes-held}
 use Rattle.pool_formed_textures.specs.Textures.{writesFit, isRecord, recordSpares}
 use Rattle.pool_formed_textures.proofs.Tests.{fails}
+use Rattle.grid_shapes.specs.ShapeConstants.{mostShapeBytes}
+use Rattle.pool_records.specs.RecordConstants.{textureSparesAt, textureStride}
+use Rattle.pool_rules.specs.RuleConstants.{mostPlaces}
 
 -- ---- records
 
 -- record i of the textures' slice
 abbrev pub textureAt : List ℕ → ℕ → TextureRecord
-textureAt s i = recordAt 20 readTexture s i
+textureAt s i = recordAt textureStride readTexture s i
 
 -- read out of the part of the slice that holds it
-pub texture-read : (s : List ℕ) (i : ℕ) (p : List ℕ) → p ≡ take 20 (drop (20 * i) s) → readTexture p ≡ textureAt s i
+pub texture-read : (s : List ℕ) (i : ℕ) (p : List ℕ) → p ≡ take textureStride (drop (textureStride * i) s) → readTexture p ≡ textureAt s i
 texture-read s i p e = ap readTexture e ∙ record-part texture-codec s i
 
 -- ---- ids
 
-id-here : (s : List ℕ) (i : ℕ) → getD s (20 * i) 0 ≡ idOf (textureAt s i)
+id-here : (s : List ℕ) (i : ℕ) → getD s (textureStride * i) 0 ≡ idOf (textureAt s i)
 unfolding recordAt readTexture
-id-here s i = sym (getD-drop (20 * i) s 0 0 ∙ ap (λ (k : ℕ). getD s k 0) (add-zero (20 * i)))
+id-here s i = sym (getD-drop (textureStride * i) s 0 0 ∙ ap (λ (k : ℕ). getD s k 0) (add-zero (textureStride * i)))
 
-id-next : (s : List ℕ) (i : ℕ) → getD s (20 * i + 20) 0 ≡ idOf (textureAt s (i + 1))
-id-next s i = ap (λ (k : ℕ). getD s k 0) (let e : 20 * i + 20 ≡ 20 * (i + 1) = omega arith in e) ∙ id-here s (i + 1)
+id-next : (s : List ℕ) (i : ℕ) → getD s (textureStride * i + textureStride) 0 ≡ idOf (textureAt s (i + 1))
+id-next s i = ap (λ (k : ℕ). getD s k 0) (let e : textureStride * i + textureStride ≡ textureStride * (i + 1) = omega arith in e) ∙ id-here s (i + 1)
 
 module _ (s : List ℕ) (n i : ℕ) (h : i + 1 < n) where
-  pub ids-more : getD s (20 * i) 0 < getD s (20 * i + 20) 0 → ascending idOf (left (textureAt s) n i) ≡ ascending idOf (left (textureAt s) n (i + 1))
+  pub ids-more : getD s (textureStride * i) 0 < getD s (textureStride * i + textureStride) 0 → ascending idOf (left (textureAt s) n i) ≡ ascending idOf (left (textureAt s) n (i + 1))
   ids-more q = ascending-more (textureAt s) n idOf i h (lt-ltb (idOf (textureAt s i)) (idOf (textureAt s (i + 1))) (omega (arith, id-here s i, id-next s i)))
 
-  pub ids-stop : getD s (20 * i + 20) 0 ≤ getD s (20 * i) 0 → ascending idOf (left (textureAt s) n i) ≡ false
+  pub ids-stop : getD s (textureStride * i + textureStride) 0 ≤ getD s (textureStride * i) 0 → ascending idOf (left (textureAt s) n i) ≡ false
   ids-stop q = ascending-stop (textureAt s) n idOf i h (le-ltb (idOf (textureAt s i)) (idOf (textureAt s (i + 1))) (omega (arith, id-here s i, id-next s i)))
 
 -- ---- single records
@@ -73,8 +76,8 @@ module _ (t u : TextureRecord) (e : t ≡ u) where
 pub pages-small : (s : VersionShape) (k : ℕ) → k ≡ slicesOf s → isShape s ≡ true → k * s .levels ≤ 90
 pages-small s k e h = mul-le-mul {n₂ = 6} {m₂ = 15} (omega (arith, e, slices-bound s)) (shape-bounds s h .levels-bound)
 
-pub bytes-small : (s : VersionShape) (b k : ℕ) → b ≡ bytesOf s → isShape s ≡ true → k ≤ 4096 → b * k ≤ 72057594037927936
-bytes-small s b k e h q = mul-le-mul {n₂ = 17592186044416} {m₂ = 4096} (omega (arith, e, bytes-bound s h)) q
+pub bytes-small : (s : VersionShape) (b k : ℕ) → b ≡ bytesOf s → isShape s ≡ true → k ≤ mostPlaces → b * k ≤ 72057594037927936
+bytes-small s b k e h q = mul-le-mul {n₂ = mostShapeBytes} {m₂ = mostPlaces} (omega (arith, e, bytes-bound s h)) q
 
 -- ---- what passed, of the record at i
 
@@ -89,31 +92,31 @@ record-holds t e = passed _ e 6
 module _ (s : List ℕ) (n : ℕ) (ok : all isRecord (textures n s) ≡ true) where
   pub shape-at : (i : ℕ) → i < n → isShape (textureAt s i .shape) ≡ true
   shape-at i h =
-      let e = getD-table 20 readTexture n i s (readTexture []) h in
-      let f = all-get isRecord (textures n s) i (readTexture []) ok (omega (arith, length-table 20 readTexture n s)) in
+      let e = getD-table textureStride readTexture n i s (readTexture []) h in
+      let f = all-get isRecord (textures n s) i (readTexture []) ok (omega (arith, length-table textureStride readTexture n s)) in
       record-shape (textureAt s i) (rw e at f)
 
   pub bytes-at : (i : ℕ) → i < n → textureAt s i .bytes ≡ bytesOf (textureAt s i .shape)
   bytes-at i h =
-      let e = getD-table 20 readTexture n i s (readTexture []) h in
-      let f = all-get isRecord (textures n s) i (readTexture []) ok (omega (arith, length-table 20 readTexture n s)) in
+      let e = getD-table textureStride readTexture n i s (readTexture []) h in
+      let f = all-get isRecord (textures n s) i (readTexture []) ok (omega (arith, length-table textureStride readTexture n s)) in
       bytes-held (textureAt s i) (record-holds (textureAt s i) (rw e at f))
 
 pub spares-at : (s : List ℕ) (n i : ℕ) → i < n → textureAt s i .spares ≤ total recordSpares (textures n s)
 spares-at s n i h =
-    let e = getD-table 20 readTexture n i s (readTexture []) h in
-    let f = total-get recordSpares (textures n s) i (readTexture []) (omega (arith, length-table 20 readTexture n s)) in
+    let e = getD-table textureStride readTexture n i s (readTexture []) h in
+    let f = total-get recordSpares (textures n s) i (readTexture []) (omega (arith, length-table textureStride readTexture n s)) in
     rw e at f
 
 -- ---- the record at i, read out of its part of the slice
 
-module _ (s : List ℕ) (i : ℕ) (p : List ℕ) (e : p ≡ take 20 (drop (20 * i) s)) where
+module _ (s : List ℕ) (i : ℕ) (p : List ℕ) (e : p ≡ take textureStride (drop (textureStride * i) s)) where
   pub read-shape : (n : ℕ) → all isRecord (textures n s) ≡ true → i < n → isShape (readTexture p .shape) ≡ true
   read-shape n ok h = ap (λ (t : TextureRecord). isShape (t .shape)) (texture-read s i p e) ∙ shape-at s n ok i h
 
   pub read-bytes : (n : ℕ) → all isRecord (textures n s) ≡ true → i < n → readTexture p .bytes ≡ bytesOf (readTexture p .shape)
   read-bytes n ok h = subst (λ (t : TextureRecord). t .bytes ≡ bytesOf (t .shape)) (sym (texture-read s i p e)) (bytes-at s n ok i h)
 
-  pub read-spares : getD p 18 0 ≡ textureAt s i .spares
+  pub read-spares : getD p textureSparesAt 0 ≡ textureAt s i .spares
   unfolding readTexture
   read-spares = ap (λ (t : TextureRecord). t .spares) (texture-read s i p e)

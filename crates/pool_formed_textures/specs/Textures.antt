@@ -20,6 +20,7 @@ use Rattle.pool_records.specs.Find.{textures, idOf}
 use Rattle.pool_memory.specs.declared.pool.Pool.{Pool}
 use Rattle.pool_memory.specs.Reading.{pageAt, recordPages}
 use Rattle.pool_memory.specs.IsPool.{bytesHold, isGrid, isSpare}
+use Rattle.pool_records.specs.RecordConstants.{spareStride}
 
 -- ---- textures
 
@@ -45,7 +46,7 @@ unfoldable pub claim : List TextureRecord → ℕ → ℕ → Bool
 claim ts kept pages = tests (eqb kept (total recordSpares ts) ∷ eqb pages (total recordPages ts) ∷ [])
 
 unfoldable pub spareAt : List ℕ → ℕ → Spare ℕ
-spareAt spares k = spareOf (recordAt 3 readSpare spares k)
+spareAt spares k = spareOf (recordAt spareStride readSpare spares k)
 
 -- ---- histories
 

@@ -12,14 +12,18 @@ ghost use Rattle.pool_records.specs.Find.{textures as textures′};
 ghost use Rattle.pool_memory.specs.Reading.{pageAt, recordPages};
 ghost use Rattle.pool_memory.specs.IsPool.{isGrid};
 ghost use Rattle.pool_formed_textures.specs.Textures.{isRecord, gridsFit, historyFits, historiesFit};
+ghost use Rattle.grid_stamps.specs.StampConstants.{pageStamps};
+ghost use Rattle.pool_records.specs.RecordConstants.{textureStride};
 use crate::records_fit::pages_of;
 use crate::records_fit::record_pages;
 use base_tables::record_at;
 use grid_shapes::VersionShape;
+use grid_stamps::PAGE_STAMPS;
 use grid_stamps::across_axis;
 use grid_stamps::down_axis;
 use grid_stamps::is_largest_stamp;
 use pool_records::Recorded;
+use pool_records::TEXTURE_STRIDE;
 use pool_records::read_texture;
 
 // The grid of a level, on page `at`.
@@ -31,7 +35,7 @@ fn grid_fits(
     stamps: &[u64],
     at: usize,
 ) -> bool
-    requires { ⌜ (isShape s ≡ true) × (at < length (now newest)) × (length (now stamps) ≡ 1024 * length (now newest)) ⌝ }
+    requires { ⌜ (isShape s ≡ true) × (at < length (now newest)) × (length (now stamps) ≡ pageStamps * length (now newest)) ⌝ }
     ensures { λ r. ⌜ r ≡ isGrid writes (gridIn (tilingOf s level) (getD (now (newest .entry)) at 0) (pageAt (now (stamps .entry)) at)) ⌝ }
 {
     let stamp = newest[at];
@@ -40,12 +44,12 @@ fn grid_fits(
     }
     let across = across_axis(s, level);
     let down = down_axis(s, level);
-    is_largest_stamp(record_at(stamps, 1024, at), across, down, stamp)
+    is_largest_stamp(record_at(stamps, PAGE_STAMPS, at), across, down, stamp)
 }
 
 // The grids of a history whose first page is `page`.
 fn grids_fit(s: VersionShape, writes: u64, newest: &[u64], stamps: &[u64], page: usize) -> bool
-    requires { ⌜ (isShape s ≡ true) × (page + pagesOf s ≤ length (now newest)) × (length (now stamps) ≡ 1024 * length (now newest)) ⌝ }
+    requires { ⌜ (isShape s ≡ true) × (page + pagesOf s ≤ length (now newest)) × (length (now stamps) ≡ pageStamps * length (now newest)) ⌝ }
     ensures { λ r. ⌜ r ≡ gridsFit (now (newest .entry)) (now (stamps .entry)) s page writes ⌝ }
 {
     let n = pages_of(s);
@@ -61,8 +65,8 @@ fn grids_fit(s: VersionShape, writes: u64, newest: &[u64], stamps: &[u64], page:
 
 // The history of a record whose first page is `page`.
 fn history_fits(p: &[u64], newest: &[u64], stamps: &[u64], page: usize) -> bool
-    requires { ⌜ (20 ≤ length (now p)) × (isShape (readTexture (now p) .shape) ≡ true)
-        × (page + recordPages (readTexture (now p)) ≤ length (now newest)) × (length (now stamps) ≡ 1024 * length (now newest)) ⌝ }
+    requires { ⌜ (textureStride ≤ length (now p)) × (isShape (readTexture (now p) .shape) ≡ true)
+        × (page + recordPages (readTexture (now p)) ≤ length (now newest)) × (length (now stamps) ≡ pageStamps * length (now newest)) ⌝ }
     ensures { λ r. ⌜ r ≡ historyFits (now (newest .entry)) (now (stamps .entry)) (readTexture (now (p .entry)) .shape) page (readTexture (now (p .entry)) .history) ⌝ }
 {
     let t = read_texture(p);
@@ -76,14 +80,14 @@ fn history_fits(p: &[u64], newest: &[u64], stamps: &[u64], page: usize) -> bool
 
 // The histories of the first n records, each behind the pages of those before it.
 pub fn histories_fit(textures: &[u64], n: usize, newest: &[u64], stamps: &[u64]) -> bool
-    requires { ⌜ (20 * n ≤ length (now textures)) × (all isRecord (textures′ n (now textures)) ≡ true)
-        × (total recordPages (textures′ n (now textures)) ≤ length (now newest)) × (length (now stamps) ≡ 1024 * length (now newest)) ⌝ }
+    requires { ⌜ (textureStride * n ≤ length (now textures)) × (all isRecord (textures′ n (now textures)) ≡ true)
+        × (total recordPages (textures′ n (now textures)) ≤ length (now newest)) × (length (now stamps) ≡ pageStamps * length (now newest)) ⌝ }
     ensures { λ r. ⌜ r ≡ historiesFit (now (newest .entry)) (now (stamps .entry)) 0 (textures′ n (now (textures .entry))) ⌝ }
 {
     let mut page = 0;
     let mut i = 0;
     while i < n {
-        let p = record_at(textures, 20, i);
+        let p = record_at(textures, TEXTURE_STRIDE, i);
         if !history_fits(p, newest, stamps, page) {
             return false;
         }

@@ -10,23 +10,28 @@ ghost use Rattle.pool_records.specs.Texture.{readTexture};
 ghost use Rattle.pool_records.specs.Find.{textures as textures′, idOf};
 ghost use Rattle.pool_memory.specs.Reading.{recordPages};
 ghost use Rattle.pool_formed_textures.specs.Textures.{writesFit, isRecord, recordBytes};
-use crate::limits::MOST_COUNTED;
+ghost use Rattle.pool_records.specs.RecordConstants.{textureStride};
+ghost use Rattle.pool_rules.specs.RuleConstants.{mostPlaces};
 use base_tables::record_at;
 use grid_shapes::VersionShape;
 use grid_shapes::is_shape;
 use grid_shapes::shape_bytes;
 use grid_shapes::slices;
 use pool_records::Recorded;
+use pool_records::TEXTURE_BYTES_AT;
+use pool_records::TEXTURE_SPARES_AT;
+use pool_records::TEXTURE_STRIDE;
 use pool_records::read_texture;
+use pool_rules::LIMIT;
 
 // The ids of the first n records ascend.
 pub fn ids_ascend(textures: &[u64], n: usize) -> bool
-    requires { ⌜ 20 * n ≤ length (now textures) ⌝ }
+    requires { ⌜ textureStride * n ≤ length (now textures) ⌝ }
     ensures { λ r. ⌜ r ≡ ascending idOf (textures′ n (now (textures .entry))) ⌝ }
 {
     let mut i = 0;
     while i + 1 < n {
-        if textures[20 * i + 20] <= textures[20 * i] {
+        if textures[TEXTURE_STRIDE * i + TEXTURE_STRIDE] <= textures[TEXTURE_STRIDE * i] {
             return false;
         }
         i += 1;
@@ -39,14 +44,14 @@ fn writes_fit(h: Recorded) -> bool
     ensures { λ r. ⌜ r ≡ writesFit h ⌝ }
 {
     match h {
-        Recorded::Writes(n) => n <= MOST_COUNTED,
+        Recorded::Writes(n) => n <= LIMIT,
         Recorded::NoHistory => true,
     }
 }
 
 // The record's shape passes refusal 2, its bytes are that shape's, and its other numbers are at most 2^48.
 fn is_record(p: &[u64]) -> bool
-    requires { ⌜ 20 ≤ length (now p) ⌝ }
+    requires { ⌜ textureStride ≤ length (now p) ⌝ }
     ensures { λ r. ⌜ r ≡ isRecord (readTexture (now (p .entry))) ⌝ }
 {
     let t = read_texture(p);
@@ -55,22 +60,22 @@ fn is_record(p: &[u64]) -> bool
     if !is_shape(shape) {
         return false;
     }
-    (t.epoch <= MOST_COUNTED)
-        & (t.birth <= MOST_COUNTED)
-        & (t.rename <= MOST_COUNTED)
-        & (t.due <= MOST_COUNTED)
+    (t.epoch <= LIMIT)
+        & (t.birth <= LIMIT)
+        & (t.rename <= LIMIT)
+        & (t.due <= LIMIT)
         & writes_fit(history)
         & (t.bytes == shape_bytes(shape))
 }
 
 // Every one of the first n records does.
 pub fn records_fit(textures: &[u64], n: usize) -> bool
-    requires { ⌜ 20 * n ≤ length (now textures) ⌝ }
+    requires { ⌜ textureStride * n ≤ length (now textures) ⌝ }
     ensures { λ r. ⌜ r ≡ all isRecord (textures′ n (now (textures .entry))) ⌝ }
 {
     let mut i = 0;
     while i < n {
-        if !is_record(record_at(textures, 20, i)) {
+        if !is_record(record_at(textures, TEXTURE_STRIDE, i)) {
             return false;
         }
         i += 1;
@@ -88,7 +93,7 @@ pub fn pages_of(s: VersionShape) -> u64
 
 // How many pages a record claims.
 pub fn record_pages(p: &[u64]) -> usize
-    requires { ⌜ (20 ≤ length (now p)) × (isShape (readTexture (now p) .shape) ≡ true) ⌝ }
+    requires { ⌜ (textureStride ≤ length (now p)) × (isShape (readTexture (now p) .shape) ≡ true) ⌝ }
     ensures { λ r. ⌜ (r ≤ 90) × (r ≡ recordPages (readTexture (now (p .entry)))) ⌝ }
 {
     let t = read_texture(p);
@@ -102,9 +107,9 @@ pub fn record_pages(p: &[u64]) -> usize
 
 // The bytes of a record's spares.
 pub fn record_bytes(p: &[u64]) -> u64
-    requires { ⌜ (20 ≤ length (now p)) × (isShape (readTexture (now p) .shape) ≡ true) × (readTexture (now p) .spares ≤ 4096)
+    requires { ⌜ (textureStride ≤ length (now p)) × (isShape (readTexture (now p) .shape) ≡ true) × (readTexture (now p) .spares ≤ mostPlaces)
         × (readTexture (now p) .bytes ≡ bytesOf (readTexture (now p) .shape)) ⌝ }
     ensures { λ r. ⌜ r ≡ recordBytes (readTexture (now (p .entry))) ⌝ }
 {
-    p[19] * p[18]
+    p[TEXTURE_BYTES_AT] * p[TEXTURE_SPARES_AT]
 }

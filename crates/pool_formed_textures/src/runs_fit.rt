@@ -6,21 +6,25 @@ ghost use lib.ListN.{length};
 ghost use Rattle.base_blocks.specs.Lists.{all, total};
 ghost use Rattle.pool_records.specs.Find.{textures as textures′};
 ghost use Rattle.pool_formed_textures.specs.Textures.{isRecord, recordSpares, recordBytes, claim};
+ghost use Rattle.pool_records.specs.RecordConstants.{textureStride};
+ghost use Rattle.pool_rules.specs.RuleConstants.{mostPlaces};
 use crate::records_fit::record_bytes;
 use crate::records_fit::record_pages;
 use base_tables::record_at;
+use pool_records::TEXTURE_SPARES_AT;
+use pool_records::TEXTURE_STRIDE;
 
 // The first n records claim just `kept` spares and `pages` pages. What is left of both goes down, so that no sum can pass a word.
 pub fn runs_fit(textures: &[u64], n: usize, kept: usize, pages: usize) -> bool
-    requires { ⌜ (20 * n ≤ length (now textures)) × (all isRecord (textures′ n (now textures)) ≡ true) ⌝ }
+    requires { ⌜ (textureStride * n ≤ length (now textures)) × (all isRecord (textures′ n (now textures)) ≡ true) ⌝ }
     ensures { λ r. ⌜ r ≡ claim (textures′ n (now (textures .entry))) kept pages ⌝ }
 {
     let mut spares = kept as u64;
     let mut free = pages;
     let mut i = 0;
     while i < n {
-        let p = record_at(textures, 20, i);
-        let k = p[18];
+        let p = record_at(textures, TEXTURE_STRIDE, i);
+        let k = p[TEXTURE_SPARES_AT];
         if k > spares {
             return false;
         }
@@ -37,14 +41,14 @@ pub fn runs_fit(textures: &[u64], n: usize, kept: usize, pages: usize) -> bool
 
 // The bytes of the first n textures' spares.
 pub fn parked_bytes(textures: &[u64], n: usize) -> u64
-    requires { ⌜ (20 * n ≤ length (now textures)) × (all isRecord (textures′ n (now textures)) ≡ true)
-        × (total recordSpares (textures′ n (now textures)) ≤ 4096) ⌝ }
+    requires { ⌜ (textureStride * n ≤ length (now textures)) × (all isRecord (textures′ n (now textures)) ≡ true)
+        × (total recordSpares (textures′ n (now textures)) ≤ mostPlaces) ⌝ }
     ensures { λ r. ⌜ r ≡ total recordBytes (textures′ n (now (textures .entry))) ⌝ }
 {
     let mut sum = 0;
     let mut i = 0;
     while i < n {
-        sum += record_bytes(record_at(textures, 20, i));
+        sum += record_bytes(record_at(textures, TEXTURE_STRIDE, i));
         i += 1;
     }
     sum

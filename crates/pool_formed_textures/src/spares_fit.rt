@@ -5,19 +5,23 @@ ghost use lib.ListN.{length};
 ghost use Rattle.base_blocks.specs.Lists.{all, listed};
 ghost use Rattle.pool_memory.specs.IsPool.{isSpare};
 ghost use Rattle.pool_formed_textures.specs.Textures.{spareAt};
-use crate::limits::MOST_COUNTED;
+ghost use Rattle.pool_records.specs.RecordConstants.{spareStride};
+use pool_records::SPARE_HELD_AT;
+use pool_records::SPARE_PARKED_AT;
+use pool_records::SPARE_STRIDE;
+use pool_rules::LIMIT;
 
 // The first n spares: what each holds is unknown (0) or at most 2^48 (one more stands there), and so is its parking number.
 pub fn spares_fit(spares: &[u64], n: usize) -> bool
-    requires { ⌜ 3 * n ≤ length (now spares) ⌝ }
+    requires { ⌜ spareStride * n ≤ length (now spares) ⌝ }
     ensures { λ r. ⌜ r ≡ all isSpare (listed (spareAt (now (spares .entry))) 0 n) ⌝ }
 {
     let mut k = 0;
     while k < n {
-        if spares[3 * k + 1] > MOST_COUNTED + 1 {
+        if spares[SPARE_STRIDE * k + SPARE_HELD_AT] > LIMIT + 1 {
             return false;
         }
-        if spares[3 * k + 2] > MOST_COUNTED {
+        if spares[SPARE_STRIDE * k + SPARE_PARKED_AT] > LIMIT {
             return false;
         }
         k += 1;

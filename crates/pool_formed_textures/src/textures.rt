@@ -3,6 +3,9 @@ ghost use mathlib.Core.Path.{_≡_};
 ghost use Prim.Native.Nat.{_*_, _≤_};
 ghost use lib.ListN.{length};
 ghost use Rattle.pool_formed_textures.specs.Textures.{texturesFit};
+ghost use Rattle.grid_stamps.specs.StampConstants.{pageStamps};
+ghost use Rattle.pool_records.specs.RecordConstants.{spareStride, textureStride};
+ghost use Rattle.pool_rules.specs.RuleConstants.{mostPlaces};
 use crate::histories_fit::histories_fit;
 use crate::records_fit::ids_ascend;
 use crate::records_fit::records_fit;
@@ -18,8 +21,8 @@ pub fn textures_fit(
     newest: &[u64],
     stamps: &[u64],
 ) -> bool
-    requires { ⌜ (20 * pool .tracked ≤ length (now textures)) × (3 * pool .kept ≤ length (now spares)) × (pool .kept ≤ 4096)
-        × (pool .pages ≤ length (now newest)) × (length (now stamps) ≡ 1024 * length (now newest)) ⌝ }
+    requires { ⌜ (textureStride * pool .tracked ≤ length (now textures)) × (spareStride * pool .kept ≤ length (now spares)) × (pool .kept ≤ mostPlaces)
+        × (pool .pages ≤ length (now newest)) × (length (now stamps) ≡ pageStamps * length (now newest)) ⌝ }
     ensures { λ r. ⌜ r ≡ texturesFit pool (now (textures .entry)) (now (spares .entry)) (now (newest .entry)) (now (stamps .entry)) ⌝ }
 {
     let n = pool.tracked;

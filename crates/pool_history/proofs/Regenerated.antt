@@ -24,6 +24,7 @@ use Rattle.pool_memory.specs.Reading.{pageAt}
 use Rattle.pool_memory.specs.Writing.{pagesFrom}
 use Rattle.pool_history.specs.Written.{gridOn, newestWritten, pagesWritten, remadeGrid, remadeGrids}
 use Rattle.pool_history.proofs.Written.{Small, small-stamped, small-grid, newest-past, newest-more, page-past, pages-more}
+use Rattle.grid_stamps.specs.StampConstants.{pageStamps}
 
 -- ---- one grid
 
@@ -80,22 +81,22 @@ module _ (s : VersionShape) (shaped : isShape s ≡ true) (n : ℕ) (newest stam
   length-remade k = length-listed remadeAt 0 k
 
   -- a grid that is made anew fits its page
-  small-at : (j : ℕ) → 1024 * (page + j) + 1024 ≤ length stamps → length (remadeAt j .stamps) ≤ 1024
+  small-at : (j : ℕ) → pageStamps * (page + j) + pageStamps ≤ length stamps → length (remadeAt j .stamps) ≤ pageStamps
   unfolding remadeGrid
   small-at j room =
       let level = j % s .levels in
       let g = gridOn s level newest stamps (page + j) in
-      either (λ (x : StampGrid). length (x .stamps) ≤ 1024) (eqb level 0) g (stampedBy (tilingOf s level) (wholeLevel (levelWidth s level) (levelHeight s level)) n g)
+      either (λ (x : StampGrid). length (x .stamps) ≤ pageStamps) (eqb level 0) g (stampedBy (tilingOf s level) (wholeLevel (levelWidth s level) (levelHeight s level)) n g)
       (λ e. small-grid s shaped level newest stamps (page + j) room)
       (λ e. small-stamped s shaped level (wholeLevel (levelWidth s level) (levelHeight s level)) n g)
 
-  pub small-remade : (k : ℕ) → 1024 * (page + k) ≤ length stamps → (j : ℕ) → j < k
-      → length (getD (remadeGrids s n newest stamps page k) j (record { newest = 0; stamps = [] }) .stamps) ≤ 1024
+  pub small-remade : (k : ℕ) → pageStamps * (page + k) ≤ length stamps → (j : ℕ) → j < k
+      → length (getD (remadeGrids s n newest stamps page k) j (record { newest = 0; stamps = [] }) .stamps) ≤ pageStamps
   unfolding remadeGrids
   small-remade k room j h =
-      subst (λ (g : StampGrid). length (g .stamps) ≤ 1024) (sym (getD-listed remadeAt 0 k j (record { newest = 0; stamps = [] }) h ∙ ap remadeAt (zero-add j))) (small-at j (omega arith))
+      subst (λ (g : StampGrid). length (g .stamps) ≤ pageStamps) (sym (getD-listed remadeAt 0 k j (record { newest = 0; stamps = [] }) h ∙ ap remadeAt (zero-add j))) (small-at j (omega arith))
 
-  module _ (k : ℕ) (room : 1024 * (page + k) + 1024 ≤ length stamps) (counted : page + k < length newest) where
+  module _ (k : ℕ) (room : pageStamps * (page + k) + pageStamps ≤ length stamps) (counted : page + k < length newest) where
     grids-small : Small (remadeGrids s n newest stamps page k)
     unfolding remadeGrids
     grids-small = all-listed remadeAt 0 k (λ j q. small-at (0 + j) (omega arith))

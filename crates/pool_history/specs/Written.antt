@@ -12,6 +12,7 @@ use Rattle.grid_rects.specs.Rects.{wholeLevel}
 use Rattle.grid_stamps.specs.Grids.{StampGrid, gridIn, tilingOf, stampedBy}
 use Rattle.pool_memory.specs.Reading.{pageAt}
 use Rattle.pool_memory.specs.Writing.{pagesFrom}
+use Rattle.grid_stamps.specs.StampConstants.{pageStamps}
 
 -- the grid of a level on page p
 unfoldable pub gridOn : VersionShape → ℕ → List ℕ → List ℕ → ℕ → StampGrid
@@ -26,7 +27,7 @@ newestWritten newest p gs = sets newest p (map newestStamp gs)
 
 -- the grids' stamps, from page p on, each laid over its page as it stood
 unfoldable pub pagesWritten : List ℕ → ℕ → List StampGrid → List ℕ
-pagesWritten stamps p gs = sets stamps (1024 * p) (pagesFrom (λ (k : ℕ). pageAt stamps (p + k)) 0 gs)
+pagesWritten stamps p gs = sets stamps (pageStamps * p) (pagesFrom (λ (k : ℕ). pageAt stamps (p + k)) 0 gs)
 
 -- a grid after a regeneration: level 0 as it was, any other stamped whole
 unfoldable pub remadeGrid : VersionShape → ℕ → ℕ → StampGrid → StampGrid

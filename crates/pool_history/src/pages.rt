@@ -8,12 +8,14 @@ ghost use Rattle.base_blocks.specs.Blocks.{moved};
 ghost use Rattle.grid_shapes.specs.Shapes.{isShape};
 ghost use Rattle.grid_stamps.specs.Grids.{tilingOf, stampedBy};
 ghost use Rattle.pool_history.specs.Written.{gridOn, newestWritten, pagesWritten, remadeGrid, remadeGrids};
+ghost use Rattle.grid_stamps.specs.StampConstants.{pageStamps};
 use base_blocks::shift_down;
 use base_tables::remove_records;
 use grid_rects::TexelRect;
 use grid_rects::level_rect;
 use grid_shapes::VersionShape;
 use grid_shapes::level_extent;
+use grid_stamps::PAGE_STAMPS;
 use grid_stamps::across_axis;
 use grid_stamps::down_axis;
 use grid_stamps::stamp;
@@ -28,15 +30,15 @@ pub fn stamp_page(
     rect: TexelRect,
     n: u64,
 )
-    requires { ⌜ (isShape shape ≡ true) × (p < length (now newest)) × (1024 * length (now newest) ≤ length (now stamps)) ⌝ }
+    requires { ⌜ (isShape shape ≡ true) × (p < length (now newest)) × (pageStamps * length (now newest) ≤ length (now stamps)) ⌝ }
     ensures { λ _. ⌜
         (now (newest .exit) ≡ newestWritten (now (newest .entry)) p (stampedBy (tilingOf shape level) rect n (gridOn shape level (now (newest .entry)) (now (stamps .entry)) p) ∷ []))
         × (now (stamps .exit) ≡ pagesWritten (now (stamps .entry)) p (stampedBy (tilingOf shape level) rect n (gridOn shape level (now (newest .entry)) (now (stamps .entry)) p) ∷ [])) ⌝ }
 {
     let across = across_axis(shape, level);
     let down = down_axis(shape, level);
-    let a = 1024 * p;
-    let e = a + 1024;
+    let a = PAGE_STAMPS * p;
+    let e = a + PAGE_STAMPS;
     let latest = stamp(&mut stamps[a..e], across, down, rect, n, newest[p]);
     newest[p] = latest;
 }
@@ -50,7 +52,7 @@ fn regenerate_page(
     level: u64,
     n: u64,
 )
-    requires { ⌜ (isShape shape ≡ true) × (p < length (now newest)) × (1024 * length (now newest) ≤ length (now stamps)) ⌝ }
+    requires { ⌜ (isShape shape ≡ true) × (p < length (now newest)) × (pageStamps * length (now newest) ≤ length (now stamps)) ⌝ }
     ensures { λ _. ⌜
         (now (newest .exit) ≡ newestWritten (now (newest .entry)) p (remadeGrid shape n level (gridOn shape level (now (newest .entry)) (now (stamps .entry)) p) ∷ []))
         × (now (stamps .exit) ≡ pagesWritten (now (stamps .entry)) p (remadeGrid shape n level (gridOn shape level (now (newest .entry)) (now (stamps .entry)) p) ∷ [])) ⌝ }
@@ -88,7 +90,7 @@ pub fn regenerate_pages(
     shape: VersionShape,
     n: u64,
 )
-    requires { ⌜ (isShape shape ≡ true) × (page + pages ≤ length (now newest)) × (1024 * length (now newest) ≤ length (now stamps)) ⌝ }
+    requires { ⌜ (isShape shape ≡ true) × (page + pages ≤ length (now newest)) × (pageStamps * length (now newest) ≤ length (now stamps)) ⌝ }
     ensures { λ _. ⌜
         (now (newest .exit) ≡ newestWritten (now (newest .entry)) page (remadeGrids shape n (now (newest .entry)) (now (stamps .entry)) page pages))
         × (now (stamps .exit) ≡ pagesWritten (now (stamps .entry)) page (remadeGrids shape n (now (newest .entry)) (now (stamps .entry)) page pages)) ⌝ }
@@ -104,11 +106,11 @@ pub fn regenerate_pages(
 
 // Of the `used` pages, the n from `page` on taken out: the later ones move down.
 pub fn remove_pages(newest: &mut [u64], stamps: &mut [u64], used: usize, page: usize, n: usize)
-    requires { ⌜ (page + n ≤ used) × (used ≤ length (now newest)) × (1024 * used ≤ length (now stamps)) ⌝ }
+    requires { ⌜ (page + n ≤ used) × (used ≤ length (now newest)) × (pageStamps * used ≤ length (now stamps)) ⌝ }
     ensures { λ _. ⌜
         (now (newest .exit) ≡ moved (now (newest .entry)) page (page + n) (used - (page + n)))
-        × (now (stamps .exit) ≡ moved (now (stamps .entry)) (1024 * page) (1024 * page + 1024 * n) (1024 * (used - (page + n)))) ⌝ }
+        × (now (stamps .exit) ≡ moved (now (stamps .entry)) (pageStamps * page) (pageStamps * page + pageStamps * n) (pageStamps * (used - (page + n)))) ⌝ }
 {
     shift_down(newest, page, n, used - (page + n));
-    remove_records(stamps, 1024, used, page, n);
+    remove_records(stamps, PAGE_STAMPS, used, page, n);
 }

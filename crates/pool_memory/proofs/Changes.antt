@@ -27,15 +27,16 @@ use Rattle.pool_memory.proofs.Fits.{Fits}
 use Rattle.pool_memory.proofs.Parts.{total-within, map-set, map-removed, map-inserted, upTo, flat-set, flat-removed, flat-inserted, run-longer, run-dropped, run-taken}
 use Rattle.pool_memory.proofs.Runs.{sparesOf, spareCount, firstSpare, stateOf, tracked-records, tracked-model, records-model, model-at, spares-model, kept-states, take-states}
 use Rattle.pool_memory.proofs.Same.{spare-records}
+use Rattle.pool_records.specs.RecordConstants.{spareStride, textureStride}
 
 -- ---- the textures' records
 
 module _ (l : Lent) (p : Pool ℕ) (f : Fits l) where
-  fits : 20 * l .pool .tracked ≤ length (l .textures)
+  fits : textureStride * l .pool .tracked ≤ length (l .textures)
   fits = omega (arith, f .textures, f .tracked)
 
   pub textures-set : (i : ℕ) (t : VersionState ℕ) → i < l .pool .tracked → p .textures ≡ set (modelOf l .textures) i t
-      → sets (l .textures) (20 * i) (writeTexture (textureRecord t)) ≡ texturesAfter p l
+      → sets (l .textures) (textureStride * i) (writeTexture (textureRecord t)) ≡ texturesAfter p l
   unfolding texturesAfter
   textures-set i t h e =
       replaced-record texture-codec (l .pool .tracked) (l .textures) fits i (textureRecord t) h
@@ -43,9 +44,9 @@ module _ (l : Lent) (p : Pool ℕ) (f : Fits l) where
       (ap (map textureRecord) e ∙ map-set textureRecord (modelOf l .textures) i t
       ∙ ap (λ (xs : List TextureRecord). set xs i (textureRecord t)) (records-model l (f .bytes))))
 
-  pub textures-inserted : (i : ℕ) (t : VersionState ℕ) → 20 * l .pool .tracked + 20 ≤ length (l .textures) → i ≤ l .pool .tracked
+  pub textures-inserted : (i : ℕ) (t : VersionState ℕ) → textureStride * l .pool .tracked + textureStride ≤ length (l .textures) → i ≤ l .pool .tracked
       → p .textures ≡ inserted i (t ∷ []) (modelOf l .textures)
-      → sets (moved (l .textures) (20 * i + 20) (20 * i) (20 * (l .pool .tracked - i))) (20 * i) (writeTexture (textureRecord t)) ≡ texturesAfter p l
+      → sets (moved (l .textures) (textureStride * i + textureStride) (textureStride * i) (textureStride * (l .pool .tracked - i))) (textureStride * i) (writeTexture (textureRecord t)) ≡ texturesAfter p l
   unfolding texturesAfter
   textures-inserted i t room h e =
       inserted-records texture-codec (l .pool .tracked) (l .textures) fits i (textureRecord t) room h
@@ -54,7 +55,7 @@ module _ (l : Lent) (p : Pool ℕ) (f : Fits l) where
       ∙ ap (inserted i (textureRecord t ∷ [])) (records-model l (f .bytes))))
 
   pub textures-removed : (i k : ℕ) → i + k ≤ l .pool .tracked → p .textures ≡ removed i k (modelOf l .textures)
-      → moved (l .textures) (20 * i) (20 * i + 20 * k) (20 * (l .pool .tracked - (i + k))) ≡ texturesAfter p l
+      → moved (l .textures) (textureStride * i) (textureStride * i + textureStride * k) (textureStride * (l .pool .tracked - (i + k))) ≡ texturesAfter p l
   unfolding texturesAfter
   textures-removed i k h e =
       removed-records texture-codec (l .pool .tracked) (l .textures) fits i k h
@@ -174,16 +175,16 @@ module _ (l : Lent) where
 
 -- ---- the spares' records
 
-module _ (l : Lent) (p : Pool ℕ) (kept : total sparesOf (trackedRecords l) ≡ l .pool .kept) (fits : 3 * l .pool .kept ≤ length (l .spares)) where
+module _ (l : Lent) (p : Pool ℕ) (kept : total sparesOf (trackedRecords l) ≡ l .pool .kept) (fits : spareStride * l .pool .kept ≤ length (l .spares)) where
   -- the records of all the spares
-  pub table-spares : map spareRecord (sparesBefore l) ≡ table 3 readSpare (l .pool .kept) (l .spares)
+  pub table-spares : map spareRecord (sparesBefore l) ≡ table spareStride readSpare (l .pool .kept) (l .spares)
   table-spares =
       ap (map spareRecord) (spares-model l) ∙ spare-records l (total sparesOf (trackedRecords l))
-      ∙ ap (λ (n : ℕ). table 3 readSpare n (l .spares)) kept
+      ∙ ap (λ (n : ℕ). table spareStride readSpare n (l .spares)) kept
 
-  pub spares-inserted : (k : ℕ) (x : Spare ℕ) → 3 * l .pool .kept + 3 ≤ length (l .spares) → k ≤ l .pool .kept
+  pub spares-inserted : (k : ℕ) (x : Spare ℕ) → spareStride * l .pool .kept + spareStride ≤ length (l .spares) → k ≤ l .pool .kept
       → everySpare (p .textures) ≡ inserted k (x ∷ []) (sparesBefore l)
-      → sets (moved (l .spares) (3 * k + 3) (3 * k) (3 * (l .pool .kept - k))) (3 * k) (writeSpare (spareRecord x)) ≡ sparesAfter p l
+      → sets (moved (l .spares) (spareStride * k + spareStride) (spareStride * k) (spareStride * (l .pool .kept - k))) (spareStride * k) (writeSpare (spareRecord x)) ≡ sparesAfter p l
   unfolding sparesAfter
   spares-inserted k x room h e =
       inserted-records spare-codec (l .pool .kept) (l .spares) fits k (spareRecord x) room h
@@ -191,7 +192,7 @@ module _ (l : Lent) (p : Pool ℕ) (kept : total sparesOf (trackedRecords l) ≡
       (ap (map spareRecord) e ∙ map-inserted spareRecord k (x ∷ []) (sparesBefore l) ∙ ap (inserted k (spareRecord x ∷ [])) table-spares))
 
   pub spares-removed : (k n : ℕ) → k + n ≤ l .pool .kept → everySpare (p .textures) ≡ removed k n (sparesBefore l)
-      → moved (l .spares) (3 * k) (3 * k + 3 * n) (3 * (l .pool .kept - (k + n))) ≡ sparesAfter p l
+      → moved (l .spares) (spareStride * k) (spareStride * k + spareStride * n) (spareStride * (l .pool .kept - (k + n))) ≡ sparesAfter p l
   unfolding sparesAfter
   spares-removed k n h e =
       removed-records spare-codec (l .pool .kept) (l .spares) fits k n h

@@ -10,18 +10,21 @@ use Rattle.pool_records.specs.declared.texture.TextureRecord.{TextureRecord}
 use Rattle.pool_memory.specs.Lent.{Lent, versionPlaces}
 use Rattle.pool_memory.specs.Reading.{trackedRecords, recordPages, modelOf}
 use Rattle.pool_memory.specs.IsPool.{bytesFit}
+use Rattle.grid_stamps.specs.StampConstants.{pageStamps}
+use Rattle.pool_records.specs.RecordConstants.{doomedStride, retiringStride, spareStride, textureStride}
+use Rattle.pool_rules.specs.RuleConstants.{mostPlaces}
 
 pub record Fits (l : Lent) : Type 0 where
   -- the slices are as long as whole places, as many as may be lent
   pub places : arePlaces (modelOf l .places) ≡ true
-  pub textures : 20 * modelOf l .places .textures ≡ length (l .textures)
-  pub retiring : 7 * versionPlaces l ≡ length (l .retiring)
-  pub doomed : 2 * versionPlaces l ≡ length (l .doomed)
-  pub spares : 3 * versionPlaces l ≡ length (l .spares)
-  pub stamps : 1024 * length (l .newest) ≡ length (l .stamps)
+  pub textures : textureStride * modelOf l .places .textures ≡ length (l .textures)
+  pub retiring : retiringStride * versionPlaces l ≡ length (l .retiring)
+  pub doomed : doomedStride * versionPlaces l ≡ length (l .doomed)
+  pub spares : spareStride * versionPlaces l ≡ length (l .spares)
+  pub stamps : pageStamps * length (l .newest) ≡ length (l .stamps)
   pub least : 1 ≤ versionPlaces l
-  pub most : versionPlaces l ≤ 4096
-  pub newest : length (l .newest) ≤ 4096
+  pub most : versionPlaces l ≤ mostPlaces
+  pub newest : length (l .newest) ≤ mostPlaces
   -- the counts fit their places
   pub tracked : l .pool .tracked ≤ modelOf l .places .textures
   pub head : l .pool .head < versionPlaces l

@@ -28,6 +28,7 @@ use Rattle.pool_memory.proofs.Rewritten.{replicate-add, over-replicate}
 use Rattle.pool_memory.proofs.Runs.{stateOf, tracked-model, model-at}
 use Rattle.pool_memory.proofs.Kept.{isHere, not-here, no-page, apart}
 use Rattle.pool_memory.proofs.Places.{IsTracked, nowhere}
+use Rattle.grid_stamps.specs.StampConstants.{pageStamps}
 
 -- ---- a new history's grids
 
@@ -38,7 +39,7 @@ record Unwritten (m : ℕ) (g : StampGrid) : Type 0 where
   small : count ≤ m
   stamps : g .stamps ≡ replicate count 0
 
-unwritten : (s : VersionShape) → isShape s ≡ true → All (Unwritten 1024) (newHistory s .grids)
+unwritten : (s : VersionShape) → isShape s ≡ true → All (Unwritten pageStamps) (newHistory s .grids)
 unfolding newHistory newGrid
 unwritten s shaped =
     all-flatMap (λ (slice : ℕ). listed (λ (level : ℕ). newGrid (tilingOf s level)) 0 (s .levels))
@@ -73,11 +74,11 @@ new-pages s = new-size s
 
 -- its stamps: every page of it is all 0
 pub fresh-stamps : (l : Lent) (s : VersionShape) → isShape s ≡ true
-    → pagesFrom (pageBefore l none) 0 (newHistory s .grids) ≡ replicate (1024 * pagesOf s) 0
+    → pagesFrom (pageBefore l none) 0 (newHistory s .grids) ≡ replicate (pageStamps * pagesOf s) 0
 unfolding pageBefore
 fresh-stamps l s shaped =
-    unwritten-from 1024 (pageBefore l none) (λ j. refl) 0 (newHistory s .grids) (unwritten s shaped)
-    ∙ ap (λ (n : ℕ). replicate (1024 * n) 0) (new-pages s)
+    unwritten-from pageStamps (pageBefore l none) (λ j. refl) 0 (newHistory s .grids) (unwritten s shaped)
+    ∙ ap (λ (n : ℕ). replicate (pageStamps * n) 0) (new-pages s)
 
 pub fresh-newest : (s : VersionShape) → isShape s ≡ true → map (λ (g : StampGrid). g .newest) (newHistory s .grids) ≡ replicate (pagesOf s) 0
 fresh-newest s shaped = unwritten-newest (newHistory s .grids) (unwritten s shaped) ∙ ap (λ (n : ℕ). replicate n 0) (new-pages s)

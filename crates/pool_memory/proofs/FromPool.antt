@@ -22,7 +22,7 @@ use Rattle.grid_stamps.proofs.Tilings.{tiling-ok, count-bound}
 use Rattle.grid_stamps.proofs.RowByRow.{tile-place}
 use Rattle.pool_rules.specs.declared.held.Held.{Held}
 use Rattle.pool_rules.specs.declared.held.Held.the-variants.{Known, Unknown}
-use Rattle.pool_rules.specs.Model.{WriteHistory, Spare, Retiring, Doomed, Places, pagesOf, versionsUsed}
+use Rattle.pool_rules.specs.Model.{WriteHistory, Spare, Retiring, Doomed, Places, pagesOf, versionsUsed, limit}
 use Rattle.pool_rules.specs.Histories.{gridAt, gridPlace}
 use Rattle.pool_rules.specs.Open.{arePlaces}
 use Rattle.pool_rules.specs.Formed.{Given, HeldFormed, GridFormed, HistoryFormed, SpareFormed, RetiringFormed, DoomedFormed, StateFormed, Formed}
@@ -37,6 +37,9 @@ use Rattle.pool_memory.proofs.FitsTests.{all-holds, ascending-holds}
 use Rattle.pool_memory.proofs.Fits.{Fits}
 use Rattle.pool_memory.proofs.Runs.{kept-states, tracked-model, pages-model}
 use Rattle.pool_memory.proofs.Rings.{hand-model}
+use Rattle.grid_stamps.specs.StampConstants.{pageStamps}
+use Rattle.pool_records.specs.RecordConstants.{doomedStride, retiringStride, spareStride, textureStride}
+use Rattle.pool_rules.specs.RuleConstants.{mostPlaces}
 
 -- ---- 01's conditions of each part
 
@@ -51,11 +54,11 @@ grid-formed g writes newest page h e =
       below = leb-true _ _ (q .1);
     }
 
-pub length-page : (l : Lent) → 1024 * length (l .newest) ≡ length (l .stamps) → (page : ℕ) → page < length (l .newest)
-    → length (pageAt (l .stamps) page) ≡ 1024
-length-page l paged page h = length-take-le 1024 (drop (1024 * page) (l .stamps)) (omega (arith, length-drop (1024 * page) (l .stamps)))
+pub length-page : (l : Lent) → pageStamps * length (l .newest) ≡ length (l .stamps) → (page : ℕ) → page < length (l .newest)
+    → length (pageAt (l .stamps) page) ≡ pageStamps
+length-page l paged page h = length-take-le pageStamps (drop (pageStamps * page) (l .stamps)) (omega (arith, length-drop (pageStamps * page) (l .stamps)))
 
-module _ (l : Lent) (paged : 1024 * length (l .newest) ≡ length (l .stamps)) (s : VersionShape) (shaped : isShape s ≡ true)
+module _ (l : Lent) (paged : pageStamps * length (l .newest) ≡ length (l .stamps)) (s : VersionShape) (shaped : isShape s ≡ true)
     (page : ℕ) (room : page + pagesOf s ≤ length (l .newest)) where
   -- the history that is read there
   abbrev readHistory : ℕ → WriteHistory
@@ -87,7 +90,7 @@ module _ (l : Lent) (paged : 1024 * length (l .newest) ≡ length (l .stamps)) (
   unfolding isHistory
   history-formed NoHistory e = tt
   history-formed (Writes n) e =
-      let q = and-both (leb n 281474976710656) (all (isGrid n) (listed (gridRead l s page) 0 (pagesOf s))) e in
+      let q = and-both (leb n limit) (all (isGrid n) (listed (gridRead l s page) 0 (pagesOf s))) e in
       record { writes = leb-true _ _ (q .0); size = length-grids; grids = λ slice level a b. go slice level a b (q .1) }
     where
       go : (slice level : ℕ) → slice < slicesOf s → level < s .levels → all (isGrid n) (listed (gridRead l s page) 0 (pagesOf s)) ≡ true
@@ -106,7 +109,7 @@ module _ (l : Lent) (paged : 1024 * length (l .newest) ≡ length (l .stamps)) (
 spare-formed : (s : Spare ℕ) → isSpare s ≡ true → SpareFormed s
 unfolding isSpare
 spare-formed s e =
-    let q = and-both (isHeldCount (s .held)) (leb (s .parked) 281474976710656) e in record { held = go (s .held) (q .0); parked = leb-true _ _ (q .1) }
+    let q = and-both (isHeldCount (s .held)) (leb (s .parked) limit) e in record { held = go (s .held) (q .0); parked = leb-true _ _ (q .1) }
   where
     go : (h : Held) → isHeldCount h ≡ true → HeldFormed h
     go (Known n) e = leb-true _ _ e
@@ -130,11 +133,11 @@ doomed-formed : (d : Doomed ℕ) → isDoomed d ≡ true → DoomedFormed d
 unfolding isDoomed
 doomed-formed d e = record { bytes = leb-true _ _ e }
 
-arrival-formed : (n : ℕ) → isArrival n ≡ true → n ≤ 4096
+arrival-formed : (n : ℕ) → isArrival n ≡ true → n ≤ mostPlaces
 unfolding isArrival
 arrival-formed n e = leb-true _ _ e
 
-module _ (l : Lent) (paged : 1024 * length (l .newest) ≡ length (l .stamps)) where
+module _ (l : Lent) (paged : pageStamps * length (l .newest) ≡ length (l .stamps)) where
   state-formed : (first page : ℕ) (t : TextureRecord) → page + recordPages t ≤ length (l .newest) → isState (stateRead l first page t) ≡ true
       → StateFormed (stateRead l first page t)
   unfolding isState stateRead
@@ -186,10 +189,10 @@ module _ (l : Lent) where
 -- the places that may be lent
 pub record Enough (n : Places) : Type 0 where
   pub texture : 1 ≤ n .textures
-  pub textures : n .textures ≤ 4096
+  pub textures : n .textures ≤ mostPlaces
   pub version : 1 ≤ n .versions
-  pub versions : n .versions ≤ 4096
-  pub pages : n .pages ≤ 4096
+  pub versions : n .versions ≤ mostPlaces
+  pub pages : n .pages ≤ mostPlaces
 
 pub enough : (n : Places) → arePlaces n ≡ true → Enough n
 unfolding arePlaces
@@ -208,33 +211,33 @@ module _ (l : Lent) (e : sizesFit l ≡ true) where
   unfolding sizesFit
   are-places = passed _ e 0
 
-  pub whole-textures : 20 * modelOf l .places .textures ≡ length (l .textures)
+  pub whole-textures : textureStride * modelOf l .places .textures ≡ length (l .textures)
   unfolding sizesFit
   whole-textures = sym (eqb-true _ _ (passed _ e 1))
 
-  pub whole-retiring : 7 * versionPlaces l ≡ length (l .retiring)
+  pub whole-retiring : retiringStride * versionPlaces l ≡ length (l .retiring)
   unfolding sizesFit
   whole-retiring = sym (eqb-true _ _ (passed _ e 2))
 
-  pub whole-doomed : 2 * versionPlaces l ≡ length (l .doomed)
+  pub whole-doomed : doomedStride * versionPlaces l ≡ length (l .doomed)
   unfolding sizesFit
   whole-doomed = sym (eqb-true _ _ (passed _ e 3))
 
-  pub whole-spares : 3 * versionPlaces l ≡ length (l .spares)
+  pub whole-spares : spareStride * versionPlaces l ≡ length (l .spares)
   unfolding sizesFit
   whole-spares = sym (eqb-true _ _ (passed _ e 4))
 
-  pub whole-stamps : 1024 * length (l .newest) ≡ length (l .stamps)
+  pub whole-stamps : pageStamps * length (l .newest) ≡ length (l .stamps)
   unfolding sizesFit
   whole-stamps = sym (eqb-true _ _ (passed _ e 5))
 
   pub some-version : 1 ≤ versionPlaces l
   some-version = omega (arith, enough (modelOf l .places) are-places .version, version-places l)
 
-  pub most-versions : versionPlaces l ≤ 4096
+  pub most-versions : versionPlaces l ≤ mostPlaces
   most-versions = omega (arith, enough (modelOf l .places) are-places .versions, version-places l)
 
-  pub most-pages : length (l .newest) ≤ 4096
+  pub most-pages : length (l .newest) ≤ mostPlaces
   most-pages = omega (arith, enough (modelOf l .places) are-places .pages, page-places l)
 
 -- ---- the whole

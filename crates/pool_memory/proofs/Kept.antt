@@ -26,6 +26,7 @@ use Rattle.pool_memory.specs.Reading.{trackedRecords, pageAt, gridRead, 
 use Rattle.pool_memory.specs.Writing.{gridsOf, firstPage, pageBefore, pagesFrom, pagesAfter, newestOf}
 use Rattle.pool_memory.proofs.Parts.{flat-mapped, total-mapped, Stands, stands-whole, stands-take, stands-drop}
 use Rattle.pool_memory.proofs.Runs.{firstSpare, firstPageOf, pages-state, stateOf, tracked-records, tracked-model, model-at, id-model, take-states, pages-states}
+use Rattle.grid_stamps.specs.StampConstants.{pageStamps}
 
 -- ---- the first page of a texture
 
@@ -59,38 +60,38 @@ module _ (id : ℕ) (shape : VersionShape) where
 
 module _ (l : Lent) where
   pages-read : (s : VersionShape) (page k n : ℕ)
-      → pagesFrom (pageBefore l (some page)) k (listed (gridRead l s page) k n) ≡ take (1024 * n) (drop (1024 * (page + k)) (l .stamps))
+      → pagesFrom (pageBefore l (some page)) k (listed (gridRead l s page) k n) ≡ take (pageStamps * n) (drop (pageStamps * (page + k)) (l .stamps))
   unfolding pagesFrom pageBefore listed gridRead gridIn
-  pages-read s page k zero = sym (ap (λ (m : ℕ). take m (drop (1024 * (page + k)) (l .stamps))) (mul-zero 1024))
+  pages-read s page k zero = sym (ap (λ (m : ℕ). take m (drop (pageStamps * (page + k)) (l .stamps))) (mul-zero pageStamps))
   pages-read s page k (suc n) =
-      let at = 1024 * (page + k) in
+      let at = pageStamps * (page + k) in
       let old = pageAt (l .stamps) (page + k) in
       let c = stampCount (tilingOf s (k % s .levels)) in
       ap₂ (λ (a b : List ℕ). a ++ b)
       (over-self (take c old) old (drop c old) (sym (take-append-drop c old)))
       (pages-read s page (suc k) n
-      ∙ ap (take (1024 * n))
-      (ap (λ (m : ℕ). drop m (l .stamps)) (let e : 1024 * (page + suc k) ≡ at + 1024 = omega arith in e) ∙ sym (drop-drop 1024 at (l .stamps))))
-      ∙ sym (take-add 1024 (1024 * n) (drop at (l .stamps)))
-      ∙ ap (λ (m : ℕ). take m (drop at (l .stamps))) (let e : 1024 + 1024 * n ≡ 1024 * suc n = omega arith in e)
+      ∙ ap (take (pageStamps * n))
+      (ap (λ (m : ℕ). drop m (l .stamps)) (let e : pageStamps * (page + suc k) ≡ at + pageStamps = omega arith in e) ∙ sym (drop-drop pageStamps at (l .stamps))))
+      ∙ sym (take-add pageStamps (pageStamps * n) (drop at (l .stamps)))
+      ∙ ap (λ (m : ℕ). take m (drop at (l .stamps))) (let e : pageStamps + pageStamps * n ≡ pageStamps * suc n = omega arith in e)
 
   history-pages : (s : VersionShape) (page : ℕ) (found : Option ℕ) (h : Recorded) → (hasHistory (historyRead l s page h) ≡ true → found ≡ some page)
-      → pagesFrom (pageBefore l found) 0 (gridsOf (historyRead l s page h)) ≡ take (1024 * recordedPages h s) (drop (1024 * page) (l .stamps))
+      → pagesFrom (pageBefore l found) 0 (gridsOf (historyRead l s page h)) ≡ take (pageStamps * recordedPages h s) (drop (pageStamps * page) (l .stamps))
   unfolding pagesFrom
-  history-pages s page found NoHistory e = sym (ap (λ (m : ℕ). take m (drop (1024 * page) (l .stamps))) (mul-zero 1024))
+  history-pages s page found NoHistory e = sym (ap (λ (m : ℕ). take m (drop (pageStamps * page) (l .stamps))) (mul-zero pageStamps))
   history-pages s page found (Writes n) e =
       ap (λ (o : Option ℕ). pagesFrom (pageBefore l o) 0 (listed (gridRead l s page) 0 (pagesOf s))) (e refl)
       ∙ pages-read s page 0 (pagesOf s)
-      ∙ ap (λ (m : ℕ). take (1024 * pagesOf s) (drop (1024 * m) (l .stamps))) (add-zero page)
+      ∙ ap (λ (m : ℕ). take (pageStamps * pagesOf s) (drop (pageStamps * m) (l .stamps))) (add-zero page)
 
   pub pages-of : (i : ℕ) (found : Option ℕ) → (hasHistory (stateOf l i .history) ≡ true → found ≡ some (firstPageOf l i))
       → pagesFrom (pageBefore l found) 0 (gridsOf (stateOf l i .history))
-      ≡ take (1024 * pagesUsed (stateOf l i)) (drop (1024 * firstPageOf l i) (l .stamps))
+      ≡ take (pageStamps * pagesUsed (stateOf l i)) (drop (pageStamps * firstPageOf l i) (l .stamps))
   unfolding stateOf stateRead
   pages-of i found e =
       let t = getD (trackedRecords l) i (readTexture []) in
       history-pages (t .shape) (firstPageOf l i) found (t .history) e
-      ∙ ap (λ (m : ℕ). take (1024 * m) (drop (1024 * firstPageOf l i) (l .stamps))) (sym (pages-state l (firstSpare l i) (firstPageOf l i) t))
+      ∙ ap (λ (m : ℕ). take (pageStamps * m) (drop (pageStamps * firstPageOf l i) (l .stamps))) (sym (pages-state l (firstSpare l i) (firstPageOf l i) t))
 
   -- where they begin
   pub page-of : (i : ℕ) → total pagesUsed (take i (modelOf l .textures)) ≡ firstPageOf l i
@@ -122,37 +123,37 @@ module _ (l : Lent) where
 
     -- texture i keeps its run of pages
     pub pages-kept : (i : ℕ) → i < l .pool .tracked
-        → pagesAfter l (stateOf l i) ≡ take (1024 * pagesUsed (stateOf l i)) (drop (1024 * firstPageOf l i) (l .stamps))
+        → pagesAfter l (stateOf l i) ≡ take (pageStamps * pagesUsed (stateOf l i)) (drop (pageStamps * firstPageOf l i) (l .stamps))
     unfolding pagesAfter
     pages-kept i h = pages-of i (firstPage (stateOf l i .id) (stateOf l i .shape) 0 (modelOf l .textures))
         (λ e. found-at i h (stateOf l i .id) (stateOf l i .shape)
         (ap (isHere (stateOf l i .id) (stateOf l i .shape)) (model-at l i d h) ∙ here-at i e))
 
-    pub pages-stand : Stands (pagesAfter l) pagesUsed 1024 (l .stamps) d 0 (modelOf l .textures)
+    pub pages-stand : Stands (pagesAfter l) pagesUsed pageStamps (l .stamps) d 0 (modelOf l .textures)
     pages-stand i h =
         let k : i < l .pool .tracked = omega (arith, tracked-model l) in
         ap (pagesAfter l) (model-at l i d k)
         ∙ pages-kept i k
-        ∙ ap₂ (λ (t : VersionState ℕ) (n : ℕ). take (1024 * pagesUsed t) (drop (1024 * n) (l .stamps))) (sym (model-at l i d k))
+        ∙ ap₂ (λ (t : VersionState ℕ) (n : ℕ). take (pageStamps * pagesUsed t) (drop (pageStamps * n) (l .stamps))) (sym (model-at l i d k))
         (sym (zero-add _ ∙ page-of i))
 
     -- all the textures' pages, those before texture i and those from it on
-    pub pages-all : flatMap (pagesAfter l) (modelOf l .textures) ≡ take (1024 * total pagesUsed (modelOf l .textures)) (l .stamps)
-    pages-all = stands-whole (pagesAfter l) pagesUsed 1024 (l .stamps) d 0 (modelOf l .textures) pages-stand
+    pub pages-all : flatMap (pagesAfter l) (modelOf l .textures) ≡ take (pageStamps * total pagesUsed (modelOf l .textures)) (l .stamps)
+    pages-all = stands-whole (pagesAfter l) pagesUsed pageStamps (l .stamps) d 0 (modelOf l .textures) pages-stand
 
-    pub pages-before : (i : ℕ) → flatMap (pagesAfter l) (take i (modelOf l .textures)) ≡ take (1024 * firstPageOf l i) (l .stamps)
+    pub pages-before : (i : ℕ) → flatMap (pagesAfter l) (take i (modelOf l .textures)) ≡ take (pageStamps * firstPageOf l i) (l .stamps)
     pages-before i =
-        stands-whole (pagesAfter l) pagesUsed 1024 (l .stamps) d 0 (take i (modelOf l .textures))
-        (stands-take (pagesAfter l) pagesUsed 1024 (l .stamps) d 0 i (modelOf l .textures) pages-stand)
-        ∙ ap (λ (n : ℕ). take (1024 * n) (l .stamps)) (page-of i)
+        stands-whole (pagesAfter l) pagesUsed pageStamps (l .stamps) d 0 (take i (modelOf l .textures))
+        (stands-take (pagesAfter l) pagesUsed pageStamps (l .stamps) d 0 i (modelOf l .textures) pages-stand)
+        ∙ ap (λ (n : ℕ). take (pageStamps * n) (l .stamps)) (page-of i)
 
     pub pages-from : (i : ℕ)
         → flatMap (pagesAfter l) (drop i (modelOf l .textures))
-        ≡ take (1024 * total pagesUsed (drop i (modelOf l .textures))) (drop (1024 * firstPageOf l i) (l .stamps))
+        ≡ take (pageStamps * total pagesUsed (drop i (modelOf l .textures))) (drop (pageStamps * firstPageOf l i) (l .stamps))
     pages-from i =
-        stands-whole (pagesAfter l) pagesUsed 1024 (l .stamps) d (0 + total pagesUsed (take i (modelOf l .textures))) (drop i (modelOf l .textures))
-        (stands-drop (pagesAfter l) pagesUsed 1024 (l .stamps) d 0 i (modelOf l .textures) pages-stand)
-        ∙ ap (λ (n : ℕ). take (1024 * total pagesUsed (drop i (modelOf l .textures))) (drop (1024 * n) (l .stamps))) (zero-add _ ∙ page-of i)
+        stands-whole (pagesAfter l) pagesUsed pageStamps (l .stamps) d (0 + total pagesUsed (take i (modelOf l .textures))) (drop i (modelOf l .textures))
+        (stands-drop (pagesAfter l) pagesUsed pageStamps (l .stamps) d 0 i (modelOf l .textures) pages-stand)
+        ∙ ap (λ (n : ℕ). take (pageStamps * total pagesUsed (drop i (modelOf l .textures))) (drop (pageStamps * n) (l .stamps))) (zero-add _ ∙ page-of i)
 
 -- ---- textures that keep their ids, shapes and histories
 

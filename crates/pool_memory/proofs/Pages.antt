@@ -24,6 +24,7 @@ use Rattle.pool_memory.proofs.Rewritten.{repacked}
 use Rattle.pool_memory.proofs.Runs.{sparesOf, newestAt, firstPageOf, stateOf, tracked-records, tracked-model, pages-model, newest-states, take-states, drop-states}
 use Rattle.pool_memory.proofs.Kept.{page-of, pages-before, pages-from}
 use Rattle.pool_memory.proofs.Same.{listed-run}
+use Rattle.grid_stamps.specs.StampConstants.{pageStamps}
 
 -- how many pages texture i has
 abbrev pub pagesAt : Lent → ℕ → ℕ
@@ -124,20 +125,20 @@ module _ (l : Lent) (p : Pool ℕ) (pages : total recordPages (trackedRecords l)
         ∙ ap (λ (ys : List ℕ). take (firstPageOf l i) (l .newest) ++ (ys ++ take last (drop (firstPageOf l j) (l .newest)))) new))
 
     pub stamps-repacked : ascending idOf (trackedRecords l) ≡ true → (xs : List ℕ) → flatMap (pagesAfter l) between ≡ xs
-        → 1024 * l .pool .pages ≤ length (l .stamps)
-        → 1024 * firstPageOf l i + length xs + 1024 * last ≤ length (l .stamps)
-        → sets (moved (l .stamps) (1024 * firstPageOf l i + length xs) (1024 * firstPageOf l j) (1024 * last)) (1024 * firstPageOf l i) xs
+        → pageStamps * l .pool .pages ≤ length (l .stamps)
+        → pageStamps * firstPageOf l i + length xs + pageStamps * last ≤ length (l .stamps)
+        → sets (moved (l .stamps) (pageStamps * firstPageOf l i + length xs) (pageStamps * firstPageOf l j) (pageStamps * last)) (pageStamps * firstPageOf l i) xs
         ≡ stampsAfter p l
     unfolding stampsAfter
     stamps-repacked up xs new fits room =
-        repacked (l .stamps) xs (1024 * firstPageOf l i) (1024 * firstPageOf l j) (1024 * last) (omega (arith, page-order l pages i j h))
+        repacked (l .stamps) xs (pageStamps * firstPageOf l i) (pageStamps * firstPageOf l j) (pageStamps * last) (omega (arith, page-order l pages i j h))
         (omega (arith, page-bound l pages j)) room
         ∙ ap (λ (ys : List ℕ). over ys (l .stamps))
         (sym (parts (pagesAfter l)
         ∙ ap₂ (λ (a b : List ℕ). a ++ (flatMap (pagesAfter l) between ++ b)) (pages-before l up (stateOf l 0) i)
-        (pages-from l up (stateOf l 0) j ∙ ap (λ (n : ℕ). take (1024 * n) (drop (1024 * firstPageOf l j) (l .stamps))) (later-states l pages j))
-        ∙ ap (λ (ys : List ℕ). take (1024 * firstPageOf l i) (l .stamps) ++
-        (ys ++ take (1024 * last) (drop (1024 * firstPageOf l j) (l .stamps)))) new))
+        (pages-from l up (stateOf l 0) j ∙ ap (λ (n : ℕ). take (pageStamps * n) (drop (pageStamps * firstPageOf l j) (l .stamps))) (later-states l pages j))
+        ∙ ap (λ (ys : List ℕ). take (pageStamps * firstPageOf l i) (l .stamps) ++
+        (ys ++ take (pageStamps * last) (drop (pageStamps * firstPageOf l j) (l .stamps)))) new))
 
   -- ---- one texture out, or its history dropped
 
@@ -149,9 +150,9 @@ module _ (l : Lent) (p : Pool ℕ) (pages : total recordPages (trackedRecords l)
 
     abbrev pub OutStamps : Type 0
     OutStamps =
-        ascending idOf (trackedRecords l) ≡ true → 1024 * l .pool .pages ≤ length (l .stamps)
-        → moved (l .stamps) (1024 * firstPageOf l i) (1024 * firstPageOf l i + 1024 * pagesAt l i)
-        (1024 * (l .pool .pages - (firstPageOf l i + pagesAt l i)))
+        ascending idOf (trackedRecords l) ≡ true → pageStamps * l .pool .pages ≤ length (l .stamps)
+        → moved (l .stamps) (pageStamps * firstPageOf l i) (pageStamps * firstPageOf l i + pageStamps * pagesAt l i)
+        (pageStamps * (l .pool .pages - (firstPageOf l i + pagesAt l i)))
         ≡ stampsAfter p l
 
     out-newest : (between : List (VersionState ℕ)) → p .textures ≡ take i (modelOf l .textures) ++ (between ++ drop (suc i) (modelOf l .textures))
@@ -164,10 +165,10 @@ module _ (l : Lent) (p : Pool ℕ) (pages : total recordPages (trackedRecords l)
     out-stamps : (between : List (VersionState ℕ)) → p .textures ≡ take i (modelOf l .textures) ++ (between ++ drop (suc i) (modelOf l .textures))
         → flatMap (pagesAfter l) between ≡ [] → OutStamps
     out-stamps between e new up fits =
-        let next : 1024 * firstPageOf l i + 1024 * pagesAt l i ≡ 1024 * firstPageOf l (suc i) = omega (arith, next-page l i h) in
-        ap₂ (λ (a b : ℕ). moved (l .stamps) a b (1024 * (l .pool .pages - (firstPageOf l i + pagesAt l i))))
-        (sym (add-zero (1024 * firstPageOf l i))) next
-        ∙ ap (λ (b : ℕ). moved (l .stamps) (1024 * firstPageOf l i + 0) (1024 * firstPageOf l (suc i)) (1024 * (l .pool .pages - b)))
+        let next : pageStamps * firstPageOf l i + pageStamps * pagesAt l i ≡ pageStamps * firstPageOf l (suc i) = omega (arith, next-page l i h) in
+        ap₂ (λ (a b : ℕ). moved (l .stamps) a b (pageStamps * (l .pool .pages - (firstPageOf l i + pagesAt l i))))
+        (sym (add-zero (pageStamps * firstPageOf l i))) next
+        ∙ ap (λ (b : ℕ). moved (l .stamps) (pageStamps * firstPageOf l i + 0) (pageStamps * firstPageOf l (suc i)) (pageStamps * (l .pool .pages - b)))
         (sym (next-page l i h))
         ∙ stamps-repacked i (suc i) between (omega arith) e up [] new fits
         (omega (arith, page-order l pages i (suc i) (omega arith), page-bound l pages (suc i)))

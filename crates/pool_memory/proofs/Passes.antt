@@ -28,6 +28,8 @@ use Rattle.pool_memory.proofs.Same.{listed-run}
 use Rattle.pool_memory.proofs.Changes.{sparesBefore, table-spares}
 use Rattle.pool_memory.proofs.Pages.{pagesAt, pages-in}
 use Rattle.pool_memory.proofs.Stamped.{used-at}
+use Rattle.grid_stamps.specs.StampConstants.{pageStamps}
+use Rattle.pool_records.specs.RecordConstants.{spareStride, textureStride}
 
 -- ---- at the start nothing is packed
 
@@ -52,12 +54,12 @@ module _ (l : Lent) (p : Pool ℕ) (e : p .textures ≡ []) where
 -- ---- what is not packed yet stands as it was
 
 module _ (l : Lent) (p : Pool ℕ) where
-  pub texture-unread : (j : ℕ) → length (p .textures) ≤ j → recordAt 20 readTexture (texturesAfter p l) j ≡ recordAt 20 readTexture (l .textures) j
+  pub texture-unread : (j : ℕ) → length (p .textures) ≤ j → recordAt textureStride readTexture (texturesAfter p l) j ≡ recordAt textureStride readTexture (l .textures) j
   unfolding texturesAfter
   texture-unread j h =
       packed-read texture-codec (l .textures) (map textureRecord (p .textures)) j (omega (arith, length-map (p .textures) textureRecord))
 
-  pub spare-unread : (j : ℕ) → length (everySpare (p .textures)) ≤ j → recordAt 3 readSpare (sparesAfter p l) j ≡ recordAt 3 readSpare (l .spares) j
+  pub spare-unread : (j : ℕ) → length (everySpare (p .textures)) ≤ j → recordAt spareStride readSpare (sparesAfter p l) j ≡ recordAt spareStride readSpare (l .spares) j
   unfolding sparesAfter
   spare-unread j h =
       packed-read spare-codec (l .spares) (map spareRecord (everySpare (p .textures))) j
@@ -66,12 +68,12 @@ module _ (l : Lent) (p : Pool ℕ) where
 -- ---- one texture more
 
 module _ (l : Lent) (p q : Pool ℕ) (t : VersionState ℕ) (e : q .textures ≡ p .textures ++ (t ∷ [])) where
-  pub texture-packed : 20 * length (p .textures) + 20 ≤ length (l .textures)
-      → sets (texturesAfter p l) (20 * length (p .textures)) (writeTexture (textureRecord t)) ≡ texturesAfter q l
+  pub texture-packed : textureStride * length (p .textures) + textureStride ≤ length (l .textures)
+      → sets (texturesAfter p l) (textureStride * length (p .textures)) (writeTexture (textureRecord t)) ≡ texturesAfter q l
   unfolding texturesAfter
   texture-packed room =
       let n = length-map (p .textures) textureRecord in
-      ap (λ (k : ℕ). sets (over (flat writeTexture (map textureRecord (p .textures))) (l .textures)) (20 * k) (writeTexture (textureRecord t)))
+      ap (λ (k : ℕ). sets (over (flat writeTexture (map textureRecord (p .textures))) (l .textures)) (textureStride * k) (writeTexture (textureRecord t)))
       (sym n)
       ∙ packed-put texture-codec (l .textures) (map textureRecord (p .textures)) (textureRecord t) (omega arith)
       ∙ ap (λ (xs : List TextureRecord). over (flat writeTexture xs) (l .textures))
@@ -84,17 +86,17 @@ module _ (l : Lent) (p q : Pool ℕ) (t : VersionState ℕ) (e : q .textures ≡
       ∙ ap (λ (xs : List (Spare ℕ)). everySpare (p .textures) ++ xs) (append-nil (t .spares))
 
   -- its m spares from place r on
-  pub spares-packed : (kept : total sparesOf (trackedRecords l) ≡ l .pool .kept) → 3 * l .pool .kept ≤ length (l .spares) → (r m : ℕ)
+  pub spares-packed : (kept : total sparesOf (trackedRecords l) ≡ l .pool .kept) → spareStride * l .pool .kept ≤ length (l .spares) → (r m : ℕ)
       → t .spares ≡ take m (drop r (sparesBefore l)) → length (everySpare (p .textures)) ≤ r → r + m ≤ l .pool .kept
-      → moved (sparesAfter p l) (3 * length (everySpare (p .textures))) (3 * r) (3 * m) ≡ sparesAfter q l
+      → moved (sparesAfter p l) (spareStride * length (everySpare (p .textures))) (spareStride * r) (spareStride * m) ≡ sparesAfter q l
   unfolding sparesAfter
   spares-packed kept fits r m f h k =
       let xs = everySpare (p .textures) in
       let n = length-map xs spareRecord in
-      let run : map spareRecord (t .spares) ≡ take m (drop r (table 3 readSpare (l .pool .kept) (l .spares))) =
+      let run : map spareRecord (t .spares) ≡ take m (drop r (table spareStride readSpare (l .pool .kept) (l .spares))) =
       ap (map spareRecord) f ∙ map-take spareRecord m (drop r (sparesBefore l))
       ∙ ap (take m) (map-drop spareRecord r (sparesBefore l) ∙ ap (drop r) (table-spares l p kept fits)) in
-      ap (λ (i : ℕ). moved (over (flat writeSpare (map spareRecord xs)) (l .spares)) (3 * i) (3 * r) (3 * m)) (sym n)
+      ap (λ (i : ℕ). moved (over (flat writeSpare (map spareRecord xs)) (l .spares)) (spareStride * i) (spareStride * r) (spareStride * m)) (sym n)
       ∙ packed-moved spare-codec (l .spares) (map spareRecord xs) (l .pool .kept) r m (omega arith) k fits
       ∙ ap (λ (ys : List SpareRecord). over (flat writeSpare ys) (l .spares))
       (sym (ap (map spareRecord) more-spares ∙ map-append spareRecord xs (t .spares) ∙ ap (λ (ys : List SpareRecord). map spareRecord xs ++ ys) run))
@@ -114,13 +116,13 @@ module _ (l : Lent) (p q : Pool ℕ) (t : VersionState ℕ) (e : q .textures ≡
         ∙ listed-run 0 (l .newest) (firstPageOf l i) (pagesAt l i) (omega (arith, pages-in l pages i h))
 
     one-pages : ascending idOf (trackedRecords l) ≡ true
-        → flatMap (pagesAfter l) (t ∷ []) ≡ take (1024 * pagesAt l i) (drop (1024 * firstPageOf l i) (l .stamps))
+        → flatMap (pagesAfter l) (t ∷ []) ≡ take (pageStamps * pagesAt l i) (drop (pageStamps * firstPageOf l i) (l .stamps))
     unfolding flatMap
     one-pages up =
         pages-paged l (t ∷ []) (stateOf l i ∷ []) (ap (λ (x : Paged). x ∷ []) same)
         ∙ append-nil (pagesAfter l (stateOf l i))
         ∙ pages-kept l up (stateOf l 0) i h
-        ∙ ap (λ (n : ℕ). take (1024 * n) (drop (1024 * firstPageOf l i) (l .stamps))) (used-at l i)
+        ∙ ap (λ (n : ℕ). take (pageStamps * n) (drop (pageStamps * firstPageOf l i) (l .stamps))) (used-at l i)
 
     -- `used` pages are packed so far
     module _ (used : ℕ) (before : used ≤ firstPageOf l i) where
@@ -141,21 +143,21 @@ module _ (l : Lent) (p q : Pool ℕ) (t : VersionState ℕ) (e : q .textures ≡
                 (length-take-le (pagesAt l i) (drop (firstPageOf l i) (l .newest)) (omega (arith, length-drop (firstPageOf l i) (l .newest)))),
           )
 
-      pub stamps-packed : ascending idOf (trackedRecords l) ≡ true → 1024 * l .pool .pages ≤ length (l .stamps)
-          → length (flatMap (pagesAfter l) (p .textures)) ≡ 1024 * used
-          → (moved (stampsAfter p l) (1024 * used) (1024 * firstPageOf l i) (1024 * pagesAt l i) ≡ stampsAfter q l)
-          × (length (flatMap (pagesAfter l) (q .textures)) ≡ 1024 * (used + pagesAt l i))
+      pub stamps-packed : ascending idOf (trackedRecords l) ≡ true → pageStamps * l .pool .pages ≤ length (l .stamps)
+          → length (flatMap (pagesAfter l) (p .textures)) ≡ pageStamps * used
+          → (moved (stampsAfter p l) (pageStamps * used) (pageStamps * firstPageOf l i) (pageStamps * pagesAt l i) ≡ stampsAfter q l)
+          × (length (flatMap (pagesAfter l) (q .textures)) ≡ pageStamps * (used + pagesAt l i))
       unfolding stampsAfter
       stamps-packed up fits n =
           let xs = flatMap (pagesAfter l) (p .textures) in
-          let at = 1024 * firstPageOf l i in
-          let run = take (1024 * pagesAt l i) (drop at (l .stamps)) in
+          let at = pageStamps * firstPageOf l i in
+          let run = take (pageStamps * pagesAt l i) (drop at (l .stamps)) in
           let inside = pages-in l pages i h in
           let new = more (pagesAfter l) run (one-pages up) in
-          let lr : length run ≡ 1024 * pagesAt l i =
-          length-take-le (1024 * pagesAt l i) (drop at (l .stamps)) (omega (arith, length-drop at (l .stamps))) in (
-            ap (λ (k : ℕ). moved (over xs (l .stamps)) k at (1024 * pagesAt l i)) (sym n)
-                ∙ over-moved xs (l .stamps) at (1024 * pagesAt l i) (omega arith) (omega arith)
+          let lr : length run ≡ pageStamps * pagesAt l i =
+          length-take-le (pageStamps * pagesAt l i) (drop at (l .stamps)) (omega (arith, length-drop at (l .stamps))) in (
+            ap (λ (k : ℕ). moved (over xs (l .stamps)) k at (pageStamps * pagesAt l i)) (sym n)
+                ∙ over-moved xs (l .stamps) at (pageStamps * pagesAt l i) (omega arith) (omega arith)
                 ∙ ap (λ (ys : List ℕ). over ys (l .stamps)) (sym new),
-            ap length new ∙ length-append xs run ∙ (let z : length xs + length run ≡ 1024 * (used + pagesAt l i) = omega arith in z),
+            ap length new ∙ length-append xs run ∙ (let z : length xs + length run ≡ pageStamps * (used + pagesAt l i) = omega arith in z),
           )

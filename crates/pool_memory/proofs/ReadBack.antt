@@ -32,6 +32,8 @@ use Rattle.pool_memory.proofs.Runs.{pages-model}
 use Rattle.pool_memory.proofs.ToPool.{fits-pool}
 use Rattle.pool_memory.proofs.ReadStates.{states-back, length-every-spare, kept-recorded, pages-recorded, bytes-recorded, length-newests, length-new-pages}
 use Rattle.pool_memory.proofs.ReadRings.{hand-back, queue-back, doomed-back}
+use Rattle.grid_stamps.specs.StampConstants.{pageStamps}
+use Rattle.pool_records.specs.RecordConstants.{doomedStride, retiringStride, spareStride, textureStride}
 
 -- one version at most in the hand, and a mark is 0 or 1, whatever they are read back from
 hand-few : (o : Option (Retiring ℕ)) → handCount o ≤ 1
@@ -63,18 +65,18 @@ module _ (l : Lent) (p : Pool ℕ) (fits : Fits l) (formed : Formed p) (same : p
 
   -- ---- the slices keep their lengths
 
-  length-textures : length (flat writeTexture (map textureRecord (p .textures))) ≡ 20 * length (p .textures)
-  length-textures = length-flat texture-codec (map textureRecord (p .textures)) ∙ ap (λ (n : ℕ). 20 * n) (length-map (p .textures) textureRecord)
+  length-textures : length (flat writeTexture (map textureRecord (p .textures))) ≡ textureStride * length (p .textures)
+  length-textures = length-flat texture-codec (map textureRecord (p .textures)) ∙ ap (λ (n : ℕ). textureStride * n) (length-map (p .textures) textureRecord)
 
   textures-kept : length (texturesAfter p l) ≡ length (l .textures)
   unfolding texturesAfter
   textures-kept = length-over _ (l .textures) (omega (arith, length-textures, fits .textures, texture-room))
 
   length-spares : length (flat writeSpare (map spareRecord (everySpare (p .textures))))
-      ≡ 3 * total (λ (t : VersionState ℕ). length (t .spares)) (p .textures)
+      ≡ spareStride * total (λ (t : VersionState ℕ). length (t .spares)) (p .textures)
   length-spares =
       length-flat spare-codec (map spareRecord (everySpare (p .textures)))
-      ∙ ap (λ (n : ℕ). 3 * n) (length-map (everySpare (p .textures)) spareRecord ∙ length-every-spare (p .textures))
+      ∙ ap (λ (n : ℕ). spareStride * n) (length-map (everySpare (p .textures)) spareRecord ∙ length-every-spare (p .textures))
 
   spares-kept : length (sparesAfter p l) ≡ length (l .spares)
   unfolding sparesAfter
@@ -92,19 +94,19 @@ module _ (l : Lent) (p : Pool ℕ) (fits : Fits l) (formed : Formed p) (same : p
 
   retiring-kept : length (retiringAfter p l) ≡ length (l .retiring)
   unfolding retiringAfter
-  retiring-kept = length-laid 7 writeRetiring (versionPlaces l) (headAfter p l) (map retiringRecord (handList (p .hand) ++ p .retiring)) 0 (l .retiring)
+  retiring-kept = length-laid retiringStride writeRetiring (versionPlaces l) (headAfter p l) (map retiringRecord (handList (p .hand) ++ p .retiring)) 0 (l .retiring)
 
   doomed-kept : length (doomedAfter p l) ≡ length (l .doomed)
   unfolding doomedAfter
-  doomed-kept = length-laid 2 writeDoomed (versionPlaces l) (firstAfter p l) (map doomedRecord (p .doomed)) 0 (l .doomed)
+  doomed-kept = length-laid doomedStride writeDoomed (versionPlaces l) (firstAfter p l) (map doomedRecord (p .doomed)) 0 (l .doomed)
 
   versions-kept : versionPlaces (after p l) ≡ versionPlaces l
   unfolding versionPlaces after
-  versions-kept = ap (λ (n : ℕ). n / 7) retiring-kept
+  versions-kept = ap (λ (n : ℕ). n / retiringStride) retiring-kept
 
   pub places-kept : modelOf (after p l) .places ≡ modelOf l .places
   unfolding modelOf after
-  places-kept = λ i. record { textures = textures-kept i / 20; versions = versions-kept i; pages = newest-kept i }
+  places-kept = λ i. record { textures = textures-kept i / textureStride; versions = versions-kept i; pages = newest-kept i }
 
   -- ---- both rings begin inside their places
 
@@ -127,12 +129,12 @@ module _ (l : Lent) (p : Pool ℕ) (fits : Fits l) (formed : Formed p) (same : p
   textures-back = states-back l (after p l) (fits .stamps) pages-before 0 0 (p .textures) (formed .textures) _ _ _ refl refl refl
 
   ring-laid-back : after p l .retiring
-      ≡ laid 7 writeRetiring (versionPlaces (after p l)) (after p l .pool .head) 0 (map retiringRecord (handList (p .hand) ++ p .retiring)) (l .retiring)
+      ≡ laid retiringStride writeRetiring (versionPlaces (after p l)) (after p l .pool .head) 0 (map retiringRecord (handList (p .hand) ++ p .retiring)) (l .retiring)
   unfolding after poolAfter retiringAfter
   ring-laid-back =
-      ap (λ (n : ℕ). laid 7 writeRetiring n (headAfter p l) 0 (map retiringRecord (handList (p .hand) ++ p .retiring)) (l .retiring)) (sym versions-kept)
+      ap (λ (n : ℕ). laid retiringStride writeRetiring n (headAfter p l) 0 (map retiringRecord (handList (p .hand) ++ p .retiring)) (l .retiring)) (sym versions-kept)
 
-  ring-room : 7 * versionPlaces (after p l) ≤ length (l .retiring)
+  ring-room : retiringStride * versionPlaces (after p l) ≤ length (l .retiring)
   ring-room = omega (arith, versions-kept, fits .retiring)
 
   ring-head : after p l .pool .head < versionPlaces (after p l)
@@ -149,9 +151,9 @@ module _ (l : Lent) (p : Pool ℕ) (fits : Fits l) (formed : Formed p) (same : p
   queue-read-back = queue-back (after p l) (l .retiring) ring-room ring-head (p .hand) (p .retiring) waiting-room ring-laid-back
 
   destroy-laid-back : after p l .doomed
-      ≡ laid 2 writeDoomed (versionPlaces (after p l)) (after p l .pool .first) 0 (map doomedRecord (p .doomed)) (l .doomed)
+      ≡ laid doomedStride writeDoomed (versionPlaces (after p l)) (after p l .pool .first) 0 (map doomedRecord (p .doomed)) (l .doomed)
   unfolding after poolAfter doomedAfter
-  destroy-laid-back = ap (λ (n : ℕ). laid 2 writeDoomed n (firstAfter p l) 0 (map doomedRecord (p .doomed)) (l .doomed)) (sym versions-kept)
+  destroy-laid-back = ap (λ (n : ℕ). laid doomedStride writeDoomed n (firstAfter p l) 0 (map doomedRecord (p .doomed)) (l .doomed)) (sym versions-kept)
 
   ring-first : after p l .pool .first < versionPlaces (after p l)
   unfolding after poolAfter
@@ -201,11 +203,11 @@ module _ (l : Lent) (p : Pool ℕ) (fits : Fits l) (formed : Formed p) (same : p
   unfolding after poolAfter bookAfter
   after-fits = record {
     places = ap arePlaces places-kept ∙ fits .places;
-    textures = ap (λ (n : Places). 20 * n .textures) places-kept ∙ fits .textures ∙ sym textures-kept;
-    retiring = ap (λ (n : ℕ). 7 * n) versions-kept ∙ fits .retiring ∙ sym retiring-kept;
-    doomed = ap (λ (n : ℕ). 2 * n) versions-kept ∙ fits .doomed ∙ sym doomed-kept;
-    spares = ap (λ (n : ℕ). 3 * n) versions-kept ∙ fits .spares ∙ sym spares-kept;
-    stamps = ap (λ (n : ℕ). 1024 * n) newest-kept ∙ fits .stamps ∙ sym stamps-kept;
+    textures = ap (λ (n : Places). textureStride * n .textures) places-kept ∙ fits .textures ∙ sym textures-kept;
+    retiring = ap (λ (n : ℕ). retiringStride * n) versions-kept ∙ fits .retiring ∙ sym retiring-kept;
+    doomed = ap (λ (n : ℕ). doomedStride * n) versions-kept ∙ fits .doomed ∙ sym doomed-kept;
+    spares = ap (λ (n : ℕ). spareStride * n) versions-kept ∙ fits .spares ∙ sym spares-kept;
+    stamps = ap (λ (n : ℕ). pageStamps * n) newest-kept ∙ fits .stamps ∙ sym stamps-kept;
     least = omega (arith, fits .least, versions-kept);
     most = omega (arith, fits .most, versions-kept);
     newest = omega (arith, fits .newest, newest-kept);

@@ -24,27 +24,28 @@ use Rattle.pool_memory.specs.Reading.{pageAt, gridRead}
 use Rattle.pool_memory.specs.Writing.{firstPage, pageBefore, pagesFrom}
 use Rattle.pool_memory.proofs.FitsGrids.{noGrid, grid-of}
 use Rattle.pool_memory.proofs.FromPool.{length-page}
+use Rattle.grid_stamps.specs.StampConstants.{pageStamps}
 
 -- ---- pages written one behind the other
 
 module _ (before : ℕ → List ℕ) where
   -- each grid and what it is laid over make up one page
   abbrev pub Whole : ℕ → List StampGrid → Type 0
-  Whole k gs = (j : ℕ) → j < length gs → length (over (getD gs j noGrid .stamps) (before (k + j))) ≡ 1024
+  Whole k gs = (j : ℕ) → j < length gs → length (over (getD gs j noGrid .stamps) (before (k + j))) ≡ pageStamps
 
-  whole-head : (k : ℕ) (g : StampGrid) (gs : List StampGrid) → Whole k (g ∷ gs) → length (over (g .stamps) (before k)) ≡ 1024
+  whole-head : (k : ℕ) (g : StampGrid) (gs : List StampGrid) → Whole k (g ∷ gs) → length (over (g .stamps) (before k)) ≡ pageStamps
   whole-head k g gs w = ap (λ (i : ℕ). length (over (g .stamps) (before i))) (sym (add-zero k)) ∙ w 0 (omega arith)
 
   whole-tail : (k : ℕ) (g : StampGrid) (gs : List StampGrid) → Whole k (g ∷ gs) → Whole (suc k) gs
   whole-tail k g gs w = λ j q.
       ap (λ (i : ℕ). length (over (getD gs j noGrid .stamps) (before i))) (let e : suc k + j ≡ k + suc j = omega arith in e) ∙ w (suc j) (omega arith)
 
-  pub length-pages : (k : ℕ) (gs : List StampGrid) → Whole k gs → length (pagesFrom before k gs) ≡ 1024 * length gs
+  pub length-pages : (k : ℕ) (gs : List StampGrid) → Whole k gs → length (pagesFrom before k gs) ≡ pageStamps * length gs
   unfolding pagesFrom
   length-pages k [] w = refl
   length-pages k (g ∷ gs) w =
       length-append (over (g .stamps) (before k)) (pagesFrom before (suc k) gs)
-      ∙ (let e : length (over (g .stamps) (before k)) + length (pagesFrom before (suc k) gs) ≡ 1024 * suc (length gs) =
+      ∙ (let e : length (over (g .stamps) (before k)) + length (pagesFrom before (suc k) gs) ≡ pageStamps * suc (length gs) =
       omega (arith, whole-head k g gs w, length-pages (suc k) gs (whole-tail k g gs w)) in e)
 
   pub page-back : (k : ℕ) (gs : List StampGrid) (rest : List ℕ) → Whole k gs → (j : ℕ) → j < length gs
@@ -53,15 +54,15 @@ module _ (before : ℕ → List ℕ) where
   page-back k [] rest w j h = absurd (let y : ⊥ = omega arith in y)
   page-back k (g ∷ gs) rest w zero h =
       let a = over (g .stamps) (before k) in
-      ap (take 1024) (append-assoc a (pagesFrom before (suc k) gs) rest)
-      ∙ take-at a (pagesFrom before (suc k) gs ++ rest) 1024 (whole-head k g gs w)
+      ap (take pageStamps) (append-assoc a (pagesFrom before (suc k) gs) rest)
+      ∙ take-at a (pagesFrom before (suc k) gs ++ rest) pageStamps (whole-head k g gs w)
       ∙ ap (λ (i : ℕ). over (g .stamps) (before i)) (sym (add-zero k))
   page-back k (g ∷ gs) rest w (suc j) h =
       let a = over (g .stamps) (before k) in
       let b = pagesFrom before (suc k) gs in
-      let m : 1024 * suc j ≡ length a + 1024 * j = omega (arith, whole-head k g gs w) in
-      ap₂ (λ (i : ℕ) (l : List ℕ). take 1024 (drop i l)) m (append-assoc a b rest)
-      ∙ ap (take 1024) (drop-append-add a (b ++ rest) (1024 * j))
+      let m : pageStamps * suc j ≡ length a + pageStamps * j = omega (arith, whole-head k g gs w) in
+      ap₂ (λ (i : ℕ) (l : List ℕ). take pageStamps (drop i l)) m (append-assoc a b rest)
+      ∙ ap (take pageStamps) (drop-append-add a (b ++ rest) (pageStamps * j))
       ∙ page-back (suc k) gs rest (whole-tail k g gs w) j (omega arith)
       ∙ ap (λ (i : ℕ). over (getD gs j noGrid .stamps) (before i)) (let e : suc k + j ≡ k + suc j = omega arith in e)
 
@@ -70,7 +71,7 @@ module _ (before : ℕ → List ℕ) where
 module _ (m : Lent) (s : VersionShape) (page : ℕ) (h : WriteHistory) (formed : HistoryFormed s h) (before : ℕ → List ℕ)
     (whole : Whole before 0 (h .grids)) (others rest : List ℕ)
     (newests : drop page (m .newest) ≡ map (λ (g : StampGrid). g .newest) (h .grids) ++ others)
-    (pages : drop (1024 * page) (m .stamps) ≡ pagesFrom before 0 (h .grids) ++ rest) where
+    (pages : drop (pageStamps * page) (m .stamps) ≡ pagesFrom before 0 (h .grids) ++ rest) where
   newest-back : (k : ℕ) → k < length (h .grids) → getD (m .newest) (page + k) 0 ≡ getD (h .grids) k noGrid .newest
   newest-back k q =
       let f : StampGrid → ℕ = λ g. g .newest in
@@ -85,8 +86,8 @@ module _ (m : Lent) (s : VersionShape) (page : ℕ) (h : WriteHistory) (formed :
       let g = getD (h .grids) k noGrid in
       let n = stampCount (tilingOf s (k % s .levels)) in
       let size : length (g .stamps) ≡ n = grid-of s h formed k q .size in
-      ap (λ (i : ℕ). take n (take 1024 (drop i (m .stamps)))) (mul-add 1024 page k)
-      ∙ ap (λ (l : List ℕ). take n (take 1024 l)) (sym (drop-drop (1024 * k) (1024 * page) (m .stamps)) ∙ ap (drop (1024 * k)) pages)
+      ap (λ (i : ℕ). take n (take pageStamps (drop i (m .stamps)))) (mul-add pageStamps page k)
+      ∙ ap (λ (l : List ℕ). take n (take pageStamps l)) (sym (drop-drop (pageStamps * k) (pageStamps * page) (m .stamps)) ∙ ap (drop (pageStamps * k)) pages)
       ∙ ap (take n) (page-back before 0 (h .grids) rest whole k q)
       ∙ take-over (g .stamps) (before (0 + k)) n (omega (arith, size))
       ∙ ap (λ (i : ℕ). take i (g .stamps)) (sym size)
@@ -129,11 +130,11 @@ first-within id s page q (t ∷ ts) e =
         omega (arith, z, w)
     go false x y r = omega (arith, r y)
 
-module _ (l : Lent) (paged : 1024 * length (l .newest) ≡ length (l .stamps)) (s : VersionShape) where
+module _ (l : Lent) (paged : pageStamps * length (l .newest) ≡ length (l .stamps)) (s : VersionShape) where
   length-before : (o : Option ℕ) → ((q : ℕ) → o ≡ some q → q + pagesOf s ≤ length (l .newest))
-      → (k : ℕ) → k < pagesOf s → length (pageBefore l o k) ≡ 1024
+      → (k : ℕ) → k < pagesOf s → length (pageBefore l o k) ≡ pageStamps
   unfolding pageBefore
-  length-before none h k q = length-replicate {A = ℕ} 1024 0
+  length-before none h k q = length-replicate {A = ℕ} pageStamps 0
   length-before (some page) h k q = let r = h page refl in length-page l paged (page + k) (omega arith)
 
   -- so each grid and what it is laid over make up one page

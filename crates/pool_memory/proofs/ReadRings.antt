@@ -17,29 +17,30 @@ use Rattle.pool_records.proofs.Codecs.{retiring-codec, doomed-codec}
 use Rattle.pool_memory.specs.Lent.{Lent, versionPlaces}
 use Rattle.pool_memory.specs.Reading.{retiringRead, handRead, doomedRead}
 use Rattle.pool_memory.specs.Writing.{retiringRecord, doomedRecord, handList}
+use Rattle.pool_records.specs.RecordConstants.{doomedStride, retiringStride}
 
 -- ---- the retiring ring: the hand, and then the queue
 
-module _ (m : Lent) (s : List ℕ) (room : 7 * versionPlaces m ≤ length s) (head : m .pool .head < versionPlaces m) where
+module _ (m : Lent) (s : List ℕ) (room : retiringStride * versionPlaces m ≤ length s) (head : m .pool .head < versionPlaces m) where
   retiring-listed : (vs : List (Retiring ℕ)) → length vs ≤ versionPlaces m
-      → m .retiring ≡ laid 7 writeRetiring (versionPlaces m) (m .pool .head) 0 (map retiringRecord vs) s → listed (retiringRead m) 0 (length vs) ≡ vs
+      → m .retiring ≡ laid retiringStride writeRetiring (versionPlaces m) (m .pool .head) 0 (map retiringRecord vs) s → listed (retiringRead m) 0 (length vs) ≡ vs
   unfolding retiringRead ring
   retiring-listed vs h e =
-      sym (map-listed retiringOf (along 7 readRetiring (versionPlaces m) (m .pool .head) (m .retiring)) 0 (length vs))
-      ∙ ap (λ (r : List ℕ). map retiringOf (listed (along 7 readRetiring (versionPlaces m) (m .pool .head) r) 0 (length vs))) e
+      sym (map-listed retiringOf (along retiringStride readRetiring (versionPlaces m) (m .pool .head) (m .retiring)) 0 (length vs))
+      ∙ ap (λ (r : List ℕ). map retiringOf (listed (along retiringStride readRetiring (versionPlaces m) (m .pool .head) r) 0 (length vs))) e
       ∙ ap (map retiringOf)
       (ring-laid retiring-codec (versionPlaces m) (m .pool .head) head (map retiringRecord vs) (length vs) s room h (length-map vs retiringRecord))
       ∙ map-map retiringOf retiringRecord vs
       ∙ map-id vs
 
   pub hand-back : (o : Option (Retiring ℕ)) (vs : List (Retiring ℕ)) → length vs + handCount o ≤ versionPlaces m
-      → m .retiring ≡ laid 7 writeRetiring (versionPlaces m) (m .pool .head) 0 (map retiringRecord (handList o ++ vs)) s → handRead m (handCount o) ≡ o
+      → m .retiring ≡ laid retiringStride writeRetiring (versionPlaces m) (m .pool .head) 0 (map retiringRecord (handList o ++ vs)) s → handRead m (handCount o) ≡ o
   unfolding listed
   hand-back none vs h e = refl
   hand-back (some v) vs h e = ap (λ (l : List (Retiring ℕ)). some (getD l 0 v)) (retiring-listed (v ∷ vs) (omega arith) e)
 
   pub queue-back : (o : Option (Retiring ℕ)) (vs : List (Retiring ℕ)) → length vs + handCount o ≤ versionPlaces m
-      → m .retiring ≡ laid 7 writeRetiring (versionPlaces m) (m .pool .head) 0 (map retiringRecord (handList o ++ vs)) s
+      → m .retiring ≡ laid retiringStride writeRetiring (versionPlaces m) (m .pool .head) 0 (map retiringRecord (handList o ++ vs)) s
       → listed (retiringRead m) (handCount o) (length vs) ≡ vs
   unfolding listed
   queue-back none vs h e = retiring-listed vs (omega arith) e
@@ -47,13 +48,13 @@ module _ (m : Lent) (s : List ℕ) (room : 7 * versionPlaces m ≤ length s) (he
 
 -- ---- the destroy ring
 
-pub doomed-back : (m : Lent) (s : List ℕ) → 2 * versionPlaces m ≤ length s → m .pool .first < versionPlaces m
+pub doomed-back : (m : Lent) (s : List ℕ) → doomedStride * versionPlaces m ≤ length s → m .pool .first < versionPlaces m
     → (ds : List (Doomed ℕ)) → length ds ≤ versionPlaces m
-    → m .doomed ≡ laid 2 writeDoomed (versionPlaces m) (m .pool .first) 0 (map doomedRecord ds) s → listed (doomedRead m) 0 (length ds) ≡ ds
+    → m .doomed ≡ laid doomedStride writeDoomed (versionPlaces m) (m .pool .first) 0 (map doomedRecord ds) s → listed (doomedRead m) 0 (length ds) ≡ ds
 unfolding doomedRead ring
 doomed-back m s room first ds h e =
-    sym (map-listed doomedOf (along 2 readDoomed (versionPlaces m) (m .pool .first) (m .doomed)) 0 (length ds))
-    ∙ ap (λ (r : List ℕ). map doomedOf (listed (along 2 readDoomed (versionPlaces m) (m .pool .first) r) 0 (length ds))) e
+    sym (map-listed doomedOf (along doomedStride readDoomed (versionPlaces m) (m .pool .first) (m .doomed)) 0 (length ds))
+    ∙ ap (λ (r : List ℕ). map doomedOf (listed (along doomedStride readDoomed (versionPlaces m) (m .pool .first) r) 0 (length ds))) e
     ∙ ap (map doomedOf)
     (ring-laid doomed-codec (versionPlaces m) (m .pool .first) first (map doomedRecord ds) (length ds) s room h (length-map ds doomedRecord))
     ∙ map-map doomedOf doomedRecord ds

@@ -28,6 +28,8 @@ use Rattle.pool_memory.specs.Reading.{historyRead, recordPages, recorded
 use Rattle.pool_memory.specs.Writing.{recordedOf, textureRecord, spareRecord, everySpare, gridsOf, newestOf, firstPage, pageBefore, pagesFrom, pagesAfter}
 use Rattle.pool_memory.specs.IsPool.{bytesHold}
 use Rattle.pool_memory.proofs.ReadHistories.{length-pages, grids-back, whole-pages}
+use Rattle.grid_stamps.specs.StampConstants.{pageStamps}
+use Rattle.pool_records.specs.RecordConstants.{spareStride}
 
 -- what stands past a front part, of a list that stands from place i on
 drop-past : (xs a b rest : List ℕ) (i n j : ℕ) → drop i xs ≡ (a ++ b) ++ rest → length a ≡ n → i + n ≡ j → drop j xs ≡ b ++ rest
@@ -41,14 +43,14 @@ drop-past xs a b rest i n j e f g =
 -- ---- one texture's spares
 
 module _ (m : Lent) (first : ℕ) (ss : List (Spare ℕ)) (rest : List ℕ) where
-  pub spares-back : drop (3 * first) (m .spares) ≡ flat writeSpare (map spareRecord ss) ++ rest → listed (spareRead m) first (length ss) ≡ ss
+  pub spares-back : drop (spareStride * first) (m .spares) ≡ flat writeSpare (map spareRecord ss) ++ rest → listed (spareRead m) first (length ss) ≡ ss
   unfolding spareRead table
   spares-back e =
-      listed-same (spareRead m) (λ k. spareOf (recordAt 3 readSpare (drop (3 * first) (m .spares)) k)) (length ss) first 0
-      (λ j q. ap spareOf (ap (recordAt 3 readSpare (m .spares)) (let h : first + j ≡ first + (0 + j) = omega arith in h)
-      ∙ sym (record-past 3 readSpare first (0 + j) (m .spares))))
-      ∙ sym (map-listed spareOf (recordAt 3 readSpare (drop (3 * first) (m .spares))) 0 (length ss))
-      ∙ ap₂ (λ (l : List ℕ) (n : ℕ). map spareOf (listed (recordAt 3 readSpare l) 0 n)) e (sym (length-map ss spareRecord))
+      listed-same (spareRead m) (λ k. spareOf (recordAt spareStride readSpare (drop (spareStride * first) (m .spares)) k)) (length ss) first 0
+      (λ j q. ap spareOf (ap (recordAt spareStride readSpare (m .spares)) (let h : first + j ≡ first + (0 + j) = omega arith in h)
+      ∙ sym (record-past spareStride readSpare first (0 + j) (m .spares))))
+      ∙ sym (map-listed spareOf (recordAt spareStride readSpare (drop (spareStride * first) (m .spares))) 0 (length ss))
+      ∙ ap₂ (λ (l : List ℕ) (n : ℕ). map spareOf (listed (recordAt spareStride readSpare l) 0 n)) e (sym (length-map ss spareRecord))
       ∙ ap (map spareOf) (table-flat spare-codec (map spareRecord ss) rest)
       ∙ map-map spareOf spareRecord ss
       ∙ map-id ss
@@ -61,21 +63,21 @@ unfolding pagesOf
 length-newest s none f = refl
 length-newest s (some h) f = length-map (h .grids) (λ (g : StampGrid). g .newest) ∙ f .size
 
-module _ (l : Lent) (paged : 1024 * length (l .newest) ≡ length (l .stamps)) (used : total pagesUsed (modelOf l .textures) ≤ length (l .newest))
+module _ (l : Lent) (paged : pageStamps * length (l .newest) ≡ length (l .stamps)) (used : total pagesUsed (modelOf l .textures) ≤ length (l .newest))
     (id : ℕ) (s : VersionShape) (shaped : isShape s ≡ true) where
   abbrev before : ℕ → List ℕ
   before = pageBefore l (firstPage id s 0 (modelOf l .textures))
 
   length-stamps : (o : Option WriteHistory) → Given (HistoryFormed s) o
-      → length (pagesFrom before 0 (gridsOf o)) ≡ 1024 * recordedPages (recordedOf o) s
+      → length (pagesFrom before 0 (gridsOf o)) ≡ pageStamps * recordedPages (recordedOf o) s
   unfolding pagesOf pagesFrom
   length-stamps none f = refl
   length-stamps (some h) f =
-      length-pages before 0 (h .grids) (whole-pages l paged s shaped id (modelOf l .textures) used h f) ∙ ap (λ (n : ℕ). 1024 * n) (f .size)
+      length-pages before 0 (h .grids) (whole-pages l paged s shaped id (modelOf l .textures) used h f) ∙ ap (λ (n : ℕ). pageStamps * n) (f .size)
 
   history-back : (m : Lent) (page : ℕ) (o : Option WriteHistory) → Given (HistoryFormed s) o → (others rest : List ℕ)
       → drop page (m .newest) ≡ map (λ (g : StampGrid). g .newest) (gridsOf o) ++ others
-      → drop (1024 * page) (m .stamps) ≡ pagesFrom before 0 (gridsOf o) ++ rest
+      → drop (pageStamps * page) (m .stamps) ≡ pagesFrom before 0 (gridsOf o) ++ rest
       → historyRead m s page (recordedOf o) ≡ o
   history-back m page none f others rest e g = refl
   history-back m page (some h) f others rest e g = λ i. some (record {
@@ -85,16 +87,16 @@ module _ (l : Lent) (paged : 1024 * length (l .newest) ≡ length (l .stamps)) (
 
 -- ---- all of them, one behind the other
 
-module _ (l : Lent) (paged : 1024 * length (l .newest) ≡ length (l .stamps)) (used : total pagesUsed (modelOf l .textures) ≤ length (l .newest)) where
-  length-new : (t : VersionState ℕ) → StateFormed t → length (pagesAfter l t) ≡ 1024 * recordPages (textureRecord t)
+module _ (l : Lent) (paged : pageStamps * length (l .newest) ≡ length (l .stamps)) (used : total pagesUsed (modelOf l .textures) ≤ length (l .newest)) where
+  length-new : (t : VersionState ℕ) → StateFormed t → length (pagesAfter l t) ≡ pageStamps * recordPages (textureRecord t)
   unfolding pagesAfter
   length-new t f = length-stamps l paged used (t .id) (t .shape) (f .shape) (t .history) (f .history)
 
-module _ (l m : Lent) (paged : 1024 * length (l .newest) ≡ length (l .stamps)) (used : total pagesUsed (modelOf l .textures) ≤ length (l .newest)) where
+module _ (l m : Lent) (paged : pageStamps * length (l .newest) ≡ length (l .stamps)) (used : total pagesUsed (modelOf l .textures) ≤ length (l .newest)) where
   state-back : (first page : ℕ) (t : VersionState ℕ) → StateFormed t → (a b c : List ℕ)
-      → drop (3 * first) (m .spares) ≡ flat writeSpare (map spareRecord (t .spares)) ++ a
+      → drop (spareStride * first) (m .spares) ≡ flat writeSpare (map spareRecord (t .spares)) ++ a
       → drop page (m .newest) ≡ newestOf t ++ b
-      → drop (1024 * page) (m .stamps) ≡ pagesAfter l t ++ c
+      → drop (pageStamps * page) (m .stamps) ≡ pagesAfter l t ++ c
       → stateRead m first page (textureRecord t) ≡ t
   unfolding stateRead pagesAfter
   state-back first page t f a b c ea eb ec = λ i. record {
@@ -109,9 +111,9 @@ module _ (l m : Lent) (paged : 1024 * length (l .newest) ≡ length (l .stamps))
   }
 
   pub states-back : (first page : ℕ) (ts : List (VersionState ℕ)) → All StateFormed ts → (a b c : List ℕ)
-      → drop (3 * first) (m .spares) ≡ flat writeSpare (map spareRecord (everySpare ts)) ++ a
+      → drop (spareStride * first) (m .spares) ≡ flat writeSpare (map spareRecord (everySpare ts)) ++ a
       → drop page (m .newest) ≡ flatMap newestOf ts ++ b
-      → drop (1024 * page) (m .stamps) ≡ flatMap (pagesAfter l) ts ++ c
+      → drop (pageStamps * page) (m .stamps) ≡ flatMap (pagesAfter l) ts ++ c
       → statesRead m first page (map textureRecord ts) ≡ ts
   unfolding statesRead flatMap
   states-back first page [] nil a b c ea eb ec = refl
@@ -122,17 +124,17 @@ module _ (l m : Lent) (paged : 1024 * length (l .newest) ≡ length (l .stamps))
       let n = length (t .spares) in
       let k = recordPages (textureRecord t) in
       let both = map-append spareRecord (t .spares) (everySpare ts) in
-      let ea′ : drop (3 * first) (m .spares) ≡ (x ++ xs) ++ a =
+      let ea′ : drop (spareStride * first) (m .spares) ≡ (x ++ xs) ++ a =
       ea ∙ ap (λ (l : List ℕ). l ++ a) (ap (flat writeSpare) both ∙ flat-append writeSpare ss (map spareRecord (everySpare ts))) in
-      let lx : length x ≡ 3 * n = length-flat spare-codec ss ∙ ap (λ (i : ℕ). 3 * i) (length-map (t .spares) spareRecord) in
+      let lx : length x ≡ spareStride * n = length-flat spare-codec ss ∙ ap (λ (i : ℕ). spareStride * i) (length-map (t .spares) spareRecord) in
       ap₂ (λ (u : VersionState ℕ) (us : List (VersionState ℕ)). u ∷ us)
       (state-back first page t f (xs ++ a) (flatMap newestOf ts ++ b) (flatMap (pagesAfter l) ts ++ c)
       (ea′ ∙ append-assoc x xs a) (eb ∙ append-assoc (newestOf t) (flatMap newestOf ts) b)
       (ec ∙ append-assoc (pagesAfter l t) (flatMap (pagesAfter l) ts) c))
       (states-back (first + n) (page + k) ts fs a b c
-      (drop-past (m .spares) x xs a (3 * first) (3 * n) (3 * (first + n)) ea′ lx (omega arith))
+      (drop-past (m .spares) x xs a (spareStride * first) (spareStride * n) (spareStride * (first + n)) ea′ lx (omega arith))
       (drop-past (m .newest) (newestOf t) (flatMap newestOf ts) b page k (page + k) eb (length-newest (t .shape) (t .history) (f .history)) refl)
-      (drop-past (m .stamps) (pagesAfter l t) (flatMap (pagesAfter l) ts) c (1024 * page) (1024 * k) (1024 * (page + k)) ec (length-new l paged used t f)
+      (drop-past (m .stamps) (pagesAfter l t) (flatMap (pagesAfter l) ts) c (pageStamps * page) (pageStamps * k) (pageStamps * (page + k)) ec (length-new l paged used t f)
       (omega arith)))
 
 -- ---- how much of each slice they take
@@ -170,11 +172,11 @@ length-newests (t ∷ ts) (cons f fs) =
     length-append (newestOf t) (flatMap newestOf ts)
     ∙ ap₂ (λ (a b : ℕ). a + b) (length-newest (t .shape) (t .history) (f .history) ∙ record-pages (t .shape) (t .history)) (length-newests ts fs)
 
-module _ (l : Lent) (paged : 1024 * length (l .newest) ≡ length (l .stamps)) (used : total pagesUsed (modelOf l .textures) ≤ length (l .newest)) where
-  pub length-new-pages : (ts : List (VersionState ℕ)) → All StateFormed ts → length (flatMap (pagesAfter l) ts) ≡ 1024 * total pagesUsed ts
+module _ (l : Lent) (paged : pageStamps * length (l .newest) ≡ length (l .stamps)) (used : total pagesUsed (modelOf l .textures) ≤ length (l .newest)) where
+  pub length-new-pages : (ts : List (VersionState ℕ)) → All StateFormed ts → length (flatMap (pagesAfter l) ts) ≡ pageStamps * total pagesUsed ts
   unfolding flatMap total
   length-new-pages [] nil = refl
   length-new-pages (t ∷ ts) (cons f fs) =
       length-append (pagesAfter l t) (flatMap (pagesAfter l) ts)
-      ∙ ap₂ (λ (a b : ℕ). a + b) (length-new l paged used t f ∙ ap (λ (n : ℕ). 1024 * n) (record-pages (t .shape) (t .history))) (length-new-pages ts fs)
-      ∙ sym (mul-add 1024 (pagesUsed t) (total pagesUsed ts))
+      ∙ ap₂ (λ (a b : ℕ). a + b) (length-new l paged used t f ∙ ap (λ (n : ℕ). pageStamps * n) (record-pages (t .shape) (t .history))) (length-new-pages ts fs)
+      ∙ sym (mul-add pageStamps (pagesUsed t) (total pagesUsed ts))

@@ -23,6 +23,7 @@ use Rattle.pool_records.proofs.Codecs.{retiring-codec, doomed-codec}
 use Rattle.pool_memory.specs.Lent.{Lent, versionPlaces}
 use Rattle.pool_memory.specs.Reading.{handRead, retiringRead, doomedRead, modelOf}
 use Rattle.pool_memory.specs.Writing.{retiringRecord, doomedRecord, handList, headAfter, retiringAfter, firstAfter, doomedAfter}
+use Rattle.pool_records.specs.RecordConstants.{doomedStride, retiringStride}
 
 -- ---- any ring
 
@@ -79,7 +80,7 @@ module _ (l : Lent) where
       ∙ sym (listed-split (retiringRead l) 0 n (l .pool .queued))
 
   retiring-records : (k n : ℕ)
-      → map retiringRecord (listed (retiringRead l) k n) ≡ listed (along 7 readRetiring (versionPlaces l) (l .pool .head) (l .retiring)) k n
+      → map retiringRecord (listed (retiringRead l) k n) ≡ listed (along retiringStride readRetiring (versionPlaces l) (l .pool .head) (l .retiring)) k n
   unfolding retiringRead
   retiring-records k n = map-listed retiringRecord (retiringRead l) k n
 
@@ -116,14 +117,14 @@ module _ (l : Lent) where
       unfolding headAfter
       head-parked e f = ap₂ (λ (n : ℕ) (o : Option (Retiring ℕ)). placeOf (versionPlaces l) (l .pool .head) (n - handCount o)) e f
 
-      module _ (fits : 7 * versionPlaces l ≤ length (l .retiring)) (few : popped ≤ 1) where
+      module _ (fits : retiringStride * versionPlaces l ≤ length (l .retiring)) (few : popped ≤ 1) where
         -- the hand and the queue are n of the ring's from the k-th on: nothing is written
         pub retiring-stays : (k n : ℕ) → headAfter p l ≡ placeOf (versionPlaces l) (l .pool .head) k
             → handList (p .hand) ++ p .retiring ≡ listed (retiringRead l) k n → k + n ≤ versionPlaces l → retiringAfter p l ≡ l .retiring
         unfolding retiringAfter
         retiring-stays k n e f b =
-            ap₂ (λ (m : ℕ) (vs : List (Retiring ℕ)). laid 7 writeRetiring (versionPlaces l) m 0 (map retiringRecord vs) (l .retiring)) e f
-            ∙ ap (λ (xs : List RetiringRecord). laid 7 writeRetiring (versionPlaces l) (placeOf (versionPlaces l) (l .pool .head) k) 0 xs
+            ap₂ (λ (m : ℕ) (vs : List (Retiring ℕ)). laid retiringStride writeRetiring (versionPlaces l) m 0 (map retiringRecord vs) (l .retiring)) e f
+            ∙ ap (λ (xs : List RetiringRecord). laid retiringStride writeRetiring (versionPlaces l) (placeOf (versionPlaces l) (l .pool .head) k) 0 xs
             (l .retiring)) (retiring-records k n)
             ∙ laid-standing retiring-codec (versionPlaces l) (l .pool .head) inside (l .retiring) fits k n b
 
@@ -161,20 +162,20 @@ module _ (l : Lent) where
         -- one more is queued
         pub retiring-pushed : (v : Retiring ℕ) → popped + l .pool .queued < versionPlaces l → p .hand ≡ modelOf l .hand
             → p .retiring ≡ modelOf l .retiring ++ (v ∷ [])
-            → sets (l .retiring) (7 * placeOf (versionPlaces l) (l .pool .head) (popped + l .pool .queued)) (writeRetiring (retiringRecord v))
+            → sets (l .retiring) (retiringStride * placeOf (versionPlaces l) (l .pool .head) (popped + l .pool .queued)) (writeRetiring (retiringRecord v))
             ≡ retiringAfter p l
         unfolding retiringAfter laid
         retiring-pushed v room e f =
             let n = popped + l .pool .queued in
             let whole : map retiringRecord (handList (p .hand) ++ p .retiring)
-            ≡ listed (along 7 readRetiring (versionPlaces l) (l .pool .head) (l .retiring)) 0 n ++ (retiringRecord v ∷ []) =
+            ≡ listed (along retiringStride readRetiring (versionPlaces l) (l .pool .head) (l .retiring)) 0 n ++ (retiringRecord v ∷ []) =
             ap (map retiringRecord)
             (ap₂ (λ (o : Option (Retiring ℕ)) (vs : List (Retiring ℕ)). handList o ++ vs) e f
             ∙ sym (append-assoc (handList (modelOf l .hand)) (modelOf l .retiring) (v ∷ []))
             ∙ ap (λ (vs : List (Retiring ℕ)). vs ++ (v ∷ [])) (ring-model few))
             ∙ map-append retiringRecord (listed (retiringRead l) 0 n) (v ∷ [])
             ∙ ap (λ (xs : List RetiringRecord). xs ++ (retiringRecord v ∷ [])) (retiring-records 0 n) in
-            sym (ap₂ (λ (m : ℕ) (xs : List RetiringRecord). laid 7 writeRetiring (versionPlaces l) m 0 xs (l .retiring))
+            sym (ap₂ (λ (m : ℕ) (xs : List RetiringRecord). laid retiringStride writeRetiring (versionPlaces l) m 0 xs (l .retiring))
             (head-stays (omega (arith, hand-model few, ap handCount e))) whole
             ∙ laid-behind retiring-codec (versionPlaces l) (l .pool .head) inside (l .retiring) fits n (retiringRecord v ∷ []) (omega arith))
 
@@ -182,7 +183,7 @@ module _ (l : Lent) where
 
 module _ (l : Lent) (p : Pool ℕ) where
   doomed-records : (k n : ℕ)
-      → map doomedRecord (listed (doomedRead l) k n) ≡ listed (along 2 readDoomed (versionPlaces l) (l .pool .first) (l .doomed)) k n
+      → map doomedRecord (listed (doomedRead l) k n) ≡ listed (along doomedStride readDoomed (versionPlaces l) (l .pool .first) (l .doomed)) k n
   unfolding doomedRead
   doomed-records k n = map-listed doomedRecord (doomedRead l) k n
 
@@ -204,11 +205,11 @@ module _ (l : Lent) (p : Pool ℕ) where
         ap (placeOf (versionPlaces l) (l .pool .first)) (let e : l .pool .doomed - length (p .doomed) ≡ 0 = omega arith in e)
         ∙ place-head (versionPlaces l) (l .pool .first) inside
 
-    module _ (fits : 2 * versionPlaces l ≤ length (l .doomed)) (room : l .pool .doomed ≤ versionPlaces l) where
+    module _ (fits : doomedStride * versionPlaces l ≤ length (l .doomed)) (room : l .pool .doomed ≤ versionPlaces l) where
       pub doomed-taken : (k : ℕ) → k ≤ l .pool .doomed → p .doomed ≡ drop k (modelOf l .doomed) → doomedAfter p l ≡ l .doomed
       unfolding doomedAfter modelOf
       doomed-taken k h e =
-          ap₂ (λ (m : ℕ) (xs : List DoomedRecord). laid 2 writeDoomed (versionPlaces l) m 0 xs (l .doomed)) (first-taken k h e)
+          ap₂ (λ (m : ℕ) (xs : List DoomedRecord). laid doomedStride writeDoomed (versionPlaces l) m 0 xs (l .doomed)) (first-taken k h e)
           (ap (map doomedRecord)
           (e ∙ drop-listed (doomedRead l) k 0 (l .pool .doomed) h ∙ ap (λ (m : ℕ). listed (doomedRead l) m (l .pool .doomed - k)) (zero-add k))
           ∙ doomed-records k (l .pool .doomed - k))
@@ -219,16 +220,16 @@ module _ (l : Lent) (p : Pool ℕ) where
 
       -- more are queued behind those that wait
       pub doomed-pushed : (ds : List (Doomed ℕ)) → p .doomed ≡ modelOf l .doomed ++ ds
-          → laid 2 writeDoomed (versionPlaces l) (l .pool .first) (l .pool .doomed) (map doomedRecord ds) (l .doomed) ≡ doomedAfter p l
+          → laid doomedStride writeDoomed (versionPlaces l) (l .pool .first) (l .pool .doomed) (map doomedRecord ds) (l .doomed) ≡ doomedAfter p l
       unfolding doomedAfter modelOf
       doomed-pushed ds e =
           let n = l .pool .doomed in
           let more : n ≤ length (p .doomed) =
           omega (arith, ap length e, length-append (listed (doomedRead l) 0 n) ds, length-listed (doomedRead l) 0 n) in
           let whole : map doomedRecord (p .doomed) ≡ listed
-          (along 2 readDoomed (versionPlaces l) (l .pool .first) (l .doomed)) 0 n ++ map doomedRecord ds =
+          (along doomedStride readDoomed (versionPlaces l) (l .pool .first) (l .doomed)) 0 n ++ map doomedRecord ds =
           ap (map doomedRecord) e
           ∙ map-append doomedRecord (listed (doomedRead l) 0 n) ds
           ∙ ap (λ (xs : List DoomedRecord). xs ++ map doomedRecord ds) (doomed-records 0 n) in
-          sym (ap₂ (λ (m : ℕ) (xs : List DoomedRecord). laid 2 writeDoomed (versionPlaces l) m 0 xs (l .doomed)) (first-stays more) whole
+          sym (ap₂ (λ (m : ℕ) (xs : List DoomedRecord). laid doomedStride writeDoomed (versionPlaces l) m 0 xs (l .doomed)) (first-stays more) whole
           ∙ laid-behind doomed-codec (versionPlaces l) (l .pool .first) inside (l .doomed) fits n (map doomedRecord ds) room)

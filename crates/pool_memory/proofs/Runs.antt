@@ -23,6 +23,7 @@ use Rattle.pool_memory.specs.Lent.{Lent}
 use Rattle.pool_memory.specs.Reading.{trackedRecords, gridRead, historyRead, recordedPages, recordPages, spareRead, stateRead, statesRead, modelOf}
 use Rattle.pool_memory.specs.IsPool.{bytesHold, bytesFit, stateId}
 use Rattle.pool_memory.specs.Writing.{recordedOf, textureRecord, everySpare, gridsOf, newestOf}
+use Rattle.pool_records.specs.RecordConstants.{textureStride}
 
 abbrev pub sparesOf : TextureRecord → ℕ
 sparesOf t = t .spares
@@ -170,7 +171,7 @@ module _ (l : Lent) where
   stateOf i = stateRead l (firstSpare i) (firstPageOf i) (getD (trackedRecords l) i (readTexture []))
 
   pub tracked-records : length (trackedRecords l) ≡ l .pool .tracked
-  tracked-records = length-table 20 readTexture (l .pool .tracked) (l .textures)
+  tracked-records = length-table textureStride readTexture (l .pool .tracked) (l .textures)
 
   pub tracked-model : length (modelOf l .textures) ≡ l .pool .tracked
   unfolding modelOf

@@ -26,6 +26,8 @@ use Rattle.pool_memory.specs.IsPool.{bytesFit}
 use Rattle.pool_memory.proofs.Runs.{sparesOf, stateOf, tracked-model, records-model, spares-model, kept-model, pages-model, newest-model}
 use Rattle.pool_memory.proofs.Kept.{pagedOf, pages-all, pages-paged, newest-paged}
 use Rattle.pool_memory.proofs.Rings.{head-stays, hand-model, retiring-same, first-stays, doomed-same}
+use Rattle.grid_stamps.specs.StampConstants.{pageStamps}
+use Rattle.pool_records.specs.RecordConstants.{doomedStride, retiringStride, spareStride, textureStride}
 
 -- a run of a list, element by element
 pub listed-run {ℓ} : {A : Type ℓ} (d : A) (xs : List A) (at n : ℕ) → at + n ≤ length xs → listed (λ k. getD xs k d) at n ≡ take n (drop at xs)
@@ -39,18 +41,18 @@ pub over-front {ℓ} : {A : Type ℓ} (n : ℕ) (xs : List A) → over (take n x
 over-front n xs = over-self (take n xs) xs (drop n xs) (sym (take-append-drop n xs))
 
 -- the spares' records
-pub spare-records : (l : Lent) (n : ℕ) → map spareRecord (listed (spareRead l) 0 n) ≡ table 3 readSpare n (l .spares)
+pub spare-records : (l : Lent) (n : ℕ) → map spareRecord (listed (spareRead l) 0 n) ≡ table spareStride readSpare n (l .spares)
 unfolding spareRead table
 spare-records l n = map-listed spareRecord (spareRead l) 0 n
 
 module _ (l : Lent) (p : Pool ℕ) where
-  pub textures-same : 20 * l .pool .tracked ≤ length (l .textures) → map textureRecord (p .textures) ≡ trackedRecords l
+  pub textures-same : textureStride * l .pool .tracked ≤ length (l .textures) → map textureRecord (p .textures) ≡ trackedRecords l
       → texturesAfter p l ≡ l .textures
   unfolding texturesAfter
   textures-same fits e =
       ap (λ (xs : List TextureRecord). over (flat writeTexture xs) (l .textures)) e ∙ over-table texture-codec (l .pool .tracked) (l .textures) fits
 
-  pub spares-same : 3 * total sparesOf (trackedRecords l) ≤ length (l .spares) → everySpare (p .textures) ≡ everySpare (modelOf l .textures)
+  pub spares-same : spareStride * total sparesOf (trackedRecords l) ≤ length (l .spares) → everySpare (p .textures) ≡ everySpare (modelOf l .textures)
       → sparesAfter p l ≡ l .spares
   unfolding sparesAfter
   spares-same fits e =
@@ -73,7 +75,7 @@ module _ (l : Lent) (p : Pool ℕ) where
   unfolding stampsAfter
   stamps-same up e =
       ap (λ (xs : List ℕ). over xs (l .stamps)) (pages-paged l (p .textures) (modelOf l .textures) e ∙ pages-all l up (stateOf l 0))
-      ∙ over-front (1024 * total pagesUsed (modelOf l .textures)) (l .stamps)
+      ∙ over-front (pageStamps * total pagesUsed (modelOf l .textures)) (l .stamps)
 
 -- ---- nothing changed at all
 
@@ -124,8 +126,8 @@ module _ (l : Lent) where
     }
 
     -- the lent memory as it stood
-    module _ (textures : 20 * l .pool .tracked ≤ length (l .textures)) (retiring : 7 * versionPlaces l ≤ length (l .retiring))
-        (doomed : 2 * versionPlaces l ≤ length (l .doomed)) (spares : 3 * l .pool .kept ≤ length (l .spares))
+    module _ (textures : textureStride * l .pool .tracked ≤ length (l .textures)) (retiring : retiringStride * versionPlaces l ≤ length (l .retiring))
+        (doomed : doomedStride * versionPlaces l ≤ length (l .doomed)) (spares : spareStride * l .pool .kept ≤ length (l .spares))
         (newest : l .pool .pages ≤ length (l .newest))
         (queue : l .pool .popped + l .pool .queued ≤ versionPlaces l) (queued : l .pool .doomed ≤ versionPlaces l)
         (bytes : bytesFit l ≡ true) (mark : l .book .pressed ≤ 1) (up : ascending idOf (trackedRecords l) ≡ true) where

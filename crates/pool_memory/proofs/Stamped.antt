@@ -25,67 +25,68 @@ use Rattle.pool_memory.proofs.Runs.{firstSpare, firstPageOf, stateOf, p
 use Rattle.pool_memory.proofs.Kept.{pages-of}
 use Rattle.pool_memory.proofs.Same.{over-front}
 use Rattle.pool_memory.proofs.Pages.{pagesAt}
+use Rattle.grid_stamps.specs.StampConstants.{pageStamps}
 
 -- ---- pages, grid by grid
 
 module _ (before : ℕ → List ℕ) (d : StampGrid) where
   -- each grid's page has 1,024 numbers
   abbrev pub Whole : ℕ → List StampGrid → Type 0
-  Whole k gs = (j : ℕ) → j < length gs → length (over (getD gs j d .stamps) (before (k + j))) ≡ 1024
+  Whole k gs = (j : ℕ) → j < length gs → length (over (getD gs j d .stamps) (before (k + j))) ≡ pageStamps
 
-  whole-head : (k : ℕ) (g : StampGrid) (gs : List StampGrid) → Whole k (g ∷ gs) → length (over (g .stamps) (before k)) ≡ 1024
+  whole-head : (k : ℕ) (g : StampGrid) (gs : List StampGrid) → Whole k (g ∷ gs) → length (over (g .stamps) (before k)) ≡ pageStamps
   whole-head k g gs w = ap (λ (j : ℕ). length (over (g .stamps) (before j))) (sym (add-zero k)) ∙ w 0 (omega arith)
 
   whole-tail : (k : ℕ) (g : StampGrid) (gs : List StampGrid) → Whole k (g ∷ gs) → Whole (suc k) gs
   whole-tail k g gs w j q =
       ap (λ (m : ℕ). length (over (getD gs j d .stamps) (before m))) (let e : suc k + j ≡ k + suc j = omega arith in e) ∙ w (suc j) (omega arith)
 
-  pub length-pages : (k : ℕ) (gs : List StampGrid) → Whole k gs → length (pagesFrom before k gs) ≡ 1024 * length gs
+  pub length-pages : (k : ℕ) (gs : List StampGrid) → Whole k gs → length (pagesFrom before k gs) ≡ pageStamps * length gs
   unfolding pagesFrom
-  length-pages k [] w = sym (mul-zero 1024)
+  length-pages k [] w = sym (mul-zero pageStamps)
   length-pages k (g ∷ gs) w =
       length-append (over (g .stamps) (before k)) (pagesFrom before (suc k) gs)
       ∙ ap₂ (λ (a b : ℕ). a + b) (whole-head k g gs w) (length-pages (suc k) gs (whole-tail k g gs w))
-      ∙ (let e : 1024 + 1024 * length gs ≡ 1024 * suc (length gs) = omega arith in e)
+      ∙ (let e : pageStamps + pageStamps * length gs ≡ pageStamps * suc (length gs) = omega arith in e)
 
   -- grid m changed
   pub pages-set : (k : ℕ) (gs : List StampGrid) (m : ℕ) (g : StampGrid) → Whole k gs → m < length gs
       → pagesFrom before k (set gs m g)
-      ≡ take (1024 * m) (pagesFrom before k gs) ++ (over (g .stamps) (before (k + m)) ++ drop (1024 * m + 1024) (pagesFrom before k gs))
+      ≡ take (pageStamps * m) (pagesFrom before k gs) ++ (over (g .stamps) (before (k + m)) ++ drop (pageStamps * m + pageStamps) (pagesFrom before k gs))
   unfolding pagesFrom
   pages-set k [] m g w h = absurd (let y : ⊥ = omega arith in y)
   pages-set k (x ∷ gs) zero g w h =
       ap₂ (λ (j : ℕ) (l : List ℕ). over (g .stamps) (before j) ++ l) (sym (add-zero k))
-      (sym (drop-at (over (x .stamps) (before k)) (pagesFrom before (suc k) gs) 1024 (whole-head k x gs w)))
+      (sym (drop-at (over (x .stamps) (before k)) (pagesFrom before (suc k) gs) pageStamps (whole-head k x gs w)))
   pages-set k (x ∷ gs) (suc m) g w h =
       let one = over (x .stamps) (before k) in
       let rest = pagesFrom before (suc k) gs in
-      let e : 1024 * suc m ≡ length one + 1024 * m = omega (arith, whole-head k x gs w) in
-      let f : 1024 * suc m + 1024 ≡ length one + (1024 * m + 1024) = omega (arith, whole-head k x gs w) in
+      let e : pageStamps * suc m ≡ length one + pageStamps * m = omega (arith, whole-head k x gs w) in
+      let f : pageStamps * suc m + pageStamps ≡ length one + (pageStamps * m + pageStamps) = omega (arith, whole-head k x gs w) in
       ap (λ (l : List ℕ). one ++ l) (pages-set (suc k) gs m g (whole-tail k x gs w) (omega arith))
-      ∙ sym (append-assoc one (take (1024 * m) rest) (over (g .stamps) (before (suc k + m)) ++ drop (1024 * m + 1024) rest))
+      ∙ sym (append-assoc one (take (pageStamps * m) rest) (over (g .stamps) (before (suc k + m)) ++ drop (pageStamps * m + pageStamps) rest))
       ∙ ap₂ (λ (a b : List ℕ). a ++ (over (g .stamps) (before (suc k + m)) ++ b))
-      (sym (ap (λ (n : ℕ). take n (one ++ rest)) e ∙ take-append-add one rest (1024 * m)))
-      (sym (ap (λ (n : ℕ). drop n (one ++ rest)) f ∙ drop-append-add one rest (1024 * m + 1024)))
-      ∙ ap (λ (j : ℕ). take (1024 * suc m) (one ++ rest) ++ (over (g .stamps) (before j) ++ drop (1024 * suc m + 1024) (one ++ rest)))
+      (sym (ap (λ (n : ℕ). take n (one ++ rest)) e ∙ take-append-add one rest (pageStamps * m)))
+      (sym (ap (λ (n : ℕ). drop n (one ++ rest)) f ∙ drop-append-add one rest (pageStamps * m + pageStamps)))
+      ∙ ap (λ (j : ℕ). take (pageStamps * suc m) (one ++ rest) ++ (over (g .stamps) (before j) ++ drop (pageStamps * suc m + pageStamps) (one ++ rest)))
       (let q : suc k + m ≡ k + suc m = omega arith in q)
 
 -- ---- a slice of pages with some of them written
 
 module _ (s : List ℕ) (at : ℕ) (before : ℕ → List ℕ) (d : StampGrid) (gs : List StampGrid) (w : Whole before d 0 gs)
-    (fits : at + 1024 * length gs ≤ length s)
+    (fits : at + pageStamps * length gs ≤ length s)
     (k : ℕ) (h : k < length gs) where
   -- and after a stamp on it
-  pub page-stamped : (g : StampGrid) → length (over (g .stamps) (before k)) ≡ 1024
-      → take (at + 1024 * k) (sets s at (pagesFrom before 0 gs))
-      ++ (over (g .stamps) (before k) ++ drop (at + 1024 * k + 1024) (sets s at (pagesFrom before 0 gs)))
+  pub page-stamped : (g : StampGrid) → length (over (g .stamps) (before k)) ≡ pageStamps
+      → take (at + pageStamps * k) (sets s at (pagesFrom before 0 gs))
+      ++ (over (g .stamps) (before k) ++ drop (at + pageStamps * k + pageStamps) (sets s at (pagesFrom before 0 gs)))
       ≡ sets s at (pagesFrom before 0 (set gs k g))
   page-stamped g q =
       let n = length-pages before d 0 gs w in
-      sets-part s at (pagesFrom before 0 gs) (omega arith) (over (g .stamps) (before k)) (1024 * k) 1024 q (omega arith)
+      sets-part s at (pagesFrom before 0 gs) (omega arith) (over (g .stamps) (before k)) (pageStamps * k) pageStamps q (omega arith)
       ∙ ap (sets s at)
       (sym (pages-set before d 0 gs k g w h
-      ∙ ap (λ (j : ℕ). take (1024 * k) (pagesFrom before 0 gs) ++ (over (g .stamps) (before j) ++ drop (1024 * k + 1024) (pagesFrom before 0 gs)))
+      ∙ ap (λ (j : ℕ). take (pageStamps * k) (pagesFrom before 0 gs) ++ (over (g .stamps) (before j) ++ drop (pageStamps * k + pageStamps) (pagesFrom before 0 gs)))
       (zero-add k)))
 
 -- ---- texture i
@@ -145,11 +146,11 @@ module _ (l : Lent) (i : ℕ) where
       ap (λ (g : StampGrid). over (g .stamps) (pagesStood k)) (grid-of k d q)
       ∙ over-front (stampCount (tilingOf (stateOf l i .shape) (k % stateOf l i .shape .levels))) (pagesStood k)
 
-  module _ (fits : 1024 * (firstPageOf l i + pagesAt l i) ≤ length (l .stamps)) where
-    pub length-stood : (k : ℕ) → k < pagesAt l i → length (pagesStood k) ≡ 1024
+  module _ (fits : pageStamps * (firstPageOf l i + pagesAt l i) ≤ length (l .stamps)) where
+    pub length-stood : (k : ℕ) → k < pagesAt l i → length (pagesStood k) ≡ pageStamps
     unfolding pageBefore
     length-stood k q =
-        length-take-le 1024 (drop (1024 * (firstPageOf l i + k)) (l .stamps)) (omega (arith, length-drop (1024 * (firstPageOf l i + k)) (l .stamps)))
+        length-take-le pageStamps (drop (pageStamps * (firstPageOf l i + k)) (l .stamps)) (omega (arith, length-drop (pageStamps * (firstPageOf l i + k)) (l .stamps)))
 
     pub whole-read : (d : StampGrid) → Whole pagesStood d 0 gridsAt
     whole-read d k q =
@@ -158,14 +159,14 @@ module _ (l : Lent) (i : ℕ) where
 
     -- grids of no more than 1,024 stamps
     pub whole-grids : (d : StampGrid) (gs : List StampGrid) → length gs ≡ pagesAt l i
-        → ((k : ℕ) → k < length gs → length (getD gs k d .stamps) ≤ 1024) → Whole pagesStood d 0 gs
+        → ((k : ℕ) → k < length gs → length (getD gs k d .stamps) ≤ pageStamps) → Whole pagesStood d 0 gs
     whole-grids d gs n small k q =
         let e = length-stood k (omega arith) in
         ap (λ (j : ℕ). length (over (getD gs k d .stamps) (pagesStood j))) (zero-add k)
         ∙ length-over (getD gs k d .stamps) (pagesStood k) (omega (arith, small k q)) ∙ e
 
     -- the slice as it stands
-    pub stood : sets (l .stamps) (1024 * firstPageOf l i) (pagesFrom pagesStood 0 gridsAt) ≡ l .stamps
+    pub stood : sets (l .stamps) (pageStamps * firstPageOf l i) (pagesFrom pagesStood 0 gridsAt) ≡ l .stamps
     stood =
-        ap (sets (l .stamps) (1024 * firstPageOf l i)) (pages-of l i (some (firstPageOf l i)) (λ e. refl))
-        ∙ sets-self (l .stamps) (1024 * firstPageOf l i) (1024 * pagesUsed (stateOf l i)) (omega (arith, used-at))
+        ap (sets (l .stamps) (pageStamps * firstPageOf l i)) (pages-of l i (some (firstPageOf l i)) (λ e. refl))
+        ∙ sets-self (l .stamps) (pageStamps * firstPageOf l i) (pageStamps * pagesUsed (stateOf l i)) (omega (arith, used-at))

@@ -24,6 +24,8 @@ use Rattle.pool_memory.proofs.Runs.{records-model}
 use Rattle.pool_memory.proofs.Kept.{pagedOf}
 use Rattle.pool_memory.proofs.Rings.{retiring-same, doomed-same}
 use Rattle.pool_memory.proofs.Same.{book-same, textures-same, spares-same, newest-same, stamps-same, after-same}
+use Rattle.grid_shapes.specs.ShapeConstants.{mostShapeBytes}
+use Rattle.pool_records.specs.RecordConstants.{spareStride, textureStride}
 
 -- what a call leaves, slice by slice
 pub put-together : (p : Pool ℕ) (l : Lent) (c : Counts) (b : PacingBook) (textures retiring doomed spares newest stamps : List ℕ)
@@ -42,7 +44,7 @@ ascending-records (t ∷ []) = refl
 ascending-records (t ∷ u ∷ us) = ap (λ (b : Bool). ltb (t .id) (u .id) && b) (ascending-records (u ∷ us))
 
 -- the bytes of formed versions
-pub doomed-bound : {ds : List (Doomed ℕ)} → All DoomedFormed ds → doomedBytes ds ≤ 17592186044416 * length ds
+pub doomed-bound : {ds : List (Doomed ℕ)} → All DoomedFormed ds → doomedBytes ds ≤ mostShapeBytes * length ds
 unfolding total
 doomed-bound nil = omega arith
 doomed-bound (cons d ds) = omega (arith, d .bytes, doomed-bound ds)
@@ -51,10 +53,10 @@ module _ (l : Lent) (f : Fits l) where
   pub ids-ascend : ascending idOf (trackedRecords l) ≡ true
   ids-ascend = ap (ascending idOf) (sym (records-model l (f .bytes))) ∙ ascending-records (modelOf l .textures) ∙ ascending-passes (f .formed .ids)
 
-  pub textures-fit : 20 * l .pool .tracked ≤ length (l .textures)
+  pub textures-fit : textureStride * l .pool .tracked ≤ length (l .textures)
   textures-fit = omega (arith, f .textures, f .tracked)
 
-  pub spares-fit : 3 * total (λ (t : TextureRecord). t .spares) (trackedRecords l) ≤ length (l .spares)
+  pub spares-fit : spareStride * total (λ (t : TextureRecord). t .spares) (trackedRecords l) ≤ length (l .spares)
   spares-fit = omega (arith, f .spares, f .kept, f .versions)
 
   pub pages-fit : total recordPages (trackedRecords l) ≤ length (l .newest)

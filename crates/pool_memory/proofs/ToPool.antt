@@ -18,6 +18,7 @@ use Rattle.pool_memory.specs.IsPool.{sizesFit, countsFit, runsFit, markF
 use Rattle.pool_memory.proofs.FitsTests.{all-passes, ascending-passes, every}
 use Rattle.pool_memory.proofs.FitsGrids.{noGrid, grid-of}
 use Rattle.pool_memory.proofs.Fits.{Fits}
+use Rattle.pool_rules.specs.RuleConstants.{mostPlaces}
 
 grid-passes : {g : Tiling} {writes : ℕ} {grid : StampGrid} → GridFormed g writes grid → isGrid writes grid ≡ true
 unfolding isGrid
@@ -57,7 +58,7 @@ doomed-passes : (d : Doomed ℕ) → DoomedFormed d → isDoomed d ≡ true
 unfolding isDoomed
 doomed-passes d f = le-leb _ _ (f .bytes)
 
-arrival-passes : (n : ℕ) → n ≤ 4096 → isArrival n ≡ true
+arrival-passes : (n : ℕ) → n ≤ mostPlaces → isArrival n ≡ true
 unfolding isArrival
 arrival-passes n h = le-leb _ _ h
 

@@ -24,23 +24,24 @@ use Rattle.pool_memory.specs.IsPool.{bytesHold, bytesFit}
 use Rattle.pool_memory.proofs.Fits.{Fits}
 use Rattle.pool_memory.proofs.Runs.{sparesOf, firstSpare, firstPageOf, stateOf, tracked-records, tracked-model, model-at, bytes-held, record-state, pages-state}
 use Rattle.pool_memory.proofs.Changes.{count-state}
+use Rattle.pool_records.specs.RecordConstants.{textureStride}
 
 -- the record that the code reads
 abbrev pub textureAt : Lent → ℕ → TextureRecord
-textureAt l i = recordAt 20 readTexture (l .textures) i
+textureAt l i = recordAt textureStride readTexture (l .textures) i
 
 module _ (l : Lent) (i : ℕ) (h : i < l .pool .tracked) where
   pub record-read : getD (trackedRecords l) i (readTexture []) ≡ textureAt l i
-  record-read = getD-table 20 readTexture (l .pool .tracked) i (l .textures) (readTexture []) h
+  record-read = getD-table textureStride readTexture (l .pool .tracked) i (l .textures) (readTexture []) h
 
   -- its spares and its pages begin behind those of the textures before it
-  pub spares-to : firstSpare l i ≡ total sparesOf (table 20 readTexture i (l .textures))
+  pub spares-to : firstSpare l i ≡ total sparesOf (table textureStride readTexture i (l .textures))
   unfolding firstSpare
-  spares-to = ap (total sparesOf) (take-table 20 readTexture i (l .pool .tracked) (l .textures) (omega arith))
+  spares-to = ap (total sparesOf) (take-table textureStride readTexture i (l .pool .tracked) (l .textures) (omega arith))
 
-  pub pages-to : firstPageOf l i ≡ total recordPages (table 20 readTexture i (l .textures))
+  pub pages-to : firstPageOf l i ≡ total recordPages (table textureStride readTexture i (l .textures))
   unfolding firstPageOf
-  pages-to = ap (total recordPages) (take-table 20 readTexture i (l .pool .tracked) (l .textures) (omega arith))
+  pages-to = ap (total recordPages) (take-table textureStride readTexture i (l .pool .tracked) (l .textures) (omega arith))
 
   -- the record's bytes are those of one version of its shape
   bytes-tracked : Fits l → getD (trackedRecords l) i (readTexture []) .bytes ≡ bytesOf (getD (trackedRecords l) i (readTexture []) .shape)

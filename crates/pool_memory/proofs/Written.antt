@@ -31,6 +31,7 @@ use Rattle.pool_memory.proofs.Kept.{isHere, found-at}
 use Rattle.pool_memory.proofs.Same.{listed-run}
 use Rattle.pool_memory.proofs.Pages.{pagesAt, next-page, page-bound, pages-in, newest-repacked, stamps-repacked, set-parts}
 use Rattle.pool_memory.proofs.Stamped.{Whole, length-pages, page-stamped, gridsAt, pagesStood, used-at, length-grids, grid-of, has-pages, page-stood, length-stood, whole-read, stood}
+use Rattle.grid_stamps.specs.StampConstants.{pageStamps}
 
 -- what stands for a grid past the last
 abbrev pub noGrid : StampGrid
@@ -67,14 +68,14 @@ module _ (l : Lent) (i : ℕ) (h : WriteHistory) (e : stateOf l i .history ≡ s
 
 -- one grid changed, and its page whole
 pub whole-set : (before : ℕ → List ℕ) (d : StampGrid) (gs : List StampGrid) (k : ℕ) (g : StampGrid) → Whole before d 0 gs
-    → length (over (g .stamps) (before (0 + k))) ≡ 1024
+    → length (over (g .stamps) (before (0 + k))) ≡ pageStamps
     → Whole before d 0 (set gs k g)
 whole-set before d gs k g w q j h = go (ℕ-discrete j k)
   where
     m : j < length gs
     m = omega (arith, length-set gs k g)
 
-    go : Dec (j ≡ k) → length (over (getD (set gs k g) j d .stamps) (before (0 + j))) ≡ 1024
+    go : Dec (j ≡ k) → length (over (getD (set gs k g) j d .stamps) (before (0 + j))) ≡ pageStamps
     go (yes e) =
         ap (λ (n : ℕ). length (over (getD (set gs k g) n d .stamps) (before (0 + n)))) e
         ∙ ap (λ (x : StampGrid). length (over (x .stamps) (before (0 + k)))) (getD-set-same gs k g d (omega (arith, m))) ∙ q
@@ -124,7 +125,7 @@ module _ (l : Lent) (p : Pool ℕ) (pages : total recordPages (trackedRecords l)
   -- ---- stamps
 
   module _ (up : ascending idOf (trackedRecords l) ≡ true) (id : t .id ≡ stateOf l i .id) (shape : t .shape ≡ stateOf l i .shape)
-      (fits : 1024 * l .pool .pages ≤ length (l .stamps)) where
+      (fits : pageStamps * l .pool .pages ≤ length (l .stamps)) where
     found-page : hasHistory (stateOf l i .history) ≡ true → firstPage (t .id) (t .shape) 0 (modelOf l .textures) ≡ some (firstPageOf l i)
     found-page has =
         found-at l up (stateOf l 0) i h (t .id) (t .shape)
@@ -137,33 +138,33 @@ module _ (l : Lent) (p : Pool ℕ) (pages : total recordPages (trackedRecords l)
 
     pub stamps-rewritten : (d : StampGrid) → hasHistory (stateOf l i .history) ≡ true → length (gridsOf (t .history)) ≡ pagesAt l i
         → Whole (pagesStood l i) d 0 (gridsOf (t .history))
-        → sets (l .stamps) (1024 * firstPageOf l i) (pagesFrom (pagesStood l i) 0 (gridsOf (t .history))) ≡ stampsAfter p l
+        → sets (l .stamps) (pageStamps * firstPageOf l i) (pagesFrom (pagesStood l i) 0 (gridsOf (t .history))) ≡ stampsAfter p l
     stamps-rewritten d has n w =
-        let a = 1024 * firstPageOf l i in
-        let b = 1024 * firstPageOf l (suc i) in
-        let r = 1024 * (l .pool .pages - firstPageOf l (suc i)) in
+        let a = pageStamps * firstPageOf l i in
+        let b = pageStamps * firstPageOf l (suc i) in
+        let r = pageStamps * (l .pool .pages - firstPageOf l (suc i)) in
         let new = pagesFrom (pagesStood l i) 0 (gridsOf (t .history)) in
-        let long : length new ≡ 1024 * pagesAt l i = length-pages (pagesStood l i) d 0 (gridsOf (t .history)) w ∙ ap (λ (m : ℕ). 1024 * m) n in
+        let long : length new ≡ pageStamps * pagesAt l i = length-pages (pagesStood l i) d 0 (gridsOf (t .history)) w ∙ ap (λ (m : ℕ). pageStamps * m) n in
         let next : a + length new ≡ b = omega (arith, next-page l i h) in
         ap (λ (s : List ℕ). sets s a new) (sym (moved-self (l .stamps) b r))
         ∙ ap (λ (m : ℕ). sets (moved (l .stamps) m b r) a new) (sym next)
         ∙ stamps-repacked l p pages i (suc i) (t ∷ []) (omega arith) (set-parts l p i h t e) up new (one-pages has) fits
         (omega (arith, page-bound l pages (suc i)))
 
-    pub stamps-stamped : (k : ℕ) (g : StampGrid) → k < pagesAt l i → gridsOf (t .history) ≡ set (gridsAt l i) k g → length (g .stamps) ≤ 1024
-        → take (1024 * (firstPageOf l i + k)) (l .stamps)
-        ++ (over (g .stamps) (take 1024 (drop (1024 * (firstPageOf l i + k)) (l .stamps))) ++ drop (1024 * (firstPageOf l i + k) + 1024) (l .stamps))
+    pub stamps-stamped : (k : ℕ) (g : StampGrid) → k < pagesAt l i → gridsOf (t .history) ≡ set (gridsAt l i) k g → length (g .stamps) ≤ pageStamps
+        → take (pageStamps * (firstPageOf l i + k)) (l .stamps)
+        ++ (over (g .stamps) (take pageStamps (drop (pageStamps * (firstPageOf l i + k)) (l .stamps))) ++ drop (pageStamps * (firstPageOf l i + k) + pageStamps) (l .stamps))
         ≡ stampsAfter p l
     stamps-stamped k g q f small =
-        let a = 1024 * firstPageOf l i in
-        let inside : 1024 * (firstPageOf l i + pagesAt l i) ≤ length (l .stamps) = omega (arith, pages-in l pages i h) in
+        let a = pageStamps * firstPageOf l i in
+        let inside : pageStamps * (firstPageOf l i + pagesAt l i) ≤ length (l .stamps) = omega (arith, pages-in l pages i h) in
         let n = length-grids l i in
         let w = whole-read l i inside noGrid in
         let lk = length-stood l i inside k q in
-        let page : length (over (g .stamps) (pagesStood l i k)) ≡ 1024 = length-over (g .stamps) (pagesStood l i k) (omega arith) ∙ lk in
-        ap₂ (λ (m : ℕ) (x : List ℕ). take m (l .stamps) ++ (over (g .stamps) x ++ drop (m + 1024) (l .stamps)))
-        (let y : 1024 * (firstPageOf l i + k) ≡ a + 1024 * k = omega arith in y) (sym (page-stood l i k))
-        ∙ ap (λ (s : List ℕ). take (a + 1024 * k) s ++ (over (g .stamps) (pagesStood l i k) ++ drop (a + 1024 * k + 1024) s)) (sym (stood l i inside))
+        let page : length (over (g .stamps) (pagesStood l i k)) ≡ pageStamps = length-over (g .stamps) (pagesStood l i k) (omega arith) ∙ lk in
+        ap₂ (λ (m : ℕ) (x : List ℕ). take m (l .stamps) ++ (over (g .stamps) x ++ drop (m + pageStamps) (l .stamps)))
+        (let y : pageStamps * (firstPageOf l i + k) ≡ a + pageStamps * k = omega arith in y) (sym (page-stood l i k))
+        ∙ ap (λ (s : List ℕ). take (a + pageStamps * k) s ++ (over (g .stamps) (pagesStood l i k) ++ drop (a + pageStamps * k + pageStamps) s)) (sym (stood l i inside))
         ∙ page-stamped (l .stamps) a (pagesStood l i) noGrid (gridsAt l i) w (omega arith) k (omega arith) g page
         ∙ ap (λ (gs : List StampGrid). sets (l .stamps) a (pagesFrom (pagesStood l i) 0 gs)) (sym f)
         ∙ stamps-rewritten noGrid (has-pages l i k q) (ap length f ∙ length-set (gridsAt l i) k g ∙ n)

@@ -32,6 +32,8 @@ use Rattle.pool_memory.specs.Lent.{Lent}
 use Rattle.pool_memory.specs.Reading.{modelOf}
 use Rattle.pool_memory.specs.Writing.{after}
 use Rattle.pool_memory.specs.IsPool.{isPool, sizesFit}
+use Rattle.pool_memory.specs.MemoryConstants.{copyStride}
+use Rattle.pool_rules.specs.RuleConstants.{destroySpreadDrains}
 
 -- ---- opening
 
@@ -55,7 +57,7 @@ openedPool working = record {
 }
 
 unfoldable pub openedBook : PacingBook
-openedBook = record { arrivals = replicate 8 0; slot = 0; pressed = 0; excess = 0 }
+openedBook = record { arrivals = replicate destroySpreadDrains 0; slot = 0; pressed = 0; excess = 0 }
 
 -- 1 to 4,096 texture places, 1 to 4,096 version places, 0 to 4,096 pages; the slices keep what they hold
 unfoldable pub openNumber : Lent → ℕ
@@ -144,7 +146,7 @@ copyNumbers c = c .slice ∷ c .level ∷ regionNumbers (c .region)
 
 unfoldable pub preservePlanCall : Lent → List ℕ → ℕ → VersionShape → Held → UploadFootprint → Told ℕ × (List ℕ × Lent)
 preservePlanCall l buffer id shape held u =
-    inBuffer copyNumbers buffer (asked (λ a. a) l (λ (p : Pool ℕ). preservePlan p id shape held u (length buffer / 7)))
+    inBuffer copyNumbers buffer (asked (λ a. a) l (λ (p : Pool ℕ). preservePlan p id shape held u (length buffer / copyStride)))
 
 -- one view number an entry
 abbrev pub viewNumbers : ℕ → List ℕ

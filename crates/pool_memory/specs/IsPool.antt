@@ -16,16 +16,20 @@ use Rattle.pool_rules.specs.Open.{arePlaces}
 use Rattle.pool_records.specs.declared.texture.TextureRecord.{TextureRecord}
 use Rattle.pool_memory.specs.Lent.{Lent, versionPlaces}
 use Rattle.pool_memory.specs.Reading.{trackedRecords, recordPages, modelOf}
+use Rattle.grid_shapes.specs.ShapeConstants.{mostShapeBytes}
+use Rattle.grid_stamps.specs.StampConstants.{pageStamps}
+use Rattle.pool_records.specs.RecordConstants.{doomedStride, retiringStride, spareStride, textureStride}
+use Rattle.pool_rules.specs.RuleConstants.{destroySpreadDrains, mostPlaces}
 
 -- the slices' lengths are those of whole places, as many as may be lent, and fit together
 unfoldable pub sizesFit : Lent → Bool
 sizesFit l = tests (
     arePlaces (modelOf l .places)
-    ∷ eqb (length (l .textures)) (20 * modelOf l .places .textures)
-    ∷ eqb (length (l .retiring)) (7 * versionPlaces l)
-    ∷ eqb (length (l .doomed)) (2 * versionPlaces l)
-    ∷ eqb (length (l .spares)) (3 * versionPlaces l)
-    ∷ eqb (length (l .stamps)) (1024 * length (l .newest)) ∷ [])
+    ∷ eqb (length (l .textures)) (textureStride * modelOf l .places .textures)
+    ∷ eqb (length (l .retiring)) (retiringStride * versionPlaces l)
+    ∷ eqb (length (l .doomed)) (doomedStride * versionPlaces l)
+    ∷ eqb (length (l .spares)) (spareStride * versionPlaces l)
+    ∷ eqb (length (l .stamps)) (pageStamps * length (l .newest)) ∷ [])
 
 -- the counts fit their places: no more textures, versions and pages than places, one version at most in the hand, and both rings begin inside theirs
 unfoldable pub countsFit : Lent → Bool
@@ -88,17 +92,17 @@ isState t = tests (
 -- no version's bytes pass 2^44
 unfoldable pub isRetiring : Retiring ℕ → Bool
 isRetiring v = tests (
-    leb (v .seq) limit ∷ leb (v .epoch) limit ∷ leb (v .birth) limit ∷ leb (v .held) limit ∷ leb (v .bytes) 17592186044416 ∷ [])
+    leb (v .seq) limit ∷ leb (v .epoch) limit ∷ leb (v .birth) limit ∷ leb (v .held) limit ∷ leb (v .bytes) mostShapeBytes ∷ [])
 
 abbrev pub isHand : Option (Retiring ℕ) → Bool
 isHand none = true
 isHand (some v) = isRetiring v
 
 unfoldable pub isDoomed : Doomed ℕ → Bool
-isDoomed d = leb (d .bytes) 17592186044416
+isDoomed d = leb (d .bytes) mostShapeBytes
 
 unfoldable pub isArrival : ℕ → Bool
-isArrival n = leb n 4096
+isArrival n = leb n mostPlaces
 
 unfoldable pub isFormed : Pool ℕ → Bool
 isFormed p = tests (
@@ -111,8 +115,8 @@ isFormed p = tests (
     ∷ eqb (p .parked) (total spareBytes (p .textures))
     ∷ eqb (p .dooming) (doomedBytes (p .doomed))
     ∷ leb (p .parked) (p .budget .cap)
-    ∷ ltb (p .pacing .slot) 8
-    ∷ eqb (length (p .pacing .arrivals)) 8
+    ∷ ltb (p .pacing .slot) destroySpreadDrains
+    ∷ eqb (length (p .pacing .arrivals)) destroySpreadDrains
     ∷ all isArrival (p .pacing .arrivals)
     ∷ leb (p .since) (length (p .doomed)) ∷ [])
 

@@ -13,6 +13,7 @@ use mathlib.Core.List.{List}
 use lib.ListN.{length}
 use Rattle.pool_memory.specs.declared.pool.Pool.{Pool}
 use Rattle.pool_memory.specs.declared.book.PacingBook.{PacingBook}
+use Rattle.pool_records.specs.RecordConstants.{retiringStride}
 
 pub record Lent : Type 0 where
   pub pool : Pool
@@ -38,4 +39,4 @@ lent pool book textures retiring doomed spares newest stamps = record {
 
 -- how many versions the lent slices have places for
 unfoldable pub versionPlaces : Lent → ℕ
-versionPlaces l = length (l .retiring) / 7
+versionPlaces l = length (l .retiring) / retiringStride

@@ -1,3 +1,4 @@
+pub mod MemoryConstants
 pub mod Lent
 pub mod Reading
 pub mod Writing

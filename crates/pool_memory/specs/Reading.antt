@@ -19,16 +19,18 @@ use Rattle.pool_records.specs.Retiring.{readRetiring}
 use Rattle.pool_records.specs.Doomed.{readDoomed}
 use Rattle.pool_records.specs.Views.{spareOf, retiringOf, doomedOf}
 use Rattle.pool_memory.specs.Lent.{Lent, versionPlaces}
+use Rattle.grid_stamps.specs.StampConstants.{pageStamps}
+use Rattle.pool_records.specs.RecordConstants.{doomedStride, retiringStride, spareStride, textureStride}
 
 -- the records of the tracked textures
 abbrev pub trackedRecords : Lent → List TextureRecord
-trackedRecords l = table 20 readTexture (l .pool .tracked) (l .textures)
+trackedRecords l = table textureStride readTexture (l .pool .tracked) (l .textures)
 
 -- ---- histories
 
 -- page k of the stamps
 abbrev pub pageAt : List ℕ → ℕ → List ℕ
-pageAt stamps k = take 1024 (drop (1024 * k) stamps)
+pageAt stamps k = take pageStamps (drop (pageStamps * k) stamps)
 
 -- the k-th grid of a history whose first page is `page`: slice by slice, level by level
 unfoldable pub gridRead : Lent → VersionShape → ℕ → ℕ → StampGrid
@@ -49,7 +51,7 @@ recordPages t = recordedPages (t .history) (t .shape)
 -- ---- textures
 
 unfoldable pub spareRead : Lent → ℕ → Spare ℕ
-spareRead l k = spareOf (recordAt 3 readSpare (l .spares) k)
+spareRead l k = spareOf (recordAt spareStride readSpare (l .spares) k)
 
 -- the state of a texture whose spares begin at place `first` and whose pages at `page`
 unfoldable pub stateRead : Lent → ℕ → ℕ → TextureRecord → VersionState ℕ
@@ -72,7 +74,7 @@ statesRead l first page (t ∷ ts) = stateRead l first page t ∷ statesRead l (
 -- ---- the rings
 
 unfoldable pub retiringRead : Lent → ℕ → Retiring ℕ
-retiringRead l k = retiringOf (along 7 readRetiring (versionPlaces l) (l .pool .head) (l .retiring) k)
+retiringRead l k = retiringOf (along retiringStride readRetiring (versionPlaces l) (l .pool .head) (l .retiring) k)
 
 -- the ring's front, where a version is in the hand
 abbrev pub handRead : Lent → ℕ → Option (Retiring ℕ)
@@ -80,7 +82,7 @@ handRead l zero = none
 handRead l (suc n) = some (retiringRead l 0)
 
 unfoldable pub doomedRead : Lent → ℕ → Doomed ℕ
-doomedRead l k = doomedOf (along 2 readDoomed (versionPlaces l) (l .pool .first) (l .doomed) k)
+doomedRead l k = doomedOf (along doomedStride readDoomed (versionPlaces l) (l .pool .first) (l .doomed) k)
 
 -- ---- the pool
 
@@ -94,7 +96,7 @@ modelOf l = record {
   trackings = l .pool .trackings;
   parked = l .pool .parked;
   dooming = l .pool .dooming;
-  places = record { textures = length (l .textures) / 20; versions = versionPlaces l; pages = length (l .newest) };
+  places = record { textures = length (l .textures) / textureStride; versions = versionPlaces l; pages = length (l .newest) };
   budget = record { cap = l .pool .cap; line = l .pool .line };
   pacing = record { arrivals = l .book .arrivals; slot = l .book .slot; pressed = eqb (l .book .pressed) 1; excess = l .book .excess };
 }

@@ -26,6 +26,8 @@ use Rattle.pool_memory.specs.declared.pool.Pool.{Pool as Counts}
 use Rattle.pool_memory.specs.declared.book.PacingBook.{PacingBook}
 use Rattle.pool_memory.specs.Lent.{Lent, lent, versionPlaces}
 use Rattle.pool_memory.specs.Reading.{pageAt, modelOf}
+use Rattle.grid_stamps.specs.StampConstants.{pageStamps}
+use Rattle.pool_records.specs.RecordConstants.{doomedStride, retiringStride}
 
 -- ---- records
 
@@ -87,7 +89,7 @@ firstPage id shape page (t ∷ ts) =
     cond (eqb (t .id) id && sameShape (t .shape) shape && hasHistory (t .history)) (some page) (firstPage id shape (page + pagesUsed t) ts)
 
 unfoldable pub pageBefore : Lent → Option ℕ → ℕ → List ℕ
-pageBefore l none k = replicate 1024 0
+pageBefore l none k = replicate pageStamps 0
 pageBefore l (some page) k = pageAt (l .stamps) (page + k)
 
 -- the grids' stamps, each laid over its page as it stood
@@ -111,13 +113,13 @@ handList none = []
 handList (some v) = v ∷ []
 
 unfoldable pub retiringAfter : Pool ℕ → Lent → List ℕ
-retiringAfter p l = laid 7 writeRetiring (versionPlaces l) (headAfter p l) 0 (map retiringRecord (handList (p .hand) ++ p .retiring)) (l .retiring)
+retiringAfter p l = laid retiringStride writeRetiring (versionPlaces l) (headAfter p l) 0 (map retiringRecord (handList (p .hand) ++ p .retiring)) (l .retiring)
 
 unfoldable pub firstAfter : Pool ℕ → Lent → ℕ
 firstAfter p l = placeOf (versionPlaces l) (l .pool .first) (l .pool .doomed - length (p .doomed))
 
 unfoldable pub doomedAfter : Pool ℕ → Lent → List ℕ
-doomedAfter p l = laid 2 writeDoomed (versionPlaces l) (firstAfter p l) 0 (map doomedRecord (p .doomed)) (l .doomed)
+doomedAfter p l = laid doomedStride writeDoomed (versionPlaces l) (firstAfter p l) 0 (map doomedRecord (p .doomed)) (l .doomed)
 
 -- ---- all of it
 

@@ -3,9 +3,11 @@
 // pool; its laws are what the calls are proved by.
 mod answer;
 mod book;
+mod constants;
 mod pool;
 
 pub use answer::DoneAnswer;
 pub use book::PacingBook;
+pub use constants::COPY_STRIDE;
 pub use pool::Pool;
 pub use pool::same_counts;

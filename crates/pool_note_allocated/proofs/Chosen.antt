@@ -36,6 +36,8 @@ use Rattle.pool_relief_line.proofs.Picked.{all-picked, freed-append}
 use Rattle.pool_relief_line.proofs.ByLine.{agedAll, aged-append, before-run, at-run, gives-among, aged-bytes}
 use Rattle.pool_relief_line.proofs.Parked.{length-parkings, gives-most, gives-sum, before-most}
 use Rattle.pool_note_allocated.proofs.Thinned.{state-spares, take-next}
+use Rattle.grid_shapes.specs.ShapeConstants.{mostShapeBytes}
+use Rattle.pool_records.specs.RecordConstants.{textureStride}
 
 -- ---- bytes of one texture's spares
 
@@ -59,7 +61,7 @@ state-at-line t line freed excess =
 
 module _ (l : Lent) where
   abbrev recordOf : ℕ → TextureRecord
-  recordOf i = recordAt 20 readTexture (l .textures) i
+  recordOf i = recordAt textureStride readTexture (l .textures) i
 
   -- how many were picked of a texture
   abbrev pub share : ℕ → VersionState ℕ → ℕ
@@ -77,9 +79,9 @@ module _ (l : Lent) where
   run-parkings first n = map-listed parkedOf (spareRead l) first n
 
   pub state-parkings : (i : ℕ) → i < l .pool .tracked
-      → map parkedOf (stateOf l i .spares) ≡ parkings (l .spares) (firstSpare l i) (recordAt 20 readTexture (l .textures) i .spares)
+      → map parkedOf (stateOf l i .spares) ≡ parkings (l .spares) (firstSpare l i) (recordAt textureStride readTexture (l .textures) i .spares)
   state-parkings i h =
-      ap (map parkedOf) (state-spares l i h) ∙ run-parkings (firstSpare l i) (recordAt 20 readTexture (l .textures) i .spares)
+      ap (map parkedOf) (state-spares l i h) ∙ run-parkings (firstSpare l i) (recordAt textureStride readTexture (l .textures) i .spares)
 
   run-bytes : (line first page : ℕ) (t : TextureRecord)
       → bytesOf (stateRead l first page t .shape) * countBefore line (map parkedOf (stateRead l first page t .spares))
@@ -107,11 +109,11 @@ module _ (l : Lent) where
     records-shaped : All (λ (t : TextureRecord). isShape (t .shape) ≡ true) (trackedRecords l)
     records-shaped = rw (records-model l (f .bytes)) at (all-map {Q = λ (t : TextureRecord). isShape (t .shape) ≡ true} textureRecord (λ t q. q .shape) (f .formed .textures))
 
-    bytes-most : {ts : List TextureRecord} → All (λ (t : TextureRecord). isShape (t .shape) ≡ true) ts → total recordBytes ts ≤ 17592186044416 * total recordSpares ts
+    bytes-most : {ts : List TextureRecord} → All (λ (t : TextureRecord). isShape (t .shape) ≡ true) ts → total recordBytes ts ≤ mostShapeBytes * total recordSpares ts
     unfolding total
     bytes-most nil = omega arith
     bytes-most (cons {x = t} p ps) =
-        omega (arith, bytes-most ps, mul-le-mul-right {m = bytesOf (t .shape)} {n = 17592186044416} (t .spares) (bytes-bound (t .shape) p))
+        omega (arith, bytes-most ps, mul-le-mul-right {m = bytesOf (t .shape)} {n = mostShapeBytes} (t .spares) (bytes-bound (t .shape) p))
 
     pub countable : Countable (l .textures) (l .pool .tracked) (l .spares)
     countable = record {
@@ -203,7 +205,7 @@ module _ (l : Lent) where
             freed-next i h,
             mul-le-mul-left {m = n} {n = recordOf i .spares} b le,
             total-next recordBytes (trackedRecords l) i (readTexture []) (omega (arith, tracked-records l)),
-            ap recordBytes (getD-table 20 readTexture (l .pool .tracked) i (l .textures) (readTexture []) h),
+            ap recordBytes (getD-table textureStride readTexture (l .pool .tracked) i (l .textures) (readTexture []) h),
           )
 
       pub freed-fits : (i : ℕ) → i < l .pool .tracked → freedTo excess line i + bytesOf (recordOf i .shape) * recordOf i .spares ≤ 216172782113783808
@@ -212,7 +214,7 @@ module _ (l : Lent) where
             arith,
             freed-most i (omega arith),
             total-within recordBytes (trackedRecords l) i (readTexture []) (omega (arith, tracked-records l)),
-            ap recordBytes (getD-table 20 readTexture (l .pool .tracked) i (l .textures) (readTexture []) h),
+            ap recordBytes (getD-table textureStride readTexture (l .pool .tracked) i (l .textures) (readTexture []) h),
             countable .bytes,
             dooming-most,
             before-most (l .spares) line 0 (trackedRecords l),

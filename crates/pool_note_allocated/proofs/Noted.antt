@@ -34,20 +34,22 @@ use Rattle.pool_memory.proofs.Asked.{asked-accepted}
 use Rattle.pool_note_allocated.specs.NoteAllocated.{relievedPool, givenUp, Relieves, countsAfter, notedBook}
 use Rattle.pool_relief_line.proofs.Picked.{picked-none}
 use Rattle.pool_note_allocated.proofs.Chosen.{share, dooming-most}
+use Rattle.grid_shapes.specs.ShapeConstants.{mostShapeBytes}
+use Rattle.pool_rules.specs.RuleConstants.{mostPlaces}
 
 -- textures that give up spares keep what their pages depend on
 paged-lessened : (k : VersionState ℕ → ℕ) (ts : List (VersionState ℕ)) → map pagedOf (map (lessened k) ts) ≡ map pagedOf ts
 paged-lessened k [] = refl
 paged-lessened k (t ∷ ts) = ap (λ xs. pagedOf t ∷ xs) (paged-lessened k ts)
 
-spare-bytes-most : {ts : List (VersionState ℕ)} → All StateFormed ts → total spareBytes ts ≤ 17592186044416 * total spareCount ts
+spare-bytes-most : {ts : List (VersionState ℕ)} → All StateFormed ts → total spareBytes ts ≤ mostShapeBytes * total spareCount ts
 unfolding total
 spare-bytes-most nil = omega arith
 spare-bytes-most (cons {x = t} p ps) =
     omega (
       arith,
       spare-bytes-most ps,
-      mul-le-mul-right {m = bytesOf (t .shape)} {n = 17592186044416} (length (t .spares)) (bytes-bound (t .shape) (p .shape)),
+      mul-le-mul-right {m = bytesOf (t .shape)} {n = mostShapeBytes} (length (t .spares)) (bytes-bound (t .shape) (p .shape)),
     )
 
 -- a test's number in the code is the mark's
@@ -98,7 +100,7 @@ module _ (l : Lent) (f : Fits l) (allocated : ℕ) where
 
   -- what the sums of the counts ask for
   pub counts-need : {kept bytes : ℕ} → kept ≡ poolAfter (relievedPool excess l) l .kept → bytes ≡ doomedBytes (givenUp excess l)
-      → (kept ≤ l .pool .kept) × (l .pool .doomed + l .pool .kept ≤ 4096) × (l .pool .since ≤ 4096) × (bytes ≤ l .pool .parked) × (l .pool .dooming + bytes < 2 ^ 64)
+      → (kept ≤ l .pool .kept) × (l .pool .doomed + l .pool .kept ≤ mostPlaces) × (l .pool .since ≤ mostPlaces) × (bytes ≤ l .pool .parked) × (l .pool .dooming + bytes < 2 ^ 64)
   counts-need {kept} {bytes} e g =
       let le : bytes ≤ l .pool .parked = omega (arith, g, given-bytes (share l excess) (modelOf l .textures), parked-counted) in (
         omega (arith, e, kept-counted),

@@ -33,6 +33,7 @@ use Rattle.pool_relief_line.specs.Parked.{parkedAt, parkings, bytesFrom}
 use Rattle.pool_note_allocated.specs.NoteAllocated.{relievedPool, givenUp, Relieves}
 use Rattle.pool_note_allocated.proofs.Thinned.{first-next, texturesTo, sparesTo, doomedTo, keptTo, bytesTo, textures-next, record-next, kept-most, kept-next, spares-next, spare-next, doomed-next, bytes-next, none-given, none-counted, all-given}
 use Rattle.pool_note_allocated.proofs.Chosen.{share, freedTo, countable, share-gives, share-most, freed-next, freed-fits}
+use Rattle.pool_records.specs.RecordConstants.{doomedStride, spareStride, textureSparesAt, textureStride}
 
 -- the numbers and slices as they are when the first i textures have given what was picked of them
 pub record Progress (l : Lent) (excess line i from kept bytes sum : ℕ) (textures doomed spares : List ℕ) : Type 0 where
@@ -73,19 +74,19 @@ module _ (l : Lent) (excess line : ℕ) where
       {i from kept bytes sum : ℕ} {textures doomed spares : List ℕ} (p : Progress l excess line i from kept bytes sum textures doomed spares)
       (h : i < l .pool .tracked) where
     abbrev here : TextureRecord
-    here = recordAt 20 readTexture textures i
+    here = recordAt textureStride readTexture textures i
 
     -- the record that is read is the one that stood there
-    same-record : here ≡ recordAt 20 readTexture (l .textures) i
-    same-record = ap (λ (s : List ℕ). recordAt 20 readTexture s i) (p .records) ∙ record-next l (share l excess) i (p .most)
+    same-record : here ≡ recordAt textureStride readTexture (l .textures) i
+    same-record = ap (λ (s : List ℕ). recordAt textureStride readTexture s i) (p .records) ∙ record-next l (share l excess) i (p .most)
 
-    within : firstSpare l i + recordAt 20 readTexture (l .textures) i .spares ≤ l .pool .kept
+    within : firstSpare l i + recordAt textureStride readTexture (l .textures) i .spares ≤ l .pool .kept
     unfolding firstSpare
     within = omega (arith, first-next l i h, total-cut sparesOf (suc i) (trackedRecords l), f .kept)
 
     -- what a turn asks for
-    pub turn-needs : (20 * i + 20 ≤ length textures) × (isShape (here .shape) ≡ true) × (2 * versionPlaces l ≤ length doomed) × (l .pool .first < versionPlaces l)
-        × (l .pool .doomed + (from - kept) + here .spares ≤ versionPlaces l) × (3 * (from + here .spares) ≤ length spares) × (kept ≤ from)
+    pub turn-needs : (textureStride * i + textureStride ≤ length textures) × (isShape (here .shape) ≡ true) × (doomedStride * versionPlaces l ≤ length doomed) × (l .pool .first < versionPlaces l)
+        × (l .pool .doomed + (from - kept) + here .spares ≤ versionPlaces l) × (spareStride * (from + here .spares) ≤ length spares) × (kept ≤ from)
         × (sum + bytesOf (here .shape) * here .spares < 2 ^ 64)
     turn-needs =
         let r = same-record in
@@ -112,15 +113,15 @@ module _ (l : Lent) (excess line : ℕ) where
     module _ {n count given freed : ℕ} {textures′ doomed′ spares′ : List ℕ} (had : n ≡ here .spares)
         (gave : count ≡ gives sum excess (bytesOf (here .shape)) line (parkings spares from n)) (bytes-given : given ≡ bytesOf (here .shape) * count)
         (freed-by : freed ≡ sum + bytesOf (here .shape) * takenAt sum excess (bytesOf (here .shape)) line (parkings spares from n))
-        (t : textures′ ≡ set textures (20 * i + 18) (n - count))
-        (d : doomed′ ≡ laid 2 writeDoomed (versionPlaces l) (l .pool .first) (l .pool .doomed + (from - kept)) (givenRecords spares (bytesOf (here .shape)) from count) doomed)
-        (s : spares′ ≡ moved spares (3 * kept) (3 * (from + count)) (3 * (n - count)))
+        (t : textures′ ≡ set textures (textureStride * i + textureSparesAt) (n - count))
+        (d : doomed′ ≡ laid doomedStride writeDoomed (versionPlaces l) (l .pool .first) (l .pool .doomed + (from - kept)) (givenRecords spares (bytesOf (here .shape)) from count) doomed)
+        (s : spares′ ≡ moved spares (spareStride * kept) (spareStride * (from + count)) (spareStride * (n - count)))
         (long-t : length textures′ ≡ length textures) (long-d : length doomed′ ≡ length doomed) (long-s : length spares′ ≡ length spares) where
       abbrev k : VersionState ℕ → ℕ
       k = share l excess
 
       abbrev stood : TextureRecord
-      stood = recordAt 20 readTexture (l .textures) i
+      stood = recordAt textureStride readTexture (l .textures) i
 
       had-stood : n ≡ stood .spares
       had-stood = had ∙ ap (λ (r : TextureRecord). r .spares) same-record
@@ -140,22 +141,22 @@ module _ (l : Lent) (excess line : ℕ) where
       le : k (stateOf l i) ≤ stood .spares
       le = share-most l f excess line L i h
 
-      ring-turn : laid 2 writeDoomed (versionPlaces l) (l .pool .first) (l .pool .doomed + (from - kept)) (givenRecords spares (bytesOf (here .shape)) from count) doomed
+      ring-turn : laid doomedStride writeDoomed (versionPlaces l) (l .pool .first) (l .pool .doomed + (from - kept)) (givenRecords spares (bytesOf (here .shape)) from count) doomed
           ≡ doomedTo l k (suc i)
       ring-turn =
           let place : ℕ → List ℕ → ℕ → ℕ → ℕ → List ℕ → List ℕ =
-          λ m ss b x c ds. laid 2 writeDoomed (versionPlaces l) (l .pool .first) (l .pool .doomed + m) (givenRecords ss b x c) ds in
+          λ m ss b x c ds. laid doomedStride writeDoomed (versionPlaces l) (l .pool .first) (l .pool .doomed + m) (givenRecords ss b x c) ds in
           ap₂ (λ (x y : ℕ). place (x - y) spares (bytesOf (here .shape)) from count doomed) (p .first) (p .packed)
           ∙ ap₂ (λ (ss : List ℕ) (b : ℕ). place (firstSpare l i - keptTo l k i) ss b from count doomed) (p .runs) shape-stood
           ∙ ap₂ (λ (x c : ℕ). place (firstSpare l i - keptTo l k i) (sparesTo l k i) (bytesOf (stood .shape)) x c doomed) (p .first) count-share
           ∙ ap (place (firstSpare l i - keptTo l k i) (sparesTo l k i) (bytesOf (stood .shape)) (firstSpare l i) (k (stateOf l i))) (p .ring)
           ∙ doomed-next l k i h le
 
-      runs-turn : moved spares (3 * kept) (3 * (from + count)) (3 * (n - count)) ≡ sparesTo l k (suc i)
+      runs-turn : moved spares (spareStride * kept) (spareStride * (from + count)) (spareStride * (n - count)) ≡ sparesTo l k (suc i)
       runs-turn =
-          ap₂ (λ (ss : List ℕ) (x : ℕ). moved ss (3 * x) (3 * (from + count)) (3 * (n - count))) (p .runs) (p .packed)
-          ∙ ap₂ (λ (x c : ℕ). moved (sparesTo l k i) (3 * keptTo l k i) (3 * (x + c)) (3 * (n - count))) (p .first) count-share
-          ∙ ap₂ (λ (m c : ℕ). moved (sparesTo l k i) (3 * keptTo l k i) (3 * (firstSpare l i + k (stateOf l i))) (3 * (m - c))) had-stood count-share
+          ap₂ (λ (ss : List ℕ) (x : ℕ). moved ss (spareStride * x) (spareStride * (from + count)) (spareStride * (n - count))) (p .runs) (p .packed)
+          ∙ ap₂ (λ (x c : ℕ). moved (sparesTo l k i) (spareStride * keptTo l k i) (spareStride * (x + c)) (spareStride * (n - count))) (p .first) count-share
+          ∙ ap₂ (λ (m c : ℕ). moved (sparesTo l k i) (spareStride * keptTo l k i) (spareStride * (firstSpare l i + k (stateOf l i))) (spareStride * (m - c))) had-stood count-share
           ∙ spares-next l k i h le (omega (arith, within, f .versions, f .spares))
 
       turn : Progress l excess line (suc i) (from + n) (kept + (n - count)) (bytes + given) freed textures′ doomed′ spares′
@@ -168,7 +169,7 @@ module _ (l : Lent) (excess line : ℕ) where
             freed-by ∙ ap₂ (λ (b : ℕ) (ps : List ℕ). sum + b * takenAt sum excess b line ps) shape-stood numbers-stood
             ∙ ap (λ (m : ℕ). m + bytesOf (stood .shape) * takenAt m excess (bytesOf (stood .shape)) line (parkings (l .spares) (firstSpare l i) (stood .spares))) (p .freed)
             ∙ freed-next l f excess line L i h;
-        records = t ∙ ap₂ (λ (a : List ℕ) (v : ℕ). set a (20 * i + 18) v) (p .records) (ap₂ (λ (a b : ℕ). a - b) had-stood count-share) ∙ textures-next l k i h f;
+        records = t ∙ ap₂ (λ (a : List ℕ) (v : ℕ). set a (textureStride * i + textureSparesAt) v) (p .records) (ap₂ (λ (a b : ℕ). a - b) had-stood count-share) ∙ textures-next l k i h f;
         ring = d ∙ ring-turn;
         runs = s ∙ runs-turn;
         textured = long-t ∙ p .textured;
@@ -208,7 +209,7 @@ module _ (l : Lent) (f : Fits l) (excess line : ℕ) {i from kept bytes sum : �
   doomed-all : doomedTo l part i ≡ doomedAfter (relievedPool excess l) l
   unfolding doomedTo
   doomed-all =
-      ap (λ (ts : List (VersionState ℕ)). laid 2 writeDoomed (versionPlaces l) (l .pool .first) (l .pool .doomed) (map doomedRecord (flatMap (given part) ts)) (l .doomed)) all-there
+      ap (λ (ts : List (VersionState ℕ)). laid doomedStride writeDoomed (versionPlaces l) (l .pool .first) (l .pool .doomed) (map doomedRecord (flatMap (given part) ts)) (l .doomed)) all-there
       ∙ doomed-pushed l (relievedPool excess l) (f .first) (omega (arith, f .doomed)) (doomed-fit l f) (givenUp excess l) refl
 
   pub progress-end : Relieves l excess kept bytes textures doomed spares

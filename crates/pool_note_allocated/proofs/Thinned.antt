@@ -36,11 +36,12 @@ use Rattle.pool_memory.proofs.Tracked.{record-read, record-at, shape-at, count-
 use Rattle.pool_take_doomed.specs.Given.{givenRecords}
 use Rattle.pool_take_doomed.proofs.Pushed.{given-spares}
 use Rattle.pool_note_allocated.proofs.Written.{record-over, moved-run, withCount, count-set}
+use Rattle.pool_records.specs.RecordConstants.{doomedStride, spareStride, textureSparesAt, textureStride}
 
 module _ (l : Lent) where
   -- the record of texture i
   abbrev recordOf : ℕ → TextureRecord
-  recordOf i = recordAt 20 readTexture (l .textures) i
+  recordOf i = recordAt textureStride readTexture (l .textures) i
 
   pub state-record : (i : ℕ) → i < l .pool .tracked → stateOf l i ≡ stateRead l (firstSpare l i) (firstPageOf l i) (recordOf i)
   unfolding stateOf
@@ -81,7 +82,7 @@ module _ (l : Lent) where
 
     unfoldable pub doomedTo : ℕ → List ℕ
     doomedTo i =
-        laid 2 writeDoomed (versionPlaces l) (l .pool .first) (l .pool .doomed) (map doomedRecord (flatMap (given k) (first i))) (l .doomed)
+        laid doomedStride writeDoomed (versionPlaces l) (l .pool .first) (l .pool .doomed) (map doomedRecord (flatMap (given k) (first i))) (l .doomed)
 
     unfoldable pub keptTo : ℕ → ℕ
     keptTo i = total spareCount (map (lessened k) (first i))
@@ -102,7 +103,7 @@ module _ (l : Lent) where
     -- ---- the textures' records
 
     pub textures-next : (i : ℕ) → i < l .pool .tracked → Fits l
-        → set (texturesTo i) (20 * i + 18) (recordOf i .spares - gave i) ≡ texturesTo (suc i)
+        → set (texturesTo i) (textureStride * i + textureSparesAt) (recordOf i .spares - gave i) ≡ texturesTo (suc i)
     unfolding texturesTo
     textures-next i h f =
         let xs = map textureRecord (map (lessened k) (first i)) in
@@ -118,7 +119,7 @@ module _ (l : Lent) where
             ∙ ap (withCount (recordOf i .spares - gave i)) (record-at l i h f)
 
     -- the record of texture i, while those before it are written
-    pub record-next : (i : ℕ) → i ≤ l .pool .tracked → recordAt 20 readTexture (texturesTo i) i ≡ recordOf i
+    pub record-next : (i : ℕ) → i ≤ l .pool .tracked → recordAt textureStride readTexture (texturesTo i) i ≡ recordOf i
     unfolding texturesTo
     record-next i h =
         let xs = map textureRecord (map (lessened k) (first i)) in
@@ -151,7 +152,7 @@ module _ (l : Lent) where
     -- the spares that texture i keeps are those behind the ones that it gave
     kept-run : (i : ℕ) → i < l .pool .tracked → gave i ≤ recordOf i .spares
         → map spareRecord (drop (gave i) (stateOf l i .spares))
-        ≡ listed (recordAt 3 readSpare (l .spares)) (firstSpare l i + gave i) (recordOf i .spares - gave i)
+        ≡ listed (recordAt spareStride readSpare (l .spares)) (firstSpare l i + gave i) (recordOf i .spares - gave i)
     unfolding spareRead
     kept-run i h le =
         ap (map spareRecord) (ap (drop (gave i)) (state-spares i h) ∙ drop-listed (spareRead l) (gave i) (firstSpare l i) (recordOf i .spares) le)
@@ -168,8 +169,8 @@ module _ (l : Lent) where
         ∙ ap (λ (ss : List (Spare ℕ)). everySpare (map (lessened k) (first i)) ++ ss) (append-nil (drop (gave i) (stateOf l i .spares))))
         ∙ map-append spareRecord (everySpare (map (lessened k) (first i))) (drop (gave i) (stateOf l i .spares))
 
-    pub spares-next : (i : ℕ) → i < l .pool .tracked → gave i ≤ recordOf i .spares → 3 * (firstSpare l i + recordOf i .spares) ≤ length (l .spares)
-        → moved (sparesTo i) (3 * keptTo i) (3 * (firstSpare l i + gave i)) (3 * (recordOf i .spares - gave i)) ≡ sparesTo (suc i)
+    pub spares-next : (i : ℕ) → i < l .pool .tracked → gave i ≤ recordOf i .spares → spareStride * (firstSpare l i + recordOf i .spares) ≤ length (l .spares)
+        → moved (sparesTo i) (spareStride * keptTo i) (spareStride * (firstSpare l i + gave i)) (spareStride * (recordOf i .spares - gave i)) ≡ sparesTo (suc i)
     unfolding sparesTo
     spares-next i h le fits =
         let c = recordOf i .spares in
@@ -180,7 +181,7 @@ module _ (l : Lent) where
         ∙ ap (λ (rs : List SpareRecord). over (flat writeSpare rs) (l .spares)) (sym (every-next i h ∙ ap (λ (rs : List SpareRecord). xs ++ rs) (kept-run i h le)))
 
     -- a parking number that is still to be read is what it was
-    pub spare-next : (i j : ℕ) → firstSpare l i ≤ j → recordAt 3 readSpare (sparesTo i) j ≡ recordAt 3 readSpare (l .spares) j
+    pub spare-next : (i j : ℕ) → firstSpare l i ≤ j → recordAt spareStride readSpare (sparesTo i) j ≡ recordAt spareStride readSpare (l .spares) j
     unfolding sparesTo
     spare-next i j h =
         record-over spare-codec (map spareRecord (everySpare (map (lessened k) (first i)))) (l .spares) j (omega (arith, kept-length i, kept-most i))
@@ -200,8 +201,8 @@ module _ (l : Lent) where
     given-same : (i bytes n : ℕ) → givenRecords (sparesTo i) bytes (firstSpare l i) n ≡ givenRecords (l .spares) bytes (firstSpare l i) n
     unfolding givenRecords
     given-same i bytes n =
-        listed-same (λ j. record { view = recordAt 3 readSpare (sparesTo i) j .view; bytes = bytes })
-        (λ j. record { view = recordAt 3 readSpare (l .spares) j .view; bytes = bytes }) n (firstSpare l i) (firstSpare l i)
+        listed-same (λ j. record { view = recordAt spareStride readSpare (sparesTo i) j .view; bytes = bytes })
+        (λ j. record { view = recordAt spareStride readSpare (l .spares) j .view; bytes = bytes }) n (firstSpare l i) (firstSpare l i)
         (λ j q. ap (λ (x : SpareRecord). record { view = x .view; bytes = bytes }) (spare-next i (firstSpare l i + j) (omega arith)))
 
     given-taken : (i : ℕ) → i < l .pool .tracked → gave i ≤ recordOf i .spares
@@ -213,7 +214,7 @@ module _ (l : Lent) where
         ∙ take-listed (spareRead l) (gave i) (firstSpare l i) (recordOf i .spares) le))
 
     pub doomed-next : (i : ℕ) → i < l .pool .tracked → gave i ≤ recordOf i .spares
-        → laid 2 writeDoomed (versionPlaces l) (l .pool .first) (l .pool .doomed + (firstSpare l i - keptTo i))
+        → laid doomedStride writeDoomed (versionPlaces l) (l .pool .first) (l .pool .doomed + (firstSpare l i - keptTo i))
         (givenRecords (sparesTo i) (bytesOf (recordOf i .shape)) (firstSpare l i) (gave i)) (doomedTo i)
         ≡ doomedTo (suc i)
     unfolding doomedTo
@@ -223,9 +224,9 @@ module _ (l : Lent) where
         let d = l .pool .doomed in
         let xs = map doomedRecord (flatMap (given k) (first i)) in
         let ys = map doomedRecord (given k (stateOf l i)) in
-        ap₂ (λ (n : ℕ) (rs : List DoomedRecord). laid 2 writeDoomed cap f (d + n) rs (laid 2 writeDoomed cap f d xs (l .doomed))) (sym (given-length i)) (given-taken i h le)
-        ∙ sym (laid-append 2 writeDoomed cap f xs ys d (l .doomed))
-        ∙ ap (λ (rs : List DoomedRecord). laid 2 writeDoomed cap f d rs (l .doomed))
+        ap₂ (λ (n : ℕ) (rs : List DoomedRecord). laid doomedStride writeDoomed cap f (d + n) rs (laid doomedStride writeDoomed cap f d xs (l .doomed))) (sym (given-length i)) (given-taken i h le)
+        ∙ sym (laid-append doomedStride writeDoomed cap f xs ys d (l .doomed))
+        ∙ ap (λ (rs : List DoomedRecord). laid doomedStride writeDoomed cap f d rs (l .doomed))
         (sym (ap (map doomedRecord) (flat-next i h) ∙ map-append doomedRecord (flatMap (given k) (first i)) (given k (stateOf l i))))
 
     pub bytes-next : (i : ℕ) → i < l .pool .tracked → gave i ≤ recordOf i .spares → bytesTo (suc i) ≡ bytesTo i + bytesOf (recordOf i .shape) * gave i

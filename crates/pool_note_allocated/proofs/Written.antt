@@ -15,6 +15,7 @@ use Rattle.base_tables.proofs.Records.{Codec, length-flat, flat-append, flat-ta
 use Rattle.pool_records.specs.declared.texture.TextureRecord.{TextureRecord}
 use Rattle.pool_records.specs.Texture.{readTexture, writeTexture}
 use Rattle.pool_records.proofs.Codecs.{texture-codec}
+use Rattle.pool_records.specs.RecordConstants.{textureSparesAt, textureStride}
 
 -- ---- a run of records, written out
 
@@ -67,17 +68,17 @@ set-past (x ∷ p) q j v = ap (λ (n : ℕ). set (x ∷ p ++ q) n v) (suc-add (l
 abbrev pub withCount : ℕ → TextureRecord → TextureRecord
 withCount n t = record { id = t .id; shape = t .shape; epoch = t .epoch; history = t .history; birth = t .birth; rename = t .rename; due = t .due; spares = n; bytes = t .bytes }
 
-count-front : (q : List ℕ) (v : ℕ) → 20 ≤ length q → set q 18 v ≡ over (flat writeTexture (withCount v (readTexture q) ∷ [])) q
+count-front : (q : List ℕ) (v : ℕ) → textureStride ≤ length q → set q textureSparesAt v ≡ over (flat writeTexture (withCount v (readTexture q) ∷ [])) q
 unfolding writeTexture over flat
-count-front q v h = ap (λ (l : List ℕ). set l 18 v) (sym (take-append-drop 20 q) ∙ ap (λ (l : List ℕ). l ++ drop 20 q) (sym (texture-codec .back q h)))
+count-front q v h = ap (λ (l : List ℕ). set l textureSparesAt v) (sym (take-append-drop textureStride q) ∙ ap (λ (l : List ℕ). l ++ drop textureStride q) (sym (texture-codec .back q h)))
 
 -- the number of spares of the record behind those written
-pub count-set : (xs : List TextureRecord) (s : List ℕ) (i v : ℕ) → length xs ≡ i → 20 * i + 20 ≤ length s
-    → set (over (flat writeTexture xs) s) (20 * i + 18) v ≡ over (flat writeTexture (xs ++ (withCount v (recordAt 20 readTexture s i) ∷ []))) s
+pub count-set : (xs : List TextureRecord) (s : List ℕ) (i v : ℕ) → length xs ≡ i → textureStride * i + textureStride ≤ length s
+    → set (over (flat writeTexture xs) s) (textureStride * i + textureSparesAt) v ≡ over (flat writeTexture (xs ++ (withCount v (recordAt textureStride readTexture s i) ∷ []))) s
 unfolding over recordAt
 count-set xs s i v e h =
     let p = flat writeTexture xs in
-    let lp : length p ≡ 20 * i = length-flat texture-codec xs ∙ ap (λ (k : ℕ). 20 * k) e in
+    let lp : length p ≡ textureStride * i = length-flat texture-codec xs ∙ ap (λ (k : ℕ). textureStride * k) e in
     ap (λ (k : ℕ). set (p ++ drop (length p) s) (k + 18) v) (sym lp)
     ∙ set-past p (drop (length p) s) 18 v
     ∙ ap (λ (l : List ℕ). p ++ l) (count-front (drop (length p) s) v (omega (arith, length-drop (length p) s, lp)))

@@ -7,7 +7,11 @@ ghost use Rattle.base_blocks.specs.Blocks.{moved};
 ghost use Rattle.base_tables.specs.Rings.{laid};
 ghost use Rattle.pool_records.specs.Doomed.{writeDoomed};
 ghost use Rattle.pool_take_doomed.specs.Given.{givenRecords};
+ghost use Rattle.pool_records.specs.RecordConstants.{doomedStride, spareStride, textureSparesAt, textureStride};
 use base_blocks::shift_down;
+use pool_records::SPARE_STRIDE;
+use pool_records::TEXTURE_SPARES_AT;
+use pool_records::TEXTURE_STRIDE;
 use pool_take_doomed::push_spares;
 
 // Texture i has n spares from place `from` on and gives `count` of them, each of so many bytes; the others move down to place
@@ -26,13 +30,18 @@ pub fn give_spares(
     count: usize,
     bytes: u64,
 )
-    requires { ⌜ (20 * i + 20 ≤ length (now textures)) × (2 * cap ≤ length (now doomed)) × (first < cap) × (queued + count ≤ cap)
-        × (3 * (from + n) ≤ length (now spares)) × (to ≤ from) × (count ≤ n) ⌝ }
-    ensures { λ _. ⌜ (now (textures .exit) ≡ set (now (textures .entry)) (20 * i + 18) (n - count))
-        × (now (doomed .exit) ≡ laid 2 writeDoomed cap first queued (givenRecords (now (spares .entry)) bytes from count) (now (doomed .entry)))
-        × (now (spares .exit) ≡ moved (now (spares .entry)) (3 * to) (3 * (from + count)) (3 * (n - count))) ⌝ }
+    requires { ⌜ (textureStride * i + textureStride ≤ length (now textures)) × (doomedStride * cap ≤ length (now doomed)) × (first < cap) × (queued + count ≤ cap)
+        × (spareStride * (from + n) ≤ length (now spares)) × (to ≤ from) × (count ≤ n) ⌝ }
+    ensures { λ _. ⌜ (now (textures .exit) ≡ set (now (textures .entry)) (textureStride * i + textureSparesAt) (n - count))
+        × (now (doomed .exit) ≡ laid doomedStride writeDoomed cap first queued (givenRecords (now (spares .entry)) bytes from count) (now (doomed .entry)))
+        × (now (spares .exit) ≡ moved (now (spares .entry)) (spareStride * to) (spareStride * (from + count)) (spareStride * (n - count))) ⌝ }
 {
     push_spares(doomed, cap, first, queued, spares, from, count, bytes);
-    shift_down(spares, 3 * to, 3 * (from + count - to), 3 * (n - count));
-    textures[20 * i + 18] = (n - count) as u64;
+    shift_down(
+        spares,
+        SPARE_STRIDE * to,
+        SPARE_STRIDE * (from + count - to),
+        SPARE_STRIDE * (n - count),
+    );
+    textures[TEXTURE_STRIDE * i + TEXTURE_SPARES_AT] = (n - count) as u64;
 }

@@ -15,9 +15,13 @@ ghost use Rattle.pool_take_doomed.specs.Given.{givenRecords};
 ghost use Rattle.pool_relief_line.specs.Line.{IsLine, takenAt, gives};
 ghost use Rattle.pool_relief_line.specs.Parked.{parkings, bytesFrom};
 ghost use Rattle.pool_note_allocated.specs.NoteAllocated.{Relieves};
+ghost use Rattle.pool_records.specs.RecordConstants.{doomedStride, spareStride, textureSparesAt, textureStride};
 use crate::give::give_spares;
 use pool_memory::PacingBook;
 use pool_memory::Pool;
+use pool_records::RETIRING_STRIDE;
+use pool_records::TEXTURE_SPARES_AT;
+use pool_records::TEXTURE_STRIDE;
 use pool_relief_line::texture_gives;
 use pool_relief_line::version_bytes;
 
@@ -44,21 +48,21 @@ fn relieve_texture(
     freed: u64,
     excess: u64,
 ) -> Step
-    requires { ⌜ (20 * i + 20 ≤ length (now textures)) × (isShape (recordAt 20 readTexture (now textures) i .shape) ≡ true)
-        × (2 * cap ≤ length (now doomed)) × (first < cap) × (queued + recordAt 20 readTexture (now textures) i .spares ≤ cap)
-        × (3 * (from + recordAt 20 readTexture (now textures) i .spares) ≤ length (now spares)) × (to ≤ from)
-        × (freed + bytesOf (recordAt 20 readTexture (now textures) i .shape) * recordAt 20 readTexture (now textures) i .spares < 2 ^ 64) ⌝ }
-    ensures { λ r. ⌜ (r .spares ≡ recordAt 20 readTexture (now (textures .entry)) i .spares) × (r .count ≤ r .spares)
-        × (r .count ≡ gives freed excess (bytesOf (recordAt 20 readTexture (now (textures .entry)) i .shape)) line (parkings (now (spares .entry)) from (r .spares)))
-        × (r .bytes ≡ bytesOf (recordAt 20 readTexture (now (textures .entry)) i .shape) * r .count)
-        × (r .freed ≡ freed + bytesOf (recordAt 20 readTexture (now (textures .entry)) i .shape)
-        * takenAt freed excess (bytesOf (recordAt 20 readTexture (now (textures .entry)) i .shape)) line (parkings (now (spares .entry)) from (r .spares)))
-        × (now (textures .exit) ≡ set (now (textures .entry)) (20 * i + 18) (r .spares - r .count))
-        × (now (doomed .exit) ≡ laid 2 writeDoomed cap first queued
-        (givenRecords (now (spares .entry)) (bytesOf (recordAt 20 readTexture (now (textures .entry)) i .shape)) from (r .count)) (now (doomed .entry)))
-        × (now (spares .exit) ≡ moved (now (spares .entry)) (3 * to) (3 * (from + r .count)) (3 * (r .spares - r .count))) ⌝ }
+    requires { ⌜ (textureStride * i + textureStride ≤ length (now textures)) × (isShape (recordAt textureStride readTexture (now textures) i .shape) ≡ true)
+        × (doomedStride * cap ≤ length (now doomed)) × (first < cap) × (queued + recordAt textureStride readTexture (now textures) i .spares ≤ cap)
+        × (spareStride * (from + recordAt textureStride readTexture (now textures) i .spares) ≤ length (now spares)) × (to ≤ from)
+        × (freed + bytesOf (recordAt textureStride readTexture (now textures) i .shape) * recordAt textureStride readTexture (now textures) i .spares < 2 ^ 64) ⌝ }
+    ensures { λ r. ⌜ (r .spares ≡ recordAt textureStride readTexture (now (textures .entry)) i .spares) × (r .count ≤ r .spares)
+        × (r .count ≡ gives freed excess (bytesOf (recordAt textureStride readTexture (now (textures .entry)) i .shape)) line (parkings (now (spares .entry)) from (r .spares)))
+        × (r .bytes ≡ bytesOf (recordAt textureStride readTexture (now (textures .entry)) i .shape) * r .count)
+        × (r .freed ≡ freed + bytesOf (recordAt textureStride readTexture (now (textures .entry)) i .shape)
+        * takenAt freed excess (bytesOf (recordAt textureStride readTexture (now (textures .entry)) i .shape)) line (parkings (now (spares .entry)) from (r .spares)))
+        × (now (textures .exit) ≡ set (now (textures .entry)) (textureStride * i + textureSparesAt) (r .spares - r .count))
+        × (now (doomed .exit) ≡ laid doomedStride writeDoomed cap first queued
+        (givenRecords (now (spares .entry)) (bytesOf (recordAt textureStride readTexture (now (textures .entry)) i .shape)) from (r .count)) (now (doomed .entry)))
+        × (now (spares .exit) ≡ moved (now (spares .entry)) (spareStride * to) (spareStride * (from + r .count)) (spareStride * (r .spares - r .count))) ⌝ }
 {
-    let n = textures[20 * i + 18] as usize;
+    let n = textures[TEXTURE_STRIDE * i + TEXTURE_SPARES_AT] as usize;
     let bytes = version_bytes(textures, i);
     let given = texture_gives(spares, from, n, line, bytes, freed, excess);
     let count = given.count;
@@ -105,12 +109,12 @@ pub fn relieve(
     excess: u64,
 ) -> Relief
     requires { ⌜ (isPool (lent pool book (now textures) (now retiring) (now doomed) (now spares) (now newest) (now stamps)) ≡ true)
-        × IsLine (pool .dooming) excess (λ k. bytesFrom (now spares) k 0 (table 20 readTexture (pool .tracked) (now textures))) line
-        × (freed ≡ pool .dooming + bytesFrom (now spares) line 0 (table 20 readTexture (pool .tracked) (now textures))) ⌝ }
+        × IsLine (pool .dooming) excess (λ k. bytesFrom (now spares) k 0 (table textureStride readTexture (pool .tracked) (now textures))) line
+        × (freed ≡ pool .dooming + bytesFrom (now spares) line 0 (table textureStride readTexture (pool .tracked) (now textures))) ⌝ }
     ensures { λ r. ⌜ Relieves (lent pool book (now (textures .entry)) (now (retiring .entry)) (now (doomed .entry)) (now (spares .entry)) (now (newest .entry)) (now (stamps .entry)))
         excess (r .kept) (r .bytes) (now (textures .exit)) (now (doomed .exit)) (now (spares .exit)) ⌝ }
 {
-    let cap = retiring.len() / 7;
+    let cap = retiring.len() / RETIRING_STRIDE;
     let mut i = 0;
     let mut from = 0;
     let mut kept = 0;

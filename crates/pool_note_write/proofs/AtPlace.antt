@@ -30,6 +30,7 @@ use Rattle.pool_memory.proofs.Places.{place, IsTracked}
 use Rattle.pool_memory.proofs.Stays.{ids-ascend, textures-fit}
 use Rattle.pool_memory.proofs.Pages.{pagesAt, pages-in}
 use Rattle.pool_note_write.specs.History.{textureAt, recordedAt, pagesUpTo, pagesHere, pagesEnd, HistoryAt}
+use Rattle.pool_rules.specs.RuleConstants.{mostPlaces}
 
 -- ---- the pages of a record that has a history
 
@@ -52,7 +53,7 @@ module _ (textures : List ℕ) (i : ℕ) (h : HistoryAt textures i) where
     same-place : slice * levels + level ≡ gridPlace (textureAt textures i .shape) slice level
     same-place = ap (λ (k : ℕ). slice * k + level) read
 
-    pub page-small : pagesUpTo textures i + (slice * levels + level) ≤ 4096
+    pub page-small : pagesUpTo textures i + (slice * levels + level) ≤ mostPlaces
     page-small = omega (arith, same-place, page-inside slice level e, h .pages)
 
     pub page-below : (p : ℕ) → p ≡ pagesUpTo textures i + (slice * levels + level) → (n : ℕ) → pagesEnd textures i ≤ n → p < n

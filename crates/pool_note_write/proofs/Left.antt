@@ -38,6 +38,8 @@ use Rattle.pool_history.proofs.Regenerated.{regenerate-listed, length-remade, s
 use Rattle.pool_note_write.specs.History.{textureAt, recordedAs, pagesUpTo, pagesHere, pagesEnd, pageOf, stampedOn}
 use Rattle.pool_note_write.specs.Counts.{withPages}
 use Rattle.pool_note_write.proofs.AtPlace.{pages-begin, pages-of-record}
+use Rattle.grid_stamps.specs.StampConstants.{pageStamps}
+use Rattle.pool_records.specs.RecordConstants.{textureStride}
 
 -- one of a sum replaced
 total-set : {A : Type 0} (f : A → ℕ) (xs : List A) (i : ℕ) (a d : A) → i < length xs → total f (set xs i a) + f (getD xs i d) ≡ total f xs + f a
@@ -51,13 +53,13 @@ total-set f (x ∷ xs) (suc i) a d h = omega (arith, total-set f xs i a d (omega
 abbrev pub droppedLent : Lent → ℕ → Lent
 droppedLent l i =
     lent (withPages (l .pool .pages - pagesHere (l .textures) i) (l .pool)) (l .book)
-    (sets (l .textures) (20 * i) (writeTexture (recordedAs NoHistory (textureAt (l .textures) i)))) (l .retiring) (l .doomed) (l .spares)
+    (sets (l .textures) (textureStride * i) (writeTexture (recordedAs NoHistory (textureAt (l .textures) i)))) (l .retiring) (l .doomed) (l .spares)
     (moved (l .newest) (pagesUpTo (l .textures) i) (pagesEnd (l .textures) i) (l .pool .pages - pagesEnd (l .textures) i))
-    (moved (l .stamps) (1024 * pagesUpTo (l .textures) i) (1024 * pagesUpTo (l .textures) i + 1024 * pagesHere (l .textures) i) (1024 * (l .pool .pages - pagesEnd (l .textures) i)))
+    (moved (l .stamps) (pageStamps * pagesUpTo (l .textures) i) (pageStamps * pagesUpTo (l .textures) i + pageStamps * pagesHere (l .textures) i) (pageStamps * (l .pool .pages - pagesEnd (l .textures) i)))
 
 abbrev pub keptLent : Lent → ℕ → ℕ → ℕ → List StampGrid → Lent
 keptLent l i writes p gs =
-    lent (l .pool) (l .book) (sets (l .textures) (20 * i) (writeTexture (recordedAs (Writes writes) (textureAt (l .textures) i)))) (l .retiring) (l .doomed) (l .spares)
+    lent (l .pool) (l .book) (sets (l .textures) (textureStride * i) (writeTexture (recordedAs (Writes writes) (textureAt (l .textures) i)))) (l .retiring) (l .doomed) (l .spares)
     (newestWritten (l .newest) p gs) (pagesWritten (l .stamps) p gs)
 
 module _ (l : Lent) (f : Fits l) (i : ℕ) (h : i < l .pool .tracked) where
@@ -84,9 +86,9 @@ module _ (l : Lent) (f : Fits l) (i : ℕ) (h : i < l .pool .tracked) where
       bytes = (ap bytesOf (shape-at l i h) ∙ sym (bytes-at l i h f)) j;
     }
 
-    textures-left : sets (l .textures) (20 * i) (writeTexture (recordedAs (recordedOf o) (textureAt (l .textures) i))) ≡ texturesAfter otherPool l
+    textures-left : sets (l .textures) (textureStride * i) (writeTexture (recordedAs (recordedOf o) (textureAt (l .textures) i))) ≡ texturesAfter otherPool l
     textures-left =
-        ap (λ (t : TextureRecord). sets (l .textures) (20 * i) (writeTexture t)) (sym other-record)
+        ap (λ (t : TextureRecord). sets (l .textures) (textureStride * i) (writeTexture t)) (sym other-record)
         ∙ textures-set l otherPool f i otherState h refl
 
     within : i < length (modelOf l .textures)
@@ -121,16 +123,16 @@ module _ (l : Lent) (f : Fits l) (i : ℕ) (h : i < l .pool .tracked) where
 
     history-left : (pages : ℕ) (newest stamps : List ℕ) → total pagesUsed (set (modelOf l .textures) i otherState) ≡ pages
         → newest ≡ newestAfter otherPool l → stamps ≡ stampsAfter otherPool l
-        → lent (withPages pages (l .pool)) (l .book) (sets (l .textures) (20 * i) (writeTexture (recordedAs (recordedOf o) (textureAt (l .textures) i)))) (l .retiring) (l .doomed) (l .spares) newest stamps
+        → lent (withPages pages (l .pool)) (l .book) (sets (l .textures) (textureStride * i) (writeTexture (recordedAs (recordedOf o) (textureAt (l .textures) i)))) (l .retiring) (l .doomed) (l .spares) newest stamps
         ≡ after otherPool l
     history-left pages newest stamps e a b =
-        put-together otherPool l (withPages pages (l .pool)) (l .book) (sets (l .textures) (20 * i) (writeTexture (recordedAs (recordedOf o) (textureAt (l .textures) i))))
+        put-together otherPool l (withPages pages (l .pool)) (l .book) (sets (l .textures) (textureStride * i) (writeTexture (recordedAs (recordedOf o) (textureAt (l .textures) i))))
         (l .retiring) (l .doomed) (l .spares) newest stamps (counts-left pages e) (book-stays l f otherPool refl) textures-left
         (retiring-stay l f otherPool refl refl) (doomed-stay l f otherPool refl) (spares-stay l f otherPool (every-kept l i h otherState refl)) a b
 
   -- ---- dropped
 
-  stamps-fit : 1024 * l .pool .pages ≤ length (l .stamps)
+  stamps-fit : pageStamps * l .pool .pages ≤ length (l .stamps)
   stamps-fit = omega (arith, f .stamps, f .pages)
 
   pub history-dropped : droppedLent l i ≡ after (otherPool none) l
@@ -139,7 +141,7 @@ module _ (l : Lent) (f : Fits l) (i : ℕ) (h : i < l .pool .tracked) where
       (omega (arith, pages-left none, pages-of-record l i h, pages-in l (f .claimed) i h))
       (ap₂ (λ (p n : ℕ). moved (l .newest) p (p + n) (l .pool .pages - (p + n))) (pages-begin l i h) (pages-of-record l i h)
       ∙ newest-dropped l (otherPool none) (f .claimed) i h (otherState none) refl refl (f .pages))
-      (ap₂ (λ (p n : ℕ). moved (l .stamps) (1024 * p) (1024 * p + 1024 * n) (1024 * (l .pool .pages - (p + n)))) (pages-begin l i h) (pages-of-record l i h)
+      (ap₂ (λ (p n : ℕ). moved (l .stamps) (pageStamps * p) (pageStamps * p + pageStamps * n) (pageStamps * (l .pool .pages - (p + n)))) (pages-begin l i h) (pages-of-record l i h)
       ∙ stamps-dropped l (otherPool none) (f .claimed) i h (otherState none) refl refl (ids-ascend l f) stamps-fit)
 
   -- ---- a texture with a history, which it keeps
@@ -154,7 +156,7 @@ module _ (l : Lent) (f : Fits l) (i : ℕ) (h : i < l .pool .tracked) where
     keeps : hasHistory (stateOf l i .history) ≡ true
     keeps = ap hasHistory has
 
-    stamps-room : 1024 * (firstPageOf l i + pagesAt l i) ≤ length (l .stamps)
+    stamps-room : pageStamps * (firstPageOf l i + pagesAt l i) ≤ length (l .stamps)
     stamps-room = omega (arith, stamps-fit, pages-in l (f .claimed) i h)
 
     -- ---- a write
@@ -219,14 +221,14 @@ module _ (l : Lent) (f : Fits l) (i : ℕ) (h : i < l .pool .tracked) where
           length-made : length (remadeGrids (textureAt (l .textures) i .shape) (suc (old .writes)) (l .newest) (l .stamps) (pagesUpTo (l .textures) i) (pagesHere (l .textures) i)) ≡ pagesHere (l .textures) i
           length-made = length-remade (textureAt (l .textures) i .shape) (ap isShape (sym (shape-at l i h)) ∙ shaped) (suc (old .writes)) (l .newest) (l .stamps) (pagesUpTo (l .textures) i) (pagesHere (l .textures) i)
 
-      small-made : (k : ℕ) → k < length (gridsOf afterRegeneration) → length (getD (gridsOf afterRegeneration) k (record { newest = 0; stamps = [] }) .stamps) ≤ 1024
+      small-made : (k : ℕ) → k < length (gridsOf afterRegeneration) → length (getD (gridsOf afterRegeneration) k (record { newest = 0; stamps = [] }) .stamps) ≤ pageStamps
       small-made k q =
           ap-small (sym made-grids)
           (small-remade (textureAt (l .textures) i .shape) (ap isShape (sym (shape-at l i h)) ∙ shaped) (suc (old .writes)) (l .newest) (l .stamps) (pagesUpTo (l .textures) i) (pagesHere (l .textures) i)
           (omega (arith, stamps-room, pages-begin l i h, pages-of-record l i h)) k (omega (arith, count-made, pages-of-record l i h)))
         where
-          ap-small : {gs hs : List StampGrid} → gs ≡ hs → length (getD hs k (record { newest = 0; stamps = [] }) .stamps) ≤ 1024 → length (getD gs k (record { newest = 0; stamps = [] }) .stamps) ≤ 1024
-          ap-small e s = subst (λ (gs : List StampGrid). length (getD gs k (record { newest = 0; stamps = [] }) .stamps) ≤ 1024) (sym e) s
+          ap-small : {gs hs : List StampGrid} → gs ≡ hs → length (getD hs k (record { newest = 0; stamps = [] }) .stamps) ≤ pageStamps → length (getD gs k (record { newest = 0; stamps = [] }) .stamps) ≤ pageStamps
+          ap-small e s = subst (λ (gs : List StampGrid). length (getD gs k (record { newest = 0; stamps = [] }) .stamps) ≤ pageStamps) (sym e) s
 
       pub history-regenerated : keptLent l i (suc (old .writes)) (pagesUpTo (l .textures) i)
           (remadeGrids (textureAt (l .textures) i .shape) (suc (old .writes)) (l .newest) (l .stamps) (pagesUpTo (l .textures) i) (pagesHere (l .textures) i))

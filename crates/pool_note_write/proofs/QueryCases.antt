@@ -30,6 +30,7 @@ use Rattle.pool_memory.proofs.Written.{grid-held}
 use Rattle.pool_memory.proofs.Tracked.{shape-at}
 use Rattle.pool_note_write.specs.History.{textureAt, pagesUpTo, pageOf}
 use Rattle.pool_note_write.proofs.AtPlace.{pages-begin, history-read, at, Unrecorded, untracked, unrecorded, Recording, historyIs, has-history}
+use Rattle.grid_stamps.specs.StampConstants.{pageStamps}
 
 -- a tile of a page that is dirty is so in the page's grid
 dirty-grid : (g : Tiling) (held newest : ℕ) (page : List ℕ) (r : DirtyTile) → IsDirtyTile g held page r → IsDirtyTile g held (gridIn g newest page .stamps) r
@@ -113,10 +114,10 @@ module _ (l : Lent) (f : Fits l) (id : ℕ) where
 
 -- the page lent on to the scan is the subresource's
 pub dirty-page : (textures stamps : List ℕ) (i slice level held : ℕ) (t : TextureRecord) → t ≡ textureAt textures i → (p m : ℕ) → p ≡ pagesUpTo textures i + gridPlace (t .shape) slice level
-    → m ≡ 1024 → (g : Tiling) → g ≡ tilingOf (t .shape) level → (r : DirtyTile) → IsDirtyTile g held (take m (drop (1024 * p) stamps)) r
+    → m ≡ pageStamps → (g : Tiling) → g ≡ tilingOf (t .shape) level → (r : DirtyTile) → IsDirtyTile g held (take m (drop (pageStamps * p) stamps)) r
     → IsDirtyTile (tilingOf (textureAt textures i .shape) level) held (pageAt stamps (pageOf textures i slice level)) r
 unfolding pageOf
 dirty-page textures stamps i slice level held t read p m a b g c r d =
     subst (λ (x : TextureRecord). IsDirtyTile (tilingOf (x .shape) level) held (pageAt stamps (pagesUpTo textures i + gridPlace (x .shape) slice level)) r) read
     (subst (λ (x : Tiling). IsDirtyTile x held (pageAt stamps (pagesUpTo textures i + gridPlace (t .shape) slice level)) r) c
-    (subst (λ (k : ℕ). IsDirtyTile g held (pageAt stamps k) r) a (subst (λ (k : ℕ). IsDirtyTile g held (take k (drop (1024 * p) stamps)) r) b d)))
+    (subst (λ (k : ℕ). IsDirtyTile g held (pageAt stamps k) r) a (subst (λ (k : ℕ). IsDirtyTile g held (take k (drop (pageStamps * p) stamps)) r) b d)))

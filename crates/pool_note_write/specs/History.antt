@@ -18,10 +18,12 @@ use Rattle.pool_records.specs.Texture.{readTexture}
 use Rattle.pool_records.specs.Find.{idOf}
 use Rattle.pool_memory.specs.Reading.{recordPages}
 use Rattle.pool_history.specs.Written.{gridOn}
+use Rattle.pool_records.specs.RecordConstants.{textureStride}
+use Rattle.pool_rules.specs.RuleConstants.{mostPlaces}
 
 -- record i of the textures' slice
 abbrev pub textureAt : List ℕ → ℕ → TextureRecord
-textureAt textures i = recordAt 20 readTexture textures i
+textureAt textures i = recordAt textureStride readTexture textures i
 
 -- what it says of its history if it is there and has the id
 unfoldable pub recordedAt : List ℕ → ℕ → ℕ → ℕ → Recorded
@@ -33,7 +35,7 @@ recordedAs h t = record { id = t .id; shape = t .shape; epoch = t .epoch; histor
 
 -- the pages of the textures before record i, which is where its own begin, and how many those are
 unfoldable pub pagesUpTo : List ℕ → ℕ → ℕ
-pagesUpTo textures i = total recordPages (table 20 readTexture i textures)
+pagesUpTo textures i = total recordPages (table textureStride readTexture i textures)
 
 unfoldable pub pagesHere : List ℕ → ℕ → ℕ
 pagesHere textures i = recordPages (textureAt textures i)
@@ -43,11 +45,11 @@ pagesEnd textures i = pagesUpTo textures i + pagesHere textures i
 
 -- record i is there, its shape passes 2, and it has a history
 pub record HistoryAt (textures : List ℕ) (i : ℕ) : Type 0 where
-  pub there : 20 * i + 20 ≤ length textures
+  pub there : textureStride * i + textureStride ≤ length textures
   pub shape : isShape (textureAt textures i .shape) ≡ true
   pub writes : ℕ
   pub recorded : textureAt textures i .history ≡ Writes writes
-  pub pages : pagesEnd textures i ≤ 4096
+  pub pages : pagesEnd textures i ≤ mostPlaces
 
 -- the page of a subresource, and its grid stamped
 unfoldable pub pageOf : List ℕ → ℕ → ℕ → ℕ → ℕ

@@ -12,6 +12,9 @@ ghost use Rattle.pool_records.specs.Texture.{readTexture, writeTexture};
 ghost use Rattle.pool_rules.specs.Histories.{inShape};
 ghost use Rattle.pool_history.specs.Written.{newestWritten, pagesWritten, remadeGrids};
 ghost use Rattle.pool_note_write.specs.History.{recordedAt, recordedAs, pagesUpTo, pagesHere, pagesEnd, HistoryAt, pageOf, stampedOn};
+ghost use Rattle.grid_stamps.specs.StampConstants.{pageStamps};
+ghost use Rattle.pool_records.specs.RecordConstants.{textureStride};
+ghost use Rattle.pool_rules.specs.RuleConstants.{mostPlaces};
 use grid_rects::TexelRect;
 use grid_shapes::VersionShape;
 use grid_shapes::slices;
@@ -28,7 +31,7 @@ use pool_records::TextureRecord;
 
 // What record i, where the search for the id ended, says of its history. A texture that is not tracked has none.
 pub fn history_at(textures: &[u64], tracked: usize, i: usize, id: u64) -> Recorded
-    requires { ⌜ 20 * tracked ≤ length (now textures) ⌝ }
+    requires { ⌜ textureStride * tracked ≤ length (now textures) ⌝ }
     ensures { λ r. ⌜ r ≡ recordedAt (now (textures .entry)) tracked i id ⌝ }
 {
     if !has_id(textures, tracked, i, id) {
@@ -47,8 +50,8 @@ pub fn in_shape(s: VersionShape, slice: u64, level: u64) -> bool
 
 // Record i with another history.
 pub fn set_history(textures: &mut [u64], i: usize, history: Recorded)
-    requires { ⌜ (20 * i + 20 ≤ length (now textures)) × RecordedFits history ⌝ }
-    ensures { λ _. ⌜ now (textures .exit) ≡ sets (now (textures .entry)) (20 * i) (writeTexture (recordedAs history (recordAt 20 readTexture (now (textures .entry)) i))) ⌝ }
+    requires { ⌜ (textureStride * i + textureStride ≤ length (now textures)) × RecordedFits history ⌝ }
+    ensures { λ _. ⌜ now (textures .exit) ≡ sets (now (textures .entry)) (textureStride * i) (writeTexture (recordedAs history (recordAt textureStride readTexture (now (textures .entry)) i))) ⌝ }
 {
     let t = texture_at(textures, i);
     let shape = t.shape;
@@ -68,7 +71,7 @@ pub fn set_history(textures: &mut [u64], i: usize, history: Recorded)
 
 // The page of a subresource of texture i, which has that many levels: its pages stand slice by slice, level by level.
 pub fn page_of(textures: &[u64], i: usize, levels: u64, slice: u64, level: u64) -> usize
-    requires { ⌜ (20 * i ≤ length (now textures)) × (pagesUpTo (now textures) i + (slice * levels + level) ≤ 4096) ⌝ }
+    requires { ⌜ (textureStride * i ≤ length (now textures)) × (pagesUpTo (now textures) i + (slice * levels + level) ≤ mostPlaces) ⌝ }
     ensures { λ r. ⌜ r ≡ pagesUpTo (now (textures .entry)) i + (slice * levels + level) ⌝ }
 {
     let page = pages_before(textures, i);
@@ -86,7 +89,7 @@ pub fn stamp_subresource(
     rect: TexelRect,
     n: u64,
 )
-    requires { ⌜ HistoryAt (now textures) i × (pagesEnd (now textures) i ≤ length (now newest)) × (1024 * length (now newest) ≤ length (now stamps)) × (inShape (recordAt 20 readTexture (now textures) i .shape) slice level ≡ true) ⌝ }
+    requires { ⌜ HistoryAt (now textures) i × (pagesEnd (now textures) i ≤ length (now newest)) × (pageStamps * length (now newest) ≤ length (now stamps)) × (inShape (recordAt textureStride readTexture (now textures) i .shape) slice level ≡ true) ⌝ }
     ensures { λ _. ⌜
         (now (newest .exit) ≡ newestWritten (now (newest .entry)) (pageOf (now (textures .entry)) i slice level) (stampedOn (now (textures .entry)) i slice level rect n (now (newest .entry)) (now (stamps .entry)) ∷ []))
         × (now (stamps .exit) ≡ pagesWritten (now (stamps .entry)) (pageOf (now (textures .entry)) i slice level) (stampedOn (now (textures .entry)) i slice level rect n (now (newest .entry)) (now (stamps .entry)) ∷ [])) ⌝ }
@@ -105,10 +108,10 @@ pub fn regenerate_history(
     i: usize,
     n: u64,
 )
-    requires { ⌜ HistoryAt (now textures) i × (pagesEnd (now textures) i ≤ length (now newest)) × (1024 * length (now newest) ≤ length (now stamps)) ⌝ }
+    requires { ⌜ HistoryAt (now textures) i × (pagesEnd (now textures) i ≤ length (now newest)) × (pageStamps * length (now newest) ≤ length (now stamps)) ⌝ }
     ensures { λ _. ⌜
-        (now (newest .exit) ≡ newestWritten (now (newest .entry)) (pagesUpTo (now (textures .entry)) i) (remadeGrids (recordAt 20 readTexture (now (textures .entry)) i .shape) n (now (newest .entry)) (now (stamps .entry)) (pagesUpTo (now (textures .entry)) i) (pagesHere (now (textures .entry)) i)))
-        × (now (stamps .exit) ≡ pagesWritten (now (stamps .entry)) (pagesUpTo (now (textures .entry)) i) (remadeGrids (recordAt 20 readTexture (now (textures .entry)) i .shape) n (now (newest .entry)) (now (stamps .entry)) (pagesUpTo (now (textures .entry)) i) (pagesHere (now (textures .entry)) i))) ⌝ }
+        (now (newest .exit) ≡ newestWritten (now (newest .entry)) (pagesUpTo (now (textures .entry)) i) (remadeGrids (recordAt textureStride readTexture (now (textures .entry)) i .shape) n (now (newest .entry)) (now (stamps .entry)) (pagesUpTo (now (textures .entry)) i) (pagesHere (now (textures .entry)) i)))
+        × (now (stamps .exit) ≡ pagesWritten (now (stamps .entry)) (pagesUpTo (now (textures .entry)) i) (remadeGrids (recordAt textureStride readTexture (now (textures .entry)) i .shape) n (now (newest .entry)) (now (stamps .entry)) (pagesUpTo (now (textures .entry)) i) (pagesHere (now (textures .entry)) i))) ⌝ }
 {
     let t = texture_at(textures, i);
     let page = pages_before(textures, i);
@@ -124,10 +127,10 @@ pub fn drop_history(
     used: usize,
     i: usize,
 ) -> usize
-    requires { ⌜ HistoryAt (now textures) i × (pagesEnd (now textures) i ≤ used) × (used ≤ length (now newest)) × (1024 * used ≤ length (now stamps)) ⌝ }
+    requires { ⌜ HistoryAt (now textures) i × (pagesEnd (now textures) i ≤ used) × (used ≤ length (now newest)) × (pageStamps * used ≤ length (now stamps)) ⌝ }
     ensures { λ r. ⌜ (r ≡ used - pagesHere (now (textures .entry)) i)
         × (now (newest .exit) ≡ moved (now (newest .entry)) (pagesUpTo (now (textures .entry)) i) (pagesUpTo (now (textures .entry)) i + pagesHere (now (textures .entry)) i) (used - (pagesUpTo (now (textures .entry)) i + pagesHere (now (textures .entry)) i)))
-        × (now (stamps .exit) ≡ moved (now (stamps .entry)) (1024 * pagesUpTo (now (textures .entry)) i) (1024 * pagesUpTo (now (textures .entry)) i + 1024 * pagesHere (now (textures .entry)) i) (1024 * (used - (pagesUpTo (now (textures .entry)) i + pagesHere (now (textures .entry)) i)))) ⌝ }
+        × (now (stamps .exit) ≡ moved (now (stamps .entry)) (pageStamps * pagesUpTo (now (textures .entry)) i) (pageStamps * pagesUpTo (now (textures .entry)) i + pageStamps * pagesHere (now (textures .entry)) i) (pageStamps * (used - (pagesUpTo (now (textures .entry)) i + pagesHere (now (textures .entry)) i)))) ⌝ }
 {
     let page = pages_before(textures, i);
     let pages = pages_at(textures, i);

@@ -58,10 +58,13 @@ use Rattle.pool_park.specs.Park.{parkRefusal, parkingOf, spareParked, on
 use Rattle.pool_retire.proofs.Tracked.{map-change, inside, found-here, found-nowhere, changed-here, history-here}
 use Rattle.pool_retire.proofs.PopCases.{front-read}
 use Rattle.pool_park.proofs.Parked.{Says, decision-says, held-fits}
+use Rattle.grid_shapes.specs.ShapeConstants.{mostShapeBytes}
+use Rattle.pool_records.specs.RecordConstants.{doomedStride, retiringStride, spareStride, textureStride}
+use Rattle.pool_rules.specs.RuleConstants.{mostPlaces}
 
 -- as the code counts them
 abbrev places : Lent → ℕ
-places l = length (l .retiring) / 7
+places l = length (l .retiring) / retiringStride
 
 -- a state with one more spare
 abbrev withOne : Spare ℕ → VersionState ℕ → VersionState ℕ
@@ -129,11 +132,11 @@ module _ (l : Lent) (e : isPool l ≡ true) (failed current : ℕ) where
     pub held : l .pool .popped ≡ 1
     held = omega (arith, eqb-false (l .pool .popped) 0 (both .1), fits .hand)
 
-    pub front-fits : (7 * places l ≤ length (l .retiring)) × (l .pool .head < places l) × (1 ≤ places l)
+    pub front-fits : (retiringStride * places l ≤ length (l .retiring)) × (l .pool .head < places l) × (1 ≤ places l)
     unfolding versionPlaces
     front-fits = (omega (arith, fits .retiring), fits .head, fits .least)
 
-    module _ (x : RetiringRecord) (read : x ≡ along 7 readRetiring (places l) (l .pool .head) (l .retiring) 0) where
+    module _ (x : RetiringRecord) (read : x ≡ along retiringStride readRetiring (places l) (l .pool .head) (l .retiring) 0) where
       abbrev v : Retiring ℕ
       v = retiringOf x
 
@@ -200,12 +203,12 @@ module _ (l : Lent) (e : isPool l ≡ true) (failed current : ℕ) where
             ∙ sym (asked-accepted (λ a. a) l (λ (p : Pool ℕ). park p failed current) e tt (parked d)
             (rule-passed ∙ ap (accepted tt) (parks here refl ∙ ap parked q)))
 
-        pub decision-fits : (20 * l .pool .tracked ≤ length (l .textures)) × (l .pool .parked ≤ l .pool .cap)
+        pub decision-fits : (textureStride * l .pool .tracked ≤ length (l .textures)) × (l .pool .parked ≤ l .pool .cap)
         unfolding modelOf
         decision-fits = (textures-fit l fits, fits .formed .cap)
 
         -- no version's bytes pass 2^44
-        own-bytes : here ≡ true → textureAt l i .bytes ≤ 17592186044416
+        own-bytes : here ≡ true → textureAt l i .bytes ≤ mostShapeBytes
         own-bytes q =
             let h = inside l fits (x .id) i at q in
             omega (arith, bytes-at l i h fits, bytes-bound (textureAt l i .shape) (shape-passes l i h fits))
@@ -220,17 +223,17 @@ module _ (l : Lent) (e : isPool l ≡ true) (failed current : ℕ) where
           -- ---- destroyed
 
           module _ (bytes : ℕ) (told : d ≡ Destroyed bytes) where
-            few : bytes ≤ 17592186044416
+            few : bytes ≤ mostShapeBytes
             few = subst (Says (l .pool) pressed here (textureAt l i) x) told says
 
-            pub push-fits : (2 * places l ≤ length (l .doomed)) × (l .pool .first < places l) × (l .pool .doomed < places l)
+            pub push-fits : (doomedStride * places l ≤ length (l .doomed)) × (l .pool .first < places l) × (l .pool .doomed < places l)
             unfolding versionPlaces
             push-fits = (omega (arith, fits .doomed), fits .first, omega (arith, fits .versions, held))
 
-            pub doomed-counts-fit : (l .pool .doomed ≤ 4096) × (l .pool .since ≤ 4096) × (l .pool .dooming + bytes < 2 ^ 64)
+            pub doomed-counts-fit : (l .pool .doomed ≤ mostPlaces) × (l .pool .since ≤ mostPlaces) × (l .pool .dooming + bytes < 2 ^ 64)
             unfolding modelOf
             doomed-counts-fit =
-                let dooming : l .pool .dooming ≤ 17592186044416 * length (modelOf l .doomed) =
+                let dooming : l .pool .dooming ≤ mostShapeBytes * length (modelOf l .doomed) =
                 omega (arith, fits .formed .dooming, doomed-bound (fits .formed .doomed)) in (
                   omega (arith, doomed-fit l fits, fits .most),
                   omega (arith, fits .formed .since, doomed-model l, doomed-fit l fits, fits .most),
@@ -262,13 +265,13 @@ module _ (l : Lent) (e : isPool l ≡ true) (failed current : ℕ) where
               line = l .pool .line;
             }
 
-            doomed-lost : sets (l .doomed) (2 * placeOf (places l) (l .pool .first) (l .pool .doomed))
+            doomed-lost : sets (l .doomed) (doomedStride * placeOf (places l) (l .pool .first) (l .pool .doomed))
                 (writeDoomed (record { view = x .view; bytes = bytes })) ≡ doomedAfter lost l
             unfolding laid versionPlaces
             doomed-lost = doomed-pushed l lost (fits .first) (omega (arith, fits .doomed)) (doomed-fit l fits) one refl
 
             pub park-destroyed : (head : ℕ) (c : Counts) (doomed : List ℕ) → head ≡ placeOf (places l) (l .pool .head) 1
-                → doomed ≡ sets (l .doomed) (2 * placeOf (places l) (l .pool .first) (l .pool .doomed))
+                → doomed ≡ sets (l .doomed) (doomedStride * placeOf (places l) (l .pool .first) (l .pool .doomed))
                 (writeDoomed (record { view = x .view; bytes = bytes }))
                 → c ≡ handDoomed head bytes (l .pool)
                 → (toldNumber 0, lent c (l .book) (l .textures) (l .retiring) doomed (l .spares) (l .newest) (l .stamps)) ≡ parkCall l failed current
@@ -292,21 +295,21 @@ module _ (l : Lent) (e : isPool l ≡ true) (failed current : ℕ) where
             there = inside l fits (x .id) i at (kept-says .0)
 
             end-within : end ≤ l .pool .kept
-            end-within = omega (arith, fits .kept, total-with 20 readTexture sparesOf (l .textures) i (l .pool .tracked) there)
+            end-within = omega (arith, fits .kept, total-with textureStride readTexture sparesOf (l .textures) i (l .pool .tracked) there)
 
             end-is : firstSpare l i + sparesAt l i ≡ end
             unfolding firstSpare
             end-is =
-                ap₂ (λ (m n : ℕ). m + n) (ap (total sparesOf) (take-table 20 readTexture i (l .pool .tracked) (l .textures) (omega (arith, there))))
+                ap₂ (λ (m n : ℕ). m + n) (ap (total sparesOf) (take-table textureStride readTexture i (l .pool .tracked) (l .textures) (omega (arith, there))))
                 (ap sparesOf (record-read l i there))
 
-            room : 3 * l .pool .kept + 3 ≤ length (l .spares)
+            room : spareStride * l .pool .kept + spareStride ≤ length (l .spares)
             room = omega (arith, fits .versions, fits .spares, held)
 
             pub keep-fits : (s : SpareRecord) → s ≡ spareParked failed current x
-                → (20 * i + 20 ≤ length (l .textures)) × RecordedFits (textureAt l i .history) × (end ≤ l .pool .kept) × (l .pool .kept ≤ 4096)
-                × (3 * l .pool .kept + 3 ≤ length (l .spares)) × HeldFits (s .held)
-                × (20 * l .pool .tracked ≤ length (l .textures)) × (i < l .pool .tracked) × (total (λ (t : TextureRecord). t .spares) (trackedRecords l) ≡ l .pool .kept)
+                → (textureStride * i + textureStride ≤ length (l .textures)) × RecordedFits (textureAt l i .history) × (end ≤ l .pool .kept) × (l .pool .kept ≤ mostPlaces)
+                × (spareStride * l .pool .kept + spareStride ≤ length (l .spares)) × HeldFits (s .held)
+                × (textureStride * l .pool .tracked ≤ length (l .textures)) × (i < l .pool .tracked) × (total (λ (t : TextureRecord). t .spares) (trackedRecords l) ≡ l .pool .kept)
             keep-fits s q = (
               omega (arith, there, textures-fit l fits),
               history-here l fits (x .id) i at (kept-says .0),
@@ -319,7 +322,7 @@ module _ (l : Lent) (e : isPool l ≡ true) (failed current : ℕ) where
               fits .kept,
             )
 
-            pub kept-counts-fit : (l .pool .kept ≤ 4096) × (l .pool .parked + bytes ≤ l .pool .cap)
+            pub kept-counts-fit : (l .pool .kept ≤ mostPlaces) × (l .pool .parked + bytes ≤ l .pool .cap)
             kept-counts-fit = (omega (arith, fits .versions, fits .most), kept-says .1)
 
             abbrev stays : Pool ℕ
@@ -355,20 +358,20 @@ module _ (l : Lent) (e : isPool l ≡ true) (failed current : ℕ) where
               line = l .pool .line;
             }
 
-            textures-kept : sets (l .textures) (20 * i) (writeTexture (oneMore (textureAt l i))) ≡ texturesAfter stays l
+            textures-kept : sets (l .textures) (textureStride * i) (writeTexture (oneMore (textureAt l i))) ≡ texturesAfter stays l
             textures-kept =
-                ap (λ (t : TextureRecord). sets (l .textures) (20 * i) (writeTexture t))
+                ap (λ (t : TextureRecord). sets (l .textures) (textureStride * i) (writeTexture t))
                 (ap oneMore (sym (record-at l i there fits)) ∙ record-one spare (stateOf l i))
                 ∙ textures-set l stays fits i (withOne spare (stateOf l i)) there grown-is
 
-            spares-kept : sets (moved (l .spares) (3 * end + 3) (3 * end) (3 * (l .pool .kept - end))) (3 * end)
+            spares-kept : sets (moved (l .spares) (spareStride * end + spareStride) (spareStride * end) (spareStride * (l .pool .kept - end))) (spareStride * end)
                 (writeSpare (spareParked failed current x)) ≡ sparesAfter stays l
             spares-kept = spares-inserted l stays (fits .kept) (omega (arith, room)) end spare room end-within every-is
 
             pub park-kept : (head : ℕ) (s : SpareRecord) (c : Counts) (textures spares : List ℕ) → head ≡ placeOf (places l) (l .pool .head) 1
                 → s ≡ spareParked failed current x
-                → textures ≡ sets (l .textures) (20 * i) (writeTexture (oneMore (textureAt l i)))
-                → spares ≡ sets (moved (l .spares) (3 * end + 3) (3 * end) (3 * (l .pool .kept - end))) (3 * end) (writeSpare s)
+                → textures ≡ sets (l .textures) (textureStride * i) (writeTexture (oneMore (textureAt l i)))
+                → spares ≡ sets (moved (l .spares) (spareStride * end + spareStride) (spareStride * end) (spareStride * (l .pool .kept - end))) (spareStride * end) (writeSpare s)
                 → c ≡ handKept head bytes (l .pool)
                 → (toldNumber 0, lent c (l .book) textures (l .retiring) (l .doomed) spares (l .newest) (l .stamps)) ≡ parkCall l failed current
             park-kept head s c textures spares e1 e2 e3 e4 e5 =
@@ -377,6 +380,6 @@ module _ (l : Lent) (e : isPool l ≡ true) (failed current : ℕ) where
                 (e5 ∙ counts-kept head e1) (book-stays l fits stays refl) (e3 ∙ textures-kept)
                 (sym (retiring-parked l stays (fits .head) (omega (arith, fits .retiring)) (fits .hand) (ring-fits l fits) held refl refl))
                 (doomed-stay l fits stays refl)
-                (e4 ∙ ap (λ (y : SpareRecord). sets (moved (l .spares) (3 * end + 3) (3 * end) (3 * (l .pool .kept - end))) (3 * end)
+                (e4 ∙ ap (λ (y : SpareRecord). sets (moved (l .spares) (spareStride * end + spareStride) (spareStride * end) (spareStride * (l .pool .kept - end))) (spareStride * end)
                 (writeSpare y)) e2 ∙ spares-kept)
                 (newest-stay l fits stays paged) (stamps-stay l fits stays paged))

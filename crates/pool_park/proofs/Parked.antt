@@ -24,6 +24,9 @@ use Rattle.pool_memory.specs.declared.pool.Pool.{Pool}
 use Rattle.pool_park.specs.declared.park_or_destroy.Parking.{Parking}
 use Rattle.pool_park.specs.declared.park_or_destroy.Parking.the-variants.{Destroyed, Kept}
 use Rattle.pool_park.specs.Park.{parkRefusal, parkingOf, heldParked, oneMore, sparesEnd}
+use Rattle.grid_shapes.specs.ShapeConstants.{mostShapeBytes}
+use Rattle.pool_records.specs.RecordConstants.{spareStride, textureStride}
+use Rattle.pool_rules.specs.RuleConstants.{mostPlaces}
 
 -- ---- the code's refusals, in order
 
@@ -98,10 +101,10 @@ module _ (p : Pool) (pressed here : Bool) (t : TextureRecord) (v : RetiringRecor
   -- ---- what a decision says: no version's bytes pass 2^44; a kept one's texture is tracked, and the parked bytes with it are within the cap
 
   abbrev pub Says : Parking → Type 0
-  Says (Destroyed bytes) = bytes ≤ 17592186044416
+  Says (Destroyed bytes) = bytes ≤ mostShapeBytes
   Says (Kept bytes) = (here ≡ true) × (p .parked + bytes ≤ p .cap)
 
-  pub decision-says : v .bytes ≤ 17592186044416 → (here ≡ true → t .bytes ≤ 17592186044416) → Says (parkingOf p pressed here t v)
+  pub decision-says : v .bytes ≤ mostShapeBytes → (here ≡ true → t .bytes ≤ mostShapeBytes) → Says (parkingOf p pressed here t v)
   unfolding parkingOf
   decision-says few own = go here refl (eqb (t .epoch) (v .epoch)) full refl
     where
@@ -126,22 +129,22 @@ held-fits failed v h = go (not (eqb failed 0) && leb (v .birth) failed)
     go false = omega (arith, h)
 
 -- a texture's record with one more spare, and the spare behind those that it has; u is the record that was read, m the spares before the texture's
-module _ (a : List ℕ) (i : ℕ) (u : TextureRecord) (read : u ≡ recordAt 20 readTexture a i) where
-  pub keep-history : (w : TextureRecord) → w ≡ oneMore u → RecordedFits (recordAt 20 readTexture a i .history) → RecordedFits (w .history)
+module _ (a : List ℕ) (i : ℕ) (u : TextureRecord) (read : u ≡ recordAt textureStride readTexture a i) where
+  pub keep-history : (w : TextureRecord) → w ≡ oneMore u → RecordedFits (recordAt textureStride readTexture a i .history) → RecordedFits (w .history)
   keep-history w more h = subst (λ (t : TextureRecord). RecordedFits (t .history)) (sym (more ∙ ap oneMore read)) h
 
-  pub keep-record : (w : TextureRecord) → w ≡ oneMore u → (r : List ℕ) → r ≡ sets a (20 * i) (writeTexture w)
-      → r ≡ sets a (20 * i) (writeTexture (oneMore (recordAt 20 readTexture a i)))
-  keep-record w more r put = put ∙ ap (λ (t : TextureRecord). sets a (20 * i) (writeTexture t)) (more ∙ ap oneMore read)
+  pub keep-record : (w : TextureRecord) → w ≡ oneMore u → (r : List ℕ) → r ≡ sets a (textureStride * i) (writeTexture w)
+      → r ≡ sets a (textureStride * i) (writeTexture (oneMore (recordAt textureStride readTexture a i)))
+  keep-record w more r put = put ∙ ap (λ (t : TextureRecord). sets a (textureStride * i) (writeTexture t)) (more ∙ ap oneMore read)
 
-  module _ (m : ℕ) (before : m ≡ total (λ (t : TextureRecord). t .spares) (table 20 readTexture i a)) where
+  module _ (m : ℕ) (before : m ≡ total (λ (t : TextureRecord). t .spares) (table textureStride readTexture i a)) where
     end-is : m + u .spares ≡ sparesEnd a i
     end-is = ap₂ (λ (n : ℕ) (t : TextureRecord). n + t .spares) before read
 
-    pub end-fits : (kept : ℕ) → sparesEnd a i ≤ kept → kept ≤ 4096 → (m + u .spares ≤ kept) × (u .spares ≤ 4096)
+    pub end-fits : (kept : ℕ) → sparesEnd a i ≤ kept → kept ≤ mostPlaces → (m + u .spares ≤ kept) × (u .spares ≤ mostPlaces)
     end-fits kept h k = (omega (arith, end-is, h), omega (arith, end-is, h, k))
 
     pub keep-spare : (b : List ℕ) (kept : ℕ) (x : SpareRecord) (r : List ℕ)
-        → r ≡ sets (moved b (3 * (m + u .spares) + 3) (3 * (m + u .spares)) (3 * (kept - (m + u .spares)))) (3 * (m + u .spares)) (writeSpare x)
-        → r ≡ sets (moved b (3 * sparesEnd a i + 3) (3 * sparesEnd a i) (3 * (kept - sparesEnd a i))) (3 * sparesEnd a i) (writeSpare x)
-    keep-spare b kept x r put = put ∙ ap (λ (n : ℕ). sets (moved b (3 * n + 3) (3 * n) (3 * (kept - n))) (3 * n) (writeSpare x)) end-is
+        → r ≡ sets (moved b (spareStride * (m + u .spares) + spareStride) (spareStride * (m + u .spares)) (spareStride * (kept - (m + u .spares)))) (spareStride * (m + u .spares)) (writeSpare x)
+        → r ≡ sets (moved b (spareStride * sparesEnd a i + spareStride) (spareStride * sparesEnd a i) (spareStride * (kept - sparesEnd a i))) (spareStride * sparesEnd a i) (writeSpare x)
+    keep-spare b kept x r put = put ∙ ap (λ (n : ℕ). sets (moved b (spareStride * n + spareStride) (spareStride * n) (spareStride * (kept - n))) (spareStride * n) (writeSpare x)) end-is

@@ -15,6 +15,7 @@ use Rattle.pool_records.specs.Texture.{readTexture}
 use Rattle.pool_memory.specs.declared.pool.Pool.{Pool}
 use Rattle.pool_park.specs.declared.park_or_destroy.Parking.{Parking}
 use Rattle.pool_park.specs.declared.park_or_destroy.Parking.the-variants.{Destroyed, Kept}
+use Rattle.pool_records.specs.RecordConstants.{textureStride}
 
 -- the number of the first refusal, or 0
 unfoldable pub parkRefusal : Pool → ℕ → ℕ → ℕ
@@ -51,4 +52,4 @@ oneMore t = record {
 
 -- the place behind the spares of texture i
 abbrev pub sparesEnd : List ℕ → ℕ → ℕ
-sparesEnd textures i = total (λ (t : TextureRecord). t .spares) (table 20 readTexture i textures) + recordAt 20 readTexture textures i .spares
+sparesEnd textures i = total (λ (t : TextureRecord). t .spares) (table textureStride readTexture i textures) + recordAt textureStride readTexture textures i .spares

@@ -2,11 +2,12 @@
 ghost use mathlib.Core.Path.{_≡_};
 ghost use Prim.Native.Nat.{_+_, _≤_, _<_, _^_};
 ghost use Rattle.pool_park.specs.Counts.{handKept, handDoomed};
+ghost use Rattle.pool_rules.specs.RuleConstants.{mostPlaces};
 use pool_memory::Pool;
 
 // The hand's version parked. The ring begins at `head` without it.
 pub fn hand_kept(pool: Pool, head: usize, bytes: u64) -> Pool
-    requires { ⌜ (pool .kept ≤ 4096) × (pool .parked + bytes ≤ pool .cap) ⌝ }
+    requires { ⌜ (pool .kept ≤ mostPlaces) × (pool .parked + bytes ≤ pool .cap) ⌝ }
     ensures { λ r. ⌜ r ≡ handKept head bytes pool ⌝ }
 {
     let mut after = pool;
@@ -19,7 +20,7 @@ pub fn hand_kept(pool: Pool, head: usize, bytes: u64) -> Pool
 
 // The hand's version queued for destruction.
 pub fn hand_doomed(pool: Pool, head: usize, bytes: u64) -> Pool
-    requires { ⌜ (pool .doomed ≤ 4096) × (pool .since ≤ 4096) × (pool .dooming + bytes < 2 ^ 64) ⌝ }
+    requires { ⌜ (pool .doomed ≤ mostPlaces) × (pool .since ≤ mostPlaces) × (pool .dooming + bytes < 2 ^ 64) ⌝ }
     ensures { λ r. ⌜ r ≡ handDoomed head bytes pool ⌝ }
 {
     let mut after = pool;

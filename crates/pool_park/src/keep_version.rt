@@ -11,6 +11,8 @@ ghost use Rattle.pool_records.specs.Recorded.{RecordedFits};
 ghost use Rattle.pool_records.specs.Spare.{writeSpare};
 ghost use Rattle.pool_records.specs.Texture.{readTexture, writeTexture};
 ghost use Rattle.pool_park.specs.Park.{heldParked, spareParked, oneMore, sparesEnd};
+ghost use Rattle.pool_records.specs.RecordConstants.{spareStride, textureStride};
+ghost use Rattle.pool_rules.specs.RuleConstants.{mostPlaces};
 use pool_access::first_spare;
 use pool_access::insert_spare;
 use pool_access::put_texture;
@@ -43,7 +45,7 @@ pub fn spare_parked(v: RetiringRecord, failed: u64, current: u64) -> SpareRecord
 
 // A texture with one more spare.
 fn one_more(t: TextureRecord) -> TextureRecord
-    requires { ⌜ t .spares ≤ 4096 ⌝ }
+    requires { ⌜ t .spares ≤ mostPlaces ⌝ }
     ensures { λ r. ⌜ r ≡ oneMore t ⌝ }
 {
     let mut u = t;
@@ -60,13 +62,13 @@ pub fn keep_version(
     i: usize,
     x: SpareRecord,
 )
-    requires { ⌜ (20 * i + 20 ≤ length (now textures)) × RecordedFits (recordAt 20 readTexture (now textures) i .history)
-        × (sparesEnd (now textures) i ≤ kept) × (kept ≤ 4096) × (3 * kept + 3 ≤ length (now spares)) × HeldFits (x .held)
-        × (20 * tracked ≤ length (now textures)) × (i < tracked) × (total (λ t. t .spares) (table 20 readTexture tracked (now textures)) ≡ kept) ⌝ }
-    ensures { λ _. ⌜ (now (textures .exit) ≡ sets (now (textures .entry)) (20 * i) (writeTexture (oneMore (recordAt 20 readTexture (now (textures .entry)) i))))
+    requires { ⌜ (textureStride * i + textureStride ≤ length (now textures)) × RecordedFits (recordAt textureStride readTexture (now textures) i .history)
+        × (sparesEnd (now textures) i ≤ kept) × (kept ≤ mostPlaces) × (spareStride * kept + spareStride ≤ length (now spares)) × HeldFits (x .held)
+        × (textureStride * tracked ≤ length (now textures)) × (i < tracked) × (total (λ t. t .spares) (table textureStride readTexture tracked (now textures)) ≡ kept) ⌝ }
+    ensures { λ _. ⌜ (now (textures .exit) ≡ sets (now (textures .entry)) (textureStride * i) (writeTexture (oneMore (recordAt textureStride readTexture (now (textures .entry)) i))))
         × (now (spares .exit)
-        ≡ sets (moved (now (spares .entry)) (3 * sparesEnd (now (textures .entry)) i + 3) (3 * sparesEnd (now (textures .entry)) i) (3 * (kept - sparesEnd (now (textures .entry)) i)))
-        (3 * sparesEnd (now (textures .entry)) i) (writeSpare x)) ⌝ }
+        ≡ sets (moved (now (spares .entry)) (spareStride * sparesEnd (now (textures .entry)) i + spareStride) (spareStride * sparesEnd (now (textures .entry)) i) (spareStride * (kept - sparesEnd (now (textures .entry)) i)))
+        (spareStride * sparesEnd (now (textures .entry)) i) (writeSpare x)) ⌝ }
 {
     let t = texture_at(textures, i);
     let end = first_spare(textures, tracked, kept, i) + t.spares as usize;

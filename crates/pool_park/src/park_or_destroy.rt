@@ -6,12 +6,12 @@ ghost use Rattle.base_tables.specs.Records.{recordAt};
 ghost use Rattle.pool_records.specs.Texture.{readTexture};
 ghost use Rattle.pool_retire.specs.Noted.{hasId};
 ghost use Rattle.pool_park.specs.Park.{parkRefusal, parkingOf};
+ghost use Rattle.pool_records.specs.RecordConstants.{textureStride};
 use pool_access::has_id;
 use pool_access::texture_at;
 use pool_memory::Pool;
 use pool_records::RetiringRecord;
-
-const LIMIT: u64 = 281474976710656;
+use pool_rules::LIMIT;
 
 // What becomes of the version, with its bytes.
 pub enum Parking {
@@ -41,10 +41,10 @@ pub fn park_or_destroy(
     i: usize,
     v: RetiringRecord,
 ) -> Parking
-    requires { ⌜ (20 * pool .tracked ≤ length (now textures))
+    requires { ⌜ (textureStride * pool .tracked ≤ length (now textures))
         × (pool .parked ≤ pool .cap) ⌝ }
     ensures { λ r. ⌜ r
-        ≡ parkingOf pool pressed (hasId (now (textures .entry)) (pool .tracked) i (v .id)) (recordAt 20 readTexture (now (textures .entry)) i) v ⌝ }
+        ≡ parkingOf pool pressed (hasId (now (textures .entry)) (pool .tracked) i (v .id)) (recordAt textureStride readTexture (now (textures .entry)) i) v ⌝ }
 {
     if !has_id(textures, pool.tracked, i, v.id) {
         return Parking::Destroyed(v.bytes);

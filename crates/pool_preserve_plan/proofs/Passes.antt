@@ -21,6 +21,7 @@ use Rattle.pool_preserve_plan.specs.declared.copy.Planned.{Planned}
 use Rattle.pool_preserve_plan.specs.declared.copy.Planned.the-variants.{Skipped, Copied}
 use Rattle.pool_preserve_plan.specs.declared.since.Since.{Since}
 use Rattle.pool_preserve_plan.specs.Copies.{copyList, inOrder, sliceCopies, lentCopies, withCopies}
+use Rattle.pool_memory.specs.MemoryConstants.{copyStride}
 
 -- ---- of n, those from i on
 
@@ -48,7 +49,7 @@ module _ (f : ℕ → List PreserveCopy) (n : ℕ) where
   count-done i count t h inv = omega (arith, inv, ap length (rest-none i h))
 
   -- the next copies have room where all have
-  pub next-room : (i count t room : ℕ) → i < n → count + length (rest f n i) ≡ t → 7 * t ≤ room → 7 * (count + length (f i)) ≤ room
+  pub next-room : (i count t room : ℕ) → i < n → count + length (rest f n i) ≡ t → copyStride * t ≤ room → copyStride * (count + length (f i)) ≤ room
   next-room i count t room h inv fits = omega (arith, count-more i count t h inv)
 
 -- the slices of a plan
@@ -81,15 +82,15 @@ list-one p region a b e = ap (λ (x : Planned). copyList x a b) e
 
 -- ---- copies written
 
-pub copy-long : (c : PreserveCopy) → length (copyNumbers c) ≡ 7
+pub copy-long : (c : PreserveCopy) → length (copyNumbers c) ≡ copyStride
 unfolding copyNumbers
 copy-long c = go (c .region)
   where
-    go : (r : Region) → length (copyNumbers (record { slice = c .slice; level = c .level; region = r })) ≡ 7
+    go : (r : Region) → length (copyNumbers (record { slice = c .slice; level = c .level; region = r })) ≡ copyStride
     go Whole = refl
     go (Part r) = refl
 
-pub length-copies : (cs : List PreserveCopy) → length (flat copyNumbers cs) ≡ 7 * length cs
+pub length-copies : (cs : List PreserveCopy) → length (flat copyNumbers cs) ≡ copyStride * length cs
 unfolding flat
 length-copies [] = refl
 length-copies (c ∷ cs) = length-append (copyNumbers c) (flat copyNumbers cs) ∙ omega (arith, copy-long c, length-copies cs)
@@ -98,20 +99,20 @@ pub with-none : (at : ℕ) (b : List ℕ) → withCopies at [] b ≡ b
 unfolding withCopies flat
 with-none at b = refl
 
-pub with-one : (at : ℕ) (c : PreserveCopy) (b : List ℕ) → withCopies at (c ∷ []) b ≡ sets b (7 * at) (copyNumbers c)
+pub with-one : (at : ℕ) (c : PreserveCopy) (b : List ℕ) → withCopies at (c ∷ []) b ≡ sets b (copyStride * at) (copyNumbers c)
 unfolding withCopies flat
-with-one at c b = ap (sets b (7 * at)) (append-nil (copyNumbers c))
+with-one at c b = ap (sets b (copyStride * at)) (append-nil (copyNumbers c))
 
 pub with-append : (xs ys : List PreserveCopy) (at : ℕ) (b : List ℕ) → withCopies at (xs ++ ys) b ≡ withCopies (at + length xs) ys (withCopies at xs b)
 unfolding withCopies
 with-append xs ys at b =
-    ap (sets b (7 * at)) (flat-append copyNumbers xs ys)
-    ∙ sets-append b (7 * at) (flat copyNumbers xs) (flat copyNumbers ys)
-    ∙ ap (λ (k : ℕ). sets (sets b (7 * at) (flat copyNumbers xs)) k (flat copyNumbers ys))
-    (let e : 7 * at + length (flat copyNumbers xs) ≡ 7 * (at + length xs) = omega (arith, length-copies xs) in e)
+    ap (sets b (copyStride * at)) (flat-append copyNumbers xs ys)
+    ∙ sets-append b (copyStride * at) (flat copyNumbers xs) (flat copyNumbers ys)
+    ∙ ap (λ (k : ℕ). sets (sets b (copyStride * at) (flat copyNumbers xs)) k (flat copyNumbers ys))
+    (let e : copyStride * at + length (flat copyNumbers xs) ≡ copyStride * (at + length xs) = omega (arith, length-copies xs) in e)
 
 -- from the front of the buffer on
-pub with-front : (cs : List PreserveCopy) (b : List ℕ) → 7 * length cs ≤ length b → withCopies 0 cs b ≡ over (flat copyNumbers cs) b
+pub with-front : (cs : List PreserveCopy) (b : List ℕ) → copyStride * length cs ≤ length b → withCopies 0 cs b ≡ over (flat copyNumbers cs) b
 unfolding withCopies over
 with-front cs b h =
     sets-eq (flat copyNumbers cs) b 0 (omega (arith, length-copies cs))

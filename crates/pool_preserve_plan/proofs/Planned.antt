@@ -29,6 +29,7 @@ use Rattle.pool_preserve_plan.specs.declared.copy.Planned.the-variants.{
 use Rattle.pool_preserve_plan.specs.declared.since.Since.{Since}
 use Rattle.pool_preserve_plan.specs.declared.since.Since.the-variants.{After, Nothing}
 use Rattle.pool_preserve_plan.specs.Copies.{SinceFits, gridOn, boxPlanned, plannedSince, plannedAt}
+use Rattle.grid_stamps.specs.StampConstants.{pageStamps}
 
 -- ---- a box
 
@@ -69,8 +70,8 @@ module _ (newest stamps : List ℕ) (s : VersionShape) (u : UploadFootprint) (sl
 
 module _ (stamps : List ℕ) (k : ℕ) where
   -- the part that the code cuts out is the page
-  page-cut : take (1024 * k + 1024 - 1024 * k) (drop (1024 * k) stamps) ≡ pageAt stamps k
-  page-cut = ap (λ (n : ℕ). take n (drop (1024 * k) stamps)) (let e : 1024 * k + 1024 - 1024 * k ≡ 1024 = omega arith in e)
+  page-cut : take (pageStamps * k + pageStamps - pageStamps * k) (drop (pageStamps * k) stamps) ≡ pageAt stamps k
+  page-cut = ap (λ (n : ℕ). take n (drop (pageStamps * k) stamps)) (let e : pageStamps * k + pageStamps - pageStamps * k ≡ pageStamps = omega arith in e)
 
   module _ (s : VersionShape) (level : ℕ) (across down : Axis) (a : across ≡ tilingOf s level .across) (d : down ≡ tilingOf s level .down) where
     tiling : tiled across down ≡ tilingOf s level
@@ -78,11 +79,11 @@ module _ (stamps : List ℕ) (k : ℕ) where
     tiling = ap₂ tiled a d
 
     -- it has room for the level's stamps
-    pub page-ready : isShape s ≡ true → 1024 * k + 1024 ≤ length stamps
-        → AxisOk across × AxisOk down × (stampCount (tiled across down) ≤ length (take (1024 * k + 1024 - 1024 * k) (drop (1024 * k) stamps)))
+    pub page-ready : isShape s ≡ true → pageStamps * k + pageStamps ≤ length stamps
+        → AxisOk across × AxisOk down × (stampCount (tiled across down) ≤ length (take (pageStamps * k + pageStamps - pageStamps * k) (drop (pageStamps * k) stamps)))
     page-ready shaped room =
         let ok = tiling-ok s shaped level in
-        let long : length (pageAt stamps k) ≡ 1024 = length-take-le 1024 (drop (1024 * k) stamps) (omega (arith, length-drop (1024 * k) stamps)) in (
+        let long : length (pageAt stamps k) ≡ pageStamps = length-take-le pageStamps (drop (pageStamps * k) stamps) (omega (arith, length-drop (pageStamps * k) stamps)) in (
           subst AxisOk (sym a) (ok .across),
           subst AxisOk (sym d) (ok .down),
           omega (arith, ap stampCount tiling, count-bound (tilingOf s level) ok, ap length page-cut, long),
@@ -90,7 +91,7 @@ module _ (stamps : List ℕ) (k : ℕ) where
 
     -- and holds the level's grid
     pub page-grid : (newest : List ℕ) (held : ℕ)
-        → boxSince (tiled across down) held (gridIn (tiled across down) (getD newest k 0) (take (1024 * k + 1024 - 1024 * k) (drop (1024 * k) stamps)))
+        → boxSince (tiled across down) held (gridIn (tiled across down) (getD newest k 0) (take (pageStamps * k + pageStamps - pageStamps * k) (drop (pageStamps * k) stamps)))
         ≡ boxSince (tilingOf s level) held (gridOn s level newest stamps k)
     unfolding gridOn
     page-grid newest held = ap₂ (λ (g : Tiling) (page : List ℕ). boxSince g held (gridIn g (getD newest k 0) page)) tiling page-cut
@@ -110,7 +111,7 @@ pub pages-most : (s : VersionShape) → isShape s ≡ true → pagesOf s ≤ 90
 unfolding pagesOf
 pages-most s e = omega (arith, mul-le-mul (slices-most s) (shape-bounds s e .levels-bound))
 
-pub since-fits : (since : Since) (page held pages n m : ℕ) → since ≡ After page held → SinceFits since pages n m → (page + pages ≤ n) × (1024 * n ≤ m)
+pub since-fits : (since : Since) (page held pages n m : ℕ) → since ≡ After page held → SinceFits since pages n m → (page + pages ≤ n) × (pageStamps * n ≤ m)
 since-fits since page held pages n m e f = rw e at f
 
 -- where a subresource's page stands in the lent slices
@@ -118,7 +119,7 @@ pub record PageIn (s : VersionShape) (slice level page n m : ℕ) : Type 0 where
   pub product : slice * s .levels ≤ 90
   pub levels : level ≤ 15
   pub place : page + gridPlace s slice level < n
-  pub room : 1024 * (page + gridPlace s slice level) + 1024 ≤ m
+  pub room : pageStamps * (page + gridPlace s slice level) + pageStamps ≤ m
 
 pub page-in : (s : VersionShape) (slice level : ℕ) (since : Since) (page held n m : ℕ) → isShape s ≡ true → slice < slicesOf s → level < s .levels
     → SinceFits since (pagesOf s) n m → since ≡ After page held → PageIn s slice level page n m

@@ -35,6 +35,8 @@ use Rattle.pool_preserve_plan.specs.Copies.{SinceFits, gridOn, boxPlanne
 use Rattle.pool_preserve_plan.specs.PreservePlan.{sinceOf, isOther, skipsSpent, planRefusal}
 use Rattle.pool_preserve_plan.proofs.Passes.{list-most, with-front}
 use Rattle.pool_preserve_plan.proofs.Finding.{historyIn, spent-found, foundIn, plan-found, found-fits}
+use Rattle.grid_stamps.specs.StampConstants.{pageStamps}
+use Rattle.pool_memory.specs.MemoryConstants.{copyStride}
 
 -- ---- in order
 
@@ -84,7 +86,7 @@ unfolding copyList boxPlanned boxCopy
 box-list s slice level Clean = refl
 box-list s slice level (Box r) = refl
 
-module _ (l : Lent) (paged : 1024 * length (l .newest) ≡ length (l .stamps)) (s : VersionShape) (shaped : isShape s ≡ true) where
+module _ (l : Lent) (paged : pageStamps * length (l .newest) ≡ length (l .stamps)) (s : VersionShape) (shaped : isShape s ≡ true) where
   -- the grid on the page is the model's
   grid-same : (page n slice level : ℕ) → page + pagesOf s ≤ length (l .newest) → slice < slicesOf s → level < s .levels
       → gridOn s level (l .newest) (l .stamps) (page + gridPlace s slice level)
@@ -197,47 +199,47 @@ module _ (l : Lent) (pool : isPool l ≡ true) (id : ℕ) (shape : VersionShape)
       (not-false (isShape shape) (q .0), ltb-false room (length planned) (q .1))
 
   module _ (buffer : List ℕ) where
-    pub plan-refused : (number-of (length buffer / 7) ≡ 0 → ⊥)
-        → (refusal (number-of (length buffer / 7)), (buffer, l)) ≡ preservePlanCall l buffer id shape held u
+    pub plan-refused : (number-of (length buffer / copyStride) ≡ 0 → ⊥)
+        → (refusal (number-of (length buffer / copyStride)), (buffer, l)) ≡ preservePlanCall l buffer id shape held u
     unfolding preservePlanCall planRefusal
     plan-refused h =
         sym (ap (inBuffer copyNumbers buffer)
-        (asked-refused (λ a. a) l (λ (p : Pool ℕ). preservePlan p id shape held u (length buffer / 7)) pool _
-        (plan-rule (length buffer / 7) ∙ guards-refused (accepted planned (modelOf l)) _ _ _ _ h)))
+        (asked-refused (λ a. a) l (λ (p : Pool ℕ). preservePlan p id shape held u (length buffer / copyStride)) pool _
+        (plan-rule (length buffer / copyStride) ∙ guards-refused (accepted planned (modelOf l)) _ _ _ _ h)))
 
-    pub plan-accepted : number-of (length buffer / 7) ≡ 0
+    pub plan-accepted : number-of (length buffer / copyStride) ≡ 0
         → (answer (length planned), (withCopies 0 planned buffer, l)) ≡ preservePlanCall l buffer id shape held u
     unfolding preservePlanCall planRefusal
     plan-accepted h =
         sym (ap (inBuffer copyNumbers buffer)
-        (asked-accepted (λ a. a) l (λ (p : Pool ℕ). preservePlan p id shape held u (length buffer / 7)) pool planned (modelOf l)
-        (plan-rule (length buffer / 7) ∙ guards-passed (accepted planned (modelOf l)) _ _ _ _ h))
+        (asked-accepted (λ a. a) l (λ (p : Pool ℕ). preservePlan p id shape held u (length buffer / copyStride)) pool planned (modelOf l)
+        (plan-rule (length buffer / copyStride) ∙ guards-passed (accepted planned (modelOf l)) _ _ _ _ h))
         ∙ ap₂ (λ (b : List ℕ) (m : Lent). (answer (length planned), (b, m)))
-        (sym (with-front planned buffer (omega (arith, plan-room (length buffer / 7) h .1)))) (nothing-changed l fits))
+        (sym (with-front planned buffer (omega (arith, plan-room (length buffer / copyStride) h .1)))) (nothing-changed l fits))
 
     -- as the code has them: what it found, what bounds the copies and the number that it worked out
     module _ (f : Found) (since : Since) (e : f ≡ found) (b : since ≡ sinceOf f held) where
       same-copies : lentCopies (l .newest) (l .stamps) shape since u ≡ planned
       same-copies = ap (λ (x : Since). lentCopies (l .newest) (l .stamps) shape x u) (b ∙ ap (λ (x : Found). sinceOf x held) e)
 
-      same-number : (n : ℕ) → n ≡ planRefusal shape f u (length (lentCopies (l .newest) (l .stamps) shape since u)) (length buffer / 7)
-          → n ≡ number-of (length buffer / 7)
-      same-number n q = q ∙ ap₂ (λ (x : Found) (cs : List PreserveCopy). planRefusal shape x u (length cs) (length buffer / 7)) e same-copies
+      same-number : (n : ℕ) → n ≡ planRefusal shape f u (length (lentCopies (l .newest) (l .stamps) shape since u)) (length buffer / copyStride)
+          → n ≡ number-of (length buffer / copyStride)
+      same-number n q = q ∙ ap₂ (λ (x : Found) (cs : List PreserveCopy). planRefusal shape x u (length cs) (length buffer / copyStride)) e same-copies
 
-      pub fits-room : (n : ℕ) → n ≡ planRefusal shape f u (length (lentCopies (l .newest) (l .stamps) shape since u)) (length buffer / 7) → n ≡ 0
-          → (isShape shape ≡ true) × (7 * length (lentCopies (l .newest) (l .stamps) shape since u) ≤ length buffer)
+      pub fits-room : (n : ℕ) → n ≡ planRefusal shape f u (length (lentCopies (l .newest) (l .stamps) shape since u)) (length buffer / copyStride) → n ≡ 0
+          → (isShape shape ≡ true) × (copyStride * length (lentCopies (l .newest) (l .stamps) shape since u) ≤ length buffer)
       fits-room n q z =
-          let r = plan-room (length buffer / 7) (sym (same-number n q) ∙ z) in
+          let r = plan-room (length buffer / copyStride) (sym (same-number n q) ∙ z) in
           (r .0, omega (arith, r .1, ap length same-copies))
 
-      pub says-refused : (n : ℕ) → n ≡ planRefusal shape f u (length (lentCopies (l .newest) (l .stamps) shape since u)) (length buffer / 7)
+      pub says-refused : (n : ℕ) → n ≡ planRefusal shape f u (length (lentCopies (l .newest) (l .stamps) shape since u)) (length buffer / copyStride)
           → (n ≡ 0 → ⊥) → (refusal n, (buffer, l)) ≡ preservePlanCall l buffer id shape held u
       says-refused n q h =
           let w = same-number n q in
           ap (λ (k : ℕ). (refusal k, (buffer, l))) w ∙ plan-refused (λ z. h (w ∙ z))
 
       pub says-accepted : (n count : ℕ) (after : List ℕ)
-          → n ≡ planRefusal shape f u (length (lentCopies (l .newest) (l .stamps) shape since u)) (length buffer / 7) → n ≡ 0
+          → n ≡ planRefusal shape f u (length (lentCopies (l .newest) (l .stamps) shape since u)) (length buffer / copyStride) → n ≡ 0
           → count ≡ length (lentCopies (l .newest) (l .stamps) shape since u)
           → after ≡ withCopies 0 (lentCopies (l .newest) (l .stamps) shape since u) buffer
           → (answer count, (after, l)) ≡ preservePlanCall l buffer id shape held u

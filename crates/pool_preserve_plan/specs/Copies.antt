@@ -24,6 +24,8 @@ use Rattle.pool_preserve_plan.specs.declared.copy.Planned.the-variants.{
 use Rattle.pool_preserve_plan.specs.declared.since.Since.{Since}
 use Rattle.pool_preserve_plan.specs.declared.since.Since.the-variants.{After, Nothing}
 use Rattle.pool_preserve_plan.specs.declared.since.Upload.{Upload}
+use Rattle.grid_stamps.specs.StampConstants.{pageStamps}
+use Rattle.pool_memory.specs.MemoryConstants.{copyStride}
 
 abbrev pub footprint : Upload → UploadFootprint
 footprint u = record { slice = u .slice; level = u .level; cover = u .cover }
@@ -31,7 +33,7 @@ footprint u = record { slice = u .slice; level = u .level; cover = u .cover }
 -- the pages of a history are there
 abbrev pub SinceFits : Since → ℕ → ℕ → ℕ → Type 0
 SinceFits Nothing pages newest stamps = Unit
-SinceFits (After page held) pages newest stamps = (page + pages ≤ newest) × (1024 * newest ≤ stamps)
+SinceFits (After page held) pages newest stamps = (page + pages ≤ newest) × (pageStamps * newest ≤ stamps)
 
 -- ---- one subresource
 
@@ -82,4 +84,4 @@ lentCopies newest stamps s since u = inOrder (sliceCopies newest stamps s since 
 
 -- copies written behind the first `at` of a buffer, seven numbers each
 unfoldable pub withCopies : ℕ → List PreserveCopy → List ℕ → List ℕ
-withCopies at cs buffer = sets buffer (7 * at) (flat copyNumbers cs)
+withCopies at cs buffer = sets buffer (copyStride * at) (flat copyNumbers cs)

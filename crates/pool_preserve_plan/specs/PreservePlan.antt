@@ -24,6 +24,7 @@ use Rattle.pool_preserve_plan.specs.declared.history.Found.{Found}
 use Rattle.pool_preserve_plan.specs.declared.history.Found.the-variants.{OtherShape, NothingRecorded, History}
 use Rattle.pool_preserve_plan.specs.declared.calls.preserve_plan.PlanAnswer.{PlanAnswer}
 use Rattle.pool_preserve_plan.specs.declared.calls.preserve_plan.PlanAnswer.the-variants.{Copies, Refused}
+use Rattle.pool_records.specs.RecordConstants.{textureStride}
 
 -- ---- the texture
 
@@ -38,11 +39,11 @@ foundOf page shape t = cond (sameShape (t .shape) shape) (recordedFound page (t 
 -- record i, if it is there and has the id
 unfoldable pub foundAt : List ℕ → ℕ → ℕ → VersionShape → ℕ → Found
 foundAt textures tracked id shape i =
-    cond (ltb i tracked && eqb (idOf (recordAt 20 readTexture textures i)) id)
-    (foundOf (total recordPages (table 20 readTexture i textures)) shape (recordAt 20 readTexture textures i)) NothingRecorded
+    cond (ltb i tracked && eqb (idOf (recordAt textureStride readTexture textures i)) id)
+    (foundOf (total recordPages (table textureStride readTexture i textures)) shape (recordAt textureStride readTexture textures i)) NothingRecorded
 
 unfoldable pub historyFound : List ℕ → ℕ → ℕ → VersionShape → Found
-historyFound textures tracked id shape = foundAt textures tracked id shape (below id (table 20 readTexture tracked textures))
+historyFound textures tracked id shape = foundAt textures tracked id shape (below id (table textureStride readTexture tracked textures))
 
 -- the copies are bounded where both are known
 abbrev pub sinceHeld : ℕ → Held → Since

@@ -8,6 +8,7 @@ ghost use Rattle.grid_stamps.specs.Grids.{tilingOf, boxSince};
 ghost use Rattle.pool_rules.specs.Model.{pagesOf};
 ghost use Rattle.pool_rules.specs.PreservePlan.{sameRect};
 ghost use Rattle.pool_preserve_plan.specs.Copies.{gridOn, boxPlanned, SinceFits, footprint, plannedAt, copyNumbersOf};
+ghost use Rattle.grid_stamps.specs.StampConstants.{pageStamps};
 use crate::since::Since;
 use crate::since::Upload;
 use grid_rects::Region;
@@ -16,9 +17,11 @@ use grid_rects::level_rect;
 use grid_shapes::VersionShape;
 use grid_shapes::level_extent;
 use grid_stamps::Dirty;
+use grid_stamps::PAGE_STAMPS;
 use grid_stamps::across_axis;
 use grid_stamps::down_axis;
 use grid_views::written_since;
+use pool_memory::COPY_STRIDE;
 
 // A subresource of a plan: left out, or copied whole or in part.
 pub enum Planned {
@@ -56,13 +59,13 @@ fn page_since(
     level: u64,
     held: u64,
 ) -> Dirty
-    requires { ⌜ (isShape shape ≡ true) × (k < length (now newest)) × (1024 * k + 1024 ≤ length (now stamps)) ⌝ }
+    requires { ⌜ (isShape shape ≡ true) × (k < length (now newest)) × (pageStamps * k + pageStamps ≤ length (now stamps)) ⌝ }
     ensures { λ r. ⌜ r ≡ boxSince (tilingOf shape level) held (gridOn shape level (now (newest .entry)) (now (stamps .entry)) k) ⌝ }
 {
     let across = across_axis(shape, level);
     let down = down_axis(shape, level);
-    let a = 1024 * k;
-    let e = a + 1024;
+    let a = PAGE_STAMPS * k;
+    let e = a + PAGE_STAMPS;
     written_since(&stamps[a..e], across, down, newest[k], held)
 }
 
@@ -93,7 +96,7 @@ pub fn copy_at(
 }
 
 // Seven numbers a copy: slice, level, whole or not, left, top, width, height.
-pub fn copy_numbers(slice: u64, level: u64, region: Region) -> [u64; 7]
+pub fn copy_numbers(slice: u64, level: u64, region: Region) -> [u64; COPY_STRIDE]
     ensures { λ r. ⌜ r ≡ copyNumbersOf slice level region ⌝ }
 {
     match region {

@@ -9,6 +9,8 @@ ghost use Rattle.pool_records.specs.Texture.{readTexture};
 ghost use Rattle.pool_records.specs.Find.{idOf};
 ghost use Rattle.pool_memory.specs.Reading.{recordPages};
 ghost use Rattle.pool_preserve_plan.specs.PreservePlan.{historyFound, sinceHeld, sinceOf, isOther, isSpent};
+ghost use Rattle.pool_records.specs.RecordConstants.{textureStride};
+ghost use Rattle.pool_rules.specs.RuleConstants.{mostPlaces};
 use crate::since::Since;
 use grid_shapes::VersionShape;
 use grid_shapes::same_shape;
@@ -18,6 +20,7 @@ use pool_access::texture_at;
 use pool_records::Recorded;
 use pool_records::find_texture;
 use pool_rules::Held;
+use pool_rules::LIMIT;
 
 // A texture tracked with another shape; one with no history, tracked or not; the first page and the write count of a history.
 pub enum Found {
@@ -27,8 +30,8 @@ pub enum Found {
 }
 
 pub fn find_history(textures: &[u64], tracked: usize, id: u64, shape: VersionShape) -> Found
-    requires { ⌜ (20 * tracked ≤ length (now textures)) × (ascending idOf (table 20 readTexture tracked (now textures)) ≡ true)
-        × (total recordPages (table 20 readTexture tracked (now textures)) ≤ 4096) ⌝ }
+    requires { ⌜ (textureStride * tracked ≤ length (now textures)) × (ascending idOf (table textureStride readTexture tracked (now textures)) ≡ true)
+        × (total recordPages (table textureStride readTexture tracked (now textures)) ≤ mostPlaces) ⌝ }
     ensures { λ r. ⌜ r ≡ historyFound (now (textures .entry)) tracked id shape ⌝ }
 {
     let i = find_texture(textures, tracked, id);
@@ -85,6 +88,6 @@ pub fn is_spent(found: Found) -> bool
     match found {
         Found::OtherShape => false,
         Found::NothingRecorded => false,
-        Found::History { writes, .. } => 281474976710656 <= writes,
+        Found::History { writes, .. } => LIMIT <= writes,
     }
 }

@@ -6,6 +6,7 @@ ghost use lib.ListN.{length};
 ghost use Rattle.grid_shapes.specs.Shapes.{isShape, slicesOf};
 ghost use Rattle.pool_rules.specs.Model.{pagesOf};
 ghost use Rattle.pool_preserve_plan.specs.Copies.{SinceFits, footprint, copyList, sliceCopies, lentCopies, withCopies};
+ghost use Rattle.pool_memory.specs.MemoryConstants.{copyStride};
 use crate::copy::Planned;
 use crate::copy::copy_at;
 use crate::copy::copy_numbers;
@@ -14,10 +15,11 @@ use crate::since::Upload;
 use base_tables::put_record;
 use grid_shapes::VersionShape;
 use grid_shapes::slices;
+use pool_memory::COPY_STRIDE;
 
 // A subresource's copy, if there is one, behind the `at` copies of the buffer. The answer is how many there are then.
 fn put_copy(buffer: &mut [u64], at: usize, planned: Planned, slice: u64, level: u64) -> usize
-    requires { ⌜ 7 * (at + length (copyList planned slice level)) ≤ length (now buffer) ⌝ }
+    requires { ⌜ copyStride * (at + length (copyList planned slice level)) ≤ length (now buffer) ⌝ }
     ensures { λ r. ⌜ (r ≡ at + length (copyList planned slice level))
         × (now (buffer .exit) ≡ withCopies at (copyList planned slice level) (now (buffer .entry))) ⌝ }
 {
@@ -25,7 +27,7 @@ fn put_copy(buffer: &mut [u64], at: usize, planned: Planned, slice: u64, level: 
         return at;
     };
     let numbers = copy_numbers(slice, level, region);
-    put_record(buffer, 7, at, &numbers);
+    put_record(buffer, COPY_STRIDE, at, &numbers);
     at + 1
 }
 
@@ -41,7 +43,7 @@ fn put_slice(
     slice: u64,
 ) -> usize
     requires { ⌜ (isShape shape ≡ true) × (slice < slicesOf shape) × SinceFits since (pagesOf shape) (length (now newest)) (length (now stamps))
-        × (7 * (at + length (sliceCopies (now newest) (now stamps) shape since (footprint upload) slice)) ≤ length (now buffer)) ⌝ }
+        × (copyStride * (at + length (sliceCopies (now newest) (now stamps) shape since (footprint upload) slice)) ≤ length (now buffer)) ⌝ }
     ensures { λ r. ⌜ (r ≡ at + length (sliceCopies (now (newest .entry)) (now (stamps .entry)) shape since (footprint upload) slice))
         × (now (buffer .exit)
         ≡ withCopies at (sliceCopies (now (newest .entry)) (now (stamps .entry)) shape since (footprint upload) slice) (now (buffer .entry))) ⌝ }
@@ -66,7 +68,7 @@ pub fn put_copies(
     upload: Upload,
 ) -> usize
     requires { ⌜ (isShape shape ≡ true) × SinceFits since (pagesOf shape) (length (now newest)) (length (now stamps))
-        × (7 * length (lentCopies (now newest) (now stamps) shape since (footprint upload)) ≤ length (now buffer)) ⌝ }
+        × (copyStride * length (lentCopies (now newest) (now stamps) shape since (footprint upload)) ≤ length (now buffer)) ⌝ }
     ensures { λ r. ⌜ (r ≡ length (lentCopies (now (newest .entry)) (now (stamps .entry)) shape since (footprint upload)))
         × (now (buffer .exit)
         ≡ withCopies 0 (lentCopies (now (newest .entry)) (now (stamps .entry)) shape since (footprint upload)) (now (buffer .entry))) ⌝ }

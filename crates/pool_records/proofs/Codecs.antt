@@ -1,6 +1,9 @@
 -- Each type's reading and writing is a codec of its width: what was written is read, and what was read is written back as it stood, for all
 -- numbers. Assumes nothing.
-use mathlib.Core.Path.{refl}
+use Prim.Native.Nat.{ℕ}
+use mathlib.Core.Path.{_≡_, refl}
+use mathlib.Core.List.{List}
+use lib.ListN.{take}
 use lib.Dec.{lit<}
 use lib.Seq.{getD-take}
 use Rattle.base_tables.proofs.Records.{Codec, take-tab}
@@ -9,35 +12,45 @@ use Rattle.pool_records.specs.Retiring.{readRetiring, writeRetiring}
 use Rattle.pool_records.specs.Doomed.{readDoomed, writeDoomed}
 use Rattle.pool_records.specs.Texture.{readTexture, writeTexture}
 use Rattle.pool_records.proofs.Counts.{held-number, number-held, recorded-number, number-recorded}
+use Rattle.pool_records.specs.RecordConstants.{doomedStride, retiringStride, spareStride, textureStride}
 
-pub spare-codec : Codec 3 readSpare writeSpare
+-- simp takes `lit<` only at a number that it sees, so these two say theirs in digits: readers of 3 and of 20 numbers
+spare-front : (l : List ℕ) → readSpare (take 3 l) ≡ readSpare l
+unfolding readSpare
+spare-front l = simp (getD-take, lit<, tt {0})
+
+texture-front : (l : List ℕ) → readTexture (take 20 l) ≡ readTexture l
+unfolding readTexture
+texture-front l = simp (getD-take, lit<, tt {0})
+
+pub spare-codec : Codec spareStride readSpare writeSpare
 unfolding readSpare writeSpare
 spare-codec = record {
   long = λ a. refl;
   read = λ a l i. record { view = a .view; held = held-number (a .held) i; parked = a .parked };
-  back = λ l h. rw (take-tab 3 l h, number-held);
-  front = λ l. simp (getD-take, lit<, tt {0});
+  back = λ l h. rw (take-tab spareStride l h, number-held);
+  front = spare-front;
 }
 
-pub retiring-codec : Codec 7 readRetiring writeRetiring
+pub retiring-codec : Codec retiringStride readRetiring writeRetiring
 unfolding readRetiring writeRetiring
 retiring-codec = record {
   long = λ a. refl;
   read = λ a l. refl;
-  back = λ l h. rw (take-tab 7 l h);
+  back = λ l h. rw (take-tab retiringStride l h);
   front = λ l. simp (getD-take, lit<, tt {0});
 }
 
-pub doomed-codec : Codec 2 readDoomed writeDoomed
+pub doomed-codec : Codec doomedStride readDoomed writeDoomed
 unfolding readDoomed writeDoomed
 doomed-codec = record {
   long = λ a. refl;
   read = λ a l. refl;
-  back = λ l h. rw (take-tab 2 l h);
+  back = λ l h. rw (take-tab doomedStride l h);
   front = λ l. simp (getD-take, lit<, tt {0});
 }
 
-pub texture-codec : Codec 20 readTexture writeTexture
+pub texture-codec : Codec textureStride readTexture writeTexture
 unfolding readTexture writeTexture
 texture-codec = record {
   long = λ a. refl;
@@ -52,6 +65,6 @@ texture-codec = record {
     spares = a .spares;
     bytes = a .bytes;
   };
-  back = λ l h. rw (take-tab 20 l h, number-recorded);
-  front = λ l. simp (getD-take, lit<, tt {0});
+  back = λ l h. rw (take-tab textureStride l h, number-recorded);
+  front = texture-front;
 }

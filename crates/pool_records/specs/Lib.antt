@@ -1,3 +1,4 @@
+pub mod RecordConstants
 pub mod Held
 pub mod Recorded
 pub mod Spare

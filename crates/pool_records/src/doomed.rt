@@ -3,6 +3,9 @@ ghost use mathlib.Core.Path.{_≡_};
 ghost use Prim.Native.Nat.{_≤_};
 ghost use lib.ListN.{length};
 ghost use Rattle.pool_records.specs.Doomed.{readDoomed, writeDoomed};
+ghost use Rattle.pool_records.specs.RecordConstants.{doomedStride};
+use crate::constants::DOOMED_BYTES_AT;
+use crate::constants::DOOMED_STRIDE;
 
 pub struct DoomedRecord {
     pub view: u64,
@@ -10,16 +13,16 @@ pub struct DoomedRecord {
 }
 
 pub fn read_doomed(p: &[u64]) -> DoomedRecord
-    requires { ⌜ 2 ≤ length (now p) ⌝ }
+    requires { ⌜ doomedStride ≤ length (now p) ⌝ }
     ensures { λ r. ⌜ r ≡ readDoomed (now (p .entry)) ⌝ }
 {
     DoomedRecord {
         view: p[0],
-        bytes: p[1],
+        bytes: p[DOOMED_BYTES_AT],
     }
 }
 
-pub fn doomed_numbers(x: DoomedRecord) -> [u64; 2]
+pub fn doomed_numbers(x: DoomedRecord) -> [u64; DOOMED_STRIDE]
     ensures { λ r. ⌜ r ≡ writeDoomed x ⌝ }
 {
     [x.view, x.bytes]

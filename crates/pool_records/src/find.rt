@@ -6,17 +6,19 @@ ghost use Prim.Native.Nat.{_*_, _≤_};
 ghost use lib.ListN.{length};
 ghost use Rattle.base_blocks.specs.Lists.{ascending};
 ghost use Rattle.pool_records.specs.Find.{textures, idOf, below};
+ghost use Rattle.pool_records.specs.RecordConstants.{textureStride};
+use crate::constants::TEXTURE_STRIDE;
 
 // How many of the first n records have an id below this one. Its texture is at that place, or nowhere.
 pub fn find_texture(s: &[u64], n: usize, id: u64) -> usize
-    requires { ⌜ (20 * n ≤ length (now s)) × (ascending idOf (textures n (now s)) ≡ true) ⌝ }
+    requires { ⌜ (textureStride * n ≤ length (now s)) × (ascending idOf (textures n (now s)) ≡ true) ⌝ }
     ensures { λ r. ⌜ r ≡ below id (textures n (now (s .entry))) ⌝ }
 {
     let mut lo = 0;
     let mut hi = n;
     while 8 < hi - lo {
         let mid = lo + (hi - lo) / 2;
-        if s[20 * mid] < id {
+        if s[TEXTURE_STRIDE * mid] < id {
             lo = mid + 1;
         } else {
             hi = mid;
@@ -25,7 +27,7 @@ pub fn find_texture(s: &[u64], n: usize, id: u64) -> usize
     // Among so few, a count without branches is quicker than more halves.
     let mut place = lo;
     while lo < hi {
-        place += (s[20 * lo] < id) as usize;
+        place += (s[TEXTURE_STRIDE * lo] < id) as usize;
         lo += 1;
     }
     place

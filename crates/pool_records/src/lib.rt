@@ -1,5 +1,6 @@
 // The records that the pool's lent slices hold. A record is a struct by value; one function reads it from the front of a slice of
 // numbers and one writes its numbers, so that the order of the numbers stands in one place a type.
+mod constants;
 mod doomed;
 mod find;
 mod held;
@@ -8,6 +9,20 @@ mod retiring;
 mod spare;
 mod texture;
 
+pub use constants::DOOMED_BYTES_AT;
+pub use constants::DOOMED_STRIDE;
+pub use constants::RETIRING_STRIDE;
+pub use constants::SPARE_HELD_AT;
+pub use constants::SPARE_PARKED_AT;
+pub use constants::SPARE_STRIDE;
+pub use constants::TEXTURE_BYTES_AT;
+pub use constants::TEXTURE_DUE_AT;
+pub use constants::TEXTURE_HISTORY_AT;
+pub use constants::TEXTURE_KIND_AT;
+pub use constants::TEXTURE_LEVELS_AT;
+pub use constants::TEXTURE_RENAME_AT;
+pub use constants::TEXTURE_SPARES_AT;
+pub use constants::TEXTURE_STRIDE;
 pub use doomed::DoomedRecord;
 pub use doomed::doomed_numbers;
 pub use doomed::read_doomed;

@@ -3,6 +3,8 @@ ghost use mathlib.Core.Path.{_≡_};
 ghost use Prim.Native.Nat.{_≤_};
 ghost use lib.ListN.{length};
 ghost use Rattle.pool_records.specs.Retiring.{readRetiring, writeRetiring};
+ghost use Rattle.pool_records.specs.RecordConstants.{retiringStride};
+use crate::constants::RETIRING_STRIDE;
 
 pub struct RetiringRecord {
     pub id: u64,
@@ -15,7 +17,7 @@ pub struct RetiringRecord {
 }
 
 pub fn read_retiring(p: &[u64]) -> RetiringRecord
-    requires { ⌜ 7 ≤ length (now p) ⌝ }
+    requires { ⌜ retiringStride ≤ length (now p) ⌝ }
     ensures { λ r. ⌜ r ≡ readRetiring (now (p .entry)) ⌝ }
 {
     RetiringRecord {
@@ -29,7 +31,7 @@ pub fn read_retiring(p: &[u64]) -> RetiringRecord
     }
 }
 
-pub fn retiring_numbers(x: RetiringRecord) -> [u64; 7]
+pub fn retiring_numbers(x: RetiringRecord) -> [u64; RETIRING_STRIDE]
     ensures { λ r. ⌜ r ≡ writeRetiring x ⌝ }
 {
     [x.id, x.view, x.seq, x.epoch, x.birth, x.held, x.bytes]

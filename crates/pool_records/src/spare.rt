@@ -4,6 +4,10 @@ ghost use Prim.Native.Nat.{_≤_};
 ghost use lib.ListN.{length};
 ghost use Rattle.pool_records.specs.Held.{HeldFits};
 ghost use Rattle.pool_records.specs.Spare.{readSpare, writeSpare};
+ghost use Rattle.pool_records.specs.RecordConstants.{spareStride};
+use crate::constants::SPARE_HELD_AT;
+use crate::constants::SPARE_PARKED_AT;
+use crate::constants::SPARE_STRIDE;
 use crate::held::held_number;
 use crate::held::read_held;
 use pool_rules::Held;
@@ -15,18 +19,18 @@ pub struct SpareRecord {
 }
 
 pub fn read_spare(p: &[u64]) -> SpareRecord
-    requires { ⌜ 3 ≤ length (now p) ⌝ }
+    requires { ⌜ spareStride ≤ length (now p) ⌝ }
     ensures { λ r. ⌜ r ≡ readSpare (now (p .entry)) ⌝ }
 {
-    let held = read_held(p[1]);
+    let held = read_held(p[SPARE_HELD_AT]);
     SpareRecord {
         view: p[0],
         held,
-        parked: p[2],
+        parked: p[SPARE_PARKED_AT],
     }
 }
 
-pub fn spare_numbers(x: SpareRecord) -> [u64; 3]
+pub fn spare_numbers(x: SpareRecord) -> [u64; SPARE_STRIDE]
     requires { ⌜ HeldFits (x .held) ⌝ }
     ensures { λ r. ⌜ r ≡ writeSpare x ⌝ }
 {

@@ -5,6 +5,15 @@ ghost use Prim.Native.Nat.{_≤_};
 ghost use lib.ListN.{length};
 ghost use Rattle.pool_records.specs.Recorded.{RecordedFits};
 ghost use Rattle.pool_records.specs.Texture.{readTexture, writeTexture};
+ghost use Rattle.pool_records.specs.RecordConstants.{textureStride};
+use crate::constants::TEXTURE_BYTES_AT;
+use crate::constants::TEXTURE_DUE_AT;
+use crate::constants::TEXTURE_HISTORY_AT;
+use crate::constants::TEXTURE_KIND_AT;
+use crate::constants::TEXTURE_LEVELS_AT;
+use crate::constants::TEXTURE_RENAME_AT;
+use crate::constants::TEXTURE_SPARES_AT;
+use crate::constants::TEXTURE_STRIDE;
 use crate::recorded::Recorded;
 use crate::recorded::read_recorded;
 use crate::recorded::recorded_number;
@@ -23,7 +32,7 @@ pub struct TextureRecord {
 }
 
 pub fn read_texture(p: &[u64]) -> TextureRecord
-    requires { ⌜ 20 ≤ length (now p) ⌝ }
+    requires { ⌜ textureStride ≤ length (now p) ⌝ }
     ensures { λ r. ⌜ r ≡ readTexture (now (p .entry)) ⌝ }
 {
     let shape = VersionShape {
@@ -31,8 +40,8 @@ pub fn read_texture(p: &[u64]) -> TextureRecord
         width: p[2],
         height: p[3],
         depth: p[4],
-        levels: p[5],
-        kind: p[6],
+        levels: p[TEXTURE_LEVELS_AT],
+        kind: p[TEXTURE_KIND_AT],
         storage: p[7],
         usage: p[8],
         red: p[9],
@@ -40,21 +49,21 @@ pub fn read_texture(p: &[u64]) -> TextureRecord
         blue: p[11],
         alpha: p[12],
     };
-    let history = read_recorded(p[14]);
+    let history = read_recorded(p[TEXTURE_HISTORY_AT]);
     TextureRecord {
         id: p[0],
         shape,
         epoch: p[13],
         history,
         birth: p[15],
-        rename: p[16],
-        due: p[17],
-        spares: p[18],
-        bytes: p[19],
+        rename: p[TEXTURE_RENAME_AT],
+        due: p[TEXTURE_DUE_AT],
+        spares: p[TEXTURE_SPARES_AT],
+        bytes: p[TEXTURE_BYTES_AT],
     }
 }
 
-pub fn texture_numbers(x: TextureRecord) -> [u64; 20]
+pub fn texture_numbers(x: TextureRecord) -> [u64; TEXTURE_STRIDE]
     requires { ⌜ RecordedFits (x .history) ⌝ }
     ensures { λ r. ⌜ r ≡ writeTexture x ⌝ }
 {

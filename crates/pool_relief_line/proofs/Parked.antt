@@ -22,11 +22,12 @@ use Rattle.pool_records.specs.Spare.{readSpare}
 use Rattle.pool_access.proofs.Fields.{spares-number}
 use Rattle.pool_relief_line.specs.Line.{countBefore, takenAt, gives, IsLine}
 use Rattle.pool_relief_line.specs.Parked.{parkedAt, parkings, bytesFrom, recordSpares, recordBytes}
+use Rattle.pool_records.specs.RecordConstants.{spareParkedAt, spareStride, textureSparesAt, textureStride}
 
 -- a parking number is the third number of its record
-pub parked-at : (spares : List ℕ) (k : ℕ) → getD spares (3 * k + 2) 0 ≡ parkedAt spares k
+pub parked-at : (spares : List ℕ) (k : ℕ) → getD spares (spareStride * k + spareParkedAt) 0 ≡ parkedAt spares k
 unfolding parkedAt recordAt readSpare
-parked-at spares k = sym (getD-drop (3 * k) spares 2 0)
+parked-at spares k = sym (getD-drop (spareStride * k) spares spareParkedAt 0)
 
 module _ (spares : List ℕ) (from n : ℕ) where
   pub parkings-left : left (parkedAt spares) (from + n) from ≡ parkings spares from n
@@ -50,12 +51,12 @@ module _ (line : ℕ) (f : ℕ → ℕ) (end : ℕ) where
 
 -- a turn of the loop: k are counted, m in all
 module _ (spares : List ℕ) (line end j k m : ℕ) (h : j < end) (e : k + countBefore line (left (parkedAt spares) end j) ≡ m) where
-  pub count-hit : getD spares (3 * j + 2) 0 < line → k + 1 + countBefore line (left (parkedAt spares) end (j + 1)) ≡ m
+  pub count-hit : getD spares (spareStride * j + spareParkedAt) 0 < line → k + 1 + countBefore line (left (parkedAt spares) end (j + 1)) ≡ m
   count-hit q =
       let t : ltb (parkedAt spares j) line ≡ true = lt-ltb (parkedAt spares j) line (omega (arith, q, parked-at spares j)) in
       omega (arith, e, count-more line (parkedAt spares) end j h, ap {B = ℕ} (λ (b : Bool). cond b 1 0) t)
 
-  pub count-miss : line ≤ getD spares (3 * j + 2) 0 → k + countBefore line (left (parkedAt spares) end (j + 1)) ≡ m
+  pub count-miss : line ≤ getD spares (spareStride * j + spareParkedAt) 0 → k + countBefore line (left (parkedAt spares) end (j + 1)) ≡ m
   count-miss q =
       let t : ltb (parkedAt spares j) line ≡ false = le-ltb (parkedAt spares j) line (omega (arith, q, parked-at spares j)) in
       omega (arith, e, count-more line (parkedAt spares) end j h, ap {B = ℕ} (λ (b : Bool). cond b 1 0) t)
@@ -85,10 +86,10 @@ module _ (freed excess bytes line : ℕ) (f : ℕ → ℕ) (end j : ℕ) where
 -- a turn of the loop: `count` are picked, m in all
 module _ (spares : List ℕ) (excess bytes line end j count sum m : ℕ) (h : j < end) (short : sum < excess)
     (e : count + takenAt sum excess bytes line (left (parkedAt spares) end j) ≡ m) where
-  pub take-hit : getD spares (3 * j + 2) 0 ≡ line → count + 1 + takenAt (sum + bytes) excess bytes line (left (parkedAt spares) end (j + 1)) ≡ m
+  pub take-hit : getD spares (spareStride * j + spareParkedAt) 0 ≡ line → count + 1 + takenAt (sum + bytes) excess bytes line (left (parkedAt spares) end (j + 1)) ≡ m
   take-hit q = omega (arith, e, taken-hit sum excess bytes line (parkedAt spares) end j h short (sym (parked-at spares j) ∙ q))
 
-  pub take-miss : (getD spares (3 * j + 2) 0 ≡ line → ⊥) → count + takenAt sum excess bytes line (left (parkedAt spares) end (j + 1)) ≡ m
+  pub take-miss : (getD spares (spareStride * j + spareParkedAt) 0 ≡ line → ⊥) → count + takenAt sum excess bytes line (left (parkedAt spares) end (j + 1)) ≡ m
   take-miss q = omega (arith, e, taken-miss sum excess bytes line (parkedAt spares) end j h short (λ z. q (parked-at spares j ∙ z)))
 
 -- ---- both
@@ -129,31 +130,31 @@ bytes-zero spares from (t ∷ ts) =
 
 module _ (textures spares : List ℕ) (n i : ℕ) (h : i < n) where
   abbrev textureAt : ℕ → TextureRecord
-  textureAt k = recordAt 20 readTexture textures k
+  textureAt k = recordAt textureStride readTexture textures k
 
   abbrev rest : ℕ → List TextureRecord
   rest k = left textureAt n k
 
-  pub spares-rest : total recordSpares (rest i) ≡ getD textures (20 * i + 18) 0 + total recordSpares (rest (i + 1))
+  pub spares-rest : total recordSpares (rest i) ≡ getD textures (textureStride * i + textureSparesAt) 0 + total recordSpares (rest (i + 1))
   spares-rest = total-more textureAt n recordSpares i h ∙ ap (λ (k : ℕ). k + total recordSpares (rest (i + 1))) (sym (spares-number textures i))
 
-  pub bytes-rest : total recordBytes (rest i) ≡ bytesOf (textureAt i .shape) * getD textures (20 * i + 18) 0 + total recordBytes (rest (i + 1))
+  pub bytes-rest : total recordBytes (rest i) ≡ bytesOf (textureAt i .shape) * getD textures (textureStride * i + textureSparesAt) 0 + total recordBytes (rest (i + 1))
   bytes-rest =
       total-more textureAt n recordBytes i h
       ∙ ap (λ (k : ℕ). bytesOf (textureAt i .shape) * k + total recordBytes (rest (i + 1))) (sym (spares-number textures i))
 
   pub before-rest : (line from : ℕ)
       → bytesFrom spares line from (rest i)
-      ≡ bytesOf (textureAt i .shape) * countBefore line (parkings spares from (getD textures (20 * i + 18) 0))
-      + bytesFrom spares line (from + getD textures (20 * i + 18) 0) (rest (i + 1))
+      ≡ bytesOf (textureAt i .shape) * countBefore line (parkings spares from (getD textures (textureStride * i + textureSparesAt) 0))
+      + bytesFrom spares line (from + getD textures (textureStride * i + textureSparesAt) 0) (rest (i + 1))
   unfolding bytesFrom
   before-rest line from =
       ap (bytesFrom spares line from) (left-step textureAt n i h)
       ∙ ap (λ (k : ℕ). bytesOf (textureAt i .shape) * countBefore line (parkings spares from k) + bytesFrom spares line (from + k) (rest (i + 1))) (sym (spares-number textures i))
 
-pub before-done : (textures spares : List ℕ) (n i line from : ℕ) → n ≤ i → bytesFrom spares line from (left (recordAt 20 readTexture textures) n i) ≡ 0
+pub before-done : (textures spares : List ℕ) (n i line from : ℕ) → n ≤ i → bytesFrom spares line from (left (recordAt textureStride readTexture textures) n i) ≡ 0
 unfolding bytesFrom
-before-done textures spares n i line from h = rw (left-none (recordAt 20 readTexture textures) n i h)
+before-done textures spares n i line from h = rw (left-none (recordAt textureStride readTexture textures) n i h)
 
 -- as many as are parked before a line are bytes of theirs
 pub count-most : (line : ℕ) (ps : List ℕ) → countBefore line ps ≤ length ps

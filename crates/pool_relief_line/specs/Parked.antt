@@ -11,9 +11,10 @@ use Rattle.pool_records.specs.declared.texture.TextureRecord.{TextureRecord}
 use Rattle.pool_records.specs.Texture.{readTexture}
 use Rattle.pool_records.specs.Spare.{readSpare}
 use Rattle.pool_relief_line.specs.Line.{countBefore}
+use Rattle.pool_records.specs.RecordConstants.{spareStride, textureStride}
 
 unfoldable pub parkedAt : List ℕ → ℕ → ℕ
-parkedAt spares k = recordAt 3 readSpare spares k .parked
+parkedAt spares k = recordAt spareStride readSpare spares k .parked
 
 -- of the n spares from place `from` on
 unfoldable pub parkings : List ℕ → ℕ → ℕ → List ℕ
@@ -34,7 +35,7 @@ recordBytes t = bytesOf (t .shape) * t .spares
 
 -- n textures and their spares, as far as they are counted: they are there, and their bytes sum up to 2^56 at most
 pub record Countable (textures : List ℕ) (n : ℕ) (spares : List ℕ) : Type 0 where
-  pub fits : 20 * n ≤ length textures
-  pub runs : 3 * total recordSpares (table 20 readTexture n textures) ≤ length spares
-  pub shapes : (i : ℕ) → i < n → isShape (recordAt 20 readTexture textures i .shape) ≡ true
-  pub bytes : total recordBytes (table 20 readTexture n textures) ≤ 72057594037927936
+  pub fits : textureStride * n ≤ length textures
+  pub runs : spareStride * total recordSpares (table textureStride readTexture n textures) ≤ length spares
+  pub shapes : (i : ℕ) → i < n → isShape (recordAt textureStride readTexture textures i .shape) ≡ true
+  pub bytes : total recordBytes (table textureStride readTexture n textures) ≤ 72057594037927936

@@ -5,6 +5,9 @@ ghost use Prim.Native.Nat.{_+_, _*_, _≤_, _<_, _^_};
 ghost use lib.ListN.{length};
 ghost use Rattle.pool_relief_line.specs.Line.{countBefore, takenAt, gives};
 ghost use Rattle.pool_relief_line.specs.Parked.{parkings};
+ghost use Rattle.pool_records.specs.RecordConstants.{spareStride};
+use pool_records::SPARE_PARKED_AT;
+use pool_records::SPARE_STRIDE;
 
 // How many were picked, and the bytes freed with them and all before.
 pub struct Given {
@@ -14,14 +17,14 @@ pub struct Given {
 
 // Of the n spares from place `from` on, those parked before the line.
 pub fn count_before(spares: &[u64], from: usize, n: usize, line: u64) -> usize
-    requires { ⌜ 3 * (from + n) ≤ length (now spares) ⌝ }
+    requires { ⌜ spareStride * (from + n) ≤ length (now spares) ⌝ }
     ensures { λ r. ⌜ (r ≤ n) × (r ≡ countBefore line (parkings (now (spares .entry)) from n)) ⌝ }
 {
     let end = from + n;
     let mut k = 0;
     let mut j = from;
     while j < end {
-        let parked = spares[3 * j + 2];
+        let parked = spares[SPARE_STRIDE * j + SPARE_PARKED_AT];
         j += 1;
         if parked < line {
             k += 1;
@@ -40,7 +43,7 @@ fn take_at(
     freed: u64,
     excess: u64,
 ) -> Given
-    requires { ⌜ (3 * (from + n) ≤ length (now spares)) × (freed + bytes * n < 2 ^ 64) ⌝ }
+    requires { ⌜ (spareStride * (from + n) ≤ length (now spares)) × (freed + bytes * n < 2 ^ 64) ⌝ }
     ensures { λ r. ⌜ (r .count ≡ takenAt freed excess bytes line (parkings (now (spares .entry)) from n)) × (r .freed ≡ freed + bytes * r .count) ⌝ }
 {
     let end = from + n;
@@ -51,7 +54,7 @@ fn take_at(
         if excess <= sum {
             break;
         }
-        let parked = spares[3 * j + 2];
+        let parked = spares[SPARE_STRIDE * j + SPARE_PARKED_AT];
         j += 1;
         if parked == line {
             count += 1;
@@ -71,7 +74,7 @@ pub fn texture_gives(
     freed: u64,
     excess: u64,
 ) -> Given
-    requires { ⌜ (3 * (from + n) ≤ length (now spares)) × (freed + bytes * n < 2 ^ 64) ⌝ }
+    requires { ⌜ (spareStride * (from + n) ≤ length (now spares)) × (freed + bytes * n < 2 ^ 64) ⌝ }
     ensures { λ r. ⌜ (r .count ≡ gives freed excess bytes line (parkings (now (spares .entry)) from n)) × (r .count ≤ n)
         × (r .freed ≡ freed + bytes * takenAt freed excess bytes line (parkings (now (spares .entry)) from n)) ⌝ }
 {

@@ -9,17 +9,21 @@ ghost use Rattle.grid_shapes.specs.Shapes.{isShape, bytesOf};
 ghost use Rattle.pool_records.specs.Texture.{readTexture};
 ghost use Rattle.pool_relief_line.specs.Line.{countBefore, IsLine};
 ghost use Rattle.pool_relief_line.specs.Parked.{parkings, bytesFrom, recordSpares, Countable};
+ghost use Rattle.pool_records.specs.RecordConstants.{spareStride, textureStride};
 use crate::gives::count_before;
 use grid_shapes::shape_bytes;
 use pool_access::texture_at;
+use pool_records::SPARE_PARKED_AT;
+use pool_records::SPARE_STRIDE;
+use pool_records::TEXTURE_SPARES_AT;
+use pool_records::TEXTURE_STRIDE;
+use pool_rules::LIMIT;
 
 // No parking number passes it.
-const LIMIT: u64 = 281474976710656;
-
 // Bytes of one version of texture i.
 pub fn version_bytes(textures: &[u64], i: usize) -> u64
-    requires { ⌜ (20 * i + 20 ≤ length (now textures)) × (isShape (recordAt 20 readTexture (now textures) i .shape) ≡ true) ⌝ }
-    ensures { λ r. ⌜ r ≡ bytesOf (recordAt 20 readTexture (now (textures .entry)) i .shape) ⌝ }
+    requires { ⌜ (textureStride * i + textureStride ≤ length (now textures)) × (isShape (recordAt textureStride readTexture (now textures) i .shape) ≡ true) ⌝ }
+    ensures { λ r. ⌜ r ≡ bytesOf (recordAt textureStride readTexture (now (textures .entry)) i .shape) ⌝ }
 {
     let t = texture_at(textures, i);
     shape_bytes(t.shape)
@@ -27,9 +31,9 @@ pub fn version_bytes(textures: &[u64], i: usize) -> u64
 
 // Bytes of the spares parked before a line, of texture i, which has n spares from place `from` on.
 fn run_bytes(textures: &[u64], i: usize, spares: &[u64], from: usize, n: usize, line: u64) -> u64
-    requires { ⌜ (20 * i + 20 ≤ length (now textures)) × (isShape (recordAt 20 readTexture (now textures) i .shape) ≡ true) × (3 * (from + n) ≤ length (now spares))
-        × (bytesOf (recordAt 20 readTexture (now textures) i .shape) * n ≤ 72057594037927936) ⌝ }
-    ensures { λ r. ⌜ r ≡ bytesOf (recordAt 20 readTexture (now (textures .entry)) i .shape) * countBefore line (parkings (now (spares .entry)) from n) ⌝ }
+    requires { ⌜ (textureStride * i + textureStride ≤ length (now textures)) × (isShape (recordAt textureStride readTexture (now textures) i .shape) ≡ true) × (spareStride * (from + n) ≤ length (now spares))
+        × (bytesOf (recordAt textureStride readTexture (now textures) i .shape) * n ≤ 72057594037927936) ⌝ }
+    ensures { λ r. ⌜ r ≡ bytesOf (recordAt textureStride readTexture (now (textures .entry)) i .shape) * countBefore line (parkings (now (spares .entry)) from n) ⌝ }
 {
     let count = count_before(spares, from, n, line);
     // The bytes are worked out only where they count.
@@ -43,13 +47,13 @@ fn run_bytes(textures: &[u64], i: usize, spares: &[u64], from: usize, n: usize, 
 // Bytes of the spares parked before a line, of the first n textures.
 pub fn bytes_before(textures: &[u64], n: usize, spares: &[u64], line: u64) -> u64
     requires { ⌜ Countable (now textures) n (now spares) ⌝ }
-    ensures { λ r. ⌜ (r ≤ 72057594037927936) × (r ≡ bytesFrom (now (spares .entry)) line 0 (table 20 readTexture n (now (textures .entry)))) ⌝ }
+    ensures { λ r. ⌜ (r ≤ 72057594037927936) × (r ≡ bytesFrom (now (spares .entry)) line 0 (table textureStride readTexture n (now (textures .entry)))) ⌝ }
 {
     let mut sum = 0;
     let mut from = 0;
     let mut i = 0;
     while i < n {
-        let kept = textures[20 * i + 18] as usize;
+        let kept = textures[TEXTURE_STRIDE * i + TEXTURE_SPARES_AT] as usize;
         sum += run_bytes(textures, i, spares, from, kept, line);
         from += kept;
         i += 1;
@@ -66,25 +70,25 @@ pub struct Ends {
 // How many spares the first n textures have.
 fn spare_count(textures: &[u64], n: usize, spares: &[u64]) -> usize
     requires { ⌜ Countable (now textures) n (now spares) ⌝ }
-    ensures { λ r. ⌜ r ≡ total recordSpares (table 20 readTexture n (now (textures .entry))) ⌝ }
+    ensures { λ r. ⌜ r ≡ total recordSpares (table textureStride readTexture n (now (textures .entry))) ⌝ }
 {
     let mut count = 0;
     let mut i = 0;
     while i < n {
-        count += textures[20 * i + 18] as usize;
+        count += textures[TEXTURE_STRIDE * i + TEXTURE_SPARES_AT] as usize;
         i += 1;
     }
     count
 }
 
 fn parked_ends(spares: &[u64], count: usize) -> Ends
-    requires { ⌜ 3 * count ≤ length (now spares) ⌝ }
+    requires { ⌜ spareStride * count ≤ length (now spares) ⌝ }
 {
     let mut least = LIMIT;
     let mut largest = 0;
     let mut j = 0;
     while j < count {
-        let parked = spares[3 * j + 2];
+        let parked = spares[SPARE_STRIDE * j + SPARE_PARKED_AT];
         j += 1;
         if parked < least {
             least = parked;
@@ -121,7 +125,7 @@ fn line_between(lo: u64, hi: u64, guess: u64) -> u64
 // The last line such that what is parked before it, and what is queued already, do not cover the excess.
 pub fn parking_line(textures: &[u64], n: usize, spares: &[u64], dooming: u64, excess: u64) -> u64
     requires { ⌜ Countable (now textures) n (now spares) × (dooming ≤ 72057594037927936) × (dooming < excess) ⌝ }
-    ensures { λ r. ⌜ IsLine dooming excess (λ k. bytesFrom (now (spares .entry)) k 0 (table 20 readTexture n (now (textures .entry)))) r ⌝ }
+    ensures { λ r. ⌜ IsLine dooming excess (λ k. bytesFrom (now (spares .entry)) k 0 (table textureStride readTexture n (now (textures .entry)))) r ⌝ }
 {
     let ends = parked_ends(spares, spare_count(textures, n, spares));
     let mut lo = 0;

@@ -13,6 +13,7 @@ use Rattle.pool_records.specs.Recorded.{RecordedFits}
 use Rattle.pool_records.specs.Texture.{writeTexture}
 use Rattle.pool_memory.specs.Writing.{recordedOf, textureRecord, retiringRecord}
 use Rattle.pool_retire.specs.Noted.{writesCounted, retiredRecord, bornAt}
+use Rattle.pool_records.specs.RecordConstants.{textureStride}
 
 -- ---- as the code notes it
 
@@ -34,14 +35,14 @@ pub birth-fits : (u t w : TextureRecord) (seq : ℕ) → u ≡ t → w ≡ bornA
 birth-fits u t w seq read born h = subst (λ (v : TextureRecord). RecordedFits (v .history)) (sym (born ∙ ap (bornAt seq) read)) h
 
 module _ (b : Bool) (s : List ℕ) (i seq : ℕ) (t : TextureRecord) where
-  pub birth-untracked : b ≡ false → s ≡ cond b (sets s (20 * i) (writeTexture (bornAt seq t))) s
-  birth-untracked e = sym (ap (λ (a : Bool). cond a (sets s (20 * i) (writeTexture (bornAt seq t))) s) e)
+  pub birth-untracked : b ≡ false → s ≡ cond b (sets s (textureStride * i) (writeTexture (bornAt seq t))) s
+  birth-untracked e = sym (ap (λ (a : Bool). cond a (sets s (textureStride * i) (writeTexture (bornAt seq t))) s) e)
 
-  pub birth-tracked : b ≡ true → (u w : TextureRecord) → u ≡ t → w ≡ bornAt seq u → (r : List ℕ) → r ≡ sets s (20 * i) (writeTexture w)
-      → r ≡ cond b (sets s (20 * i) (writeTexture (bornAt seq t))) s
+  pub birth-tracked : b ≡ true → (u w : TextureRecord) → u ≡ t → w ≡ bornAt seq u → (r : List ℕ) → r ≡ sets s (textureStride * i) (writeTexture w)
+      → r ≡ cond b (sets s (textureStride * i) (writeTexture (bornAt seq t))) s
   birth-tracked e u w read born r put =
-      put ∙ ap (λ (v : TextureRecord). sets s (20 * i) (writeTexture v)) (born ∙ ap (bornAt seq) read)
-      ∙ sym (ap (λ (a : Bool). cond a (sets s (20 * i) (writeTexture (bornAt seq t))) s) e)
+      put ∙ ap (λ (v : TextureRecord). sets s (textureStride * i) (writeTexture v)) (born ∙ ap (bornAt seq) read)
+      ∙ sym (ap (λ (a : Bool). cond a (sets s (textureStride * i) (writeTexture (bornAt seq t))) s) e)
 
 -- ---- as the model does
 

@@ -30,14 +30,15 @@ use Rattle.pool_memory.proofs.Rings.{head-stays, first-stays, retiring-popped}
 use Rattle.pool_memory.proofs.Same.{doomed-model}
 use Rattle.pool_memory.proofs.Stays.{put-together, nothing-changed, book-stays, textures-stay, spares-stay, newest-stay, stamps-stay, doomed-stay, ring-fits}
 use Rattle.pool_retire.specs.Counts.{frontPopped}
+use Rattle.pool_records.specs.RecordConstants.{retiringStride}
 
 -- the ring is in its slice, and its head in the ring
-pub ring-room : (l : Lent) → Fits l → (7 * (length (l .retiring) / 7) ≤ length (l .retiring)) × (l .pool .head < length (l .retiring) / 7) × (0 < length (l .retiring) / 7)
+pub ring-room : (l : Lent) → Fits l → (retiringStride * (length (l .retiring) / retiringStride) ≤ length (l .retiring)) × (l .pool .head < length (l .retiring) / retiringStride) × (0 < length (l .retiring) / retiringStride)
 unfolding versionPlaces
 ring-room l f = (omega (arith, f .retiring), f .head, f .least)
 
 -- the ring's front, by the record that the code reads
-pub front-read : (l : Lent) (x : RetiringRecord) → x ≡ along 7 readRetiring (length (l .retiring) / 7) (l .pool .head) (l .retiring) 0
+pub front-read : (l : Lent) (x : RetiringRecord) → x ≡ along retiringStride readRetiring (length (l .retiring) / retiringStride) (l .pool .head) (l .retiring) 0
     → retiringOf x ≡ retiringRead l 0
 unfolding retiringRead versionPlaces
 front-read l x read = ap retiringOf read
@@ -152,7 +153,7 @@ module _ (l : Lent) (e : isPool l ≡ true) (settled : ℕ) where
             (doomed-stay l fits popped refl) (spares-stay l fits popped refl) (newest-stay l fits popped refl) (stamps-stay l fits popped refl))))
 
         -- the same by the record that the code reads
-        module _ (x : RetiringRecord) (read : x ≡ along 7 readRetiring (length (l .retiring) / 7) (l .pool .head) (l .retiring) 0) where
+        module _ (x : RetiringRecord) (read : x ≡ along retiringStride readRetiring (length (l .retiring) / retiringStride) (l .pool .head) (l .retiring) 0) where
           as-read : retiringOf x ≡ retiringRead l 0
           as-read = front-read l x read
 

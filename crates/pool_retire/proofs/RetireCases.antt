@@ -41,21 +41,23 @@ use Rattle.pool_retire.specs.Noted.{lastQueued, retireRefusal, hasId, re
 use Rattle.pool_retire.proofs.Noted.{model-tracked, model-untracked}
 use Rattle.pool_retire.proofs.Tracked.{map-change, inside, found-here, found-nowhere, changed-here, changed-nowhere}
 use Rattle.pool_retire.proofs.RetireRefusals.{place-left, guards-refused, guards-passed, last-model, used-model}
+use Rattle.pool_records.specs.RecordConstants.{retiringStride, textureStride}
+use Rattle.pool_rules.specs.RuleConstants.{mostPlaces}
 
 -- as the code counts them
 abbrev places : Lent → ℕ
-places l = length (l .retiring) / 7
+places l = length (l .retiring) / retiringStride
 
 pub refusal-fits : (l : Lent) → Fits l
-    → (7 * places l ≤ length (l .retiring)) × (l .pool .head < places l) × (ringCount (l .pool) + l .pool .kept + l .pool .doomed ≤ places l)
-    × (places l ≤ 4096)
+    → (retiringStride * places l ≤ length (l .retiring)) × (l .pool .head < places l) × (ringCount (l .pool) + l .pool .kept + l .pool .doomed ≤ places l)
+    × (places l ≤ mostPlaces)
 unfolding versionPlaces
 refusal-fits l f = (omega (arith, f .retiring), f .head, omega (arith, f .versions), f .most)
 
-pub queued-fits : (l : Lent) → Fits l → l .pool .queued ≤ 4096
+pub queued-fits : (l : Lent) → Fits l → l .pool .queued ≤ mostPlaces
 queued-fits l f = omega (arith, f .versions, f .most)
 
-pub count-fits : (l : Lent) → Fits l → ringCount (l .pool) ≤ 4096
+pub count-fits : (l : Lent) → Fits l → ringCount (l .pool) ≤ mostPlaces
 count-fits l f = omega (arith, f .versions, f .most)
 
 module _ (l : Lent) (e : isPool l ≡ true) (id view seq : ℕ) where
@@ -105,7 +107,7 @@ module _ (l : Lent) (e : isPool l ≡ true) (id view seq : ℕ) where
         (ltb seq (lastQueued (l .pool) (l .retiring) (places l))) passed
 
     -- there is a place behind the ring's last
-    pub push-fits : (7 * places l ≤ length (l .retiring)) × (l .pool .head < places l) × (ringCount (l .pool) < places l)
+    pub push-fits : (retiringStride * places l ≤ length (l .retiring)) × (l .pool .head < places l) × (ringCount (l .pool) < places l)
     push-fits =
         let b = refusal-fits l fits in
         (b .0, b .1, omega (arith, place-left (l .pool) (l .retiring) (places l) seq passed))
@@ -146,11 +148,11 @@ module _ (l : Lent) (e : isPool l ≡ true) (id view seq : ℕ) where
       here = hasId (l .textures) (l .pool .tracked) i id
 
       textures-left : (b : Bool) → here ≡ b
-          → cond b (sets (l .textures) (20 * i) (writeTexture (bornAt seq (textureAt l i)))) (l .textures) ≡ texturesAfter queued l
+          → cond b (sets (l .textures) (textureStride * i) (writeTexture (bornAt seq (textureAt l i)))) (l .textures) ≡ texturesAfter queued l
       textures-left false q = textures-stay l fits queued (ap (map textureRecord) (changed-nowhere l fits id i at q (withBirth seq)))
       textures-left true q =
           let h = inside l fits id i at q in
-          ap (λ (t : TextureRecord). sets (l .textures) (20 * i) (writeTexture (bornAt seq t))) (sym (record-at l i h fits))
+          ap (λ (t : TextureRecord). sets (l .textures) (textureStride * i) (writeTexture (bornAt seq t))) (sym (record-at l i h fits))
           ∙ textures-set l queued fits i (withBirth seq (stateOf l i)) h (changed-here l fits id i at q (withBirth seq))
 
       version-noted : (b : Bool) → here ≡ b → retiringRecord version ≡ retiredRecord b (textureAt l i) id view seq
@@ -162,16 +164,16 @@ module _ (l : Lent) (e : isPool l ≡ true) (id view seq : ℕ) where
           ∙ model-tracked (stateOf l i) id view seq
           ∙ ap (λ (t : TextureRecord). retiredRecord true t id view seq) (record-at l i (inside l fits id i at q) fits)
 
-      retiring-left : sets (l .retiring) (7 * placeOf (places l) (l .pool .head) (ringCount (l .pool))) (writeRetiring (retiringRecord version))
+      retiring-left : sets (l .retiring) (retiringStride * placeOf (places l) (l .pool .head) (ringCount (l .pool))) (writeRetiring (retiringRecord version))
           ≡ retiringAfter queued l
       unfolding versionPlaces
       retiring-left = retiring-pushed l queued (fits .head) (omega (arith, fits .retiring)) (fits .hand) version (push-fits .2) refl refl
 
       pub retire-accepted : (v : RetiringRecord) (n : ℕ) (c : Counts) (textures retiring : List ℕ)
           → v ≡ retiredRecord here (textureAt l i) id view seq
-          → textures ≡ cond here (sets (l .textures) (20 * i) (writeTexture (bornAt seq (textureAt l i)))) (l .textures)
+          → textures ≡ cond here (sets (l .textures) (textureStride * i) (writeTexture (bornAt seq (textureAt l i)))) (l .textures)
           → n ≡ ringCount (l .pool)
-          → retiring ≡ sets (l .retiring) (7 * placeOf (places l) (l .pool .head) n) (writeRetiring v)
+          → retiring ≡ sets (l .retiring) (retiringStride * placeOf (places l) (l .pool .head) n) (writeRetiring v)
           → c ≡ oneQueued (l .pool)
           → (toldNumber 0, lent c (l .book) textures retiring (l .doomed) (l .spares) (l .newest) (l .stamps)) ≡ retireCall l id view seq
       unfolding retireCall
@@ -181,7 +183,7 @@ module _ (l : Lent) (e : isPool l ≡ true) (id view seq : ℕ) where
           (e5 ∙ counts)
           (book-stays l fits queued refl)
           (e2 ∙ textures-left here refl)
-          (e4 ∙ ap₂ (λ (k : ℕ) (x : RetiringRecord). sets (l .retiring) (7 * placeOf (places l) (l .pool .head) k) (writeRetiring x)) e3
+          (e4 ∙ ap₂ (λ (k : ℕ) (x : RetiringRecord). sets (l .retiring) (retiringStride * placeOf (places l) (l .pool .head) k) (writeRetiring x)) e3
           (e1 ∙ sym (version-noted here refl))
           ∙ retiring-left)
           (doomed-stay l fits queued refl) (spares-stay l fits queued spares-kept) (newest-stay l fits queued paged)

@@ -21,6 +21,7 @@ use Rattle.pool_memory.proofs.Fits.{Fits}
 use Rattle.pool_memory.proofs.FromPool.{versions-read}
 use Rattle.pool_retire.specs.Counts.{ringCount}
 use Rattle.pool_retire.specs.Noted.{lastQueued, retireRefusal}
+use Rattle.pool_records.specs.RecordConstants.{retiringStride}
 
 -- the number of the first of three tests that holds
 abbrev firstOf : Bool → Bool → Bool → ℕ
@@ -46,17 +47,17 @@ module _ (p : Pool) (retiring : List ℕ) (places seq : ℕ) where
       pub nothing-queued : p .queued ≡ 0 → 0 ≡ retireRefusal p retiring places seq
       unfolding lastQueued
       nothing-queued q =
-          sym (by-last ∙ ap (λ (b : Bool). cond (ltb seq (cond b 0 (along 7 readRetiring places (p .head) retiring (ringCount p - 1) .seq))) 8 0)
+          sym (by-last ∙ ap (λ (b : Bool). cond (ltb seq (cond b 0 (along retiringStride readRetiring places (p .head) retiring (ringCount p - 1) .seq))) 8 0)
           (eq-eqb (p .queued) 0 q)
           ∙ ap (λ (b : Bool). cond b 8 0) (le-ltb seq 0 (omega arith)))
 
       -- x is the last of the ring
-      module _ (some-queued : p .queued ≡ 0 → ⊥) (x : RetiringRecord) (read : x ≡ along 7 readRetiring places (p .head) retiring (n - 1)) where
+      module _ (some-queued : p .queued ≡ 0 → ⊥) (x : RetiringRecord) (read : x ≡ along retiringStride readRetiring places (p .head) retiring (n - 1)) where
         last-read : lastQueued p retiring places ≡ x .seq
         unfolding lastQueued
         last-read =
-            ap (λ (b : Bool). cond b 0 (along 7 readRetiring places (p .head) retiring (ringCount p - 1) .seq)) (ne-eqb (p .queued) 0 some-queued)
-            ∙ ap (λ (k : ℕ). along 7 readRetiring places (p .head) retiring (k - 1) .seq) (sym e)
+            ap (λ (b : Bool). cond b 0 (along retiringStride readRetiring places (p .head) retiring (ringCount p - 1) .seq)) (ne-eqb (p .queued) 0 some-queued)
+            ∙ ap (λ (k : ℕ). along retiringStride readRetiring places (p .head) retiring (k - 1) .seq) (sym e)
             ∙ ap (λ (v : RetiringRecord). v .seq) (sym read)
 
         pub refused-behind : seq < x .seq → 8 ≡ retireRefusal p retiring places seq
@@ -104,14 +105,14 @@ module _ (l : Lent) where
   none-last = refl
 
   abbrev lastAt : ℕ → ℕ
-  lastAt k = along 7 readRetiring (length (l .retiring) / 7) (l .pool .head) (l .retiring) k .seq
+  lastAt k = along retiringStride readRetiring (length (l .retiring) / retiringStride) (l .pool .head) (l .retiring) k .seq
 
   read-last : (k : ℕ) → retiringRead l k .seq ≡ lastAt k
   unfolding retiringRead versionPlaces
   read-last k = refl
 
   -- the last of the model's queue is the last of the ring
-  pub last-model : lastSeq (modelOf l .retiring) ≡ lastQueued (l .pool) (l .retiring) (length (l .retiring) / 7)
+  pub last-model : lastSeq (modelOf l .retiring) ≡ lastQueued (l .pool) (l .retiring) (length (l .retiring) / retiringStride)
   unfolding modelOf lastQueued
   last-model = go (l .pool .queued)
     where

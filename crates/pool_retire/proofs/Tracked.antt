@@ -22,6 +22,7 @@ use Rattle.pool_memory.proofs.Runs.{stateOf}
 use Rattle.pool_memory.proofs.Places.{place, IsTracked, found, changed, not-found, not-changed}
 use Rattle.pool_memory.proofs.Stays.{ids-ascend}
 use Rattle.pool_memory.proofs.Tracked.{textureAt, record-read, history-fits}
+use Rattle.pool_records.specs.RecordConstants.{textureStride}
 
 -- what every state keeps through a change
 pub map-change : {A : Type 0} (g : VersionState ℕ → A) (id : ℕ) (f : VersionState ℕ → VersionState ℕ) → ((t : VersionState ℕ) → g (f t) ≡ g t)
@@ -43,7 +44,7 @@ module _ (s : List ℕ) (n i id : ℕ) (r : Bool) (e : r ≡ hasId s n i id) whe
   pub says-here : not r ≡ false → hasId s n i id ≡ true
   says-here t = sym e ∙ not-false r t
 
-  pub record-fits : not r ≡ false → 20 * n ≤ length s → 20 * i + 20 ≤ length s
+  pub record-fits : not r ≡ false → textureStride * n ≤ length s → textureStride * i + textureStride ≤ length s
   record-fits t h = omega (arith, h, found′ s n i id (says-here t) .0)
 
 -- ---- i is where the search ended

@@ -15,10 +15,11 @@ use Rattle.pool_records.specs.Retiring.{readRetiring}
 use Rattle.pool_records.specs.Find.{idOf}
 use Rattle.pool_memory.specs.declared.pool.Pool.{Pool}
 use Rattle.pool_retire.specs.Counts.{ringCount}
+use Rattle.pool_records.specs.RecordConstants.{retiringStride, textureStride}
 
 -- the submission of the last still queued, 0 if none is
 unfoldable pub lastQueued : Pool → List ℕ → ℕ → ℕ
-lastQueued p retiring places = cond (eqb (p .queued) 0) 0 (along 7 readRetiring places (p .head) retiring (ringCount p - 1) .seq)
+lastQueued p retiring places = cond (eqb (p .queued) 0) 0 (along retiringStride readRetiring places (p .head) retiring (ringCount p - 1) .seq)
 
 -- the number of the first refusal, or 0
 unfoldable pub retireRefusal : Pool → List ℕ → ℕ → ℕ → ℕ
@@ -29,7 +30,7 @@ retireRefusal p retiring places seq =
 
 -- record i, where a search among n ended, is there and has the id
 abbrev pub hasId : List ℕ → ℕ → ℕ → ℕ → Bool
-hasId textures n i id = ltb i n && eqb (idOf (recordAt 20 readTexture textures i)) id
+hasId textures n i id = ltb i n && eqb (idOf (recordAt textureStride readTexture textures i)) id
 
 abbrev pub writesCounted : Recorded → ℕ
 writesCounted NoHistory = 0

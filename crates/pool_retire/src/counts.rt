@@ -2,11 +2,12 @@
 ghost use mathlib.Core.Path.{_≡_};
 ghost use Prim.Native.Nat.{_≤_, _<_};
 ghost use Rattle.pool_retire.specs.Counts.{ringCount, oneQueued, frontPopped};
+ghost use Rattle.pool_rules.specs.RuleConstants.{mostPlaces};
 use pool_memory::Pool;
 
 // The versions in the ring: the hand and the queue.
 pub fn ring_count(pool: Pool) -> usize
-    requires { ⌜ ringCount pool ≤ 4096 ⌝ }
+    requires { ⌜ ringCount pool ≤ mostPlaces ⌝ }
     ensures { λ r. ⌜ r ≡ ringCount pool ⌝ }
 {
     pool.popped + pool.queued
@@ -14,7 +15,7 @@ pub fn ring_count(pool: Pool) -> usize
 
 // One more queued.
 pub fn one_queued(pool: Pool) -> Pool
-    requires { ⌜ pool .queued ≤ 4096 ⌝ }
+    requires { ⌜ pool .queued ≤ mostPlaces ⌝ }
     ensures { λ r. ⌜ r ≡ oneQueued pool ⌝ }
 {
     let mut after = pool;

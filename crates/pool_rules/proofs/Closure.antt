@@ -14,6 +14,7 @@ use Rattle.pool_rules.proofs.Lists.{all-replicate}
 use Rattle.pool_rules.proofs.Relief.{note-allocated-formed, trim-formed, forget-texture-formed}
 use Rattle.pool_rules.proofs.Queues.{retire-formed, pop-retired-formed, park-formed, take-doomed-formed, drain-versions-formed}
 use Rattle.pool_rules.proofs.Renames.{take-spare-formed, preserve-plan-formed, note-write-formed, note-mip-regeneration-formed}
+use Rattle.pool_rules.specs.RuleConstants.{destroySpreadDrains, mostPlaces}
 
 module _ {W : Type 0} where
   pub closed : EveryCallKeepsFormed W
@@ -49,7 +50,7 @@ module _ {W : Type 0} where
     cap = omega arith;
     slot = omega arith;
     eight = refl;
-    arrivals = all-replicate 8 0 (omega arith);
+    arrivals = all-replicate destroySpreadDrains 0 (omega arith);
     since = omega arith;
-    most = leb-true _ _ (passed (leb 1 (places .textures) ∷ leb (places .textures) 4096 ∷ leb 1 (places .versions) ∷ leb (places .versions) 4096 ∷ leb (places .pages) 4096 ∷ []) enough 3);
+    most = leb-true _ _ (passed (leb 1 (places .textures) ∷ leb (places .textures) mostPlaces ∷ leb 1 (places .versions) ∷ leb (places .versions) mostPlaces ∷ leb (places .pages) mostPlaces ∷ []) enough 3);
   }

@@ -30,6 +30,7 @@ use Rattle.pool_rules.specs.Closed.{OutFormed, refusal, formed}
 use Rattle.pool_rules.proofs.Lists.{total-cut, total-map, length-cut, all-set, all-replicate}
 use Rattle.pool_rules.proofs.States.{ascending-map, ascending-change, all-change, find-all, length-change, total-unchanged, total-change}
 use Rattle.pool_rules.proofs.Moves.{guarded, spareCount}
+use Rattle.pool_rules.specs.RuleConstants.{destroySpreadDrains, mostPlaces}
 
 -- where none of two holds, the second does not
 or-false : (a b : Bool) → (a || b) ≡ false → b ≡ false
@@ -61,7 +62,7 @@ module _ {W : Type 0} where
   }
 
   module _ (p : Pool W) (f : Formed p) where
-    since-bound : p .since ≤ 4096
+    since-bound : p .since ≤ mostPlaces
     since-bound = omega (arith, f .since, f .versions, f .most)
 
     pub take-doomed-formed : (buffer : ℕ) → OutFormed (takeDoomed p buffer)
@@ -80,7 +81,7 @@ module _ {W : Type 0} where
           parked = f .parked;
           dooming = omega (arith, f .dooming, total-cut (λ (d : Doomed W). d .bytes) (batch p) (p .doomed));
           cap = f .cap;
-          slot = mod-lt (suc (p .pacing .slot)) {m = 8} (omega arith);
+          slot = mod-lt (suc (p .pacing .slot)) {m = destroySpreadDrains} (omega arith);
           eight = length-set (p .pacing .arrivals) (p .pacing .slot) (p .since) ∙ f .eight;
           arrivals = all-set (p .pacing .slot) (p .since) since-bound (f .arrivals);
           since = omega arith;
@@ -105,7 +106,7 @@ module _ {W : Type 0} where
           cap = omega arith;
           slot = f .slot;
           eight = refl;
-          arrivals = all-replicate 8 0 (omega arith);
+          arrivals = all-replicate destroySpreadDrains 0 (omega arith);
           since = omega arith;
           most = f .most;
         }))

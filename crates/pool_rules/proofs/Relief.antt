@@ -23,11 +23,12 @@ use Rattle.pool_rules.specs.Closed.{OutFormed, formed}
 use Rattle.pool_rules.proofs.Lists.{total-keep, total-kept, total-map}
 use Rattle.pool_rules.proofs.States.{ascending-map, ascending-keep}
 use Rattle.pool_rules.proofs.Moves.{guarded, spareCount, as-doomed-bytes, as-doomed-length, as-doomed-formed, spares-doomed, given, given-bytes, given-count, given-formed, lessened-formed, oldest-doomed}
+use Rattle.pool_rules.specs.RuleConstants.{destroySpreadDrains, mostPlaces}
 
 module _ {W : Type 0} where
   -- ---- note_allocated
 
-  pub repaced : (p : Pool W) → Formed p → (b : PacingBook) → b .slot < 8 → length (b .arrivals) ≡ 8 → All (λ (n : ℕ). n ≤ 4096) (b .arrivals)
+  pub repaced : (p : Pool W) → Formed p → (b : PacingBook) → b .slot < destroySpreadDrains → length (b .arrivals) ≡ destroySpreadDrains → All (λ (n : ℕ). n ≤ mostPlaces) (b .arrivals)
       → Formed (withPacing b p)
   repaced p f b slot eight arrivals = record {
     ids = f .ids;

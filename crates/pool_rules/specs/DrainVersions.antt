@@ -5,6 +5,7 @@ use lib.Dec.{ltb}
 use lib.ListN.{length, replicate}
 use Rattle.pool_rules.specs.Model.{Spare, Retiring, Doomed, VersionState, Pool, Out, accepted, guard}
 use Rattle.pool_rules.specs.Updates.{withSpares, withTextures, withRetiring, withParked, withDoomed, withPacing}
+use Rattle.pool_rules.specs.RuleConstants.{destroySpreadDrains}
 
 module _ {W : Type 0} where
   abbrev pub everyView : Pool W → List W
@@ -17,5 +18,5 @@ module _ {W : Type 0} where
   drainVersions p buffer =
       guard (ltb buffer (length (everyView p))) 11
       (accepted (everyView p)
-      (withPacing (record { arrivals = replicate 8 0; slot = p .pacing .slot; pressed = p .pacing .pressed; excess = p .pacing .excess })
+      (withPacing (record { arrivals = replicate destroySpreadDrains 0; slot = p .pacing .slot; pressed = p .pacing .pressed; excess = p .pacing .excess })
       (withParked 0 (withDoomed [] 0 0 (withRetiring [] (p .hand) (withTextures (map (withSpares []) (p .textures)) p))))))

@@ -15,6 +15,8 @@ use Rattle.pool_rules.specs.declared.held.Held.{Held}
 use Rattle.pool_rules.specs.declared.held.Held.the-variants.{Known, Unknown}
 use Rattle.pool_rules.specs.Model.{WriteHistory, Spare, Retiring, Doomed, VersionState, Pool, limit, pagesUsed, spareBytes, doomedBytes, versionsUsed}
 use Rattle.pool_rules.specs.Histories.{gridAt}
+use Rattle.grid_shapes.specs.ShapeConstants.{mostShapeBytes}
+use Rattle.pool_rules.specs.RuleConstants.{destroySpreadDrains, mostPlaces}
 
 -- of what an option holds, if anything
 abbrev pub Given {ℓ} : {A : Type ℓ} → (A → Type 0) → Option A → Type 0
@@ -48,10 +50,10 @@ module _ {W : Type 0} where
     pub epoch : v .epoch ≤ limit
     pub birth : v .birth ≤ limit
     pub held : v .held ≤ limit
-    pub bytes : v .bytes ≤ 17592186044416
+    pub bytes : v .bytes ≤ mostShapeBytes
 
   pub record DoomedFormed (d : Doomed W) : Type 0 where
-    pub bytes : d .bytes ≤ 17592186044416
+    pub bytes : d .bytes ≤ mostShapeBytes
 
   -- the shape passes 2; counts and submissions are at most 2^48
   pub record StateFormed (t : VersionState W) : Type 0 where
@@ -84,8 +86,8 @@ module _ {W : Type 0} where
     pub dooming : p .dooming ≡ doomedBytes (p .doomed)
     pub cap : p .parked ≤ p .budget .cap
     -- the slot is below 8, arrivals at most 4,096, those since the last drain at most the destroy queue's length
-    pub slot : p .pacing .slot < 8
-    pub eight : length (p .pacing .arrivals) ≡ 8
-    pub arrivals : All (λ (n : ℕ). n ≤ 4096) (p .pacing .arrivals)
+    pub slot : p .pacing .slot < destroySpreadDrains
+    pub eight : length (p .pacing .arrivals) ≡ destroySpreadDrains
+    pub arrivals : All (λ (n : ℕ). n ≤ mostPlaces) (p .pacing .arrivals)
     pub since : p .since ≤ length (p .doomed)
-    pub most : p .places .versions ≤ 4096
+    pub most : p .places .versions ≤ mostPlaces

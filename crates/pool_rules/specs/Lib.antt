@@ -1,3 +1,4 @@
+pub mod RuleConstants
 pub mod Budget
 pub mod Model
 pub mod Updates

@@ -8,10 +8,11 @@ use lib.ListN.{replicate}
 use Rattle.base_blocks.specs.Lists.{tests}
 use Rattle.pool_rules.specs.Budget.{budgetOf}
 use Rattle.pool_rules.specs.Model.{Places, Pool}
+use Rattle.pool_rules.specs.RuleConstants.{destroySpreadDrains, mostPlaces}
 
 -- 1 to 4,096 texture places, 1 to 4,096 version places, 0 to 4,096 history pages
 unfoldable pub arePlaces : Places → Bool
-arePlaces n = tests (leb 1 (n .textures) ∷ leb (n .textures) 4096 ∷ leb 1 (n .versions) ∷ leb (n .versions) 4096 ∷ leb (n .pages) 4096 ∷ [])
+arePlaces n = tests (leb 1 (n .textures) ∷ leb (n .textures) mostPlaces ∷ leb 1 (n .versions) ∷ leb (n .versions) mostPlaces ∷ leb (n .pages) mostPlaces ∷ [])
 
 abbrev pub opened : {W : Type 0} → Places → ℕ → Pool W
 opened places working = record {
@@ -25,5 +26,5 @@ opened places working = record {
   dooming = 0;
   places = places;
   budget = budgetOf working;
-  pacing = record { arrivals = replicate 8 0; slot = 0; pressed = false; excess = 0 };
+  pacing = record { arrivals = replicate destroySpreadDrains 0; slot = 0; pressed = false; excess = 0 };
 }

@@ -7,6 +7,7 @@ use lib.ListN.{length, take, drop, set}
 use Rattle.base_blocks.specs.Lists.{ceilDiv, total}
 use Rattle.pool_rules.specs.Model.{Doomed, Pool, Out, accepted, guard, doomedBytes}
 use Rattle.pool_rules.specs.Updates.{withDoomed, withPacing}
+use Rattle.pool_rules.specs.RuleConstants.{destroySpreadDrains, minDestroysPerDrain}
 
 module _ {W : Type 0} where
   -- the arrivals with those since the last take
@@ -15,7 +16,7 @@ module _ {W : Type 0} where
 
   -- the average number queued per take over the last eight plus an eighth of the queue, both rounded up, at least 64
   abbrev pub paced : Pool W → ℕ
-  paced p = min (max 64 (ceilDiv (total (λ (n : ℕ). n) (arrived p)) 8 + ceilDiv (length (p .doomed)) 8)) (length (p .doomed))
+  paced p = min (max minDestroysPerDrain (ceilDiv (total (λ (n : ℕ). n) (arrived p)) destroySpreadDrains + ceilDiv (length (p .doomed)) destroySpreadDrains)) (length (p .doomed))
 
   -- how many more it takes to cover the excess
   unfoldable pub coverMore : ℕ → ℕ → List (Doomed W) → ℕ
@@ -30,5 +31,5 @@ module _ {W : Type 0} where
   takeDoomed p buffer =
       guard (ltb buffer (batch p)) 11
       (accepted (map (λ (d : Doomed W). d .view) (take (batch p) (p .doomed)))
-      (withPacing (record { arrivals = arrived p; slot = suc (p .pacing .slot) % 8; pressed = p .pacing .pressed; excess = 0 })
+      (withPacing (record { arrivals = arrived p; slot = suc (p .pacing .slot) % destroySpreadDrains; pressed = p .pacing .pressed; excess = 0 })
       (withDoomed (drop (batch p) (p .doomed)) 0 (p .dooming - doomedBytes (take (batch p) (p .doomed))) p)))

@@ -8,16 +8,17 @@ use Rattle.base_blocks.specs.Lists.{keep}
 use Rattle.grid_shapes.specs.Shapes.{bytesOf}
 use Rattle.pool_rules.specs.Model.{Spare, VersionState, Pool, Out, accepted, guard, limit}
 use Rattle.pool_rules.specs.Updates.{withSpares, withDue, withTextures, asDoomed, doomSpares}
+use Rattle.pool_rules.specs.RuleConstants.{spareMaxIdleSubmits, stateMaxIdleSubmits}
 
 -- a submission more than 120 before now
 abbrev pub aged : ℕ → ℕ → Bool
-aged now seq = ltb (seq + 120) now
+aged now seq = ltb (seq + stateMaxIdleSubmits) now
 
 module _ {W : Type 0} where
   -- spares from the oldest on while parking + 8 < now
   unfoldable pub agedCount : ℕ → List (Spare W) → ℕ
   agedCount now [] = 0
-  agedCount now (s ∷ ss) = cond (ltb (s .parked + 8) now) (suc (agedCount now ss)) 0
+  agedCount now (s ∷ ss) = cond (ltb (s .parked + spareMaxIdleSubmits) now) (suc (agedCount now ss)) 0
 
   abbrev pub thinned : ℕ → VersionState W → VersionState W
   thinned now t = withSpares (drop (agedCount now (t .spares)) (t .spares)) t

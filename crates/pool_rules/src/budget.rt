@@ -2,10 +2,17 @@
 ghost use mathlib.Core.Path.{_≡_};
 ghost use Rattle.pool_rules.specs.Budget.{budgetOf, resumeBelow};
 
-const VERSION_POOL_CEILING_BYTES: u64 = 1073741824;
+// Most bytes of spares on any device. The Rust: not the bound that normally acts, which is SPARE_MAX_IDLE_SUBMITS, but that bound's
+// worst case in the busiest measured scene: eight submissions of 134 MiB of retired versions.
+const VERSION_POOL_CEILING_BYTES: u64 = 1 << 30;
 
+// The working set's divisor that gives the cap below the ceiling. The Rust: an eighth keeps the pool's share of a small machine's
+// memory small, while every machine with 8 GiB or more reaches the ceiling.
 const VERSION_POOL_WORKING_SET_DIVISOR: u64 = 8;
 
+// Quarters of the working set that the process may allocate before spares go. The Rust: above three quarters Metal is close to paging
+// or failing, and spares are the cheapest memory to give back, since nothing names them. Parking resumes only below the line less the
+// cap, so that a process that hovers at the line does not park and destroy in turn.
 const VERSION_POOL_PRESSURE_QUARTERS: u64 = 3;
 
 // `cap`: most bytes of spares that the pool parks. `line`: allocated bytes above which it gives its spares back.

@@ -17,9 +17,11 @@ use Rattle.pool_records.specs.Doomed.{readDoomed}
 use Rattle.pool_rules.specs.Model.{Doomed, doomedBytes}
 use Rattle.pool_rules.specs.TakeDoomed.{coverMore}
 use Rattle.pool_take_doomed.specs.NextBatch.{doomedEntry, doomedEntries, pacedOf, batchOf}
+use Rattle.pool_records.specs.RecordConstants.{doomedBytesAt, doomedStride}
+use Rattle.pool_rules.specs.RuleConstants.{destroySpreadDrains}
 
 -- eight numbers, summed one by one
-pub eight-sum : (a : List ℕ) → length a ≡ 8
+pub eight-sum : (a : List ℕ) → length a ≡ destroySpreadDrains
     → total (λ (n : ℕ). n) a ≡ getD a 0 0 + getD a 1 0 + getD a 2 0 + getD a 3 0 + getD a 4 0 + getD a 5 0 + getD a 6 0 + getD a 7 0
 unfolding total listed
 eight-sum a e =
@@ -40,7 +42,7 @@ cover-stop covered excess (d ∷ ds) h = rw (le-ltb covered excess h)
 
 module _ (cap first : ℕ) (s : List ℕ) where
   abbrev bytesAt : ℕ → ℕ
-  bytesAt j = getD s (2 * placeOf cap first j + 1) 0
+  bytesAt j = getD s (doomedStride * placeOf cap first j + doomedBytesAt) 0
 
   abbrev firstBytes : ℕ → ℕ
   firstBytes n = doomedBytes (doomedEntries cap first s n)
@@ -48,7 +50,7 @@ module _ (cap first : ℕ) (s : List ℕ) where
   -- a version's bytes are the second number of its record
   entry-bytes : (j : ℕ) → doomedEntry cap first s j .bytes ≡ bytesAt j
   unfolding doomedEntry along recordAt readDoomed
-  entry-bytes j = getD-drop (2 * placeOf cap first j) s 1 0
+  entry-bytes j = getD-drop (doomedStride * placeOf cap first j) s doomedBytesAt 0
 
   pub bytes-none : 0 ≡ firstBytes 0
   unfolding total listed

@@ -15,6 +15,7 @@ use Rattle.pool_records.specs.declared.texture.TextureRecord.{TextureRecord}
 use Rattle.pool_records.specs.Texture.{readTexture, writeTexture}
 use Rattle.pool_records.proofs.Codecs.{texture-codec}
 use Rattle.pool_take_doomed.specs.DrainVersions.{spareless, cleared}
+use Rattle.pool_records.specs.RecordConstants.{textureSparesAt, textureStride}
 
 -- an element of the second of two lists set
 set-past : (a b : List ℕ) (k x : ℕ) → set (a ++ b) (length a + k) x ≡ a ++ set b k x
@@ -32,26 +33,26 @@ pub cleared-none : (s : List ℕ) → s ≡ cleared 0 s
 unfolding cleared table listed flat over
 cleared-none s = refl
 
-module _ (s : List ℕ) (i : ℕ) (fits : 20 * i + 20 ≤ length s) where
+module _ (s : List ℕ) (i : ℕ) (fits : textureStride * i + textureStride ≤ length s) where
   abbrev front : List ℕ
-  front = flat writeTexture (map spareless (table 20 readTexture i s))
+  front = flat writeTexture (map spareless (table textureStride readTexture i s))
 
-  length-front : length front ≡ 20 * i
+  length-front : length front ≡ textureStride * i
   length-front =
-      length-flat texture-codec (map spareless (table 20 readTexture i s))
-      ∙ ap (λ (k : ℕ). 20 * k) (length-map (table 20 readTexture i s) spareless ∙ length-table 20 readTexture i s)
+      length-flat texture-codec (map spareless (table textureStride readTexture i s))
+      ∙ ap (λ (k : ℕ). textureStride * k) (length-map (table textureStride readTexture i s) spareless ∙ length-table textureStride readTexture i s)
 
   -- record i and what stands past it
-  parted : drop (20 * i) s ≡ writeTexture (recordAt 20 readTexture s i) ++ drop (20 * i + 20) s
+  parted : drop (textureStride * i) s ≡ writeTexture (recordAt textureStride readTexture s i) ++ drop (textureStride * i + textureStride) s
   unfolding recordAt
   parted =
-      sym (take-append-drop 20 (drop (20 * i) s))
-      ∙ ap₂ (λ (a b : List ℕ). a ++ b) (sym (texture-codec .back (drop (20 * i) s) (omega (arith, length-drop (20 * i) s)))) (drop-drop 20 (20 * i) s)
+      sym (take-append-drop textureStride (drop (textureStride * i) s))
+      ∙ ap₂ (λ (a b : List ℕ). a ++ b) (sym (texture-codec .back (drop (textureStride * i) s) (omega (arith, length-drop (textureStride * i) s)))) (drop-drop textureStride (textureStride * i) s)
 
-  front-more : flat writeTexture (map spareless (table 20 readTexture (i + 1) s)) ≡ front ++ writeTexture (spareless (recordAt 20 readTexture s i))
+  front-more : flat writeTexture (map spareless (table textureStride readTexture (i + 1) s)) ≡ front ++ writeTexture (spareless (recordAt textureStride readTexture s i))
   unfolding table flat
   front-more =
-      let f = recordAt 20 readTexture s in
+      let f = recordAt textureStride readTexture s in
       ap (λ (n : ℕ). flat writeTexture (map spareless (listed f 0 n))) (add-one i)
       ∙ ap (λ (ts : List TextureRecord). flat writeTexture (map spareless ts))
       (listed-more f 0 i ∙ ap (λ (k : ℕ). listed f 0 i ++ (f k ∷ [])) (zero-add i))
@@ -59,17 +60,17 @@ module _ (s : List ℕ) (i : ℕ) (fits : 20 * i + 20 ≤ length s) where
       ∙ flat-append writeTexture (map spareless (listed f 0 i)) (spareless (f i) ∷ [])
       ∙ ap (λ (l : List ℕ). flat writeTexture (map spareless (listed f 0 i)) ++ l) (append-nil (writeTexture (spareless (f i))))
 
-  pub cleared-more : set (cleared i s) (20 * i + 18) 0 ≡ cleared (i + 1) s
+  pub cleared-more : set (cleared i s) (textureStride * i + textureSparesAt) 0 ≡ cleared (i + 1) s
   unfolding cleared over
   cleared-more =
-      let t = recordAt 20 readTexture s i in
-      let rest = drop (20 * i + 20) s in
-      let longer : length (front ++ writeTexture (spareless t)) ≡ 20 * i + 20 =
+      let t = recordAt textureStride readTexture s i in
+      let rest = drop (textureStride * i + textureStride) s in
+      let longer : length (front ++ writeTexture (spareless t)) ≡ textureStride * i + textureStride =
       length-append front (writeTexture (spareless t)) ∙ ap₂ (λ (a b : ℕ). a + b) length-front (texture-codec .long (spareless t)) in
-      ap (λ (k : ℕ). set (front ++ drop k s) (20 * i + 18) 0) length-front
-      ∙ ap (λ (k : ℕ). set (front ++ drop (20 * i) s) (k + 18) 0) (sym length-front)
-      ∙ set-past front (drop (20 * i) s) 18 0
-      ∙ ap (λ (l : List ℕ). front ++ set l 18 0) parted
+      ap (λ (k : ℕ). set (front ++ drop k s) (textureStride * i + textureSparesAt) 0) length-front
+      ∙ ap (λ (k : ℕ). set (front ++ drop (textureStride * i) s) (k + 18) 0) (sym length-front)
+      ∙ set-past front (drop (textureStride * i) s) 18 0
+      ∙ ap (λ (l : List ℕ). front ++ set l textureSparesAt 0) parted
       ∙ ap (λ (l : List ℕ). front ++ l) (set-spares t rest)
       ∙ sym (append-assoc front (writeTexture (spareless t)) rest)
       ∙ ap (λ (k : ℕ). (front ++ writeTexture (spareless t)) ++ drop k s) (sym longer)

@@ -13,6 +13,7 @@ use Rattle.base_blocks.proofs.Listed.{length-listed, listed-more}
 use Rattle.pool_memory.specs.declared.pool.Pool.{Pool}
 use Rattle.pool_take_doomed.specs.Views.{numberAt, column}
 use Rattle.pool_take_doomed.specs.DrainVersions.{drainedViews}
+use Rattle.pool_records.specs.RecordConstants.{doomedStride, retiringStride, spareStride}
 
 -- one number more stored behind the others
 sets-more : (vs : List ℕ) (x : ℕ) (l : List ℕ) (i : ℕ) → sets l i (vs ++ (x ∷ [])) ≡ set (sets l i vs) (i + length vs) x
@@ -65,17 +66,17 @@ three-sets xs ys zs o h =
 
 -- the views of a drain, copied column by column
 pub views-copied : (c : Pool) (places : ℕ) (retiring doomed spares o : List ℕ) → c .queued + c .doomed + c .kept ≤ length o
-    → (o1 o2 o3 : List ℕ) → o1 ≡ sets o 0 (column 7 1 places (c .head) retiring (c .popped) (c .queued))
-    → o2 ≡ sets o1 (c .queued) (column 2 0 places (c .first) doomed 0 (c .doomed))
-    → o3 ≡ sets o2 (c .queued + c .doomed) (column 3 0 places 0 spares 0 (c .kept)) → o3 ≡ over (drainedViews c places retiring doomed spares) o
+    → (o1 o2 o3 : List ℕ) → o1 ≡ sets o 0 (column retiringStride 1 places (c .head) retiring (c .popped) (c .queued))
+    → o2 ≡ sets o1 (c .queued) (column doomedStride 0 places (c .first) doomed 0 (c .doomed))
+    → o3 ≡ sets o2 (c .queued + c .doomed) (column spareStride 0 places 0 spares 0 (c .kept)) → o3 ≡ over (drainedViews c places retiring doomed spares) o
 unfolding drainedViews
 views-copied c places retiring doomed spares o h o1 o2 o3 e1 e2 e3 =
-    let xs = column 7 1 places (c .head) retiring (c .popped) (c .queued) in
-    let ys = column 2 0 places (c .first) doomed 0 (c .doomed) in
-    let zs = column 3 0 places 0 spares 0 (c .kept) in
-    let lx : length xs ≡ c .queued = length-column 7 1 places (c .head) retiring (c .popped) (c .queued) in
-    let ly : length ys ≡ c .doomed = length-column 2 0 places (c .first) doomed 0 (c .doomed) in
-    let lz : length zs ≡ c .kept = length-column 3 0 places 0 spares 0 (c .kept) in
+    let xs = column retiringStride 1 places (c .head) retiring (c .popped) (c .queued) in
+    let ys = column doomedStride 0 places (c .first) doomed 0 (c .doomed) in
+    let zs = column spareStride 0 places 0 spares 0 (c .kept) in
+    let lx : length xs ≡ c .queued = length-column retiringStride 1 places (c .head) retiring (c .popped) (c .queued) in
+    let ly : length ys ≡ c .doomed = length-column doomedStride 0 places (c .first) doomed 0 (c .doomed) in
+    let lz : length zs ≡ c .kept = length-column spareStride 0 places 0 spares 0 (c .kept) in
     e3
     ∙ ap (λ (t : List ℕ). sets t (c .queued + c .doomed) zs) (e2 ∙ ap (λ (t : List ℕ). sets t (c .queued) ys) e1)
     ∙ ap₂ (λ (n m : ℕ). sets (sets (sets o 0 xs) n ys) (n + m) zs) (sym lx) (sym ly)

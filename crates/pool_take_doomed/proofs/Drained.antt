@@ -38,6 +38,8 @@ use Rattle.pool_take_doomed.specs.Views.{numberAt, column}
 use Rattle.pool_take_doomed.specs.DrainVersions.{drainedViews, drainedCounts, drainedBook, spareless, cleared}
 use Rattle.pool_take_doomed.proofs.Columns.{length-column}
 use Rattle.pool_take_doomed.proofs.Taken.{flat-views}
+use Rattle.pool_records.specs.RecordConstants.{doomedStride, retiringStride, spareStride}
+use Rattle.pool_rules.specs.RuleConstants.{destroySpreadDrains}
 
 -- ---- states without their spares
 
@@ -76,7 +78,7 @@ spare-views (t ∷ ts) =
 abbrev restOf : Lent → Pool ℕ
 restOf l =
     let b = modelOf l .pacing in
-    withPacing (record { arrivals = replicate 8 0; slot = b .slot; pressed = b .pressed; excess = b .excess })
+    withPacing (record { arrivals = replicate destroySpreadDrains 0; slot = b .slot; pressed = b .pressed; excess = b .excess })
     (withParked 0 (withDoomed [] 0 0 (withRetiring [] (modelOf l .hand) (withTextures (emptied (modelOf l .textures)) (modelOf l)))))
 
 module _ (l : Lent) (f : Fits l) where
@@ -92,31 +94,31 @@ module _ (l : Lent) (f : Fits l) where
   abbrev from : ℕ
   from = l .pool .popped
 
-  queue-views : map (λ (v : Retiring ℕ). v .view) (modelOf l .retiring) ≡ column 7 1 places (l .pool .head) (l .retiring) from (l .pool .queued)
+  queue-views : map (λ (v : Retiring ℕ). v .view) (modelOf l .retiring) ≡ column retiringStride 1 places (l .pool .head) (l .retiring) from (l .pool .queued)
   unfolding modelOf column retiringRead along recordAt readRetiring
   queue-views =
       map-listed (λ (v : Retiring ℕ). v .view) (retiringRead l) from (l .pool .queued)
-      ∙ listed-same (λ (j : ℕ). retiringRead l j .view) (numberAt 7 1 places (l .pool .head) (l .retiring)) (l .pool .queued) from from
-      (λ j q. getD-drop (7 * placeOf places (l .pool .head) (from + j)) (l .retiring) 1 0)
+      ∙ listed-same (λ (j : ℕ). retiringRead l j .view) (numberAt retiringStride 1 places (l .pool .head) (l .retiring)) (l .pool .queued) from from
+      (λ j q. getD-drop (retiringStride * placeOf places (l .pool .head) (from + j)) (l .retiring) 1 0)
 
-  doomed-views : map (λ (d : Doomed ℕ). d .view) (modelOf l .doomed) ≡ column 2 0 places (l .pool .first) (l .doomed) 0 (l .pool .doomed)
+  doomed-views : map (λ (d : Doomed ℕ). d .view) (modelOf l .doomed) ≡ column doomedStride 0 places (l .pool .first) (l .doomed) 0 (l .pool .doomed)
   unfolding modelOf column doomedRead along recordAt readDoomed
   doomed-views =
       map-listed (λ (d : Doomed ℕ). d .view) (doomedRead l) 0 (l .pool .doomed)
-      ∙ listed-same (λ (j : ℕ). doomedRead l j .view) (numberAt 2 0 places (l .pool .first) (l .doomed)) (l .pool .doomed) 0 0
-      (λ j q. getD-drop (2 * placeOf places (l .pool .first) (0 + j)) (l .doomed) 0 0)
+      ∙ listed-same (λ (j : ℕ). doomedRead l j .view) (numberAt doomedStride 0 places (l .pool .first) (l .doomed)) (l .pool .doomed) 0 0
+      (λ j q. getD-drop (doomedStride * placeOf places (l .pool .first) (0 + j)) (l .doomed) 0 0)
 
   -- the spares are packed: a ring that begins at place 0
   kept-views : flatMap (λ (t : VersionState ℕ). map (λ (s : Spare ℕ). s .view) (t .spares)) (modelOf l .textures)
-      ≡ column 3 0 places 0 (l .spares) 0 (l .pool .kept)
+      ≡ column spareStride 0 places 0 (l .spares) 0 (l .pool .kept)
   unfolding column spareRead recordAt readSpare
   kept-views =
       spare-views (modelOf l .textures)
       ∙ ap (map (λ (s : Spare ℕ). s .view)) (spares-model l ∙ ap (listed (spareRead l) 0) (f .kept))
       ∙ map-listed (λ (s : Spare ℕ). s .view) (spareRead l) 0 (l .pool .kept)
-      ∙ listed-same (λ (j : ℕ). spareRead l j .view) (numberAt 3 0 places 0 (l .spares)) (l .pool .kept) 0 0
-      (λ j q. getD-drop (3 * (0 + j)) (l .spares) 0 0
-      ∙ ap (λ (k : ℕ). getD (l .spares) (3 * k + 0) 0) (sym (zero-add (0 + j)) ∙ place-near places 0 (0 + j) (omega (arith, q, f .versions))))
+      ∙ listed-same (λ (j : ℕ). spareRead l j .view) (numberAt spareStride 0 places 0 (l .spares)) (l .pool .kept) 0 0
+      (λ j q. getD-drop (spareStride * (0 + j)) (l .spares) 0 0
+      ∙ ap (λ (k : ℕ). getD (l .spares) (spareStride * k + 0) 0) (sym (zero-add (0 + j)) ∙ place-near places 0 (0 + j) (omega (arith, q, f .versions))))
 
   views-drained : viewsIn ≡ everyView (modelOf l)
   unfolding drainedViews
@@ -125,12 +127,12 @@ module _ (l : Lent) (f : Fits l) where
   views-count : length viewsIn ≡ l .pool .queued + l .pool .doomed + l .pool .kept
   unfolding drainedViews
   views-count =
-      let xs = column 7 1 places (l .pool .head) (l .retiring) from (l .pool .queued) in
-      let ys = column 2 0 places (l .pool .first) (l .doomed) 0 (l .pool .doomed) in
-      let zs = column 3 0 places 0 (l .spares) 0 (l .pool .kept) in
-      let lx : length xs ≡ l .pool .queued = length-column 7 1 places (l .pool .head) (l .retiring) from (l .pool .queued) in
-      let ly : length ys ≡ l .pool .doomed = length-column 2 0 places (l .pool .first) (l .doomed) 0 (l .pool .doomed) in
-      let lz : length zs ≡ l .pool .kept = length-column 3 0 places 0 (l .spares) 0 (l .pool .kept) in
+      let xs = column retiringStride 1 places (l .pool .head) (l .retiring) from (l .pool .queued) in
+      let ys = column doomedStride 0 places (l .pool .first) (l .doomed) 0 (l .pool .doomed) in
+      let zs = column spareStride 0 places 0 (l .spares) 0 (l .pool .kept) in
+      let lx : length xs ≡ l .pool .queued = length-column retiringStride 1 places (l .pool .head) (l .retiring) from (l .pool .queued) in
+      let ly : length ys ≡ l .pool .doomed = length-column doomedStride 0 places (l .pool .first) (l .doomed) 0 (l .pool .doomed) in
+      let lz : length zs ≡ l .pool .kept = length-column spareStride 0 places 0 (l .spares) 0 (l .pool .kept) in
       omega (arith, length-append xs (ys ++ zs), length-append ys zs)
 
   -- ---- what is left
@@ -166,7 +168,7 @@ module _ (l : Lent) (f : Fits l) where
   book-drained : drainedBook (l .book) ≡ bookAfter rest
   unfolding drainedBook bookAfter modelOf
   book-drained = λ i. record {
-    arrivals = replicate 8 0;
+    arrivals = replicate destroySpreadDrains 0;
     slot = l .book .slot;
     pressed = sym (mark-same (l .book .pressed) (f .mark)) i;
     excess = l .book .excess;

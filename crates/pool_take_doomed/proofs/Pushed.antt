@@ -20,28 +20,29 @@ use Rattle.pool_memory.specs.Lent.{Lent}
 use Rattle.pool_memory.specs.Reading.{spareRead}
 use Rattle.pool_memory.specs.Writing.{doomedRecord}
 use Rattle.pool_take_doomed.specs.Given.{givenRecords}
+use Rattle.pool_records.specs.RecordConstants.{doomedStride, spareStride}
 
 -- a spare's view is the first number of its record
-view-at : (spares : List ℕ) (j : ℕ) → recordAt 3 readSpare spares j .view ≡ getD spares (3 * j) 0
+view-at : (spares : List ℕ) (j : ℕ) → recordAt spareStride readSpare spares j .view ≡ getD spares (spareStride * j) 0
 unfolding recordAt readSpare
-view-at spares j = getD-drop (3 * j) spares 0 0 ∙ ap (λ (k : ℕ). getD spares k 0) (add-zero (3 * j))
+view-at spares j = getD-drop (spareStride * j) spares 0 0 ∙ ap (λ (k : ℕ). getD spares k 0) (add-zero (spareStride * j))
 
 module _ (cap first n : ℕ) (spares : List ℕ) (bytes from : ℕ) (s : List ℕ) where
-  pub given-none : s ≡ laid 2 writeDoomed cap first n (givenRecords spares bytes from 0) s
+  pub given-none : s ≡ laid doomedStride writeDoomed cap first n (givenRecords spares bytes from 0) s
   unfolding givenRecords listed laid
   given-none = refl
 
   pub given-more : (j : ℕ)
-      → sets (laid 2 writeDoomed cap first n (givenRecords spares bytes from j) s) (2 * placeOf cap first (n + j)) (getD spares (3 * (from + j)) 0 ∷ bytes ∷ [])
-      ≡ laid 2 writeDoomed cap first n (givenRecords spares bytes from (j + 1)) s
+      → sets (laid doomedStride writeDoomed cap first n (givenRecords spares bytes from j) s) (doomedStride * placeOf cap first (n + j)) (getD spares (spareStride * (from + j)) 0 ∷ bytes ∷ [])
+      ≡ laid doomedStride writeDoomed cap first n (givenRecords spares bytes from (j + 1)) s
   unfolding givenRecords writeDoomed
   given-more j =
-      let f : ℕ → DoomedRecord = λ i. record { view = recordAt 3 readSpare spares i .view; bytes = bytes } in
-      sym (ap (λ (i : ℕ). laid 2 writeDoomed cap first n (listed f from i) s) (add-one j)
-      ∙ ap (λ (l : List DoomedRecord). laid 2 writeDoomed cap first n l s) (listed-more f from j)
-      ∙ laid-more 2 writeDoomed cap first (listed f from j) (f (from + j)) n s
+      let f : ℕ → DoomedRecord = λ i. record { view = recordAt spareStride readSpare spares i .view; bytes = bytes } in
+      sym (ap (λ (i : ℕ). laid doomedStride writeDoomed cap first n (listed f from i) s) (add-one j)
+      ∙ ap (λ (l : List DoomedRecord). laid doomedStride writeDoomed cap first n l s) (listed-more f from j)
+      ∙ laid-more doomedStride writeDoomed cap first (listed f from j) (f (from + j)) n s
       ∙ ap₂
-      (λ (i v : ℕ). sets (laid 2 writeDoomed cap first n (listed f from j) s) (2 * placeOf cap first (n + i)) (v ∷ bytes ∷ []))
+      (λ (i v : ℕ). sets (laid doomedStride writeDoomed cap first n (listed f from j) s) (doomedStride * placeOf cap first (n + i)) (v ∷ bytes ∷ []))
       (length-listed f from j) (view-at spares (from + j)))
 
 -- the spares as the model has them

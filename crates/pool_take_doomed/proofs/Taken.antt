@@ -35,6 +35,8 @@ use Rattle.pool_take_doomed.specs.NextBatch.{doomedEntry, doomedEntries,
 use Rattle.pool_take_doomed.specs.TakeDoomed.{takenCounts, takenBook}
 use Rattle.pool_take_doomed.proofs.Columns.{length-column, front-sets}
 use Rattle.pool_take_doomed.proofs.Batches.{bytes-part}
+use Rattle.pool_records.specs.RecordConstants.{doomedStride}
+use Rattle.pool_rules.specs.RuleConstants.{destroySpreadDrains, mostPlaces}
 
 -- a sum of numbers of which none passes b
 all-total : (b : ℕ) {xs : List ℕ} → All (λ (n : ℕ). n ≤ b) xs → total (λ (n : ℕ). n) xs ≤ b * length xs
@@ -54,7 +56,7 @@ viewsOf l n = map (λ (d : Doomed ℕ). d .view) (take n (modelOf l .doomed))
 
 abbrev restOf : Lent → ℕ → Pool ℕ
 restOf l n =
-    withPacing (record { arrivals = arrived (modelOf l); slot = suc (modelOf l .pacing .slot) % 8; pressed = modelOf l .pacing .pressed; excess = 0 })
+    withPacing (record { arrivals = arrived (modelOf l); slot = suc (modelOf l .pacing .slot) % destroySpreadDrains; pressed = modelOf l .pacing .pressed; excess = 0 })
     (withDoomed (drop n (modelOf l .doomed)) 0 (modelOf l .dooming - doomedBytes (take n (modelOf l .doomed))) (modelOf l))
 
 abbrev said : Lent → List ℕ → ℕ → Told ℕ × (List ℕ × Lent)
@@ -91,22 +93,22 @@ module _ (l : Lent) where
     noted-bound : total (λ (n : ℕ). n) noted ≤ 32768
     unfolding modelOf
     noted-bound =
-        let h : l .pool .since ≤ 4096 = omega (arith, f .formed .since, doomed-model l, f .versions, f .most) in
-        let sum = all-total 4096 (all-set (l .book .slot) (l .pool .since) h (f .formed .arrivals)) in
+        let h : l .pool .since ≤ mostPlaces = omega (arith, f .formed .since, doomed-model l, f .versions, f .most) in
+        let sum = all-total mostPlaces (all-set (l .book .slot) (l .pool .since) h (f .formed .arrivals)) in
         omega (arith, sum, length-set (l .book .arrivals) (l .book .slot) (l .pool .since), f .formed .eight)
 
     dooming-sum : l .pool .dooming ≡ doomedBytes (entries (l .pool .doomed))
     unfolding modelOf
     dooming-sum = f .formed .dooming ∙ ap doomedBytes (sym entries-model)
 
-    pub slot-below : l .book .slot < 8
+    pub slot-below : l .book .slot < destroySpreadDrains
     unfolding modelOf
     slot-below = f .formed .slot
 
     -- what the batch is worked out from
     pub batch-fits : (arrivals : List ℕ) → arrivals ≡ noted → l .pool .dooming < 2 ^ 64
-        → (2 * versionPlaces l ≤ length (l .doomed)) × (l .pool .first < versionPlaces l) × (l .pool .doomed ≤ versionPlaces l)
-        × (versionPlaces l ≤ 4096) × (total (λ (n : ℕ). n) arrivals ≤ 32768) × (doomedBytes (entries (l .pool .doomed)) < 2 ^ 64)
+        → (doomedStride * versionPlaces l ≤ length (l .doomed)) × (l .pool .first < versionPlaces l) × (l .pool .doomed ≤ versionPlaces l)
+        × (versionPlaces l ≤ mostPlaces) × (total (λ (n : ℕ). n) arrivals ≤ 32768) × (doomedBytes (entries (l .pool .doomed)) < 2 ^ 64)
     batch-fits arrivals e h = (
       omega (arith, f .doomed),
       f .first,
@@ -152,7 +154,7 @@ module _ (l : Lent) where
       unfolding takenBook bookAfter modelOf
       book-taken = λ i. record {
         arrivals = noted;
-        slot = suc (l .book .slot) % 8;
+        slot = suc (l .book .slot) % destroySpreadDrains;
         pressed = sym (mark-same (l .book .pressed) (f .mark)) i;
         excess = 0;
       }
@@ -167,14 +169,14 @@ module _ (l : Lent) where
 
   -- ---- the call
 
-  views-taken : (n : ℕ) → n ≤ l .pool .doomed → viewsOf l n ≡ column 2 0 (versionPlaces l) (l .pool .first) (l .doomed) 0 n
+  views-taken : (n : ℕ) → n ≤ l .pool .doomed → viewsOf l n ≡ column doomedStride 0 (versionPlaces l) (l .pool .first) (l .doomed) 0 n
   unfolding column doomedEntry along recordAt readDoomed
   views-taken n h =
       let e = doomedEntry (versionPlaces l) (l .pool .first) (l .doomed) in
       ap (map (λ (d : Doomed ℕ). d .view)) (entries-taken n h)
       ∙ map-listed (λ (d : Doomed ℕ). d .view) e 0 n
-      ∙ listed-same (λ (j : ℕ). e j .view) (numberAt 2 0 (versionPlaces l) (l .pool .first) (l .doomed)) n 0 0
-      (λ j q. getD-drop (2 * placeOf (versionPlaces l) (l .pool .first) (0 + j)) (l .doomed) 0 0)
+      ∙ listed-same (λ (j : ℕ). e j .view) (numberAt doomedStride 0 (versionPlaces l) (l .pool .first) (l .doomed)) n 0 0
+      (λ j q. getD-drop (doomedStride * placeOf (versionPlaces l) (l .pool .first) (0 + j)) (l .doomed) 0 0)
 
   module _ (pooled : isPool l ≡ true) (buffer arrivals : List ℕ) (n : ℕ) (now : arrivals ≡ noted)
       (batched : n ≡ batchOf (pacedOf arrivals (l .pool .doomed)) (l .book .excess) (entries (l .pool .doomed))) where
@@ -192,12 +194,12 @@ module _ (l : Lent) where
 
     module _ (f : Fits l) (bytes : ℕ) (few : n ≤ l .pool .doomed) (sum : bytes ≡ doomedBytes (entries n)) (room : n ≤ length buffer) where
       pub take-accepted : (out : List ℕ) (c : Counts) (b : PacingBook)
-          → out ≡ sets buffer 0 (column 2 0 (versionPlaces l) (l .pool .first) (l .doomed) 0 n)
+          → out ≡ sets buffer 0 (column doomedStride 0 (versionPlaces l) (l .pool .first) (l .doomed) 0 n)
           → c ≡ takenCounts (l .pool) (versionPlaces l) n bytes → b ≡ takenBook (l .book) arrivals
           → (answer n, (out, leaving l c b)) ≡ takeDoomedCall l buffer
       take-accepted out c b e1 e2 e3 =
-          let vs = column 2 0 (versionPlaces l) (l .pool .first) (l .doomed) 0 n in
-          let long : length vs ≡ n = length-column 2 0 (versionPlaces l) (l .pool .first) (l .doomed) 0 n in
+          let vs = column doomedStride 0 (versionPlaces l) (l .pool .first) (l .doomed) 0 n in
+          let long : length vs ≡ n = length-column doomedStride 0 (versionPlaces l) (l .pool .first) (l .doomed) 0 n in
           let same : vs ≡ flat viewNumbers (viewsOf l n) = sym (flat-views (viewsOf l n) ∙ views-taken n few) in
           let full : out ≡ over (flat viewNumbers (viewsOf l n)) buffer =
           e1 ∙ front-sets vs buffer (omega arith) ∙ ap (λ (xs : List ℕ). over xs buffer) same in

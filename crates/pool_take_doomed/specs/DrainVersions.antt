@@ -10,12 +10,14 @@ use Rattle.pool_records.specs.Texture.{readTexture, writeTexture}
 use Rattle.pool_memory.specs.declared.pool.Pool.{Pool}
 use Rattle.pool_memory.specs.declared.book.PacingBook.{PacingBook}
 use Rattle.pool_take_doomed.specs.Views.{column}
+use Rattle.pool_records.specs.RecordConstants.{doomedStride, retiringStride, spareStride, textureStride}
+use Rattle.pool_rules.specs.RuleConstants.{destroySpreadDrains}
 
 -- the views of the queue, then of the destroy queue, then of the spares
 unfoldable pub drainedViews : Pool → ℕ → List ℕ → List ℕ → List ℕ → List ℕ
 drainedViews c places retiring doomed spares =
-    column 7 1 places (c .head) retiring (c .popped) (c .queued)
-    ++ (column 2 0 places (c .first) doomed 0 (c .doomed) ++ column 3 0 places 0 spares 0 (c .kept))
+    column retiringStride 1 places (c .head) retiring (c .popped) (c .queued)
+    ++ (column doomedStride 0 places (c .first) doomed 0 (c .doomed) ++ column spareStride 0 places 0 spares 0 (c .kept))
 
 -- nothing is left but the hand
 unfoldable pub drainedCounts : Pool → ℕ → Pool
@@ -38,7 +40,7 @@ drainedCounts c places = record {
 
 -- the arrivals are cleared; slot, mark and excess stay
 unfoldable pub drainedBook : PacingBook → PacingBook
-drainedBook b = record { arrivals = replicate 8 0; slot = b .slot; pressed = b .pressed; excess = b .excess }
+drainedBook b = record { arrivals = replicate destroySpreadDrains 0; slot = b .slot; pressed = b .pressed; excess = b .excess }
 
 -- a texture's record that says it has no spares
 abbrev pub spareless : TextureRecord → TextureRecord
@@ -56,4 +58,4 @@ spareless t = record {
 
 -- the first n records without their spares
 unfoldable pub cleared : ℕ → List ℕ → List ℕ
-cleared n s = over (flat writeTexture (map spareless (table 20 readTexture n s))) s
+cleared n s = over (flat writeTexture (map spareless (table textureStride readTexture n s))) s

@@ -8,10 +8,12 @@ use Rattle.pool_records.specs.Doomed.{readDoomed}
 use Rattle.pool_records.specs.Views.{doomedOf}
 use Rattle.pool_rules.specs.Model.{Doomed, doomedBytes}
 use Rattle.pool_rules.specs.TakeDoomed.{coverMore}
+use Rattle.pool_records.specs.RecordConstants.{doomedStride}
+use Rattle.pool_rules.specs.RuleConstants.{destroySpreadDrains, minDestroysPerDrain}
 
 -- version j of the destroy ring
 unfoldable pub doomedEntry : ℕ → ℕ → List ℕ → ℕ → Doomed ℕ
-doomedEntry cap first s j = doomedOf (along 2 readDoomed cap first s j)
+doomedEntry cap first s j = doomedOf (along doomedStride readDoomed cap first s j)
 
 -- the first n of them
 abbrev pub doomedEntries : ℕ → ℕ → List ℕ → ℕ → List (Doomed ℕ)
@@ -19,7 +21,7 @@ doomedEntries cap first s n = listed (doomedEntry cap first s) 0 n
 
 -- the average number queued per take plus an eighth of the n queued, both rounded up, at least 64
 unfoldable pub pacedOf : List ℕ → ℕ → ℕ
-pacedOf arrivals n = min (max 64 (ceilDiv (total (λ (n : ℕ). n) arrivals) 8 + ceilDiv n 8)) n
+pacedOf arrivals n = min (max minDestroysPerDrain (ceilDiv (total (λ (n : ℕ). n) arrivals) destroySpreadDrains + ceilDiv n destroySpreadDrains)) n
 
 -- so many, and more until the excess is covered
 unfoldable pub batchOf : ℕ → ℕ → List (Doomed ℕ) → ℕ

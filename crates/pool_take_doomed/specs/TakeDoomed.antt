@@ -4,6 +4,7 @@ use mathlib.Core.List.{List}
 use Rattle.base_tables.specs.Rings.{placeOf}
 use Rattle.pool_memory.specs.declared.pool.Pool.{Pool}
 use Rattle.pool_memory.specs.declared.book.PacingBook.{PacingBook}
+use Rattle.pool_rules.specs.RuleConstants.{destroySpreadDrains}
 
 -- n versions with these bytes have left the destroy ring's front
 unfoldable pub takenCounts : Pool → ℕ → ℕ → ℕ → Pool
@@ -26,4 +27,4 @@ takenCounts c places n bytes = record {
 
 -- the arrivals are noted, and the excess is covered
 unfoldable pub takenBook : PacingBook → List ℕ → PacingBook
-takenBook b arrivals = record { arrivals = arrivals; slot = suc (b .slot) % 8; pressed = b .pressed; excess = 0 }
+takenBook b arrivals = record { arrivals = arrivals; slot = suc (b .slot) % destroySpreadDrains; pressed = b .pressed; excess = 0 }

@@ -5,7 +5,10 @@ ghost use lib.ListN.{length};
 ghost use Rattle.base_tables.specs.Rings.{laid};
 ghost use Rattle.pool_records.specs.Doomed.{writeDoomed};
 ghost use Rattle.pool_take_doomed.specs.Given.{givenRecords};
+ghost use Rattle.pool_records.specs.RecordConstants.{doomedStride, spareStride};
 use base_tables::ring_push;
+use pool_records::DOOMED_STRIDE;
+use pool_records::SPARE_STRIDE;
 
 // The k spares from place `from` on, behind the n versions of the ring.
 pub fn push_spares(
@@ -18,13 +21,13 @@ pub fn push_spares(
     k: usize,
     bytes: u64,
 )
-    requires { ⌜ (2 * cap ≤ length (now doomed)) × (first < cap) × (n + k ≤ cap) × (3 * (from + k) ≤ length (now spares)) ⌝ }
-    ensures { λ _. ⌜ now (doomed .exit) ≡ laid 2 writeDoomed cap first n (givenRecords (now (spares .entry)) bytes from k) (now (doomed .entry)) ⌝ }
+    requires { ⌜ (doomedStride * cap ≤ length (now doomed)) × (first < cap) × (n + k ≤ cap) × (spareStride * (from + k) ≤ length (now spares)) ⌝ }
+    ensures { λ _. ⌜ now (doomed .exit) ≡ laid doomedStride writeDoomed cap first n (givenRecords (now (spares .entry)) bytes from k) (now (doomed .entry)) ⌝ }
 {
     let mut j = 0;
     while j < k {
-        let entry = [spares[3 * (from + j)], bytes];
-        ring_push(doomed, 2, cap, first, n + j, &entry);
+        let entry = [spares[SPARE_STRIDE * (from + j)], bytes];
+        ring_push(doomed, DOOMED_STRIDE, cap, first, n + j, &entry);
         j += 1;
     }
 }

@@ -6,10 +6,21 @@ ghost use lib.ListN.{length, set};
 ghost use Rattle.base_blocks.specs.Lists.{total};
 ghost use Rattle.pool_rules.specs.Model.{doomedBytes};
 ghost use Rattle.pool_take_doomed.specs.NextBatch.{doomedEntries, pacedOf, batchOf};
+ghost use Rattle.pool_records.specs.RecordConstants.{doomedStride};
+ghost use Rattle.pool_rules.specs.RuleConstants.{destroySpreadDrains, mostPlaces};
 use base_blocks::larger;
 use base_blocks::smaller;
 use base_tables::place;
 use pool_memory::PacingBook;
+use pool_records::DOOMED_BYTES_AT;
+use pool_records::DOOMED_STRIDE;
+use pool_rules::DESTROY_SPREAD_DRAINS;
+use pool_rules::MIN_DESTROYS_PER_DRAIN;
+
+// DESTROY_SPREAD_DRAINS as a count, and what is added before a division by it, so that it rounds up.
+const DRAINS: u64 = DESTROY_SPREAD_DRAINS as u64;
+
+const ROUND_UP: u64 = DRAINS - 1;
 
 // How many versions, and their bytes.
 pub struct Batch {
@@ -18,8 +29,8 @@ pub struct Batch {
 }
 
 // The arrivals with those since the last take in their slot.
-pub fn arrived(book: PacingBook, since: u64) -> [u64; 8]
-    requires { ⌜ book .slot < 8 ⌝ }
+pub fn arrived(book: PacingBook, since: u64) -> [u64; DESTROY_SPREAD_DRAINS]
+    requires { ⌜ book .slot < destroySpreadDrains ⌝ }
     ensures { λ r. ⌜ r ≡ set (book .arrivals) (book .slot) since ⌝ }
 {
     let slot = book.slot;
@@ -29,7 +40,7 @@ pub fn arrived(book: PacingBook, since: u64) -> [u64; 8]
 }
 
 // The eight arrivals together.
-fn arrivals_sum(a: [u64; 8]) -> u64
+fn arrivals_sum(a: [u64; DESTROY_SPREAD_DRAINS]) -> u64
     requires { ⌜ total (λ (n : ℕ). n) a ≤ 32768 ⌝ }
     ensures { λ r. ⌜ r ≡ total (λ (n : ℕ). n) a ⌝ }
 {
@@ -37,18 +48,18 @@ fn arrivals_sum(a: [u64; 8]) -> u64
 }
 
 // The batch for a queue of n, before the excess is looked at.
-fn paced(a: [u64; 8], n: u64) -> u64
-    requires { ⌜ (total (λ (n : ℕ). n) a ≤ 32768) × (n ≤ 4096) ⌝ }
+fn paced(a: [u64; DESTROY_SPREAD_DRAINS], n: u64) -> u64
+    requires { ⌜ (total (λ (n : ℕ). n) a ≤ 32768) × (n ≤ mostPlaces) ⌝ }
     ensures { λ r. ⌜ r ≡ pacedOf a n ⌝ }
 {
     let sum = arrivals_sum(a);
-    let share = (sum + 7) / 8 + (n + 7) / 8;
-    smaller(larger(64, share), n)
+    let share = (sum + ROUND_UP) / DRAINS + (n + ROUND_UP) / DRAINS;
+    smaller(larger(MIN_DESTROYS_PER_DRAIN, share), n)
 }
 
 // The bytes of the first k versions of the ring.
 fn bytes_of(doomed: &[u64], cap: usize, first: usize, k: usize) -> u64
-    requires { ⌜ (2 * cap ≤ length (now doomed)) × (first < cap) × (k ≤ cap)
+    requires { ⌜ (doomedStride * cap ≤ length (now doomed)) × (first < cap) × (k ≤ cap)
         × (doomedBytes (doomedEntries cap first (now doomed) k) < 2 ^ 64) ⌝ }
     ensures { λ r. ⌜ r ≡ doomedBytes (doomedEntries cap first (now (doomed .entry)) k) ⌝ }
 {
@@ -56,7 +67,7 @@ fn bytes_of(doomed: &[u64], cap: usize, first: usize, k: usize) -> u64
     let mut i = 0;
     while i < k {
         let p = place(cap, first, i);
-        sum += doomed[2 * p + 1];
+        sum += doomed[DOOMED_STRIDE * p + DOOMED_BYTES_AT];
         i += 1;
     }
     sum
@@ -64,7 +75,7 @@ fn bytes_of(doomed: &[u64], cap: usize, first: usize, k: usize) -> u64
 
 // The first `least` of the n versions of the ring, and more until their bytes cover the excess.
 fn covering(doomed: &[u64], cap: usize, first: usize, n: usize, least: usize, excess: u64) -> Batch
-    requires { ⌜ (2 * cap ≤ length (now doomed)) × (first < cap) × (n ≤ cap) × (least ≤ n)
+    requires { ⌜ (doomedStride * cap ≤ length (now doomed)) × (first < cap) × (n ≤ cap) × (least ≤ n)
         × (doomedBytes (doomedEntries cap first (now doomed) n) < 2 ^ 64) ⌝ }
     ensures { λ r. ⌜ (r .count ≡ batchOf least excess (doomedEntries cap first (now (doomed .entry)) n)) × (r .count ≤ n)
         × (r .bytes ≡ doomedBytes (doomedEntries cap first (now (doomed .entry)) (r .count))) ⌝ }
@@ -76,7 +87,7 @@ fn covering(doomed: &[u64], cap: usize, first: usize, n: usize, least: usize, ex
             return Batch { count, bytes };
         }
         let p = place(cap, first, count);
-        bytes += doomed[2 * p + 1];
+        bytes += doomed[DOOMED_STRIDE * p + DOOMED_BYTES_AT];
         count += 1;
     }
     Batch { count, bytes }
@@ -88,10 +99,10 @@ pub fn next_batch(
     cap: usize,
     first: usize,
     n: usize,
-    arrivals: [u64; 8],
+    arrivals: [u64; DESTROY_SPREAD_DRAINS],
     excess: u64,
 ) -> Batch
-    requires { ⌜ (2 * cap ≤ length (now doomed)) × (first < cap) × (n ≤ cap) × (cap ≤ 4096) × (total (λ (n : ℕ). n) arrivals ≤ 32768)
+    requires { ⌜ (doomedStride * cap ≤ length (now doomed)) × (first < cap) × (n ≤ cap) × (cap ≤ mostPlaces) × (total (λ (n : ℕ). n) arrivals ≤ 32768)
         × (doomedBytes (doomedEntries cap first (now doomed) n) < 2 ^ 64) ⌝ }
     ensures { λ r. ⌜ (r .count ≡ batchOf (pacedOf arrivals n) excess (doomedEntries cap first (now (doomed .entry)) n)) × (r .count ≤ n)
         × (r .bytes ≡ doomedBytes (doomedEntries cap first (now (doomed .entry)) (r .count))) ⌝ }

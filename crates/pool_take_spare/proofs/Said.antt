@@ -33,6 +33,8 @@ use Rattle.pool_tracking.specs.Refusal.{trackingRefusal, begunRefusal, foundRef
 use Rattle.pool_tracking.specs.Cases.{recordOf, TrackedAt}
 use Rattle.pool_tracking.proofs.Refusals.{take-refused}
 use Rattle.pool_tracking.proofs.Tracked.{record-fits, found-there, not-there}
+use Rattle.pool_records.specs.RecordConstants.{textureStride}
+use Rattle.pool_rules.specs.RuleConstants.{mostPlaces}
 
 -- ---- a tracking begun
 
@@ -57,10 +59,10 @@ module _ (places own used trackings : ℕ) (shape : VersionShape) (records : Boo
 
 -- ---- the tests by what they say
 
-pub few-pages : (shape : VersionShape) (r : Bool) → r ≡ isShape shape → not r ≡ false → pagesOf shape ≤ 4096
+pub few-pages : (shape : VersionShape) (r : Bool) → r ≡ isShape shape → not r ≡ false → pagesOf shape ≤ mostPlaces
 few-pages shape r is shaped = omega (arith, pages-bound shape (sym is ∙ not-false r shaped))
 
-pub tracked-at : (s : List ℕ) (n i id : ℕ) (b : Bool) → b ≡ ids.hasId s n i id → not b ≡ false → (i < n) × (recordAt 20 readTexture s i .id ≡ id)
+pub tracked-at : (s : List ℕ) (n i id : ℕ) (b : Bool) → b ≡ ids.hasId s n i id → not b ≡ false → (i < n) × (recordAt textureStride readTexture s i .id ≡ id)
 tracked-at s n i id b has into = ids.found s n i id (sym has ∙ not-false b into)
 
 module _ (l : Lent) (i id : ℕ) where
@@ -68,7 +70,7 @@ module _ (l : Lent) (i id : ℕ) where
   untracked-at pool at b has out w =
       ids.not-found (l .textures) (l .pool .tracked) i id (ids-ascend l (pool-fits l pool)) at (sym has ∙ not-true b out) i (w .0) (w .1)
 
-  pub tracked-fits : isPool l ≡ true → (b : Bool) → b ≡ ids.hasId (l .textures) (l .pool .tracked) i id → not b ≡ false → 20 * i + 20 ≤ length (l .textures)
+  pub tracked-fits : isPool l ≡ true → (b : Bool) → b ≡ ids.hasId (l .textures) (l .pool .tracked) i id → not b ≡ false → textureStride * i + textureStride ≤ length (l .textures)
   tracked-fits pool b has into = record-fits l (pool-fits l pool) i (tracked-at (l .textures) (l .pool .tracked) i id b has into .0)
 
 pub shape-as : (shape : VersionShape) (u t : TextureRecord) (q v : Bool) → t ≡ u → q ≡ sameShape (t .shape) shape → q ≡ v → sameShape (u .shape) shape ≡ v
@@ -115,18 +117,18 @@ module _ (l : Lent) (i id : ℕ) (shape : VersionShape) (records : Bool) (seq : 
             none-there =
                 not-found l id (ids-ascend l f) (not-there l f i id at (untracked-at l i id pool at b has out))
 
-            pub said-five : length (l .textures) / 20 ≤ l .pool .tracked → 5 ≡ said
+            pub said-five : length (l .textures) / textureStride ≤ l .pool .tracked → 5 ≡ said
             unfolding modelOf
             said-five h =
-                sym (ap (λ (c : Bool). cond c 5 (begunRefusal (modelOf l) shape records 0)) (le-leb (length (l .textures) / 20) (length (modelOf l .textures)) (omega (arith, tracked-model l))))
+                sym (ap (λ (c : Bool). cond c 5 (begunRefusal (modelOf l) shape records 0)) (le-leb (length (l .textures) / textureStride) (length (modelOf l .textures)) (omega (arith, tracked-model l))))
                 ∙ by-found none none-there
 
-            pub said-new : l .pool .tracked < length (l .textures) / 20 → (n : ℕ) → n ≡ trackingRefusal (length (l .newest)) 0 (l .pool .pages) (l .pool .trackings) shape records
+            pub said-new : l .pool .tracked < length (l .textures) / textureStride → (n : ℕ) → n ≡ trackingRefusal (length (l .newest)) 0 (l .pool .pages) (l .pool .trackings) shape records
                 → n ≡ said
             unfolding modelOf
             said-new h n e =
                 e ∙ begun-said 0
-                ∙ sym (ap (λ (c : Bool). cond c 5 (begunRefusal (modelOf l) shape records 0)) (lt-leb (length (l .textures) / 20) (length (modelOf l .textures)) (omega (arith, tracked-model l))))
+                ∙ sym (ap (λ (c : Bool). cond c 5 (begunRefusal (modelOf l) shape records 0)) (lt-leb (length (l .textures) / textureStride) (length (modelOf l .textures)) (omega (arith, tracked-model l))))
                 ∙ by-found none none-there
 
           -- tracked
@@ -138,7 +140,7 @@ module _ (l : Lent) (i id : ℕ) (shape : VersionShape) (records : Bool) (seq : 
             there = found-there l f i (here .0) id at (here .1)
 
             module _ (t : TextureRecord) (is-record : t ≡ recordOf l i) where
-              pub own-pages : recordPages t ≤ 4096
+              pub own-pages : recordPages t ≤ mostPlaces
               own-pages = omega (arith, ap recordPages is-record, claims-bound (recordOf l i) (shape-passes l i (here .0) f))
 
               by-shape : (q : Bool) → q ≡ sameShape (t .shape) shape → cond q 0 (begunRefusal (modelOf l) shape records (pagesUsed (stateOf l i))) ≡ said

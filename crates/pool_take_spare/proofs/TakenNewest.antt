@@ -44,6 +44,7 @@ use Rattle.pool_take_spare.specs.TakeNewest.{renamedRecord}
 use Rattle.pool_tracking.proofs.Refusals.{take-tracked}
 use Rattle.pool_tracking.proofs.Counts.{counted, counts-after}
 use Rattle.pool_tracking.proofs.Tracked.{spares-within, kept-fits, is-there, found-there}
+use Rattle.pool_records.specs.RecordConstants.{spareStride, textureStride}
 
 -- ---- lists
 
@@ -123,12 +124,12 @@ module _ (l : Lent) (i id : ℕ) (shape : VersionShape) (records : Bool) (seq : 
 
   -- the rename and the spare left, whatever the counts and the spares are
   left-as : (c : Counts) (spares : List ℕ) → c ≡ poolAfter after-take l → spares ≡ sparesAfter after-take l
-      → lent c (l .book) (sets (l .textures) (20 * i) (writeTexture (renamedRecord seq (count - 1) t))) (l .retiring) (l .doomed) spares (l .newest) (l .stamps) ≡ after after-take l
+      → lent c (l .book) (sets (l .textures) (textureStride * i) (writeTexture (renamedRecord seq (count - 1) t))) (l .retiring) (l .doomed) spares (l .newest) (l .stamps) ≡ after after-take l
   left-as c spares e1 e2 =
       let kept = map-unchanged pagedOf id (renamedState seq) (λ (v : VersionState ℕ). refl) (modelOf l .textures) in
-      put-together after-take l c (l .book) (sets (l .textures) (20 * i) (writeTexture (renamedRecord seq (count - 1) t))) (l .retiring) (l .doomed) spares (l .newest) (l .stamps)
+      put-together after-take l c (l .book) (sets (l .textures) (textureStride * i) (writeTexture (renamedRecord seq (count - 1) t))) (l .retiring) (l .doomed) spares (l .newest) (l .stamps)
       e1 (book-stays l f after-take refl)
-      (ap (λ (r : TextureRecord). sets (l .textures) (20 * i) (writeTexture r)) (sym record-left) ∙ textures-set l after-take f i (renamedState seq u) (h .0) changed-there)
+      (ap (λ (r : TextureRecord). sets (l .textures) (textureStride * i) (writeTexture r)) (sym record-left) ∙ textures-set l after-take f i (renamedState seq u) (h .0) changed-there)
       (retiring-stay l f after-take refl refl) (doomed-stay l f after-take refl) e2 (newest-stay l f after-take kept) (stamps-stay l f after-take kept)
 
   kept-left : total spareCount (change id (renamedState seq) (modelOf l .textures)) + (count - (count - 1)) ≡ l .pool .kept
@@ -158,12 +159,12 @@ module _ (l : Lent) (i id : ℕ) (shape : VersionShape) (records : Bool) (seq : 
   -- ---- no spare
 
   pub no-spare : count ≡ 0
-      → (answer none, lent (l .pool) (l .book) (sets (l .textures) (20 * i) (writeTexture (renamedRecord seq 0 t))) (l .retiring) (l .doomed) (l .spares) (l .newest) (l .stamps))
+      → (answer none, lent (l .pool) (l .book) (sets (l .textures) (textureStride * i) (writeTexture (renamedRecord seq 0 t))) (l .retiring) (l .doomed) (l .spares) (l .newest) (l .stamps))
       ≡ takeSpareCall l id shape records seq
   no-spare e =
       let none-there : u .spares ≡ [] = empty (u .spares) (spares-counted ∙ e) in
       ap₂ (λ (a : Told (Option TakenVersion)) (m : Lent). (a, m)) (ap (λ (ss : List (Spare ℕ)). answer (takenOf (newest ss))) (sym none-there))
-      (ap (λ (n : ℕ). lent (l .pool) (l .book) (sets (l .textures) (20 * i) (writeTexture (renamedRecord seq n t))) (l .retiring) (l .doomed) (l .spares) (l .newest) (l .stamps))
+      (ap (λ (n : ℕ). lent (l .pool) (l .book) (sets (l .textures) (textureStride * i) (writeTexture (renamedRecord seq n t))) (l .retiring) (l .doomed) (l .spares) (l .newest) (l .stamps))
       (let q : 0 ≡ count - 1 = omega arith in q)
       ∙ left-as (l .pool) (l .spares)
       (counts-left (l .pool .kept) (l .pool .parked) (omega arith)
@@ -191,11 +192,11 @@ module _ (l : Lent) (i id : ℕ) (shape : VersionShape) (records : Bool) (seq : 
         ∙ ap₂ (λ (a b : ℕ). removed a b (sparesBefore l)) (sym at) (let q : sparesAt l i - (count - 1) ≡ 1 = omega (arith, ap sparesOf (record-read l i (h .0))) in q)
 
     pub spare-taken : (
-      answer (some (record { view = recordAt 3 readSpare (l .spares) k .view; held = recordAt 3 readSpare (l .spares) k .held })),
+      answer (some (record { view = recordAt spareStride readSpare (l .spares) k .view; held = recordAt spareStride readSpare (l .spares) k .held })),
       lent
           (counted (l .pool) (l .pool .tracked) (l .pool .kept - 1) (l .pool .pages) (l .pool .doomed) (l .pool .since) (l .pool .trackings) (l .pool .parked - bytesOf (t .shape)) (l .pool .dooming))
-          (l .book) (sets (l .textures) (20 * i) (writeTexture (renamedRecord seq (count - 1) t))) (l .retiring) (l .doomed)
-          (moved (l .spares) (3 * k) (3 * k + 3 * 1) (3 * (l .pool .kept - (k + 1)))) (l .newest) (l .stamps),
+          (l .book) (sets (l .textures) (textureStride * i) (writeTexture (renamedRecord seq (count - 1) t))) (l .retiring) (l .doomed)
+          (moved (l .spares) (spareStride * k) (spareStride * k + spareStride * 1) (spareStride * (l .pool .kept - (k + 1)))) (l .newest) (l .stamps),
     )
         ≡ takeSpareCall l id shape records seq
     unfolding recordAt spareRead
@@ -210,17 +211,17 @@ module _ (l : Lent) (i id : ℕ) (shape : VersionShape) (records : Bool) (seq : 
   -- ---- as the code has them: its record, its slices and its numbers by their equations
 
   module _ (t′ x : TextureRecord) (textures : List ℕ) (is-record : t′ ≡ t) where
-    pub left-without : t′ .spares ≡ 0 → x ≡ renamedRecord seq 0 t′ → textures ≡ sets (l .textures) (20 * i) (writeTexture x)
+    pub left-without : t′ .spares ≡ 0 → x ≡ renamedRecord seq 0 t′ → textures ≡ sets (l .textures) (textureStride * i) (writeTexture x)
         → (answer none, lent (l .pool) (l .book) textures (l .retiring) (l .doomed) (l .spares) (l .newest) (l .stamps)) ≡ takeSpareCall l id shape records seq
     left-without e r w =
         ap (λ (ts : List ℕ). (answer none, lent (l .pool) (l .book) ts (l .retiring) (l .doomed) (l .spares) (l .newest) (l .stamps)))
-        (w ∙ ap (λ (y : TextureRecord). sets (l .textures) (20 * i) (writeTexture y)) (r ∙ ap (renamedRecord seq 0) is-record))
+        (w ∙ ap (λ (y : TextureRecord). sets (l .textures) (textureStride * i) (writeTexture y)) (r ∙ ap (renamedRecord seq 0) is-record))
         ∙ no-spare (sym (ap sparesOf is-record) ∙ e)
 
     module _ (first k : ℕ) (s : SpareRecord) (spares : List ℕ) where
-      pub left-with : 0 < t′ .spares → first ≡ total sparesOf (table 20 readTexture i (l .textures)) → k ≡ first + (t′ .spares - 1)
-          → s ≡ recordAt 3 readSpare (l .spares) k → x ≡ renamedRecord seq (t′ .spares - 1) t′
-          → textures ≡ sets (l .textures) (20 * i) (writeTexture x) → spares ≡ moved (l .spares) (3 * k) (3 * k + 3 * 1) (3 * (l .pool .kept - (k + 1)))
+      pub left-with : 0 < t′ .spares → first ≡ total sparesOf (table textureStride readTexture i (l .textures)) → k ≡ first + (t′ .spares - 1)
+          → s ≡ recordAt spareStride readSpare (l .spares) k → x ≡ renamedRecord seq (t′ .spares - 1) t′
+          → textures ≡ sets (l .textures) (textureStride * i) (writeTexture x) → spares ≡ moved (l .spares) (spareStride * k) (spareStride * k + spareStride * 1) (spareStride * (l .pool .kept - (k + 1)))
           → (
             answer (some (record { view = s .view; held = s .held })),
             lent
@@ -231,8 +232,8 @@ module _ (l : Lent) (i id : ℕ) (shape : VersionShape) (records : Bool) (seq : 
       left-with some-spare e1 e2 e3 e4 e5 e6 =
           let n : t′ .spares ≡ count = ap sparesOf is-record in
           let at : k ≡ firstSpare l i + (count - 1) = omega (arith, e1, e2, n, spares-to l i (h .0)) in
-          let tex : textures ≡ sets (l .textures) (20 * i) (writeTexture (renamedRecord seq (count - 1) t)) =
-          e5 ∙ ap (λ (y : TextureRecord). sets (l .textures) (20 * i) (writeTexture y)) (e4 ∙ ap₂ (λ (m : ℕ) (r : TextureRecord). renamedRecord seq (m - 1) r) n is-record) in
+          let tex : textures ≡ sets (l .textures) (textureStride * i) (writeTexture (renamedRecord seq (count - 1) t)) =
+          e5 ∙ ap (λ (y : TextureRecord). sets (l .textures) (textureStride * i) (writeTexture y)) (e4 ∙ ap₂ (λ (m : ℕ) (r : TextureRecord). renamedRecord seq (m - 1) r) n is-record) in
           let by : t′ .bytes ≡ bytesOf (t .shape) = ap (λ (r : TextureRecord). r .bytes) is-record ∙ bytes-at l i (h .0) f in
           (λ j. (
             answer (some (record { view = e3 j .view; held = e3 j .held })),

@@ -17,6 +17,7 @@ use pool_access::spares_before;
 use pool_access::texture_at;
 use pool_memory::PacingBook;
 use pool_memory::Pool;
+use pool_records::SPARE_STRIDE;
 use pool_records::TextureRecord;
 
 // The texture's record after the rename.
@@ -63,7 +64,7 @@ pub fn take_newest(
     let spare = spare_at(spares, k);
     let held = spare.held;
     put_texture(textures, i, renamed(t, seq, left));
-    remove_records(spares, 3, pool.kept, k, 1);
+    remove_records(spares, SPARE_STRIDE, pool.kept, k, 1);
     let mut after = pool;
     after.kept = pool.kept - 1;
     after.parked = pool.parked - t.bytes;

@@ -8,6 +8,7 @@ ghost use Rattle.pool_memory.specs.Lent.{lent};
 ghost use Rattle.pool_memory.specs.Reading.{modelOf};
 ghost use Rattle.pool_memory.specs.IsPool.{isPool};
 ghost use Rattle.pool_tracking.specs.Refusal.{trackingRefusal, takeRefusal};
+ghost use Rattle.pool_rules.specs.RuleConstants.{mostPlaces};
 use grid_shapes::VersionShape;
 use grid_shapes::is_shape;
 use grid_shapes::same_shape;
@@ -17,8 +18,8 @@ use pool_access::shape_pages;
 use pool_access::texture_at;
 use pool_memory::PacingBook;
 use pool_memory::Pool;
-
-const LIMIT: u64 = 281474976710656;
+use pool_records::TEXTURE_STRIDE;
+use pool_rules::LIMIT;
 
 // A tracking begun: `places` pages are lent, and `own` of those in use are given up for it.
 fn tracking_refusal(
@@ -28,7 +29,7 @@ fn tracking_refusal(
     shape: VersionShape,
     records: bool,
 ) -> u64
-    requires { ⌜ (places ≤ 4096) × (own ≤ 4096) × (pool .pages ≤ 4096) × (pagesOf shape ≤ 4096) ⌝ }
+    requires { ⌜ (places ≤ mostPlaces) × (own ≤ mostPlaces) × (pool .pages ≤ mostPlaces) × (pagesOf shape ≤ mostPlaces) ⌝ }
     ensures { λ r. ⌜ r ≡ trackingRefusal places own (pool .pages) (pool .trackings) shape records ⌝ }
 {
     if records & (places + own < pool.pages + shape_pages(shape)) {
@@ -67,7 +68,7 @@ pub fn take_refusal(
         return 3;
     }
     if !has_id(textures, pool.tracked, i, id) {
-        if textures.len() / 20 <= pool.tracked {
+        if textures.len() / TEXTURE_STRIDE <= pool.tracked {
             return 5;
         }
         return tracking_refusal(pool, newest.len(), 0, shape, records);

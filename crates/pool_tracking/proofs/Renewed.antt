@@ -53,30 +53,34 @@ use Rattle.pool_tracking.proofs.Refusals.{shape-passed, counter-left, p
 use Rattle.pool_tracking.proofs.Counts.{counted, begunCounts, counts-after}
 use Rattle.pool_tracking.proofs.Tracked.{spares-within, kept-fits, is-there, found-there, here}
 use Rattle.pool_tracking.proofs.Trackings.{begun, begun-record, begun-pages, newest-begun, stamps-begun}
+use Rattle.grid_shapes.specs.ShapeConstants.{mostShapeBytes}
+use Rattle.grid_stamps.specs.StampConstants.{pageStamps}
+use Rattle.pool_records.specs.RecordConstants.{doomedStride, retiringStride, spareStride, textureStride}
+use Rattle.pool_rules.specs.RuleConstants.{mostPlaces}
 
 -- what the code asks of a pool in which a texture's tracking is renewed
 pub record Renewable (l : Lent) (hold : Holding) (shape : VersionShape) (records : Bool) : Type 0 where
   pub counter : l .pool .trackings < limit
-  pub few : pagesOf shape ≤ 4096
-  pub ring : 2 * (length (l .retiring) / 7) ≤ length (l .doomed)
-  pub head : l .pool .first < length (l .retiring) / 7
-  pub doomed : l .pool .doomed + hold .spares ≤ length (l .retiring) / 7
+  pub few : pagesOf shape ≤ mostPlaces
+  pub ring : doomedStride * (length (l .retiring) / retiringStride) ≤ length (l .doomed)
+  pub head : l .pool .first < length (l .retiring) / retiringStride
+  pub doomed : l .pool .doomed + hold .spares ≤ length (l .retiring) / retiringStride
   pub within : hold .first + hold .spares ≤ l .pool .kept
-  pub spares : 3 * l .pool .kept ≤ length (l .spares)
+  pub spares : spareStride * l .pool .kept ≤ length (l .spares)
   pub parked : hold .bytes * hold .spares ≤ l .pool .parked
   pub dooming : l .pool .dooming + hold .bytes * hold .spares < 2 ^ 64
   pub since : l .pool .since + hold .spares < 2 ^ 64
   pub page : hold .page + hold .pages ≤ l .pool .pages
   pub used : l .pool .pages ≤ length (l .newest)
   pub room : l .pool .pages + freshPages shape records ≤ length (l .newest) + hold .pages
-  pub newest : length (l .newest) ≤ 4096
-  pub stamps : 1024 * length (l .newest) ≡ length (l .stamps)
+  pub newest : length (l .newest) ≤ mostPlaces
+  pub stamps : pageStamps * length (l .newest) ≡ length (l .stamps)
 
 -- what it asks before it reads them
 pub record Readable (l : Lent) (i : ℕ) : Type 0 where
-  pub spares : total sparesOf (table 20 readTexture i (l .textures)) ≤ 4096
-  pub pages : total recordPages (table 20 readTexture i (l .textures)) ≤ 4096
-  pub own : recordPages (recordOf l i) ≤ 4096
+  pub spares : total sparesOf (table textureStride readTexture i (l .textures)) ≤ mostPlaces
+  pub pages : total recordPages (table textureStride readTexture i (l .textures)) ≤ mostPlaces
+  pub own : recordPages (recordOf l i) ≤ mostPlaces
 
 module _ (l : Lent) (i id : ℕ) (shape : VersionShape) (records : Bool) (seq : ℕ) (ok : Accepted l i id shape records seq) (h : TrackedAt l i id)
     (other : sameShape (recordOf l i .shape) shape ≡ false) where
@@ -244,9 +248,9 @@ module _ (l : Lent) (i id : ℕ) (shape : VersionShape) (records : Bool) (seq : 
     unfolding versionPlaces modelOf
     renewable =
         let k = here l i id shape records seq ok h in
-        let dooming : l .pool .dooming ≤ 17592186044416 * length (modelOf l .doomed) = omega (arith, f .formed .dooming, doomed-bound (f .formed .doomed)) in
-        let all : bytesOf (t .shape) * t .spares ≤ 17592186044416 * 4096 =
-        mul-le-mul (bytes-bound (t .shape) (k .shape)) (let q : t .spares ≤ 4096 = omega (arith, k .within, k .kept) in q) in
+        let dooming : l .pool .dooming ≤ mostShapeBytes * length (modelOf l .doomed) = omega (arith, f .formed .dooming, doomed-bound (f .formed .doomed)) in
+        let all : bytesOf (t .shape) * t .spares ≤ mostShapeBytes * mostPlaces =
+        mul-le-mul (bytes-bound (t .shape) (k .shape)) (let q : t .spares ≤ mostPlaces = omega (arith, k .within, k .kept) in q) in
         record {
           counter = counter-left (modelOf l) id shape records seq (ok .1 .1) (pagesUsed u) (renewed-begun (modelOf l) id shape records seq (ok .1 .1) u there other-state);
           few = omega (arith, pages-bound shape shaped);
@@ -277,31 +281,31 @@ module _ (l : Lent) (i id : ℕ) (shape : VersionShape) (records : Bool) (seq : 
         (l .pool .since + spares-is j) (epoch-is j) (l .pool .parked - both-is j) (l .pool .dooming + both-is j))
         ∙ counts-renewed
 
-    doomed-left : (places : ℕ) → places ≡ length (l .retiring) / 7 → (doomed : List ℕ)
-        → doomed ≡ laid 2 writeDoomed places (l .pool .first) (l .pool .doomed) (givenRecords (l .spares) (hold .bytes) (hold .first) (hold .spares)) (l .doomed)
+    doomed-left : (places : ℕ) → places ≡ length (l .retiring) / retiringStride → (doomed : List ℕ)
+        → doomed ≡ laid doomedStride writeDoomed places (l .pool .first) (l .pool .doomed) (givenRecords (l .spares) (hold .bytes) (hold .first) (hold .spares)) (l .doomed)
         → doomed ≡ doomedAfter renewed l
     unfolding versionPlaces
     doomed-left places e doomed q =
         q
-        ∙ (λ j. laid 2 writeDoomed (e j) (l .pool .first) (l .pool .doomed) (givenRecords (l .spares) (bytes-is j) (first-is j) (spares-is j)) (l .doomed))
-        ∙ ap (λ (rs : List DoomedRecord). laid 2 writeDoomed (versionPlaces l) (l .pool .first) (l .pool .doomed) rs (l .doomed)) given-records
+        ∙ (λ j. laid doomedStride writeDoomed (e j) (l .pool .first) (l .pool .doomed) (givenRecords (l .spares) (bytes-is j) (first-is j) (spares-is j)) (l .doomed))
+        ∙ ap (λ (rs : List DoomedRecord). laid doomedStride writeDoomed (versionPlaces l) (l .pool .first) (l .pool .doomed) rs (l .doomed)) given-records
         ∙ doomed-pushed l renewed (f .first) (omega (arith, f .doomed)) (doomed-fit l f) given refl
 
-    spares-left : (spares : List ℕ) → spares ≡ moved (l .spares) (3 * hold .first) (3 * hold .first + 3 * hold .spares) (3 * (l .pool .kept - (hold .first + hold .spares)))
+    spares-left : (spares : List ℕ) → spares ≡ moved (l .spares) (spareStride * hold .first) (spareStride * hold .first + spareStride * hold .spares) (spareStride * (l .pool .kept - (hold .first + hold .spares)))
         → spares ≡ sparesAfter renewed l
     spares-left spares q =
         q
-        ∙ ap₂ (λ (a b : ℕ). moved (l .spares) (3 * a) (3 * a + 3 * b) (3 * (l .pool .kept - (a + b)))) first-is spares-is
+        ∙ ap₂ (λ (a b : ℕ). moved (l .spares) (spareStride * a) (spareStride * a + spareStride * b) (spareStride * (l .pool .kept - (a + b)))) first-is spares-is
         ∙ spares-removed l renewed (f .kept) (kept-fits l f i (h .0)) (firstSpare l i) (t .spares) (spares-within l f i (h .0))
         (ap everySpare changed-there ∙ every-emptied l i (h .0) new refl ∙ ap (λ (k : ℕ). removed (firstSpare l i) k (sparesBefore l)) (ap sparesOf (record-read l i (h .0))))
 
     pub left-renewed : (places fresh : ℕ) (g : Counts) (x : TextureRecord) (textures doomed spares newest stamps : List ℕ)
-        → places ≡ length (l .retiring) / 7 → fresh ≡ n → g ≡ givenUp (l .pool) (hold .spares) (hold .bytes)
-        → doomed ≡ laid 2 writeDoomed places (l .pool .first) (l .pool .doomed) (givenRecords (l .spares) (hold .bytes) (hold .first) (hold .spares)) (l .doomed)
-        → spares ≡ moved (l .spares) (3 * hold .first) (3 * hold .first + 3 * hold .spares) (3 * (l .pool .kept - (hold .first + hold .spares)))
-        → x ≡ newRecord id shape records (l .pool .trackings + 1) seq → textures ≡ sets (l .textures) (20 * i) (writeTexture x)
+        → places ≡ length (l .retiring) / retiringStride → fresh ≡ n → g ≡ givenUp (l .pool) (hold .spares) (hold .bytes)
+        → doomed ≡ laid doomedStride writeDoomed places (l .pool .first) (l .pool .doomed) (givenRecords (l .spares) (hold .bytes) (hold .first) (hold .spares)) (l .doomed)
+        → spares ≡ moved (l .spares) (spareStride * hold .first) (spareStride * hold .first + spareStride * hold .spares) (spareStride * (l .pool .kept - (hold .first + hold .spares)))
+        → x ≡ newRecord id shape records (l .pool .trackings + 1) seq → textures ≡ sets (l .textures) (textureStride * i) (writeTexture x)
         → newest ≡ sets (moved (l .newest) (hold .page + fresh) (hold .page + hold .pages) (l .pool .pages - (hold .page + hold .pages))) (hold .page) (replicate fresh 0)
-        → stamps ≡ sets (moved (l .stamps) (1024 * hold .page + 1024 * fresh) (1024 * hold .page + 1024 * hold .pages) (1024 * (l .pool .pages - (hold .page + hold .pages)))) (1024 * hold .page) (replicate (1024 * fresh) 0)
+        → stamps ≡ sets (moved (l .stamps) (pageStamps * hold .page + pageStamps * fresh) (pageStamps * hold .page + pageStamps * hold .pages) (pageStamps * (l .pool .pages - (hold .page + hold .pages)))) (pageStamps * hold .page) (replicate (pageStamps * fresh) 0)
         → (answer none, lent (begunCounts g (l .pool .pages - hold .pages + fresh) (l .pool .trackings + 1)) (l .book) textures (l .retiring) doomed spares newest stamps)
         ≡ takeSpareCall l id shape records seq
     left-renewed places fresh g x textures doomed spares newest stamps e1 e2 e3 e4 e5 e6 e7 e8 e9 =
@@ -309,12 +313,12 @@ module _ (l : Lent) (i id : ℕ) (shape : VersionShape) (records : Bool) (seq : 
         ap (λ (m : Lent). (answer none, m))
         (put-together renewed l (begunCounts g (l .pool .pages - hold .pages + fresh) (l .pool .trackings + 1)) (l .book) textures (l .retiring) doomed spares newest stamps
         (counts-left fresh e2 g e3) (book-stays l f renewed refl)
-        (e7 ∙ ap (λ (y : TextureRecord). sets (l .textures) (20 * i) (writeTexture y))
+        (e7 ∙ ap (λ (y : TextureRecord). sets (l .textures) (textureStride * i) (writeTexture y))
         (e6 ∙ ap (λ (k : ℕ). newRecord id shape records k seq) epoch-is ∙ sym (begun-record id shape records epoch seq))
         ∙ textures-set l renewed f i new (h .0) changed-there)
         (retiring-stay l f renewed refl refl) (doomed-left places e1 doomed e4) (spares-left spares e5)
         (e8 ∙ (λ j. sets (moved (l .newest) (page-is j + e2 j) (page-is j + pages-is j) (l .pool .pages - (page-is j + pages-is j))) (page-is j) (replicate (e2 j) 0))
         ∙ newest-begun id shape records epoch seq l f renewed i (suc i) (recordPages t) (omega arith) parts next shaped page-room)
-        (e9 ∙ (λ j. sets (moved (l .stamps) (1024 * page-is j + 1024 * e2 j) (1024 * page-is j + 1024 * pages-is j) (1024 * (l .pool .pages - (page-is j + pages-is j)))) (1024 * page-is j) (replicate (1024 * e2 j) 0))
+        (e9 ∙ (λ j. sets (moved (l .stamps) (pageStamps * page-is j + pageStamps * e2 j) (pageStamps * page-is j + pageStamps * pages-is j) (pageStamps * (l .pool .pages - (page-is j + pages-is j)))) (pageStamps * page-is j) (replicate (pageStamps * e2 j) 0))
         ∙ stamps-begun id shape records epoch seq l f renewed i (suc i) (recordPages t) (omega arith) parts next shaped page-room no-page))
         ∙ sym ruled

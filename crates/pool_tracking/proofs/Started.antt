@@ -43,19 +43,22 @@ use Rattle.pool_tracking.proofs.Refusals.{shape-passed, counter-left, p
 use Rattle.pool_tracking.proofs.Counts.{counted, counts-after}
 use Rattle.pool_tracking.proofs.Tracked.{not-there}
 use Rattle.pool_tracking.proofs.Trackings.{begun, begun-record, begun-pages, newest-begun, stamps-begun}
+use Rattle.grid_stamps.specs.StampConstants.{pageStamps}
+use Rattle.pool_records.specs.RecordConstants.{textureStride}
+use Rattle.pool_rules.specs.RuleConstants.{mostPlaces}
 
 -- what the code asks of a pool that has room for a texture more
 pub record Startable (l : Lent) (i : ℕ) (shape : VersionShape) (records : Bool) : Type 0 where
   pub place : i ≤ l .pool .tracked
-  pub textures : 20 * l .pool .tracked + 20 ≤ length (l .textures)
-  pub tracked : l .pool .tracked < 4096
+  pub textures : textureStride * l .pool .tracked + textureStride ≤ length (l .textures)
+  pub tracked : l .pool .tracked < mostPlaces
   pub counter : l .pool .trackings < limit
-  pub few : pagesOf shape ≤ 4096
-  pub page : total recordPages (table 20 readTexture i (l .textures)) ≤ l .pool .pages
+  pub few : pagesOf shape ≤ mostPlaces
+  pub page : total recordPages (table textureStride readTexture i (l .textures)) ≤ l .pool .pages
   pub used : l .pool .pages ≤ length (l .newest)
   pub room : l .pool .pages + freshPages shape records ≤ length (l .newest) + 0
-  pub newest : length (l .newest) ≤ 4096
-  pub stamps : 1024 * length (l .newest) ≡ length (l .stamps)
+  pub newest : length (l .newest) ≤ mostPlaces
+  pub stamps : pageStamps * length (l .newest) ≡ length (l .stamps)
 
 module _ (l : Lent) (i id : ℕ) (shape : VersionShape) (records : Bool) (seq : ℕ) (ok : Accepted l i id shape records seq) (untracked : TrackedAt l i id → ⊥) where
   abbrev f : Fits l
@@ -97,7 +100,7 @@ module _ (l : Lent) (i id : ℕ) (shape : VersionShape) (records : Bool) (seq : 
   place-left : l .pool .tracked < modelOf l .places .textures
   place-left = omega (arith, new-room (modelOf l) id shape records seq (ok .1 .1) none-there, tracked-model l)
 
-  record-room : 20 * l .pool .tracked + 20 ≤ length (l .textures)
+  record-room : textureStride * l .pool .tracked + textureStride ≤ length (l .textures)
   record-room = omega (arith, place-left, f .textures)
 
   counter : l .pool .trackings < limit
@@ -107,7 +110,7 @@ module _ (l : Lent) (i id : ℕ) (shape : VersionShape) (records : Bool) (seq : 
   shaped : isShape shape ≡ true
   shaped = shape-passed (modelOf l) id shape records seq (ok .1 .1)
 
-  few-pages : pagesOf shape ≤ 4096
+  few-pages : pagesOf shape ≤ mostPlaces
   few-pages = omega (arith, pages-bound shape shaped)
 
   page-room : l .pool .pages + freshPages shape records ≤ length (l .newest) + 0
@@ -120,9 +123,9 @@ module _ (l : Lent) (i id : ℕ) (shape : VersionShape) (records : Bool) (seq : 
         page-places l,
       )
 
-  pages-there : total recordPages (table 20 readTexture i (l .textures)) ≡ firstPageOf l i
+  pages-there : total recordPages (table textureStride readTexture i (l .textures)) ≡ firstPageOf l i
   unfolding firstPageOf
-  pages-there = ap (total recordPages) (sym (take-table 20 readTexture i (l .pool .tracked) (l .textures) place-bound))
+  pages-there = ap (total recordPages) (sym (take-table textureStride readTexture i (l .pool .tracked) (l .textures) place-bound))
 
   page-in : firstPageOf l i ≤ l .pool .pages
   page-in = page-bound l (f .claimed) i
@@ -163,10 +166,10 @@ module _ (l : Lent) (i id : ℕ) (shape : VersionShape) (records : Bool) (seq : 
       tracked-then kept-then pages-then (sym (doomed-model l)) (omega arith)
 
   pub left-started : (x : TextureRecord) (textures newest stamps : List ℕ) (page fresh : ℕ) → x ≡ newRecord id shape records (l .pool .trackings + 1) seq
-      → page ≡ total recordPages (table 20 readTexture i (l .textures)) → fresh ≡ freshPages shape records
-      → textures ≡ sets (moved (l .textures) (20 * i + 20) (20 * i) (20 * (l .pool .tracked - i))) (20 * i) (writeTexture x)
+      → page ≡ total recordPages (table textureStride readTexture i (l .textures)) → fresh ≡ freshPages shape records
+      → textures ≡ sets (moved (l .textures) (textureStride * i + textureStride) (textureStride * i) (textureStride * (l .pool .tracked - i))) (textureStride * i) (writeTexture x)
       → newest ≡ sets (moved (l .newest) (page + fresh) (page + 0) (l .pool .pages - (page + 0))) page (replicate fresh 0)
-      → stamps ≡ sets (moved (l .stamps) (1024 * page + 1024 * fresh) (1024 * page + 1024 * 0) (1024 * (l .pool .pages - (page + 0)))) (1024 * page) (replicate (1024 * fresh) 0)
+      → stamps ≡ sets (moved (l .stamps) (pageStamps * page + pageStamps * fresh) (pageStamps * page + pageStamps * 0) (pageStamps * (l .pool .pages - (page + 0)))) (pageStamps * page) (replicate (pageStamps * fresh) 0)
       → (
         answer none,
         lent
@@ -183,13 +186,13 @@ module _ (l : Lent) (i id : ℕ) (shape : VersionShape) (records : Bool) (seq : 
       (l .book) textures (l .retiring) (l .doomed) (l .spares) newest stamps
       (ap₂ (λ (a b : ℕ). counted (l .pool) (l .pool .tracked + 1) (l .pool .kept) (l .pool .pages + a) (l .pool .doomed) (l .pool .since) b (l .pool .parked) (l .pool .dooming)) e3 epoch-is ∙ counts-started)
       (book-stays l f started refl)
-      (e4 ∙ ap (λ (y : TextureRecord). sets (moved (l .textures) (20 * i + 20) (20 * i) (20 * (l .pool .tracked - i))) (20 * i) (writeTexture y))
+      (e4 ∙ ap (λ (y : TextureRecord). sets (moved (l .textures) (textureStride * i + textureStride) (textureStride * i) (textureStride * (l .pool .tracked - i))) (textureStride * i) (writeTexture y))
       (e1 ∙ ap (λ (k : ℕ). newRecord id shape records k seq) epoch-is ∙ sym (begun-record id shape records epoch seq))
       ∙ textures-inserted l started f i new record-room place-bound put-there)
       (retiring-stay l f started refl refl) (doomed-stay l f started refl)
       (spares-stay l f started (ap everySpare put-there ∙ every-inserted l i new refl))
       (e5 ∙ ap₂ (λ (a b : ℕ). sets (moved (l .newest) (a + b) (a + 0) (l .pool .pages - (a + 0))) a (replicate b 0)) at e3
       ∙ newest-begun id shape records epoch seq l f started i i 0 (omega arith) parts same shaped page-room)
-      (e6 ∙ ap₂ (λ (a b : ℕ). sets (moved (l .stamps) (1024 * a + 1024 * b) (1024 * a + 1024 * 0) (1024 * (l .pool .pages - (a + 0)))) (1024 * a) (replicate (1024 * b) 0)) at e3
+      (e6 ∙ ap₂ (λ (a b : ℕ). sets (moved (l .stamps) (pageStamps * a + pageStamps * b) (pageStamps * a + pageStamps * 0) (pageStamps * (l .pool .pages - (a + 0)))) (pageStamps * a) (replicate (pageStamps * b) 0)) at e3
       ∙ stamps-begun id shape records epoch seq l f started i i 0 (omega arith) parts same shaped page-room (no-page-new l (ids-ascend l f) id shape nowhere)))
       ∙ sym ruled

@@ -27,18 +27,20 @@ use Rattle.pool_memory.proofs.Places.{IsTracked, found}
 use Rattle.pool_memory.proofs.Changes.{spares-in}
 use Rattle.pool_memory.proofs.Tracked.{record-read, spares-to, bytes-at, shape-at, count-at, shape-passes, history-fits}
 use Rattle.pool_tracking.specs.Cases.{Accepted, recordOf, TrackedAt}
+use Rattle.pool_records.specs.RecordConstants.{spareStride, textureStride}
+use Rattle.pool_rules.specs.RuleConstants.{mostPlaces}
 
 module _ (l : Lent) (f : Fits l) (i : ℕ) (h : i < l .pool .tracked) where
-  pub record-fits : 20 * i + 20 ≤ length (l .textures)
+  pub record-fits : textureStride * i + textureStride ≤ length (l .textures)
   record-fits = omega (arith, f .textures, f .tracked)
 
   pub spares-within : firstSpare l i + recordOf l i .spares ≤ l .pool .kept
   spares-within = omega (arith, spares-in l i h, f .kept, ap sparesOf (record-read l i h))
 
-  pub kept-bound : l .pool .kept ≤ 4096
+  pub kept-bound : l .pool .kept ≤ mostPlaces
   kept-bound = omega (arith, f .versions, f .most)
 
-  pub kept-fits : 3 * l .pool .kept ≤ length (l .spares)
+  pub kept-fits : spareStride * l .pool .kept ≤ length (l .spares)
   kept-fits = omega (arith, f .versions, f .spares)
 
   -- ---- bytes
@@ -71,14 +73,14 @@ not-there l f i id at untracked (h, e) =
 
 -- what the calls' code asks of a tracked texture's record
 pub record Here (l : Lent) (i : ℕ) : Type 0 where
-  pub textures : 20 * i + 20 ≤ length (l .textures)
+  pub textures : textureStride * i + textureStride ≤ length (l .textures)
   pub history : RecordedFits (recordOf l i .history)
   pub shape : isShape (recordOf l i .shape) ≡ true
   pub bytes : recordOf l i .bytes ≡ bytesOf (recordOf l i .shape)
-  pub first : total sparesOf (table 20 readTexture i (l .textures)) ≡ firstSpare l i
+  pub first : total sparesOf (table textureStride readTexture i (l .textures)) ≡ firstSpare l i
   pub within : firstSpare l i + recordOf l i .spares ≤ l .pool .kept
-  pub kept : l .pool .kept ≤ 4096
-  pub spares : 3 * l .pool .kept ≤ length (l .spares)
+  pub kept : l .pool .kept ≤ mostPlaces
+  pub spares : spareStride * l .pool .kept ≤ length (l .spares)
   pub parked : bytesOf (recordOf l i .shape) * recordOf l i .spares ≤ l .pool .parked
   pub one : 0 < recordOf l i .spares → bytesOf (recordOf l i .shape) ≤ l .pool .parked
 

@@ -26,6 +26,7 @@ use Rattle.pool_memory.proofs.Stays.{ids-ascend}
 use Rattle.pool_memory.proofs.Pages.{page-bound, newest-repacked, stamps-repacked}
 use Rattle.pool_memory.proofs.Fresh.{fresh-newest, fresh-stamps}
 use Rattle.pool_tracking.specs.Begun.{freshHistory, freshPages, newRecord}
+use Rattle.grid_stamps.specs.StampConstants.{pageStamps}
 
 module _ (id : ℕ) (shape : VersionShape) (records : Bool) (epoch seq : ℕ) where
   pub record-made : (h : Recorded) (bytes : ℕ) → h ≡ freshHistory records → bytes ≡ bytesOf shape
@@ -67,11 +68,11 @@ module _ (id : ℕ) (shape : VersionShape) (records : Bool) (epoch seq : ℕ) wh
       go false = refl
 
   begun-stamps : (l : Lent) → isShape shape ≡ true → firstPage id shape 0 (modelOf l .textures) ≡ none
-      → flatMap (pagesAfter l) (begun ∷ []) ≡ replicate (1024 * freshPages shape records) 0
+      → flatMap (pagesAfter l) (begun ∷ []) ≡ replicate (pageStamps * freshPages shape records) 0
   unfolding flatMap pagesAfter pagesFrom
   begun-stamps l shaped e = go records
     where
-      go : (b : Bool) → pagesAfter l (newState id shape b epoch seq) ++ [] ≡ replicate (1024 * freshPages shape b) 0
+      go : (b : Bool) → pagesAfter l (newState id shape b epoch seq) ++ [] ≡ replicate (pageStamps * freshPages shape b) 0
       go true =
           append-nil (pagesAfter l (newState id shape true epoch seq)) ∙ ap (λ (o : Option ℕ). pagesFrom (pageBefore l o) 0 (newHistory shape .grids)) e ∙ fresh-stamps l shape shaped
       go false = refl
@@ -97,11 +98,11 @@ module _ (id : ℕ) (shape : VersionShape) (records : Bool) (epoch seq : ℕ) wh
         ∙ newest-repacked l p (f .claimed) i j (begun ∷ []) h e (zeros n) (begun-newest shaped) (f .pages) (omega (arith, length-zeros n))
 
     pub stamps-begun : firstPage id shape 0 (modelOf l .textures) ≡ none
-        → sets (moved (l .stamps) (1024 * page + 1024 * n) (1024 * page + 1024 * old) (1024 * (l .pool .pages - (page + old)))) (1024 * page) (replicate (1024 * n) 0) ≡ stampsAfter p l
+        → sets (moved (l .stamps) (pageStamps * page + pageStamps * n) (pageStamps * page + pageStamps * old) (pageStamps * (l .pool .pages - (page + old)))) (pageStamps * page) (replicate (pageStamps * n) 0) ≡ stampsAfter p l
     stamps-begun none-before =
         let b = page-bound l (f .claimed) j in
-        let m : 1024 * page + 1024 * old ≡ 1024 * firstPageOf l j = omega arith in
-        ap₂ (λ (a c : ℕ). sets (moved (l .stamps) (1024 * page + a) c (1024 * (l .pool .pages - (page + old)))) (1024 * page) (zeros (1024 * n))) (sym (length-zeros (1024 * n))) m
-        ∙ ap (λ (c : ℕ). sets (moved (l .stamps) (1024 * page + length (zeros (1024 * n))) (1024 * firstPageOf l j) (1024 * (l .pool .pages - c))) (1024 * page) (zeros (1024 * n))) (sym next)
-        ∙ stamps-repacked l p (f .claimed) i j (begun ∷ []) h e (ids-ascend l f) (zeros (1024 * n)) (begun-stamps l shaped none-before)
-        (omega (arith, f .stamps, f .pages)) (omega (arith, length-zeros (1024 * n), f .stamps))
+        let m : pageStamps * page + pageStamps * old ≡ pageStamps * firstPageOf l j = omega arith in
+        ap₂ (λ (a c : ℕ). sets (moved (l .stamps) (pageStamps * page + a) c (pageStamps * (l .pool .pages - (page + old)))) (pageStamps * page) (zeros (pageStamps * n))) (sym (length-zeros (pageStamps * n))) m
+        ∙ ap (λ (c : ℕ). sets (moved (l .stamps) (pageStamps * page + length (zeros (pageStamps * n))) (pageStamps * firstPageOf l j) (pageStamps * (l .pool .pages - c))) (pageStamps * page) (zeros (pageStamps * n))) (sym next)
+        ∙ stamps-repacked l p (f .claimed) i j (begun ∷ []) h e (ids-ascend l f) (zeros (pageStamps * n)) (begun-stamps l shaped none-before)
+        (omega (arith, f .stamps, f .pages)) (omega (arith, length-zeros (pageStamps * n), f .stamps))

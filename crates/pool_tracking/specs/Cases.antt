@@ -11,6 +11,7 @@ use Rattle.pool_memory.specs.Lent.{Lent}
 use Rattle.pool_memory.specs.Reading.{trackedRecords, modelOf}
 use Rattle.pool_memory.specs.IsPool.{isPool}
 use Rattle.pool_tracking.specs.Refusal.{takeRefusal}
+use Rattle.pool_records.specs.RecordConstants.{textureStride}
 
 -- a pool, the place i of the id among its textures, and nothing to refuse
 abbrev pub Accepted : Lent → ℕ → ℕ → VersionShape → Bool → ℕ → Type 0
@@ -18,7 +19,7 @@ Accepted l i id shape records seq = (isPool l ≡ true) × ((i ≡ below id (tra
 
 -- record i
 abbrev pub recordOf : Lent → ℕ → TextureRecord
-recordOf l i = recordAt 20 readTexture (l .textures) i
+recordOf l i = recordAt textureStride readTexture (l .textures) i
 
 -- it is the texture's
 abbrev pub TrackedAt : Lent → ℕ → ℕ → Type 0

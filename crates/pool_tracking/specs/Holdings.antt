@@ -8,14 +8,15 @@ use Rattle.pool_records.specs.Texture.{readTexture}
 use Rattle.pool_memory.specs.declared.pool.Pool.{Pool}
 use Rattle.pool_memory.specs.Reading.{recordPages}
 use Rattle.pool_tracking.specs.declared.holding.Holding.{Holding}
+use Rattle.pool_records.specs.RecordConstants.{textureStride}
 
 unfoldable pub holdingAt : List ℕ → ℕ → Holding
 holdingAt textures i = record {
-  first = total (λ (t : TextureRecord). t .spares) (table 20 readTexture i textures);
-  spares = recordAt 20 readTexture textures i .spares;
-  bytes = recordAt 20 readTexture textures i .bytes;
-  page = total recordPages (table 20 readTexture i textures);
-  pages = recordPages (recordAt 20 readTexture textures i);
+  first = total (λ (t : TextureRecord). t .spares) (table textureStride readTexture i textures);
+  spares = recordAt textureStride readTexture textures i .spares;
+  bytes = recordAt textureStride readTexture textures i .bytes;
+  page = total recordPages (table textureStride readTexture i textures);
+  pages = recordPages (recordAt textureStride readTexture textures i);
 }
 
 -- k spares of those bytes are queued for destruction

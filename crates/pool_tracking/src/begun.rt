@@ -5,6 +5,7 @@ ghost use Prim.Native.Nat.{_≤_};
 ghost use Rattle.grid_shapes.specs.Shapes.{isShape};
 ghost use Rattle.pool_rules.specs.Model.{pagesOf};
 ghost use Rattle.pool_tracking.specs.Begun.{freshHistory, freshPages, newRecord};
+ghost use Rattle.pool_rules.specs.RuleConstants.{mostPlaces};
 use grid_shapes::VersionShape;
 use grid_shapes::shape_bytes;
 use pool_access::shape_pages;
@@ -24,7 +25,7 @@ fn fresh_history(records: bool) -> Recorded
 
 // The pages of that history.
 pub fn fresh_pages(shape: VersionShape, records: bool) -> usize
-    requires { ⌜ pagesOf shape ≤ 4096 ⌝ }
+    requires { ⌜ pagesOf shape ≤ mostPlaces ⌝ }
     ensures { λ r. ⌜ r ≡ freshPages shape records ⌝ }
 {
     if records { shape_pages(shape) } else { 0 }

@@ -7,6 +7,8 @@ ghost use Rattle.base_tables.specs.Records.{recordAt, table};
 ghost use Rattle.pool_records.specs.Texture.{readTexture};
 ghost use Rattle.pool_memory.specs.Reading.{recordPages};
 ghost use Rattle.pool_tracking.specs.Holdings.{holdingAt};
+ghost use Rattle.pool_records.specs.RecordConstants.{textureStride};
+ghost use Rattle.pool_rules.specs.RuleConstants.{mostPlaces};
 use pool_access::history_pages;
 use pool_access::pages_before;
 use pool_access::spares_before;
@@ -22,10 +24,10 @@ pub struct Holding {
 }
 
 pub fn holding_at(textures: &[u64], i: usize) -> Holding
-    requires { ⌜ (20 * i + 20 ≤ length (now textures))
-        × (total (λ t. t .spares) (table 20 readTexture i (now textures)) ≤ 4096)
-        × (total recordPages (table 20 readTexture i (now textures)) ≤ 4096)
-        × (recordPages (recordAt 20 readTexture (now textures) i) ≤ 4096) ⌝ }
+    requires { ⌜ (textureStride * i + textureStride ≤ length (now textures))
+        × (total (λ t. t .spares) (table textureStride readTexture i (now textures)) ≤ mostPlaces)
+        × (total recordPages (table textureStride readTexture i (now textures)) ≤ mostPlaces)
+        × (recordPages (recordAt textureStride readTexture (now textures) i) ≤ mostPlaces) ⌝ }
     ensures { λ r. ⌜ r ≡ holdingAt (now (textures .entry)) i ⌝ }
 {
     let t = texture_at(textures, i);

@@ -4,9 +4,12 @@ ghost use Prim.Native.Nat.{_+_, _*_, _-_, _≤_};
 ghost use lib.ListN.{length, replicate};
 ghost use lib.Seq.{sets};
 ghost use Rattle.base_blocks.specs.Blocks.{moved};
+ghost use Rattle.grid_stamps.specs.StampConstants.{pageStamps};
+ghost use Rattle.pool_rules.specs.RuleConstants.{mostPlaces};
 use base_blocks::fill;
 use base_blocks::shift_down;
 use base_blocks::shift_up;
+use grid_stamps::PAGE_STAMPS;
 
 // The n numbers from index `from` on move to index `to`.
 fn move_block(s: &mut [u64], to: usize, from: usize, n: usize)
@@ -40,12 +43,18 @@ pub fn renew_pages(
     old: usize,
     n: usize,
 )
-    requires { ⌜ (page + old ≤ used) × (used ≤ length (now newest)) × (used + n ≤ length (now newest) + old) × (length (now newest) ≤ 4096) × (1024 * length (now newest) ≡ length (now stamps)) ⌝ }
+    requires { ⌜ (page + old ≤ used) × (used ≤ length (now newest)) × (used + n ≤ length (now newest) + old) × (length (now newest) ≤ mostPlaces) × (pageStamps * length (now newest) ≡ length (now stamps)) ⌝ }
     ensures { λ _. ⌜
         (now (newest .exit) ≡ sets (moved (now (newest .entry)) (page + n) (page + old) (used - (page + old))) page (replicate n 0))
-        × (now (stamps .exit) ≡ sets (moved (now (stamps .entry)) (1024 * page + 1024 * n) (1024 * page + 1024 * old) (1024 * (used - (page + old)))) (1024 * page) (replicate (1024 * n) 0)) ⌝ }
+        × (now (stamps .exit) ≡ sets (moved (now (stamps .entry)) (pageStamps * page + pageStamps * n) (pageStamps * page + pageStamps * old) (pageStamps * (used - (page + old)))) (pageStamps * page) (replicate (pageStamps * n) 0)) ⌝ }
 {
     let later = used - (page + old);
     renew_block(newest, page, old, n, later);
-    renew_block(stamps, 1024 * page, 1024 * old, 1024 * n, 1024 * later);
+    renew_block(
+        stamps,
+        PAGE_STAMPS * page,
+        PAGE_STAMPS * old,
+        PAGE_STAMPS * n,
+        PAGE_STAMPS * later,
+    );
 }

@@ -13,6 +13,7 @@ ghost use Rattle.pool_memory.specs.Calls.{answer, takeSpareCall};
 ghost use Rattle.pool_take_doomed.specs.Given.{givenRecords};
 ghost use Rattle.pool_tracking.specs.Cases.{Accepted, recordOf, TrackedAt};
 ghost use Rattle.pool_tracking.specs.Holdings.{givenUp};
+ghost use Rattle.pool_records.specs.RecordConstants.{doomedStride, spareStride};
 use crate::begun::fresh_pages;
 use crate::begun::new_record;
 use crate::holding::holding_at;
@@ -22,6 +23,8 @@ use grid_shapes::VersionShape;
 use pool_access::put_texture;
 use pool_memory::PacingBook;
 use pool_memory::Pool;
+use pool_records::RETIRING_STRIDE;
+use pool_records::SPARE_STRIDE;
 use pool_take_doomed::push_spares;
 
 // The k spares from place `from` on leave their slice for the destroy ring, which has that many places.
@@ -34,12 +37,12 @@ fn give_up(
     k: usize,
     bytes: u64,
 ) -> Pool
-    requires { ⌜ (2 * places ≤ length (now doomed)) × (pool .first < places) × (pool .doomed + k ≤ places)
-        × (from + k ≤ pool .kept) × (3 * pool .kept ≤ length (now spares)) × (bytes * k ≤ pool .parked)
+    requires { ⌜ (doomedStride * places ≤ length (now doomed)) × (pool .first < places) × (pool .doomed + k ≤ places)
+        × (from + k ≤ pool .kept) × (spareStride * pool .kept ≤ length (now spares)) × (bytes * k ≤ pool .parked)
         × (pool .dooming + bytes * k < 2 ^ 64) × (pool .since + k < 2 ^ 64) ⌝ }
     ensures { λ r. ⌜ (r ≡ givenUp pool k bytes)
-        × (now (doomed .exit) ≡ laid 2 writeDoomed places (pool .first) (pool .doomed) (givenRecords (now (spares .entry)) bytes from k) (now (doomed .entry)))
-        × (now (spares .exit) ≡ moved (now (spares .entry)) (3 * from) (3 * from + 3 * k) (3 * (pool .kept - (from + k)))) ⌝ }
+        × (now (doomed .exit) ≡ laid doomedStride writeDoomed places (pool .first) (pool .doomed) (givenRecords (now (spares .entry)) bytes from k) (now (doomed .entry)))
+        × (now (spares .exit) ≡ moved (now (spares .entry)) (spareStride * from) (spareStride * from + spareStride * k) (spareStride * (pool .kept - (from + k)))) ⌝ }
 {
     push_spares(
         doomed,
@@ -51,7 +54,7 @@ fn give_up(
         k,
         bytes,
     );
-    remove_records(spares, 3, pool.kept, from, k);
+    remove_records(spares, SPARE_STRIDE, pool.kept, from, k);
     let all = bytes * k as u64;
     let mut after = pool;
     after.kept = pool.kept - k;
@@ -83,7 +86,7 @@ pub fn renew_tracking(
     ensures { λ r. ⌜ (answer none, lent r book (now (textures .exit)) (now (retiring .entry)) (now (doomed .exit)) (now (spares .exit)) (now (newest .exit)) (now (stamps .exit)))
         ≡ takeSpareCall (lent pool book (now (textures .entry)) (now (retiring .entry)) (now (doomed .entry)) (now (spares .entry)) (now (newest .entry)) (now (stamps .entry))) id shape records seq ⌝ }
 {
-    let places = retiring.len() / 7;
+    let places = retiring.len() / RETIRING_STRIDE;
     let old = holding_at(textures, i);
     let epoch = pool.trackings + 1;
     let fresh = fresh_pages(shape, records);

@@ -18,6 +18,8 @@ use Rattle.pool_records.specs.Texture.{readTexture}
 use Rattle.pool_rules.specs.Model.{Spare}
 use Rattle.pool_rules.specs.Trim.{aged, agedCount}
 use Rattle.pool_trim.specs.LookAt.{spareIn, isIdle, dueAfter}
+use Rattle.pool_records.specs.RecordConstants.{spareParkedAt, spareStride, textureBytesAt, textureDueAt, textureRenameAt, textureStride}
+use Rattle.pool_rules.specs.RuleConstants.{spareMaxIdleSubmits, stateMaxIdleSubmits}
 
 -- no sum is needed to test an age
 pub by-difference : (seq k now : ℕ) → ltb seq (now - k) ≡ ltb (seq + k) now
@@ -33,7 +35,7 @@ module _ (now : ℕ) where
   pub aged-most : (ss : List (Spare ℕ)) → agedCount now ss ≤ length ss
   unfolding agedCount
   aged-most [] = omega arith
-  aged-most (s ∷ ss) = go (ltb (s .parked + 8) now) (aged-most ss)
+  aged-most (s ∷ ss) = go (ltb (s .parked + spareMaxIdleSubmits) now) (aged-most ss)
     where
       go : (b : Bool) → agedCount now ss ≤ length ss → cond b (suc (agedCount now ss)) 0 ≤ suc (length ss)
       go true h = omega arith
@@ -53,18 +55,18 @@ module _ (now : ℕ) where
         ap (listed f (first + k)) (let e : n - k ≡ suc (n - (k + 1)) = omega arith in e)
         ∙ ap (λ (i : ℕ). f (first + k) ∷ listed f i (n - (k + 1))) (let e : suc (first + k) ≡ first + (k + 1) = omega arith in e)
 
-    pub aged-more : (k : ℕ) → k < n → f (first + k) .parked < now - 8 → k + agedFrom k ≡ k + 1 + agedFrom (k + 1)
+    pub aged-more : (k : ℕ) → k < n → f (first + k) .parked < now - spareMaxIdleSubmits → k + agedFrom k ≡ k + 1 + agedFrom (k + 1)
     unfolding agedCount
     aged-more k h q =
-        let test : ltb (f (first + k) .parked + 8) now ≡ true = lt-ltb (f (first + k) .parked + 8) now (omega arith) in
+        let test : ltb (f (first + k) .parked + spareMaxIdleSubmits) now ≡ true = lt-ltb (f (first + k) .parked + spareMaxIdleSubmits) now (omega arith) in
         let e : agedFrom k ≡ suc (agedFrom (k + 1)) =
         ap (agedCount now) (one-more k h) ∙ ap (λ (b : Bool). cond b (suc (agedFrom (k + 1))) 0) test in
         omega arith
 
-    pub aged-stop : (k : ℕ) → k < n → now - 8 ≤ f (first + k) .parked → agedFrom k ≡ 0
+    pub aged-stop : (k : ℕ) → k < n → now - spareMaxIdleSubmits ≤ f (first + k) .parked → agedFrom k ≡ 0
     unfolding agedCount
     aged-stop k h q =
-        let test : ltb (f (first + k) .parked + 8) now ≡ false = le-ltb (f (first + k) .parked + 8) now (omega arith) in
+        let test : ltb (f (first + k) .parked + spareMaxIdleSubmits) now ≡ false = le-ltb (f (first + k) .parked + spareMaxIdleSubmits) now (omega arith) in
         ap (agedCount now) (one-more k h) ∙ ap (λ (b : Bool). cond b (suc (agedFrom (k + 1))) 0) test
 
     pub aged-end : (k : ℕ) → n ≤ k → agedFrom k ≡ 0
@@ -72,55 +74,55 @@ module _ (now : ℕ) where
     aged-end k h = ap (λ (m : ℕ). agedCount now (listed f (first + k) m)) (let e : n - k ≡ 0 = omega arith in e)
 
 -- a spare's parking is the third number of its record
-pub parked-at : (spares : List ℕ) (j : ℕ) → spareIn spares j .parked ≡ getD spares (3 * j + 2) 0
+pub parked-at : (spares : List ℕ) (j : ℕ) → spareIn spares j .parked ≡ getD spares (spareStride * j + spareParkedAt) 0
 unfolding recordAt readSpare
-parked-at spares j = getD-drop (3 * j) spares 2 0
+parked-at spares j = getD-drop (spareStride * j) spares spareParkedAt 0
 
 -- ---- a texture's numbers
 
 module _ (textures : List ℕ) (i : ℕ) where
   abbrev texture : TextureRecord
-  texture = recordAt 20 readTexture textures i
+  texture = recordAt textureStride readTexture textures i
 
-  pub rename-at : texture .rename ≡ getD textures (20 * i + 16) 0
+  pub rename-at : texture .rename ≡ getD textures (textureStride * i + textureRenameAt) 0
   unfolding recordAt readTexture
-  rename-at = getD-drop (20 * i) textures 16 0
+  rename-at = getD-drop (textureStride * i) textures textureRenameAt 0
 
-  pub bytes-read : getD textures (20 * i + 19) 0 ≡ texture .bytes
+  pub bytes-read : getD textures (textureStride * i + textureBytesAt) 0 ≡ texture .bytes
   unfolding recordAt readTexture
-  bytes-read = sym (getD-drop (20 * i) textures 19 0)
+  bytes-read = sym (getD-drop (textureStride * i) textures textureBytesAt 0)
 
-  pub due-at : texture .due ≡ getD textures (20 * i + 17) 0
+  pub due-at : texture .due ≡ getD textures (textureStride * i + textureDueAt) 0
   unfolding recordAt readTexture
-  due-at = getD-drop (20 * i) textures 17 0
+  due-at = getD-drop (textureStride * i) textures textureDueAt 0
 
-  module _ (now bound : ℕ) (e : bound ≡ now - 120) where
+  module _ (now bound : ℕ) (e : bound ≡ now - stateMaxIdleSubmits) where
     age : (seq n : ℕ) → seq ≡ n → ltb n bound ≡ aged now seq
-    age seq n q = ap₂ ltb (sym q) e ∙ by-difference seq 120 now
+    age seq n q = ap₂ ltb (sym q) e ∙ by-difference seq stateMaxIdleSubmits now
 
     pub idle-test : (left : ℕ)
-        → ltb (getD textures (20 * i + 17) 0) bound && (ltb (getD textures (20 * i + 16) 0) bound && eqb left 0) ≡ isIdle now texture left
+        → ltb (getD textures (textureStride * i + textureDueAt) 0) bound && (ltb (getD textures (textureStride * i + textureRenameAt) 0) bound && eqb left 0) ≡ isIdle now texture left
     unfolding isIdle
     idle-test left = ap₂ (λ (a b : Bool). a && (b && eqb left 0)) (age (texture .due) _ due-at) (age (texture .rename) _ rename-at)
 
     -- the due number after a look
-    pub due-young : bound ≤ getD textures (20 * i + 17) 0 → getD textures (20 * i + 17) 0 ≡ dueAfter now texture
+    pub due-young : bound ≤ getD textures (textureStride * i + textureDueAt) 0 → getD textures (textureStride * i + textureDueAt) 0 ≡ dueAfter now texture
     unfolding dueAfter
     due-young h =
         sym (ap (λ (b : Bool). cond b (cond (aged now (texture .rename)) now (texture .rename)) (texture .due))
-        (sym (age (texture .due) _ due-at) ∙ le-ltb (getD textures (20 * i + 17) 0) bound h) ∙ due-at)
+        (sym (age (texture .due) _ due-at) ∙ le-ltb (getD textures (textureStride * i + textureDueAt) 0) bound h) ∙ due-at)
 
-    pub due-renamed : getD textures (20 * i + 17) 0 < bound → bound ≤ getD textures (20 * i + 16) 0
-        → getD textures (20 * i + 16) 0 ≡ dueAfter now texture
+    pub due-renamed : getD textures (textureStride * i + textureDueAt) 0 < bound → bound ≤ getD textures (textureStride * i + textureRenameAt) 0
+        → getD textures (textureStride * i + textureRenameAt) 0 ≡ dueAfter now texture
     unfolding dueAfter
     due-renamed d h =
         sym (ap₂ (λ (a b : Bool). cond a (cond b now (texture .rename)) (texture .due))
-        (sym (age (texture .due) _ due-at) ∙ lt-ltb (getD textures (20 * i + 17) 0) bound d)
-        (sym (age (texture .rename) _ rename-at) ∙ le-ltb (getD textures (20 * i + 16) 0) bound h) ∙ rename-at)
+        (sym (age (texture .due) _ due-at) ∙ lt-ltb (getD textures (textureStride * i + textureDueAt) 0) bound d)
+        (sym (age (texture .rename) _ rename-at) ∙ le-ltb (getD textures (textureStride * i + textureRenameAt) 0) bound h) ∙ rename-at)
 
-    pub due-now : getD textures (20 * i + 17) 0 < bound → getD textures (20 * i + 16) 0 < bound → now ≡ dueAfter now texture
+    pub due-now : getD textures (textureStride * i + textureDueAt) 0 < bound → getD textures (textureStride * i + textureRenameAt) 0 < bound → now ≡ dueAfter now texture
     unfolding dueAfter
     due-now d h =
         sym (ap₂ (λ (a b : Bool). cond a (cond b now (texture .rename)) (texture .due))
-        (sym (age (texture .due) _ due-at) ∙ lt-ltb (getD textures (20 * i + 17) 0) bound d)
-        (sym (age (texture .rename) _ rename-at) ∙ lt-ltb (getD textures (20 * i + 16) 0) bound h))
+        (sym (age (texture .due) _ due-at) ∙ lt-ltb (getD textures (textureStride * i + textureDueAt) 0) bound d)
+        (sym (age (texture .rename) _ rename-at) ∙ lt-ltb (getD textures (textureStride * i + textureRenameAt) 0) bound h))

@@ -33,6 +33,7 @@ use Rattle.pool_trim.specs.LookAt.{isIdle, dueAfter, lookOf, lookedRecor
 use Rattle.pool_trim.specs.Pass.{givenOne}
 use Rattle.pool_forget_texture.proofs.TextureRuns.{spares-in}
 use Rattle.pool_trim.proofs.Ages.{aged-most}
+use Rattle.grid_shapes.specs.ShapeConstants.{mostShapeBytes}
 
 -- ---- any state
 
@@ -157,7 +158,7 @@ module _ (l : Lent) (now i : ℕ) (h : i < l .pool .tracked) where
       by-count f (count now (stateOf l i))
       ∙ sym (as-doomed-bytes (bytesOf (stateOf l i .shape)) given ∙ ap₂ (λ (b n : ℕ). b * n) (ap bytesOf (shape-at l i h)) given-length)
 
-  pub bytes-few : Fits l → t₀ .bytes * count now (stateOf l i) ≤ 17592186044416 * count now (stateOf l i)
+  pub bytes-few : Fits l → t₀ .bytes * count now (stateOf l i) ≤ mostShapeBytes * count now (stateOf l i)
   bytes-few f =
       omega (arith, by-count f (count now (stateOf l i)), mul-le-mul-right (count now (stateOf l i)) (bytes-bound (t₀ .shape) (shape-passes l i h f)))
 

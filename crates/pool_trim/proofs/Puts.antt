@@ -18,13 +18,14 @@ use Rattle.pool_access.proofs.Fields.{spares-number}
 use Rattle.pool_trim.specs.declared.look_at.Look.{Look}
 use Rattle.pool_trim.specs.LookAt.{lookedRecord, lookedPut}
 use Rattle.pool_trim.proofs.Ages.{due-at}
+use Rattle.pool_records.specs.RecordConstants.{textureDueAt, textureSparesAt, textureStride}
 
 module _ (T : List ℕ) (to i : ℕ) (look : Look) where
   abbrev t₀ : TextureRecord
-  t₀ = recordAt 20 readTexture T i
+  t₀ = recordAt textureStride readTexture T i
 
   abbrev written : List ℕ
-  written = sets T (20 * to) (writeTexture (lookedRecord look t₀))
+  written = sets T (textureStride * to) (writeTexture (lookedRecord look t₀))
 
   pub put-none : look .staying ≡ 0 → T ≡ lookedPut T to i look
   unfolding lookedPut
@@ -34,7 +35,7 @@ module _ (T : List ℕ) (to i : ℕ) (look : Look) where
   unfolding lookedPut
   put-some h = sym (ap (λ (b : Bool). cond b T written) (ne-eqb (look .staying) 0 h))
 
-  as-it-stands : getD T (20 * i + 17) 0 ≡ look .due → getD T (20 * i + 18) 0 ≡ look .own - look .aged → lookedRecord look t₀ ≡ t₀
+  as-it-stands : getD T (textureStride * i + textureDueAt) 0 ≡ look .due → getD T (textureStride * i + textureSparesAt) 0 ≡ look .own - look .aged → lookedRecord look t₀ ≡ t₀
   unfolding lookedRecord
   as-it-stands d n = λ j. record {
     id = t₀ .id;
@@ -48,12 +49,12 @@ module _ (T : List ℕ) (to i : ℕ) (look : Look) where
     bytes = t₀ .bytes;
   }
 
-  pub put-same : (look .staying ≡ 0 → ⊥) → 20 * i + 20 ≤ length T
-      → eqb to i && eqb (getD T (20 * i + 17) 0) (look .due) && eqb (getD T (20 * i + 18) 0) (look .own - look .aged) ≡ true → T ≡ lookedPut T to i look
+  pub put-same : (look .staying ≡ 0 → ⊥) → textureStride * i + textureStride ≤ length T
+      → eqb to i && eqb (getD T (textureStride * i + textureDueAt) 0) (look .due) && eqb (getD T (textureStride * i + textureSparesAt) 0) (look .own - look .aged) ≡ true → T ≡ lookedPut T to i look
   put-same h fits e =
-      let two = and-both (eqb to i && eqb (getD T (20 * i + 17) 0) (look .due)) _ e in
-      let one = and-both (eqb to i) (eqb (getD T (20 * i + 17) 0) (look .due)) (two .0) in
-      sym (ap₂ (λ (k : ℕ) (r : TextureRecord). sets T (20 * k) (writeTexture r)) (eqb-true to i (one .0))
-      (as-it-stands (eqb-true _ _ (one .1)) (eqb-true (getD T (20 * i + 18) 0) (look .own - look .aged) (two .1)))
+      let two = and-both (eqb to i && eqb (getD T (textureStride * i + textureDueAt) 0) (look .due)) _ e in
+      let one = and-both (eqb to i) (eqb (getD T (textureStride * i + textureDueAt) 0) (look .due)) (two .0) in
+      sym (ap₂ (λ (k : ℕ) (r : TextureRecord). sets T (textureStride * k) (writeTexture r)) (eqb-true to i (one .0))
+      (as-it-stands (eqb-true _ _ (one .1)) (eqb-true (getD T (textureStride * i + textureSparesAt) 0) (look .own - look .aged) (two .1)))
       ∙ rewritten texture-codec (i + 1) T (omega arith) i (omega arith))
       ∙ put-some h

@@ -37,6 +37,8 @@ use Rattle.pool_trim.specs.LookAt.{lookedRecord}
 use Rattle.pool_trim.specs.Pass.{trimmedOne, givenOne, trimmed}
 use Rattle.pool_forget_texture.proofs.TextureRuns.{spares-within}
 use Rattle.pool_trim.proofs.Looks.{count, looked, looked-paged, looked-spares, lookHere, few, left-count, record-here}
+use Rattle.grid_stamps.specs.StampConstants.{pageStamps}
+use Rattle.pool_records.specs.RecordConstants.{doomedStride, spareStride, textureStride}
 
 -- what a call leaves of the packed slices depends on the textures alone
 module _ (l : Lent) (p q : Pool ℕ) (e : p .textures ≡ q .textures) where
@@ -90,16 +92,16 @@ module _ (l : Lent) (now i : ℕ) (h : i < l .pool .tracked) where
   -- ---- the destroy ring
 
   pub doomed-next : (places first n k : ℕ) (d : List ℕ) → k ≡ length (givenTo l now i)
-      → d ≡ laid 2 writeDoomed places first n (map doomedRecord (givenTo l now i)) (l .doomed)
-      → laid 2 writeDoomed places first (n + k) (map doomedRecord (givenOne now (stateOf l i))) d
-      ≡ laid 2 writeDoomed places first n (map doomedRecord (givenTo l now (i + 1))) (l .doomed)
+      → d ≡ laid doomedStride writeDoomed places first n (map doomedRecord (givenTo l now i)) (l .doomed)
+      → laid doomedStride writeDoomed places first (n + k) (map doomedRecord (givenOne now (stateOf l i))) d
+      ≡ laid doomedStride writeDoomed places first n (map doomedRecord (givenTo l now (i + 1))) (l .doomed)
   doomed-next places first n k d e q =
-      ap₂ (λ (m : ℕ) (s : List ℕ). laid 2 writeDoomed places first (n + m) (map doomedRecord (givenOne now (stateOf l i))) s)
+      ap₂ (λ (m : ℕ) (s : List ℕ). laid doomedStride writeDoomed places first (n + m) (map doomedRecord (givenOne now (stateOf l i))) s)
       (e ∙ sym (length-map (givenTo l now i) doomedRecord)) q
-      ∙ sym (ap (λ (ds : List (Doomed ℕ)). laid 2 writeDoomed places first n (map doomedRecord ds) (l .doomed)) given-next
-      ∙ ap (λ (rs : List DoomedRecord). laid 2 writeDoomed places first n rs (l .doomed))
+      ∙ sym (ap (λ (ds : List (Doomed ℕ)). laid doomedStride writeDoomed places first n (map doomedRecord ds) (l .doomed)) given-next
+      ∙ ap (λ (rs : List DoomedRecord). laid doomedStride writeDoomed places first n rs (l .doomed))
       (map-append doomedRecord (givenTo l now i) (givenOne now (stateOf l i)))
-      ∙ laid-append 2 writeDoomed places first (map doomedRecord (givenTo l now i)) (map doomedRecord (givenOne now (stateOf l i))) n (l .doomed))
+      ∙ laid-append doomedStride writeDoomed places first (map doomedRecord (givenTo l now i)) (map doomedRecord (givenOne now (stateOf l i))) n (l .doomed))
 
   module _ (f : Fits l) where
     abbrev t₀ : TextureRecord
@@ -120,20 +122,20 @@ module _ (l : Lent) (now i : ℕ) (h : i < l .pool .tracked) where
       abbrev more : keptTo l now (i + 1) ≡ keptTo l now i ++ (looked now (stateOf l i) ∷ [])
       more = stays-next e
 
-      pub textures-stay : (to : ℕ) → to ≡ length (keptTo l now i) → 20 * to + 20 ≤ length (l .textures)
-          → sets (texturesAfter p l) (20 * to) (writeTexture (lookedRecord (lookHere l now i h) t₀)) ≡ texturesAfter q l
+      pub textures-stay : (to : ℕ) → to ≡ length (keptTo l now i) → textureStride * to + textureStride ≤ length (l .textures)
+          → sets (texturesAfter p l) (textureStride * to) (writeTexture (lookedRecord (lookHere l now i h) t₀)) ≡ texturesAfter q l
       textures-stay to at room =
-          ap₂ (λ (n : ℕ) (r : TextureRecord). sets (texturesAfter p l) (20 * n) (writeTexture r)) at (sym (record-here l now i h f))
+          ap₂ (λ (n : ℕ) (r : TextureRecord). sets (texturesAfter p l) (textureStride * n) (writeTexture r)) at (sym (record-here l now i h f))
           ∙ texture-packed l p q (looked now (stateOf l i)) more (omega arith)
 
       pub spares-stay : (to : ℕ) → to ≡ length (everySpare (keptTo l now i)) → to ≤ sparesTo (l .textures) i
-          → moved (sparesAfter p l) (3 * to) (3 * (sparesTo (l .textures) i + k₀)) (3 * (t₀ .spares - k₀)) ≡ sparesAfter q l
+          → moved (sparesAfter p l) (spareStride * to) (spareStride * (sparesTo (l .textures) i + k₀)) (spareStride * (t₀ .spares - k₀)) ≡ sparesAfter q l
       spares-stay to at low =
           let first = spares-to l i h in
           let own = ap (λ (t : TextureRecord). t .spares) (record-read l i h) in
           let fewer = few l now i h in
           let within = spares-within l i h f in
-          ap₂ (λ (n m : ℕ). moved (sparesAfter p l) (3 * n) (3 * (m + k₀)) (3 * (t₀ .spares - k₀))) at (sym first)
+          ap₂ (λ (n m : ℕ). moved (sparesAfter p l) (spareStride * n) (spareStride * (m + k₀)) (spareStride * (t₀ .spares - k₀))) at (sym first)
           ∙ spares-packed l p q (looked now (stateOf l i)) more (f .kept) (omega (arith, f .spares, f .versions)) (firstSpare l i + k₀)
           (t₀ .spares - k₀)
           (looked-spares now (stateOf l i) ∙ spares-rest l i h k₀ (omega (arith, own, fewer))
@@ -153,15 +155,15 @@ module _ (l : Lent) (now i : ℕ) (h : i < l .pool .tracked) where
               w .1 ∙ ap (λ (m : ℕ). used + m) (ap recordPages (record-read l i h)),
             )
 
-        pub stamps-stay : length (flatMap (pagesAfter l) (keptTo l now i)) ≡ 1024 * used
-            → (moved (stampsAfter p l) (1024 * used) (1024 * pagesTo (l .textures) i) (1024 * recordPages t₀) ≡ stampsAfter q l)
-            × (length (flatMap (pagesAfter l) (keptTo l now (i + 1))) ≡ 1024 * (used + recordPages t₀))
+        pub stamps-stay : length (flatMap (pagesAfter l) (keptTo l now i)) ≡ pageStamps * used
+            → (moved (stampsAfter p l) (pageStamps * used) (pageStamps * pagesTo (l .textures) i) (pageStamps * recordPages t₀) ≡ stampsAfter q l)
+            × (length (flatMap (pagesAfter l) (keptTo l now (i + 1))) ≡ pageStamps * (used + recordPages t₀))
         stamps-stay n =
             let w = stamps-packed l p q (looked now (stateOf l i)) more (f .claimed) i h (looked-paged now (stateOf l i)) used before
             (ids-ascend l f) (omega (arith, f .stamps, f .pages)) n in (
-              ap₂ (λ (a b : ℕ). moved (stampsAfter p l) (1024 * used) (1024 * a) (1024 * b)) (sym (pages-to l i h))
+              ap₂ (λ (a b : ℕ). moved (stampsAfter p l) (pageStamps * used) (pageStamps * a) (pageStamps * b)) (sym (pages-to l i h))
                   (sym (ap recordPages (record-read l i h))) ∙ w .0,
-              w .1 ∙ ap (λ (m : ℕ). 1024 * (used + m)) (ap recordPages (record-read l i h)),
+              w .1 ∙ ap (λ (m : ℕ). pageStamps * (used + m)) (ap recordPages (record-read l i h)),
             )
 
       -- ---- the counts

@@ -48,6 +48,9 @@ use Rattle.pool_forget_texture.proofs.TextureRuns.{spares-within, pages-within}
 use Rattle.pool_trim.proofs.Steps.{givenTo, keptTo}
 use Rattle.pool_trim.proofs.Trimmed.{Sofar, Seen, record-now}
 use Rattle.pool_trim.proofs.YoungTextures.{nothing-trimmed}
+use Rattle.grid_shapes.specs.ShapeConstants.{mostShapeBytes}
+use Rattle.pool_records.specs.RecordConstants.{doomedStride, retiringStride, spareStride, textureStride}
+use Rattle.pool_rules.specs.RuleConstants.{mostPlaces}
 
 -- ---- what a step asks for
 
@@ -56,7 +59,7 @@ counted : (l : Lent) (s : VersionShape) (page : ℕ) (h : Recorded) → Given (H
 counted l s page (Writes n) g = omega (arith, g .writes)
 counted l s page NoHistory g = omega arith
 
-pub textures-most : (l : Lent) → Fits l → modelOf l .places .textures ≤ 4096
+pub textures-most : (l : Lent) → Fits l → modelOf l .places .textures ≤ mostPlaces
 textures-most l f = enough (modelOf l .places) (f .places) .textures
 
 module _ (l : Lent) (f : Fits l) (i : ℕ) (h : i < l .pool .tracked) where
@@ -69,8 +72,8 @@ module _ (l : Lent) (f : Fits l) (i : ℕ) (h : i < l .pool .tracked) where
       rw (sym (record-read l i h)) (counted l (t .shape) (firstPageOf l i) (t .history) (formed .history))
 
   module _ (now : ℕ) (w : Pass) (T D S N P : List ℕ) (s : Sofar l now i w T D S N P) where
-    pub look-fits : (20 * i + 20 ≤ length T)
-        × (3 * (w .first + recordAt 20 readTexture T i .spares) ≤ length S) × (recordPages (recordAt 20 readTexture T i) ≤ 4096)
+    pub look-fits : (textureStride * i + textureStride ≤ length T)
+        × (spareStride * (w .first + recordAt textureStride readTexture T i .spares) ≤ length S) × (recordPages (recordAt textureStride readTexture T i) ≤ mostPlaces)
     look-fits =
         let here = record-now l now i w T D S N P f h s in (
           omega (arith, s .T-long, textures-fit l f),
@@ -79,8 +82,8 @@ module _ (l : Lent) (f : Fits l) (i : ℕ) (h : i < l .pool .tracked) where
         )
 
     module _ (look : Look) (n : Seen l w look) where
-      pub push-fits : (2 * (length (l .retiring) / 7) ≤ length D) × (l .pool .first < length (l .retiring) / 7)
-          × (l .pool .doomed + w .count + look .aged ≤ length (l .retiring) / 7) × (3 * (w .first + look .aged) ≤ length S)
+      pub push-fits : (doomedStride * (length (l .retiring) / retiringStride) ≤ length D) × (l .pool .first < length (l .retiring) / retiringStride)
+          × (l .pool .doomed + w .count + look .aged ≤ length (l .retiring) / retiringStride) × (spareStride * (w .first + look .aged) ≤ length S)
       unfolding versionPlaces
       push-fits = (
         omega (arith, s .D-long, f .doomed),
@@ -89,7 +92,7 @@ module _ (l : Lent) (f : Fits l) (i : ℕ) (h : i < l .pool .tracked) where
         omega (arith, s .S-long, n .few, n .spares, f .versions, f .spares),
       )
 
-      pub put-fits : (20 * i + 20 ≤ length T) × (20 * w .tracked + 20 ≤ length T) × RecordedFits (recordAt 20 readTexture T i .history)
+      pub put-fits : (textureStride * i + textureStride ≤ length T) × (textureStride * w .tracked + textureStride ≤ length T) × RecordedFits (recordAt textureStride readTexture T i .history)
           × (look .aged ≤ look .own)
       put-fits = (
         omega (arith, s .T-long, textures-fit l f),
@@ -98,11 +101,11 @@ module _ (l : Lent) (f : Fits l) (i : ℕ) (h : i < l .pool .tracked) where
         n .few,
       )
 
-      pub pass-fits : (look .aged ≤ look .own) × (w .first + look .own ≤ 4096) × (w .page + look .claimed ≤ 4096) × (w .tracked + look .staying ≤ 4096)
-          × (w .kept + (look .own - look .aged) ≤ 4096) × (w .pages + look .paged ≤ 4096) × (w .count + look .aged ≤ 4096)
+      pub pass-fits : (look .aged ≤ look .own) × (w .first + look .own ≤ mostPlaces) × (w .page + look .claimed ≤ mostPlaces) × (w .tracked + look .staying ≤ mostPlaces)
+          × (w .kept + (look .own - look .aged) ≤ mostPlaces) × (w .pages + look .paged ≤ mostPlaces) × (w .count + look .aged ≤ mostPlaces)
           × (w .freed + look .bytes * look .aged < 2 ^ 64)
       pass-fits =
-          let spares : w .first + look .own ≤ 4096 = omega (arith, n .spares, f .versions, f .most) in (
+          let spares : w .first + look .own ≤ mostPlaces = omega (arith, n .spares, f .versions, f .most) in (
             n .few,
             spares,
             omega (arith, n .pages, f .pages, f .newest),
@@ -124,14 +127,14 @@ module _ (l : Lent) (f : Fits l) (now i : ℕ) (w : Pass) (T D S N P : List ℕ)
       omega (arith, sum, total-cut spareBytes i (modelOf l .textures))
 
   few-given : w .count ≤ l .pool .kept
-  few-given = omega (arith, s .all, s .first, f .kept, total-first 20 readTexture (λ t. t .spares) (l .textures) i (l .pool .tracked) (s .at))
+  few-given = omega (arith, s .all, s .first, f .kept, total-first textureStride readTexture (λ t. t .spares) (l .textures) i (l .pool .tracked) (s .at))
 
-  pub counts-fit : (l .pool .doomed + w .count ≤ 4096) × (l .pool .since ≤ 4096) × (w .freed ≤ l .pool .parked) × (l .pool .dooming + w .freed < 2 ^ 64)
+  pub counts-fit : (l .pool .doomed + w .count ≤ mostPlaces) × (l .pool .since ≤ mostPlaces) × (w .freed ≤ l .pool .parked) × (l .pool .dooming + w .freed < 2 ^ 64)
   unfolding modelOf
   counts-fit =
-      let dooming : l .pool .dooming ≤ 17592186044416 * length (modelOf l .doomed) =
+      let dooming : l .pool .dooming ≤ mostShapeBytes * length (modelOf l .doomed) =
       omega (arith, f .formed .dooming, doomed-bound (f .formed .doomed)) in
-      let few : w .count ≤ 4096 = omega (arith, few-given, f .versions, f .most) in (
+      let few : w .count ≤ mostPlaces = omega (arith, few-given, f .versions, f .most) in (
         omega (arith, few-given, f .versions, f .most),
         omega (arith, f .formed .since, doomed-model l, doomed-fit l f, f .most),
         omega (arith, s .freed, given-parked, f .formed .parked),

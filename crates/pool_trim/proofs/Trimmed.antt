@@ -39,6 +39,9 @@ use Rattle.pool_trim.specs.Pass.{noPass, passOn, givenOne, trimmed}
 use Rattle.pool_forget_texture.proofs.TextureRuns.{spares-in, spares-within, pages-within}
 use Rattle.pool_trim.proofs.Looks.{count, lookHere, few, idle-here, none-left, given-count, given-bytes, bytes-few, given-records}
 use Rattle.pool_trim.proofs.Steps.{textures-as, spares-as, newest-as, stamps-as, givenTo, keptTo, given-next, dropped-next, doomed-next, textures-stay, spares-stay, newest-stays, stamps-stay, tracked-stays, kept-stay, pages-stay}
+use Rattle.grid_shapes.specs.ShapeConstants.{mostShapeBytes}
+use Rattle.grid_stamps.specs.StampConstants.{pageStamps}
+use Rattle.pool_records.specs.RecordConstants.{doomedStride, retiringStride, spareStride, textureStride}
 
 -- the pass w after i textures, with the slices as they stand then
 pub record Sofar (l : Lent) (now i : ℕ) (w : Pass) (T D S N P : List ℕ) : Type 0 where
@@ -56,15 +59,15 @@ pub record Sofar (l : Lent) (now i : ℕ) (w : Pass) (T D S N P : List ℕ) : Ty
   pub fewer : w .tracked ≤ i
   pub low : w .pages ≤ w .page
   pub all : w .count + w .kept ≡ w .first
-  pub light : w .freed ≤ 17592186044416 * w .count
+  pub light : w .freed ≤ mostShapeBytes * w .count
   -- the slices
   pub textures : T ≡ texturesAfter (trimmed l now i) l
-  pub doomed : D ≡ laid 2 writeDoomed (length (l .retiring) / 7) (l .pool .first) (l .pool .doomed) (map doomedRecord (givenTo l now i)) (l .doomed)
+  pub doomed : D ≡ laid doomedStride writeDoomed (length (l .retiring) / retiringStride) (l .pool .first) (l .pool .doomed) (map doomedRecord (givenTo l now i)) (l .doomed)
   pub spares : S ≡ sparesAfter (trimmed l now i) l
   pub newest : N ≡ newestAfter (trimmed l now i) l
   pub stamps : P ≡ stampsAfter (trimmed l now i) l
   pub newest-long : length (flatMap newestOf (keptTo l now i)) ≡ w .pages
-  pub stamps-long : length (flatMap (pagesAfter l) (keptTo l now i)) ≡ 1024 * w .pages
+  pub stamps-long : length (flatMap (pagesAfter l) (keptTo l now i)) ≡ pageStamps * w .pages
   pub T-long : length T ≡ length (l .textures)
   pub D-long : length D ≡ length (l .doomed)
   pub S-long : length S ≡ length (l .spares)
@@ -76,8 +79,8 @@ pub sofar-start : (l : Lent) (now : ℕ) (w : Pass) → w ≡ noPass → Sofar l
 unfolding noPass trimmed flatMap total laid
 sofar-start l now w e = record {
   at = omega arith;
-  first = ap (λ (x : Pass). x .first) e ∙ sym (total-none 20 readTexture (λ t. t .spares) (l .textures));
-  page = ap (λ (x : Pass). x .page) e ∙ sym (total-none 20 readTexture recordPages (l .textures));
+  first = ap (λ (x : Pass). x .first) e ∙ sym (total-none textureStride readTexture (λ t. t .spares) (l .textures));
+  page = ap (λ (x : Pass). x .page) e ∙ sym (total-none textureStride readTexture recordPages (l .textures));
   tracked = ap (λ (x : Pass). x .tracked) e;
   kept = ap (λ (x : Pass). x .kept) e;
   pages = ap (λ (x : Pass). x .pages) e;
@@ -108,7 +111,7 @@ pub record Seen (l : Lent) (w : Pass) (look : Look) : Type 0 where
   pub pages : w .page + look .claimed ≤ l .pool .pages
   pub paged : look .paged ≤ look .claimed
   pub staying : look .staying ≤ 1
-  pub light : look .bytes * look .aged ≤ 17592186044416 * look .aged
+  pub light : look .bytes * look .aged ≤ mostShapeBytes * look .aged
 
 module _ (l : Lent) (now i : ℕ) (w : Pass) (T D S N P : List ℕ) (f : Fits l) (h : i < l .pool .tracked) (s : Sofar l now i w T D S N P) where
   abbrev t₀ : TextureRecord
@@ -122,12 +125,12 @@ module _ (l : Lent) (now i : ℕ) (w : Pass) (T D S N P : List ℕ) (f : Fits l)
 
   -- ---- what is read now is what stood there
 
-  pub record-now : recordAt 20 readTexture T i ≡ t₀
+  pub record-now : recordAt textureStride readTexture T i ≡ t₀
   record-now =
-      ap (λ (x : List ℕ). recordAt 20 readTexture x i) (s .textures) ∙ texture-unread l (trimmed l now i) i (omega (arith, s .tracked, s .fewer))
+      ap (λ (x : List ℕ). recordAt textureStride readTexture x i) (s .textures) ∙ texture-unread l (trimmed l now i) i (omega (arith, s .tracked, s .fewer))
 
-  spare-now : (j : ℕ) → w .first ≤ j → recordAt 3 readSpare S j ≡ recordAt 3 readSpare (l .spares) j
-  spare-now j q = ap (λ (x : List ℕ). recordAt 3 readSpare x j) (s .spares) ∙ spare-unread l (trimmed l now i) j (omega (arith, s .kept, s .all))
+  spare-now : (j : ℕ) → w .first ≤ j → recordAt spareStride readSpare S j ≡ recordAt spareStride readSpare (l .spares) j
+  spare-now j q = ap (λ (x : List ℕ). recordAt spareStride readSpare x j) (s .spares) ∙ spare-unread l (trimmed l now i) j (omega (arith, s .kept, s .all))
 
   spares-now : listed (spareIn S) (w .first) (t₀ .spares) ≡ stateOf l i .spares
   unfolding spareRead
@@ -145,11 +148,11 @@ module _ (l : Lent) (now i : ℕ) (w : Pass) (T D S N P : List ℕ) (f : Fits l)
   given-now : (b k : ℕ) → givenRecords S b (w .first) k ≡ givenRecords (l .spares) b (sparesTo (l .textures) i) k
   unfolding givenRecords
   given-now b k =
-      listed-same (λ j. record { view = recordAt 3 readSpare S j .view; bytes = b })
-      (λ j. record { view = recordAt 3 readSpare (l .spares) j .view; bytes = b })
+      listed-same (λ j. record { view = recordAt spareStride readSpare S j .view; bytes = b })
+      (λ j. record { view = recordAt spareStride readSpare (l .spares) j .view; bytes = b })
       k (w .first) (sparesTo (l .textures) i)
       (λ j q. ap (λ (x : SpareRecord). record { view = x .view; bytes = b }) (spare-now (w .first + j) (omega arith))
-      ∙ ap (λ (n : ℕ). record { view = recordAt 3 readSpare (l .spares) (n + j) .view; bytes = b }) (s .first))
+      ∙ ap (λ (n : ℕ). record { view = recordAt spareStride readSpare (l .spares) (n + j) .view; bytes = b }) (s .first))
 
   module _ (look : Look) (e : look ≡ lookAt now T S i (w .first)) where
     here : look ≡ lookHere l now i h
@@ -196,11 +199,11 @@ module _ (l : Lent) (now i : ℕ) (w : Pass) (T D S N P : List ℕ) (f : Fits l)
     -- ---- one texture more
 
     module _ (v : Pass) (T′ D′ S′ N′ P′ : List ℕ) (ev : v ≡ passOn w look) (eT : T′ ≡ lookedPut T (w .tracked) i look)
-        (eD : D′ ≡ laid 2 writeDoomed (length (l .retiring) / 7) (l .pool .first) (l .pool .doomed + w .count)
+        (eD : D′ ≡ laid doomedStride writeDoomed (length (l .retiring) / retiringStride) (l .pool .first) (l .pool .doomed + w .count)
         (givenRecords S (look .bytes) (w .first) (look .aged)) D)
-        (eS : S′ ≡ moved S (3 * w .kept) (3 * w .kept + 3 * (w .first + look .aged - w .kept)) (3 * (look .own - look .aged)))
+        (eS : S′ ≡ moved S (spareStride * w .kept) (spareStride * w .kept + spareStride * (w .first + look .aged - w .kept)) (spareStride * (look .own - look .aged)))
         (eN : N′ ≡ moved N (w .pages) (w .pages + (w .page - w .pages)) (look .paged))
-        (eP : P′ ≡ moved P (1024 * w .pages) (1024 * w .pages + 1024 * (w .page - w .pages)) (1024 * look .paged))
+        (eP : P′ ≡ moved P (pageStamps * w .pages) (pageStamps * w .pages + pageStamps * (w .page - w .pages)) (pageStamps * look .paged))
         (lT : length T′ ≡ length T) (lD : length D′ ≡ length D) (lS : length S′ ≡ length S) (lN : length N′ ≡ length N)
         (lP : length P′ ≡ length P) where
       first-on : v .first ≡ w .first + look .own
@@ -231,26 +234,26 @@ module _ (l : Lent) (now i : ℕ) (w : Pass) (T D S N P : List ℕ) (f : Fits l)
       unfolding passOn
       freed-on = ap (λ (x : Pass). x .freed) ev
 
-      doomed-on : D′ ≡ laid 2 writeDoomed (length (l .retiring) / 7) (l .pool .first) (l .pool .doomed) (map doomedRecord (givenTo l now (i + 1)))
+      doomed-on : D′ ≡ laid doomedStride writeDoomed (length (l .retiring) / retiringStride) (l .pool .first) (l .pool .doomed) (map doomedRecord (givenTo l now (i + 1)))
           (l .doomed)
       unfolding lookOf
       doomed-on =
           eD
-          ∙ ap (λ rs. laid 2 writeDoomed (length (l .retiring) / 7) (l .pool .first) (l .pool .doomed + w .count) rs D)
+          ∙ ap (λ rs. laid doomedStride writeDoomed (length (l .retiring) / retiringStride) (l .pool .first) (l .pool .doomed + w .count) rs D)
           (ap (λ (x : Look). givenRecords S (x .bytes) (w .first) (x .aged)) here ∙ given-now (t₀ .bytes) k₀ ∙ given-records l now i h f)
-          ∙ doomed-next l now i h (length (l .retiring) / 7) (l .pool .first) (l .pool .doomed) (w .count) D (s .count) (s .doomed)
+          ∙ doomed-next l now i h (length (l .retiring) / retiringStride) (l .pool .first) (l .pool .doomed) (w .count) D (s .count) (s .doomed)
 
       -- what the two cases share
       further : (tracked : v .tracked ≡ length (keptTo l now (i + 1))) → v .kept ≡ length (everySpare (keptTo l now (i + 1)))
           → v .pages ≡ total pagesUsed (keptTo l now (i + 1)) → T′ ≡ texturesAfter (trimmed l now (i + 1)) l
           → S′ ≡ sparesAfter (trimmed l now (i + 1)) l
           → N′ ≡ newestAfter (trimmed l now (i + 1)) l → P′ ≡ stampsAfter (trimmed l now (i + 1)) l
-          → length (flatMap newestOf (keptTo l now (i + 1))) ≡ v .pages → length (flatMap (pagesAfter l) (keptTo l now (i + 1))) ≡ 1024 * v .pages
+          → length (flatMap newestOf (keptTo l now (i + 1))) ≡ v .pages → length (flatMap (pagesAfter l) (keptTo l now (i + 1))) ≡ pageStamps * v .pages
           → Sofar l now (i + 1) v T′ D′ S′ N′ P′
       further tracked kept pages textures spares newest stamps newest-long stamps-long = record {
         at = omega arith;
-        first = omega (arith, first-on, own-is, s .first, total-next 20 readTexture (λ t. t .spares) (l .textures) i);
-        page = omega (arith, page-on, claimed-is, s .page, total-next 20 readTexture recordPages (l .textures) i);
+        first = omega (arith, first-on, own-is, s .first, total-next textureStride readTexture (λ t. t .spares) (l .textures) i);
+        page = omega (arith, page-on, claimed-is, s .page, total-next textureStride readTexture recordPages (l .textures) i);
         tracked = tracked;
         kept = kept;
         pages = pages;
@@ -305,19 +308,19 @@ module _ (l : Lent) (now i : ℕ) (w : Pass) (T D S N P : List ℕ) (f : Fits l)
           (omega (arith, kept-on, empty, s .kept, ap (λ (ts : List (VersionState ℕ)). length (everySpare ts)) same))
           (omega (arith, pages-on, unpaged, s .pages, ap (total pagesUsed) same))
           (eT
-          ∙ ap (λ (c : Bool). cond c T (sets T (20 * w .tracked) (writeTexture (lookedRecord look (recordAt 20 readTexture T i)))))
+          ∙ ap (λ (c : Bool). cond c T (sets T (textureStride * w .tracked) (writeTexture (lookedRecord look (recordAt textureStride readTexture T i)))))
           (eq-eqb (look .staying) 0 gone)
           ∙ s .textures ∙ textures-as l (trimmed l now i) (trimmed l now (i + 1)) back)
-          (eS ∙ ap (λ (n : ℕ). moved S (3 * w .kept) (3 * w .kept + 3 * (w .first + look .aged - w .kept)) n)
-          (let z : 3 * (look .own - look .aged) ≡ 0 = omega (arith, empty) in z)
-          ∙ sym (moved-none S (3 * w .kept) (3 * w .kept + 3 * (w .first + look .aged - w .kept)))
+          (eS ∙ ap (λ (n : ℕ). moved S (spareStride * w .kept) (spareStride * w .kept + spareStride * (w .first + look .aged - w .kept)) n)
+          (let z : spareStride * (look .own - look .aged) ≡ 0 = omega (arith, empty) in z)
+          ∙ sym (moved-none S (spareStride * w .kept) (spareStride * w .kept + spareStride * (w .first + look .aged - w .kept)))
           ∙ s .spares ∙ spares-as l (trimmed l now i) (trimmed l now (i + 1)) back)
           (eN ∙ ap (λ (n : ℕ). moved N (w .pages) (w .pages + (w .page - w .pages)) n) unpaged
           ∙ sym (moved-none N (w .pages) (w .pages + (w .page - w .pages)))
           ∙ s .newest ∙ newest-as l (trimmed l now i) (trimmed l now (i + 1)) back)
-          (eP ∙ ap (λ (n : ℕ). moved P (1024 * w .pages) (1024 * w .pages + 1024 * (w .page - w .pages)) n)
-          (let z : 1024 * look .paged ≡ 0 = omega (arith, unpaged) in z)
-          ∙ sym (moved-none P (1024 * w .pages) (1024 * w .pages + 1024 * (w .page - w .pages)))
+          (eP ∙ ap (λ (n : ℕ). moved P (pageStamps * w .pages) (pageStamps * w .pages + pageStamps * (w .page - w .pages)) n)
+          (let z : pageStamps * look .paged ≡ 0 = omega (arith, unpaged) in z)
+          ∙ sym (moved-none P (pageStamps * w .pages) (pageStamps * w .pages + pageStamps * (w .page - w .pages)))
           ∙ s .stamps ∙ stamps-as l (trimmed l now i) (trimmed l now (i + 1)) back)
           (omega (arith, pages-on, unpaged, s .newest-long, ap (λ (ts : List (VersionState ℕ)). length (flatMap newestOf ts)) same))
           (omega (arith, pages-on, unpaged, s .stamps-long, ap (λ (ts : List (VersionState ℕ)). length (flatMap (pagesAfter l) ts)) same))
@@ -338,27 +341,27 @@ module _ (l : Lent) (now i : ℕ) (w : Pass) (T D S N P : List ℕ) (f : Fits l)
           (omega (arith, kept-on, own-is, aged-is, s .kept, kept-stay l now i h f b))
           (omega (arith, pages-on, pages, s .pages, pages-stay l now i h f b))
           (eT
-          ∙ ap (λ (c : Bool). cond c T (sets T (20 * w .tracked) (writeTexture (lookedRecord look (recordAt 20 readTexture T i)))))
+          ∙ ap (λ (c : Bool). cond c T (sets T (textureStride * w .tracked) (writeTexture (lookedRecord look (recordAt textureStride readTexture T i)))))
           (ne-eqb (look .staying) 0 (λ q. let y : ⊥ = omega (arith, one, q) in y))
-          ∙ ap₂ (λ (x : List ℕ) (r : TextureRecord). sets x (20 * w .tracked) (writeTexture r)) (s .textures) (ap₂ lookedRecord here record-now)
+          ∙ ap₂ (λ (x : List ℕ) (r : TextureRecord). sets x (textureStride * w .tracked) (writeTexture r)) (s .textures) (ap₂ lookedRecord here record-now)
           ∙ textures-stay l now i h f b (w .tracked) (s .tracked) (omega (arith, s .fewer, textures-fit l f)))
           (eS
-          ∙ ap (λ (x : List ℕ). moved x (3 * w .kept) (3 * w .kept + 3 * (w .first + look .aged - w .kept)) (3 * (look .own - look .aged))) (s .spares)
-          ∙ ap₂ (λ (m n : ℕ). moved (sparesAfter p l) (3 * w .kept) m n)
-          (let z : 3 * w .kept + 3 * (w .first + look .aged - w .kept)
-          ≡ 3 * (sparesTo (l .textures) i + k₀) = omega (arith, s .first, s .all, aged-is) in z)
-          (let z : 3 * (look .own - look .aged) ≡ 3 * (t₀ .spares - k₀) = omega (arith, own-is, aged-is) in z)
+          ∙ ap (λ (x : List ℕ). moved x (spareStride * w .kept) (spareStride * w .kept + spareStride * (w .first + look .aged - w .kept)) (spareStride * (look .own - look .aged))) (s .spares)
+          ∙ ap₂ (λ (m n : ℕ). moved (sparesAfter p l) (spareStride * w .kept) m n)
+          (let z : spareStride * w .kept + spareStride * (w .first + look .aged - w .kept)
+          ≡ spareStride * (sparesTo (l .textures) i + k₀) = omega (arith, s .first, s .all, aged-is) in z)
+          (let z : spareStride * (look .own - look .aged) ≡ spareStride * (t₀ .spares - k₀) = omega (arith, own-is, aged-is) in z)
           ∙ spares-stay l now i h f b (w .kept) (s .kept) (omega (arith, s .first, s .all)))
           (eN ∙ ap (λ (x : List ℕ). moved x (w .pages) (w .pages + (w .page - w .pages)) (look .paged)) (s .newest)
           ∙ ap₂ (λ (m n : ℕ). moved (newestAfter p l) (w .pages) m n)
           (let z : w .pages + (w .page - w .pages) ≡ pagesTo (l .textures) i = omega (arith, s .low, s .page) in z) pages
           ∙ new .0)
-          (eP ∙ ap (λ (x : List ℕ). moved x (1024 * w .pages) (1024 * w .pages + 1024 * (w .page - w .pages)) (1024 * look .paged)) (s .stamps)
-          ∙ ap₂ (λ (m n : ℕ). moved (stampsAfter p l) (1024 * w .pages) m (1024 * n))
-          (let z : 1024 * w .pages + 1024 * (w .page - w .pages) ≡ 1024 * pagesTo (l .textures) i = omega (arith, s .low, s .page) in z) pages
+          (eP ∙ ap (λ (x : List ℕ). moved x (pageStamps * w .pages) (pageStamps * w .pages + pageStamps * (w .page - w .pages)) (pageStamps * look .paged)) (s .stamps)
+          ∙ ap₂ (λ (m n : ℕ). moved (stampsAfter p l) (pageStamps * w .pages) m (pageStamps * n))
+          (let z : pageStamps * w .pages + pageStamps * (w .page - w .pages) ≡ pageStamps * pagesTo (l .textures) i = omega (arith, s .low, s .page) in z) pages
           ∙ old .0)
           (new .1 ∙ (let z : w .pages + recordPages t₀ ≡ v .pages = omega (arith, pages-on, pages) in z))
-          (old .1 ∙ (let z : 1024 * (w .pages + recordPages t₀) ≡ 1024 * v .pages = omega (arith, pages-on, pages) in z))
+          (old .1 ∙ (let z : pageStamps * (w .pages + recordPages t₀) ≡ pageStamps * v .pages = omega (arith, pages-on, pages) in z))
 
       pub sofar-next : Sofar l now (i + 1) v T′ D′ S′ N′ P′
       sofar-next = go out refl

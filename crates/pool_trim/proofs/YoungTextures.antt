@@ -34,6 +34,8 @@ use Rattle.pool_trim.specs.LookAt.{spareIn}
 use Rattle.pool_trim.specs.Pass.{trimmedOne, givenOne, trimmed}
 use Rattle.pool_trim.specs.NothingAged.{youngAt, allYoung}
 use Rattle.pool_trim.proofs.Ages.{agedFrom, aged-start, aged-more, aged-stop, aged-end, parked-at, due-at}
+use Rattle.pool_records.specs.RecordConstants.{spareParkedAt, spareStride, textureDueAt, textureSparesAt, textureStride}
+use Rattle.pool_rules.specs.RuleConstants.{spareMaxIdleSubmits, stateMaxIdleSubmits}
 
 -- ---- the loop over n textures
 
@@ -47,7 +49,7 @@ pub young-start : (now : ℕ) (textures spares : List ℕ) (n : ℕ) → YoungTo
 unfolding allYoung
 young-start now textures spares n = record {
   at = omega arith;
-  begin = sym (total-none 20 readTexture (λ (t : TextureRecord). t .spares) textures);
+  begin = sym (total-none textureStride readTexture (λ (t : TextureRecord). t .spares) textures);
   rest = ap (all (youngAt now textures spares)) (left-all (λ k. k) n);
 }
 
@@ -61,17 +63,17 @@ module _ {now n i first : ℕ} {textures spares : List ℕ} (s : YoungTo now tex
 
     -- the numbers that are read
     abbrev due : ℕ
-    due = getD textures (20 * i + 17) 0
+    due = getD textures (textureStride * i + textureDueAt) 0
 
     abbrev own : ℕ
-    own = getD textures (20 * i + 18) 0
+    own = getD textures (textureStride * i + textureSparesAt) 0
 
     abbrev parked : ℕ
-    parked = getD spares (3 * first + 2) 0
+    parked = getD spares (spareStride * first + spareParkedAt) 0
 
     -- its spares lie within the slice
-    pub run-fits : 3 * sparesTo textures n ≤ length spares → 3 * (first + own) ≤ length spares
-    run-fits fits = omega (arith, s .begin, spares-number textures i, total-with 20 readTexture (λ (t : TextureRecord). t .spares) textures i n h)
+    pub run-fits : spareStride * sparesTo textures n ≤ length spares → spareStride * (first + own) ≤ length spares
+    run-fits fits = omega (arith, s .begin, spares-number textures i, total-with textureStride readTexture (λ (t : TextureRecord). t .spares) textures i n h)
 
     stop : youngAt now textures spares i ≡ false → false ≡ allYoung now textures spares n
     stop e = sym (all-stop (λ k. k) n (youngAt now textures spares) i h e) ∙ s .rest
@@ -79,7 +81,7 @@ module _ {now n i first : ℕ} {textures spares : List ℕ} (s : YoungTo now tex
     next : youngAt now textures spares i ≡ true → YoungTo now textures spares n (i + 1) (first + own)
     next e = record {
       at = omega arith;
-      begin = omega (arith, s .begin, spares-number textures i, total-next 20 readTexture (λ (t : TextureRecord). t .spares) textures i);
+      begin = omega (arith, s .begin, spares-number textures i, total-next textureStride readTexture (λ (t : TextureRecord). t .spares) textures i);
       rest = sym (all-more (λ k. k) n (youngAt now textures spares) i h e) ∙ s .rest;
     }
 
@@ -96,11 +98,11 @@ module _ {now n i first : ℕ} {textures spares : List ℕ} (s : YoungTo now tex
         ap (λ (k : ℕ). spareIn spares k .parked) (let q : sparesTo textures i + 0 ≡ first = omega (arith, s .begin) in q)
         ∙ parked-at spares first
 
-    pub due-aged : due < now - 120 → false ≡ allYoung now textures spares n
+    pub due-aged : due < now - stateMaxIdleSubmits → false ≡ allYoung now textures spares n
     unfolding youngAt
-    due-aged d = stop (ap (λ (b : Bool). not b && eqb given 0) (lt-ltb (t₀ .due + 120) now (omega (arith, due-at textures i))))
+    due-aged d = stop (ap (λ (b : Bool). not b && eqb given 0) (lt-ltb (t₀ .due + stateMaxIdleSubmits) now (omega (arith, due-at textures i))))
 
-    pub oldest-aged : (own ≡ 0 → ⊥) → parked < now - 8 → false ≡ allYoung now textures spares n
+    pub oldest-aged : (own ≡ 0 → ⊥) → parked < now - spareMaxIdleSubmits → false ≡ allYoung now textures spares n
     unfolding youngAt
     oldest-aged some q =
         let more = aged-more now (spareIn spares) (sparesTo textures i) (t₀ .spares) 0 (omega (arith, some, spares-number textures i))
@@ -108,17 +110,17 @@ module _ {now n i first : ℕ} {textures spares : List ℕ} (s : YoungTo now tex
         stop (ap (λ (b : Bool). not (aged now (t₀ .due)) && b) (ne-eqb given 0 (λ z. let w : ⊥ = omega (arith, given-from, more) in w))
         ∙ and-false (not (aged now (t₀ .due))))
 
-    module _ (d : now - 120 ≤ due) where
+    module _ (d : now - stateMaxIdleSubmits ≤ due) where
       none-aged : given ≡ 0 → youngAt now textures spares i ≡ true
       unfolding youngAt
-      none-aged q = ap₂ (λ (a b : Bool). not a && b) (le-ltb (t₀ .due + 120) now (omega (arith, due-at textures i))) (eq-eqb given 0 q)
+      none-aged q = ap₂ (λ (a b : Bool). not a && b) (le-ltb (t₀ .due + stateMaxIdleSubmits) now (omega (arith, due-at textures i))) (eq-eqb given 0 q)
 
       pub no-spares : own ≡ 0 → YoungTo now textures spares n (i + 1) (first + own)
       no-spares none =
           let end = aged-end now (spareIn spares) (sparesTo textures i) (t₀ .spares) 0 (omega (arith, none, spares-number textures i)) in
           next (none-aged (omega (arith, given-from, end)))
 
-      pub oldest-young : (own ≡ 0 → ⊥) → now - 8 ≤ parked → YoungTo now textures spares n (i + 1) (first + own)
+      pub oldest-young : (own ≡ 0 → ⊥) → now - spareMaxIdleSubmits ≤ parked → YoungTo now textures spares n (i + 1) (first + own)
       oldest-young some q =
           let none = aged-stop now (spareIn spares) (sparesTo textures i) (t₀ .spares) 0 (omega (arith, some, spares-number textures i))
           (omega (arith, parked-first)) in

@@ -14,9 +14,10 @@ use Rattle.pool_rules.specs.Model.{Spare}
 use Rattle.pool_rules.specs.Trim.{aged, agedCount}
 use Rattle.pool_memory.specs.Reading.{recordPages}
 use Rattle.pool_trim.specs.declared.look_at.Look.{Look}
+use Rattle.pool_records.specs.RecordConstants.{spareStride, textureStride}
 
 abbrev pub spareIn : List ℕ → ℕ → Spare ℕ
-spareIn spares k = spareOf (recordAt 3 readSpare spares k)
+spareIn spares k = spareOf (recordAt spareStride readSpare spares k)
 
 -- dropped: its due number and its last rename aged, and no spares are left
 unfoldable pub isIdle : ℕ → TextureRecord → ℕ → Bool
@@ -39,7 +40,7 @@ lookOf now t count = record {
 -- texture i, whose spares begin at place `first`
 unfoldable pub lookAt : ℕ → List ℕ → List ℕ → ℕ → ℕ → Look
 lookAt now textures spares i first =
-    let t : TextureRecord = recordAt 20 readTexture textures i in
+    let t : TextureRecord = recordAt textureStride readTexture textures i in
     lookOf now t (agedCount now (listed (spareIn spares) first (t .spares)))
 
 -- the record after it
@@ -59,4 +60,4 @@ lookedRecord look t = record {
 -- written at place `to`
 unfoldable pub lookedPut : List ℕ → ℕ → ℕ → Look → List ℕ
 lookedPut textures to i look =
-    cond (eqb (look .staying) 0) textures (sets textures (20 * to) (writeTexture (lookedRecord look (recordAt 20 readTexture textures i))))
+    cond (eqb (look .staying) 0) textures (sets textures (textureStride * to) (writeTexture (lookedRecord look (recordAt textureStride readTexture textures i))))

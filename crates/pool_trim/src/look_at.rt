@@ -8,7 +8,18 @@ ghost use Rattle.pool_records.specs.Texture.{readTexture};
 ghost use Rattle.pool_memory.specs.Reading.{recordPages};
 ghost use Rattle.pool_rules.specs.Trim.{agedCount};
 ghost use Rattle.pool_trim.specs.LookAt.{spareIn, isIdle, dueAfter, lookAt};
+ghost use Rattle.pool_records.specs.RecordConstants.{spareStride, textureStride};
+ghost use Rattle.pool_rules.specs.RuleConstants.{mostPlaces};
 use pool_access::pages_at;
+use pool_records::SPARE_PARKED_AT;
+use pool_records::SPARE_STRIDE;
+use pool_records::TEXTURE_BYTES_AT;
+use pool_records::TEXTURE_DUE_AT;
+use pool_records::TEXTURE_RENAME_AT;
+use pool_records::TEXTURE_SPARES_AT;
+use pool_records::TEXTURE_STRIDE;
+use pool_rules::SPARE_MAX_IDLE_SUBMITS;
+use pool_rules::STATE_MAX_IDLE_SUBMITS;
 
 // Of its `own` spares the oldest `aged` are given up, `bytes` each; `claimed` pages are its own. It stays tracked (`staying` is 1)
 // with `paged` pages and the number `due`, or it is dropped (`staying` and `paged` are 0).
@@ -34,13 +45,13 @@ pub fn before(current: u64, k: u64) -> u64
 
 // Of the n spares from place `first` on, how many are idle past the bound, from the oldest on up to the first that is not.
 pub fn aged_count(spares: &[u64], first: usize, n: usize, current: u64) -> usize
-    requires { ⌜ 3 * (first + n) ≤ length (now spares) ⌝ }
+    requires { ⌜ spareStride * (first + n) ≤ length (now spares) ⌝ }
     ensures { λ r. ⌜ (r ≤ n) × (r ≡ agedCount current (listed (spareIn (now (spares .entry))) first n)) ⌝ }
 {
-    let bound = before(current, 8);
+    let bound = before(current, SPARE_MAX_IDLE_SUBMITS);
     let mut k = 0;
     while k < n {
-        if spares[3 * (first + k) + 2] >= bound {
+        if spares[SPARE_STRIDE * (first + k) + SPARE_PARKED_AT] >= bound {
             return k;
         }
         k += 1;
@@ -50,21 +61,22 @@ pub fn aged_count(spares: &[u64], first: usize, n: usize, current: u64) -> usize
 
 // Whether texture i, with `left` spares, is dropped.
 fn is_idle(textures: &[u64], i: usize, left: usize, current: u64) -> bool
-    requires { ⌜ 20 * i + 20 ≤ length (now textures) ⌝ }
-    ensures { λ r. ⌜ r ≡ isIdle current (recordAt 20 readTexture (now (textures .entry)) i) left ⌝ }
+    requires { ⌜ textureStride * i + textureStride ≤ length (now textures) ⌝ }
+    ensures { λ r. ⌜ r ≡ isIdle current (recordAt textureStride readTexture (now (textures .entry)) i) left ⌝ }
 {
-    let oldest = before(current, 120);
-    (textures[20 * i + 17] < oldest) & ((textures[20 * i + 16] < oldest) & (left == 0))
+    let oldest = before(current, STATE_MAX_IDLE_SUBMITS);
+    (textures[TEXTURE_STRIDE * i + TEXTURE_DUE_AT] < oldest)
+        & ((textures[TEXTURE_STRIDE * i + TEXTURE_RENAME_AT] < oldest) & (left == 0))
 }
 
 // The number by which the next trims look at texture i.
 fn due_after(textures: &[u64], i: usize, current: u64) -> u64
-    requires { ⌜ 20 * i + 20 ≤ length (now textures) ⌝ }
-    ensures { λ r. ⌜ r ≡ dueAfter current (recordAt 20 readTexture (now (textures .entry)) i) ⌝ }
+    requires { ⌜ textureStride * i + textureStride ≤ length (now textures) ⌝ }
+    ensures { λ r. ⌜ r ≡ dueAfter current (recordAt textureStride readTexture (now (textures .entry)) i) ⌝ }
 {
-    let bound = before(current, 120);
-    let rename = textures[20 * i + 16];
-    let due = textures[20 * i + 17];
+    let bound = before(current, STATE_MAX_IDLE_SUBMITS);
+    let rename = textures[TEXTURE_STRIDE * i + TEXTURE_RENAME_AT];
+    let due = textures[TEXTURE_STRIDE * i + TEXTURE_DUE_AT];
     if due >= bound {
         return due;
     }
@@ -76,15 +88,15 @@ fn due_after(textures: &[u64], i: usize, current: u64) -> u64
 
 // Texture i, whose spares begin at place `first`.
 pub fn look_at(textures: &[u64], spares: &[u64], i: usize, first: usize, current: u64) -> Look
-    requires { ⌜ (20 * i + 20 ≤ length (now textures))
-        × (3 * (first + recordAt 20 readTexture (now textures) i .spares) ≤ length (now spares))
-        × (recordPages (recordAt 20 readTexture (now textures) i) ≤ 4096) ⌝ }
+    requires { ⌜ (textureStride * i + textureStride ≤ length (now textures))
+        × (spareStride * (first + recordAt textureStride readTexture (now textures) i .spares) ≤ length (now spares))
+        × (recordPages (recordAt textureStride readTexture (now textures) i) ≤ mostPlaces) ⌝ }
     ensures { λ r. ⌜ r ≡ lookAt current (now (textures .entry)) (now (spares .entry)) i first ⌝ }
 {
-    let own = textures[20 * i + 18] as usize;
+    let own = textures[TEXTURE_STRIDE * i + TEXTURE_SPARES_AT] as usize;
     let aged = aged_count(spares, first, own, current);
     let claimed = pages_at(textures, i);
-    let bytes = textures[20 * i + 19];
+    let bytes = textures[TEXTURE_STRIDE * i + TEXTURE_BYTES_AT];
     let due = due_after(textures, i, current);
     if is_idle(textures, i, own - aged, current) {
         return Look {

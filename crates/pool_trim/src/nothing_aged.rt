@@ -4,25 +4,33 @@ ghost use Prim.Native.Nat.{_*_, _≤_};
 ghost use lib.ListN.{length};
 ghost use Rattle.pool_forget_texture.specs.Owned.{sparesTo};
 ghost use Rattle.pool_trim.specs.NothingAged.{allYoung};
+ghost use Rattle.pool_records.specs.RecordConstants.{spareStride, textureStride};
 use crate::look_at::before;
+use pool_records::SPARE_PARKED_AT;
+use pool_records::SPARE_STRIDE;
+use pool_records::TEXTURE_DUE_AT;
+use pool_records::TEXTURE_SPARES_AT;
+use pool_records::TEXTURE_STRIDE;
+use pool_rules::SPARE_MAX_IDLE_SUBMITS;
+use pool_rules::STATE_MAX_IDLE_SUBMITS;
 
 // Whether no texture's due number has aged and no spare is idle past the bound. A texture's first spare is its oldest, so that one
 // answers for them all.
 pub fn nothing_aged(textures: &[u64], spares: &[u64], tracked: usize, current: u64) -> bool
-    requires { ⌜ (20 * tracked ≤ length (now textures)) × (3 * sparesTo (now textures) tracked ≤ length (now spares)) ⌝ }
+    requires { ⌜ (textureStride * tracked ≤ length (now textures)) × (spareStride * sparesTo (now textures) tracked ≤ length (now spares)) ⌝ }
     ensures { λ r. ⌜ r ≡ allYoung current (now (textures .entry)) (now (spares .entry)) tracked ⌝ }
 {
-    let young = before(current, 8);
-    let recent = before(current, 120);
+    let young = before(current, SPARE_MAX_IDLE_SUBMITS);
+    let recent = before(current, STATE_MAX_IDLE_SUBMITS);
     let mut first = 0;
     let mut i = 0;
     while i < tracked {
-        if textures[20 * i + 17] < recent {
+        if textures[TEXTURE_STRIDE * i + TEXTURE_DUE_AT] < recent {
             return false;
         }
-        let own = textures[20 * i + 18] as usize;
+        let own = textures[TEXTURE_STRIDE * i + TEXTURE_SPARES_AT] as usize;
         if own != 0 {
-            if spares[3 * first + 2] < young {
+            if spares[SPARE_STRIDE * first + SPARE_PARKED_AT] < young {
                 return false;
             }
         }

@@ -2,6 +2,7 @@
 ghost use mathlib.Core.Path.{_≡_};
 ghost use Prim.Native.Nat.{_+_, _-_, _*_, _≤_, _<_, _^_};
 ghost use Rattle.pool_trim.specs.Pass.{noPass, passOn, countsAfter};
+ghost use Rattle.pool_rules.specs.RuleConstants.{mostPlaces};
 use crate::look_at::Look;
 use pool_memory::Pool;
 
@@ -33,9 +34,9 @@ pub fn no_pass() -> Pass
 
 // One texture more.
 pub fn pass_on(pass: Pass, look: Look) -> Pass
-    requires { ⌜ (look .aged ≤ look .own) × (pass .first + look .own ≤ 4096) × (pass .page + look .claimed ≤ 4096)
-        × (pass .tracked + look .staying ≤ 4096)
-        × (pass .kept + (look .own - look .aged) ≤ 4096) × (pass .pages + look .paged ≤ 4096) × (pass .count + look .aged ≤ 4096)
+    requires { ⌜ (look .aged ≤ look .own) × (pass .first + look .own ≤ mostPlaces) × (pass .page + look .claimed ≤ mostPlaces)
+        × (pass .tracked + look .staying ≤ mostPlaces)
+        × (pass .kept + (look .own - look .aged) ≤ mostPlaces) × (pass .pages + look .paged ≤ mostPlaces) × (pass .count + look .aged ≤ mostPlaces)
         × (pass .freed + look .bytes * look .aged < 2 ^ 64) ⌝ }
     ensures { λ r. ⌜ r ≡ passOn pass look ⌝ }
 {
@@ -53,7 +54,7 @@ pub fn pass_on(pass: Pass, look: Look) -> Pass
 
 // The counts after the pass. The spares given up wait to be destroyed.
 pub fn counts_after(pool: Pool, pass: Pass) -> Pool
-    requires { ⌜ (pool .doomed + pass .count ≤ 4096) × (pool .since ≤ 4096) × (pass .freed ≤ pool .parked) × (pool .dooming + pass .freed < 2 ^ 64) ⌝ }
+    requires { ⌜ (pool .doomed + pass .count ≤ mostPlaces) × (pool .since ≤ mostPlaces) × (pass .freed ≤ pool .parked) × (pool .dooming + pass .freed < 2 ^ 64) ⌝ }
     ensures { λ r. ⌜ r ≡ countsAfter pool pass ⌝ }
 {
     let given = pass.count as u64;

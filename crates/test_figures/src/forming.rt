@@ -1,9 +1,15 @@
 // The limits of the numbers that a pool may hold, on both sides.
 use crate::print::figure_of;
 use crate::print::outcome_1;
+use grid_shapes::MOST_SHAPE_BYTES;
+use grid_stamps::PAGE_STAMPS;
 use pool_formed::is_pool;
 use pool_memory::PacingBook;
 use pool_memory::Pool;
+use pool_records::RETIRING_STRIDE;
+use pool_records::SPARE_STRIDE;
+use pool_records::TEXTURE_STRIDE;
+use pool_rules::LIMIT;
 
 // A pool of one texture place, one version place and one page. Nothing is tracked, and one version of so many bytes is in the destroy queue.
 fn pool_with(bytes: u64, since: u64, trackings: u64) -> Pool {
@@ -36,12 +42,12 @@ fn book_with(arrivals: u64, slot: usize) -> PacingBook {
 
 // The outcome of every call on memory that forms no pool is 1.
 fn outcome(pool: Pool, book: PacingBook) -> u64 {
-    let textures = [0u64; 20];
-    let retiring = [0u64; 7];
+    let textures = [0u64; TEXTURE_STRIDE];
+    let retiring = [0u64; RETIRING_STRIDE];
     let doomed = [0, pool.dooming];
-    let spares = [0u64; 3];
+    let spares = [0u64; SPARE_STRIDE];
     let newest = [0u64; 1];
-    let stamps = [0u64; 1024];
+    let stamps = [0u64; PAGE_STAMPS];
     let formed = is_pool(
         pool,
         book,
@@ -101,9 +107,9 @@ fn print_since(since: u64) {
 }
 
 pub fn print_numbers() {
-    print_trackings(281474976710656);
+    print_trackings(LIMIT);
     print_trackings(281474976710657);
-    print_bytes(17592186044416);
+    print_bytes(MOST_SHAPE_BYTES);
     print_bytes(17592186044417);
     print_slot(7);
     print_slot(8);

@@ -3,6 +3,7 @@ use crate::print::figure;
 use crate::print::figure_of;
 use crate::print::yes_or_no;
 use grid_shapes::BytesAnswer;
+use grid_shapes::MOST_SHAPE_BYTES;
 use grid_shapes::VersionShape;
 
 // The six fields of an event line, the rest 0.
@@ -101,7 +102,7 @@ fn print_largest() {
     figure(b"largest_volume", largest);
     figure(
         b"largest_volume_passes_2_44",
-        yes_or_no(17592186044416 < largest),
+        yes_or_no(MOST_SHAPE_BYTES < largest),
     );
 }
 

@@ -4,16 +4,21 @@ ghost use Prim.Native.Nat.{_≤_};
 ghost use lib.ListN.{length};
 use crate::print::figure_of;
 use crate::print::outcome_1;
+use grid_stamps::PAGE_STAMPS;
 use pool_formed::sizes_fit;
+use pool_records::DOOMED_STRIDE;
+use pool_records::RETIRING_STRIDE;
+use pool_records::SPARE_STRIDE;
+use pool_records::TEXTURE_STRIDE;
 
 // The outcome of opening with so many places, and stamps for the pages: `pool::open` goes by this test. One store serves for all.
 fn opening(store: &[u64], textures: usize, versions: usize, pages: usize, stamps: usize) -> u64
     requires { ⌜ (81940 ≤ length (now store)) × (textures ≤ 4097) × (versions ≤ 4097) × (pages ≤ 64) × (stamps ≤ 65536) ⌝ }
 {
-    let t = 20 * textures;
-    let r = 7 * versions;
-    let d = 2 * versions;
-    let s = 3 * versions;
+    let t = TEXTURE_STRIDE * textures;
+    let r = RETIRING_STRIDE * versions;
+    let d = DOOMED_STRIDE * versions;
+    let s = SPARE_STRIDE * versions;
     let fits = sizes_fit(
         &store[0..t],
         &store[0..r],
@@ -66,6 +71,6 @@ pub fn print_sizes() {
     print_versions(&store, 4096);
     print_versions(&store, 4097);
     print_page(&store, 1023);
-    print_page(&store, 1024);
+    print_page(&store, PAGE_STAMPS);
     print_page(&store, 1025);
 }

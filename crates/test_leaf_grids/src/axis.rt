@@ -4,6 +4,8 @@ ghost use mathlib.Core.Path.{_≡_};
 ghost use Prim.Native.Nat.{_≤_, _<_};
 ghost use lib.ListN.{length};
 ghost use Rattle.grid_axes.specs.Axes.{tileEdge, axisOf, tilesOf};
+use grid_axes::MAX_TILES_PER_AXIS;
+use grid_axes::MIN_TILE_TEXELS;
 use test_leaf_text::Answer;
 use test_leaf_text::Rest;
 use test_leaf_text::read_all;
@@ -13,7 +15,7 @@ fn long_edge(extent: u64, block: u64) -> u64
     requires { ⌜ (extent ≤ 4294967295) × (0 < block) × (block ≤ 16) ⌝ }
     ensures { λ r. ⌜ r ≡ tileEdge extent block ⌝ }
 {
-    let least = base_blocks::larger(16, (extent + 31) / 32);
+    let least = base_blocks::larger(MIN_TILE_TEXELS, (extent + 31) / MAX_TILES_PER_AXIS);
     (least + (block - 1)) / block * block
 }
 

@@ -5,6 +5,7 @@ ghost use Rattle.grid_axes.specs.Axes.{AxisOk};
 ghost use Rattle.grid_stamps.specs.Grids.{tiled, stampCount};
 use grid_axes::Axis;
 use grid_stamps::Dirty;
+use grid_stamps::PAGE_STAMPS;
 use test_leaf_text::Answer;
 use test_leaf_text::Rest;
 use test_leaf_text::are_u32;
@@ -48,7 +49,7 @@ fn since(across: Axis, down: Axis, held: u64, fields: &[u8], at: usize) -> Answe
     requires { ⌜ AxisOk across × AxisOk down ⌝ }
     requires { ⌜ (length (now fields) ≤ 65536) × (at ≤ length (now fields) + 1) ⌝ }
 {
-    let mut page = [0u64; 1024];
+    let mut page = [0u64; PAGE_STAMPS];
     let Stamped::Newest(newest) = stamp_all(&mut page, across, down, fields, at) else {
         return Answer::Malformed;
     };

@@ -3,8 +3,14 @@ ghost use Prim.Native.Nat.{_≤_, _<_};
 ghost use lib.ListN.{length};
 use crate::list::run_list;
 use crate::sizes::sizes_of;
+use grid_stamps::PAGE_STAMPS;
 use libc::STDIN_FILENO;
 use libc::STDOUT_FILENO;
+use pool_memory::COPY_STRIDE;
+use pool_records::DOOMED_STRIDE;
+use pool_records::RETIRING_STRIDE;
+use pool_records::SPARE_STRIDE;
+use pool_records::TEXTURE_STRIDE;
 
 // Where the next list begins behind `from`: at a line that begins with "=,", or at `to`.
 fn next_list(input: &[u8], from: usize, to: usize) -> usize
@@ -52,12 +58,12 @@ fn run_next(
     let versions = sizes.versions;
     let pages = sizes.pages;
     let answers = sizes.answers;
-    let t = 20 * sizes.textures;
-    let r = 7 * versions;
-    let d = 2 * versions;
-    let s = 3 * versions;
-    let m = 1024 * pages;
-    let c = 7 * answers;
+    let t = TEXTURE_STRIDE * sizes.textures;
+    let r = RETIRING_STRIDE * versions;
+    let d = DOOMED_STRIDE * versions;
+    let s = SPARE_STRIDE * versions;
+    let m = PAGE_STAMPS * pages;
+    let c = COPY_STRIDE * answers;
     run_list(
         list,
         &mut textures[0..t],

@@ -5,6 +5,7 @@ ghost use Rattle.pool_memory.specs.Calls.{openNumber, openedPool, openedBook};
 use pool_formed::sizes_fit;
 use pool_memory::PacingBook;
 use pool_memory::Pool;
+use pool_rules::DESTROY_SPREAD_DRAINS;
 use pool_rules::VersionBudget;
 
 // 01's number, 0 if the pool was opened, and the pool and pacing book to begin with.
@@ -41,7 +42,7 @@ fn opened_book() -> PacingBook
     ensures { λ r. ⌜ r ≡ openedBook ⌝ }
 {
     PacingBook {
-        arrivals: [0; 8],
+        arrivals: [0; DESTROY_SPREAD_DRAINS],
         slot: 0,
         pressed: 0,
         excess: 0,

@@ -13,6 +13,8 @@ use pool_access::remove_texture;
 use pool_memory::DoneAnswer;
 use pool_memory::PacingBook;
 use pool_memory::Pool;
+use pool_records::RETIRING_STRIDE;
+use pool_records::SPARE_STRIDE;
 use pool_records::find_texture;
 use pool_take_doomed::push_spares;
 
@@ -43,7 +45,7 @@ pub fn forget_texture(
         return DoneAnswer { pool, outcome: 0 };
     }
     let own = owned_at(textures, i);
-    let places = retiring.len() / 7;
+    let places = retiring.len() / RETIRING_STRIDE;
     push_spares(
         doomed,
         places,
@@ -54,7 +56,7 @@ pub fn forget_texture(
         own.spares,
         own.bytes,
     );
-    remove_records(spares, 3, pool.kept, own.first, own.spares);
+    remove_records(spares, SPARE_STRIDE, pool.kept, own.first, own.spares);
     let later = pool.pages - (own.page + own.pages);
     move_pages(newest, stamps, own.page, own.pages, later);
     remove_texture(textures, tracked, i);

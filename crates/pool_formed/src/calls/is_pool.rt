@@ -9,6 +9,8 @@ use crate::sizes::sizes_fit;
 use pool_formed_textures::textures_fit;
 use pool_memory::PacingBook;
 use pool_memory::Pool;
+use pool_records::RETIRING_STRIDE;
+use pool_records::TEXTURE_STRIDE;
 
 pub fn is_pool(
     pool: Pool,
@@ -25,8 +27,13 @@ pub fn is_pool(
     if !sizes_fit(textures, retiring, doomed, spares, newest, stamps) {
         return false;
     }
-    let versions = retiring.len() / 7;
-    if !counts_fit(pool, textures.len() / 20, versions, newest.len()) {
+    let versions = retiring.len() / RETIRING_STRIDE;
+    if !counts_fit(
+        pool,
+        textures.len() / TEXTURE_STRIDE,
+        versions,
+        newest.len(),
+    ) {
         return false;
     }
     if !numbers_fit(pool, book) {

@@ -8,6 +8,7 @@ ghost use Rattle.pool_memory.specs.Lent.{lent};
 ghost use Rattle.pool_memory.specs.IsPool.{isPool};
 ghost use Rattle.pool_memory.specs.Calls.{toldNumber, noteAllocatedCall};
 ghost use Rattle.pool_note_allocated.specs.NoteAllocated.{countsAfter, notedBook};
+ghost use Rattle.pool_rules.specs.RuleConstants.{mostPlaces};
 use crate::relieve::relieve;
 use pool_memory::PacingBook;
 use pool_memory::Pool;
@@ -58,7 +59,7 @@ fn noted(pool: Pool, book: PacingBook, allocated: u64) -> PacingBook
 
 // The counts when so many spares are kept, and bytes of so many went to the destroy queue.
 fn counts_after(pool: Pool, kept: usize, bytes: u64) -> Pool
-    requires { ⌜ (kept ≤ pool .kept) × (pool .doomed + pool .kept ≤ 4096) × (pool .since ≤ 4096) × (bytes ≤ pool .parked) × (pool .dooming + bytes < 2 ^ 64) ⌝ }
+    requires { ⌜ (kept ≤ pool .kept) × (pool .doomed + pool .kept ≤ mostPlaces) × (pool .since ≤ mostPlaces) × (bytes ≤ pool .parked) × (pool .dooming + bytes < 2 ^ 64) ⌝ }
     ensures { λ r. ⌜ r ≡ countsAfter pool kept bytes ⌝ }
 {
     let given = pool.kept - kept;

@@ -10,10 +10,12 @@ ghost use Rattle.pool_memory.specs.Lent.{lent};
 ghost use Rattle.pool_memory.specs.Reading.{pageAt, modelOf};
 ghost use Rattle.pool_memory.specs.IsPool.{isPool};
 ghost use Rattle.pool_note_write.specs.History.{textureAt, pagesEnd, HistoryAt, pageOf};
+ghost use Rattle.grid_stamps.specs.StampConstants.{pageStamps};
 use crate::history::history_at;
 use crate::history::in_shape;
 use crate::history::page_of;
 use grid_stamps::DirtyTile;
+use grid_stamps::PAGE_STAMPS;
 use grid_stamps::across_axis;
 use grid_stamps::down_axis;
 use pool_access::texture_at;
@@ -31,13 +33,13 @@ fn dirty_subresource(
     level: u64,
     held: u64,
 ) -> DirtyTile
-    requires { ⌜ HistoryAt (now textures) i × (1024 * pagesEnd (now textures) i ≤ length (now stamps)) × (inShape (textureAt (now textures) i .shape) slice level ≡ true) ⌝ }
+    requires { ⌜ HistoryAt (now textures) i × (pageStamps * pagesEnd (now textures) i ≤ length (now stamps)) × (inShape (textureAt (now textures) i .shape) slice level ≡ true) ⌝ }
     ensures { λ r. ⌜ IsDirtyTile (tilingOf (textureAt (now (textures .entry)) i .shape) level) held (pageAt (now (stamps .entry)) (pageOf (now (textures .entry)) i slice level)) r ⌝ }
 {
     let t = texture_at(textures, i);
     let shape = t.shape;
-    let a = 1024 * page_of(textures, i, shape.levels, slice, level);
-    let e = a + 1024;
+    let a = PAGE_STAMPS * page_of(textures, i, shape.levels, slice, level);
+    let e = a + PAGE_STAMPS;
     let across = across_axis(shape, level);
     let down = down_axis(shape, level);
     grid_views::dirty_tile(&stamps[a..e], across, down, held)

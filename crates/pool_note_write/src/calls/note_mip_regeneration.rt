@@ -13,6 +13,7 @@ use pool_memory::Pool;
 use pool_memory::same_counts;
 use pool_records::Recorded;
 use pool_records::find_texture;
+use pool_rules::LIMIT;
 
 pub fn note_mip_regeneration(
     pool: Pool,
@@ -39,7 +40,7 @@ pub fn note_mip_regeneration(
             outcome: 0,
         };
     };
-    if 281474976710656 <= n {
+    if LIMIT <= n {
         return DoneAnswer {
             pool: same_counts(pool),
             outcome: 12,

@@ -17,6 +17,7 @@ use pool_memory::Pool;
 use pool_memory::same_counts;
 use pool_records::Recorded;
 use pool_records::find_texture;
+use pool_rules::LIMIT;
 
 // A write outside the texture's slices or levels drops its history, even where the count is spent.
 pub fn note_write(
@@ -57,7 +58,7 @@ pub fn note_write(
             outcome: 0,
         };
     }
-    if 281474976710656 <= n {
+    if LIMIT <= n {
         return DoneAnswer {
             pool: same_counts(pool),
             outcome: 12,

@@ -17,6 +17,7 @@ use pool_access::retiring_at;
 use pool_memory::DoneAnswer;
 use pool_memory::PacingBook;
 use pool_memory::Pool;
+use pool_records::RETIRING_STRIDE;
 use pool_records::find_texture;
 
 // `failed` is the latest submission that failed, 0 if none did; `current` is the submission that the version is parked in.
@@ -43,7 +44,7 @@ pub fn park(
             outcome: refusal,
         };
     }
-    let places = retiring.len() / 7;
+    let places = retiring.len() / RETIRING_STRIDE;
     let v = retiring_at(retiring, places, pool.head, 0);
     let head = ring_drop(places, pool.head, 1);
     let i = find_texture(textures, pool.tracked, v.id);

@@ -11,6 +11,7 @@ use crate::plan_refusal::plan_refusal;
 use crate::put_copies::put_copies;
 use crate::since::Upload;
 use grid_shapes::VersionShape;
+use pool_memory::COPY_STRIDE;
 use pool_memory::PacingBook;
 use pool_memory::Pool;
 use pool_rules::Held;
@@ -54,7 +55,7 @@ pub fn preserve_plan(
         level,
         cover,
     };
-    let room = buffer.len() / 7;
+    let room = buffer.len() / COPY_STRIDE;
     let why = plan_refusal(newest, stamps, shape, found, since, upload, room);
     if why != 0 {
         return PlanAnswer::Refused(why);

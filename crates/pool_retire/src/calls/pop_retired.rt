@@ -9,8 +9,8 @@ use crate::counts::front_popped;
 use pool_access::retiring_at;
 use pool_memory::PacingBook;
 use pool_memory::Pool;
-
-const LIMIT: u64 = 281474976710656;
+use pool_records::RETIRING_STRIDE;
+use pool_rules::LIMIT;
 
 pub enum Popped {
     Version { id: u64, view: u64 },
@@ -56,7 +56,7 @@ pub fn pop_retired(
             popped: Popped::NothingSettled,
         };
     }
-    let places = retiring.len() / 7;
+    let places = retiring.len() / RETIRING_STRIDE;
     let front = retiring_at(retiring, places, pool.head, 0);
     if front.seq > settled {
         return PopAnswer {

@@ -12,6 +12,8 @@ ghost use Rattle.pool_memory.specs.IsPool.{isPool};
 ghost use Rattle.pool_memory.specs.Calls.{toldNumber, retireCall};
 ghost use Rattle.pool_retire.specs.Counts.{ringCount};
 ghost use Rattle.pool_retire.specs.Noted.{retireRefusal, hasId, writesCounted, retiredRecord, bornAt};
+ghost use Rattle.pool_records.specs.RecordConstants.{retiringStride, textureStride};
+ghost use Rattle.pool_rules.specs.RuleConstants.{mostPlaces};
 use crate::counts::one_queued;
 use crate::counts::ring_count;
 use pool_access::has_id;
@@ -23,16 +25,16 @@ use pool_memory::DoneAnswer;
 use pool_memory::PacingBook;
 use pool_memory::Pool;
 use pool_memory::same_counts;
+use pool_records::RETIRING_STRIDE;
 use pool_records::Recorded;
 use pool_records::RetiringRecord;
 use pool_records::TextureRecord;
 use pool_records::find_texture;
-
-const LIMIT: u64 = 281474976710656;
+use pool_rules::LIMIT;
 
 // The number of the first refusal, or 0.
 fn retire_refusal(pool: Pool, retiring: &[u64], places: usize, seq: u64) -> u64
-    requires { ⌜ (7 * places ≤ length (now retiring)) × (pool .head < places) × (ringCount pool + pool .kept + pool .doomed ≤ places) × (places ≤ 4096) ⌝ }
+    requires { ⌜ (retiringStride * places ≤ length (now retiring)) × (pool .head < places) × (ringCount pool + pool .kept + pool .doomed ≤ places) × (places ≤ mostPlaces) ⌝ }
     ensures { λ r. ⌜ r ≡ retireRefusal pool (now (retiring .entry)) places seq ⌝ }
 {
     if seq > LIMIT {
@@ -72,8 +74,8 @@ fn retired_version(
     view: u64,
     seq: u64,
 ) -> RetiringRecord
-    requires { ⌜ 20 * tracked ≤ length (now textures) ⌝ }
-    ensures { λ r. ⌜ r ≡ retiredRecord (hasId (now (textures .entry)) tracked i id) (recordAt 20 readTexture (now (textures .entry)) i) id view seq ⌝ }
+    requires { ⌜ textureStride * tracked ≤ length (now textures) ⌝ }
+    ensures { λ r. ⌜ r ≡ retiredRecord (hasId (now (textures .entry)) tracked i id) (recordAt textureStride readTexture (now (textures .entry)) i) id view seq ⌝ }
 {
     if !has_id(textures, tracked, i, id) {
         return RetiringRecord {
@@ -110,11 +112,11 @@ fn born_at(t: TextureRecord, seq: u64) -> TextureRecord
 
 // A tracked texture's live version became live in this submission.
 fn note_birth(textures: &mut [u64], tracked: usize, i: usize, id: u64, seq: u64)
-    requires { ⌜ (20 * tracked ≤ length (now textures))
-        × (hasId (now textures) tracked i id ≡ true → RecordedFits (recordAt 20 readTexture (now textures) i .history)) ⌝ }
+    requires { ⌜ (textureStride * tracked ≤ length (now textures))
+        × (hasId (now textures) tracked i id ≡ true → RecordedFits (recordAt textureStride readTexture (now textures) i .history)) ⌝ }
     ensures { λ _. ⌜ now (textures .exit)
         ≡ cond (hasId (now (textures .entry)) tracked i id)
-        (sets (now (textures .entry)) (20 * i) (writeTexture (bornAt seq (recordAt 20 readTexture (now (textures .entry)) i)))) (now (textures .entry)) ⌝ }
+        (sets (now (textures .entry)) (textureStride * i) (writeTexture (bornAt seq (recordAt textureStride readTexture (now (textures .entry)) i)))) (now (textures .entry)) ⌝ }
 {
     if !has_id(textures, tracked, i, id) {
         return;
@@ -140,7 +142,7 @@ pub fn retire(
     ensures { λ r. ⌜ (toldNumber (r .outcome), lent (r .pool) book (now (textures .exit)) (now (retiring .exit)) (now (doomed .entry)) (now (spares .entry)) (now (newest .entry)) (now (stamps .entry)))
         ≡ retireCall (lent pool book (now (textures .entry)) (now (retiring .entry)) (now (doomed .entry)) (now (spares .entry)) (now (newest .entry)) (now (stamps .entry))) id view seq ⌝ }
 {
-    let places = retiring.len() / 7;
+    let places = retiring.len() / RETIRING_STRIDE;
     let refusal = retire_refusal(pool, retiring, places, seq);
     if refusal != 0 {
         return DoneAnswer {

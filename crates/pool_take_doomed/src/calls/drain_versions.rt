@@ -9,12 +9,19 @@ ghost use Rattle.pool_memory.specs.IsPool.{isPool};
 ghost use Rattle.pool_memory.specs.Calls.{drainVersionsCall};
 ghost use Rattle.pool_take_doomed.specs.Answer.{handedTold};
 ghost use Rattle.pool_take_doomed.specs.DrainVersions.{drainedViews, drainedCounts, drainedBook, cleared};
+ghost use Rattle.pool_records.specs.RecordConstants.{doomedStride, retiringStride, spareStride, textureStride};
 use crate::answer::DrainAnswer;
 use crate::answer::Handed;
 use crate::copy_column::copy_column;
 use base_tables::ring_drop;
 use pool_memory::PacingBook;
 use pool_memory::Pool;
+use pool_records::DOOMED_STRIDE;
+use pool_records::RETIRING_STRIDE;
+use pool_records::SPARE_STRIDE;
+use pool_records::TEXTURE_SPARES_AT;
+use pool_records::TEXTURE_STRIDE;
+use pool_rules::DESTROY_SPREAD_DRAINS;
 
 // The views of all that is handed out, stored at the buffer's front.
 fn copy_views(
@@ -25,7 +32,7 @@ fn copy_views(
     spares: &[u64],
     buffer: &mut [u64],
 )
-    requires { ⌜ (7 * places ≤ length (now retiring)) × (2 * places ≤ length (now doomed)) × (3 * places ≤ length (now spares))
+    requires { ⌜ (retiringStride * places ≤ length (now retiring)) × (doomedStride * places ≤ length (now doomed)) × (spareStride * places ≤ length (now spares))
         × (pool .head < places) × (pool .first < places) × (pool .queued + pool .popped + pool .kept + pool .doomed ≤ places)
         × (pool .queued + pool .doomed + pool .kept ≤ length (now buffer)) ⌝ }
     ensures { λ _. ⌜ now (buffer .exit)
@@ -34,13 +41,33 @@ fn copy_views(
     let queued = pool.queued;
     let waiting = pool.doomed;
     let from = pool.popped;
-    copy_column(buffer, 0, retiring, 7, 1, places, pool.head, from, queued);
-    copy_column(buffer, queued, doomed, 2, 0, places, pool.first, 0, waiting);
+    copy_column(
+        buffer,
+        0,
+        retiring,
+        RETIRING_STRIDE,
+        1,
+        places,
+        pool.head,
+        from,
+        queued,
+    );
+    copy_column(
+        buffer,
+        queued,
+        doomed,
+        DOOMED_STRIDE,
+        0,
+        places,
+        pool.first,
+        0,
+        waiting,
+    );
     copy_column(
         buffer,
         queued + waiting,
         spares,
-        3,
+        SPARE_STRIDE,
         0,
         places,
         0,
@@ -51,12 +78,12 @@ fn copy_views(
 
 // The first n textures have no spares any more.
 fn clear_spares(textures: &mut [u64], n: usize)
-    requires { ⌜ 20 * n ≤ length (now textures) ⌝ }
+    requires { ⌜ textureStride * n ≤ length (now textures) ⌝ }
     ensures { λ _. ⌜ now (textures .exit) ≡ cleared n (now (textures .entry)) ⌝ }
 {
     let mut i = 0;
     while i < n {
-        textures[20 * i + 18] = 0;
+        textures[TEXTURE_STRIDE * i + TEXTURE_SPARES_AT] = 0;
         i += 1;
     }
 }
@@ -90,7 +117,7 @@ fn drained_book(book: PacingBook) -> PacingBook
     ensures { λ r. ⌜ r ≡ drainedBook book ⌝ }
 {
     PacingBook {
-        arrivals: [0; 8],
+        arrivals: [0; DESTROY_SPREAD_DRAINS],
         slot: book.slot,
         pressed: book.pressed,
         excess: book.excess,
@@ -112,7 +139,7 @@ pub fn drain_versions(
     ensures { λ r. ⌜ (handedTold (r .handed), (now (buffer .exit), lent (r .pool) (r .book) (now (textures .exit)) (now (retiring .entry)) (now (doomed .entry)) (now (spares .entry)) (now (newest .entry)) (now (stamps .entry))))
         ≡ drainVersionsCall (lent pool book (now (textures .entry)) (now (retiring .entry)) (now (doomed .entry)) (now (spares .entry)) (now (newest .entry)) (now (stamps .entry))) (now (buffer .entry)) ⌝ }
 {
-    let places = retiring.len() / 7;
+    let places = retiring.len() / RETIRING_STRIDE;
     let count = pool.queued + pool.doomed + pool.kept;
     if buffer.len() < count {
         return DrainAnswer {

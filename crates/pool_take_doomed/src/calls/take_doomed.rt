@@ -7,6 +7,7 @@ ghost use Rattle.pool_memory.specs.IsPool.{isPool};
 ghost use Rattle.pool_memory.specs.Calls.{takeDoomedCall};
 ghost use Rattle.pool_take_doomed.specs.Answer.{handedTold};
 ghost use Rattle.pool_take_doomed.specs.TakeDoomed.{takenCounts, takenBook};
+ghost use Rattle.pool_rules.specs.RuleConstants.{destroySpreadDrains};
 use crate::answer::DrainAnswer;
 use crate::answer::Handed;
 use crate::copy_column::copy_column;
@@ -16,6 +17,9 @@ use crate::next_batch::next_batch;
 use base_tables::ring_drop;
 use pool_memory::PacingBook;
 use pool_memory::Pool;
+use pool_records::DOOMED_STRIDE;
+use pool_records::RETIRING_STRIDE;
+use pool_rules::DESTROY_SPREAD_DRAINS;
 
 // The counts once the batch has left the destroy ring's front.
 fn taken_counts(pool: Pool, places: usize, batch: Batch) -> Pool
@@ -32,13 +36,13 @@ fn taken_counts(pool: Pool, places: usize, batch: Batch) -> Pool
 }
 
 // The pacing book once these arrivals are noted: the next slot, and no excess.
-fn taken_book(book: PacingBook, arrivals: [u64; 8]) -> PacingBook
-    requires { ⌜ book .slot < 8 ⌝ }
+fn taken_book(book: PacingBook, arrivals: [u64; DESTROY_SPREAD_DRAINS]) -> PacingBook
+    requires { ⌜ book .slot < destroySpreadDrains ⌝ }
     ensures { λ r. ⌜ r ≡ takenBook book arrivals ⌝ }
 {
     PacingBook {
         arrivals,
-        slot: (book.slot + 1) % 8,
+        slot: (book.slot + 1) % DESTROY_SPREAD_DRAINS,
         pressed: book.pressed,
         excess: 0,
     }
@@ -59,7 +63,7 @@ pub fn take_doomed(
     ensures { λ r. ⌜ (handedTold (r .handed), (now (buffer .exit), lent (r .pool) (r .book) (now (textures .entry)) (now (retiring .entry)) (now (doomed .entry)) (now (spares .entry)) (now (newest .entry)) (now (stamps .entry))))
         ≡ takeDoomedCall (lent pool book (now (textures .entry)) (now (retiring .entry)) (now (doomed .entry)) (now (spares .entry)) (now (newest .entry)) (now (stamps .entry))) (now (buffer .entry)) ⌝ }
 {
-    let places = retiring.len() / 7;
+    let places = retiring.len() / RETIRING_STRIDE;
     let first = pool.first;
     let arrivals = arrived(book, pool.since);
     let batch = next_batch(doomed, places, first, pool.doomed, arrivals, book.excess);
@@ -71,7 +75,7 @@ pub fn take_doomed(
             handed: Handed::Refused(11),
         };
     }
-    copy_column(buffer, 0, doomed, 2, 0, places, first, 0, count);
+    copy_column(buffer, 0, doomed, DOOMED_STRIDE, 0, places, first, 0, count);
     DrainAnswer {
         pool: taken_counts(pool, places, batch),
         book: taken_book(book, arrivals),

@@ -12,6 +12,7 @@ ghost use Rattle.pool_memory.specs.Writing.{after};
 ghost use Rattle.pool_memory.specs.Calls.{toldNumber, trimCall};
 ghost use Rattle.pool_trim.specs.LookAt.{lookedPut};
 ghost use Rattle.pool_trim.specs.Pass.{trimmed};
+ghost use Rattle.pool_records.specs.RecordConstants.{textureStride};
 use crate::look_at::Look;
 use crate::look_at::look_at;
 use crate::nothing_aged::nothing_aged;
@@ -25,20 +26,29 @@ use pool_forget_texture::move_pages;
 use pool_memory::DoneAnswer;
 use pool_memory::PacingBook;
 use pool_memory::Pool;
+use pool_records::RETIRING_STRIDE;
+use pool_records::SPARE_STRIDE;
+use pool_records::TEXTURE_DUE_AT;
+use pool_records::TEXTURE_SPARES_AT;
+use pool_records::TEXTURE_STRIDE;
+use pool_rules::LIMIT;
 use pool_take_doomed::push_spares;
 
 // Record i written at place `to` as it is after the look. Nothing is written where the texture is dropped, nor where the record stands
 // there already.
 fn put_looked(textures: &mut [u64], to: usize, i: usize, look: Look)
-    requires { ⌜ (20 * i + 20 ≤ length (now textures)) × (20 * to + 20 ≤ length (now textures))
-        × RecordedFits (recordAt 20 readTexture (now textures) i .history) × (look .aged ≤ look .own) ⌝ }
+    requires { ⌜ (textureStride * i + textureStride ≤ length (now textures)) × (textureStride * to + textureStride ≤ length (now textures))
+        × RecordedFits (recordAt textureStride readTexture (now textures) i .history) × (look .aged ≤ look .own) ⌝ }
     ensures { λ _. ⌜ now (textures .exit) ≡ lookedPut (now (textures .entry)) to i look ⌝ }
 {
     if look.staying == 0 {
         return;
     }
     let left = (look.own - look.aged) as u64;
-    if (to == i) & (textures[20 * i + 17] == look.due) & (textures[20 * i + 18] == left) {
+    if (to == i)
+        & (textures[TEXTURE_STRIDE * i + TEXTURE_DUE_AT] == look.due)
+        & (textures[TEXTURE_STRIDE * i + TEXTURE_SPARES_AT] == left)
+    {
         return;
     }
     let mut t = texture_at(textures, i);
@@ -67,7 +77,7 @@ fn trim_textures(
         (lent pool book (now (textures .entry)) (now (retiring .entry)) (now (doomed .entry)) (now (spares .entry))
         (now (newest .entry)) (now (stamps .entry))) ⌝ }
 {
-    let places = retiring.len() / 7;
+    let places = retiring.len() / RETIRING_STRIDE;
     let tracked = pool.tracked;
     let ring = pool.first;
     let waiting = pool.doomed;
@@ -87,9 +97,9 @@ fn trim_textures(
         );
         move_down(
             spares,
-            3 * pass.kept,
-            3 * (pass.first + look.aged - pass.kept),
-            3 * (look.own - look.aged),
+            SPARE_STRIDE * pass.kept,
+            SPARE_STRIDE * (pass.first + look.aged - pass.kept),
+            SPARE_STRIDE * (look.own - look.aged),
         );
         move_pages(
             newest,
@@ -126,7 +136,7 @@ pub fn trim(
         ≡ trimCall (lent pool book (now (textures .entry)) (now (retiring .entry)) (now (doomed .entry)) (now (spares .entry))
         (now (newest .entry)) (now (stamps .entry))) current ⌝ }
 {
-    if current > 281474976710656 {
+    if current > LIMIT {
         return DoneAnswer { pool, outcome: 3 };
     }
     if nothing_aged(textures, spares, pool.tracked, current) {

@@ -7,6 +7,8 @@ use lib.Seq.{length-take-le}
 use Rattle.bench_work.proofs.Parts.{cut-long}
 use Rattle.bench_lifetimes.proofs.run.run_part.Statement.{statement}
 use Rattle.bench_lifetimes.proofs.run.run_part.Tie as tie
+use Rattle.grid_stamps.specs.StampConstants.{pageStamps}
+use Rattle.pool_records.specs.RecordConstants.{doomedStride, retiringStride, spareStride, textureStride}
 
 mul-a : tie.Need-mul-a
 mul-a c = search needs
@@ -27,25 +29,25 @@ slice-relend-prefix-run : tie.Need-slice-relend-prefix-run
 slice-relend-prefix-run c = search needs
 
 slice-aggregate-run : tie.Need-slice-aggregate-run
-slice-aggregate-run c = let z = c .before .before .before .before .before .before .before .before in sym (length-take-le (20 * z .args .t) (z .args .textures .now) (omega (arith, z .pre .0, z .pre .2)))
+slice-aggregate-run c = let z = c .before .before .before .before .before .before .before .before in sym (length-take-le (textureStride * z .args .t) (z .args .textures .now) (omega (arith, z .pre .0, z .pre .2)))
 
 slice-relend-prefix-run-2 : tie.Need-slice-relend-prefix-run-2
 slice-relend-prefix-run-2 c = search needs
 
 slice-aggregate-run-2 : tie.Need-slice-aggregate-run-2
-slice-aggregate-run-2 c = let z = c .before .before .before .before .before .before .before .before .before in sym (length-take-le (7 * z .args .t) (z .args .retiring .now) (omega (arith, z .pre .0, z .pre .3)))
+slice-aggregate-run-2 c = let z = c .before .before .before .before .before .before .before .before .before in sym (length-take-le (retiringStride * z .args .t) (z .args .retiring .now) (omega (arith, z .pre .0, z .pre .3)))
 
 slice-relend-prefix-run-3 : tie.Need-slice-relend-prefix-run-3
 slice-relend-prefix-run-3 c = search needs
 
 slice-aggregate-run-3 : tie.Need-slice-aggregate-run-3
-slice-aggregate-run-3 c = let z = c .before .before .before .before .before .before .before .before .before .before in sym (length-take-le (2 * z .args .t) (z .args .doomed .now) (omega (arith, z .pre .0, z .pre .4)))
+slice-aggregate-run-3 c = let z = c .before .before .before .before .before .before .before .before .before .before in sym (length-take-le (doomedStride * z .args .t) (z .args .doomed .now) (omega (arith, z .pre .0, z .pre .4)))
 
 slice-relend-prefix-run-4 : tie.Need-slice-relend-prefix-run-4
 slice-relend-prefix-run-4 c = search needs
 
 slice-aggregate-run-4 : tie.Need-slice-aggregate-run-4
-slice-aggregate-run-4 c = let z = c .before .before .before .before .before .before .before .before .before .before .before in sym (length-take-le (3 * z .args .t) (z .args .spares .now) (omega (arith, z .pre .0, z .pre .5)))
+slice-aggregate-run-4 c = let z = c .before .before .before .before .before .before .before .before .before .before .before in sym (length-take-le (spareStride * z .args .t) (z .args .spares .now) (omega (arith, z .pre .0, z .pre .5)))
 
 slice-relend-prefix-run-5 : tie.Need-slice-relend-prefix-run-5
 slice-relend-prefix-run-5 c = search needs
@@ -57,28 +59,28 @@ slice-relend-prefix-run-6 : tie.Need-slice-relend-prefix-run-6
 slice-relend-prefix-run-6 c = search needs
 
 slice-aggregate-run-6 : tie.Need-slice-aggregate-run-6
-slice-aggregate-run-6 c = let z = c .before .before .before .before .before .before .before .before .before .before .before .before .before in sym (length-take-le (1024 * z .args .p) (z .args .stamps .now) (omega (arith, z .pre .1, z .pre .7)))
+slice-aggregate-run-6 c = let z = c .before .before .before .before .before .before .before .before .before .before .before .before .before in sym (length-take-le (pageStamps * z .args .p) (z .args .stamps .now) (omega (arith, z .pre .1, z .pre .7)))
 
 run-requires : tie.Need-run-requires
 run-requires c κs = search needs
 
 same-length : tie.Need-same-length
-same-length c = let z = c .before .before .before .before .before .before .before .before .before .before .before .before .before .before .before .before .before .before .before .before .before .before .before .before .before .before .before .before .before in cut-long (20 * z .args .t) (z .args .textures .now) (c .before .before .before .before .before .before .before .before .before .before .before .before .before .before .run .last .0) (omega (arith, z .pre .0, z .pre .2)) (c .before .before .before .before .before .before .before .before .before .before .before .before .before .before .run .kept .0)
+same-length c = let z = c .before .before .before .before .before .before .before .before .before .before .before .before .before .before .before .before .before .before .before .before .before .before .before .before .before .before .before .before .before in cut-long (textureStride * z .args .t) (z .args .textures .now) (c .before .before .before .before .before .before .before .before .before .before .before .before .before .before .run .last .0) (omega (arith, z .pre .0, z .pre .2)) (c .before .before .before .before .before .before .before .before .before .before .before .before .before .before .run .kept .0)
 
 same-length-2 : tie.Need-same-length-2
-same-length-2 c = let z = c .before .before .before .before .before .before .before .before .before .before .before .before .before .before .before .before .before .before .before .before .before .before .before .before .before .before .before .before .before in cut-long (7 * z .args .t) (z .args .retiring .now) (c .before .before .before .before .before .before .before .before .before .before .before .before .before .before .run .last .1 .0) (omega (arith, z .pre .0, z .pre .3)) (c .before .before .before .before .before .before .before .before .before .before .before .before .before .before .run .kept .1 .0)
+same-length-2 c = let z = c .before .before .before .before .before .before .before .before .before .before .before .before .before .before .before .before .before .before .before .before .before .before .before .before .before .before .before .before .before in cut-long (retiringStride * z .args .t) (z .args .retiring .now) (c .before .before .before .before .before .before .before .before .before .before .before .before .before .before .run .last .1 .0) (omega (arith, z .pre .0, z .pre .3)) (c .before .before .before .before .before .before .before .before .before .before .before .before .before .before .run .kept .1 .0)
 
 same-length-3 : tie.Need-same-length-3
-same-length-3 c = let z = c .before .before .before .before .before .before .before .before .before .before .before .before .before .before .before .before .before .before .before .before .before .before .before .before .before .before .before .before .before in cut-long (2 * z .args .t) (z .args .doomed .now) (c .before .before .before .before .before .before .before .before .before .before .before .before .before .before .run .last .1 .1 .0) (omega (arith, z .pre .0, z .pre .4)) (c .before .before .before .before .before .before .before .before .before .before .before .before .before .before .run .kept .1 .1 .0)
+same-length-3 c = let z = c .before .before .before .before .before .before .before .before .before .before .before .before .before .before .before .before .before .before .before .before .before .before .before .before .before .before .before .before .before in cut-long (doomedStride * z .args .t) (z .args .doomed .now) (c .before .before .before .before .before .before .before .before .before .before .before .before .before .before .run .last .1 .1 .0) (omega (arith, z .pre .0, z .pre .4)) (c .before .before .before .before .before .before .before .before .before .before .before .before .before .before .run .kept .1 .1 .0)
 
 same-length-4 : tie.Need-same-length-4
-same-length-4 c = let z = c .before .before .before .before .before .before .before .before .before .before .before .before .before .before .before .before .before .before .before .before .before .before .before .before .before .before .before .before .before in cut-long (3 * z .args .t) (z .args .spares .now) (c .before .before .before .before .before .before .before .before .before .before .before .before .before .before .run .last .1 .1 .1 .0) (omega (arith, z .pre .0, z .pre .5)) (c .before .before .before .before .before .before .before .before .before .before .before .before .before .before .run .kept .1 .1 .1 .0)
+same-length-4 c = let z = c .before .before .before .before .before .before .before .before .before .before .before .before .before .before .before .before .before .before .before .before .before .before .before .before .before .before .before .before .before in cut-long (spareStride * z .args .t) (z .args .spares .now) (c .before .before .before .before .before .before .before .before .before .before .before .before .before .before .run .last .1 .1 .1 .0) (omega (arith, z .pre .0, z .pre .5)) (c .before .before .before .before .before .before .before .before .before .before .before .before .before .before .run .kept .1 .1 .1 .0)
 
 same-length-5 : tie.Need-same-length-5
 same-length-5 c = let z = c .before .before .before .before .before .before .before .before .before .before .before .before .before .before .before .before .before .before .before .before .before .before .before .before .before .before .before .before .before in cut-long (z .args .p) (z .args .newest .now) (c .before .before .before .before .before .before .before .before .before .before .before .before .before .before .run .last .1 .1 .1 .1 .0) (omega (arith, z .pre .1, z .pre .6)) (c .before .before .before .before .before .before .before .before .before .before .before .before .before .before .run .kept .1 .1 .1 .1 .0)
 
 same-length-6 : tie.Need-same-length-6
-same-length-6 c = let z = c .before .before .before .before .before .before .before .before .before .before .before .before .before .before .before .before .before .before .before .before .before .before .before .before .before .before .before .before .before in cut-long (1024 * z .args .p) (z .args .stamps .now) (c .before .before .before .before .before .before .before .before .before .before .before .before .before .before .run .last .1 .1 .1 .1 .1 .0) (omega (arith, z .pre .1, z .pre .7)) (c .before .before .before .before .before .before .before .before .before .before .before .before .before .before .run .kept .1 .1 .1 .1 .1 .0)
+same-length-6 c = let z = c .before .before .before .before .before .before .before .before .before .before .before .before .before .before .before .before .before .before .before .before .before .before .before .before .before .before .before .before .before in cut-long (pageStamps * z .args .p) (z .args .stamps .now) (c .before .before .before .before .before .before .before .before .before .before .before .before .before .before .run .last .1 .1 .1 .1 .1 .0) (omega (arith, z .pre .1, z .pre .7)) (c .before .before .before .before .before .before .before .before .before .before .before .before .before .before .run .kept .1 .1 .1 .1 .1 .0)
 
 same-length-7 : tie.Need-same-length-7
 same-length-7 c = search needs

@@ -6,10 +6,11 @@ use native.Mathlib.Omega.{arith}
 use lib.ListN.{length}
 use Rattle.bench_work.proofs.renaming.plan_all.Statement.{statement}
 use Rattle.bench_work.proofs.renaming.plan_all.Tie as tie
+use Rattle.pool_memory.specs.MemoryConstants.{copyStride}
 
 abbrev Inv-loop : tie.InvT-loop
 Inv-loop pool book textures retiring doomed spares newest stamps held n shape copies₀ sum₀ i₀ copies sum i =
-    length copies ≡ 7
+    length copies ≡ copyStride
 
 abbrev μ-loop : tie.MeasureT-loop
 μ-loop pool book textures retiring doomed spares newest stamps held n shape copies₀ sum₀ i₀ copies sum i =

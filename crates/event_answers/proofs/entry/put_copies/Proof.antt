@@ -13,9 +13,10 @@ use Rattle.event_answers.proofs.Puts.{PutTo, put-none, put-next, put-al
 use Rattle.event_answers.proofs.Answering.{copy-from}
 use Rattle.event_answers.proofs.entry.put_copies.Statement.{statement}
 use Rattle.event_answers.proofs.entry.put_copies.Tie as tie
+use Rattle.pool_memory.specs.MemoryConstants.{copyStride}
 
 abbrev Inv-loop : tie.InvT-loop
-Inv-loop out₀ at number copies n end₀ i₀ out end i = (i ≤ n) × (end ≤ at + 147 * i) × (length out ≡ length out₀) × PutTo (copyRow number) (recordAt 7 readCopy copies) n out₀ at i out end
+Inv-loop out₀ at number copies n end₀ i₀ out end i = (i ≤ n) × (end ≤ at + 147 * i) × (length out ≡ length out₀) × PutTo (copyRow number) (recordAt copyStride readCopy copies) n out₀ at i out end
 
 abbrev μ-loop : tie.MeasureT-loop
 μ-loop out₀ at number copies n end₀ i₀ out end i = n - i
@@ -57,7 +58,7 @@ loop-again c =
       search needs,
       omega (arith, p .ensures .0, l .inv .1),
       search needs,
-      put-next (copyRow (a .number)) (recordAt 7 readCopy (a .copies .now)) (a .n) (c .before .before .before .before .before .loop-test .taken) (l .inv .3)
+      put-next (copyRow (a .number)) (recordAt copyStride readCopy (a .copies .now)) (a .n) (c .before .before .before .before .before .loop-test .taken) (l .inv .3)
           (put-as (ap (copyRow (a .number)) (copy-from (a .copies .now) (l .i))) (p .ensures .1)),
     )
 
@@ -68,8 +69,8 @@ returns : tie.Need-returns Inv-loop μ-loop
 returns c =
     let l = c .before .loop in
     let a = c .before .before .before .before .args in
-    put-as (ap (flatMap (copyRow (a .number))) (table-left 7 readCopy (a .n) (a .copies .now)))
-    (put-all (copyRow (a .number)) (recordAt 7 readCopy (a .copies .now)) (a .n) (c .loop-test .left) (l .inv .3))
+    put-as (ap (flatMap (copyRow (a .number))) (table-left copyStride readCopy (a .n) (a .copies .now)))
+    (put-all (copyRow (a .number)) (recordAt copyStride readCopy (a .copies .now)) (a .n) (c .loop-test .left) (l .inv .3))
 
 pub put-copies-spec : {M : Type 1} → statement M
 put-copies-spec =

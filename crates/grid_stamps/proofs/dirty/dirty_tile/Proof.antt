@@ -11,6 +11,7 @@ use Rattle.grid_stamps.proofs.RowByRow.{factor-pos}
 use Rattle.grid_stamps.proofs.Tilings.{count-bound}
 use Rattle.grid_stamps.proofs.dirty.dirty_tile.Statement.{statement}
 use Rattle.grid_stamps.proofs.dirty.dirty_tile.Tie as tie
+use Rattle.grid_stamps.specs.StampConstants.{pageStamps}
 
 abbrev Inv-loop : tie.InvT-loop
 Inv-loop page held columns count k₀ k = (k ≤ count) × ((i : ℕ) → i < k → getD page i 0 ≤ held)
@@ -40,7 +41,7 @@ module _ (c : tie.After-tiles2 Inv-loop μ-loop) where
   unfolding stampCount columnsOf rowsOf
   many = ap₂ (λ m n. m * n) (c .before .tiles .ensures) (c .tiles2 .ensures)
 
-  bound : stampCount grid ≤ 1024
+  bound : stampCount grid ≤ pageStamps
   bound = count-bound grid (record { across = entry .pre .0; down = entry .pre .1 })
 
 mul-count : tie.Need-mul-count Inv-loop μ-loop

@@ -7,6 +7,7 @@ use lib.Seq.{sets}
 use Rattle.base_tables.specs.Rings.{placeOf}
 use Rattle.pool_access.proofs.retiring.push_retiring.Statement.{statement}
 use Rattle.pool_access.proofs.retiring.push_retiring.Tie as tie
+use Rattle.pool_records.specs.RecordConstants.{retiringStride}
 
 retiring-numbers-requires : tie.Need-retiring-numbers-requires
 retiring-numbers-requires c κs = search needs
@@ -25,7 +26,7 @@ returns c =
     let put = c .before .before in
     let made = put .before .before .before in
     let a = made .before .before .args in
-    put .ring-push .ensures ∙ ap (λ (l : List ℕ). sets (a .s .now) (7 * placeOf (a .cap) (a .head) (a .n)) l) (made .retiring-numbers .ensures)
+    put .ring-push .ensures ∙ ap (λ (l : List ℕ). sets (a .s .now) (retiringStride * placeOf (a .cap) (a .head) (a .n)) l) (made .retiring-numbers .ensures)
 
 pub push-retiring-spec : {M : Type 1} → statement M
 push-retiring-spec =

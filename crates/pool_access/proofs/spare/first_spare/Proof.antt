@@ -12,12 +12,13 @@ use Rattle.pool_records.specs.Texture.{readTexture}
 use Rattle.pool_access.proofs.Totals.{total-none, total-first}
 use Rattle.pool_access.proofs.spare.first_spare.Statement.{statement}
 use Rattle.pool_access.proofs.spare.first_spare.Tie as tie
+use Rattle.pool_records.specs.RecordConstants.{textureStride}
 
 abbrev sparesOf : TextureRecord → ℕ
 sparesOf t = t .spares
 
 abbrev sumTo : List ℕ → ℕ → ℕ
-sumTo s k = total sparesOf (table 20 readTexture k s)
+sumTo s k = total sparesOf (table textureStride readTexture k s)
 
 abbrev Near : ℕ → ℕ → ℕ → ℕ → Type 0
 Near n i from to = ((from ≡ 0) × (to ≡ i)) ⊎ ((from ≡ i) × (to ≡ n) × (0 < i))
@@ -30,7 +31,7 @@ module _ (s : List ℕ) (n i from to : ℕ) (near : Near n i from to) (inside : 
     near-front : from ≡ 0 → sum ≡ sumTo s i
     near-front z =
         ⊎-elim
-        (λ w. omega (arith, between, ap (sumTo s) (w .0), total-none 20 readTexture sparesOf s, ap (sumTo s) (w .1)))
+        (λ w. omega (arith, between, ap (sumTo s) (w .0), total-none textureStride readTexture sparesOf s, ap (sumTo s) (w .1)))
         (λ w. absurd (let y : ⊥ = omega (arith, z, w .0, w .2) in y))
         near
 
@@ -45,7 +46,7 @@ spares-between-requires c κs =
     let b = c .before .before in
     let a = b .args in
     let m = near-fits (a .textures .now) (a .n) (a .i) _ _ (c .fewer .ensures) (b .pre .1) in
-    (omega (arith, m .0, b .pre .0), m .1, omega (arith, b .pre .2, b .pre .3, total-first 20 readTexture sparesOf (a .textures .now) _ (a .n) (m .0)))
+    (omega (arith, m .0, b .pre .0), m .1, omega (arith, b .pre .2, b .pre .3, total-first textureStride readTexture sparesOf (a .textures .now) _ (a .n) (m .0)))
 
 returns : tie.Need-returns
 returns c =

@@ -7,6 +7,7 @@ use lib.Seq.{sets}
 use Rattle.base_blocks.specs.Blocks.{moved}
 use Rattle.pool_access.proofs.spare.insert_spare.Statement.{statement}
 use Rattle.pool_access.proofs.spare.insert_spare.Tie as tie
+use Rattle.pool_records.specs.RecordConstants.{spareStride}
 
 spare-numbers-requires : tie.Need-spare-numbers-requires
 spare-numbers-requires c κs = search needs
@@ -27,7 +28,7 @@ returns c =
     let a = made .before .before .args in
     let s = a .s .now in
     let i = a .k in
-    put .insert-record .ensures ∙ ap (λ (l : List ℕ). sets (moved s (3 * i + 3) (3 * i) (3 * (a .n - i))) (3 * i) l) (made .spare-numbers .ensures)
+    put .insert-record .ensures ∙ ap (λ (l : List ℕ). sets (moved s (spareStride * i + spareStride) (spareStride * i) (spareStride * (a .n - i))) (spareStride * i) l) (made .spare-numbers .ensures)
 
 pub insert-spare-spec : {M : Type 1} → statement M
 insert-spare-spec =

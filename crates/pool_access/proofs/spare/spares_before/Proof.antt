@@ -12,18 +12,19 @@ use Rattle.pool_access.proofs.Totals.{sum-start, sum-fits, sum-more, su
 use Rattle.pool_access.proofs.Fields.{spares-number}
 use Rattle.pool_access.proofs.spare.spares_before.Statement.{statement}
 use Rattle.pool_access.proofs.spare.spares_before.Tie as tie
+use Rattle.pool_records.specs.RecordConstants.{textureStride}
 
 abbrev sparesOf : TextureRecord → ℕ
 sparesOf t = t .spares
 
 abbrev Inv-loop : tie.InvT-loop
-Inv-loop s i sum₀ j₀ sum j = (j ≤ i) × (sum + total sparesOf (left (recordAt 20 readTexture s) i j) ≡ total sparesOf (table 20 readTexture i s))
+Inv-loop s i sum₀ j₀ sum j = (j ≤ i) × (sum + total sparesOf (left (recordAt textureStride readTexture s) i j) ≡ total sparesOf (table textureStride readTexture i s))
 
 abbrev μ-loop : tie.MeasureT-loop
 μ-loop s i sum₀ j₀ sum j = i - j
 
 loop-holds : tie.Need-loop-holds Inv-loop μ-loop
-loop-holds c = (omega arith, sum-start 20 readTexture sparesOf (c .args .textures .now) (c .args .i))
+loop-holds c = (omega arith, sum-start textureStride readTexture sparesOf (c .args .textures .now) (c .args .i))
 
 mul-sum : tie.Need-mul-sum Inv-loop μ-loop
 mul-sum c = search needs
@@ -43,7 +44,7 @@ add-sum-2 c =
     let e = b .before in
     let t = e .args .textures .now in
     let j = b .loop .j in
-    omega (arith, e .pre .1, sum-fits 20 readTexture sparesOf t (e .args .i) j (b .loop .sum) (b .loop .inv .1) _ (spares-number t j) (c .before .loop-test .taken))
+    omega (arith, e .pre .1, sum-fits textureStride readTexture sparesOf t (e .args .i) j (b .loop .sum) (b .loop .inv .1) _ (spares-number t j) (c .before .loop-test .taken))
 
 add-j : tie.Need-add-j Inv-loop μ-loop
 add-j c = search needs
@@ -57,13 +58,13 @@ loop-again c =
     let a = b .before .args in
     let t = a .textures .now in
     let j = b .loop .j in
-    (omega arith, sum-more 20 readTexture sparesOf t (a .i) j (b .loop .sum) (b .loop .inv .1) _ (spares-number t j) (c .before .loop-test .taken))
+    (omega arith, sum-more textureStride readTexture sparesOf t (a .i) j (b .loop .sum) (b .loop .inv .1) _ (spares-number t j) (c .before .loop-test .taken))
 
 returns : tie.Need-returns Inv-loop μ-loop
 returns c =
     let b = c .before in
     let a = b .before .args in
-    sum-done 20 readTexture sparesOf (a .textures .now) (a .i) (b .loop .j) (b .loop .sum) (b .loop .inv .1) (c .loop-test .left)
+    sum-done textureStride readTexture sparesOf (a .textures .now) (a .i) (b .loop .j) (b .loop .sum) (b .loop .inv .1) (c .loop-test .left)
 
 pub spares-before-spec : {M : Type 1} → statement M
 spares-before-spec =

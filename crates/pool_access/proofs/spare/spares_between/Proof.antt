@@ -13,12 +13,13 @@ use Rattle.pool_access.proofs.Totals.{total-next, total-with}
 use Rattle.pool_access.proofs.Fields.{spares-number}
 use Rattle.pool_access.proofs.spare.spares_between.Statement.{statement}
 use Rattle.pool_access.proofs.spare.spares_between.Tie as tie
+use Rattle.pool_records.specs.RecordConstants.{textureStride}
 
 abbrev sparesOf : TextureRecord → ℕ
 sparesOf t = t .spares
 
 abbrev sumTo : List ℕ → ℕ → ℕ
-sumTo s j = total sparesOf (table 20 readTexture j s)
+sumTo s j = total sparesOf (table textureStride readTexture j s)
 
 abbrev Inv-loop : tie.InvT-loop
 Inv-loop s from to sum₀ j₀ sum j = (j ≤ to) × (sumTo s from + sum ≡ sumTo s j)
@@ -47,7 +48,7 @@ add-sum-2 c =
     let e = b .before in
     let t = e .args .textures .now in
     let j = b .loop .j in
-    omega (arith, e .pre .2, b .loop .inv .1, spares-number t j, total-with 20 readTexture sparesOf t j (e .args .to) (c .before .loop-test .taken))
+    omega (arith, e .pre .2, b .loop .inv .1, spares-number t j, total-with textureStride readTexture sparesOf t j (e .args .to) (c .before .loop-test .taken))
 
 add-j : tie.Need-add-j Inv-loop μ-loop
 add-j c = search needs
@@ -60,7 +61,7 @@ loop-again c =
     let b = c .before .before in
     let t = b .before .args .textures .now in
     let j = b .loop .j in
-    (omega (arith, c .before .loop-test .taken), omega (arith, b .loop .inv .1, spares-number t j, total-next 20 readTexture sparesOf t j))
+    (omega (arith, c .before .loop-test .taken), omega (arith, b .loop .inv .1, spares-number t j, total-next textureStride readTexture sparesOf t j))
 
 returns : tie.Need-returns Inv-loop μ-loop
 returns c =

@@ -7,6 +7,7 @@ use lib.Seq.{sets}
 use Rattle.base_blocks.specs.Blocks.{moved}
 use Rattle.pool_access.proofs.texture.insert_texture.Statement.{statement}
 use Rattle.pool_access.proofs.texture.insert_texture.Tie as tie
+use Rattle.pool_records.specs.RecordConstants.{textureStride}
 
 texture-numbers-requires : tie.Need-texture-numbers-requires
 texture-numbers-requires c κs = search needs
@@ -27,7 +28,7 @@ returns c =
     let a = made .before .before .args in
     let s = a .s .now in
     let i = a .i in
-    put .insert-record .ensures ∙ ap (λ (l : List ℕ). sets (moved s (20 * i + 20) (20 * i) (20 * (a .n - i))) (20 * i) l) (made .texture-numbers .ensures)
+    put .insert-record .ensures ∙ ap (λ (l : List ℕ). sets (moved s (textureStride * i + textureStride) (textureStride * i) (textureStride * (a .n - i))) (textureStride * i) l) (made .texture-numbers .ensures)
 
 pub insert-texture-spec : {M : Type 1} → statement M
 insert-texture-spec =

@@ -6,6 +6,7 @@ use Prim.Native.Nat.{ℕ, _*_}
 use lib.Seq.{sets}
 use Rattle.pool_access.proofs.texture.put_texture.Statement.{statement}
 use Rattle.pool_access.proofs.texture.put_texture.Tie as tie
+use Rattle.pool_records.specs.RecordConstants.{textureStride}
 
 texture-numbers-requires : tie.Need-texture-numbers-requires
 texture-numbers-requires c κs = search needs
@@ -24,7 +25,7 @@ returns c =
     let put = c .before .before in
     let made = put .before .before .before in
     let a = made .before .before .args in
-    put .put-record .ensures ∙ ap (λ (l : List ℕ). sets (a .s .now) (20 * a .i) l) (made .texture-numbers .ensures)
+    put .put-record .ensures ∙ ap (λ (l : List ℕ). sets (a .s .now) (textureStride * a .i) l) (made .texture-numbers .ensures)
 
 pub put-texture-spec : {M : Type 1} → statement M
 put-texture-spec =

@@ -8,6 +8,7 @@ use Rattle.pool_access.proofs.Totals.{total-next}
 use Rattle.pool_forget_texture.specs.Owned.{ownedAt}
 use Rattle.pool_forget_texture.proofs.owned.owned_at.Statement.{statement}
 use Rattle.pool_forget_texture.proofs.owned.owned_at.Tie as tie
+use Rattle.pool_records.specs.RecordConstants.{textureStride}
 
 texture-at-requires : tie.Need-texture-at-requires
 texture-at-requires c κs = search needs
@@ -15,18 +16,18 @@ texture-at-requires c κs = search needs
 spares-before-requires : tie.Need-spares-before-requires
 spares-before-requires c κs =
     let b = c .before .before in
-    (omega (arith, b .pre), omega (arith, b .pre, total-next 20 readTexture (λ t. t .spares) (b .args .textures .now) (b .args .i)))
+    (omega (arith, b .pre), omega (arith, b .pre, total-next textureStride readTexture (λ t. t .spares) (b .args .textures .now) (b .args .i)))
 
 pages-before-requires : tie.Need-pages-before-requires
 pages-before-requires c κs =
     let b = c .before .before .before in
-    (omega (arith, b .pre), omega (arith, b .pre, total-next 20 readTexture recordPages (b .args .textures .now) (b .args .i)))
+    (omega (arith, b .pre), omega (arith, b .pre, total-next textureStride readTexture recordPages (b .args .textures .now) (b .args .i)))
 
 history-pages-requires : tie.Need-history-pages-requires
 history-pages-requires c κs =
     let d = c .before .before in
     let b = d .before .before in
-    omega (arith, b .pre, total-next 20 readTexture recordPages (b .args .textures .now) (b .args .i), ap recordPages (d .texture-at .ensures))
+    omega (arith, b .pre, total-next textureStride readTexture recordPages (b .args .textures .now) (b .args .i), ap recordPages (d .texture-at .ensures))
 
 returns : tie.Need-returns
 unfolding ownedAt

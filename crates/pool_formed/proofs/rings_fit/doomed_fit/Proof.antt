@@ -12,10 +12,11 @@ use Rattle.pool_formed.proofs.RingTests.{doomed-bytes, doomed-fits, doo
 use borrow.Author.Needs.{needs}
 use Rattle.pool_formed.proofs.rings_fit.doomed_fit.Statement.{statement}
 use Rattle.pool_formed.proofs.rings_fit.doomed_fit.Tie as tie
+use Rattle.grid_shapes.specs.ShapeConstants.{mostShapeBytes}
 
 abbrev Inv-loop : tie.InvT-loop
 Inv-loop doomed cap first n bytes sum₀ i₀ sum i =
-    (i ≤ n) × (sum ≤ 17592186044416 * i) × (all isDoomed (left (doomedAt cap first doomed) n i) ≡ all isDoomed (listed (doomedAt cap first doomed) 0 n))
+    (i ≤ n) × (sum ≤ mostShapeBytes * i) × (all isDoomed (left (doomedAt cap first doomed) n i) ≡ all isDoomed (listed (doomedAt cap first doomed) 0 n))
     × (sum + doomedBytes (left (doomedAt cap first doomed) n i) ≡ doomedBytes (listed (doomedAt cap first doomed) 0 n))
 
 abbrev μ-loop : tie.MeasureT-loop

@@ -16,6 +16,7 @@ use Rattle.pool_formed_textures.proofs.HistoryTests.{histories-more, hi
 use borrow.Author.Needs.{needs}
 use Rattle.pool_formed_textures.proofs.histories_fit.histories_fit.Statement.{statement}
 use Rattle.pool_formed_textures.proofs.histories_fit.histories_fit.Tie as tie
+use Rattle.pool_records.specs.RecordConstants.{textureStride}
 
 abbrev Inv-loop : tie.InvT-loop
 Inv-loop textures n newest stamps page₀ i₀ page i =
@@ -28,7 +29,7 @@ abbrev μ-loop : tie.MeasureT-loop
 loop-holds : tie.Need-loop-holds Inv-loop μ-loop
 loop-holds c =
     let a = c .before .before .before .args in
-    let e = table-left 20 readTexture (a .n) (a .textures .now) in
+    let e = table-left textureStride readTexture (a .n) (a .textures .now) in
     (search needs, omega (arith, ap (total recordPages) e), ap (historiesFit (a .newest .now) (a .stamps .now) 0) e)
 
 record-at-requires : tie.Need-record-at-requires Inv-loop μ-loop

@@ -11,6 +11,7 @@ use Rattle.pool_formed_textures.proofs.RecordTests.{textureAt, ids-more
 use borrow.Author.Needs.{needs}
 use Rattle.pool_formed_textures.proofs.records_fit.ids_ascend.Statement.{statement}
 use Rattle.pool_formed_textures.proofs.records_fit.ids_ascend.Tie as tie
+use Rattle.pool_records.specs.RecordConstants.{textureStride}
 
 abbrev Inv-loop : tie.InvT-loop
 Inv-loop textures n i₀ i = (i ≤ n) × (ascending idOf (left (textureAt textures) n i) ≡ ascending idOf (textures′ n textures))
@@ -19,7 +20,7 @@ abbrev μ-loop : tie.MeasureT-loop
 μ-loop textures n i₀ i = n - i
 
 loop-holds : tie.Need-loop-holds Inv-loop μ-loop
-loop-holds c = (search needs, ap (ascending idOf) (table-left 20 readTexture _ _))
+loop-holds c = (search needs, ap (ascending idOf) (table-left textureStride readTexture _ _))
 
 add-loop : tie.Need-add-loop Inv-loop μ-loop
 add-loop c = search needs

@@ -9,6 +9,7 @@ use Rattle.pool_formed_textures.proofs.RecordTests.{bytes-small}
 use borrow.Author.Needs.{needs}
 use Rattle.pool_formed_textures.proofs.records_fit.record_bytes.Statement.{statement}
 use Rattle.pool_formed_textures.proofs.records_fit.record_bytes.Tie as tie
+use Rattle.pool_records.specs.RecordConstants.{textureSparesAt}
 
 shared-slice-read-result : tie.Need-shared-slice-read-result
 shared-slice-read-result c = search needs
@@ -27,7 +28,7 @@ returns : tie.Need-returns
 unfolding recordBytes readTexture
 returns c =
     let b = c .before .before in
-    ap (λ (n : ℕ). n * getD (b .args .p .now) 18 0) (b .pre .3)
+    ap (λ (n : ℕ). n * getD (b .args .p .now) textureSparesAt 0) (b .pre .3)
 
 pub record-bytes-spec : {M : Type 1} → statement M
 record-bytes-spec =

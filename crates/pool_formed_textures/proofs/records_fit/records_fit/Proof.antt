@@ -12,6 +12,7 @@ use Rattle.pool_formed_textures.proofs.RecordTests.{textureAt, texture-
 use borrow.Author.Needs.{needs}
 use Rattle.pool_formed_textures.proofs.records_fit.records_fit.Statement.{statement}
 use Rattle.pool_formed_textures.proofs.records_fit.records_fit.Tie as tie
+use Rattle.pool_records.specs.RecordConstants.{textureStride}
 
 abbrev Inv-loop : tie.InvT-loop
 Inv-loop textures n i₀ i = (i ≤ n) × (all isRecord (left (textureAt textures) n i) ≡ all isRecord (textures′ n textures))
@@ -20,7 +21,7 @@ abbrev μ-loop : tie.MeasureT-loop
 μ-loop textures n i₀ i = n - i
 
 loop-holds : tie.Need-loop-holds Inv-loop μ-loop
-loop-holds c = (search needs, ap (all isRecord) (table-left 20 readTexture _ _))
+loop-holds c = (search needs, ap (all isRecord) (table-left textureStride readTexture _ _))
 
 record-at-requires : tie.Need-record-at-requires Inv-loop μ-loop
 record-at-requires c κs = search needs

@@ -14,6 +14,7 @@ use Rattle.pool_formed_textures.proofs.Claims.{parked-more, parked-room
 use borrow.Author.Needs.{needs}
 use Rattle.pool_formed_textures.proofs.runs_fit.parked_bytes.Statement.{statement}
 use Rattle.pool_formed_textures.proofs.runs_fit.parked_bytes.Tie as tie
+use Rattle.pool_records.specs.RecordConstants.{textureStride}
 
 abbrev Inv-loop : tie.InvT-loop
 Inv-loop textures n sum₀ i₀ sum i = (i ≤ n) × (sum + total recordBytes (left (textureAt textures) n i) ≡ total recordBytes (textures′ n textures))
@@ -22,7 +23,7 @@ abbrev μ-loop : tie.MeasureT-loop
 μ-loop textures n sum₀ i₀ sum i = n - i
 
 loop-holds : tie.Need-loop-holds Inv-loop μ-loop
-loop-holds c = (search needs, omega (arith, ap (total recordBytes) (table-left 20 readTexture (c .before .args .n) (c .before .args .textures .now))))
+loop-holds c = (search needs, omega (arith, ap (total recordBytes) (table-left textureStride readTexture (c .before .args .n) (c .before .args .textures .now))))
 
 record-at-requires : tie.Need-record-at-requires Inv-loop μ-loop
 record-at-requires c κs = search needs

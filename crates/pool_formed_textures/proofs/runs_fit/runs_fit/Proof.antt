@@ -15,6 +15,7 @@ use Rattle.pool_formed_textures.proofs.Claims.{claim-more, claim-short,
 use borrow.Author.Needs.{needs}
 use Rattle.pool_formed_textures.proofs.runs_fit.runs_fit.Statement.{statement}
 use Rattle.pool_formed_textures.proofs.runs_fit.runs_fit.Tie as tie
+use Rattle.pool_records.specs.RecordConstants.{textureStride}
 
 abbrev Inv-loop : tie.InvT-loop
 Inv-loop textures n kept pages spares₀ free₀ i₀ spares free i = (i ≤ n) × (claim (left (textureAt textures) n i) spares free ≡ claim (textures′ n textures) kept pages)
@@ -25,7 +26,7 @@ abbrev μ-loop : tie.MeasureT-loop
 loop-holds : tie.Need-loop-holds Inv-loop μ-loop
 loop-holds c =
     let a = c .before .args in
-    (search needs, ap (λ (ts : List TextureRecord). claim ts (a .kept) (a .pages)) (table-left 20 readTexture (a .n) (a .textures .now)))
+    (search needs, ap (λ (ts : List TextureRecord). claim ts (a .kept) (a .pages)) (table-left textureStride readTexture (a .n) (a .textures .now)))
 
 record-at-requires : tie.Need-record-at-requires Inv-loop μ-loop
 record-at-requires c κs = search needs

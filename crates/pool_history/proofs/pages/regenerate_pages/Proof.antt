@@ -9,6 +9,7 @@ use Rattle.pool_history.specs.Written.{newestWritten, pagesWritten, rema
 use Rattle.pool_history.proofs.Regenerated.{level-first, level-after, next-below, remade-none, newest-remade, pages-remade}
 use Rattle.pool_history.proofs.pages.regenerate_pages.Statement.{statement}
 use Rattle.pool_history.proofs.pages.regenerate_pages.Tie as tie
+use Rattle.grid_stamps.specs.StampConstants.{pageStamps}
 
 abbrev Inv-loop : tie.InvT-loop
 Inv-loop newest₀ stamps₀ page pages shape n level₀ k₀ newest stamps level k =
@@ -67,7 +68,7 @@ loop-again c =
     let s = b .before .before .before in
     let a = s .args in
     let inv = b .loop .inv in
-    let room : 1024 * (a .page + b .loop .k) + 1024 ≤ length (a .stamps .now) = omega (arith, s .pre .1, s .pre .2, r .before .before .before .loop-test .taken) in
+    let room : pageStamps * (a .page + b .loop .k) + pageStamps ≤ length (a .stamps .now) = omega (arith, s .pre .1, s .pre .2, r .before .before .before .loop-test .taken) in
     let counted : a .page + b .loop .k < length (a .newest .now) = omega (arith, s .pre .1, r .before .before .before .loop-test .taken) in (
       search needs,
       next-below (c .next-level .result) (b .loop .level) (a .shape .levels) (inv .1) (c .next-level .ensures),

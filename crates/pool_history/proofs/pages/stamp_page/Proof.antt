@@ -8,6 +8,7 @@ use Rattle.grid_stamps.specs.Grids.{tiled, tilingOf}
 use Rattle.pool_history.proofs.Written.{part-fits, newest-back, page-back}
 use Rattle.pool_history.proofs.pages.stamp_page.Statement.{statement}
 use Rattle.pool_history.proofs.pages.stamp_page.Tie as tie
+use Rattle.grid_stamps.specs.StampConstants.{pageStamps}
 
 -- src/pages.rt:37:9
 across-axis-requires : tie.Need-across-axis-requires
@@ -54,7 +55,7 @@ stamp-requires : tie.Need-stamp-requires
 stamp-requires c κs =
     let b = c .before .before in
     let a = b .before .before .before .before .args in
-    part-fits (a .shape) (b .before .before .before .before .pre .0) (a .level) (a .rect) (a .n) (a .newest .now) (a .stamps .now) (a .p) (omega (arith, b .before .before .before .before .pre)) (1024 * a .p + 1024 - 1024 * a .p) (b .before .across-axis .result) (b .down-axis .result) (omega arith) (b .before .across-axis .ensures) (b .down-axis .ensures)
+    part-fits (a .shape) (b .before .before .before .before .pre .0) (a .level) (a .rect) (a .n) (a .newest .now) (a .stamps .now) (a .p) (omega (arith, b .before .before .before .before .pre)) (pageStamps * a .p + pageStamps - pageStamps * a .p) (b .before .across-axis .result) (b .down-axis .result) (omega arith) (b .before .across-axis .ensures) (b .down-axis .ensures)
 
 -- src/pages.rt:42:5
 mul-newest : tie.Need-mul-newest
@@ -78,10 +79,10 @@ returns c =
     let b = c .before .before in
     let s = b .before .before .before .before .before .before .before in
     let a = s .args in
-    let e : 1024 * a .p + 1024 - 1024 * a .p ≡ 1024 = omega arith in
+    let e : pageStamps * a .p + pageStamps - pageStamps * a .p ≡ pageStamps = omega arith in
     let g : tiled (b .before .before .before .before .across-axis .result) (b .before .before .before .down-axis .result) ≡ tilingOf (a .shape) (a .level) =
     ap₂ tiled (b .before .before .before .before .across-axis .ensures) (b .before .before .before .down-axis .ensures) in
-    let room : 1024 * a .p + 1024 ≤ length (a .stamps .now) = omega (arith, s .pre) in (
+    let room : pageStamps * a .p + pageStamps ≤ length (a .stamps .now) = omega (arith, s .pre) in (
       newest-back (a .shape) (s .pre .0) (a .level) (a .rect) (a .n) (a .newest .now) (a .stamps .now) (a .p) room _ _ _ e g (b .stamp .ensures .0),
       page-back (a .shape) (s .pre .0) (a .level) (a .rect) (a .n) (a .newest .now) (a .stamps .now) (a .p) room _ _ _ e g (b .stamp .ensures .1),
     )

@@ -6,6 +6,7 @@ use borrow.Author.Needs.{needs}
 use Rattle.base_blocks.specs.Blocks.{moved}
 use Rattle.pool_note_allocated.proofs.give.give_spares.Statement.{statement}
 use Rattle.pool_note_allocated.proofs.give.give_spares.Tie as tie
+use Rattle.pool_records.specs.RecordConstants.{spareStride}
 
 push-spares-requires : tie.Need-push-spares-requires
 push-spares-requires c κs = search needs
@@ -59,8 +60,8 @@ returns : tie.Need-returns
 returns c =
     let a = c .before .before .before .before .before .before .before .before .before .before .before .before .args in
     let p = c .before .before .before .before .before .before .before .before .before .before .before .before .pre in
-    let e : 3 * a .to + 3 * (a .from + a .count - a .to) ≡ 3 * (a .from + a .count) = omega (arith, p .5) in
-    (refl, c .before .before .before .before .before .before .push-spares .ensures, c .before .before .shift-down .ensures ∙ ap (λ m. moved (a .spares .now) (3 * a .to) m (3 * (a .n - a .count))) e)
+    let e : spareStride * a .to + spareStride * (a .from + a .count - a .to) ≡ spareStride * (a .from + a .count) = omega (arith, p .5) in
+    (refl, c .before .before .before .before .before .before .push-spares .ensures, c .before .before .shift-down .ensures ∙ ap (λ m. moved (a .spares .now) (spareStride * a .to) m (spareStride * (a .n - a .count))) e)
 
 pub give-spares-spec : {M : Type 1} → statement M
 give-spares-spec =

@@ -13,6 +13,7 @@ use Rattle.pool_relief_line.specs.Parked.{parkings}
 use Rattle.pool_access.proofs.Fields.{spares-number}
 use Rattle.pool_note_allocated.proofs.relieve.relieve_texture.Statement.{statement}
 use Rattle.pool_note_allocated.proofs.relieve.relieve_texture.Tie as tie
+use Rattle.pool_records.specs.RecordConstants.{doomedStride, textureSparesAt, textureStride}
 
 mul-n : tie.Need-mul-n
 mul-n c = search needs
@@ -52,7 +53,7 @@ mul-t33 c =
     let e = spares-number (a .textures .now) (a .i) in
     let g = c .before .before .before .before .before .before .before .before .before .before .texture-gives in
     let b = c .before .before .before .before .before .before .before .before .before .before .before .before .version-bytes in
-    let le = mul-le-mul-left {m = g .result .count} {n = getD (a .textures .now) (20 * a .i + 18) 0} (b .result) (g .ensures .1) in
+    let le = mul-le-mul-left {m = g .result .count} {n = getD (a .textures .now) (textureStride * a .i + textureSparesAt) 0} (b .result) (g .ensures .1) in
     omega (arith, le, ap₂ (λ x y. x * y) (b .ensures) e, p .7)
 
 same-length : tie.Need-same-length
@@ -71,8 +72,8 @@ returns c =
     let g = c .before .before .before .before .before .before .before .before .before .before .texture-gives in
     let b = c .before .before .before .before .before .before .before .before .before .before .before .before .version-bytes in
     let s = c .before .before .before .before .before .before .give-spares .ensures in
-    let ps = parkings (a .spares .now) (a .from) (getD (a .textures .now) (20 * a .i + 18) 0) in
-    (e, g .ensures .1, g .ensures .0 ∙ ap (λ x. gives (a .freed) (a .excess) x (a .line) ps) (b .ensures), ap (λ x. x * g .result .count) (b .ensures), g .ensures .2 ∙ ap (λ x. a .freed + x * takenAt (a .freed) (a .excess) x (a .line) ps) (b .ensures), s .0, s .1 ∙ ap (λ x. laid 2 writeDoomed (a .cap) (a .first) (a .queued) (givenRecords (a .spares .now) x (a .from) (g .result .count)) (a .doomed .now)) (b .ensures), s .2)
+    let ps = parkings (a .spares .now) (a .from) (getD (a .textures .now) (textureStride * a .i + textureSparesAt) 0) in
+    (e, g .ensures .1, g .ensures .0 ∙ ap (λ x. gives (a .freed) (a .excess) x (a .line) ps) (b .ensures), ap (λ x. x * g .result .count) (b .ensures), g .ensures .2 ∙ ap (λ x. a .freed + x * takenAt (a .freed) (a .excess) x (a .line) ps) (b .ensures), s .0, s .1 ∙ ap (λ x. laid doomedStride writeDoomed (a .cap) (a .first) (a .queued) (givenRecords (a .spares .now) x (a .from) (g .result .count)) (a .doomed .now)) (b .ensures), s .2)
 
 pub relieve-texture-spec : {M : Type 1} → statement M
 relieve-texture-spec =

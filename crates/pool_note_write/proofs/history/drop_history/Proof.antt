@@ -7,6 +7,7 @@ use Rattle.base_blocks.specs.Blocks.{moved}
 use Rattle.pool_note_write.specs.History.{pagesUpTo, pagesHere}
 use Rattle.pool_note_write.proofs.history.drop_history.Statement.{statement}
 use Rattle.pool_note_write.proofs.history.drop_history.Tie as tie
+use Rattle.grid_stamps.specs.StampConstants.{pageStamps}
 
 pages-before-requires : tie.Need-pages-before-requires
 unfolding pagesUpTo pagesHere
@@ -39,7 +40,7 @@ returns c =
     let pages = b .before .before .before .pages-at .ensures in (
       ap (λ (n : ℕ). a .used - n) pages,
       b .remove-pages .ensures .0 ∙ ap₂ (λ (p n : ℕ). moved (a .newest .now) p (p + n) (a .used - (p + n))) page pages,
-      b .remove-pages .ensures .1 ∙ ap₂ (λ (p n : ℕ). moved (a .stamps .now) (1024 * p) (1024 * p + 1024 * n) (1024 * (a .used - (p + n)))) page pages,
+      b .remove-pages .ensures .1 ∙ ap₂ (λ (p n : ℕ). moved (a .stamps .now) (pageStamps * p) (pageStamps * p + pageStamps * n) (pageStamps * (a .used - (p + n)))) page pages,
     )
 
 pub drop-history-spec : {M : Type 1} → statement M

@@ -8,6 +8,7 @@ use Rattle.pool_records.specs.Texture.{writeTexture}
 use Rattle.pool_note_write.specs.History.{recordedAs}
 use Rattle.pool_note_write.proofs.history.set_history.Statement.{statement}
 use Rattle.pool_note_write.proofs.history.set_history.Tie as tie
+use Rattle.pool_records.specs.RecordConstants.{textureStride}
 
 texture-at-requires : tie.Need-texture-at-requires
 texture-at-requires c κs = search needs
@@ -22,7 +23,7 @@ returns : tie.Need-returns
 returns c =
     let b = c .before .before in
     let a = b .before .before .before .before .before .before .args in
-    b .put-texture .ensures ∙ ap (λ (t : TextureRecord). sets (a .textures .now) (20 * a .i) (writeTexture (recordedAs (a .history) t))) (b .before .before .before .texture-at .ensures)
+    b .put-texture .ensures ∙ ap (λ (t : TextureRecord). sets (a .textures .now) (textureStride * a .i) (writeTexture (recordedAs (a .history) t))) (b .before .before .before .texture-at .ensures)
 
 pub set-history-spec : {M : Type 1} → statement M
 set-history-spec =

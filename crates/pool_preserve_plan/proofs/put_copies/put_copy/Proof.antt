@@ -10,6 +10,7 @@ use Rattle.pool_preserve_plan.proofs.Passes.{list-none, list-one, copy-
 use borrow.Author.Needs.{needs}
 use Rattle.pool_preserve_plan.proofs.put_copies.put_copy.Statement.{statement}
 use Rattle.pool_preserve_plan.proofs.put_copies.put_copy.Tie as tie
+use Rattle.pool_memory.specs.MemoryConstants.{copyStride}
 
 enum-known-planned : tie.Need-enum-known-planned
 enum-known-planned c = search needs
@@ -52,7 +53,7 @@ returns-2 c =
     let e = list-one (a .planned) (r .0 .0) (a .slice) (a .level) (r .1) in (
       omega (arith, ap length e),
       c .before .before .put-record .ensures
-          ∙ ap (sets (a .buffer .now) (7 * a .at)) (n .copy-numbers .ensures)
+          ∙ ap (sets (a .buffer .now) (copyStride * a .at)) (n .copy-numbers .ensures)
           ∙ sym (ap (λ cs. withCopies (a .at) cs (a .buffer .now)) e ∙ with-one (a .at) copy (a .buffer .now)),
     )
 

@@ -11,6 +11,7 @@ use Rattle.pool_preserve_plan.proofs.Passes.{rest, rest-all, count-more
 use borrow.Author.Needs.{needs}
 use Rattle.pool_preserve_plan.proofs.put_copies.put_slice.Statement.{statement}
 use Rattle.pool_preserve_plan.proofs.put_copies.put_slice.Tie as tie
+use Rattle.pool_memory.specs.MemoryConstants.{copyStride}
 
 abbrev Inv-loop : tie.InvT-loop
 Inv-loop buffer₀ at newest stamps shape since upload slice count₀ level₀ buffer count level =
@@ -48,7 +49,7 @@ module _ (c : tie.After-copy-at Inv-loop μ-loop) where
   unfolding copiesAt
   copied = ap (λ (p : Planned). copyList p (entry .args .slice) (turn .loop .level)) (c .copy-at .ensures)
 
-  room : 7 * (turn .loop .count + length (copyList (c .copy-at .result) (entry .args .slice) (turn .loop .level))) ≤ length (turn .loop .buffer)
+  room : copyStride * (turn .loop .count + length (copyList (c .copy-at .result) (entry .args .slice) (turn .loop .level))) ≤ length (turn .loop .buffer)
   room =
       let e = next-room (levelCopies entry) (entry .args .shape .levels) (turn .loop .level) (turn .loop .count) _ (length (entry .args .buffer .now))
       (c .before .if1 .taken) (turn .loop .inv .2) (entry .pre .3) in

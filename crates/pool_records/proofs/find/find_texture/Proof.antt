@@ -11,6 +11,7 @@ use Rattle.pool_records.specs.Find.{textures, below}
 use Rattle.pool_records.proofs.Places.{search-past, search-before, search-count, search-end}
 use Rattle.pool_records.proofs.find.find_texture.Statement.{statement}
 use Rattle.pool_records.proofs.find.find_texture.Tie as tie
+use Rattle.pool_records.specs.RecordConstants.{textureStride}
 
 abbrev Inv-loop : tie.InvT-loop
 Inv-loop s n id lo₀ hi₀ lo hi = (lo ≤ below id (textures n s)) × (below id (textures n s) ≤ hi) × (hi ≤ n)
@@ -28,7 +29,7 @@ abbrev μ-loop2 : tie.MeasureT-loop2
 -- the place among those looked at, with one more
 counted : (c : tie.After-shared-slice-known2 Inv-loop μ-loop Inv-loop2 μ-loop2) →
     let a = c .before .before .before .before .before .args in
-    c .before .before .loop2 .place + boolByte (ltb (getD (a .s .now) (20 * c .before .before .loop2 .lo) 0) (a .id))
+    c .before .before .loop2 .place + boolByte (ltb (getD (a .s .now) (textureStride * c .before .before .loop2 .lo) 0) (a .id))
     ≡ min (c .before .before .loop2 .lo + 1) (below (a .id) (textures (a .n) (a .s .now)))
 counted c =
     let b = c .before .before in

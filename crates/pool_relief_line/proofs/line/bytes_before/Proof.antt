@@ -14,13 +14,14 @@ use Rattle.pool_relief_line.specs.Parked.{bytesFrom, recordSpares, recor
 use Rattle.pool_relief_line.proofs.Parked.{spares-rest, bytes-rest, before-rest, before-done, counted-bytes}
 use Rattle.pool_relief_line.proofs.line.bytes_before.Statement.{statement}
 use Rattle.pool_relief_line.proofs.line.bytes_before.Tie as tie
+use Rattle.pool_records.specs.RecordConstants.{textureSparesAt, textureStride}
 
 abbrev Inv-loop : tie.InvT-loop
 Inv-loop textures n spares line sum₀ from₀ i₀ sum from i =
     (i ≤ n)
-    × (from + total recordSpares (left (recordAt 20 readTexture textures) n i) ≡ total recordSpares (table 20 readTexture n textures))
-    × (sum + total recordBytes (left (recordAt 20 readTexture textures) n i) ≤ 72057594037927936)
-    × (sum + bytesFrom spares line from (left (recordAt 20 readTexture textures) n i) ≡ bytesFrom spares line 0 (table 20 readTexture n textures))
+    × (from + total recordSpares (left (recordAt textureStride readTexture textures) n i) ≡ total recordSpares (table textureStride readTexture n textures))
+    × (sum + total recordBytes (left (recordAt textureStride readTexture textures) n i) ≤ 72057594037927936)
+    × (sum + bytesFrom spares line from (left (recordAt textureStride readTexture textures) n i) ≡ bytesFrom spares line 0 (table textureStride readTexture n textures))
 
 abbrev μ-loop : tie.MeasureT-loop
 μ-loop textures n spares line sum₀ from₀ i₀ sum from i = n - i
@@ -29,7 +30,7 @@ loop-holds : tie.Need-loop-holds Inv-loop μ-loop
 loop-holds c =
     let a = c .before .before .args in
     let f = c .before .before .pre in
-    let all = table-left 20 readTexture (a .n) (a .textures .now) in (
+    let all = table-left textureStride readTexture (a .n) (a .textures .now) in (
       search needs,
       omega (arith, ap (total recordSpares) all),
       omega (arith, ap (total recordBytes) all, f .bytes),
@@ -70,8 +71,8 @@ add-sum c =
       b .loop .inv .2,
       c .run-bytes .ensures,
       bytes-rest (a .textures .now) (a .spares .now) (a .n) (b .loop .i) h,
-      counted-bytes (bytesOf (recordAt 20 readTexture (a .textures .now) (b .loop .i) .shape)) (a .line) (a .spares .now) (b .loop .from)
-          (getD (a .textures .now) (20 * b .loop .i + 18) 0),
+      counted-bytes (bytesOf (recordAt textureStride readTexture (a .textures .now) (b .loop .i) .shape)) (a .line) (a .spares .now) (b .loop .from)
+          (getD (a .textures .now) (textureStride * b .loop .i + textureSparesAt) 0),
     )
 
 add-from : tie.Need-add-from Inv-loop μ-loop
@@ -98,7 +99,7 @@ loop-again c =
     let b = c .before .before .before in
     let a = b .before .before .before .args in
     let h = c .before .before .loop-test .taken in
-    let kept = getD (a .textures .now) (20 * b .loop .i + 18) 0 in (
+    let kept = getD (a .textures .now) (textureStride * b .loop .i + textureSparesAt) 0 in (
       omega (arith, h),
       omega (arith, b .loop .inv .1, spares-rest (a .textures .now) (a .spares .now) (a .n) (b .loop .i) h),
       omega (
@@ -106,7 +107,7 @@ loop-again c =
         b .loop .inv .2,
         c .run-bytes .ensures,
         bytes-rest (a .textures .now) (a .spares .now) (a .n) (b .loop .i) h,
-        counted-bytes (bytesOf (recordAt 20 readTexture (a .textures .now) (b .loop .i) .shape)) (a .line) (a .spares .now) (b .loop .from) kept,
+        counted-bytes (bytesOf (recordAt textureStride readTexture (a .textures .now) (b .loop .i) .shape)) (a .line) (a .spares .now) (b .loop .from) kept,
       ),
       omega (arith, b .loop .inv .3, c .run-bytes .ensures, before-rest (a .textures .now) (a .spares .now) (a .n) (b .loop .i) h (a .line) (b .loop .from)),
     )

@@ -10,6 +10,7 @@ use Rattle.pool_records.specs.Texture.{readTexture}
 use Rattle.pool_relief_line.proofs.Parked.{counted-bytes}
 use Rattle.pool_relief_line.proofs.line.run_bytes.Statement.{statement}
 use Rattle.pool_relief_line.proofs.line.run_bytes.Tie as tie
+use Rattle.pool_records.specs.RecordConstants.{textureStride}
 
 count-before-requires : tie.Need-count-before-requires
 count-before-requires c κs = search needs
@@ -17,7 +18,7 @@ count-before-requires c κs = search needs
 returns : tie.Need-returns
 returns c =
     let a = c .before .before .before .before .args in
-    let b = bytesOf (recordAt 20 readTexture (a .textures .now) (a .i) .shape) in
+    let b = bytesOf (recordAt textureStride readTexture (a .textures .now) (a .i) .shape) in
     sym (mul-zero b) ∙ ap (λ k. b * k) (sym (c .if1 .taken) ∙ c .before .count-before .ensures .1)
 
 version-bytes-requires : tie.Need-version-bytes-requires
@@ -26,7 +27,7 @@ version-bytes-requires c κs = search needs
 mul-result : tie.Need-mul-result
 mul-result c =
     let a = c .before .before .before .before .before .args in
-    let b = bytesOf (recordAt 20 readTexture (a .textures .now) (a .i) .shape) in
+    let b = bytesOf (recordAt textureStride readTexture (a .textures .now) (a .i) .shape) in
     omega (
       arith,
       ap₂ (λ x y. x * y) (c .version-bytes .ensures) (c .before .before .count-before .ensures .1),

@@ -12,16 +12,17 @@ use Rattle.pool_relief_line.specs.Parked.{recordSpares}
 use Rattle.pool_relief_line.proofs.Parked.{spares-rest}
 use Rattle.pool_relief_line.proofs.line.spare_count.Statement.{statement}
 use Rattle.pool_relief_line.proofs.line.spare_count.Tie as tie
+use Rattle.pool_records.specs.RecordConstants.{textureStride}
 
 abbrev Inv-loop : tie.InvT-loop
 Inv-loop textures n spares count₀ i₀ count i =
-    (i ≤ n) × (count + total recordSpares (left (recordAt 20 readTexture textures) n i) ≡ total recordSpares (table 20 readTexture n textures))
+    (i ≤ n) × (count + total recordSpares (left (recordAt textureStride readTexture textures) n i) ≡ total recordSpares (table textureStride readTexture n textures))
 
 abbrev μ-loop : tie.MeasureT-loop
 μ-loop textures n spares count₀ i₀ count i = n - i
 
 loop-holds : tie.Need-loop-holds Inv-loop μ-loop
-loop-holds c = (omega arith, omega (arith, ap (total recordSpares) (table-left 20 readTexture (c .args .n) (c .args .textures .now))))
+loop-holds c = (omega arith, omega (arith, ap (total recordSpares) (table-left textureStride readTexture (c .args .n) (c .args .textures .now))))
 
 mul-count : tie.Need-mul-count Inv-loop μ-loop
 mul-count c = omega (arith, c .loop-test, c .before .before .pre .fits, c .before .before .good)
@@ -58,7 +59,7 @@ returns : tie.Need-returns Inv-loop μ-loop
 returns c =
     let b = c .before in
     let a = b .before .args in
-    omega (arith, b .loop .inv .1, total-done (recordAt 20 readTexture (a .textures .now)) (a .n) recordSpares (b .loop .i) (c .loop-test .left))
+    omega (arith, b .loop .inv .1, total-done (recordAt textureStride readTexture (a .textures .now)) (a .n) recordSpares (b .loop .i) (c .loop-test .left))
 
 pub spare-count-spec : {M : Type 1} → statement M
 spare-count-spec =

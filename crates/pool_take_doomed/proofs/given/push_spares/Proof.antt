@@ -12,10 +12,11 @@ use Rattle.pool_take_doomed.specs.Given.{givenRecords}
 use Rattle.pool_take_doomed.proofs.Pushed.{given-none, given-more}
 use Rattle.pool_take_doomed.proofs.given.push_spares.Statement.{statement}
 use Rattle.pool_take_doomed.proofs.given.push_spares.Tie as tie
+use Rattle.pool_records.specs.RecordConstants.{doomedStride, spareStride}
 
 abbrev Inv-loop : tie.InvT-loop
 Inv-loop doomed₀ cap first n spares from k bytes j₀ doomed j =
-    (j ≤ k) × (length doomed ≡ length doomed₀) × (doomed ≡ laid 2 writeDoomed cap first n (givenRecords spares bytes from j) doomed₀)
+    (j ≤ k) × (length doomed ≡ length doomed₀) × (doomed ≡ laid doomedStride writeDoomed cap first n (givenRecords spares bytes from j) doomed₀)
 
 abbrev μ-loop : tie.MeasureT-loop
 μ-loop doomed₀ cap first n spares from k bytes j₀ doomed j = k - j
@@ -59,7 +60,7 @@ loop-again c =
       search needs,
       c .before .before .ring-push .kept .0 ∙ b .loop .inv .1,
       c .before .before .ring-push .ensures
-          ∙ ap (λ d. sets d (2 * placeOf (a .cap) (a .first) (a .n + b .loop .j)) (getD (a .spares .now) (3 * (a .from + b .loop .j)) 0 ∷ a .bytes ∷ [])) (b .loop .inv .2)
+          ∙ ap (λ d. sets d (doomedStride * placeOf (a .cap) (a .first) (a .n + b .loop .j)) (getD (a .spares .now) (spareStride * (a .from + b .loop .j)) 0 ∷ a .bytes ∷ [])) (b .loop .inv .2)
           ∙ given-more (a .cap) (a .first) (a .n) (a .spares .now) (a .bytes) (a .from) (a .doomed .now) (b .loop .j),
     )
 
@@ -71,7 +72,7 @@ returns c =
     let b = c .before in
     let a = b .before .before .before .args in
     let e : b .loop .j ≡ a .k = omega (arith, c .loop-test .left, b .loop .inv .0) in
-    b .loop .inv .2 ∙ ap (λ i. laid 2 writeDoomed (a .cap) (a .first) (a .n) (givenRecords (a .spares .now) (a .bytes) (a .from) i) (a .doomed .now)) e
+    b .loop .inv .2 ∙ ap (λ i. laid doomedStride writeDoomed (a .cap) (a .first) (a .n) (givenRecords (a .spares .now) (a .bytes) (a .from) i) (a .doomed .now)) e
 
 pub push-spares-spec : {M : Type 1} → statement M
 push-spares-spec =

@@ -9,6 +9,7 @@ use Rattle.pool_take_doomed.proofs.Batches.{bytes-none, bytes-more, byt
 use borrow.Author.Needs.{needs}
 use Rattle.pool_take_doomed.proofs.next_batch.bytes_of.Statement.{statement}
 use Rattle.pool_take_doomed.proofs.next_batch.bytes_of.Tie as tie
+use Rattle.pool_records.specs.RecordConstants.{doomedBytesAt, doomedStride}
 
 abbrev Inv-loop : tie.InvT-loop
 Inv-loop doomed cap first k sum₀ i₀ sum i = (i ≤ k) × (sum ≡ doomedBytes (doomedEntries cap first doomed i))
@@ -39,7 +40,7 @@ add-sum-2 c =
     let b = c .before in
     let a = b .before .before .before .before .args in
     let i = b .before .before .loop .i in
-    let e = ap (λ p. getD (a .doomed .now) (2 * p + 1) 0) (b .place .ensures .1) in
+    let e = ap (λ p. getD (a .doomed .now) (doomedStride * p + doomedBytesAt) 0) (b .place .ensures .1) in
     let h : i + 1 ≤ a .k = omega (arith, b .before .loop-test .taken) in
     let more = bytes-more (a .cap) (a .first) (a .doomed .now) i in
     let part = bytes-part (a .cap) (a .first) (a .doomed .now) (i + 1) (a .k) h in
@@ -56,7 +57,7 @@ loop-again c =
     let b = c .before in
     let a = b .before .before .before .before .args in (
       search needs,
-      ap₂ (λ x p. x + getD (a .doomed .now) (2 * p + 1) 0) (b .before .before .loop .inv .1) (b .place .ensures .1)
+      ap₂ (λ x p. x + getD (a .doomed .now) (doomedStride * p + doomedBytesAt) 0) (b .before .before .loop .inv .1) (b .place .ensures .1)
           ∙ bytes-more (a .cap) (a .first) (a .doomed .now) (b .before .before .loop .i),
     )
 

@@ -9,6 +9,7 @@ use Rattle.pool_take_doomed.proofs.Batches.{bytes-more, bytes-part, bat
 use borrow.Author.Needs.{needs}
 use Rattle.pool_take_doomed.proofs.next_batch.covering.Statement.{statement}
 use Rattle.pool_take_doomed.proofs.next_batch.covering.Tie as tie
+use Rattle.pool_records.specs.RecordConstants.{doomedBytesAt, doomedStride}
 
 abbrev Inv-loop : tie.InvT-loop
 Inv-loop doomed cap first n least excess count₀ bytes₀ count bytes =
@@ -65,7 +66,7 @@ add-bytes-2 c =
     let l = b .before .before .before in
     let a = l .before .before .before .args in
     let k = l .loop .count in
-    let e = ap (λ p. getD (a .doomed .now) (2 * p + 1) 0) (b .place .ensures .1) in
+    let e = ap (λ p. getD (a .doomed .now) (doomedStride * p + doomedBytesAt) 0) (b .place .ensures .1) in
     let h : k + 1 ≤ a .n = omega (arith, b .before .before .loop-test .taken) in
     let more = bytes-more (a .cap) (a .first) (a .doomed .now) k in
     let part = bytes-part (a .cap) (a .first) (a .doomed .now) (k + 1) (a .n) h in
@@ -83,7 +84,7 @@ loop-again c =
     let l = b .before .before .before in
     let a = l .before .before .before .args in
     let k = l .loop .count in
-    let e = ap (λ p. getD (a .doomed .now) (2 * p + 1) 0) (b .place .ensures .1) in (
+    let e = ap (λ p. getD (a .doomed .now) (doomedStride * p + doomedBytesAt) 0) (b .place .ensures .1) in (
       search needs,
       search needs,
       ap₂ (λ x y. x + y) (l .loop .inv .2) e ∙ bytes-more (a .cap) (a .first) (a .doomed .now) k,

@@ -6,6 +6,7 @@ use Rattle.pool_take_doomed.specs.NextBatch.{pacedOf}
 use borrow.Author.Needs.{needs}
 use Rattle.pool_take_doomed.proofs.next_batch.paced.Statement.{statement}
 use Rattle.pool_take_doomed.proofs.next_batch.paced.Tie as tie
+use Rattle.pool_rules.specs.RuleConstants.{minDestroysPerDrain}
 
 arrivals-sum-requires : tie.Need-arrivals-sum-requires
 arrivals-sum-requires c κs = search needs
@@ -32,7 +33,7 @@ returns c =
     let n = b .before .before .args .n in
     c .smaller .ensures
     ∙ ap (λ m. min m n) (b .larger .ensures)
-    ∙ ap (λ s. min (max 64 ((s + 7) / 8 + (n + 7) / 8)) n) (b .before .arrivals-sum .ensures)
+    ∙ ap (λ s. min (max minDestroysPerDrain ((s + 7) / 8 + (n + 7) / 8)) n) (b .before .arrivals-sum .ensures)
 
 pub paced-spec : {M : Type 1} → statement M
 paced-spec =

@@ -14,6 +14,7 @@ use Rattle.pool_trim.proofs.Ages.{bytes-read}
 use Rattle.pool_trim.proofs.Looks.{look-made}
 use Rattle.pool_trim.proofs.look_at.look_at.Statement.{statement}
 use Rattle.pool_trim.proofs.look_at.look_at.Tie as tie
+use Rattle.pool_records.specs.RecordConstants.{textureStride}
 
 mul-own : tie.Need-mul-own
 mul-own c = search needs
@@ -64,7 +65,7 @@ returns c =
     let n = c .before .before .before .before .before in
     let a = n .before .before .before .before .args in
     let own = spares-number (a .textures .now) (a .i) in
-    look-made (a .current) (recordAt 20 readTexture (a .textures .now) (a .i)) (agedCount (a .current) (listed (spareIn (a .spares .now)) (a .first) (recordAt 20 readTexture (a .textures .now) (a .i) .spares))) _ _ _ _ _ true own
+    look-made (a .current) (recordAt textureStride readTexture (a .textures .now) (a .i)) (agedCount (a .current) (listed (spareIn (a .spares .now)) (a .first) (recordAt textureStride readTexture (a .textures .now) (a .i) .spares))) _ _ _ _ _ true own
     (n .aged-count .ensures .1 ∙ ap (λ (m : ℕ). agedCount (a .current) (listed (spareIn (a .spares .now)) (a .first) m)) own)
     (c .before .before .before .before .pages-at .ensures) (c .before .before .due-after .ensures) (bytes-read (a .textures .now) (a .i))
     (sym (c .if1 .taken) ∙ c .before .is-idle .ensures)
@@ -75,7 +76,7 @@ returns-2 c =
     let n = c .before .before .before .before .before in
     let a = n .before .before .before .before .args in
     let own = spares-number (a .textures .now) (a .i) in
-    look-made (a .current) (recordAt 20 readTexture (a .textures .now) (a .i)) (agedCount (a .current) (listed (spareIn (a .spares .now)) (a .first) (recordAt 20 readTexture (a .textures .now) (a .i) .spares))) _ _ _ _ _ false own
+    look-made (a .current) (recordAt textureStride readTexture (a .textures .now) (a .i)) (agedCount (a .current) (listed (spareIn (a .spares .now)) (a .first) (recordAt textureStride readTexture (a .textures .now) (a .i) .spares))) _ _ _ _ _ false own
     (n .aged-count .ensures .1 ∙ ap (λ (m : ℕ). agedCount (a .current) (listed (spareIn (a .spares .now)) (a .first) m)) own)
     (c .before .before .before .before .pages-at .ensures) (c .before .before .due-after .ensures) (bytes-read (a .textures .now) (a .i))
     (sym (c .if1 .left) ∙ c .before .is-idle .ensures)

@@ -5,6 +5,9 @@ use native.Mathlib.Omega.{arith}
 use Rattle.test_replay.proofs.Parts.{put-back}
 use Rattle.test_replay.proofs.lists.run_next.Statement.{statement}
 use Rattle.test_replay.proofs.lists.run_next.Tie as tie
+use Rattle.grid_stamps.specs.StampConstants.{pageStamps}
+use Rattle.pool_memory.specs.MemoryConstants.{copyStride}
+use Rattle.pool_records.specs.RecordConstants.{doomedStride, retiringStride, spareStride, textureStride}
 
 write-all-requires : tie.Need-write-all-requires
 write-all-requires c κs = search needs
@@ -110,28 +113,28 @@ same-length c =
     let r = c .before .before .before .before .before .before .before .before .before .before .before .before .before .before .before .before .before .before in
     let z = r .before .before .before .before .before .before .before .before .before .before .before in
     let s = z .before .before .before .before .before .before .before .before .before .before .before .before .before in
-    put-back (s .args .textures .now) (r .run-list .last .1 .0) (20 * z .sizes-of .result .textures) (omega (arith, s .pre .0, z .sizes-of .ensures .0)) (r .run-list .kept .1 .0)
+    put-back (s .args .textures .now) (r .run-list .last .1 .0) (textureStride * z .sizes-of .result .textures) (omega (arith, s .pre .0, z .sizes-of .ensures .0)) (r .run-list .kept .1 .0)
 
 same-length-2 : tie.Need-same-length-2
 same-length-2 c =
     let r = c .before .before .before .before .before .before .before .before .before .before .before .before .before .before .before .before .before .before in
     let z = r .before .before .before .before .before .before .before .before .before .before .before in
     let s = z .before .before .before .before .before .before .before .before .before .before .before .before .before in
-    put-back (s .args .retiring .now) (r .run-list .last .1 .1 .0) (7 * z .sizes-of .result .versions) (omega (arith, s .pre .1, z .sizes-of .ensures .1)) (r .run-list .kept .1 .1 .0)
+    put-back (s .args .retiring .now) (r .run-list .last .1 .1 .0) (retiringStride * z .sizes-of .result .versions) (omega (arith, s .pre .1, z .sizes-of .ensures .1)) (r .run-list .kept .1 .1 .0)
 
 same-length-3 : tie.Need-same-length-3
 same-length-3 c =
     let r = c .before .before .before .before .before .before .before .before .before .before .before .before .before .before .before .before .before .before in
     let z = r .before .before .before .before .before .before .before .before .before .before .before in
     let s = z .before .before .before .before .before .before .before .before .before .before .before .before .before in
-    put-back (s .args .doomed .now) (r .run-list .last .1 .1 .1 .0) (2 * z .sizes-of .result .versions) (omega (arith, s .pre .2, z .sizes-of .ensures .1)) (r .run-list .kept .1 .1 .1 .0)
+    put-back (s .args .doomed .now) (r .run-list .last .1 .1 .1 .0) (doomedStride * z .sizes-of .result .versions) (omega (arith, s .pre .2, z .sizes-of .ensures .1)) (r .run-list .kept .1 .1 .1 .0)
 
 same-length-4 : tie.Need-same-length-4
 same-length-4 c =
     let r = c .before .before .before .before .before .before .before .before .before .before .before .before .before .before .before .before .before .before in
     let z = r .before .before .before .before .before .before .before .before .before .before .before in
     let s = z .before .before .before .before .before .before .before .before .before .before .before .before .before in
-    put-back (s .args .spares .now) (r .run-list .last .1 .1 .1 .1 .0) (3 * z .sizes-of .result .versions) (omega (arith, s .pre .3, z .sizes-of .ensures .1)) (r .run-list .kept .1 .1 .1 .1 .0)
+    put-back (s .args .spares .now) (r .run-list .last .1 .1 .1 .1 .0) (spareStride * z .sizes-of .result .versions) (omega (arith, s .pre .3, z .sizes-of .ensures .1)) (r .run-list .kept .1 .1 .1 .1 .0)
 
 same-length-5 : tie.Need-same-length-5
 same-length-5 c =
@@ -145,14 +148,14 @@ same-length-6 c =
     let r = c .before .before .before .before .before .before .before .before .before .before .before .before .before .before .before .before .before .before in
     let z = r .before .before .before .before .before .before .before .before .before .before .before in
     let s = z .before .before .before .before .before .before .before .before .before .before .before .before .before in
-    put-back (s .args .stamps .now) (r .run-list .last .1 .1 .1 .1 .1 .1 .0) (1024 * z .sizes-of .result .pages) (omega (arith, s .pre .5, z .sizes-of .ensures .2)) (r .run-list .kept .1 .1 .1 .1 .1 .1 .0)
+    put-back (s .args .stamps .now) (r .run-list .last .1 .1 .1 .1 .1 .1 .0) (pageStamps * z .sizes-of .result .pages) (omega (arith, s .pre .5, z .sizes-of .ensures .2)) (r .run-list .kept .1 .1 .1 .1 .1 .1 .0)
 
 same-length-7 : tie.Need-same-length-7
 same-length-7 c =
     let r = c .before .before .before .before .before .before .before .before .before .before .before .before .before .before .before .before .before .before in
     let z = r .before .before .before .before .before .before .before .before .before .before .before in
     let s = z .before .before .before .before .before .before .before .before .before .before .before .before .before in
-    put-back (s .args .copies .now) (r .run-list .last .1 .1 .1 .1 .1 .1 .1 .0) (7 * z .sizes-of .result .answers) (omega (arith, s .pre .6, z .sizes-of .ensures .3)) (r .run-list .kept .1 .1 .1 .1 .1 .1 .1 .0)
+    put-back (s .args .copies .now) (r .run-list .last .1 .1 .1 .1 .1 .1 .1 .0) (copyStride * z .sizes-of .result .answers) (omega (arith, s .pre .6, z .sizes-of .ensures .3)) (r .run-list .kept .1 .1 .1 .1 .1 .1 .1 .0)
 
 same-length-8 : tie.Need-same-length-8
 same-length-8 c =

@@ -15,6 +15,8 @@ use Rattle.pool_note_write.proofs.AtPlace.{page-small, page-below}
 use Rattle.pool_note_write.proofs.QueryCases.{dirty-page}
 use Rattle.pool_note_write.proofs.calls.dirty_tile.dirty_subresource.Statement.{statement}
 use Rattle.pool_note_write.proofs.calls.dirty_tile.dirty_subresource.Tie as tie
+use Rattle.grid_stamps.specs.StampConstants.{pageStamps}
+use Rattle.pool_rules.specs.RuleConstants.{mostPlaces}
 
 module _ (w : tie.After-page-of) where
   -- the page is one of the texture's, and so within the stamps
@@ -25,10 +27,10 @@ module _ (w : tie.After-page-of) where
       page-below (a .textures .now) (a .i) (s .pre .0) (a .slice) (a .level) (s .pre .2) _ (ap (λ (t : TextureRecord). t .shape .levels) (w .before .before .texture-at .ensures))
       (w .page-of .result) (w .page-of .ensures) (pagesEnd (a .textures .now) (a .i)) (omega arith)
 
-  room : 1024 * w .page-of .result + 1024 ≤ length (w .before .before .before .before .before .args .stamps .now)
+  room : pageStamps * w .page-of .result + pageStamps ≤ length (w .before .before .before .before .before .args .stamps .now)
   room = omega (arith, below, w .before .before .before .before .before .pre .1)
 
-  small : w .page-of .result ≤ 4096
+  small : w .page-of .result ≤ mostPlaces
   small = omega (arith, below, w .before .before .before .before .before .pre .0 .pages)
 
   shaped : isShape (w .before .before .texture-at .result .shape) ≡ true
@@ -73,14 +75,14 @@ dirty-tile-requires c κs =
     let w = c .before .before .before in
     let a = w .before .before .before .before .before .args in
     part-fits (w .before .before .texture-at .result .shape) (shaped w) (a .level) (record { x = 0; y = 0; width = 0; height = 0 }) 0 [] (a .stamps .now) (w .page-of .result) (room w)
-    (1024 * w .page-of .result + 1024 - 1024 * w .page-of .result) (c .before .before .across-axis .result) (c .before .down-axis .result) (omega arith) (c .before .before .across-axis .ensures) (c .before .down-axis .ensures)
+    (pageStamps * w .page-of .result + pageStamps - pageStamps * w .page-of .result) (c .before .before .across-axis .result) (c .before .down-axis .result) (omega arith) (c .before .before .across-axis .ensures) (c .before .down-axis .ensures)
 
 returns : tie.Need-returns
 returns c =
     let w = c .before .before .before .before in
     let a = w .before .before .before .before .before .args in
     dirty-page (a .textures .now) (a .stamps .now) (a .i) (a .slice) (a .level) (a .held) (w .before .before .texture-at .result) (w .before .before .texture-at .ensures) (w .page-of .result)
-    (1024 * w .page-of .result + 1024 - 1024 * w .page-of .result) (w .page-of .ensures) (omega arith) (tiled (c .before .before .before .across-axis .result) (c .before .before .down-axis .result))
+    (pageStamps * w .page-of .result + pageStamps - pageStamps * w .page-of .result) (w .page-of .ensures) (omega arith) (tiled (c .before .before .before .across-axis .result) (c .before .before .down-axis .result))
     (ap₂ tiled (c .before .before .before .across-axis .ensures) (c .before .before .down-axis .ensures)) (c .dirty-tile .result) (c .dirty-tile .ensures)
 
 pub dirty-subresource-spec : {M : Type 1} → statement M

@@ -8,6 +8,7 @@ use Rattle.pool_take_doomed.proofs.Cleared.{cleared-none, cleared-more}
 use borrow.Author.Needs.{needs}
 use Rattle.pool_take_doomed.proofs.calls.drain_versions.clear_spares.Statement.{statement}
 use Rattle.pool_take_doomed.proofs.calls.drain_versions.clear_spares.Tie as tie
+use Rattle.pool_records.specs.RecordConstants.{textureSparesAt, textureStride}
 
 abbrev Inv-loop : tie.InvT-loop
 Inv-loop textures₀ n i₀ textures i = (i ≤ n) × (length textures ≡ length textures₀) × (textures ≡ cleared i textures₀)
@@ -43,7 +44,7 @@ loop-again c =
     let i = l .loop .i in (
       search needs,
       simp length-set (search needs),
-      ap (λ t. set t (20 * i + 18) 0) (l .loop .inv .2) ∙ cleared-more s i (omega (arith, l .before .pre, c .loop-test .taken)),
+      ap (λ t. set t (textureStride * i + textureSparesAt) 0) (l .loop .inv .2) ∙ cleared-more s i (omega (arith, l .before .pre, c .loop-test .taken)),
     )
 
 same-length : tie.Need-same-length Inv-loop μ-loop

@@ -5,6 +5,7 @@ use Rattle.pool_take_doomed.specs.TakeDoomed.{takenBook}
 use borrow.Author.Needs.{needs}
 use Rattle.pool_take_doomed.proofs.calls.take_doomed.taken_book.Statement.{statement}
 use Rattle.pool_take_doomed.proofs.calls.take_doomed.taken_book.Tie as tie
+use Rattle.pool_rules.specs.RuleConstants.{destroySpreadDrains}
 
 add-t3 : tie.Need-add-t3
 add-t3 c = search needs
@@ -14,7 +15,7 @@ unfolding takenBook
 returns c =
     let b = c .before .args .book in
     let a = c .before .args .arrivals in
-    λ i. record { arrivals = a; slot = add-one (b .slot) i % 8; pressed = b .pressed; excess = 0 }
+    λ i. record { arrivals = a; slot = add-one (b .slot) i % destroySpreadDrains; pressed = b .pressed; excess = 0 }
 
 pub taken-book-spec : {M : Type 1} → statement M
 taken-book-spec = tie.close (tie.spec add-t3 returns)

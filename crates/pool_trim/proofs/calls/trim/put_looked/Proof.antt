@@ -10,6 +10,7 @@ use Rattle.pool_trim.specs.LookAt.{lookedRecord}
 use Rattle.pool_trim.proofs.Puts.{put-none, put-some, put-same}
 use Rattle.pool_trim.proofs.calls.trim.put_looked.Statement.{statement}
 use Rattle.pool_trim.proofs.calls.trim.put_looked.Tie as tie
+use Rattle.pool_records.specs.RecordConstants.{textureStride}
 
 returns : tie.Need-returns
 returns c =
@@ -67,7 +68,7 @@ returns-3 c =
     let o = c .before .before .before .before .before .before .before .before .before .before .before in
     let a = o .before .before .before .args in
     c .before .before .put-texture .ensures
-    ∙ ap (λ (t : TextureRecord). sets (a .textures .now) (20 * a .to) (writeTexture (lookedRecord (a .look) t))) (c .before .before .before .before .texture-at .ensures)
+    ∙ ap (λ (t : TextureRecord). sets (a .textures .now) (textureStride * a .to) (writeTexture (lookedRecord (a .look) t))) (c .before .before .before .before .texture-at .ensures)
     ∙ put-some (a .textures .now) (a .to) (a .i) (a .look) (o .if1 .left)
 
 pub put-looked-spec : {M : Type 1} → statement M

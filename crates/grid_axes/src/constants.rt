@@ -1,0 +1,9 @@
+// The numbers that have a name, each with its reason.
+
+// The smallest tile edge, in texels. The Rust: a write of a sprite's size covers a handful of tiles, so a copy is too large by
+// at most one tile on each side, while a small level keeps a grid of few tiles.
+pub const MIN_TILE_TEXELS: u64 = 16;
+
+// The most tiles along an axis. The Rust: this bounds a grid at 1,024 stamps, 8 KiB, whatever the texture's size, and so what a
+// rename reads; a level of 4,096 texels has tiles of 128.
+pub const MAX_TILES_PER_AXIS: u64 = 32;

@@ -1,0 +1,6 @@
+-- The numbers that have a name, each with its reason.
+use Prim.Native.Nat.{ℕ}
+
+-- The numbers of a copy in a plan's buffer.
+abbrev pub copyStride : ℕ
+copyStride = 7

@@ -1,0 +1,58 @@
+-- The numbers that have a name, each with its reason.
+use Prim.Native.Nat.{ℕ}
+
+-- The numbers of a texture's record.
+abbrev pub textureStride : ℕ
+textureStride = 20
+
+-- The numbers of a retiring version's record.
+abbrev pub retiringStride : ℕ
+retiringStride = 7
+
+-- The numbers of a spare's record.
+abbrev pub spareStride : ℕ
+spareStride = 3
+
+-- The numbers of a doomed version's record.
+abbrev pub doomedStride : ℕ
+doomedStride = 2
+
+-- Where a texture's record has its levels.
+abbrev pub textureLevelsAt : ℕ
+textureLevelsAt = 5
+
+-- Where a texture's record has its kind.
+abbrev pub textureKindAt : ℕ
+textureKindAt = 6
+
+-- Where a texture's record has its history: 0 for none, or the writes and one.
+abbrev pub textureHistoryAt : ℕ
+textureHistoryAt = 14
+
+-- Where a texture's record has the submission of its last rename.
+abbrev pub textureRenameAt : ℕ
+textureRenameAt = 16
+
+-- Where a texture's record has the submission that it is looked at again from.
+abbrev pub textureDueAt : ℕ
+textureDueAt = 17
+
+-- Where a texture's record has how many spares it has.
+abbrev pub textureSparesAt : ℕ
+textureSparesAt = 18
+
+-- Where a texture's record has the bytes of one version.
+abbrev pub textureBytesAt : ℕ
+textureBytesAt = 19
+
+-- Where a spare's record has the writes that it holds: 0 for unknown, or the count and one.
+abbrev pub spareHeldAt : ℕ
+spareHeldAt = 1
+
+-- Where a spare's record has the submission that it was parked in.
+abbrev pub spareParkedAt : ℕ
+spareParkedAt = 2
+
+-- Where a doomed version's record has its bytes.
+abbrev pub doomedBytesAt : ℕ
+doomedBytesAt = 1
