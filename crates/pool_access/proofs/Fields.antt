@@ -16,7 +16,7 @@ use Rattle.pool_records.specs.declared.recorded.Recorded.{Recorded}
 use Rattle.pool_records.specs.declared.recorded.Recorded.the-variants.{Writes, NoHistory}
 use Rattle.pool_records.specs.declared.texture.TextureRecord.{TextureRecord}
 use Rattle.pool_records.specs.Recorded.{recordedOf}
-use Rattle.pool_records.specs.Texture.{readTexture}
+use Rattle.pool_records.specs.Texture.{readTexture, textureIn}
 use Rattle.pool_memory.specs.Reading.{recordPages, recordedPages}
 use Rattle.pool_records.specs.RecordConstants.{textureStride}
 
@@ -68,7 +68,7 @@ all-pages (suc n) s h = refl
 
 module _ (s : List ℕ) (i : ℕ) where
   abbrev texture : TextureRecord
-  texture = recordAt textureStride readTexture s i
+  texture = textureIn s i
 
   -- number k of the record
   abbrev number : ℕ → ℕ

@@ -9,9 +9,8 @@ use lib.Dec.{ltb, eqb}
 use lib.ListN.{getD}
 use Rattle.base_blocks.specs.Lists.{ascending}
 use Rattle.base_blocks.proofs.Lists.{and-both}
-use Rattle.base_tables.specs.Records.{recordAt}
 use Rattle.base_tables.proofs.Records.{length-table, getD-table}
-use Rattle.pool_records.specs.Texture.{readTexture}
+use Rattle.pool_records.specs.Texture.{readTexture, textureIn}
 use Rattle.pool_records.specs.Find.{textures, idOf, below}
 use Rattle.pool_records.proofs.Places.{id-at, below-found}
 use Rattle.pool_records.specs.RecordConstants.{textureStride}
@@ -19,29 +18,29 @@ use Rattle.pool_records.specs.RecordConstants.{textureStride}
 module _ (s : List ℕ) (n i id : ℕ) where
   -- record i is there and has the id
   abbrev pub hasId : Bool
-  hasId = ltb i n && eqb (idOf (recordAt textureStride readTexture s i)) id
+  hasId = ltb i n && eqb (idOf (textureIn s i)) id
 
   pub no-record : n ≤ i → false ≡ hasId
-  no-record h = sym (ap (λ (b : Bool). b && eqb (idOf (recordAt textureStride readTexture s i)) id) (le-ltb i n h))
+  no-record h = sym (ap (λ (b : Bool). b && eqb (idOf (textureIn s i)) id) (le-ltb i n h))
 
-  first-number : i < n → idOf (recordAt textureStride readTexture s i) ≡ getD s (textureStride * i) 0
+  first-number : i < n → idOf (textureIn s i) ≡ getD s (textureStride * i) 0
   first-number h = sym (ap idOf (getD-table textureStride readTexture n i s (readTexture []) h)) ∙ id-at n i s h
 
   pub by-number : i < n → eqb (getD s (textureStride * i) 0) id ≡ hasId
   by-number h = sym (ap₂ (λ (b : Bool) (k : ℕ). b && eqb k id) (lt-ltb i n h) (first-number h))
 
   -- the test passes: the texture is record i
-  pub found : hasId ≡ true → (i < n) × (idOf (recordAt textureStride readTexture s i) ≡ id)
+  pub found : hasId ≡ true → (i < n) × (idOf (textureIn s i) ≡ id)
   found e =
-      let q = and-both (ltb i n) (eqb (idOf (recordAt textureStride readTexture s i)) id) e in
-      (ltb-true i n (q .0), eqb-true (idOf (recordAt textureStride readTexture s i)) id (q .1))
+      let q = and-both (ltb i n) (eqb (idOf (textureIn s i)) id) e in
+      (ltb-true i n (q .0), eqb-true (idOf (textureIn s i)) id (q .1))
 
-  has : i < n → idOf (recordAt textureStride readTexture s i) ≡ id → hasId ≡ true
-  has h e = ap₂ (λ (a b : Bool). a && b) (lt-ltb i n h) (eq-eqb (idOf (recordAt textureStride readTexture s i)) id e)
+  has : i < n → idOf (textureIn s i) ≡ id → hasId ≡ true
+  has h e = ap₂ (λ (a b : Bool). a && b) (lt-ltb i n h) (eq-eqb (idOf (textureIn s i)) id e)
 
 -- it fails at the place of the id: no record has it
 pub not-found : (s : List ℕ) (n i id : ℕ) → ascending idOf (textures n s) ≡ true → i ≡ below id (textures n s) → hasId s n i id ≡ false
-    → (j : ℕ) → j < n → idOf (recordAt textureStride readTexture s j) ≡ id → ⊥
+    → (j : ℕ) → j < n → idOf (textureIn s j) ≡ id → ⊥
 not-found s n i id up place fails j h e =
     let d = readTexture [] in
     let same : i ≡ j =

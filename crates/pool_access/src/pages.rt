@@ -3,9 +3,8 @@ ghost use mathlib.Core.Path.{_≡_};
 ghost use Prim.Native.Nat.{_+_, _*_, _≤_};
 ghost use lib.ListN.{length};
 ghost use Rattle.base_blocks.specs.Lists.{total};
-ghost use Rattle.base_tables.specs.Records.{recordAt, table};
 ghost use Rattle.pool_rules.specs.Model.{pagesOf};
-ghost use Rattle.pool_records.specs.Texture.{readTexture};
+ghost use Rattle.pool_records.specs.Texture.{textureIn, texturesIn};
 ghost use Rattle.pool_memory.specs.Reading.{recordPages};
 ghost use Rattle.pool_records.specs.RecordConstants.{textureStride};
 ghost use Rattle.pool_rules.specs.RuleConstants.{mostPlaces};
@@ -40,8 +39,8 @@ pub fn history_pages(t: TextureRecord) -> usize
 
 // The pages that record i of the textures' slice claims, by three of its numbers: history, kind and levels.
 pub fn pages_at(textures: &[u64], i: usize) -> usize
-    requires { ⌜ (textureStride * i + textureStride ≤ length (now textures)) × (recordPages (recordAt textureStride readTexture (now textures) i) ≤ mostPlaces) ⌝ }
-    ensures { λ r. ⌜ r ≡ recordPages (recordAt textureStride readTexture (now (textures .entry)) i) ⌝ }
+    requires { ⌜ (textureStride * i + textureStride ≤ length (now textures)) × (recordPages (textureIn (now textures) i) ≤ mostPlaces) ⌝ }
+    ensures { λ r. ⌜ r ≡ recordPages (textureIn (now (textures .entry)) i) ⌝ }
 {
     if textures[TEXTURE_STRIDE * i + TEXTURE_HISTORY_AT] == 0 {
         return 0;
@@ -55,8 +54,8 @@ pub fn pages_at(textures: &[u64], i: usize) -> usize
 
 // How many pages the first i textures claim, which is where those of texture i begin.
 pub fn pages_before(textures: &[u64], i: usize) -> usize
-    requires { ⌜ (textureStride * i ≤ length (now textures)) × (total recordPages (table textureStride readTexture i (now textures)) ≤ mostPlaces) ⌝ }
-    ensures { λ r. ⌜ r ≡ total recordPages (table textureStride readTexture i (now (textures .entry))) ⌝ }
+    requires { ⌜ (textureStride * i ≤ length (now textures)) × (total recordPages (texturesIn i (now textures)) ≤ mostPlaces) ⌝ }
+    ensures { λ r. ⌜ r ≡ total recordPages (texturesIn i (now (textures .entry))) ⌝ }
 {
     let mut sum = 0;
     let mut j = 0;

@@ -7,10 +7,10 @@ ghost use lib.ListN.{length};
 ghost use lib.Seq.{sets};
 ghost use Rattle.base_blocks.specs.Blocks.{moved};
 ghost use Rattle.base_blocks.specs.Lists.{total};
-ghost use Rattle.base_tables.specs.Records.{recordAt, table};
+ghost use Rattle.base_tables.specs.Records.{recordAt};
 ghost use Rattle.pool_records.specs.Held.{HeldFits};
 ghost use Rattle.pool_records.specs.Spare.{readSpare, writeSpare};
-ghost use Rattle.pool_records.specs.Texture.{readTexture};
+ghost use Rattle.pool_records.specs.Texture.{texturesIn};
 ghost use Rattle.pool_records.specs.RecordConstants.{spareStride, textureStride};
 ghost use Rattle.pool_rules.specs.RuleConstants.{mostPlaces};
 use base_tables::insert_record;
@@ -43,8 +43,8 @@ pub fn insert_spare(s: &mut [u64], n: usize, k: usize, x: SpareRecord)
 // How many spares the first i textures have, which is where those of texture i begin. `textures` is the textures' slice, of which
 // the sum reads one number a record.
 pub fn spares_before(textures: &[u64], i: usize) -> usize
-    requires { ⌜ (textureStride * i ≤ length (now textures)) × (total (λ t. t .spares) (table textureStride readTexture i (now textures)) ≤ mostPlaces) ⌝ }
-    ensures { λ r. ⌜ r ≡ total (λ t. t .spares) (table textureStride readTexture i (now (textures .entry))) ⌝ }
+    requires { ⌜ (textureStride * i ≤ length (now textures)) × (total (λ t. t .spares) (texturesIn i (now textures)) ≤ mostPlaces) ⌝ }
+    ensures { λ r. ⌜ r ≡ total (λ t. t .spares) (texturesIn i (now (textures .entry))) ⌝ }
 {
     let mut sum = 0;
     let mut j = 0;
@@ -57,8 +57,8 @@ pub fn spares_before(textures: &[u64], i: usize) -> usize
 
 // How many spares the textures from `from` to `to` have.
 fn spares_between(textures: &[u64], from: usize, to: usize) -> usize
-    requires { ⌜ (textureStride * to ≤ length (now textures)) × (from ≤ to) × (total (λ t. t .spares) (table textureStride readTexture to (now textures)) ≤ mostPlaces) ⌝ }
-    ensures { λ r. ⌜ total (λ t. t .spares) (table textureStride readTexture from (now (textures .entry))) + r ≡ total (λ t. t .spares) (table textureStride readTexture to (now (textures .entry))) ⌝ }
+    requires { ⌜ (textureStride * to ≤ length (now textures)) × (from ≤ to) × (total (λ t. t .spares) (texturesIn to (now textures)) ≤ mostPlaces) ⌝ }
+    ensures { λ r. ⌜ total (λ t. t .spares) (texturesIn from (now (textures .entry))) + r ≡ total (λ t. t .spares) (texturesIn to (now (textures .entry))) ⌝ }
 {
     let mut sum = 0;
     let mut j = from;
@@ -88,8 +88,8 @@ fn fewer(n: usize, i: usize) -> Stretch
 
 // Where the spares of texture i begin, of n textures that have `kept` in all: summed up from the nearer end.
 pub fn first_spare(textures: &[u64], n: usize, kept: usize, i: usize) -> usize
-    requires { ⌜ (textureStride * n ≤ length (now textures)) × (i ≤ n) × (total (λ t. t .spares) (table textureStride readTexture n (now textures)) ≡ kept) × (kept ≤ mostPlaces) ⌝ }
-    ensures { λ r. ⌜ r ≡ total (λ t. t .spares) (table textureStride readTexture i (now (textures .entry))) ⌝ }
+    requires { ⌜ (textureStride * n ≤ length (now textures)) × (i ≤ n) × (total (λ t. t .spares) (texturesIn n (now textures)) ≡ kept) × (kept ≤ mostPlaces) ⌝ }
+    ensures { λ r. ⌜ r ≡ total (λ t. t .spares) (texturesIn i (now (textures .entry))) ⌝ }
 {
     let near = fewer(n, i);
     let sum = spares_between(textures, near.from, near.to);

@@ -6,10 +6,9 @@ ghost use lib.Dec.{ltb, eqb};
 ghost use lib.ListN.{length};
 ghost use lib.Seq.{sets};
 ghost use Rattle.base_blocks.specs.Blocks.{moved};
-ghost use Rattle.base_tables.specs.Records.{recordAt};
 ghost use Rattle.pool_records.specs.Find.{idOf};
 ghost use Rattle.pool_records.specs.Recorded.{RecordedFits};
-ghost use Rattle.pool_records.specs.Texture.{readTexture, writeTexture};
+ghost use Rattle.pool_records.specs.Texture.{writeTexture, textureIn};
 ghost use Rattle.pool_records.specs.RecordConstants.{textureStride};
 use base_tables::insert_record;
 use base_tables::put_record;
@@ -23,7 +22,7 @@ use pool_records::texture_numbers;
 // Record i.
 pub fn texture_at(s: &[u64], i: usize) -> TextureRecord
     requires { ⌜ textureStride * i + textureStride ≤ length (now s) ⌝ }
-    ensures { λ r. ⌜ r ≡ recordAt textureStride readTexture (now (s .entry)) i ⌝ }
+    ensures { λ r. ⌜ r ≡ textureIn (now (s .entry)) i ⌝ }
 {
     let part = record_at(s, TEXTURE_STRIDE, i);
     read_texture(part)
@@ -32,7 +31,7 @@ pub fn texture_at(s: &[u64], i: usize) -> TextureRecord
 // Whether record i, where a search among n ended, is there and has the id.
 pub fn has_id(s: &[u64], n: usize, i: usize, id: u64) -> bool
     requires { ⌜ textureStride * n ≤ length (now s) ⌝ }
-    ensures { λ r. ⌜ r ≡ (ltb i n && eqb (idOf (recordAt textureStride readTexture (now (s .entry)) i)) id) ⌝ }
+    ensures { λ r. ⌜ r ≡ (ltb i n && eqb (idOf (textureIn (now (s .entry)) i)) id) ⌝ }
 {
     if n <= i {
         return false;

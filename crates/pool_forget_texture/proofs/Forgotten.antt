@@ -16,7 +16,7 @@ use Rattle.pool_rules.specs.Updates.{withTextures, asDoomed, doomSpares}
 use Rattle.pool_rules.specs.ForgetTexture.{forgetTexture}
 use Rattle.pool_rules.proofs.Moves.{as-doomed-bytes, as-doomed-length}
 use Rattle.pool_records.specs.Doomed.{writeDoomed}
-use Rattle.pool_records.specs.Texture.{readTexture}
+use Rattle.pool_records.specs.Texture.{readTexture, textureIn}
 use Rattle.pool_records.specs.Find.{idOf}
 use Rattle.pool_memory.specs.declared.pool.Pool.{Pool as Counts}
 use Rattle.pool_memory.specs.Lent.{Lent, lent, versionPlaces}
@@ -41,7 +41,7 @@ use Rattle.pool_take_doomed.proofs.Pushed.{given-spares}
 use Rattle.pool_access.proofs.Totals.{total-next}
 use Rattle.pool_access.proofs.Ids.{hasId, found, not-found}
 use Rattle.pool_forget_texture.specs.declared.owned.Owned.{Owned}
-use Rattle.pool_forget_texture.specs.Owned.{textureIn, sparesTo, pagesTo, ownedAt, without}
+use Rattle.pool_forget_texture.specs.Owned.{sparesTo, pagesTo, ownedAt, without}
 use Rattle.pool_forget_texture.proofs.TextureRuns.{spares-in, spares-within, pages-within, bytes-within}
 use Rattle.grid_shapes.specs.ShapeConstants.{mostShapeBytes}
 use Rattle.grid_stamps.specs.StampConstants.{pageStamps}

@@ -2,24 +2,18 @@
 use Prim.Native.Nat.{ℕ, _+_, _-_, _*_}
 use mathlib.Core.List.{List}
 use Rattle.base_blocks.specs.Lists.{total}
-use Rattle.base_tables.specs.Records.{recordAt, table}
 use Rattle.pool_records.specs.declared.texture.TextureRecord.{TextureRecord}
-use Rattle.pool_records.specs.Texture.{readTexture}
+use Rattle.pool_records.specs.Texture.{textureIn, texturesIn}
 use Rattle.pool_memory.specs.declared.pool.Pool.{Pool as Counts}
 use Rattle.pool_memory.specs.Reading.{recordPages}
 use Rattle.pool_forget_texture.specs.declared.owned.Owned.{Owned}
-use Rattle.pool_records.specs.RecordConstants.{textureStride}
-
--- the record of texture i
-abbrev pub textureIn : List ℕ → ℕ → TextureRecord
-textureIn textures i = recordAt textureStride readTexture textures i
 
 -- where the spares and the pages of texture i begin
 abbrev pub sparesTo : List ℕ → ℕ → ℕ
-sparesTo textures i = total (λ (t : TextureRecord). t .spares) (table textureStride readTexture i textures)
+sparesTo textures i = total (λ (t : TextureRecord). t .spares) (texturesIn i textures)
 
 abbrev pub pagesTo : List ℕ → ℕ → ℕ
-pagesTo textures i = total recordPages (table textureStride readTexture i textures)
+pagesTo textures i = total recordPages (texturesIn i textures)
 
 unfoldable pub ownedAt : List ℕ → ℕ → Owned
 ownedAt textures i = record {

@@ -3,8 +3,7 @@ ghost use mathlib.Core.Path.{_≡_};
 ghost use Prim.Native.Nat.{_+_, _*_, _≤_, _<_, _^_};
 ghost use lib.ListN.{length};
 ghost use Rattle.base_blocks.specs.Lists.{total};
-ghost use Rattle.base_tables.specs.Records.{table};
-ghost use Rattle.pool_records.specs.Texture.{readTexture};
+ghost use Rattle.pool_records.specs.Texture.{texturesIn};
 ghost use Rattle.pool_memory.specs.Reading.{recordPages};
 ghost use Rattle.pool_forget_texture.specs.Owned.{ownedAt, without};
 ghost use Rattle.pool_records.specs.RecordConstants.{textureStride};
@@ -26,8 +25,8 @@ pub struct Owned {
 
 pub fn owned_at(textures: &[u64], i: usize) -> Owned
     requires { ⌜ (textureStride * i + textureStride ≤ length (now textures))
-        × (total (λ t. t .spares) (table textureStride readTexture (i + 1) (now textures)) ≤ mostPlaces)
-        × (total recordPages (table textureStride readTexture (i + 1) (now textures)) ≤ mostPlaces) ⌝ }
+        × (total (λ t. t .spares) (texturesIn (i + 1) (now textures)) ≤ mostPlaces)
+        × (total recordPages (texturesIn (i + 1) (now textures)) ≤ mostPlaces) ⌝ }
     ensures { λ r. ⌜ r ≡ ownedAt (now (textures .entry)) i ⌝ }
 {
     let t = texture_at(textures, i);

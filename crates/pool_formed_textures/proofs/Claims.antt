@@ -17,9 +17,10 @@ use Rattle.pool_records.specs.Find.{textures}
 use Rattle.pool_memory.specs.Reading.{recordPages}
 use Rattle.pool_formed_textures.specs.Textures.{isRecord, recordSpares, recordBytes, claim}
 use Rattle.pool_formed_textures.proofs.Tests.{same-test}
-use Rattle.pool_formed_textures.proofs.RecordTests.{textureAt, record-shape}
+use Rattle.pool_formed_textures.proofs.RecordTests.{record-shape}
 use Rattle.grid_shapes.specs.ShapeConstants.{mostShapeBytes}
 use Rattle.pool_rules.specs.RuleConstants.{mostPlaces}
+use Rattle.pool_records.specs.Texture.{textureIn}
 
 -- ---- spares and pages claimed: what is left of both
 
@@ -28,33 +29,33 @@ taken-off a k c r e h =
     same-test (eqb a (c + r)) (eqb (a - k) r) (λ p. eq-eqb (a - k) r (omega (arith, e, eqb-true a (c + r) p))) (λ p. eq-eqb a (c + r) (omega (arith, e, h, eqb-true (a - k) r p)))
 
 module _ (s : List ℕ) (n i : ℕ) (a b : ℕ) where
-  pub claim-done : n ≤ i → claim (left (textureAt s) n i) a b ≡ eqb a 0 && eqb b 0
+  pub claim-done : n ≤ i → claim (left (textureIn s) n i) a b ≡ eqb a 0 && eqb b 0
   unfolding claim tests after total
-  claim-done h = rw (left-none (textureAt s) n i h)
+  claim-done h = rw (left-none (textureIn s) n i h)
 
   module _ (h : i < n) where
     abbrev later : (TextureRecord → ℕ) → ℕ
-    later f = total f (left (textureAt s) n (i + 1))
+    later f = total f (left (textureIn s) n (i + 1))
 
-    claim-step : claim (left (textureAt s) n i) a b
-        ≡ eqb a (textureAt s i .spares + later recordSpares) && eqb b (recordPages (textureAt s i) + later recordPages)
+    claim-step : claim (left (textureIn s) n i) a b
+        ≡ eqb a (textureIn s i .spares + later recordSpares) && eqb b (recordPages (textureIn s i) + later recordPages)
     unfolding claim tests after total
-    claim-step = rw (left-step (textureAt s) n i h)
+    claim-step = rw (left-step (textureIn s) n i h)
 
-    pub claim-more : (k m : ℕ) → k ≡ textureAt s i .spares → m ≡ recordPages (textureAt s i) → k ≤ a → m ≤ b
-        → claim (left (textureAt s) n i) a b ≡ claim (left (textureAt s) n (i + 1)) (a - k) (b - m)
+    pub claim-more : (k m : ℕ) → k ≡ textureIn s i .spares → m ≡ recordPages (textureIn s i) → k ≤ a → m ≤ b
+        → claim (left (textureIn s) n i) a b ≡ claim (left (textureIn s) n (i + 1)) (a - k) (b - m)
     unfolding claim tests after
     claim-more k m ek em ha hb =
         claim-step
-        ∙ ap₂ (λ (x y : Bool). x && y) (taken-off a k (textureAt s i .spares) (later recordSpares) ek ha) (taken-off b m (recordPages (textureAt s i)) (later recordPages) em hb)
+        ∙ ap₂ (λ (x y : Bool). x && y) (taken-off a k (textureIn s i .spares) (later recordSpares) ek ha) (taken-off b m (recordPages (textureIn s i)) (later recordPages) em hb)
 
-    pub claim-short : (k : ℕ) → k ≡ textureAt s i .spares → a < k → claim (left (textureAt s) n i) a b ≡ false
-    claim-short k e q = claim-step ∙ rw (ne-eqb a (textureAt s i .spares + later recordSpares) (λ z. let y : ⊥ = omega (arith, z, e) in y))
+    pub claim-short : (k : ℕ) → k ≡ textureIn s i .spares → a < k → claim (left (textureIn s) n i) a b ≡ false
+    claim-short k e q = claim-step ∙ rw (ne-eqb a (textureIn s i .spares + later recordSpares) (λ z. let y : ⊥ = omega (arith, z, e) in y))
 
-    pub claim-cut : (m : ℕ) → m ≡ recordPages (textureAt s i) → b < m → claim (left (textureAt s) n i) a b ≡ false
+    pub claim-cut : (m : ℕ) → m ≡ recordPages (textureIn s i) → b < m → claim (left (textureIn s) n i) a b ≡ false
     claim-cut m e q =
         claim-step
-        ∙ rw (ne-eqb b (recordPages (textureAt s i) + later recordPages) (λ z. let y : ⊥ = omega (arith, z, e) in y)) (and-false (eqb a (textureAt s i .spares + later recordSpares)))
+        ∙ rw (ne-eqb b (recordPages (textureIn s i) + later recordPages) (λ z. let y : ⊥ = omega (arith, z, e) in y)) (and-false (eqb a (textureIn s i .spares + later recordSpares)))
 
 -- ---- parked bytes
 
@@ -69,9 +70,9 @@ parked-bound (t ∷ ts) e =
 
 -- ---- a running sum of the bytes
 
-module _ (s : List ℕ) (n i sum b : ℕ) (h : i < n) (so-far : sum + total recordBytes (left (textureAt s) n i) ≡ total recordBytes (textures n s)) (e : b ≡ recordBytes (textureAt s i)) where
-  pub parked-more : sum + b + total recordBytes (left (textureAt s) n (i + 1)) ≡ total recordBytes (textures n s)
-  parked-more = omega (arith, so-far, e, total-more (textureAt s) n recordBytes i h)
+module _ (s : List ℕ) (n i sum b : ℕ) (h : i < n) (so-far : sum + total recordBytes (left (textureIn s) n i) ≡ total recordBytes (textures n s)) (e : b ≡ recordBytes (textureIn s i)) where
+  pub parked-more : sum + b + total recordBytes (left (textureIn s) n (i + 1)) ≡ total recordBytes (textures n s)
+  parked-more = omega (arith, so-far, e, total-more (textureIn s) n recordBytes i h)
 
   pub parked-room : all isRecord (textures n s) ≡ true → total recordSpares (textures n s) ≤ mostPlaces → sum + b ≤ 72057594037927936
   parked-room ok q = omega (arith, parked-more, parked-bound (textures n s) ok, q)

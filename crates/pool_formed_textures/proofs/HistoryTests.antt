@@ -22,8 +22,8 @@ use Rattle.pool_records.specs.declared.texture.TextureRecord.{TextureRecord}
 use Rattle.pool_memory.specs.Reading.{recordPages, recordedPages}
 use Rattle.pool_memory.specs.IsPool.{isGrid}
 use Rattle.pool_formed_textures.specs.Textures.{gridsFit, historyFits, historiesFit}
-use Rattle.pool_formed_textures.proofs.RecordTests.{textureAt}
 use Rattle.grid_stamps.specs.StampConstants.{pageStamps}
+use Rattle.pool_records.specs.Texture.{textureIn}
 
 -- ---- grids
 
@@ -65,17 +65,17 @@ pages-writes t u n e h = sym (ap recordPages e) ∙ ap (λ (r : Recorded). recor
 -- ---- histories
 
 module _ (newest stamps s : List ℕ) (n i page : ℕ) where
-  pub histories-done : n ≤ i → historiesFit newest stamps page (left (textureAt s) n i) ≡ true
+  pub histories-done : n ≤ i → historiesFit newest stamps page (left (textureIn s) n i) ≡ true
   unfolding historiesFit
-  histories-done h = rw (left-none (textureAt s) n i h)
+  histories-done h = rw (left-none (textureIn s) n i h)
 
   module _ (h : i < n) where
-    pub histories-more : (m : ℕ) → m ≡ recordPages (textureAt s i) → historyFits newest stamps (textureAt s i .shape) page (textureAt s i .history) ≡ true
-        → historiesFit newest stamps page (left (textureAt s) n i) ≡ historiesFit newest stamps (page + m) (left (textureAt s) n (i + 1))
+    pub histories-more : (m : ℕ) → m ≡ recordPages (textureIn s i) → historyFits newest stamps (textureIn s i .shape) page (textureIn s i .history) ≡ true
+        → historiesFit newest stamps page (left (textureIn s) n i) ≡ historiesFit newest stamps (page + m) (left (textureIn s) n (i + 1))
     unfolding historiesFit
-    histories-more m e t = rw (left-step (textureAt s) n i h, t, e)
+    histories-more m e t = rw (left-step (textureIn s) n i h, t, e)
 
-    pub histories-stop : historyFits newest stamps (textureAt s i .shape) page (textureAt s i .history) ≡ false
-        → historiesFit newest stamps page (left (textureAt s) n i) ≡ false
+    pub histories-stop : historyFits newest stamps (textureIn s i .shape) page (textureIn s i .history) ≡ false
+        → historiesFit newest stamps page (left (textureIn s) n i) ≡ false
     unfolding historiesFit
-    histories-stop t = rw (left-step (textureAt s) n i h, t)
+    histories-stop t = rw (left-step (textureIn s) n i h, t)

@@ -20,7 +20,7 @@ use Rattle.grid_shapes.proofs.Shapes.{shape-bounds, slices-bound}
 use Rattle.grid_shapes.proofs.ShapeBytes.{bytes-bound}
 use Rattle.pool_rules.specs.Model.{limit}
 use Rattle.pool_records.specs.declared.texture.TextureRecord.{TextureRecord}
-use Rattle.pool_records.specs.Texture.{readTexture}
+use Rattle.pool_records.specs.Texture.{readTexture, textureIn}
 use Rattle.pool_records.specs.Find.{textures, idOf}
 use Rattle.pool_records.proofs.Codecs.{texture-codec}
 use Rattle.pool_memory.specs.IsPool.{bytesHold}
@@ -33,29 +33,25 @@ use Rattle.pool_rules.specs.RuleConstants.{mostPlaces}
 
 -- ---- records
 
--- record i of the textures' slice
-abbrev pub textureAt : List ℕ → ℕ → TextureRecord
-textureAt s i = recordAt textureStride readTexture s i
-
 -- read out of the part of the slice that holds it
-pub texture-read : (s : List ℕ) (i : ℕ) (p : List ℕ) → p ≡ take textureStride (drop (textureStride * i) s) → readTexture p ≡ textureAt s i
+pub texture-read : (s : List ℕ) (i : ℕ) (p : List ℕ) → p ≡ take textureStride (drop (textureStride * i) s) → readTexture p ≡ textureIn s i
 texture-read s i p e = ap readTexture e ∙ record-part texture-codec s i
 
 -- ---- ids
 
-id-here : (s : List ℕ) (i : ℕ) → getD s (textureStride * i) 0 ≡ idOf (textureAt s i)
+id-here : (s : List ℕ) (i : ℕ) → getD s (textureStride * i) 0 ≡ idOf (textureIn s i)
 unfolding recordAt readTexture
 id-here s i = sym (getD-drop (textureStride * i) s 0 0 ∙ ap (λ (k : ℕ). getD s k 0) (add-zero (textureStride * i)))
 
-id-next : (s : List ℕ) (i : ℕ) → getD s (textureStride * i + textureStride) 0 ≡ idOf (textureAt s (i + 1))
+id-next : (s : List ℕ) (i : ℕ) → getD s (textureStride * i + textureStride) 0 ≡ idOf (textureIn s (i + 1))
 id-next s i = ap (λ (k : ℕ). getD s k 0) (let e : textureStride * i + textureStride ≡ textureStride * (i + 1) = omega arith in e) ∙ id-here s (i + 1)
 
 module _ (s : List ℕ) (n i : ℕ) (h : i + 1 < n) where
-  pub ids-more : getD s (textureStride * i) 0 < getD s (textureStride * i + textureStride) 0 → ascending idOf (left (textureAt s) n i) ≡ ascending idOf (left (textureAt s) n (i + 1))
-  ids-more q = ascending-more (textureAt s) n idOf i h (lt-ltb (idOf (textureAt s i)) (idOf (textureAt s (i + 1))) (omega (arith, id-here s i, id-next s i)))
+  pub ids-more : getD s (textureStride * i) 0 < getD s (textureStride * i + textureStride) 0 → ascending idOf (left (textureIn s) n i) ≡ ascending idOf (left (textureIn s) n (i + 1))
+  ids-more q = ascending-more (textureIn s) n idOf i h (lt-ltb (idOf (textureIn s i)) (idOf (textureIn s (i + 1))) (omega (arith, id-here s i, id-next s i)))
 
-  pub ids-stop : getD s (textureStride * i + textureStride) 0 ≤ getD s (textureStride * i) 0 → ascending idOf (left (textureAt s) n i) ≡ false
-  ids-stop q = ascending-stop (textureAt s) n idOf i h (le-ltb (idOf (textureAt s i)) (idOf (textureAt s (i + 1))) (omega (arith, id-here s i, id-next s i)))
+  pub ids-stop : getD s (textureStride * i + textureStride) 0 ≤ getD s (textureStride * i) 0 → ascending idOf (left (textureIn s) n i) ≡ false
+  ids-stop q = ascending-stop (textureIn s) n idOf i h (le-ltb (idOf (textureIn s i)) (idOf (textureIn s (i + 1))) (omega (arith, id-here s i, id-next s i)))
 
 -- ---- single records
 
@@ -90,19 +86,19 @@ unfolding isRecord
 record-holds t e = passed _ e 6
 
 module _ (s : List ℕ) (n : ℕ) (ok : all isRecord (textures n s) ≡ true) where
-  pub shape-at : (i : ℕ) → i < n → isShape (textureAt s i .shape) ≡ true
+  pub shape-at : (i : ℕ) → i < n → isShape (textureIn s i .shape) ≡ true
   shape-at i h =
       let e = getD-table textureStride readTexture n i s (readTexture []) h in
       let f = all-get isRecord (textures n s) i (readTexture []) ok (omega (arith, length-table textureStride readTexture n s)) in
-      record-shape (textureAt s i) (rw e at f)
+      record-shape (textureIn s i) (rw e at f)
 
-  pub bytes-at : (i : ℕ) → i < n → textureAt s i .bytes ≡ bytesOf (textureAt s i .shape)
+  pub bytes-at : (i : ℕ) → i < n → textureIn s i .bytes ≡ bytesOf (textureIn s i .shape)
   bytes-at i h =
       let e = getD-table textureStride readTexture n i s (readTexture []) h in
       let f = all-get isRecord (textures n s) i (readTexture []) ok (omega (arith, length-table textureStride readTexture n s)) in
-      bytes-held (textureAt s i) (record-holds (textureAt s i) (rw e at f))
+      bytes-held (textureIn s i) (record-holds (textureIn s i) (rw e at f))
 
-pub spares-at : (s : List ℕ) (n i : ℕ) → i < n → textureAt s i .spares ≤ total recordSpares (textures n s)
+pub spares-at : (s : List ℕ) (n i : ℕ) → i < n → textureIn s i .spares ≤ total recordSpares (textures n s)
 spares-at s n i h =
     let e = getD-table textureStride readTexture n i s (readTexture []) h in
     let f = total-get recordSpares (textures n s) i (readTexture []) (omega (arith, length-table textureStride readTexture n s)) in
@@ -117,6 +113,6 @@ module _ (s : List ℕ) (i : ℕ) (p : List ℕ) (e : p ≡ take textureStride (
   pub read-bytes : (n : ℕ) → all isRecord (textures n s) ≡ true → i < n → readTexture p .bytes ≡ bytesOf (readTexture p .shape)
   read-bytes n ok h = subst (λ (t : TextureRecord). t .bytes ≡ bytesOf (t .shape)) (sym (texture-read s i p e)) (bytes-at s n ok i h)
 
-  pub read-spares : getD p textureSparesAt 0 ≡ textureAt s i .spares
+  pub read-spares : getD p textureSparesAt 0 ≡ textureIn s i .spares
   unfolding readTexture
   read-spares = ap (λ (t : TextureRecord). t .spares) (texture-read s i p e)

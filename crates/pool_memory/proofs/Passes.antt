@@ -13,7 +13,7 @@ use Rattle.base_tables.specs.Records.{recordAt, table, flat}
 use Rattle.pool_rules.specs.Model.{Spare, VersionState, Pool}
 use Rattle.pool_records.specs.declared.texture.TextureRecord.{TextureRecord}
 use Rattle.pool_records.specs.declared.spare.SpareRecord.{SpareRecord}
-use Rattle.pool_records.specs.Texture.{readTexture, writeTexture}
+use Rattle.pool_records.specs.Texture.{readTexture, writeTexture, textureIn}
 use Rattle.pool_records.specs.Spare.{readSpare, writeSpare}
 use Rattle.pool_records.specs.Find.{idOf}
 use Rattle.pool_records.proofs.Codecs.{texture-codec, spare-codec}
@@ -54,7 +54,7 @@ module _ (l : Lent) (p : Pool ℕ) (e : p .textures ≡ []) where
 -- ---- what is not packed yet stands as it was
 
 module _ (l : Lent) (p : Pool ℕ) where
-  pub texture-unread : (j : ℕ) → length (p .textures) ≤ j → recordAt textureStride readTexture (texturesAfter p l) j ≡ recordAt textureStride readTexture (l .textures) j
+  pub texture-unread : (j : ℕ) → length (p .textures) ≤ j → textureIn (texturesAfter p l) j ≡ textureIn (l .textures) j
   unfolding texturesAfter
   texture-unread j h =
       packed-read texture-codec (l .textures) (map textureRecord (p .textures)) j (omega (arith, length-map (p .textures) textureRecord))

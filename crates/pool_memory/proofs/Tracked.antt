@@ -9,14 +9,13 @@ use lib.ListN.{length, getD}
 use Rattle.base_blocks.specs.Lists.{total}
 use Rattle.base_blocks.proofs.Lists.{all-get}
 use Rattle.base_blocks.proofs.All.{all-at}
-use Rattle.base_tables.specs.Records.{recordAt, table}
 use Rattle.base_tables.proofs.Records.{getD-table, take-table}
 use Rattle.grid_shapes.specs.Shapes.{isShape, bytesOf}
 use Rattle.pool_rules.specs.Model.{WriteHistory, pagesUsed}
 use Rattle.pool_rules.specs.Formed.{Given, HistoryFormed, StateFormed}
 use Rattle.pool_records.specs.declared.texture.TextureRecord.{TextureRecord}
 use Rattle.pool_records.specs.Recorded.{RecordedFits, recordedNumber}
-use Rattle.pool_records.specs.Texture.{readTexture}
+use Rattle.pool_records.specs.Texture.{readTexture, textureIn, texturesIn}
 use Rattle.pool_memory.specs.Lent.{Lent}
 use Rattle.pool_memory.specs.Reading.{trackedRecords, recordPages, stateRead, modelOf}
 use Rattle.pool_memory.specs.Writing.{recordedOf, textureRecord}
@@ -28,18 +27,18 @@ use Rattle.pool_records.specs.RecordConstants.{textureStride}
 
 -- the record that the code reads
 abbrev pub textureAt : Lent → ℕ → TextureRecord
-textureAt l i = recordAt textureStride readTexture (l .textures) i
+textureAt l i = textureIn (l .textures) i
 
 module _ (l : Lent) (i : ℕ) (h : i < l .pool .tracked) where
   pub record-read : getD (trackedRecords l) i (readTexture []) ≡ textureAt l i
   record-read = getD-table textureStride readTexture (l .pool .tracked) i (l .textures) (readTexture []) h
 
   -- its spares and its pages begin behind those of the textures before it
-  pub spares-to : firstSpare l i ≡ total sparesOf (table textureStride readTexture i (l .textures))
+  pub spares-to : firstSpare l i ≡ total sparesOf (texturesIn i (l .textures))
   unfolding firstSpare
   spares-to = ap (total sparesOf) (take-table textureStride readTexture i (l .pool .tracked) (l .textures) (omega arith))
 
-  pub pages-to : firstPageOf l i ≡ total recordPages (table textureStride readTexture i (l .textures))
+  pub pages-to : firstPageOf l i ≡ total recordPages (texturesIn i (l .textures))
   unfolding firstPageOf
   pages-to = ap (total recordPages) (take-table textureStride readTexture i (l .pool .tracked) (l .textures) (omega arith))
 

@@ -5,7 +5,7 @@ use mathlib.Core.List.{List, [], _∷_}
 use lib.Dec.{eqb}
 use lib.ListN.{length, take, drop, getD}
 use Rattle.base_blocks.specs.Lists.{listed}
-use Rattle.base_tables.specs.Records.{recordAt, table}
+use Rattle.base_tables.specs.Records.{recordAt}
 use Rattle.base_tables.specs.Rings.{along}
 use Rattle.grid_shapes.specs.declared.shape.VersionShape.{VersionShape}
 use Rattle.grid_stamps.specs.Grids.{StampGrid, gridIn, tilingOf}
@@ -13,7 +13,7 @@ use Rattle.pool_rules.specs.Model.{WriteHistory, Spare, Retiring, Doomed, Versi
 use Rattle.pool_records.specs.declared.recorded.Recorded.{Recorded}
 use Rattle.pool_records.specs.declared.recorded.Recorded.the-variants.{Writes, NoHistory}
 use Rattle.pool_records.specs.declared.texture.TextureRecord.{TextureRecord}
-use Rattle.pool_records.specs.Texture.{readTexture}
+use Rattle.pool_records.specs.Texture.{texturesIn}
 use Rattle.pool_records.specs.Spare.{readSpare}
 use Rattle.pool_records.specs.Retiring.{readRetiring}
 use Rattle.pool_records.specs.Doomed.{readDoomed}
@@ -24,7 +24,7 @@ use Rattle.pool_records.specs.RecordConstants.{doomedStride, retiringStride, sp
 
 -- the records of the tracked textures
 abbrev pub trackedRecords : Lent → List TextureRecord
-trackedRecords l = table textureStride readTexture (l .pool .tracked) (l .textures)
+trackedRecords l = texturesIn (l .pool .tracked) (l .textures)
 
 -- ---- histories
 

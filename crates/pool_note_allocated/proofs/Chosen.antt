@@ -13,14 +13,13 @@ use Rattle.base_blocks.specs.All.{All, nil, cons}
 use Rattle.base_blocks.proofs.All.{all-map, all-keep}
 use Rattle.base_blocks.proofs.Lists.{keep-append, total-append}
 use Rattle.base_blocks.proofs.Listed.{map-listed}
-use Rattle.base_tables.specs.Records.{recordAt}
 use Rattle.base_tables.proofs.Records.{getD-table}
 use Rattle.grid_shapes.specs.Shapes.{isShape, bytesOf}
 use Rattle.grid_shapes.proofs.ShapeBytes.{bytes-bound}
 use Rattle.pool_rules.specs.Model.{VersionState}
 use Rattle.pool_rules.specs.NoteAllocated.{Aged, picked, byAge, countOf, agedOf, pickedIn}
 use Rattle.pool_records.specs.declared.texture.TextureRecord.{TextureRecord}
-use Rattle.pool_records.specs.Texture.{readTexture}
+use Rattle.pool_records.specs.Texture.{readTexture, textureIn}
 use Rattle.pool_memory.specs.Lent.{Lent}
 use Rattle.pool_memory.specs.Reading.{trackedRecords, recordPages, spareRead, stateRead, statesRead, modelOf}
 use Rattle.pool_memory.specs.Writing.{textureRecord}
@@ -61,7 +60,7 @@ state-at-line t line freed excess =
 
 module _ (l : Lent) where
   abbrev recordOf : ℕ → TextureRecord
-  recordOf i = recordAt textureStride readTexture (l .textures) i
+  recordOf i = textureIn (l .textures) i
 
   -- how many were picked of a texture
   abbrev pub share : ℕ → VersionState ℕ → ℕ
@@ -79,9 +78,9 @@ module _ (l : Lent) where
   run-parkings first n = map-listed parkedOf (spareRead l) first n
 
   pub state-parkings : (i : ℕ) → i < l .pool .tracked
-      → map parkedOf (stateOf l i .spares) ≡ parkings (l .spares) (firstSpare l i) (recordAt textureStride readTexture (l .textures) i .spares)
+      → map parkedOf (stateOf l i .spares) ≡ parkings (l .spares) (firstSpare l i) (textureIn (l .textures) i .spares)
   state-parkings i h =
-      ap (map parkedOf) (state-spares l i h) ∙ run-parkings (firstSpare l i) (recordAt textureStride readTexture (l .textures) i .spares)
+      ap (map parkedOf) (state-spares l i h) ∙ run-parkings (firstSpare l i) (textureIn (l .textures) i .spares)
 
   run-bytes : (line first page : ℕ) (t : TextureRecord)
       → bytesOf (stateRead l first page t .shape) * countBefore line (map parkedOf (stateRead l first page t .spares))

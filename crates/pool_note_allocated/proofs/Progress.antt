@@ -9,7 +9,7 @@ use lib.ListN.{length, take, set}
 use Rattle.base_blocks.specs.Lists.{over, total}
 use Rattle.base_blocks.specs.Blocks.{moved}
 use Rattle.base_blocks.proofs.Listed.{listed-same}
-use Rattle.base_tables.specs.Records.{recordAt, flat}
+use Rattle.base_tables.specs.Records.{flat}
 use Rattle.base_tables.specs.Rings.{laid}
 use Rattle.grid_shapes.specs.Shapes.{isShape, bytesOf}
 use Rattle.pool_rules.specs.Model.{VersionState, spareBytes, doomedBytes}
@@ -17,7 +17,7 @@ use Rattle.pool_rules.proofs.Moves.{lessened, given, given-bytes}
 use Rattle.pool_rules.proofs.Lists.{total-cut}
 use Rattle.pool_records.specs.declared.texture.TextureRecord.{TextureRecord}
 use Rattle.pool_records.specs.declared.spare.SpareRecord.{SpareRecord}
-use Rattle.pool_records.specs.Texture.{readTexture, writeTexture}
+use Rattle.pool_records.specs.Texture.{writeTexture, textureIn}
 use Rattle.pool_records.specs.Spare.{writeSpare}
 use Rattle.pool_records.specs.Doomed.{writeDoomed}
 use Rattle.pool_memory.specs.Lent.{Lent, versionPlaces}
@@ -74,13 +74,13 @@ module _ (l : Lent) (excess line : ℕ) where
       {i from kept bytes sum : ℕ} {textures doomed spares : List ℕ} (p : Progress l excess line i from kept bytes sum textures doomed spares)
       (h : i < l .pool .tracked) where
     abbrev here : TextureRecord
-    here = recordAt textureStride readTexture textures i
+    here = textureIn textures i
 
     -- the record that is read is the one that stood there
-    same-record : here ≡ recordAt textureStride readTexture (l .textures) i
-    same-record = ap (λ (s : List ℕ). recordAt textureStride readTexture s i) (p .records) ∙ record-next l (share l excess) i (p .most)
+    same-record : here ≡ textureIn (l .textures) i
+    same-record = ap (λ (s : List ℕ). textureIn s i) (p .records) ∙ record-next l (share l excess) i (p .most)
 
-    within : firstSpare l i + recordAt textureStride readTexture (l .textures) i .spares ≤ l .pool .kept
+    within : firstSpare l i + textureIn (l .textures) i .spares ≤ l .pool .kept
     unfolding firstSpare
     within = omega (arith, first-next l i h, total-cut sparesOf (suc i) (trackedRecords l), f .kept)
 
@@ -121,7 +121,7 @@ module _ (l : Lent) (excess line : ℕ) where
       k = share l excess
 
       abbrev stood : TextureRecord
-      stood = recordAt textureStride readTexture (l .textures) i
+      stood = textureIn (l .textures) i
 
       had-stood : n ≡ stood .spares
       had-stood = had ∙ ap (λ (r : TextureRecord). r .spares) same-record

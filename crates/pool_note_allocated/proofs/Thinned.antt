@@ -20,7 +20,7 @@ use Rattle.pool_rules.proofs.Moves.{lessened, given, given-count, as-doomed-byt
 use Rattle.pool_records.specs.declared.texture.TextureRecord.{TextureRecord}
 use Rattle.pool_records.specs.declared.spare.SpareRecord.{SpareRecord}
 use Rattle.pool_records.specs.declared.doomed.DoomedRecord.{DoomedRecord}
-use Rattle.pool_records.specs.Texture.{readTexture, writeTexture}
+use Rattle.pool_records.specs.Texture.{readTexture, writeTexture, textureIn}
 use Rattle.pool_records.specs.Spare.{readSpare, writeSpare}
 use Rattle.pool_records.specs.Doomed.{writeDoomed}
 use Rattle.pool_records.proofs.Codecs.{texture-codec, spare-codec}
@@ -41,7 +41,7 @@ use Rattle.pool_records.specs.RecordConstants.{doomedStride, spareStride, textu
 module _ (l : Lent) where
   -- the record of texture i
   abbrev recordOf : ℕ → TextureRecord
-  recordOf i = recordAt textureStride readTexture (l .textures) i
+  recordOf i = textureIn (l .textures) i
 
   pub state-record : (i : ℕ) → i < l .pool .tracked → stateOf l i ≡ stateRead l (firstSpare l i) (firstPageOf l i) (recordOf i)
   unfolding stateOf
@@ -119,7 +119,7 @@ module _ (l : Lent) where
             ∙ ap (withCount (recordOf i .spares - gave i)) (record-at l i h f)
 
     -- the record of texture i, while those before it are written
-    pub record-next : (i : ℕ) → i ≤ l .pool .tracked → recordAt textureStride readTexture (texturesTo i) i ≡ recordOf i
+    pub record-next : (i : ℕ) → i ≤ l .pool .tracked → textureIn (texturesTo i) i ≡ recordOf i
     unfolding texturesTo
     record-next i h =
         let xs = map textureRecord (map (lessened k) (first i)) in

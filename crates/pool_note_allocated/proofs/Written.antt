@@ -13,7 +13,7 @@ use Rattle.base_blocks.proofs.Listed.{length-listed, listed-same}
 use Rattle.base_tables.specs.Records.{recordAt, table, flat}
 use Rattle.base_tables.proofs.Records.{Codec, length-flat, flat-append, flat-table, length-table, record-past}
 use Rattle.pool_records.specs.declared.texture.TextureRecord.{TextureRecord}
-use Rattle.pool_records.specs.Texture.{readTexture, writeTexture}
+use Rattle.pool_records.specs.Texture.{readTexture, writeTexture, textureIn}
 use Rattle.pool_records.proofs.Codecs.{texture-codec}
 use Rattle.pool_records.specs.RecordConstants.{textureSparesAt, textureStride}
 
@@ -74,7 +74,7 @@ count-front q v h = ap (λ (l : List ℕ). set l textureSparesAt v) (sym (take-a
 
 -- the number of spares of the record behind those written
 pub count-set : (xs : List TextureRecord) (s : List ℕ) (i v : ℕ) → length xs ≡ i → textureStride * i + textureStride ≤ length s
-    → set (over (flat writeTexture xs) s) (textureStride * i + textureSparesAt) v ≡ over (flat writeTexture (xs ++ (withCount v (recordAt textureStride readTexture s i) ∷ []))) s
+    → set (over (flat writeTexture xs) s) (textureStride * i + textureSparesAt) v ≡ over (flat writeTexture (xs ++ (withCount v (textureIn s i) ∷ []))) s
 unfolding over recordAt
 count-set xs s i v e h =
     let p = flat writeTexture xs in

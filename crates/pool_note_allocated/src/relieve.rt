@@ -4,10 +4,9 @@ ghost use mathlib.Core.Bool.{true};
 ghost use Prim.Native.Nat.{_+_, _-_, _*_, _≤_, _<_, _^_};
 ghost use lib.ListN.{length, set};
 ghost use Rattle.base_blocks.specs.Blocks.{moved};
-ghost use Rattle.base_tables.specs.Records.{recordAt, table};
 ghost use Rattle.base_tables.specs.Rings.{laid};
 ghost use Rattle.grid_shapes.specs.Shapes.{isShape, bytesOf};
-ghost use Rattle.pool_records.specs.Texture.{readTexture};
+ghost use Rattle.pool_records.specs.Texture.{textureIn, texturesIn};
 ghost use Rattle.pool_records.specs.Doomed.{writeDoomed};
 ghost use Rattle.pool_memory.specs.Lent.{lent};
 ghost use Rattle.pool_memory.specs.IsPool.{isPool};
@@ -48,18 +47,18 @@ fn relieve_texture(
     freed: u64,
     excess: u64,
 ) -> Step
-    requires { ⌜ (textureStride * i + textureStride ≤ length (now textures)) × (isShape (recordAt textureStride readTexture (now textures) i .shape) ≡ true)
-        × (doomedStride * cap ≤ length (now doomed)) × (first < cap) × (queued + recordAt textureStride readTexture (now textures) i .spares ≤ cap)
-        × (spareStride * (from + recordAt textureStride readTexture (now textures) i .spares) ≤ length (now spares)) × (to ≤ from)
-        × (freed + bytesOf (recordAt textureStride readTexture (now textures) i .shape) * recordAt textureStride readTexture (now textures) i .spares < 2 ^ 64) ⌝ }
-    ensures { λ r. ⌜ (r .spares ≡ recordAt textureStride readTexture (now (textures .entry)) i .spares) × (r .count ≤ r .spares)
-        × (r .count ≡ gives freed excess (bytesOf (recordAt textureStride readTexture (now (textures .entry)) i .shape)) line (parkings (now (spares .entry)) from (r .spares)))
-        × (r .bytes ≡ bytesOf (recordAt textureStride readTexture (now (textures .entry)) i .shape) * r .count)
-        × (r .freed ≡ freed + bytesOf (recordAt textureStride readTexture (now (textures .entry)) i .shape)
-        * takenAt freed excess (bytesOf (recordAt textureStride readTexture (now (textures .entry)) i .shape)) line (parkings (now (spares .entry)) from (r .spares)))
+    requires { ⌜ (textureStride * i + textureStride ≤ length (now textures)) × (isShape (textureIn (now textures) i .shape) ≡ true)
+        × (doomedStride * cap ≤ length (now doomed)) × (first < cap) × (queued + textureIn (now textures) i .spares ≤ cap)
+        × (spareStride * (from + textureIn (now textures) i .spares) ≤ length (now spares)) × (to ≤ from)
+        × (freed + bytesOf (textureIn (now textures) i .shape) * textureIn (now textures) i .spares < 2 ^ 64) ⌝ }
+    ensures { λ r. ⌜ (r .spares ≡ textureIn (now (textures .entry)) i .spares) × (r .count ≤ r .spares)
+        × (r .count ≡ gives freed excess (bytesOf (textureIn (now (textures .entry)) i .shape)) line (parkings (now (spares .entry)) from (r .spares)))
+        × (r .bytes ≡ bytesOf (textureIn (now (textures .entry)) i .shape) * r .count)
+        × (r .freed ≡ freed + bytesOf (textureIn (now (textures .entry)) i .shape)
+        * takenAt freed excess (bytesOf (textureIn (now (textures .entry)) i .shape)) line (parkings (now (spares .entry)) from (r .spares)))
         × (now (textures .exit) ≡ set (now (textures .entry)) (textureStride * i + textureSparesAt) (r .spares - r .count))
         × (now (doomed .exit) ≡ laid doomedStride writeDoomed cap first queued
-        (givenRecords (now (spares .entry)) (bytesOf (recordAt textureStride readTexture (now (textures .entry)) i .shape)) from (r .count)) (now (doomed .entry)))
+        (givenRecords (now (spares .entry)) (bytesOf (textureIn (now (textures .entry)) i .shape)) from (r .count)) (now (doomed .entry)))
         × (now (spares .exit) ≡ moved (now (spares .entry)) (spareStride * to) (spareStride * (from + r .count)) (spareStride * (r .spares - r .count))) ⌝ }
 {
     let n = textures[TEXTURE_STRIDE * i + TEXTURE_SPARES_AT] as usize;
@@ -109,8 +108,8 @@ pub fn relieve(
     excess: u64,
 ) -> Relief
     requires { ⌜ (isPool (lent pool book (now textures) (now retiring) (now doomed) (now spares) (now newest) (now stamps)) ≡ true)
-        × IsLine (pool .dooming) excess (λ k. bytesFrom (now spares) k 0 (table textureStride readTexture (pool .tracked) (now textures))) line
-        × (freed ≡ pool .dooming + bytesFrom (now spares) line 0 (table textureStride readTexture (pool .tracked) (now textures))) ⌝ }
+        × IsLine (pool .dooming) excess (λ k. bytesFrom (now spares) k 0 (texturesIn (pool .tracked) (now textures))) line
+        × (freed ≡ pool .dooming + bytesFrom (now spares) line 0 (texturesIn (pool .tracked) (now textures))) ⌝ }
     ensures { λ r. ⌜ Relieves (lent pool book (now (textures .entry)) (now (retiring .entry)) (now (doomed .entry)) (now (spares .entry)) (now (newest .entry)) (now (stamps .entry)))
         excess (r .kept) (r .bytes) (now (textures .exit)) (now (doomed .exit)) (now (spares .exit)) ⌝ }
 {

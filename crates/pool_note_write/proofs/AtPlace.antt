@@ -18,7 +18,7 @@ use Rattle.grid_stamps.proofs.RowByRow.{tile-place}
 use Rattle.pool_records.specs.declared.recorded.Recorded.{Recorded}
 use Rattle.pool_records.specs.declared.recorded.Recorded.the-variants.{Writes, NoHistory}
 use Rattle.pool_records.specs.declared.texture.TextureRecord.{TextureRecord}
-use Rattle.pool_records.specs.Texture.{readTexture}
+use Rattle.pool_records.specs.Texture.{readTexture, textureIn}
 use Rattle.pool_records.specs.Find.{idOf}
 use Rattle.pool_access.proofs.Ids.{found}
 use Rattle.pool_memory.specs.Lent.{Lent}
@@ -29,28 +29,28 @@ use Rattle.pool_memory.proofs.Tracked.{record-read, pages-to, shape-passes}
 use Rattle.pool_memory.proofs.Places.{place, IsTracked}
 use Rattle.pool_memory.proofs.Stays.{ids-ascend, textures-fit}
 use Rattle.pool_memory.proofs.Pages.{pagesAt, pages-in}
-use Rattle.pool_note_write.specs.History.{textureAt, recordedAt, pagesUpTo, pagesHere, pagesEnd, HistoryAt}
+use Rattle.pool_note_write.specs.History.{recordedAt, pagesUpTo, pagesHere, pagesEnd, HistoryAt}
 use Rattle.pool_rules.specs.RuleConstants.{mostPlaces}
 
 -- ---- the pages of a record that has a history
 
 module _ (textures : List ℕ) (i : ℕ) (h : HistoryAt textures i) where
-  pub pages-shape : pagesHere textures i ≡ pagesOf (textureAt textures i .shape)
+  pub pages-shape : pagesHere textures i ≡ pagesOf (textureIn textures i .shape)
   unfolding pagesHere
-  pages-shape = ap (λ (r : Recorded). recordedPages r (textureAt textures i .shape)) (h .recorded)
+  pages-shape = ap (λ (r : Recorded). recordedPages r (textureIn textures i .shape)) (h .recorded)
 
   -- a subresource of the shape has its page among them
-  pub page-inside : (slice level : ℕ) → inShape (textureAt textures i .shape) slice level ≡ true
-      → pagesUpTo textures i + gridPlace (textureAt textures i .shape) slice level < pagesEnd textures i
+  pub page-inside : (slice level : ℕ) → inShape (textureIn textures i .shape) slice level ≡ true
+      → pagesUpTo textures i + gridPlace (textureIn textures i .shape) slice level < pagesEnd textures i
   unfolding pagesOf
   page-inside slice level e =
-      let s = textureAt textures i .shape in
+      let s = textureIn textures i .shape in
       let q = and-both (ltb slice (slicesOf s)) (ltb level (s .levels)) e in
       omega (arith, pages-shape, tile-place (s .levels) (slicesOf s) level slice (ltb-true level (s .levels) (q .1)) (ltb-true slice (slicesOf s) (q .0)), mul-comm (s .levels) (slicesOf s))
 
   -- the same by a record that was read
-  module _ (slice level : ℕ) (e : inShape (textureAt textures i .shape) slice level ≡ true) (levels : ℕ) (read : levels ≡ textureAt textures i .shape .levels) where
-    same-place : slice * levels + level ≡ gridPlace (textureAt textures i .shape) slice level
+  module _ (slice level : ℕ) (e : inShape (textureIn textures i .shape) slice level ≡ true) (levels : ℕ) (read : levels ≡ textureIn textures i .shape .levels) where
+    same-place : slice * levels + level ≡ gridPlace (textureIn textures i .shape) slice level
     same-place = ap (λ (k : ℕ). slice * k + level) read
 
     pub page-small : pagesUpTo textures i + (slice * levels + level) ≤ mostPlaces
@@ -70,7 +70,7 @@ module _ (l : Lent) (i : ℕ) (h : i < l .pool .tracked) where
   unfolding pagesHere
   pages-of-record = ap recordPages (sym (record-read l i h))
 
-  pub history-read : (r : Recorded) → textureAt (l .textures) i .history ≡ r → stateOf l i .history ≡ historyRead l (stateOf l i .shape) (firstPageOf l i) r
+  pub history-read : (r : Recorded) → textureIn (l .textures) i .history ≡ r → stateOf l i .history ≡ historyRead l (stateOf l i .shape) (firstPageOf l i) r
   unfolding stateOf stateRead
   history-read r e =
       ap (historyRead l (getD (trackedRecords l) i (readTexture []) .shape) (firstPageOf l i)) (ap (λ (t : TextureRecord). t .history) (record-read l i h) ∙ e)
@@ -87,18 +87,18 @@ module _ (l : Lent) (f : Fits l) (id : ℕ) where
   -- what is known where the record at the place says this of its history
   pub data Unrecorded : Type 0 where
     untracked : (Tracked → ⊥) → Unrecorded
-    unrecorded : Tracked → textureAt (l .textures) at .history ≡ NoHistory → Unrecorded
+    unrecorded : Tracked → textureIn (l .textures) at .history ≡ NoHistory → Unrecorded
 
   pub record Recording (n : ℕ) : Type 0 where
     pub tracked : Tracked
-    pub history : textureAt (l .textures) at .history ≡ Writes n
+    pub history : textureIn (l .textures) at .history ≡ Writes n
 
   abbrev pub Says : Recorded → Type 0
   Says NoHistory = Unrecorded
   Says (Writes n) = Recording n
 
   here : Bool
-  here = ltb at (l .pool .tracked) && eqb (idOf (textureAt (l .textures) at)) id
+  here = ltb at (l .pool .tracked) && eqb (idOf (textureIn (l .textures) at)) id
 
   tracked-here : here ≡ true → Tracked
   unfolding here
@@ -109,14 +109,14 @@ module _ (l : Lent) (f : Fits l) (id : ℕ) where
   not-here : here ≡ false → Tracked → ⊥
   unfolding here
   not-here e (h, q) =
-      let z : here ≡ true = ap₂ (λ (a b : Bool). a && b) (lt-ltb at (l .pool .tracked) h) (eq-eqb (idOf (textureAt (l .textures) at)) id (ap idOf (sym (record-read l at h)) ∙ q)) in
+      let z : here ≡ true = ap₂ (λ (a b : Bool). a && b) (lt-ltb at (l .pool .tracked) h) (eq-eqb (idOf (textureIn (l .textures) at)) id (ap idOf (sym (record-read l at h)) ∙ q)) in
       true≢false (sym z ∙ e)
 
   pub record-says : Says (recordedAt (l .textures) (l .pool .tracked) at id)
   unfolding recordedAt here
-  record-says = go here refl (textureAt (l .textures) at .history) refl
+  record-says = go here refl (textureIn (l .textures) at .history) refl
     where
-      go : (b : Bool) → here ≡ b → (r : Recorded) → textureAt (l .textures) at .history ≡ r → Says (cond b r NoHistory)
+      go : (b : Bool) → here ≡ b → (r : Recorded) → textureIn (l .textures) at .history ≡ r → Says (cond b r NoHistory)
       go false e r q = untracked (not-here e)
       go true e NoHistory q = unrecorded (tracked-here e) q
       go true e (Writes n) q = record { tracked = tracked-here e; history = q }
@@ -130,7 +130,7 @@ module _ (l : Lent) (f : Fits l) (id : ℕ) where
     pub has-history : stateOf l at .history ≡ some historyIs
     has-history = history-read l at (r .tracked .0) (Writes n) (r .history)
 
-    pub shape-formed : isShape (textureAt (l .textures) at .shape) ≡ true
+    pub shape-formed : isShape (textureIn (l .textures) at .shape) ≡ true
     shape-formed = shape-passes l at (r .tracked .0) f
 
     pub pages-inside : pagesEnd (l .textures) at ≤ l .pool .pages

@@ -18,7 +18,7 @@ use Rattle.pool_rules.specs.Updates.{withHistory, withTextures}
 use Rattle.pool_rules.specs.Histories.{gridAt, gridPlace, stampWrite, regenerateFrom, stampRegeneration}
 use Rattle.pool_records.specs.declared.recorded.Recorded.the-variants.{Writes, NoHistory}
 use Rattle.pool_records.specs.declared.texture.TextureRecord.{TextureRecord}
-use Rattle.pool_records.specs.Texture.{writeTexture}
+use Rattle.pool_records.specs.Texture.{writeTexture, textureIn}
 use Rattle.pool_memory.specs.Lent.{Lent, lent}
 use Rattle.pool_memory.specs.Reading.{pageAt, gridRead, stateRead, modelOf}
 use Rattle.pool_memory.specs.Writing.{recordedOf, textureRecord, gridsOf, pageBefore, texturesAfter, newestAfter, stampsAfter, poolAfter, after}
@@ -35,7 +35,7 @@ use Rattle.pool_memory.proofs.Tracked.{record-read, bytes-at, shape-at}
 use Rattle.pool_history.specs.Written.{gridOn, newestWritten, pagesWritten, remadeGrids}
 use Rattle.pool_history.proofs.Written.{small-stamped, one-newest, one-page}
 use Rattle.pool_history.proofs.Regenerated.{regenerate-listed, length-remade, small-remade}
-use Rattle.pool_note_write.specs.History.{textureAt, recordedAs, pagesUpTo, pagesHere, pagesEnd, pageOf, stampedOn}
+use Rattle.pool_note_write.specs.History.{recordedAs, pagesUpTo, pagesHere, pagesEnd, pageOf, stampedOn}
 use Rattle.pool_note_write.specs.Counts.{withPages}
 use Rattle.pool_note_write.proofs.AtPlace.{pages-begin, pages-of-record}
 use Rattle.grid_stamps.specs.StampConstants.{pageStamps}
@@ -53,13 +53,13 @@ total-set f (x ∷ xs) (suc i) a d h = omega (arith, total-set f xs i a d (omega
 abbrev pub droppedLent : Lent → ℕ → Lent
 droppedLent l i =
     lent (withPages (l .pool .pages - pagesHere (l .textures) i) (l .pool)) (l .book)
-    (sets (l .textures) (textureStride * i) (writeTexture (recordedAs NoHistory (textureAt (l .textures) i)))) (l .retiring) (l .doomed) (l .spares)
+    (sets (l .textures) (textureStride * i) (writeTexture (recordedAs NoHistory (textureIn (l .textures) i)))) (l .retiring) (l .doomed) (l .spares)
     (moved (l .newest) (pagesUpTo (l .textures) i) (pagesEnd (l .textures) i) (l .pool .pages - pagesEnd (l .textures) i))
     (moved (l .stamps) (pageStamps * pagesUpTo (l .textures) i) (pageStamps * pagesUpTo (l .textures) i + pageStamps * pagesHere (l .textures) i) (pageStamps * (l .pool .pages - pagesEnd (l .textures) i)))
 
 abbrev pub keptLent : Lent → ℕ → ℕ → ℕ → List StampGrid → Lent
 keptLent l i writes p gs =
-    lent (l .pool) (l .book) (sets (l .textures) (textureStride * i) (writeTexture (recordedAs (Writes writes) (textureAt (l .textures) i)))) (l .retiring) (l .doomed) (l .spares)
+    lent (l .pool) (l .book) (sets (l .textures) (textureStride * i) (writeTexture (recordedAs (Writes writes) (textureIn (l .textures) i)))) (l .retiring) (l .doomed) (l .spares)
     (newestWritten (l .newest) p gs) (pagesWritten (l .stamps) p gs)
 
 module _ (l : Lent) (f : Fits l) (i : ℕ) (h : i < l .pool .tracked) where
@@ -72,7 +72,7 @@ module _ (l : Lent) (f : Fits l) (i : ℕ) (h : i < l .pool .tracked) where
     abbrev pub otherPool : Pool ℕ
     otherPool = withTextures (set (modelOf l .textures) i otherState) (modelOf l)
 
-    other-record : textureRecord otherState ≡ recordedAs (recordedOf o) (textureAt (l .textures) i)
+    other-record : textureRecord otherState ≡ recordedAs (recordedOf o) (textureIn (l .textures) i)
     unfolding stateOf stateRead
     other-record = λ j. record {
       id = record-read l i h j .id;
@@ -86,7 +86,7 @@ module _ (l : Lent) (f : Fits l) (i : ℕ) (h : i < l .pool .tracked) where
       bytes = (ap bytesOf (shape-at l i h) ∙ sym (bytes-at l i h f)) j;
     }
 
-    textures-left : sets (l .textures) (textureStride * i) (writeTexture (recordedAs (recordedOf o) (textureAt (l .textures) i))) ≡ texturesAfter otherPool l
+    textures-left : sets (l .textures) (textureStride * i) (writeTexture (recordedAs (recordedOf o) (textureIn (l .textures) i))) ≡ texturesAfter otherPool l
     textures-left =
         ap (λ (t : TextureRecord). sets (l .textures) (textureStride * i) (writeTexture t)) (sym other-record)
         ∙ textures-set l otherPool f i otherState h refl
@@ -123,10 +123,10 @@ module _ (l : Lent) (f : Fits l) (i : ℕ) (h : i < l .pool .tracked) where
 
     history-left : (pages : ℕ) (newest stamps : List ℕ) → total pagesUsed (set (modelOf l .textures) i otherState) ≡ pages
         → newest ≡ newestAfter otherPool l → stamps ≡ stampsAfter otherPool l
-        → lent (withPages pages (l .pool)) (l .book) (sets (l .textures) (textureStride * i) (writeTexture (recordedAs (recordedOf o) (textureAt (l .textures) i)))) (l .retiring) (l .doomed) (l .spares) newest stamps
+        → lent (withPages pages (l .pool)) (l .book) (sets (l .textures) (textureStride * i) (writeTexture (recordedAs (recordedOf o) (textureIn (l .textures) i)))) (l .retiring) (l .doomed) (l .spares) newest stamps
         ≡ after otherPool l
     history-left pages newest stamps e a b =
-        put-together otherPool l (withPages pages (l .pool)) (l .book) (sets (l .textures) (textureStride * i) (writeTexture (recordedAs (recordedOf o) (textureAt (l .textures) i))))
+        put-together otherPool l (withPages pages (l .pool)) (l .book) (sets (l .textures) (textureStride * i) (writeTexture (recordedAs (recordedOf o) (textureIn (l .textures) i))))
         (l .retiring) (l .doomed) (l .spares) newest stamps (counts-left pages e) (book-stays l f otherPool refl) textures-left
         (retiring-stay l f otherPool refl refl) (doomed-stay l f otherPool refl) (spares-stay l f otherPool (every-kept l i h otherState refl)) a b
 
@@ -208,7 +208,7 @@ module _ (l : Lent) (f : Fits l) (i : ℕ) (h : i < l .pool .tracked) where
       afterRegeneration = some (stampRegeneration shape old)
 
       -- the grids that the rule makes are those that the pages hold, made anew
-      made-grids : remadeGrids (textureAt (l .textures) i .shape) (suc (old .writes)) (l .newest) (l .stamps) (pagesUpTo (l .textures) i) (pagesHere (l .textures) i) ≡ gridsOf afterRegeneration
+      made-grids : remadeGrids (textureIn (l .textures) i .shape) (suc (old .writes)) (l .newest) (l .stamps) (pagesUpTo (l .textures) i) (pagesHere (l .textures) i) ≡ gridsOf afterRegeneration
       unfolding stampRegeneration remadeGrids gridRead gridOn
       made-grids =
           ap₂ (λ (s : VersionShape) (p : ℕ). remadeGrids s (suc (old .writes)) (l .newest) (l .stamps) p (pagesHere (l .textures) i)) (sym (shape-at l i h)) (pages-begin l i h)
@@ -218,20 +218,20 @@ module _ (l : Lent) (f : Fits l) (i : ℕ) (h : i < l .pool .tracked) where
       count-made : length (gridsOf afterRegeneration) ≡ pagesAt l i
       count-made = ap length (sym made-grids) ∙ length-made ∙ pages-of-record l i h
         where
-          length-made : length (remadeGrids (textureAt (l .textures) i .shape) (suc (old .writes)) (l .newest) (l .stamps) (pagesUpTo (l .textures) i) (pagesHere (l .textures) i)) ≡ pagesHere (l .textures) i
-          length-made = length-remade (textureAt (l .textures) i .shape) (ap isShape (sym (shape-at l i h)) ∙ shaped) (suc (old .writes)) (l .newest) (l .stamps) (pagesUpTo (l .textures) i) (pagesHere (l .textures) i)
+          length-made : length (remadeGrids (textureIn (l .textures) i .shape) (suc (old .writes)) (l .newest) (l .stamps) (pagesUpTo (l .textures) i) (pagesHere (l .textures) i)) ≡ pagesHere (l .textures) i
+          length-made = length-remade (textureIn (l .textures) i .shape) (ap isShape (sym (shape-at l i h)) ∙ shaped) (suc (old .writes)) (l .newest) (l .stamps) (pagesUpTo (l .textures) i) (pagesHere (l .textures) i)
 
       small-made : (k : ℕ) → k < length (gridsOf afterRegeneration) → length (getD (gridsOf afterRegeneration) k (record { newest = 0; stamps = [] }) .stamps) ≤ pageStamps
       small-made k q =
           ap-small (sym made-grids)
-          (small-remade (textureAt (l .textures) i .shape) (ap isShape (sym (shape-at l i h)) ∙ shaped) (suc (old .writes)) (l .newest) (l .stamps) (pagesUpTo (l .textures) i) (pagesHere (l .textures) i)
+          (small-remade (textureIn (l .textures) i .shape) (ap isShape (sym (shape-at l i h)) ∙ shaped) (suc (old .writes)) (l .newest) (l .stamps) (pagesUpTo (l .textures) i) (pagesHere (l .textures) i)
           (omega (arith, stamps-room, pages-begin l i h, pages-of-record l i h)) k (omega (arith, count-made, pages-of-record l i h)))
         where
           ap-small : {gs hs : List StampGrid} → gs ≡ hs → length (getD hs k (record { newest = 0; stamps = [] }) .stamps) ≤ pageStamps → length (getD gs k (record { newest = 0; stamps = [] }) .stamps) ≤ pageStamps
           ap-small e s = subst (λ (gs : List StampGrid). length (getD gs k (record { newest = 0; stamps = [] }) .stamps) ≤ pageStamps) (sym e) s
 
       pub history-regenerated : keptLent l i (suc (old .writes)) (pagesUpTo (l .textures) i)
-          (remadeGrids (textureAt (l .textures) i .shape) (suc (old .writes)) (l .newest) (l .stamps) (pagesUpTo (l .textures) i) (pagesHere (l .textures) i))
+          (remadeGrids (textureIn (l .textures) i .shape) (suc (old .writes)) (l .newest) (l .stamps) (pagesUpTo (l .textures) i) (pagesHere (l .textures) i))
           ≡ after (otherPool afterRegeneration) l
       unfolding stampRegeneration newestWritten pagesWritten pageBefore
       history-regenerated =

@@ -28,9 +28,10 @@ use Rattle.pool_memory.proofs.Places.{found, not-found}
 use Rattle.pool_memory.proofs.Stays.{ids-ascend}
 use Rattle.pool_memory.proofs.Written.{grid-held}
 use Rattle.pool_memory.proofs.Tracked.{shape-at}
-use Rattle.pool_note_write.specs.History.{textureAt, pagesUpTo, pageOf}
+use Rattle.pool_note_write.specs.History.{pagesUpTo, pageOf}
 use Rattle.pool_note_write.proofs.AtPlace.{pages-begin, history-read, at, Unrecorded, untracked, unrecorded, Recording, historyIs, has-history}
 use Rattle.grid_stamps.specs.StampConstants.{pageStamps}
+use Rattle.pool_records.specs.Texture.{textureIn}
 
 -- a tile of a page that is dirty is so in the page's grid
 dirty-grid : (g : Tiling) (held newest : ℕ) (page : List ℕ) (r : DirtyTile) → IsDirtyTile g held page r → IsDirtyTile g held (gridIn g newest page .stamps) r
@@ -81,9 +82,9 @@ module _ (l : Lent) (f : Fits l) (id : ℕ) where
           (subst (λ (o : Option WriteHistory). DirtyTileIn shape o slice level held r) (sym (has-history l f id n rec)) d)
 
       -- by the record that the code found
-      module _ (k : ℕ) (q : k ≡ i) (t : TextureRecord) (read : t ≡ textureAt (l .textures) k) where
+      module _ (k : ℕ) (q : k ≡ i) (t : TextureRecord) (read : t ≡ textureIn (l .textures) k) where
         same-shape : shape ≡ t .shape
-        same-shape = shape-at l i (rec .tracked .0) ∙ sym (ap (λ (x : TextureRecord). x .shape) (read ∙ ap (textureAt (l .textures)) q))
+        same-shape = shape-at l i (rec .tracked .0) ∙ sym (ap (λ (x : TextureRecord). x .shape) (read ∙ ap (textureIn (l .textures)) q))
 
         in-state : (b : Bool) → inShape (t .shape) slice level ≡ b → inShape shape slice level ≡ b
         in-state b g = ap (λ (s : VersionShape). inShape s slice level) same-shape ∙ g
@@ -94,18 +95,18 @@ module _ (l : Lent) (f : Fits l) (id : ℕ) where
             (subst (λ (b : Bool). cond b (IsDirtyTile (tilingOf shape level) held (gridAt shape old slice level .stamps) NoTile) (NoTile ≡ NoTile)) (sym (in-state false g)) refl)
 
         pub dirty-inside : inShape (t .shape) slice level ≡ true → (r : DirtyTile)
-            → IsDirtyTile (tilingOf (textureAt (l .textures) k .shape) level) held (pageAt (l .stamps) (pageOf (l .textures) k slice level)) r
+            → IsDirtyTile (tilingOf (textureIn (l .textures) k .shape) level) held (pageAt (l .stamps) (pageOf (l .textures) k slice level)) r
             → IsDirtyTileOf (modelOf l) id slice level held r
         unfolding pageOf
         dirty-inside g r d =
             let here = in-state true g in
             let w = and-both (ltb slice (slicesOf shape)) (ltb level (shape .levels)) here in
             let p = firstPageOf l i + gridPlace shape slice level in
-            let e : textureAt (l .textures) k .shape ≡ shape = sym (same-shape ∙ ap (λ (x : TextureRecord). x .shape) read) in
+            let e : textureIn (l .textures) k .shape ≡ shape = sym (same-shape ∙ ap (λ (x : TextureRecord). x .shape) read) in
             let b : pagesUpTo (l .textures) k ≡ firstPageOf l i = ap (pagesUpTo (l .textures)) q ∙ pages-begin l i (rec .tracked .0) in
             let d′ : IsDirtyTile (tilingOf shape level) held (pageAt (l .stamps) p) r =
             subst (λ (s : VersionShape). IsDirtyTile (tilingOf s level) held (pageAt (l .stamps) (firstPageOf l i + gridPlace s slice level)) r) e
-            (subst (λ (m : ℕ). IsDirtyTile (tilingOf (textureAt (l .textures) k .shape) level) held (pageAt (l .stamps) (m + gridPlace (textureAt (l .textures) k .shape) slice level)) r) b d) in
+            (subst (λ (m : ℕ). IsDirtyTile (tilingOf (textureIn (l .textures) k .shape) level) held (pageAt (l .stamps) (m + gridPlace (textureIn (l .textures) k .shape) slice level)) r) b d) in
             of-history r
             (subst (λ (b : Bool). cond b (IsDirtyTile (tilingOf shape level) held (gridAt shape old slice level .stamps) r) (r ≡ NoTile)) (sym here)
             (subst (λ (x : StampGrid). IsDirtyTile (tilingOf shape level) held (x .stamps) r)
@@ -113,9 +114,9 @@ module _ (l : Lent) (f : Fits l) (id : ℕ) where
             (dirty-grid (tilingOf shape level) held (getD (l .newest) p 0) (pageAt (l .stamps) p) r d′)))
 
 -- the page lent on to the scan is the subresource's
-pub dirty-page : (textures stamps : List ℕ) (i slice level held : ℕ) (t : TextureRecord) → t ≡ textureAt textures i → (p m : ℕ) → p ≡ pagesUpTo textures i + gridPlace (t .shape) slice level
+pub dirty-page : (textures stamps : List ℕ) (i slice level held : ℕ) (t : TextureRecord) → t ≡ textureIn textures i → (p m : ℕ) → p ≡ pagesUpTo textures i + gridPlace (t .shape) slice level
     → m ≡ pageStamps → (g : Tiling) → g ≡ tilingOf (t .shape) level → (r : DirtyTile) → IsDirtyTile g held (take m (drop (pageStamps * p) stamps)) r
-    → IsDirtyTile (tilingOf (textureAt textures i .shape) level) held (pageAt stamps (pageOf textures i slice level)) r
+    → IsDirtyTile (tilingOf (textureIn textures i .shape) level) held (pageAt stamps (pageOf textures i slice level)) r
 unfolding pageOf
 dirty-page textures stamps i slice level held t read p m a b g c r d =
     subst (λ (x : TextureRecord). IsDirtyTile (tilingOf (x .shape) level) held (pageAt stamps (pagesUpTo textures i + gridPlace (x .shape) slice level)) r) read

@@ -27,10 +27,11 @@ use Rattle.pool_memory.proofs.Places.{found, changed, not-found, not-changed}
 use Rattle.pool_memory.proofs.Stays.{ids-ascend, nothing-changed}
 use Rattle.pool_memory.proofs.Tracked.{shape-at}
 use Rattle.pool_history.specs.Written.{remadeGrids}
-use Rattle.pool_note_write.specs.History.{textureAt, pagesUpTo, pagesHere}
+use Rattle.pool_note_write.specs.History.{pagesUpTo, pagesHere}
 use Rattle.pool_note_write.proofs.AtPlace.{Unrecorded, untracked, unrecorded, Recording, at, history-read, historyIs, has-history, shape-formed}
 use Rattle.pool_note_write.proofs.Left.{keptLent, history-regenerated}
 use Rattle.pool_note_write.proofs.WriteCases.{same-texture}
+use Rattle.pool_records.specs.Texture.{textureIn}
 
 module _ (l : Lent) (e : isPool l ≡ true) (id : ℕ) where
   abbrev fits : Fits l
@@ -89,7 +90,7 @@ module _ (l : Lent) (e : isPool l ≡ true) (id : ℕ) where
         → (
           answer tt,
           keptLent l i (n + 1) (pagesUpTo (l .textures) i)
-              (remadeGrids (textureAt (l .textures) i .shape) (n + 1) (l .newest) (l .stamps) (pagesUpTo (l .textures) i) (pagesHere (l .textures) i)),
+              (remadeGrids (textureIn (l .textures) i .shape) (n + 1) (l .newest) (l .stamps) (pagesUpTo (l .textures) i) (pagesHere (l .textures) i)),
         )
         ≡ noteMipRegenerationCall l id
     regeneration-done h =
@@ -97,7 +98,7 @@ module _ (l : Lent) (e : isPool l ≡ true) (id : ℕ) where
         (λ (k : ℕ). (
           answer tt,
           keptLent l i k (pagesUpTo (l .textures) i)
-              (remadeGrids (textureAt (l .textures) i .shape) k (l .newest) (l .stamps) (pagesUpTo (l .textures) i) (pagesHere (l .textures) i)),
+              (remadeGrids (textureIn (l .textures) i .shape) k (l .newest) (l .stamps) (pagesUpTo (l .textures) i) (pagesHere (l .textures) i)),
         )) (add-one n)
         ∙ ap (λ (l′ : Lent). (answer tt, l′))
         (history-regenerated l fits i (rec .tracked .0) old (has-history l fits id n rec) (ap isShape (shape-at l i (rec .tracked .0)) ∙ shape-formed l fits id n rec) refl)
@@ -107,10 +108,10 @@ module _ (l : Lent) (e : isPool l ≡ true) (id : ℕ) where
 
     -- the same by what the code found and left
     pub left-regenerated : (k : ℕ) → k ≡ i → n < limit → (l′ : Lent)
-        → l′ ≡ keptLent l k (n + 1) (pagesUpTo (l .textures) k) (remadeGrids (textureAt (l .textures) k .shape) (n + 1) (l .newest) (l .stamps) (pagesUpTo (l .textures) k) (pagesHere (l .textures) k))
+        → l′ ≡ keptLent l k (n + 1) (pagesUpTo (l .textures) k) (remadeGrids (textureIn (l .textures) k .shape) (n + 1) (l .newest) (l .stamps) (pagesUpTo (l .textures) k) (pagesHere (l .textures) k))
         → (answer tt, l′) ≡ noteMipRegenerationCall l id
     left-regenerated k q h l′ w =
         ap (λ (x : Lent). (answer tt, x))
         (w
-        ∙ ap (λ (m : ℕ). keptLent l m (n + 1) (pagesUpTo (l .textures) m) (remadeGrids (textureAt (l .textures) m .shape) (n + 1) (l .newest) (l .stamps) (pagesUpTo (l .textures) m) (pagesHere (l .textures) m))) q)
+        ∙ ap (λ (m : ℕ). keptLent l m (n + 1) (pagesUpTo (l .textures) m) (remadeGrids (textureIn (l .textures) m .shape) (n + 1) (l .newest) (l .stamps) (pagesUpTo (l .textures) m) (pagesHere (l .textures) m))) q)
         ∙ regeneration-done h

@@ -31,9 +31,10 @@ use Rattle.pool_memory.proofs.Runs.{stateOf, model-at}
 use Rattle.pool_memory.proofs.Places.{found, changed, not-found, not-changed}
 use Rattle.pool_memory.proofs.Stays.{ids-ascend, nothing-changed}
 use Rattle.pool_memory.proofs.Tracked.{shape-at}
-use Rattle.pool_note_write.specs.History.{textureAt, pageOf, stampedOn}
+use Rattle.pool_note_write.specs.History.{pageOf, stampedOn}
 use Rattle.pool_note_write.proofs.AtPlace.{Unrecorded, untracked, unrecorded, Recording, at, history-read, historyIs, has-history, shape-formed}
 use Rattle.pool_note_write.proofs.Left.{droppedLent, history-dropped, keptLent, history-stamped}
+use Rattle.pool_records.specs.Texture.{textureIn}
 
 -- a texture of the model put back as it was
 pub same-texture : (l : Lent) (i : ℕ) → i < l .pool .tracked → set (modelOf l .textures) i (stateOf l i) ≡ modelOf l .textures
@@ -85,10 +86,10 @@ module _ (l : Lent) (e : isPool l ≡ true) (id slice level : ℕ) (r : TexelRec
     abbrev shape : VersionShape
     shape = stateOf l i .shape
 
-    read-shape : shape ≡ textureAt (l .textures) i .shape
+    read-shape : shape ≡ textureIn (l .textures) i .shape
     read-shape = shape-at l i (rec .tracked .0)
 
-    spent-here : writeSpent (find id (modelOf l .textures)) slice level ≡ inShape (textureAt (l .textures) i .shape) slice level && leb limit n
+    spent-here : writeSpent (find id (modelOf l .textures)) slice level ≡ inShape (textureIn (l .textures) i .shape) slice level && leb limit n
     spent-here =
         ap (λ (o : Option (VersionState ℕ)). writeSpent o slice level) (found l id (ids-ascend l fits) (rec .tracked))
         ∙ ap (λ (o : Option WriteHistory). inShape shape slice level && spent o) (has-history l fits id n rec)
@@ -101,13 +102,13 @@ module _ (l : Lent) (e : isPool l ≡ true) (id slice level : ℕ) (r : TexelRec
         ∙ ap (λ (w : Option WriteHistory). set (modelOf l .textures) i (withHistory w (stateOf l i))) (ap (written slice level r shape) (has-history l fits id n rec) ∙ q)
 
     -- outside slices or levels the history is dropped
-    pub write-outside : inShape (textureAt (l .textures) i .shape) slice level ≡ false → (answer tt, droppedLent l i) ≡ noteWriteCall l id slice level r
+    pub write-outside : inShape (textureIn (l .textures) i .shape) slice level ≡ false → (answer tt, droppedLent l i) ≡ noteWriteCall l id slice level r
     write-outside out =
         ap (λ (l′ : Lent). (answer tt, l′)) (history-dropped l fits i (rec .tracked .0))
         ∙ sym (passes (spent-here ∙ ap (λ (b : Bool). b && leb limit n) out) (set (modelOf l .textures) i (withHistory none (stateOf l i)))
         (changed-here none (ap (λ (b : Bool). cond b (some (stampWrite shape slice level r old)) none) (ap (λ (s : VersionShape). inShape s slice level) read-shape ∙ out))))
 
-    module _ (inside : inShape (textureAt (l .textures) i .shape) slice level ≡ true) where
+    module _ (inside : inShape (textureIn (l .textures) i .shape) slice level ≡ true) where
       -- the count is to pass 2^48
       pub write-spent : limit ≤ n → (refusal 12, l) ≡ noteWriteCall l id slice level r
       unfolding noteWriteCall noteWrite
@@ -132,11 +133,11 @@ module _ (l : Lent) (e : isPool l ≡ true) (id slice level : ℕ) (r : TexelRec
 
     -- ---- the same by what the code found and left
 
-    module _ (k : ℕ) (q : k ≡ i) (t : TextureRecord) (read : t ≡ textureAt (l .textures) k) where
-      found-shape : t .shape ≡ textureAt (l .textures) i .shape
-      found-shape = ap (λ (x : TextureRecord). x .shape) (read ∙ ap (textureAt (l .textures)) q)
+    module _ (k : ℕ) (q : k ≡ i) (t : TextureRecord) (read : t ≡ textureIn (l .textures) k) where
+      found-shape : t .shape ≡ textureIn (l .textures) i .shape
+      found-shape = ap (λ (x : TextureRecord). x .shape) (read ∙ ap (textureIn (l .textures)) q)
 
-      in-found : (b : Bool) → inShape (t .shape) slice level ≡ b → inShape (textureAt (l .textures) i .shape) slice level ≡ b
+      in-found : (b : Bool) → inShape (t .shape) slice level ≡ b → inShape (textureIn (l .textures) i .shape) slice level ≡ b
       in-found b g = ap (λ (s : VersionShape). inShape s slice level) (sym found-shape) ∙ g
 
       pub left-outside : inShape (t .shape) slice level ≡ false → (l′ : Lent) → l′ ≡ droppedLent l k → (answer tt, l′) ≡ noteWriteCall l id slice level r

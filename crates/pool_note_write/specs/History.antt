@@ -6,7 +6,6 @@ use mathlib.Core.List.{List}
 use lib.Dec.{ltb, eqb}
 use lib.ListN.{length}
 use Rattle.base_blocks.specs.Lists.{total}
-use Rattle.base_tables.specs.Records.{recordAt, table}
 use Rattle.grid_shapes.specs.Shapes.{isShape}
 use Rattle.grid_rects.specs.declared.rect.TexelRect.{TexelRect}
 use Rattle.grid_stamps.specs.Grids.{StampGrid, tilingOf, stampedBy}
@@ -14,20 +13,16 @@ use Rattle.pool_rules.specs.Histories.{gridPlace}
 use Rattle.pool_records.specs.declared.recorded.Recorded.{Recorded}
 use Rattle.pool_records.specs.declared.recorded.Recorded.the-variants.{Writes, NoHistory}
 use Rattle.pool_records.specs.declared.texture.TextureRecord.{TextureRecord}
-use Rattle.pool_records.specs.Texture.{readTexture}
+use Rattle.pool_records.specs.Texture.{textureIn, texturesIn}
 use Rattle.pool_records.specs.Find.{idOf}
 use Rattle.pool_memory.specs.Reading.{recordPages}
 use Rattle.pool_history.specs.Written.{gridOn}
 use Rattle.pool_records.specs.RecordConstants.{textureStride}
 use Rattle.pool_rules.specs.RuleConstants.{mostPlaces}
 
--- record i of the textures' slice
-abbrev pub textureAt : List ℕ → ℕ → TextureRecord
-textureAt textures i = recordAt textureStride readTexture textures i
-
 -- what it says of its history if it is there and has the id
 unfoldable pub recordedAt : List ℕ → ℕ → ℕ → ℕ → Recorded
-recordedAt textures tracked i id = cond (ltb i tracked && eqb (idOf (textureAt textures i)) id) (textureAt textures i .history) NoHistory
+recordedAt textures tracked i id = cond (ltb i tracked && eqb (idOf (textureIn textures i)) id) (textureIn textures i .history) NoHistory
 
 -- a record with another history
 abbrev pub recordedAs : Recorded → TextureRecord → TextureRecord
@@ -35,10 +30,10 @@ recordedAs h t = record { id = t .id; shape = t .shape; epoch = t .epoch; histor
 
 -- the pages of the textures before record i, which is where its own begin, and how many those are
 unfoldable pub pagesUpTo : List ℕ → ℕ → ℕ
-pagesUpTo textures i = total recordPages (table textureStride readTexture i textures)
+pagesUpTo textures i = total recordPages (texturesIn i textures)
 
 unfoldable pub pagesHere : List ℕ → ℕ → ℕ
-pagesHere textures i = recordPages (textureAt textures i)
+pagesHere textures i = recordPages (textureIn textures i)
 
 abbrev pub pagesEnd : List ℕ → ℕ → ℕ
 pagesEnd textures i = pagesUpTo textures i + pagesHere textures i
@@ -46,15 +41,15 @@ pagesEnd textures i = pagesUpTo textures i + pagesHere textures i
 -- record i is there, its shape passes 2, and it has a history
 pub record HistoryAt (textures : List ℕ) (i : ℕ) : Type 0 where
   pub there : textureStride * i + textureStride ≤ length textures
-  pub shape : isShape (textureAt textures i .shape) ≡ true
+  pub shape : isShape (textureIn textures i .shape) ≡ true
   pub writes : ℕ
-  pub recorded : textureAt textures i .history ≡ Writes writes
+  pub recorded : textureIn textures i .history ≡ Writes writes
   pub pages : pagesEnd textures i ≤ mostPlaces
 
 -- the page of a subresource, and its grid stamped
 unfoldable pub pageOf : List ℕ → ℕ → ℕ → ℕ → ℕ
-pageOf textures i slice level = pagesUpTo textures i + gridPlace (textureAt textures i .shape) slice level
+pageOf textures i slice level = pagesUpTo textures i + gridPlace (textureIn textures i .shape) slice level
 
 unfoldable pub stampedOn : List ℕ → ℕ → ℕ → ℕ → TexelRect → ℕ → List ℕ → List ℕ → StampGrid
 stampedOn textures i slice level r n newest stamps =
-    stampedBy (tilingOf (textureAt textures i .shape) level) r n (gridOn (textureAt textures i .shape) level newest stamps (pageOf textures i slice level))
+    stampedBy (tilingOf (textureIn textures i .shape) level) r n (gridOn (textureIn textures i .shape) level newest stamps (pageOf textures i slice level))

@@ -6,9 +6,8 @@ ghost use Prim.Native.Nat.{_+_, _*_, _-_, _≤_, _<_};
 ghost use lib.ListN.{length};
 ghost use lib.Seq.{sets};
 ghost use Rattle.base_blocks.specs.Blocks.{moved};
-ghost use Rattle.base_tables.specs.Records.{recordAt};
 ghost use Rattle.pool_records.specs.Recorded.{RecordedFits};
-ghost use Rattle.pool_records.specs.Texture.{readTexture, writeTexture};
+ghost use Rattle.pool_records.specs.Texture.{writeTexture, textureIn};
 ghost use Rattle.pool_rules.specs.Histories.{inShape};
 ghost use Rattle.pool_history.specs.Written.{newestWritten, pagesWritten, remadeGrids};
 ghost use Rattle.pool_note_write.specs.History.{recordedAt, recordedAs, pagesUpTo, pagesHere, pagesEnd, HistoryAt, pageOf, stampedOn};
@@ -51,7 +50,7 @@ pub fn in_shape(s: VersionShape, slice: u64, level: u64) -> bool
 // Record i with another history.
 pub fn set_history(textures: &mut [u64], i: usize, history: Recorded)
     requires { ⌜ (textureStride * i + textureStride ≤ length (now textures)) × RecordedFits history ⌝ }
-    ensures { λ _. ⌜ now (textures .exit) ≡ sets (now (textures .entry)) (textureStride * i) (writeTexture (recordedAs history (recordAt textureStride readTexture (now (textures .entry)) i))) ⌝ }
+    ensures { λ _. ⌜ now (textures .exit) ≡ sets (now (textures .entry)) (textureStride * i) (writeTexture (recordedAs history (textureIn (now (textures .entry)) i))) ⌝ }
 {
     let t = texture_at(textures, i);
     let shape = t.shape;
@@ -89,7 +88,7 @@ pub fn stamp_subresource(
     rect: TexelRect,
     n: u64,
 )
-    requires { ⌜ HistoryAt (now textures) i × (pagesEnd (now textures) i ≤ length (now newest)) × (pageStamps * length (now newest) ≤ length (now stamps)) × (inShape (recordAt textureStride readTexture (now textures) i .shape) slice level ≡ true) ⌝ }
+    requires { ⌜ HistoryAt (now textures) i × (pagesEnd (now textures) i ≤ length (now newest)) × (pageStamps * length (now newest) ≤ length (now stamps)) × (inShape (textureIn (now textures) i .shape) slice level ≡ true) ⌝ }
     ensures { λ _. ⌜
         (now (newest .exit) ≡ newestWritten (now (newest .entry)) (pageOf (now (textures .entry)) i slice level) (stampedOn (now (textures .entry)) i slice level rect n (now (newest .entry)) (now (stamps .entry)) ∷ []))
         × (now (stamps .exit) ≡ pagesWritten (now (stamps .entry)) (pageOf (now (textures .entry)) i slice level) (stampedOn (now (textures .entry)) i slice level rect n (now (newest .entry)) (now (stamps .entry)) ∷ [])) ⌝ }
@@ -110,8 +109,8 @@ pub fn regenerate_history(
 )
     requires { ⌜ HistoryAt (now textures) i × (pagesEnd (now textures) i ≤ length (now newest)) × (pageStamps * length (now newest) ≤ length (now stamps)) ⌝ }
     ensures { λ _. ⌜
-        (now (newest .exit) ≡ newestWritten (now (newest .entry)) (pagesUpTo (now (textures .entry)) i) (remadeGrids (recordAt textureStride readTexture (now (textures .entry)) i .shape) n (now (newest .entry)) (now (stamps .entry)) (pagesUpTo (now (textures .entry)) i) (pagesHere (now (textures .entry)) i)))
-        × (now (stamps .exit) ≡ pagesWritten (now (stamps .entry)) (pagesUpTo (now (textures .entry)) i) (remadeGrids (recordAt textureStride readTexture (now (textures .entry)) i .shape) n (now (newest .entry)) (now (stamps .entry)) (pagesUpTo (now (textures .entry)) i) (pagesHere (now (textures .entry)) i))) ⌝ }
+        (now (newest .exit) ≡ newestWritten (now (newest .entry)) (pagesUpTo (now (textures .entry)) i) (remadeGrids (textureIn (now (textures .entry)) i .shape) n (now (newest .entry)) (now (stamps .entry)) (pagesUpTo (now (textures .entry)) i) (pagesHere (now (textures .entry)) i)))
+        × (now (stamps .exit) ≡ pagesWritten (now (stamps .entry)) (pagesUpTo (now (textures .entry)) i) (remadeGrids (textureIn (now (textures .entry)) i .shape) n (now (newest .entry)) (now (stamps .entry)) (pagesUpTo (now (textures .entry)) i) (pagesHere (now (textures .entry)) i))) ⌝ }
 {
     let t = texture_at(textures, i);
     let page = pages_before(textures, i);

@@ -10,7 +10,6 @@ use lib.Dec.{leb, ltb, eqb}
 use lib.Seq.{sets}
 use Rattle.base_blocks.specs.Blocks.{moved}
 use Rattle.base_blocks.specs.Lists.{total}
-use Rattle.base_tables.specs.Records.{recordAt, table}
 use Rattle.pool_rules.specs.declared.held.Held.the-variants.{Known, Unknown}
 use Rattle.pool_rules.specs.Model.{limit}
 use Rattle.pool_records.specs.declared.texture.TextureRecord.{TextureRecord}
@@ -19,7 +18,7 @@ use Rattle.pool_records.specs.declared.retiring.RetiringRecord.{RetiringRecord}
 use Rattle.pool_records.specs.Held.{HeldFits, heldNumber}
 use Rattle.pool_records.specs.Recorded.{RecordedFits}
 use Rattle.pool_records.specs.Spare.{writeSpare}
-use Rattle.pool_records.specs.Texture.{readTexture, writeTexture}
+use Rattle.pool_records.specs.Texture.{writeTexture, textureIn, texturesIn}
 use Rattle.pool_memory.specs.declared.pool.Pool.{Pool}
 use Rattle.pool_park.specs.declared.park_or_destroy.Parking.{Parking}
 use Rattle.pool_park.specs.declared.park_or_destroy.Parking.the-variants.{Destroyed, Kept}
@@ -129,15 +128,15 @@ held-fits failed v h = go (not (eqb failed 0) && leb (v .birth) failed)
     go false = omega (arith, h)
 
 -- a texture's record with one more spare, and the spare behind those that it has; u is the record that was read, m the spares before the texture's
-module _ (a : List ℕ) (i : ℕ) (u : TextureRecord) (read : u ≡ recordAt textureStride readTexture a i) where
-  pub keep-history : (w : TextureRecord) → w ≡ oneMore u → RecordedFits (recordAt textureStride readTexture a i .history) → RecordedFits (w .history)
+module _ (a : List ℕ) (i : ℕ) (u : TextureRecord) (read : u ≡ textureIn a i) where
+  pub keep-history : (w : TextureRecord) → w ≡ oneMore u → RecordedFits (textureIn a i .history) → RecordedFits (w .history)
   keep-history w more h = subst (λ (t : TextureRecord). RecordedFits (t .history)) (sym (more ∙ ap oneMore read)) h
 
   pub keep-record : (w : TextureRecord) → w ≡ oneMore u → (r : List ℕ) → r ≡ sets a (textureStride * i) (writeTexture w)
-      → r ≡ sets a (textureStride * i) (writeTexture (oneMore (recordAt textureStride readTexture a i)))
+      → r ≡ sets a (textureStride * i) (writeTexture (oneMore (textureIn a i)))
   keep-record w more r put = put ∙ ap (λ (t : TextureRecord). sets a (textureStride * i) (writeTexture t)) (more ∙ ap oneMore read)
 
-  module _ (m : ℕ) (before : m ≡ total (λ (t : TextureRecord). t .spares) (table textureStride readTexture i a)) where
+  module _ (m : ℕ) (before : m ≡ total (λ (t : TextureRecord). t .spares) (texturesIn i a)) where
     end-is : m + u .spares ≡ sparesEnd a i
     end-is = ap₂ (λ (n : ℕ) (t : TextureRecord). n + t .spares) before read
 

@@ -4,18 +4,16 @@ use mathlib.Core.Bool.{Bool, cond, not, _&&_, _||_}
 use mathlib.Core.List.{List}
 use lib.Dec.{leb, ltb, eqb}
 use Rattle.base_blocks.specs.Lists.{total}
-use Rattle.base_tables.specs.Records.{recordAt, table}
 use Rattle.pool_rules.specs.declared.held.Held.the-variants.{Known, Unknown}
 use Rattle.pool_rules.specs.declared.held.Held.{Held}
 use Rattle.pool_rules.specs.Model.{limit}
 use Rattle.pool_records.specs.declared.texture.TextureRecord.{TextureRecord}
 use Rattle.pool_records.specs.declared.spare.SpareRecord.{SpareRecord}
 use Rattle.pool_records.specs.declared.retiring.RetiringRecord.{RetiringRecord}
-use Rattle.pool_records.specs.Texture.{readTexture}
+use Rattle.pool_records.specs.Texture.{textureIn, texturesIn}
 use Rattle.pool_memory.specs.declared.pool.Pool.{Pool}
 use Rattle.pool_park.specs.declared.park_or_destroy.Parking.{Parking}
 use Rattle.pool_park.specs.declared.park_or_destroy.Parking.the-variants.{Destroyed, Kept}
-use Rattle.pool_records.specs.RecordConstants.{textureStride}
 
 -- the number of the first refusal, or 0
 unfoldable pub parkRefusal : Pool → ℕ → ℕ → ℕ
@@ -52,4 +50,4 @@ oneMore t = record {
 
 -- the place behind the spares of texture i
 abbrev pub sparesEnd : List ℕ → ℕ → ℕ
-sparesEnd textures i = total (λ (t : TextureRecord). t .spares) (table textureStride readTexture i textures) + recordAt textureStride readTexture textures i .spares
+sparesEnd textures i = total (λ (t : TextureRecord). t .spares) (texturesIn i textures) + textureIn textures i .spares

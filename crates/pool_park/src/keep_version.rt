@@ -5,11 +5,10 @@ ghost use lib.ListN.{length};
 ghost use lib.Seq.{sets};
 ghost use Rattle.base_blocks.specs.Blocks.{moved};
 ghost use Rattle.base_blocks.specs.Lists.{total};
-ghost use Rattle.base_tables.specs.Records.{recordAt, table};
 ghost use Rattle.pool_records.specs.Held.{HeldFits};
 ghost use Rattle.pool_records.specs.Recorded.{RecordedFits};
 ghost use Rattle.pool_records.specs.Spare.{writeSpare};
-ghost use Rattle.pool_records.specs.Texture.{readTexture, writeTexture};
+ghost use Rattle.pool_records.specs.Texture.{writeTexture, textureIn, texturesIn};
 ghost use Rattle.pool_park.specs.Park.{heldParked, spareParked, oneMore, sparesEnd};
 ghost use Rattle.pool_records.specs.RecordConstants.{spareStride, textureStride};
 ghost use Rattle.pool_rules.specs.RuleConstants.{mostPlaces};
@@ -62,10 +61,10 @@ pub fn keep_version(
     i: usize,
     x: SpareRecord,
 )
-    requires { ⌜ (textureStride * i + textureStride ≤ length (now textures)) × RecordedFits (recordAt textureStride readTexture (now textures) i .history)
+    requires { ⌜ (textureStride * i + textureStride ≤ length (now textures)) × RecordedFits (textureIn (now textures) i .history)
         × (sparesEnd (now textures) i ≤ kept) × (kept ≤ mostPlaces) × (spareStride * kept + spareStride ≤ length (now spares)) × HeldFits (x .held)
-        × (textureStride * tracked ≤ length (now textures)) × (i < tracked) × (total (λ t. t .spares) (table textureStride readTexture tracked (now textures)) ≡ kept) ⌝ }
-    ensures { λ _. ⌜ (now (textures .exit) ≡ sets (now (textures .entry)) (textureStride * i) (writeTexture (oneMore (recordAt textureStride readTexture (now (textures .entry)) i))))
+        × (textureStride * tracked ≤ length (now textures)) × (i < tracked) × (total (λ t. t .spares) (texturesIn tracked (now textures)) ≡ kept) ⌝ }
+    ensures { λ _. ⌜ (now (textures .exit) ≡ sets (now (textures .entry)) (textureStride * i) (writeTexture (oneMore (textureIn (now (textures .entry)) i))))
         × (now (spares .exit)
         ≡ sets (moved (now (spares .entry)) (spareStride * sparesEnd (now (textures .entry)) i + spareStride) (spareStride * sparesEnd (now (textures .entry)) i) (spareStride * (kept - sparesEnd (now (textures .entry)) i)))
         (spareStride * sparesEnd (now (textures .entry)) i) (writeSpare x)) ⌝ }

@@ -2,8 +2,7 @@
 ghost use mathlib.Core.Path.{_≡_};
 ghost use Prim.Native.Nat.{_*_, _≤_};
 ghost use lib.ListN.{length};
-ghost use Rattle.base_tables.specs.Records.{recordAt};
-ghost use Rattle.pool_records.specs.Texture.{readTexture};
+ghost use Rattle.pool_records.specs.Texture.{textureIn};
 ghost use Rattle.pool_retire.specs.Noted.{hasId};
 ghost use Rattle.pool_park.specs.Park.{parkRefusal, parkingOf};
 ghost use Rattle.pool_records.specs.RecordConstants.{textureStride};
@@ -44,7 +43,7 @@ pub fn park_or_destroy(
     requires { ⌜ (textureStride * pool .tracked ≤ length (now textures))
         × (pool .parked ≤ pool .cap) ⌝ }
     ensures { λ r. ⌜ r
-        ≡ parkingOf pool pressed (hasId (now (textures .entry)) (pool .tracked) i (v .id)) (recordAt textureStride readTexture (now (textures .entry)) i) v ⌝ }
+        ≡ parkingOf pool pressed (hasId (now (textures .entry)) (pool .tracked) i (v .id)) (textureIn (now (textures .entry)) i) v ⌝ }
 {
     if !has_id(textures, pool.tracked, i, v.id) {
         return Parking::Destroyed(v.bytes);

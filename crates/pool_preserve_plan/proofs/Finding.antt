@@ -7,7 +7,6 @@ use Prim.Native.Nat.{ℕ, _+_, _≤_, _<_}
 use native.Mathlib.Omega.{arith}
 use lib.ListN.{length, getD}
 use Rattle.base_blocks.specs.Lists.{total}
-use Rattle.base_tables.specs.Records.{recordAt, table}
 use Rattle.base_tables.proofs.Records.{getD-table, take-table}
 use Rattle.grid_shapes.specs.declared.shape.VersionShape.{VersionShape}
 use Rattle.grid_shapes.specs.Shapes.{sameShape}
@@ -21,7 +20,7 @@ use Rattle.pool_rules.proofs.Lists.{total-cut}
 use Rattle.pool_records.specs.declared.recorded.Recorded.{Recorded}
 use Rattle.pool_records.specs.declared.recorded.Recorded.the-variants.{Writes, NoHistory}
 use Rattle.pool_records.specs.declared.texture.TextureRecord.{TextureRecord}
-use Rattle.pool_records.specs.Texture.{readTexture}
+use Rattle.pool_records.specs.Texture.{readTexture, textureIn, texturesIn}
 use Rattle.pool_records.specs.Find.{idOf, below}
 use Rattle.pool_memory.specs.Lent.{Lent}
 use Rattle.pool_memory.specs.Reading.{trackedRecords, recordPages, recordedPages, historyRead, stateRead, modelOf}
@@ -45,38 +44,38 @@ module _ (textures : List ℕ) (tracked id : ℕ) (shape : VersionShape) (i : �
   pub found-none : hasId textures tracked i id ≡ false → foundAt textures tracked id shape i ≡ NothingRecorded
   unfolding foundAt
   found-none e =
-      ap (λ (b : Bool). cond b (foundOf (total recordPages (table textureStride readTexture i textures)) shape (recordAt textureStride readTexture textures i)) NothingRecorded) e
+      ap (λ (b : Bool). cond b (foundOf (total recordPages (texturesIn i textures)) shape (textureIn textures i)) NothingRecorded) e
 
-  module _ (t : TextureRecord) (r : t ≡ recordAt textureStride readTexture textures i) (h : hasId textures tracked i id ≡ true) where
-    found-there : foundAt textures tracked id shape i ≡ foundOf (total recordPages (table textureStride readTexture i textures)) shape t
+  module _ (t : TextureRecord) (r : t ≡ textureIn textures i) (h : hasId textures tracked i id ≡ true) where
+    found-there : foundAt textures tracked id shape i ≡ foundOf (total recordPages (texturesIn i textures)) shape t
     unfolding foundAt
     found-there =
-        ap (λ (b : Bool). cond b (foundOf (total recordPages (table textureStride readTexture i textures)) shape (recordAt textureStride readTexture textures i)) NothingRecorded) h
-        ∙ ap (foundOf (total recordPages (table textureStride readTexture i textures)) shape) (sym r)
+        ap (λ (b : Bool). cond b (foundOf (total recordPages (texturesIn i textures)) shape (textureIn textures i)) NothingRecorded) h
+        ∙ ap (foundOf (total recordPages (texturesIn i textures)) shape) (sym r)
 
     pub found-other : sameShape (t .shape) shape ≡ false → foundAt textures tracked id shape i ≡ OtherShape
     unfolding foundOf
     found-other e =
-        found-there ∙ ap (λ (b : Bool). cond b (recordedFound (total recordPages (table textureStride readTexture i textures)) (t .history)) OtherShape) e
+        found-there ∙ ap (λ (b : Bool). cond b (recordedFound (total recordPages (texturesIn i textures)) (t .history)) OtherShape) e
 
     pub found-recorded : (history : Recorded) (page : ℕ) → sameShape (t .shape) shape ≡ true → t .history ≡ history
-        → page ≡ total recordPages (table textureStride readTexture i textures) → foundAt textures tracked id shape i ≡ recordedFound page history
+        → page ≡ total recordPages (texturesIn i textures) → foundAt textures tracked id shape i ≡ recordedFound page history
     unfolding foundOf
     found-recorded history page e f p =
-        found-there ∙ ap (λ (b : Bool). cond b (recordedFound (total recordPages (table textureStride readTexture i textures)) (t .history)) OtherShape) e
+        found-there ∙ ap (λ (b : Bool). cond b (recordedFound (total recordPages (texturesIn i textures)) (t .history)) OtherShape) e
         ∙ ap₂ recordedFound (sym p) f
 
 -- the search answers the place
-pub found-place : (textures : List ℕ) (tracked id : ℕ) (shape : VersionShape) (i : ℕ) → i ≡ below id (table textureStride readTexture tracked textures)
+pub found-place : (textures : List ℕ) (tracked id : ℕ) (shape : VersionShape) (i : ℕ) → i ≡ below id (texturesIn tracked textures)
     → foundAt textures tracked id shape i ≡ historyFound textures tracked id shape
 unfolding historyFound
 found-place textures tracked id shape i e = ap (foundAt textures tracked id shape) e
 
 -- the pages of the first i, which the code adds up
 pub pages-part : (textures : List ℕ) (tracked i : ℕ) → i ≤ tracked
-    → total recordPages (table textureStride readTexture i textures) ≤ total recordPages (table textureStride readTexture tracked textures)
+    → total recordPages (texturesIn i textures) ≤ total recordPages (texturesIn tracked textures)
 pages-part textures tracked i h =
-    omega (arith, total-cut recordPages i (table textureStride readTexture tracked textures), ap (total recordPages) (take-table textureStride readTexture i tracked textures h))
+    omega (arith, total-cut recordPages i (texturesIn tracked textures), ap (total recordPages) (take-table textureStride readTexture i tracked textures h))
 
 -- ---- as the model has it
 
@@ -126,10 +125,10 @@ module _ (l : Lent) (fits : Fits l) (id : ℕ) (shape : VersionShape) where
   foundIn = historyFound (l .textures) (l .pool .tracked) id shape
 
   -- the record at the place, and where its pages begin
-  record-place : place < l .pool .tracked → getD (trackedRecords l) place (readTexture []) ≡ recordAt textureStride readTexture (l .textures) place
+  record-place : place < l .pool .tracked → getD (trackedRecords l) place (readTexture []) ≡ textureIn (l .textures) place
   record-place h = getD-table textureStride readTexture (l .pool .tracked) place (l .textures) (readTexture []) h
 
-  page-place : place < l .pool .tracked → firstPageOf l place ≡ total recordPages (table textureStride readTexture place (l .textures))
+  page-place : place < l .pool .tracked → firstPageOf l place ≡ total recordPages (texturesIn place (l .textures))
   unfolding firstPageOf
   page-place h = ap (total recordPages) (take-table textureStride readTexture place (l .pool .tracked) (l .textures) (omega arith))
 
@@ -143,7 +142,7 @@ module _ (l : Lent) (fits : Fits l) (id : ℕ) (shape : VersionShape) where
     found-state : foundIn ≡ foundOf (firstPageOf l place) shape (getD (trackedRecords l) place (readTexture []))
     unfolding historyFound
     found-state =
-        found-there (l .textures) (l .pool .tracked) id shape place (recordAt textureStride readTexture (l .textures) place) refl has
+        found-there (l .textures) (l .pool .tracked) id shape place (textureIn (l .textures) place) refl has
         ∙ sym (ap₂ (λ (page : ℕ) (t : TextureRecord). foundOf page shape t) (page-place within) (record-place within))
 
   not-there : hasId (l .textures) (l .pool .tracked) place id ≡ false → IsTracked l id (ids-ascend l fits) → ⊥

@@ -4,7 +4,6 @@ use mathlib.Core.Bool.{Bool, true, false, cond, _&&_, not}
 use mathlib.Core.List.{List}
 use lib.Dec.{leb, ltb, eqb}
 use Rattle.base_blocks.specs.Lists.{total}
-use Rattle.base_tables.specs.Records.{recordAt, table}
 use Rattle.grid_shapes.specs.declared.shape.VersionShape.{VersionShape}
 use Rattle.grid_shapes.specs.Shapes.{isShape, sameShape}
 use Rattle.pool_rules.specs.declared.held.Held.{Held}
@@ -14,7 +13,7 @@ use Rattle.pool_rules.specs.Histories.{inShape}
 use Rattle.pool_records.specs.declared.recorded.Recorded.{Recorded}
 use Rattle.pool_records.specs.declared.recorded.Recorded.the-variants.{Writes, NoHistory}
 use Rattle.pool_records.specs.declared.texture.TextureRecord.{TextureRecord}
-use Rattle.pool_records.specs.Texture.{readTexture}
+use Rattle.pool_records.specs.Texture.{textureIn, texturesIn}
 use Rattle.pool_records.specs.Find.{idOf, below}
 use Rattle.pool_memory.specs.Reading.{recordPages}
 use Rattle.pool_memory.specs.Calls.{Told, refusal, answer}
@@ -24,7 +23,6 @@ use Rattle.pool_preserve_plan.specs.declared.history.Found.{Found}
 use Rattle.pool_preserve_plan.specs.declared.history.Found.the-variants.{OtherShape, NothingRecorded, History}
 use Rattle.pool_preserve_plan.specs.declared.calls.preserve_plan.PlanAnswer.{PlanAnswer}
 use Rattle.pool_preserve_plan.specs.declared.calls.preserve_plan.PlanAnswer.the-variants.{Copies, Refused}
-use Rattle.pool_records.specs.RecordConstants.{textureStride}
 
 -- ---- the texture
 
@@ -39,11 +37,11 @@ foundOf page shape t = cond (sameShape (t .shape) shape) (recordedFound page (t 
 -- record i, if it is there and has the id
 unfoldable pub foundAt : List ℕ → ℕ → ℕ → VersionShape → ℕ → Found
 foundAt textures tracked id shape i =
-    cond (ltb i tracked && eqb (idOf (recordAt textureStride readTexture textures i)) id)
-    (foundOf (total recordPages (table textureStride readTexture i textures)) shape (recordAt textureStride readTexture textures i)) NothingRecorded
+    cond (ltb i tracked && eqb (idOf (textureIn textures i)) id)
+    (foundOf (total recordPages (texturesIn i textures)) shape (textureIn textures i)) NothingRecorded
 
 unfoldable pub historyFound : List ℕ → ℕ → ℕ → VersionShape → Found
-historyFound textures tracked id shape = foundAt textures tracked id shape (below id (table textureStride readTexture tracked textures))
+historyFound textures tracked id shape = foundAt textures tracked id shape (below id (texturesIn tracked textures))
 
 -- the copies are bounded where both are known
 abbrev pub sinceHeld : ℕ → Held → Since

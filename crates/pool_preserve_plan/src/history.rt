@@ -4,8 +4,7 @@ ghost use mathlib.Core.Bool.{true};
 ghost use Prim.Native.Nat.{_*_, _≤_};
 ghost use lib.ListN.{length};
 ghost use Rattle.base_blocks.specs.Lists.{ascending, total};
-ghost use Rattle.base_tables.specs.Records.{table};
-ghost use Rattle.pool_records.specs.Texture.{readTexture};
+ghost use Rattle.pool_records.specs.Texture.{texturesIn};
 ghost use Rattle.pool_records.specs.Find.{idOf};
 ghost use Rattle.pool_memory.specs.Reading.{recordPages};
 ghost use Rattle.pool_preserve_plan.specs.PreservePlan.{historyFound, sinceHeld, sinceOf, isOther, isSpent};
@@ -30,8 +29,8 @@ pub enum Found {
 }
 
 pub fn find_history(textures: &[u64], tracked: usize, id: u64, shape: VersionShape) -> Found
-    requires { ⌜ (textureStride * tracked ≤ length (now textures)) × (ascending idOf (table textureStride readTexture tracked (now textures)) ≡ true)
-        × (total recordPages (table textureStride readTexture tracked (now textures)) ≤ mostPlaces) ⌝ }
+    requires { ⌜ (textureStride * tracked ≤ length (now textures)) × (ascending idOf (texturesIn tracked (now textures)) ≡ true)
+        × (total recordPages (texturesIn tracked (now textures)) ≤ mostPlaces) ⌝ }
     ensures { λ r. ⌜ r ≡ historyFound (now (textures .entry)) tracked id shape ⌝ }
 {
     let i = find_texture(textures, tracked, id);

@@ -2,8 +2,10 @@
 use Prim.Native.Nat.{ℕ}
 use mathlib.Core.List.{List, [], _∷_, _++_}
 use lib.ListN.{getD}
+use Rattle.base_tables.specs.Records.{recordAt, table}
 use Rattle.grid_shapes.specs.declared.shape.VersionShape.{VersionShape}
 use Rattle.pool_records.specs.declared.texture.TextureRecord.{TextureRecord}
+use Rattle.pool_records.specs.RecordConstants.{textureStride}
 use Rattle.pool_records.specs.Recorded.{recordedOf, recordedNumber}
 
 abbrev pub shapeIn : List ℕ → VersionShape
@@ -42,3 +44,10 @@ readTexture s = record {
 unfoldable pub writeTexture : TextureRecord → List ℕ
 writeTexture x =
     x .id ∷ (shapeNumbers (x .shape) ++ (x .epoch ∷ recordedNumber (x .history) ∷ x .birth ∷ x .rename ∷ x .due ∷ x .spares ∷ x .bytes ∷ []))
+
+-- record i of the textures' slice, and the first n
+abbrev pub textureIn : List ℕ → ℕ → TextureRecord
+textureIn s i = recordAt textureStride readTexture s i
+
+abbrev pub texturesIn : ℕ → List ℕ → List TextureRecord
+texturesIn n s = table textureStride readTexture n s

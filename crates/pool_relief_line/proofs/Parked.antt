@@ -17,7 +17,7 @@ use Rattle.base_blocks.proofs.Listed.{left, left-step, left-none, total-more, t
 use Rattle.base_tables.specs.Records.{recordAt}
 use Rattle.grid_shapes.specs.Shapes.{bytesOf}
 use Rattle.pool_records.specs.declared.texture.TextureRecord.{TextureRecord}
-use Rattle.pool_records.specs.Texture.{readTexture}
+use Rattle.pool_records.specs.Texture.{readTexture, textureIn}
 use Rattle.pool_records.specs.Spare.{readSpare}
 use Rattle.pool_access.proofs.Fields.{spares-number}
 use Rattle.pool_relief_line.specs.Line.{countBefore, takenAt, gives, IsLine}
@@ -130,7 +130,7 @@ bytes-zero spares from (t ∷ ts) =
 
 module _ (textures spares : List ℕ) (n i : ℕ) (h : i < n) where
   abbrev textureAt : ℕ → TextureRecord
-  textureAt k = recordAt textureStride readTexture textures k
+  textureAt k = textureIn textures k
 
   abbrev rest : ℕ → List TextureRecord
   rest k = left textureAt n k

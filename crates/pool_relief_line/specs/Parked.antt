@@ -5,10 +5,10 @@ use mathlib.Core.Bool.{true}
 use mathlib.Core.List.{List, [], _∷_}
 use lib.ListN.{length}
 use Rattle.base_blocks.specs.Lists.{listed, total}
-use Rattle.base_tables.specs.Records.{recordAt, table}
+use Rattle.base_tables.specs.Records.{recordAt}
 use Rattle.grid_shapes.specs.Shapes.{isShape, bytesOf}
 use Rattle.pool_records.specs.declared.texture.TextureRecord.{TextureRecord}
-use Rattle.pool_records.specs.Texture.{readTexture}
+use Rattle.pool_records.specs.Texture.{textureIn, texturesIn}
 use Rattle.pool_records.specs.Spare.{readSpare}
 use Rattle.pool_relief_line.specs.Line.{countBefore}
 use Rattle.pool_records.specs.RecordConstants.{spareStride, textureStride}
@@ -36,6 +36,6 @@ recordBytes t = bytesOf (t .shape) * t .spares
 -- n textures and their spares, as far as they are counted: they are there, and their bytes sum up to 2^56 at most
 pub record Countable (textures : List ℕ) (n : ℕ) (spares : List ℕ) : Type 0 where
   pub fits : textureStride * n ≤ length textures
-  pub runs : spareStride * total recordSpares (table textureStride readTexture n textures) ≤ length spares
-  pub shapes : (i : ℕ) → i < n → isShape (recordAt textureStride readTexture textures i .shape) ≡ true
-  pub bytes : total recordBytes (table textureStride readTexture n textures) ≤ 72057594037927936
+  pub runs : spareStride * total recordSpares (texturesIn n textures) ≤ length spares
+  pub shapes : (i : ℕ) → i < n → isShape (textureIn textures i .shape) ≡ true
+  pub bytes : total recordBytes (texturesIn n textures) ≤ 72057594037927936

@@ -4,9 +4,8 @@ ghost use mathlib.Core.Bool.{true};
 ghost use Prim.Native.Nat.{_+_, _*_, _≤_, _<_};
 ghost use lib.ListN.{length};
 ghost use Rattle.base_blocks.specs.Lists.{total};
-ghost use Rattle.base_tables.specs.Records.{recordAt, table};
 ghost use Rattle.grid_shapes.specs.Shapes.{isShape, bytesOf};
-ghost use Rattle.pool_records.specs.Texture.{readTexture};
+ghost use Rattle.pool_records.specs.Texture.{textureIn, texturesIn};
 ghost use Rattle.pool_relief_line.specs.Line.{countBefore, IsLine};
 ghost use Rattle.pool_relief_line.specs.Parked.{parkings, bytesFrom, recordSpares, Countable};
 ghost use Rattle.pool_records.specs.RecordConstants.{spareStride, textureStride};
@@ -22,8 +21,8 @@ use pool_rules::LIMIT;
 // No parking number passes it.
 // Bytes of one version of texture i.
 pub fn version_bytes(textures: &[u64], i: usize) -> u64
-    requires { ⌜ (textureStride * i + textureStride ≤ length (now textures)) × (isShape (recordAt textureStride readTexture (now textures) i .shape) ≡ true) ⌝ }
-    ensures { λ r. ⌜ r ≡ bytesOf (recordAt textureStride readTexture (now (textures .entry)) i .shape) ⌝ }
+    requires { ⌜ (textureStride * i + textureStride ≤ length (now textures)) × (isShape (textureIn (now textures) i .shape) ≡ true) ⌝ }
+    ensures { λ r. ⌜ r ≡ bytesOf (textureIn (now (textures .entry)) i .shape) ⌝ }
 {
     let t = texture_at(textures, i);
     shape_bytes(t.shape)
@@ -31,9 +30,9 @@ pub fn version_bytes(textures: &[u64], i: usize) -> u64
 
 // Bytes of the spares parked before a line, of texture i, which has n spares from place `from` on.
 fn run_bytes(textures: &[u64], i: usize, spares: &[u64], from: usize, n: usize, line: u64) -> u64
-    requires { ⌜ (textureStride * i + textureStride ≤ length (now textures)) × (isShape (recordAt textureStride readTexture (now textures) i .shape) ≡ true) × (spareStride * (from + n) ≤ length (now spares))
-        × (bytesOf (recordAt textureStride readTexture (now textures) i .shape) * n ≤ 72057594037927936) ⌝ }
-    ensures { λ r. ⌜ r ≡ bytesOf (recordAt textureStride readTexture (now (textures .entry)) i .shape) * countBefore line (parkings (now (spares .entry)) from n) ⌝ }
+    requires { ⌜ (textureStride * i + textureStride ≤ length (now textures)) × (isShape (textureIn (now textures) i .shape) ≡ true) × (spareStride * (from + n) ≤ length (now spares))
+        × (bytesOf (textureIn (now textures) i .shape) * n ≤ 72057594037927936) ⌝ }
+    ensures { λ r. ⌜ r ≡ bytesOf (textureIn (now (textures .entry)) i .shape) * countBefore line (parkings (now (spares .entry)) from n) ⌝ }
 {
     let count = count_before(spares, from, n, line);
     // The bytes are worked out only where they count.
@@ -47,7 +46,7 @@ fn run_bytes(textures: &[u64], i: usize, spares: &[u64], from: usize, n: usize, 
 // Bytes of the spares parked before a line, of the first n textures.
 pub fn bytes_before(textures: &[u64], n: usize, spares: &[u64], line: u64) -> u64
     requires { ⌜ Countable (now textures) n (now spares) ⌝ }
-    ensures { λ r. ⌜ (r ≤ 72057594037927936) × (r ≡ bytesFrom (now (spares .entry)) line 0 (table textureStride readTexture n (now (textures .entry)))) ⌝ }
+    ensures { λ r. ⌜ (r ≤ 72057594037927936) × (r ≡ bytesFrom (now (spares .entry)) line 0 (texturesIn n (now (textures .entry)))) ⌝ }
 {
     let mut sum = 0;
     let mut from = 0;
@@ -70,7 +69,7 @@ pub struct Ends {
 // How many spares the first n textures have.
 fn spare_count(textures: &[u64], n: usize, spares: &[u64]) -> usize
     requires { ⌜ Countable (now textures) n (now spares) ⌝ }
-    ensures { λ r. ⌜ r ≡ total recordSpares (table textureStride readTexture n (now (textures .entry))) ⌝ }
+    ensures { λ r. ⌜ r ≡ total recordSpares (texturesIn n (now (textures .entry))) ⌝ }
 {
     let mut count = 0;
     let mut i = 0;
@@ -125,7 +124,7 @@ fn line_between(lo: u64, hi: u64, guess: u64) -> u64
 // The last line such that what is parked before it, and what is queued already, do not cover the excess.
 pub fn parking_line(textures: &[u64], n: usize, spares: &[u64], dooming: u64, excess: u64) -> u64
     requires { ⌜ Countable (now textures) n (now spares) × (dooming ≤ 72057594037927936) × (dooming < excess) ⌝ }
-    ensures { λ r. ⌜ IsLine dooming excess (λ k. bytesFrom (now (spares .entry)) k 0 (table textureStride readTexture n (now (textures .entry)))) r ⌝ }
+    ensures { λ r. ⌜ IsLine dooming excess (λ k. bytesFrom (now (spares .entry)) k 0 (texturesIn n (now (textures .entry)))) r ⌝ }
 {
     let ends = parked_ends(spares, spare_count(textures, n, spares));
     let mut lo = 0;

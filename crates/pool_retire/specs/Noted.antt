@@ -3,19 +3,18 @@ use Prim.Native.Nat.{ℕ, _+_, _-_}
 use mathlib.Core.Bool.{Bool, true, false, cond, _&&_}
 use mathlib.Core.List.{List}
 use lib.Dec.{leb, ltb, eqb}
-use Rattle.base_tables.specs.Records.{recordAt}
 use Rattle.base_tables.specs.Rings.{along}
 use Rattle.pool_rules.specs.Model.{limit}
 use Rattle.pool_records.specs.declared.recorded.Recorded.{Recorded}
 use Rattle.pool_records.specs.declared.recorded.Recorded.the-variants.{Writes, NoHistory}
 use Rattle.pool_records.specs.declared.texture.TextureRecord.{TextureRecord}
 use Rattle.pool_records.specs.declared.retiring.RetiringRecord.{RetiringRecord}
-use Rattle.pool_records.specs.Texture.{readTexture}
+use Rattle.pool_records.specs.Texture.{textureIn}
 use Rattle.pool_records.specs.Retiring.{readRetiring}
 use Rattle.pool_records.specs.Find.{idOf}
 use Rattle.pool_memory.specs.declared.pool.Pool.{Pool}
 use Rattle.pool_retire.specs.Counts.{ringCount}
-use Rattle.pool_records.specs.RecordConstants.{retiringStride, textureStride}
+use Rattle.pool_records.specs.RecordConstants.{retiringStride}
 
 -- the submission of the last still queued, 0 if none is
 unfoldable pub lastQueued : Pool → List ℕ → ℕ → ℕ
@@ -30,7 +29,7 @@ retireRefusal p retiring places seq =
 
 -- record i, where a search among n ended, is there and has the id
 abbrev pub hasId : List ℕ → ℕ → ℕ → ℕ → Bool
-hasId textures n i id = ltb i n && eqb (idOf (recordAt textureStride readTexture textures i)) id
+hasId textures n i id = ltb i n && eqb (idOf (textureIn textures i)) id
 
 abbrev pub writesCounted : Recorded → ℕ
 writesCounted NoHistory = 0

@@ -12,7 +12,7 @@ use Rattle.base_blocks.proofs.Listed.{listed-more}
 use Rattle.base_tables.specs.Records.{recordAt, table, flat}
 use Rattle.base_tables.proofs.Records.{length-table, flat-append, length-flat}
 use Rattle.pool_records.specs.declared.texture.TextureRecord.{TextureRecord}
-use Rattle.pool_records.specs.Texture.{readTexture, writeTexture}
+use Rattle.pool_records.specs.Texture.{readTexture, writeTexture, textureIn, texturesIn}
 use Rattle.pool_records.proofs.Codecs.{texture-codec}
 use Rattle.pool_take_doomed.specs.DrainVersions.{spareless, cleared}
 use Rattle.pool_records.specs.RecordConstants.{textureSparesAt, textureStride}
@@ -35,24 +35,24 @@ cleared-none s = refl
 
 module _ (s : List ℕ) (i : ℕ) (fits : textureStride * i + textureStride ≤ length s) where
   abbrev front : List ℕ
-  front = flat writeTexture (map spareless (table textureStride readTexture i s))
+  front = flat writeTexture (map spareless (texturesIn i s))
 
   length-front : length front ≡ textureStride * i
   length-front =
-      length-flat texture-codec (map spareless (table textureStride readTexture i s))
-      ∙ ap (λ (k : ℕ). textureStride * k) (length-map (table textureStride readTexture i s) spareless ∙ length-table textureStride readTexture i s)
+      length-flat texture-codec (map spareless (texturesIn i s))
+      ∙ ap (λ (k : ℕ). textureStride * k) (length-map (texturesIn i s) spareless ∙ length-table textureStride readTexture i s)
 
   -- record i and what stands past it
-  parted : drop (textureStride * i) s ≡ writeTexture (recordAt textureStride readTexture s i) ++ drop (textureStride * i + textureStride) s
+  parted : drop (textureStride * i) s ≡ writeTexture (textureIn s i) ++ drop (textureStride * i + textureStride) s
   unfolding recordAt
   parted =
       sym (take-append-drop textureStride (drop (textureStride * i) s))
       ∙ ap₂ (λ (a b : List ℕ). a ++ b) (sym (texture-codec .back (drop (textureStride * i) s) (omega (arith, length-drop (textureStride * i) s)))) (drop-drop textureStride (textureStride * i) s)
 
-  front-more : flat writeTexture (map spareless (table textureStride readTexture (i + 1) s)) ≡ front ++ writeTexture (spareless (recordAt textureStride readTexture s i))
+  front-more : flat writeTexture (map spareless (texturesIn (i + 1) s)) ≡ front ++ writeTexture (spareless (textureIn s i))
   unfolding table flat
   front-more =
-      let f = recordAt textureStride readTexture s in
+      let f = textureIn s in
       ap (λ (n : ℕ). flat writeTexture (map spareless (listed f 0 n))) (add-one i)
       ∙ ap (λ (ts : List TextureRecord). flat writeTexture (map spareless ts))
       (listed-more f 0 i ∙ ap (λ (k : ℕ). listed f 0 i ++ (f k ∷ [])) (zero-add i))
@@ -63,7 +63,7 @@ module _ (s : List ℕ) (i : ℕ) (fits : textureStride * i + textureStride ≤ 
   pub cleared-more : set (cleared i s) (textureStride * i + textureSparesAt) 0 ≡ cleared (i + 1) s
   unfolding cleared over
   cleared-more =
-      let t = recordAt textureStride readTexture s i in
+      let t = textureIn s i in
       let rest = drop (textureStride * i + textureStride) s in
       let longer : length (front ++ writeTexture (spareless t)) ≡ textureStride * i + textureStride =
       length-append front (writeTexture (spareless t)) ∙ ap₂ (λ (a b : ℕ). a + b) length-front (texture-codec .long (spareless t)) in

@@ -3,14 +3,14 @@ use Prim.Native.Nat.{ℕ}
 use mathlib.Core.List.{List, _++_, map}
 use lib.ListN.{replicate}
 use Rattle.base_blocks.specs.Lists.{over}
-use Rattle.base_tables.specs.Records.{table, flat}
+use Rattle.base_tables.specs.Records.{flat}
 use Rattle.base_tables.specs.Rings.{placeOf}
 use Rattle.pool_records.specs.declared.texture.TextureRecord.{TextureRecord}
-use Rattle.pool_records.specs.Texture.{readTexture, writeTexture}
+use Rattle.pool_records.specs.Texture.{writeTexture, texturesIn}
 use Rattle.pool_memory.specs.declared.pool.Pool.{Pool}
 use Rattle.pool_memory.specs.declared.book.PacingBook.{PacingBook}
 use Rattle.pool_take_doomed.specs.Views.{column}
-use Rattle.pool_records.specs.RecordConstants.{doomedStride, retiringStride, spareStride, textureStride}
+use Rattle.pool_records.specs.RecordConstants.{doomedStride, retiringStride, spareStride}
 use Rattle.pool_rules.specs.RuleConstants.{destroySpreadDrains}
 
 -- the views of the queue, then of the destroy queue, then of the spares
@@ -58,4 +58,4 @@ spareless t = record {
 
 -- the first n records without their spares
 unfoldable pub cleared : ℕ → List ℕ → List ℕ
-cleared n s = over (flat writeTexture (map spareless (table textureStride readTexture n s))) s
+cleared n s = over (flat writeTexture (map spareless (texturesIn n s))) s

@@ -8,13 +8,12 @@ use native.Mathlib.Omega.{arith}
 use borrow.Author.Tests.{lt-ltb, le-ltb, le-leb, lt-leb, not-true, not-false}
 use lib.Dec.{ltb, leb}
 use lib.ListN.{length}
-use Rattle.base_tables.specs.Records.{recordAt}
 use Rattle.grid_shapes.specs.declared.shape.VersionShape.{VersionShape}
 use Rattle.grid_shapes.specs.Shapes.{isShape, sameShape}
 use Rattle.pool_rules.specs.Model.{VersionState, Pool, find, limit, pagesOf, pagesUsed}
 use Rattle.pool_rules.specs.TakeSpare.{takeSpare}
 use Rattle.pool_records.specs.declared.texture.TextureRecord.{TextureRecord}
-use Rattle.pool_records.specs.Texture.{readTexture}
+use Rattle.pool_records.specs.Texture.{textureIn}
 use Rattle.pool_records.specs.Find.{below}
 use Rattle.pool_memory.specs.Lent.{Lent}
 use Rattle.pool_memory.specs.Reading.{trackedRecords, recordPages, modelOf}
@@ -62,7 +61,7 @@ module _ (places own used trackings : ℕ) (shape : VersionShape) (records : Boo
 pub few-pages : (shape : VersionShape) (r : Bool) → r ≡ isShape shape → not r ≡ false → pagesOf shape ≤ mostPlaces
 few-pages shape r is shaped = omega (arith, pages-bound shape (sym is ∙ not-false r shaped))
 
-pub tracked-at : (s : List ℕ) (n i id : ℕ) (b : Bool) → b ≡ ids.hasId s n i id → not b ≡ false → (i < n) × (recordAt textureStride readTexture s i .id ≡ id)
+pub tracked-at : (s : List ℕ) (n i id : ℕ) (b : Bool) → b ≡ ids.hasId s n i id → not b ≡ false → (i < n) × (textureIn s i .id ≡ id)
 tracked-at s n i id b has into = ids.found s n i id (sym has ∙ not-false b into)
 
 module _ (l : Lent) (i id : ℕ) where

@@ -12,7 +12,7 @@ use Rattle.base_blocks.specs.Lists.{total, removed}
 use Rattle.base_blocks.specs.Blocks.{moved}
 use Rattle.base_blocks.proofs.Lists.{either}
 use Rattle.base_blocks.proofs.Listed.{getD-listed}
-use Rattle.base_tables.specs.Records.{recordAt, table}
+use Rattle.base_tables.specs.Records.{recordAt}
 use Rattle.grid_shapes.specs.declared.shape.VersionShape.{VersionShape}
 use Rattle.grid_shapes.specs.Shapes.{sameShape, bytesOf}
 use Rattle.pool_rules.specs.Model.{Spare, VersionState, Pool, find, pagesUsed}
@@ -21,7 +21,7 @@ use Rattle.pool_rules.specs.TakeSpare.{newest, others, takenBytes, takeSpare}
 use Rattle.pool_rules.proofs.States.{length-change, total-change, total-unchanged}
 use Rattle.pool_records.specs.declared.texture.TextureRecord.{TextureRecord}
 use Rattle.pool_records.specs.declared.spare.SpareRecord.{SpareRecord}
-use Rattle.pool_records.specs.Texture.{readTexture, writeTexture}
+use Rattle.pool_records.specs.Texture.{writeTexture, texturesIn}
 use Rattle.pool_records.specs.Recorded.{RecordedFits}
 use Rattle.pool_records.specs.Spare.{readSpare}
 use Rattle.pool_memory.specs.declared.pool.Pool.{Pool as Counts}
@@ -219,7 +219,7 @@ module _ (l : Lent) (i id : ℕ) (shape : VersionShape) (records : Bool) (seq : 
         ∙ no-spare (sym (ap sparesOf is-record) ∙ e)
 
     module _ (first k : ℕ) (s : SpareRecord) (spares : List ℕ) where
-      pub left-with : 0 < t′ .spares → first ≡ total sparesOf (table textureStride readTexture i (l .textures)) → k ≡ first + (t′ .spares - 1)
+      pub left-with : 0 < t′ .spares → first ≡ total sparesOf (texturesIn i (l .textures)) → k ≡ first + (t′ .spares - 1)
           → s ≡ recordAt spareStride readSpare (l .spares) k → x ≡ renamedRecord seq (t′ .spares - 1) t′
           → textures ≡ sets (l .textures) (textureStride * i) (writeTexture x) → spares ≡ moved (l .spares) (spareStride * k) (spareStride * k + spareStride * 1) (spareStride * (l .pool .kept - (k + 1)))
           → (

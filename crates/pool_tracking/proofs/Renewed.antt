@@ -11,7 +11,6 @@ use lib.ListN.{length, set, replicate, length-append}
 use lib.Seq.{sets}
 use Rattle.base_blocks.specs.Lists.{listed, total, removed}
 use Rattle.base_blocks.specs.Blocks.{moved}
-use Rattle.base_tables.specs.Records.{table}
 use Rattle.base_tables.specs.Rings.{laid}
 use Rattle.grid_shapes.specs.declared.shape.VersionShape.{VersionShape}
 use Rattle.grid_shapes.specs.Shapes.{isShape, sameShape, bytesOf}
@@ -23,7 +22,7 @@ use Rattle.pool_rules.proofs.States.{length-change, total-change}
 use Rattle.pool_rules.proofs.Moves.{as-doomed-bytes, as-doomed-length}
 use Rattle.pool_records.specs.declared.texture.TextureRecord.{TextureRecord}
 use Rattle.pool_records.specs.declared.doomed.DoomedRecord.{DoomedRecord}
-use Rattle.pool_records.specs.Texture.{readTexture, writeTexture}
+use Rattle.pool_records.specs.Texture.{writeTexture, texturesIn}
 use Rattle.pool_records.specs.Doomed.{writeDoomed}
 use Rattle.pool_memory.specs.declared.pool.Pool.{Pool as Counts}
 use Rattle.pool_memory.specs.Lent.{Lent, lent, versionPlaces}
@@ -78,8 +77,8 @@ pub record Renewable (l : Lent) (hold : Holding) (shape : VersionShape) (records
 
 -- what it asks before it reads them
 pub record Readable (l : Lent) (i : ℕ) : Type 0 where
-  pub spares : total sparesOf (table textureStride readTexture i (l .textures)) ≤ mostPlaces
-  pub pages : total recordPages (table textureStride readTexture i (l .textures)) ≤ mostPlaces
+  pub spares : total sparesOf (texturesIn i (l .textures)) ≤ mostPlaces
+  pub pages : total recordPages (texturesIn i (l .textures)) ≤ mostPlaces
   pub own : recordPages (recordOf l i) ≤ mostPlaces
 
 module _ (l : Lent) (i id : ℕ) (shape : VersionShape) (records : Bool) (seq : ℕ) (ok : Accepted l i id shape records seq) (h : TrackedAt l i id)

@@ -11,7 +11,6 @@ use lib.ListN.{length, take, drop, replicate}
 use lib.Seq.{sets}
 use Rattle.base_blocks.specs.Lists.{total, inserted}
 use Rattle.base_blocks.specs.Blocks.{moved}
-use Rattle.base_tables.specs.Records.{table}
 use Rattle.base_tables.proofs.Records.{take-table}
 use Rattle.grid_shapes.specs.declared.shape.VersionShape.{VersionShape}
 use Rattle.grid_shapes.specs.Shapes.{isShape}
@@ -20,7 +19,7 @@ use Rattle.pool_rules.specs.Updates.{withTextures, withTrackings, insert}
 use Rattle.pool_rules.specs.TakeSpare.{takeSpare}
 use Rattle.pool_rules.proofs.States.{length-insert, total-insert}
 use Rattle.pool_records.specs.declared.texture.TextureRecord.{TextureRecord}
-use Rattle.pool_records.specs.Texture.{readTexture, writeTexture}
+use Rattle.pool_records.specs.Texture.{readTexture, writeTexture, texturesIn}
 use Rattle.pool_records.proofs.Places.{below-length}
 use Rattle.pool_memory.specs.Lent.{Lent, lent}
 use Rattle.pool_memory.specs.Reading.{trackedRecords, recordPages, modelOf}
@@ -54,7 +53,7 @@ pub record Startable (l : Lent) (i : ℕ) (shape : VersionShape) (records : Bool
   pub tracked : l .pool .tracked < mostPlaces
   pub counter : l .pool .trackings < limit
   pub few : pagesOf shape ≤ mostPlaces
-  pub page : total recordPages (table textureStride readTexture i (l .textures)) ≤ l .pool .pages
+  pub page : total recordPages (texturesIn i (l .textures)) ≤ l .pool .pages
   pub used : l .pool .pages ≤ length (l .newest)
   pub room : l .pool .pages + freshPages shape records ≤ length (l .newest) + 0
   pub newest : length (l .newest) ≤ mostPlaces
@@ -123,7 +122,7 @@ module _ (l : Lent) (i id : ℕ) (shape : VersionShape) (records : Bool) (seq : 
         page-places l,
       )
 
-  pages-there : total recordPages (table textureStride readTexture i (l .textures)) ≡ firstPageOf l i
+  pages-there : total recordPages (texturesIn i (l .textures)) ≡ firstPageOf l i
   unfolding firstPageOf
   pages-there = ap (total recordPages) (sym (take-table textureStride readTexture i (l .pool .tracked) (l .textures) place-bound))
 
@@ -166,7 +165,7 @@ module _ (l : Lent) (i id : ℕ) (shape : VersionShape) (records : Bool) (seq : 
       tracked-then kept-then pages-then (sym (doomed-model l)) (omega arith)
 
   pub left-started : (x : TextureRecord) (textures newest stamps : List ℕ) (page fresh : ℕ) → x ≡ newRecord id shape records (l .pool .trackings + 1) seq
-      → page ≡ total recordPages (table textureStride readTexture i (l .textures)) → fresh ≡ freshPages shape records
+      → page ≡ total recordPages (texturesIn i (l .textures)) → fresh ≡ freshPages shape records
       → textures ≡ sets (moved (l .textures) (textureStride * i + textureStride) (textureStride * i) (textureStride * (l .pool .tracked - i))) (textureStride * i) (writeTexture x)
       → newest ≡ sets (moved (l .newest) (page + fresh) (page + 0) (l .pool .pages - (page + 0))) page (replicate fresh 0)
       → stamps ≡ sets (moved (l .stamps) (pageStamps * page + pageStamps * fresh) (pageStamps * page + pageStamps * 0) (pageStamps * (l .pool .pages - (page + 0)))) (pageStamps * page) (replicate (pageStamps * fresh) 0)

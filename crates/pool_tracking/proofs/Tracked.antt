@@ -8,14 +8,13 @@ use native.Mathlib.Nat.{mul-one, mul-le-mul-left}
 use native.Mathlib.Omega.{arith}
 use lib.ListN.{length, getD}
 use Rattle.base_blocks.specs.Lists.{total}
-use Rattle.base_tables.specs.Records.{table}
 use Rattle.grid_shapes.specs.declared.shape.VersionShape.{VersionShape}
 use Rattle.grid_shapes.specs.Shapes.{isShape, bytesOf}
 use Rattle.pool_rules.specs.Model.{find, spareBytes}
 use Rattle.pool_rules.proofs.States.{find-part}
 use Rattle.pool_records.specs.declared.texture.TextureRecord.{TextureRecord}
 use Rattle.pool_records.specs.Recorded.{RecordedFits}
-use Rattle.pool_records.specs.Texture.{readTexture}
+use Rattle.pool_records.specs.Texture.{readTexture, texturesIn}
 use Rattle.pool_records.specs.Find.{below}
 use Rattle.pool_memory.specs.Lent.{Lent}
 use Rattle.pool_memory.specs.Reading.{trackedRecords, modelOf}
@@ -77,7 +76,7 @@ pub record Here (l : Lent) (i : ℕ) : Type 0 where
   pub history : RecordedFits (recordOf l i .history)
   pub shape : isShape (recordOf l i .shape) ≡ true
   pub bytes : recordOf l i .bytes ≡ bytesOf (recordOf l i .shape)
-  pub first : total sparesOf (table textureStride readTexture i (l .textures)) ≡ firstSpare l i
+  pub first : total sparesOf (texturesIn i (l .textures)) ≡ firstSpare l i
   pub within : firstSpare l i + recordOf l i .spares ≤ l .pool .kept
   pub kept : l .pool .kept ≤ mostPlaces
   pub spares : spareStride * l .pool .kept ≤ length (l .spares)

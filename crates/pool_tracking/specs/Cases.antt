@@ -2,16 +2,14 @@
 use Prim.Native.Nat.{ℕ, _<_}
 use mathlib.Core.Path.{_≡_}
 use mathlib.Core.Bool.{Bool, true}
-use Rattle.base_tables.specs.Records.{recordAt}
 use Rattle.grid_shapes.specs.declared.shape.VersionShape.{VersionShape}
 use Rattle.pool_records.specs.declared.texture.TextureRecord.{TextureRecord}
-use Rattle.pool_records.specs.Texture.{readTexture}
+use Rattle.pool_records.specs.Texture.{textureIn}
 use Rattle.pool_records.specs.Find.{below}
 use Rattle.pool_memory.specs.Lent.{Lent}
 use Rattle.pool_memory.specs.Reading.{trackedRecords, modelOf}
 use Rattle.pool_memory.specs.IsPool.{isPool}
 use Rattle.pool_tracking.specs.Refusal.{takeRefusal}
-use Rattle.pool_records.specs.RecordConstants.{textureStride}
 
 -- a pool, the place i of the id among its textures, and nothing to refuse
 abbrev pub Accepted : Lent → ℕ → ℕ → VersionShape → Bool → ℕ → Type 0
@@ -19,7 +17,7 @@ Accepted l i id shape records seq = (isPool l ≡ true) × ((i ≡ below id (tra
 
 -- record i
 abbrev pub recordOf : Lent → ℕ → TextureRecord
-recordOf l i = recordAt textureStride readTexture (l .textures) i
+recordOf l i = textureIn (l .textures) i
 
 -- it is the texture's
 abbrev pub TrackedAt : Lent → ℕ → ℕ → Type 0

@@ -2,21 +2,19 @@
 use Prim.Native.Nat.{ℕ, _+_, _*_, _-_}
 use mathlib.Core.List.{List}
 use Rattle.base_blocks.specs.Lists.{total}
-use Rattle.base_tables.specs.Records.{recordAt, table}
 use Rattle.pool_records.specs.declared.texture.TextureRecord.{TextureRecord}
-use Rattle.pool_records.specs.Texture.{readTexture}
+use Rattle.pool_records.specs.Texture.{textureIn, texturesIn}
 use Rattle.pool_memory.specs.declared.pool.Pool.{Pool}
 use Rattle.pool_memory.specs.Reading.{recordPages}
 use Rattle.pool_tracking.specs.declared.holding.Holding.{Holding}
-use Rattle.pool_records.specs.RecordConstants.{textureStride}
 
 unfoldable pub holdingAt : List ℕ → ℕ → Holding
 holdingAt textures i = record {
-  first = total (λ (t : TextureRecord). t .spares) (table textureStride readTexture i textures);
-  spares = recordAt textureStride readTexture textures i .spares;
-  bytes = recordAt textureStride readTexture textures i .bytes;
-  page = total recordPages (table textureStride readTexture i textures);
-  pages = recordPages (recordAt textureStride readTexture textures i);
+  first = total (λ (t : TextureRecord). t .spares) (texturesIn i textures);
+  spares = textureIn textures i .spares;
+  bytes = textureIn textures i .bytes;
+  page = total recordPages (texturesIn i textures);
+  pages = recordPages (textureIn textures i);
 }
 
 -- k spares of those bytes are queued for destruction

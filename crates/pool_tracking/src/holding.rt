@@ -3,8 +3,7 @@ ghost use mathlib.Core.Path.{_≡_};
 ghost use Prim.Native.Nat.{_+_, _*_, _≤_};
 ghost use lib.ListN.{length};
 ghost use Rattle.base_blocks.specs.Lists.{total};
-ghost use Rattle.base_tables.specs.Records.{recordAt, table};
-ghost use Rattle.pool_records.specs.Texture.{readTexture};
+ghost use Rattle.pool_records.specs.Texture.{textureIn, texturesIn};
 ghost use Rattle.pool_memory.specs.Reading.{recordPages};
 ghost use Rattle.pool_tracking.specs.Holdings.{holdingAt};
 ghost use Rattle.pool_records.specs.RecordConstants.{textureStride};
@@ -25,9 +24,9 @@ pub struct Holding {
 
 pub fn holding_at(textures: &[u64], i: usize) -> Holding
     requires { ⌜ (textureStride * i + textureStride ≤ length (now textures))
-        × (total (λ t. t .spares) (table textureStride readTexture i (now textures)) ≤ mostPlaces)
-        × (total recordPages (table textureStride readTexture i (now textures)) ≤ mostPlaces)
-        × (recordPages (recordAt textureStride readTexture (now textures) i) ≤ mostPlaces) ⌝ }
+        × (total (λ t. t .spares) (texturesIn i (now textures)) ≤ mostPlaces)
+        × (total recordPages (texturesIn i (now textures)) ≤ mostPlaces)
+        × (recordPages (textureIn (now textures) i) ≤ mostPlaces) ⌝ }
     ensures { λ r. ⌜ r ≡ holdingAt (now (textures .entry)) i ⌝ }
 {
     let t = texture_at(textures, i);

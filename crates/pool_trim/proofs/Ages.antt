@@ -14,7 +14,7 @@ use Rattle.base_blocks.specs.Lists.{listed}
 use Rattle.base_tables.specs.Records.{recordAt}
 use Rattle.pool_records.specs.declared.texture.TextureRecord.{TextureRecord}
 use Rattle.pool_records.specs.Spare.{readSpare}
-use Rattle.pool_records.specs.Texture.{readTexture}
+use Rattle.pool_records.specs.Texture.{readTexture, textureIn}
 use Rattle.pool_rules.specs.Model.{Spare}
 use Rattle.pool_rules.specs.Trim.{aged, agedCount}
 use Rattle.pool_trim.specs.LookAt.{spareIn, isIdle, dueAfter}
@@ -82,7 +82,7 @@ parked-at spares j = getD-drop (spareStride * j) spares spareParkedAt 0
 
 module _ (textures : List ℕ) (i : ℕ) where
   abbrev texture : TextureRecord
-  texture = recordAt textureStride readTexture textures i
+  texture = textureIn textures i
 
   pub rename-at : texture .rename ≡ getD textures (textureStride * i + textureRenameAt) 0
   unfolding recordAt readTexture

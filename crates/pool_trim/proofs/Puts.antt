@@ -9,10 +9,9 @@ use lib.Dec.{eqb}
 use lib.ListN.{length, getD}
 use lib.Seq.{sets}
 use Rattle.base_blocks.proofs.Lists.{and-both}
-use Rattle.base_tables.specs.Records.{recordAt}
 use Rattle.base_tables.proofs.Records.{rewritten}
 use Rattle.pool_records.specs.declared.texture.TextureRecord.{TextureRecord}
-use Rattle.pool_records.specs.Texture.{readTexture, writeTexture}
+use Rattle.pool_records.specs.Texture.{writeTexture, textureIn}
 use Rattle.pool_records.proofs.Codecs.{texture-codec}
 use Rattle.pool_access.proofs.Fields.{spares-number}
 use Rattle.pool_trim.specs.declared.look_at.Look.{Look}
@@ -22,7 +21,7 @@ use Rattle.pool_records.specs.RecordConstants.{textureDueAt, textureSparesAt, t
 
 module _ (T : List ℕ) (to i : ℕ) (look : Look) where
   abbrev t₀ : TextureRecord
-  t₀ = recordAt textureStride readTexture T i
+  t₀ = textureIn T i
 
   abbrev written : List ℕ
   written = sets T (textureStride * to) (writeTexture (lookedRecord look t₀))

@@ -10,7 +10,6 @@ use lib.ListN.{length, take, getD, length-append}
 use lib.Seq.{take-all}
 use Rattle.base_blocks.specs.Lists.{keep, total}
 use Rattle.base_blocks.proofs.All.{all-at}
-use Rattle.base_tables.specs.Records.{recordAt}
 use Rattle.grid_shapes.specs.declared.shape.VersionShape.{VersionShape}
 use Rattle.pool_rules.specs.Model.{Doomed, VersionState, Pool, refused, accepted, limit, spareBytes, doomedBytes}
 use Rattle.pool_rules.specs.Updates.{withTextures, doomSpares}
@@ -22,7 +21,7 @@ use Rattle.pool_records.specs.declared.recorded.Recorded.{Recorded}
 use Rattle.pool_records.specs.declared.recorded.Recorded.the-variants.{Writes, NoHistory}
 use Rattle.pool_records.specs.declared.texture.TextureRecord.{TextureRecord}
 use Rattle.pool_records.specs.Recorded.{RecordedFits}
-use Rattle.pool_records.specs.Texture.{readTexture}
+use Rattle.pool_records.specs.Texture.{readTexture, textureIn}
 use Rattle.pool_memory.specs.declared.pool.Pool.{Pool as Counts}
 use Rattle.pool_memory.specs.Lent.{Lent, lent, versionPlaces}
 use Rattle.pool_memory.specs.Reading.{trackedRecords, recordPages, historyRead, stateRead, modelOf}
@@ -41,7 +40,6 @@ use Rattle.pool_memory.proofs.Tracked.{record-read}
 use Rattle.pool_access.proofs.Totals.{total-first}
 use Rattle.pool_trim.specs.declared.look_at.Look.{Look}
 use Rattle.pool_trim.specs.declared.pass.Pass.{Pass}
-use Rattle.pool_forget_texture.specs.Owned.{textureIn}
 use Rattle.pool_trim.specs.Pass.{trimmedOne, givenOne, trimmed, countsAfter}
 use Rattle.pool_trim.specs.NothingAged.{allYoung}
 use Rattle.pool_forget_texture.proofs.TextureRuns.{spares-within, pages-within}
@@ -73,7 +71,7 @@ module _ (l : Lent) (f : Fits l) (i : ℕ) (h : i < l .pool .tracked) where
 
   module _ (now : ℕ) (w : Pass) (T D S N P : List ℕ) (s : Sofar l now i w T D S N P) where
     pub look-fits : (textureStride * i + textureStride ≤ length T)
-        × (spareStride * (w .first + recordAt textureStride readTexture T i .spares) ≤ length S) × (recordPages (recordAt textureStride readTexture T i) ≤ mostPlaces)
+        × (spareStride * (w .first + textureIn T i .spares) ≤ length S) × (recordPages (textureIn T i) ≤ mostPlaces)
     look-fits =
         let here = record-now l now i w T D S N P f h s in (
           omega (arith, s .T-long, textures-fit l f),
@@ -92,7 +90,7 @@ module _ (l : Lent) (f : Fits l) (i : ℕ) (h : i < l .pool .tracked) where
         omega (arith, s .S-long, n .few, n .spares, f .versions, f .spares),
       )
 
-      pub put-fits : (textureStride * i + textureStride ≤ length T) × (textureStride * w .tracked + textureStride ≤ length T) × RecordedFits (recordAt textureStride readTexture T i .history)
+      pub put-fits : (textureStride * i + textureStride ≤ length T) × (textureStride * w .tracked + textureStride ≤ length T) × RecordedFits (textureIn T i .history)
           × (look .aged ≤ look .own)
       put-fits = (
         omega (arith, s .T-long, textures-fit l f),

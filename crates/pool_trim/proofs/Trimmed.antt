@@ -18,7 +18,7 @@ use Rattle.pool_rules.specs.Model.{Spare, Doomed, VersionState, pagesUsed, doom
 use Rattle.pool_rules.specs.Trim.{agedCount, thinned, idle}
 use Rattle.pool_records.specs.declared.texture.TextureRecord.{TextureRecord}
 use Rattle.pool_records.specs.declared.spare.SpareRecord.{SpareRecord}
-use Rattle.pool_records.specs.Texture.{readTexture, writeTexture}
+use Rattle.pool_records.specs.Texture.{readTexture, writeTexture, textureIn}
 use Rattle.pool_records.specs.Spare.{readSpare}
 use Rattle.pool_records.specs.Doomed.{writeDoomed}
 use Rattle.pool_records.specs.Views.{spareOf}
@@ -33,7 +33,7 @@ use Rattle.pool_take_doomed.specs.Given.{givenRecords}
 use Rattle.pool_access.proofs.Totals.{total-none, total-next}
 use Rattle.pool_trim.specs.declared.look_at.Look.{Look}
 use Rattle.pool_trim.specs.declared.pass.Pass.{Pass}
-use Rattle.pool_forget_texture.specs.Owned.{textureIn, sparesTo, pagesTo}
+use Rattle.pool_forget_texture.specs.Owned.{sparesTo, pagesTo}
 use Rattle.pool_trim.specs.LookAt.{spareIn, lookOf, lookAt, lookedRecord, lookedPut}
 use Rattle.pool_trim.specs.Pass.{noPass, passOn, givenOne, trimmed}
 use Rattle.pool_forget_texture.proofs.TextureRuns.{spares-in, spares-within, pages-within}
@@ -125,9 +125,9 @@ module _ (l : Lent) (now i : ℕ) (w : Pass) (T D S N P : List ℕ) (f : Fits l)
 
   -- ---- what is read now is what stood there
 
-  pub record-now : recordAt textureStride readTexture T i ≡ t₀
+  pub record-now : textureIn T i ≡ t₀
   record-now =
-      ap (λ (x : List ℕ). recordAt textureStride readTexture x i) (s .textures) ∙ texture-unread l (trimmed l now i) i (omega (arith, s .tracked, s .fewer))
+      ap (λ (x : List ℕ). textureIn x i) (s .textures) ∙ texture-unread l (trimmed l now i) i (omega (arith, s .tracked, s .fewer))
 
   spare-now : (j : ℕ) → w .first ≤ j → recordAt spareStride readSpare S j ≡ recordAt spareStride readSpare (l .spares) j
   spare-now j q = ap (λ (x : List ℕ). recordAt spareStride readSpare x j) (s .spares) ∙ spare-unread l (trimmed l now i) j (omega (arith, s .kept, s .all))
@@ -308,7 +308,7 @@ module _ (l : Lent) (now i : ℕ) (w : Pass) (T D S N P : List ℕ) (f : Fits l)
           (omega (arith, kept-on, empty, s .kept, ap (λ (ts : List (VersionState ℕ)). length (everySpare ts)) same))
           (omega (arith, pages-on, unpaged, s .pages, ap (total pagesUsed) same))
           (eT
-          ∙ ap (λ (c : Bool). cond c T (sets T (textureStride * w .tracked) (writeTexture (lookedRecord look (recordAt textureStride readTexture T i)))))
+          ∙ ap (λ (c : Bool). cond c T (sets T (textureStride * w .tracked) (writeTexture (lookedRecord look (textureIn T i)))))
           (eq-eqb (look .staying) 0 gone)
           ∙ s .textures ∙ textures-as l (trimmed l now i) (trimmed l now (i + 1)) back)
           (eS ∙ ap (λ (n : ℕ). moved S (spareStride * w .kept) (spareStride * w .kept + spareStride * (w .first + look .aged - w .kept)) n)
@@ -341,7 +341,7 @@ module _ (l : Lent) (now i : ℕ) (w : Pass) (T D S N P : List ℕ) (f : Fits l)
           (omega (arith, kept-on, own-is, aged-is, s .kept, kept-stay l now i h f b))
           (omega (arith, pages-on, pages, s .pages, pages-stay l now i h f b))
           (eT
-          ∙ ap (λ (c : Bool). cond c T (sets T (textureStride * w .tracked) (writeTexture (lookedRecord look (recordAt textureStride readTexture T i)))))
+          ∙ ap (λ (c : Bool). cond c T (sets T (textureStride * w .tracked) (writeTexture (lookedRecord look (textureIn T i)))))
           (ne-eqb (look .staying) 0 (λ q. let y : ⊥ = omega (arith, one, q) in y))
           ∙ ap₂ (λ (x : List ℕ) (r : TextureRecord). sets x (textureStride * w .tracked) (writeTexture r)) (s .textures) (ap₂ lookedRecord here record-now)
           ∙ textures-stay l now i h f b (w .tracked) (s .tracked) (omega (arith, s .fewer, textures-fit l f)))

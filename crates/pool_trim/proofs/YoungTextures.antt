@@ -18,7 +18,7 @@ use Rattle.pool_rules.specs.Model.{Doomed, VersionState, Pool}
 use Rattle.pool_rules.specs.Updates.{withTextures, doomSpares}
 use Rattle.pool_rules.specs.Trim.{aged, agedCount}
 use Rattle.pool_records.specs.declared.texture.TextureRecord.{TextureRecord}
-use Rattle.pool_records.specs.Texture.{readTexture}
+use Rattle.pool_records.specs.Texture.{readTexture, textureIn}
 use Rattle.pool_memory.specs.Lent.{Lent}
 use Rattle.pool_memory.specs.Reading.{spareRead, stateRead, modelOf}
 use Rattle.pool_memory.specs.Writing.{after}
@@ -28,7 +28,7 @@ use Rattle.pool_memory.proofs.Stays.{nothing-changed}
 use Rattle.pool_memory.proofs.Tracked.{record-read}
 use Rattle.pool_access.proofs.Totals.{total-none, total-next, total-with}
 use Rattle.pool_access.proofs.Fields.{spares-number}
-use Rattle.pool_forget_texture.specs.Owned.{textureIn, sparesTo}
+use Rattle.pool_forget_texture.specs.Owned.{sparesTo}
 use Rattle.pool_forget_texture.proofs.TextureRuns.{spares-in}
 use Rattle.pool_trim.specs.LookAt.{spareIn}
 use Rattle.pool_trim.specs.Pass.{trimmedOne, givenOne, trimmed}

@@ -8,7 +8,7 @@ use Rattle.base_blocks.specs.Lists.{listed}
 use Rattle.base_tables.specs.Records.{recordAt}
 use Rattle.pool_records.specs.declared.texture.TextureRecord.{TextureRecord}
 use Rattle.pool_records.specs.Spare.{readSpare}
-use Rattle.pool_records.specs.Texture.{readTexture, writeTexture}
+use Rattle.pool_records.specs.Texture.{writeTexture, textureIn}
 use Rattle.pool_records.specs.Views.{spareOf}
 use Rattle.pool_rules.specs.Model.{Spare}
 use Rattle.pool_rules.specs.Trim.{aged, agedCount}
@@ -40,7 +40,7 @@ lookOf now t count = record {
 -- texture i, whose spares begin at place `first`
 unfoldable pub lookAt : ℕ → List ℕ → List ℕ → ℕ → ℕ → Look
 lookAt now textures spares i first =
-    let t : TextureRecord = recordAt textureStride readTexture textures i in
+    let t : TextureRecord = textureIn textures i in
     lookOf now t (agedCount now (listed (spareIn spares) first (t .spares)))
 
 -- the record after it
@@ -60,4 +60,4 @@ lookedRecord look t = record {
 -- written at place `to`
 unfoldable pub lookedPut : List ℕ → ℕ → ℕ → Look → List ℕ
 lookedPut textures to i look =
-    cond (eqb (look .staying) 0) textures (sets textures (textureStride * to) (writeTexture (lookedRecord look (recordAt textureStride readTexture textures i))))
+    cond (eqb (look .staying) 0) textures (sets textures (textureStride * to) (writeTexture (lookedRecord look (textureIn textures i))))

@@ -3,8 +3,7 @@ ghost use mathlib.Core.Path.{_≡_};
 ghost use Prim.Native.Nat.{_+_, _-_, _*_, _≤_};
 ghost use lib.ListN.{length};
 ghost use Rattle.base_blocks.specs.Lists.{listed};
-ghost use Rattle.base_tables.specs.Records.{recordAt};
-ghost use Rattle.pool_records.specs.Texture.{readTexture};
+ghost use Rattle.pool_records.specs.Texture.{textureIn};
 ghost use Rattle.pool_memory.specs.Reading.{recordPages};
 ghost use Rattle.pool_rules.specs.Trim.{agedCount};
 ghost use Rattle.pool_trim.specs.LookAt.{spareIn, isIdle, dueAfter, lookAt};
@@ -62,7 +61,7 @@ pub fn aged_count(spares: &[u64], first: usize, n: usize, current: u64) -> usize
 // Whether texture i, with `left` spares, is dropped.
 fn is_idle(textures: &[u64], i: usize, left: usize, current: u64) -> bool
     requires { ⌜ textureStride * i + textureStride ≤ length (now textures) ⌝ }
-    ensures { λ r. ⌜ r ≡ isIdle current (recordAt textureStride readTexture (now (textures .entry)) i) left ⌝ }
+    ensures { λ r. ⌜ r ≡ isIdle current (textureIn (now (textures .entry)) i) left ⌝ }
 {
     let oldest = before(current, STATE_MAX_IDLE_SUBMITS);
     (textures[TEXTURE_STRIDE * i + TEXTURE_DUE_AT] < oldest)
@@ -72,7 +71,7 @@ fn is_idle(textures: &[u64], i: usize, left: usize, current: u64) -> bool
 // The number by which the next trims look at texture i.
 fn due_after(textures: &[u64], i: usize, current: u64) -> u64
     requires { ⌜ textureStride * i + textureStride ≤ length (now textures) ⌝ }
-    ensures { λ r. ⌜ r ≡ dueAfter current (recordAt textureStride readTexture (now (textures .entry)) i) ⌝ }
+    ensures { λ r. ⌜ r ≡ dueAfter current (textureIn (now (textures .entry)) i) ⌝ }
 {
     let bound = before(current, STATE_MAX_IDLE_SUBMITS);
     let rename = textures[TEXTURE_STRIDE * i + TEXTURE_RENAME_AT];
@@ -89,8 +88,8 @@ fn due_after(textures: &[u64], i: usize, current: u64) -> u64
 // Texture i, whose spares begin at place `first`.
 pub fn look_at(textures: &[u64], spares: &[u64], i: usize, first: usize, current: u64) -> Look
     requires { ⌜ (textureStride * i + textureStride ≤ length (now textures))
-        × (spareStride * (first + recordAt textureStride readTexture (now textures) i .spares) ≤ length (now spares))
-        × (recordPages (recordAt textureStride readTexture (now textures) i) ≤ mostPlaces) ⌝ }
+        × (spareStride * (first + textureIn (now textures) i .spares) ≤ length (now spares))
+        × (recordPages (textureIn (now textures) i) ≤ mostPlaces) ⌝ }
     ensures { λ r. ⌜ r ≡ lookAt current (now (textures .entry)) (now (spares .entry)) i first ⌝ }
 {
     let own = textures[TEXTURE_STRIDE * i + TEXTURE_SPARES_AT] as usize;

@@ -9,8 +9,9 @@ ghost use Rattle.pool_rules.specs.NoteWrite.{IsDirtyTileOf};
 ghost use Rattle.pool_memory.specs.Lent.{lent};
 ghost use Rattle.pool_memory.specs.Reading.{pageAt, modelOf};
 ghost use Rattle.pool_memory.specs.IsPool.{isPool};
-ghost use Rattle.pool_note_write.specs.History.{textureAt, pagesEnd, HistoryAt, pageOf};
+ghost use Rattle.pool_note_write.specs.History.{pagesEnd, HistoryAt, pageOf};
 ghost use Rattle.grid_stamps.specs.StampConstants.{pageStamps};
+ghost use Rattle.pool_records.specs.Texture.{textureIn};
 use crate::history::history_at;
 use crate::history::in_shape;
 use crate::history::page_of;
@@ -33,8 +34,8 @@ fn dirty_subresource(
     level: u64,
     held: u64,
 ) -> DirtyTile
-    requires { ⌜ HistoryAt (now textures) i × (pageStamps * pagesEnd (now textures) i ≤ length (now stamps)) × (inShape (textureAt (now textures) i .shape) slice level ≡ true) ⌝ }
-    ensures { λ r. ⌜ IsDirtyTile (tilingOf (textureAt (now (textures .entry)) i .shape) level) held (pageAt (now (stamps .entry)) (pageOf (now (textures .entry)) i slice level)) r ⌝ }
+    requires { ⌜ HistoryAt (now textures) i × (pageStamps * pagesEnd (now textures) i ≤ length (now stamps)) × (inShape (textureIn (now textures) i .shape) slice level ≡ true) ⌝ }
+    ensures { λ r. ⌜ IsDirtyTile (tilingOf (textureIn (now (textures .entry)) i .shape) level) held (pageAt (now (stamps .entry)) (pageOf (now (textures .entry)) i slice level)) r ⌝ }
 {
     let t = texture_at(textures, i);
     let shape = t.shape;

@@ -4,9 +4,8 @@ ghost use mathlib.Core.Bool.{true, cond};
 ghost use Prim.Native.Nat.{_+_, _*_, _≤_, _<_};
 ghost use lib.ListN.{length};
 ghost use lib.Seq.{sets};
-ghost use Rattle.base_tables.specs.Records.{recordAt};
 ghost use Rattle.pool_records.specs.Recorded.{RecordedFits};
-ghost use Rattle.pool_records.specs.Texture.{readTexture, writeTexture};
+ghost use Rattle.pool_records.specs.Texture.{writeTexture, textureIn};
 ghost use Rattle.pool_memory.specs.Lent.{lent};
 ghost use Rattle.pool_memory.specs.IsPool.{isPool};
 ghost use Rattle.pool_memory.specs.Calls.{toldNumber, retireCall};
@@ -75,7 +74,7 @@ fn retired_version(
     seq: u64,
 ) -> RetiringRecord
     requires { ⌜ textureStride * tracked ≤ length (now textures) ⌝ }
-    ensures { λ r. ⌜ r ≡ retiredRecord (hasId (now (textures .entry)) tracked i id) (recordAt textureStride readTexture (now (textures .entry)) i) id view seq ⌝ }
+    ensures { λ r. ⌜ r ≡ retiredRecord (hasId (now (textures .entry)) tracked i id) (textureIn (now (textures .entry)) i) id view seq ⌝ }
 {
     if !has_id(textures, tracked, i, id) {
         return RetiringRecord {
@@ -113,10 +112,10 @@ fn born_at(t: TextureRecord, seq: u64) -> TextureRecord
 // A tracked texture's live version became live in this submission.
 fn note_birth(textures: &mut [u64], tracked: usize, i: usize, id: u64, seq: u64)
     requires { ⌜ (textureStride * tracked ≤ length (now textures))
-        × (hasId (now textures) tracked i id ≡ true → RecordedFits (recordAt textureStride readTexture (now textures) i .history)) ⌝ }
+        × (hasId (now textures) tracked i id ≡ true → RecordedFits (textureIn (now textures) i .history)) ⌝ }
     ensures { λ _. ⌜ now (textures .exit)
         ≡ cond (hasId (now (textures .entry)) tracked i id)
-        (sets (now (textures .entry)) (textureStride * i) (writeTexture (bornAt seq (recordAt textureStride readTexture (now (textures .entry)) i)))) (now (textures .entry)) ⌝ }
+        (sets (now (textures .entry)) (textureStride * i) (writeTexture (bornAt seq (textureIn (now (textures .entry)) i)))) (now (textures .entry)) ⌝ }
 {
     if !has_id(textures, tracked, i, id) {
         return;

@@ -3,9 +3,8 @@ ghost use mathlib.Core.Path.{_≡_};
 ghost use mathlib.Core.Bool.{true};
 ghost use Prim.Native.Nat.{_+_, _*_, _≤_};
 ghost use lib.ListN.{length};
-ghost use Rattle.base_tables.specs.Records.{recordAt};
 ghost use Rattle.pool_records.specs.Recorded.{RecordedFits};
-ghost use Rattle.pool_records.specs.Texture.{readTexture};
+ghost use Rattle.pool_records.specs.Texture.{textureIn};
 ghost use Rattle.pool_memory.specs.Lent.{lent};
 ghost use Rattle.pool_memory.specs.IsPool.{isPool};
 ghost use Rattle.pool_memory.specs.Writing.{after};
@@ -38,7 +37,7 @@ use pool_take_doomed::push_spares;
 // there already.
 fn put_looked(textures: &mut [u64], to: usize, i: usize, look: Look)
     requires { ⌜ (textureStride * i + textureStride ≤ length (now textures)) × (textureStride * to + textureStride ≤ length (now textures))
-        × RecordedFits (recordAt textureStride readTexture (now textures) i .history) × (look .aged ≤ look .own) ⌝ }
+        × RecordedFits (textureIn (now textures) i .history) × (look .aged ≤ look .own) ⌝ }
     ensures { λ _. ⌜ now (textures .exit) ≡ lookedPut (now (textures .entry)) to i look ⌝ }
 {
     if look.staying == 0 {

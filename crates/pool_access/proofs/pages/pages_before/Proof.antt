@@ -5,8 +5,8 @@ use Prim.Native.Nat.{_+_, _-_, _≤_}
 use native.Mathlib.Omega.{arith}
 use Rattle.base_blocks.specs.Lists.{total}
 use Rattle.base_blocks.proofs.Listed.{left}
-use Rattle.base_tables.specs.Records.{recordAt, table}
-use Rattle.pool_records.specs.Texture.{readTexture}
+use Rattle.base_tables.specs.Records.{recordAt}
+use Rattle.pool_records.specs.Texture.{readTexture, texturesIn}
 use Rattle.pool_memory.specs.Reading.{recordPages}
 use Rattle.pool_access.proofs.Totals.{sum-start, sum-fits, sum-more, sum-done, total-one}
 use Rattle.pool_access.proofs.pages.pages_before.Statement.{statement}
@@ -14,7 +14,7 @@ use Rattle.pool_access.proofs.pages.pages_before.Tie as tie
 use Rattle.pool_records.specs.RecordConstants.{textureStride}
 
 abbrev Inv-loop : tie.InvT-loop
-Inv-loop s i sum₀ j₀ sum j = (j ≤ i) × (sum + total recordPages (left (recordAt textureStride readTexture s) i j) ≡ total recordPages (table textureStride readTexture i s))
+Inv-loop s i sum₀ j₀ sum j = (j ≤ i) × (sum + total recordPages (left (recordAt textureStride readTexture s) i j) ≡ total recordPages (texturesIn i s))
 
 abbrev μ-loop : tie.MeasureT-loop
 μ-loop s i sum₀ j₀ sum j = i - j

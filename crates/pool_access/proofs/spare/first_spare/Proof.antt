@@ -6,9 +6,8 @@ use mathlib.Core.Logic.{_⊎_, ⊎-elim}
 use Prim.Native.Nat.{ℕ, _+_, _≤_, _<_}
 use native.Mathlib.Omega.{arith}
 use Rattle.base_blocks.specs.Lists.{total}
-use Rattle.base_tables.specs.Records.{table}
 use Rattle.pool_records.specs.declared.texture.TextureRecord.{TextureRecord}
-use Rattle.pool_records.specs.Texture.{readTexture}
+use Rattle.pool_records.specs.Texture.{readTexture, texturesIn}
 use Rattle.pool_access.proofs.Totals.{total-none, total-first}
 use Rattle.pool_access.proofs.spare.first_spare.Statement.{statement}
 use Rattle.pool_access.proofs.spare.first_spare.Tie as tie
@@ -18,7 +17,7 @@ abbrev sparesOf : TextureRecord → ℕ
 sparesOf t = t .spares
 
 abbrev sumTo : List ℕ → ℕ → ℕ
-sumTo s k = total sparesOf (table textureStride readTexture k s)
+sumTo s k = total sparesOf (texturesIn k s)
 
 abbrev Near : ℕ → ℕ → ℕ → ℕ → Type 0
 Near n i from to = ((from ≡ 0) × (to ≡ i)) ⊎ ((from ≡ i) × (to ≡ n) × (0 < i))

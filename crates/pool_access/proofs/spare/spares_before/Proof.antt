@@ -5,9 +5,9 @@ use Prim.Native.Nat.{ℕ, _+_, _-_, _≤_}
 use native.Mathlib.Omega.{arith}
 use Rattle.base_blocks.specs.Lists.{total}
 use Rattle.base_blocks.proofs.Listed.{left}
-use Rattle.base_tables.specs.Records.{recordAt, table}
+use Rattle.base_tables.specs.Records.{recordAt}
 use Rattle.pool_records.specs.declared.texture.TextureRecord.{TextureRecord}
-use Rattle.pool_records.specs.Texture.{readTexture}
+use Rattle.pool_records.specs.Texture.{readTexture, texturesIn}
 use Rattle.pool_access.proofs.Totals.{sum-start, sum-fits, sum-more, sum-done}
 use Rattle.pool_access.proofs.Fields.{spares-number}
 use Rattle.pool_access.proofs.spare.spares_before.Statement.{statement}
@@ -18,7 +18,7 @@ abbrev sparesOf : TextureRecord → ℕ
 sparesOf t = t .spares
 
 abbrev Inv-loop : tie.InvT-loop
-Inv-loop s i sum₀ j₀ sum j = (j ≤ i) × (sum + total sparesOf (left (recordAt textureStride readTexture s) i j) ≡ total sparesOf (table textureStride readTexture i s))
+Inv-loop s i sum₀ j₀ sum j = (j ≤ i) × (sum + total sparesOf (left (recordAt textureStride readTexture s) i j) ≡ total sparesOf (texturesIn i s))
 
 abbrev μ-loop : tie.MeasureT-loop
 μ-loop s i sum₀ j₀ sum j = i - j

@@ -6,9 +6,8 @@ use Prim.Native.Nat.{ℕ, _+_, _-_, _≤_}
 use native.Mathlib.Nat.{add-zero}
 use native.Mathlib.Omega.{arith}
 use Rattle.base_blocks.specs.Lists.{total}
-use Rattle.base_tables.specs.Records.{table}
 use Rattle.pool_records.specs.declared.texture.TextureRecord.{TextureRecord}
-use Rattle.pool_records.specs.Texture.{readTexture}
+use Rattle.pool_records.specs.Texture.{readTexture, texturesIn}
 use Rattle.pool_access.proofs.Totals.{total-next, total-with}
 use Rattle.pool_access.proofs.Fields.{spares-number}
 use Rattle.pool_access.proofs.spare.spares_between.Statement.{statement}
@@ -19,7 +18,7 @@ abbrev sparesOf : TextureRecord → ℕ
 sparesOf t = t .spares
 
 abbrev sumTo : List ℕ → ℕ → ℕ
-sumTo s j = total sparesOf (table textureStride readTexture j s)
+sumTo s j = total sparesOf (texturesIn j s)
 
 abbrev Inv-loop : tie.InvT-loop
 Inv-loop s from to sum₀ j₀ sum j = (j ≤ to) × (sumTo s from + sum ≡ sumTo s j)

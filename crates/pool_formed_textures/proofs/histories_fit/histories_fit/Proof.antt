@@ -7,11 +7,11 @@ use Rattle.base_blocks.specs.Lists.{total}
 use Rattle.base_blocks.proofs.Listed.{left, total-more}
 use Rattle.base_tables.proofs.Records.{table-left}
 use Rattle.pool_records.specs.declared.texture.TextureRecord.{TextureRecord}
-use Rattle.pool_records.specs.Texture.{readTexture}
+use Rattle.pool_records.specs.Texture.{readTexture, textureIn}
 use Rattle.pool_records.specs.Find.{textures as textures′}
 use Rattle.pool_memory.specs.Reading.{recordPages}
 use Rattle.pool_formed_textures.specs.Textures.{historyFits, historiesFit}
-use Rattle.pool_formed_textures.proofs.RecordTests.{textureAt, texture-read, read-shape}
+use Rattle.pool_formed_textures.proofs.RecordTests.{texture-read, read-shape}
 use Rattle.pool_formed_textures.proofs.HistoryTests.{histories-more, histories-stop, histories-done}
 use borrow.Author.Needs.{needs}
 use Rattle.pool_formed_textures.proofs.histories_fit.histories_fit.Statement.{statement}
@@ -20,8 +20,8 @@ use Rattle.pool_records.specs.RecordConstants.{textureStride}
 
 abbrev Inv-loop : tie.InvT-loop
 Inv-loop textures n newest stamps page₀ i₀ page i =
-    (i ≤ n) × (page + total recordPages (left (textureAt textures) n i) ≡ total recordPages (textures′ n textures))
-    × (historiesFit newest stamps page (left (textureAt textures) n i) ≡ historiesFit newest stamps 0 (textures′ n textures))
+    (i ≤ n) × (page + total recordPages (left (textureIn textures) n i) ≡ total recordPages (textures′ n textures))
+    × (historiesFit newest stamps page (left (textureIn textures) n i) ≡ historiesFit newest stamps 0 (textures′ n textures))
 
 abbrev μ-loop : tie.MeasureT-loop
 μ-loop textures n newest stamps page₀ i₀ page i = n - i
@@ -45,7 +45,7 @@ history-fits-requires c κs =
     let m = ap recordPages (texture-read s (b .loop .i) _ (r .1)) in (
       omega (arith, r .0),
       read-shape s (b .loop .i) _ (r .1) (z .args .n) (z .pre .1) h,
-      omega (arith, m, z .pre .2, b .loop .inv .1, total-more (textureAt s) (z .args .n) recordPages (b .loop .i) h),
+      omega (arith, m, z .pre .2, b .loop .inv .1, total-more (textureIn s) (z .args .n) recordPages (b .loop .i) h),
       z .pre .3,
     )
 
@@ -71,7 +71,7 @@ add-page c =
     let z = b .before .before .before .before in
     let s = z .args .textures .now in
     let m = c .record-pages .ensures .1 ∙ ap recordPages (texture-read s (b .loop .i) _ (c .before .before .before .record-at .ensures .1)) in
-    omega (arith, m, z .pre .2, b .loop .inv .1, total-more (textureAt s) (z .args .n) recordPages (b .loop .i) (c .before .before .before .before .loop-test .taken))
+    omega (arith, m, z .pre .2, b .loop .inv .1, total-more (textureIn s) (z .args .n) recordPages (b .loop .i) (c .before .before .before .before .loop-test .taken))
 
 add-i : tie.Need-add-i Inv-loop μ-loop
 add-i c = search needs
@@ -89,7 +89,7 @@ loop-again c =
     let m = c .record-pages .ensures .1 ∙ ap recordPages t in
     let e = sym (ap (λ (u : TextureRecord). historyFits (a .newest .now) (a .stamps .now) (u .shape) (b .loop .page) (u .history)) t) ∙ sym (c .before .before .history-fits .ensures) ∙ not-false _ (c .before .if1 .left) in (
       search needs,
-      omega (arith, m, b .loop .inv .1, total-more (textureAt s) (a .n) recordPages (b .loop .i) h),
+      omega (arith, m, b .loop .inv .1, total-more (textureIn s) (a .n) recordPages (b .loop .i) h),
       sym (histories-more (a .newest .now) (a .stamps .now) s (a .n) (b .loop .i) (b .loop .page) h _ m e) ∙ b .loop .inv .2,
     )
 

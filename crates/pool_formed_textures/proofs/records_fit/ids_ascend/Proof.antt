@@ -5,16 +5,16 @@ use native.Mathlib.Omega.{arith}
 use Rattle.base_blocks.specs.Lists.{ascending}
 use Rattle.base_blocks.proofs.Listed.{left, ascending-done}
 use Rattle.base_tables.proofs.Records.{table-left}
-use Rattle.pool_records.specs.Texture.{readTexture}
+use Rattle.pool_records.specs.Texture.{readTexture, textureIn}
 use Rattle.pool_records.specs.Find.{textures as textures′, idOf}
-use Rattle.pool_formed_textures.proofs.RecordTests.{textureAt, ids-more, ids-stop}
+use Rattle.pool_formed_textures.proofs.RecordTests.{ids-more, ids-stop}
 use borrow.Author.Needs.{needs}
 use Rattle.pool_formed_textures.proofs.records_fit.ids_ascend.Statement.{statement}
 use Rattle.pool_formed_textures.proofs.records_fit.ids_ascend.Tie as tie
 use Rattle.pool_records.specs.RecordConstants.{textureStride}
 
 abbrev Inv-loop : tie.InvT-loop
-Inv-loop textures n i₀ i = (i ≤ n) × (ascending idOf (left (textureAt textures) n i) ≡ ascending idOf (textures′ n textures))
+Inv-loop textures n i₀ i = (i ≤ n) × (ascending idOf (left (textureIn textures) n i) ≡ ascending idOf (textures′ n textures))
 
 abbrev μ-loop : tie.MeasureT-loop
 μ-loop textures n i₀ i = n - i
@@ -68,7 +68,7 @@ returns-2 : tie.Need-returns-2 Inv-loop μ-loop
 returns-2 c =
     let b = c .before in
     let a = b .before .args in
-    sym (ascending-done (textureAt (a .textures .now)) (a .n) idOf (b .loop .i) (c .loop-test .left)) ∙ b .loop .inv .1
+    sym (ascending-done (textureIn (a .textures .now)) (a .n) idOf (b .loop .i) (c .loop-test .left)) ∙ b .loop .inv .1
 
 pub ids-ascend-spec : {M : Type 1} → statement M
 ids-ascend-spec =

@@ -5,17 +5,17 @@ use borrow.Author.Tests.{not-true, not-false}
 use Rattle.base_blocks.specs.Lists.{all}
 use Rattle.base_blocks.proofs.Listed.{left, all-more, all-stop, all-done}
 use Rattle.base_tables.proofs.Records.{table-left}
-use Rattle.pool_records.specs.Texture.{readTexture}
+use Rattle.pool_records.specs.Texture.{readTexture, textureIn}
 use Rattle.pool_records.specs.Find.{textures as textures′}
 use Rattle.pool_formed_textures.specs.Textures.{isRecord}
-use Rattle.pool_formed_textures.proofs.RecordTests.{textureAt, texture-read}
+use Rattle.pool_formed_textures.proofs.RecordTests.{texture-read}
 use borrow.Author.Needs.{needs}
 use Rattle.pool_formed_textures.proofs.records_fit.records_fit.Statement.{statement}
 use Rattle.pool_formed_textures.proofs.records_fit.records_fit.Tie as tie
 use Rattle.pool_records.specs.RecordConstants.{textureStride}
 
 abbrev Inv-loop : tie.InvT-loop
-Inv-loop textures n i₀ i = (i ≤ n) × (all isRecord (left (textureAt textures) n i) ≡ all isRecord (textures′ n textures))
+Inv-loop textures n i₀ i = (i ≤ n) × (all isRecord (left (textureIn textures) n i) ≡ all isRecord (textures′ n textures))
 
 abbrev μ-loop : tie.MeasureT-loop
 μ-loop textures n i₀ i = n - i
@@ -35,7 +35,7 @@ returns c =
     let a = b .before .before .args in
     let s = a .textures .now in
     let e = sym (ap isRecord (texture-read s (b .loop .i) _ (c .before .before .record-at .ensures .1))) ∙ sym (c .before .is-record .ensures) ∙ not-true _ (c .if1 .taken) in
-    sym (all-stop (textureAt s) (a .n) isRecord (b .loop .i) (c .before .before .before .loop-test .taken) e) ∙ b .loop .inv .1
+    sym (all-stop (textureIn s) (a .n) isRecord (b .loop .i) (c .before .before .before .loop-test .taken) e) ∙ b .loop .inv .1
 
 add-i : tie.Need-add-i Inv-loop μ-loop
 add-i c = search needs
@@ -49,13 +49,13 @@ loop-again c =
     let a = b .before .before .args in
     let s = a .textures .now in
     let e = sym (ap isRecord (texture-read s (b .loop .i) _ (c .before .before .record-at .ensures .1))) ∙ sym (c .before .is-record .ensures) ∙ not-false _ (c .if1 .left) in
-    (search needs, sym (all-more (textureAt s) (a .n) isRecord (b .loop .i) (c .before .before .before .loop-test .taken) e) ∙ b .loop .inv .1)
+    (search needs, sym (all-more (textureIn s) (a .n) isRecord (b .loop .i) (c .before .before .before .loop-test .taken) e) ∙ b .loop .inv .1)
 
 returns-2 : tie.Need-returns-2 Inv-loop μ-loop
 returns-2 c =
     let b = c .before in
     let a = b .before .before .args in
-    sym (all-done (textureAt (a .textures .now)) (a .n) isRecord (b .loop .i) (c .loop-test .left)) ∙ b .loop .inv .1
+    sym (all-done (textureIn (a .textures .now)) (a .n) isRecord (b .loop .i) (c .loop-test .left)) ∙ b .loop .inv .1
 
 pub records-fit-spec : {M : Type 1} → statement M
 records-fit-spec =

@@ -6,10 +6,10 @@ use Rattle.base_blocks.specs.Lists.{total}
 use Rattle.base_blocks.proofs.Listed.{left, total-done}
 use Rattle.base_tables.proofs.Records.{table-left}
 use Rattle.pool_records.specs.declared.texture.TextureRecord.{TextureRecord}
-use Rattle.pool_records.specs.Texture.{readTexture}
+use Rattle.pool_records.specs.Texture.{readTexture, textureIn}
 use Rattle.pool_records.specs.Find.{textures as textures′}
 use Rattle.pool_formed_textures.specs.Textures.{recordBytes}
-use Rattle.pool_formed_textures.proofs.RecordTests.{textureAt, texture-read, read-shape, read-bytes, spares-at}
+use Rattle.pool_formed_textures.proofs.RecordTests.{texture-read, read-shape, read-bytes, spares-at}
 use Rattle.pool_formed_textures.proofs.Claims.{parked-more, parked-room}
 use borrow.Author.Needs.{needs}
 use Rattle.pool_formed_textures.proofs.runs_fit.parked_bytes.Statement.{statement}
@@ -17,7 +17,7 @@ use Rattle.pool_formed_textures.proofs.runs_fit.parked_bytes.Tie as tie
 use Rattle.pool_records.specs.RecordConstants.{textureStride}
 
 abbrev Inv-loop : tie.InvT-loop
-Inv-loop textures n sum₀ i₀ sum i = (i ≤ n) × (sum + total recordBytes (left (textureAt textures) n i) ≡ total recordBytes (textures′ n textures))
+Inv-loop textures n sum₀ i₀ sum i = (i ≤ n) × (sum + total recordBytes (left (textureIn textures) n i) ≡ total recordBytes (textures′ n textures))
 
 abbrev μ-loop : tie.MeasureT-loop
 μ-loop textures n sum₀ i₀ sum i = n - i
@@ -68,7 +68,7 @@ returns : tie.Need-returns Inv-loop μ-loop
 returns c =
     let b = c .before in
     let a = b .before .before .args in
-    omega (arith, b .loop .inv .1, total-done (textureAt (a .textures .now)) (a .n) recordBytes (b .loop .i) (c .loop-test .left))
+    omega (arith, b .loop .inv .1, total-done (textureIn (a .textures .now)) (a .n) recordBytes (b .loop .i) (c .loop-test .left))
 
 pub parked-bytes-spec : {M : Type 1} → statement M
 parked-bytes-spec =

@@ -7,9 +7,10 @@ use borrow.Author.Needs.{needs}
 use Rattle.pool_records.specs.declared.recorded.Recorded.the-variants.{NoHistory}
 use Rattle.pool_records.specs.declared.texture.TextureRecord.{TextureRecord}
 use Rattle.pool_access.proofs.Ids.{found}
-use Rattle.pool_note_write.specs.History.{textureAt, recordedAt}
+use Rattle.pool_note_write.specs.History.{recordedAt}
 use Rattle.pool_note_write.proofs.history.history_at.Statement.{statement}
 use Rattle.pool_note_write.proofs.history.history_at.Tie as tie
+use Rattle.pool_records.specs.Texture.{textureIn}
 
 has-id-requires : tie.Need-has-id-requires
 has-id-requires c κs = search needs
@@ -18,7 +19,7 @@ returns : tie.Need-returns
 unfolding recordedAt
 returns c =
     let a = c .before .before .before .args in
-    sym (ap (λ (b : Bool). cond b (textureAt (a .textures .now) (a .i) .history) NoHistory) (sym (c .before .has-id .ensures) ∙ not-true _ (c .if1 .taken)))
+    sym (ap (λ (b : Bool). cond b (textureIn (a .textures .now) (a .i) .history) NoHistory) (sym (c .before .has-id .ensures) ∙ not-true _ (c .if1 .taken)))
 
 texture-at-requires : tie.Need-texture-at-requires
 texture-at-requires c κs =
@@ -31,7 +32,7 @@ unfolding recordedAt
 returns-2 c =
     let a = c .before .before .before .before .args in
     ap (λ (t : TextureRecord). t .history) (c .texture-at .ensures)
-    ∙ sym (ap (λ (b : Bool). cond b (textureAt (a .textures .now) (a .i) .history) NoHistory) (sym (c .before .before .has-id .ensures) ∙ not-false _ (c .before .if1 .left)))
+    ∙ sym (ap (λ (b : Bool). cond b (textureIn (a .textures .now) (a .i) .history) NoHistory) (sym (c .before .before .has-id .ensures) ∙ not-false _ (c .before .if1 .left)))
 
 pub history-at-spec : {M : Type 1} → statement M
 history-at-spec = tie.close (tie.spec has-id-requires returns texture-at-requires returns-2)

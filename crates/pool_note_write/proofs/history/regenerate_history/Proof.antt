@@ -6,9 +6,10 @@ use borrow.Author.Needs.{needs}
 use Rattle.grid_shapes.specs.Shapes.{isShape}
 use Rattle.pool_records.specs.declared.texture.TextureRecord.{TextureRecord}
 use Rattle.pool_history.specs.Written.{newestWritten, pagesWritten, remadeGrids}
-use Rattle.pool_note_write.specs.History.{textureAt, pagesUpTo, pagesHere}
+use Rattle.pool_note_write.specs.History.{pagesUpTo, pagesHere}
 use Rattle.pool_note_write.proofs.history.regenerate_history.Statement.{statement}
 use Rattle.pool_note_write.proofs.history.regenerate_history.Tie as tie
+use Rattle.pool_records.specs.Texture.{textureIn}
 
 texture-at-requires : tie.Need-texture-at-requires
 texture-at-requires c κs = search needs
@@ -43,9 +44,9 @@ returns c =
     let a = b .before .before .before .before .before .before .before .before .before .args in
     let w = b .before .before .before in
     let same : remadeGrids (w .before .before .texture-at .result .shape) (a .n) (a .newest .now) (a .stamps .now) (w .before .pages-before .result) (w .pages-at .result)
-    ≡ remadeGrids (textureAt (a .textures .now) (a .i) .shape) (a .n) (a .newest .now) (a .stamps .now) (pagesUpTo (a .textures .now) (a .i)) (pagesHere (a .textures .now) (a .i)) =
+    ≡ remadeGrids (textureIn (a .textures .now) (a .i) .shape) (a .n) (a .newest .now) (a .stamps .now) (pagesUpTo (a .textures .now) (a .i)) (pagesHere (a .textures .now) (a .i)) =
     ap (λ (t : TextureRecord). remadeGrids (t .shape) (a .n) (a .newest .now) (a .stamps .now) (w .before .pages-before .result) (w .pages-at .result)) (w .before .before .texture-at .ensures)
-    ∙ ap₂ (λ (p k : ℕ). remadeGrids (textureAt (a .textures .now) (a .i) .shape) (a .n) (a .newest .now) (a .stamps .now) p k) (w .before .pages-before .ensures) (w .pages-at .ensures) in (
+    ∙ ap₂ (λ (p k : ℕ). remadeGrids (textureIn (a .textures .now) (a .i) .shape) (a .n) (a .newest .now) (a .stamps .now) p k) (w .before .pages-before .ensures) (w .pages-at .ensures) in (
       b .regenerate-pages .ensures .0 ∙ ap₂ (newestWritten (a .newest .now)) (w .before .pages-before .ensures) same,
       b .regenerate-pages .ensures .1 ∙ ap₂ (pagesWritten (a .stamps .now)) (w .before .pages-before .ensures) same,
     )

@@ -1,13 +1,11 @@
 -- `park_or_destroy` meets its contract, test by test. Assumes nothing.
 use native.Mathlib.Omega.{arith}
-use Rattle.base_tables.specs.Records.{recordAt}
-use Rattle.pool_records.specs.Texture.{readTexture}
+use Rattle.pool_records.specs.Texture.{textureIn}
 use Rattle.pool_access.proofs.Ids.{hasId}
 use Rattle.pool_retire.proofs.Tracked.{says-nowhere, says-here, record-fits}
 use Rattle.pool_park.proofs.Parked.{decide-untracked, decide-renewed, decide-full, decide-kept}
 use Rattle.pool_park.proofs.park_or_destroy.park_or_destroy.Statement.{statement}
 use Rattle.pool_park.proofs.park_or_destroy.park_or_destroy.Tie as tie
-use Rattle.pool_records.specs.RecordConstants.{textureStride}
 
 has-id-requires : tie.Need-has-id-requires
 has-id-requires c κs = c .before .pre .0
@@ -17,7 +15,7 @@ returns c =
     let a = c .before .before .before .args in
     let h = c .before .has-id in
     decide-untracked (a .pool) (a .pressed) (hasId (a .textures .now) (a .pool .tracked) (a .i) (a .v .id))
-    (recordAt textureStride readTexture (a .textures .now) (a .i)) (a .v)
+    (textureIn (a .textures .now) (a .i)) (a .v)
     (says-nowhere (a .textures .now) (a .pool .tracked) (a .i) (a .v .id) (h .result) (h .ensures) (c .if1 .taken))
 
 texture-at-requires : tie.Need-texture-at-requires
@@ -34,7 +32,7 @@ returns-2 c =
     (c .before .before .before .before .if1 .left) in
     let t = c .before .before .before .texture-at in
     decide-renewed (a .pool) (a .pressed) (hasId (a .textures .now) (a .pool .tracked) (a .i) (a .v .id))
-    (recordAt textureStride readTexture (a .textures .now) (a .i)) (a .v)
+    (textureIn (a .textures .now) (a .i)) (a .v)
     q (t .result) (t .ensures) (λ same. let y : ⊥ = omega (arith, same, c .if2 .taken) in y)
 
 sub-if3 : tie.Need-sub-if3
@@ -49,7 +47,7 @@ returns-3 c =
     let t = c .before .before .before .before .before .texture-at in
     let within = c .before .before .before .before .before .before .before .before .before .pre .1 in
     decide-full (a .pool) (a .pressed) (hasId (a .textures .now) (a .pool .tracked) (a .i) (a .v .id))
-    (recordAt textureStride readTexture (a .textures .now) (a .i)) (a .v)
+    (textureIn (a .textures .now) (a .i)) (a .v)
     q (t .result) (t .ensures) (omega (arith, c .before .before .if2 .left)) within (c .if3 .taken)
 
 returns-4 : tie.Need-returns-4
@@ -61,7 +59,7 @@ returns-4 c =
     let t = c .before .before .before .before .before .texture-at in
     let within = c .before .before .before .before .before .before .before .before .before .pre .1 in
     decide-kept (a .pool) (a .pressed) (hasId (a .textures .now) (a .pool .tracked) (a .i) (a .v .id))
-    (recordAt textureStride readTexture (a .textures .now) (a .i)) (a .v)
+    (textureIn (a .textures .now) (a .i)) (a .v)
     q (t .result) (t .ensures) (omega (arith, c .before .before .if2 .left)) within (c .if3 .left)
 
 pub park-or-destroy-spec : {M : Type 1} → statement M

@@ -6,10 +6,10 @@ use lib.ListN.{getD}
 use borrow.Author.Needs.{needs}
 use Rattle.base_blocks.specs.Lists.{total}
 use Rattle.base_blocks.proofs.Listed.{left}
-use Rattle.base_tables.specs.Records.{recordAt, table}
+use Rattle.base_tables.specs.Records.{recordAt}
 use Rattle.base_tables.proofs.Records.{table-left}
 use Rattle.grid_shapes.specs.Shapes.{bytesOf}
-use Rattle.pool_records.specs.Texture.{readTexture}
+use Rattle.pool_records.specs.Texture.{readTexture, textureIn, texturesIn}
 use Rattle.pool_relief_line.specs.Parked.{bytesFrom, recordSpares, recordBytes}
 use Rattle.pool_relief_line.proofs.Parked.{spares-rest, bytes-rest, before-rest, before-done, counted-bytes}
 use Rattle.pool_relief_line.proofs.line.bytes_before.Statement.{statement}
@@ -19,9 +19,9 @@ use Rattle.pool_records.specs.RecordConstants.{textureSparesAt, textureStride}
 abbrev Inv-loop : tie.InvT-loop
 Inv-loop textures n spares line sum₀ from₀ i₀ sum from i =
     (i ≤ n)
-    × (from + total recordSpares (left (recordAt textureStride readTexture textures) n i) ≡ total recordSpares (table textureStride readTexture n textures))
+    × (from + total recordSpares (left (recordAt textureStride readTexture textures) n i) ≡ total recordSpares (texturesIn n textures))
     × (sum + total recordBytes (left (recordAt textureStride readTexture textures) n i) ≤ 72057594037927936)
-    × (sum + bytesFrom spares line from (left (recordAt textureStride readTexture textures) n i) ≡ bytesFrom spares line 0 (table textureStride readTexture n textures))
+    × (sum + bytesFrom spares line from (left (recordAt textureStride readTexture textures) n i) ≡ bytesFrom spares line 0 (texturesIn n textures))
 
 abbrev μ-loop : tie.MeasureT-loop
 μ-loop textures n spares line sum₀ from₀ i₀ sum from i = n - i
@@ -71,7 +71,7 @@ add-sum c =
       b .loop .inv .2,
       c .run-bytes .ensures,
       bytes-rest (a .textures .now) (a .spares .now) (a .n) (b .loop .i) h,
-      counted-bytes (bytesOf (recordAt textureStride readTexture (a .textures .now) (b .loop .i) .shape)) (a .line) (a .spares .now) (b .loop .from)
+      counted-bytes (bytesOf (textureIn (a .textures .now) (b .loop .i) .shape)) (a .line) (a .spares .now) (b .loop .from)
           (getD (a .textures .now) (textureStride * b .loop .i + textureSparesAt) 0),
     )
 
@@ -107,7 +107,7 @@ loop-again c =
         b .loop .inv .2,
         c .run-bytes .ensures,
         bytes-rest (a .textures .now) (a .spares .now) (a .n) (b .loop .i) h,
-        counted-bytes (bytesOf (recordAt textureStride readTexture (a .textures .now) (b .loop .i) .shape)) (a .line) (a .spares .now) (b .loop .from) kept,
+        counted-bytes (bytesOf (textureIn (a .textures .now) (b .loop .i) .shape)) (a .line) (a .spares .now) (b .loop .from) kept,
       ),
       omega (arith, b .loop .inv .3, c .run-bytes .ensures, before-rest (a .textures .now) (a .spares .now) (a .n) (b .loop .i) h (a .line) (b .loop .from)),
     )

@@ -5,20 +5,18 @@ use mathlib.Core.Logic.{_⊎_, inl, inr}
 use Prim.Native.Nat.{_+_, _-_, _≤_, _<_}
 use native.Mathlib.Omega.{arith}
 use borrow.Author.Needs.{needs}
-use Rattle.base_tables.specs.Records.{table}
-use Rattle.pool_records.specs.Texture.{readTexture}
+use Rattle.pool_records.specs.Texture.{texturesIn}
 use Rattle.pool_relief_line.specs.Parked.{bytesFrom}
 use Rattle.pool_relief_line.proofs.Parked.{bytes-zero, ends-meet}
 use Rattle.pool_relief_line.proofs.line.parking_line.Statement.{statement}
 use Rattle.pool_relief_line.proofs.line.parking_line.Tie as tie
-use Rattle.pool_records.specs.RecordConstants.{textureStride}
 
 abbrev Inv-loop : tie.InvT-loop
 Inv-loop textures n spares dooming excess ends lo₀ hi₀ guess₀ lo hi guess =
     (lo < hi)
     × (hi ≤ 281474976710658)
-    × (dooming + bytesFrom spares lo 0 (table textureStride readTexture n textures) < excess)
-    × ((excess ≤ dooming + bytesFrom spares hi 0 (table textureStride readTexture n textures)) ⊎ (hi ≡ 281474976710658))
+    × (dooming + bytesFrom spares lo 0 (texturesIn n textures) < excess)
+    × ((excess ≤ dooming + bytesFrom spares hi 0 (texturesIn n textures)) ⊎ (hi ≡ 281474976710658))
 
 abbrev μ-loop : tie.MeasureT-loop
 μ-loop textures n spares dooming excess ends lo₀ hi₀ guess₀ lo hi guess = hi - lo
@@ -41,7 +39,7 @@ loop-holds c =
     let a = b .args in (
       omega arith,
       omega arith,
-      omega (arith, bytes-zero (a .spares .now) 0 (table textureStride readTexture (a .n) (a .textures .now)), b .pre .2),
+      omega (arith, bytes-zero (a .spares .now) 0 (texturesIn (a .n) (a .textures .now)), b .pre .2),
       inr (omega arith),
     )
 
@@ -90,7 +88,7 @@ returns : tie.Need-returns Inv-loop μ-loop
 returns c =
     let b = c .before in
     let a = b .before .before .before .before .before .args in
-    ends-meet (a .dooming) (a .excess) (λ k. bytesFrom (a .spares .now) k 0 (table textureStride readTexture (a .n) (a .textures .now))) (b .loop .lo) (b .loop .hi)
+    ends-meet (a .dooming) (a .excess) (λ k. bytesFrom (a .spares .now) k 0 (texturesIn (a .n) (a .textures .now))) (b .loop .lo) (b .loop .hi)
     (b .loop .inv .0) (c .loop-test .left) (b .loop .inv .2) (b .loop .inv .3)
 
 pub parking-line-spec : {M : Type 1} → statement M

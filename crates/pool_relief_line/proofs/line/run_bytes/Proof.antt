@@ -4,13 +4,11 @@ use Prim.Native.Nat.{_*_}
 use native.Mathlib.Nat.{mul-zero}
 use native.Mathlib.Omega.{arith}
 use borrow.Author.Needs.{needs}
-use Rattle.base_tables.specs.Records.{recordAt}
 use Rattle.grid_shapes.specs.Shapes.{bytesOf}
-use Rattle.pool_records.specs.Texture.{readTexture}
+use Rattle.pool_records.specs.Texture.{textureIn}
 use Rattle.pool_relief_line.proofs.Parked.{counted-bytes}
 use Rattle.pool_relief_line.proofs.line.run_bytes.Statement.{statement}
 use Rattle.pool_relief_line.proofs.line.run_bytes.Tie as tie
-use Rattle.pool_records.specs.RecordConstants.{textureStride}
 
 count-before-requires : tie.Need-count-before-requires
 count-before-requires c κs = search needs
@@ -18,7 +16,7 @@ count-before-requires c κs = search needs
 returns : tie.Need-returns
 returns c =
     let a = c .before .before .before .before .args in
-    let b = bytesOf (recordAt textureStride readTexture (a .textures .now) (a .i) .shape) in
+    let b = bytesOf (textureIn (a .textures .now) (a .i) .shape) in
     sym (mul-zero b) ∙ ap (λ k. b * k) (sym (c .if1 .taken) ∙ c .before .count-before .ensures .1)
 
 version-bytes-requires : tie.Need-version-bytes-requires
@@ -27,7 +25,7 @@ version-bytes-requires c κs = search needs
 mul-result : tie.Need-mul-result
 mul-result c =
     let a = c .before .before .before .before .before .args in
-    let b = bytesOf (recordAt textureStride readTexture (a .textures .now) (a .i) .shape) in
+    let b = bytesOf (textureIn (a .textures .now) (a .i) .shape) in
     omega (
       arith,
       ap₂ (λ x y. x * y) (c .version-bytes .ensures) (c .before .before .count-before .ensures .1),

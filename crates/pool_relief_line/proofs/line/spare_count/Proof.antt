@@ -5,9 +5,9 @@ use native.Mathlib.Omega.{arith}
 use borrow.Author.Needs.{needs}
 use Rattle.base_blocks.specs.Lists.{total}
 use Rattle.base_blocks.proofs.Listed.{left, total-done}
-use Rattle.base_tables.specs.Records.{recordAt, table}
+use Rattle.base_tables.specs.Records.{recordAt}
 use Rattle.base_tables.proofs.Records.{table-left}
-use Rattle.pool_records.specs.Texture.{readTexture}
+use Rattle.pool_records.specs.Texture.{readTexture, texturesIn}
 use Rattle.pool_relief_line.specs.Parked.{recordSpares}
 use Rattle.pool_relief_line.proofs.Parked.{spares-rest}
 use Rattle.pool_relief_line.proofs.line.spare_count.Statement.{statement}
@@ -16,7 +16,7 @@ use Rattle.pool_records.specs.RecordConstants.{textureStride}
 
 abbrev Inv-loop : tie.InvT-loop
 Inv-loop textures n spares count₀ i₀ count i =
-    (i ≤ n) × (count + total recordSpares (left (recordAt textureStride readTexture textures) n i) ≡ total recordSpares (table textureStride readTexture n textures))
+    (i ≤ n) × (count + total recordSpares (left (recordAt textureStride readTexture textures) n i) ≡ total recordSpares (texturesIn n textures))
 
 abbrev μ-loop : tie.MeasureT-loop
 μ-loop textures n spares count₀ i₀ count i = n - i

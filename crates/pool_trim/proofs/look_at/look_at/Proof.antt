@@ -5,8 +5,7 @@ use mathlib.Core.Bool.{true, false}
 use Prim.Native.Nat.{ℕ}
 use native.Mathlib.Omega.{arith}
 use Rattle.base_blocks.specs.Lists.{listed}
-use Rattle.base_tables.specs.Records.{recordAt}
-use Rattle.pool_records.specs.Texture.{readTexture}
+use Rattle.pool_records.specs.Texture.{textureIn}
 use Rattle.pool_rules.specs.Trim.{agedCount}
 use Rattle.pool_access.proofs.Fields.{spares-number}
 use Rattle.pool_trim.specs.LookAt.{spareIn, lookAt}
@@ -14,7 +13,6 @@ use Rattle.pool_trim.proofs.Ages.{bytes-read}
 use Rattle.pool_trim.proofs.Looks.{look-made}
 use Rattle.pool_trim.proofs.look_at.look_at.Statement.{statement}
 use Rattle.pool_trim.proofs.look_at.look_at.Tie as tie
-use Rattle.pool_records.specs.RecordConstants.{textureStride}
 
 mul-own : tie.Need-mul-own
 mul-own c = search needs
@@ -65,7 +63,7 @@ returns c =
     let n = c .before .before .before .before .before in
     let a = n .before .before .before .before .args in
     let own = spares-number (a .textures .now) (a .i) in
-    look-made (a .current) (recordAt textureStride readTexture (a .textures .now) (a .i)) (agedCount (a .current) (listed (spareIn (a .spares .now)) (a .first) (recordAt textureStride readTexture (a .textures .now) (a .i) .spares))) _ _ _ _ _ true own
+    look-made (a .current) (textureIn (a .textures .now) (a .i)) (agedCount (a .current) (listed (spareIn (a .spares .now)) (a .first) (textureIn (a .textures .now) (a .i) .spares))) _ _ _ _ _ true own
     (n .aged-count .ensures .1 ∙ ap (λ (m : ℕ). agedCount (a .current) (listed (spareIn (a .spares .now)) (a .first) m)) own)
     (c .before .before .before .before .pages-at .ensures) (c .before .before .due-after .ensures) (bytes-read (a .textures .now) (a .i))
     (sym (c .if1 .taken) ∙ c .before .is-idle .ensures)
@@ -76,7 +74,7 @@ returns-2 c =
     let n = c .before .before .before .before .before in
     let a = n .before .before .before .before .args in
     let own = spares-number (a .textures .now) (a .i) in
-    look-made (a .current) (recordAt textureStride readTexture (a .textures .now) (a .i)) (agedCount (a .current) (listed (spareIn (a .spares .now)) (a .first) (recordAt textureStride readTexture (a .textures .now) (a .i) .spares))) _ _ _ _ _ false own
+    look-made (a .current) (textureIn (a .textures .now) (a .i)) (agedCount (a .current) (listed (spareIn (a .spares .now)) (a .first) (textureIn (a .textures .now) (a .i) .spares))) _ _ _ _ _ false own
     (n .aged-count .ensures .1 ∙ ap (λ (m : ℕ). agedCount (a .current) (listed (spareIn (a .spares .now)) (a .first) m)) own)
     (c .before .before .before .before .pages-at .ensures) (c .before .before .due-after .ensures) (bytes-read (a .textures .now) (a .i))
     (sym (c .if1 .left) ∙ c .before .is-idle .ensures)

@@ -1,13 +1,11 @@
 -- `note_birth` meets its contract, for an untracked texture and a tracked one. Assumes nothing.
 use borrow.Author.Needs.{needs}
-use Rattle.base_tables.specs.Records.{recordAt}
-use Rattle.pool_records.specs.Texture.{readTexture}
+use Rattle.pool_records.specs.Texture.{textureIn}
 use Rattle.pool_access.proofs.Ids.{hasId}
 use Rattle.pool_retire.proofs.Tracked.{says-nowhere, says-here, record-fits}
 use Rattle.pool_retire.proofs.Noted.{birth-fits, birth-untracked, birth-tracked}
 use Rattle.pool_retire.proofs.calls.retire.note_birth.Statement.{statement}
 use Rattle.pool_retire.proofs.calls.retire.note_birth.Tie as tie
-use Rattle.pool_records.specs.RecordConstants.{textureStride}
 
 has-id-requires : tie.Need-has-id-requires
 has-id-requires c κs = c .before .before .pre .0
@@ -20,7 +18,7 @@ returns c =
     let a = c .before .before .before .before .args in
     let h = c .before .has-id in
     birth-untracked (hasId (a .textures .now) (a .tracked) (a .i) (a .id)) (a .textures .now) (a .i) (a .seq)
-    (recordAt textureStride readTexture (a .textures .now) (a .i))
+    (textureIn (a .textures .now) (a .i))
     (says-nowhere (a .textures .now) (a .tracked) (a .i) (a .id) (h .result) (h .ensures) (c .if1 .taken))
 
 texture-at-requires : tie.Need-texture-at-requires
@@ -41,7 +39,7 @@ put-texture-requires c κs =
     let q = says-here (a .textures .now) (a .tracked) (a .i) (a .id) (h .result) (h .ensures) (c .before .before .before .before .if1 .left) in
     let t = c .before .before .texture-at in (
       record-fits (a .textures .now) (a .tracked) (a .i) (a .id) (h .result) (h .ensures) (c .before .before .before .before .if1 .left) (pre .0),
-      birth-fits (t .result) (recordAt textureStride readTexture (a .textures .now) (a .i)) (c .born-at .result) (a .seq) (t .ensures) (c .born-at .ensures)
+      birth-fits (t .result) (textureIn (a .textures .now) (a .i)) (c .born-at .result) (a .seq) (t .ensures) (c .born-at .ensures)
           (pre .1 q),
     )
 
@@ -57,7 +55,7 @@ returns-2 c =
     let t = c .before .before .before .before .before .texture-at in
     let born = c .before .before .before .born-at in
     birth-tracked (hasId (a .textures .now) (a .tracked) (a .i) (a .id)) (a .textures .now) (a .i) (a .seq)
-    (recordAt textureStride readTexture (a .textures .now) (a .i))
+    (textureIn (a .textures .now) (a .i))
     q (t .result) (born .result) (t .ensures) (born .ensures) _ (c .before .before .put-texture .ensures)
 
 pub note-birth-spec : {M : Type 1} → statement M

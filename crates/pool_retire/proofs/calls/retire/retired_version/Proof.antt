@@ -1,13 +1,11 @@
 -- `retired_version` meets its contract, for an untracked texture and a tracked one. Assumes nothing.
 use borrow.Author.Needs.{needs}
-use Rattle.base_tables.specs.Records.{recordAt}
-use Rattle.pool_records.specs.Texture.{readTexture}
+use Rattle.pool_records.specs.Texture.{textureIn}
 use Rattle.pool_access.proofs.Ids.{hasId}
 use Rattle.pool_retire.proofs.Tracked.{says-nowhere, says-here, record-fits}
 use Rattle.pool_retire.proofs.Noted.{note-untracked, note-tracked}
 use Rattle.pool_retire.proofs.calls.retire.retired_version.Statement.{statement}
 use Rattle.pool_retire.proofs.calls.retire.retired_version.Tie as tie
-use Rattle.pool_records.specs.RecordConstants.{textureStride}
 
 has-id-requires : tie.Need-has-id-requires
 has-id-requires c κs = c .before .pre
@@ -16,7 +14,7 @@ returns : tie.Need-returns
 returns c =
     let a = c .before .before .before .args in
     let h = c .before .has-id in
-    note-untracked (hasId (a .textures .now) (a .tracked) (a .i) (a .id)) (recordAt textureStride readTexture (a .textures .now) (a .i)) (a .id) (a .view)
+    note-untracked (hasId (a .textures .now) (a .tracked) (a .i) (a .id)) (textureIn (a .textures .now) (a .i)) (a .id) (a .view)
     (a .seq)
     (says-nowhere (a .textures .now) (a .tracked) (a .i) (a .id) (h .result) (h .ensures) (c .if1 .taken))
 
@@ -36,7 +34,7 @@ returns-2 c =
     let q = says-here (a .textures .now) (a .tracked) (a .i) (a .id) (h .result) (h .ensures) (c .before .before .if1 .left) in
     let t = c .before .texture-at in
     let w = c .writes-counted in
-    note-tracked (hasId (a .textures .now) (a .tracked) (a .i) (a .id)) (recordAt textureStride readTexture (a .textures .now) (a .i)) (a .id) (a .view) (a .seq)
+    note-tracked (hasId (a .textures .now) (a .tracked) (a .i) (a .id)) (textureIn (a .textures .now) (a .i)) (a .id) (a .view) (a .seq)
     q (t .result) (t .ensures) (w .result) (w .ensures)
 
 pub retired-version-spec : {M : Type 1} → statement M
