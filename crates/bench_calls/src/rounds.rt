@@ -1,7 +1,7 @@
 // The phases before and after the pops and parks of a round, with what each took.
 ghost use mathlib.Core.Path.{_≡_};
 ghost use mathlib.Core.Bool.{true};
-ghost use Rattle.pool_memory.specs.Lent.{lent};
+ghost use Rattle.pool_memory.specs.Lent.{lentBy, atExit};
 ghost use Rattle.pool_memory.specs.IsPool.{isPool};
 use bench_work::doomed_all;
 use bench_work::elapsed;
@@ -37,8 +37,8 @@ pub fn rename_round(
     n: usize,
     seq: u64,
 ) -> Renamed
-    requires { ⌜ isPool (lent pool book (now textures) (now retiring) (now doomed) (now spares) (now newest) (now stamps)) ≡ true ⌝ }
-    ensures { λ r. ⌜ isPool (lent (r .pool) book (now (textures .exit)) (now (retiring .exit)) (now (doomed .exit)) (now (spares .exit)) (now (newest .exit)) (now (stamps .exit))) ≡ true ⌝ }
+    requires { ⌜ isPool (lentBy pool book textures retiring doomed spares newest stamps) ≡ true ⌝ }
+    ensures { λ r. ⌜ isPool (atExit (r .pool) book textures retiring doomed spares newest stamps) ≡ true ⌝ }
 {
     let t0 = reading();
     let taken = take_all(
@@ -128,8 +128,8 @@ pub fn drain_round(
     n: usize,
     seq: u64,
 ) -> Drained
-    requires { ⌜ isPool (lent pool book (now textures) (now retiring) (now doomed) (now spares) (now newest) (now stamps)) ≡ true ⌝ }
-    ensures { λ r. ⌜ isPool (lent (r .pool) (r .book) (now (textures .exit)) (now (retiring .entry)) (now (doomed .exit)) (now (spares .exit)) (now (newest .exit)) (now (stamps .exit))) ≡ true ⌝ }
+    requires { ⌜ isPool (lentBy pool book textures retiring doomed spares newest stamps) ≡ true ⌝ }
+    ensures { λ r. ⌜ isPool (atExit (r .pool) (r .book) textures retiring doomed spares newest stamps) ≡ true ⌝ }
 {
     let t0 = reading();
     let noted = note_all(

@@ -3,7 +3,7 @@ ghost use mathlib.Core.Path.{_≡_};
 ghost use mathlib.Core.Bool.{true};
 ghost use Prim.Native.Nat.{_≤_};
 ghost use lib.ListN.{length};
-ghost use Rattle.pool_memory.specs.Lent.{lent};
+ghost use Rattle.pool_memory.specs.Lent.{lentBy, atExit};
 ghost use Rattle.pool_memory.specs.IsPool.{isPool};
 use crate::report::report;
 use crate::rounds::drain_round;
@@ -46,8 +46,8 @@ fn run_round(
     seq: u64,
     totals: Totals,
 ) -> Round
-    requires { ⌜ isPool (lent pool book (now textures) (now retiring) (now doomed) (now spares) (now newest) (now stamps)) ≡ true ⌝ }
-    ensures { λ r. ⌜ isPool (lent (r .pool) (r .book) (now (textures .exit)) (now (retiring .exit)) (now (doomed .exit)) (now (spares .exit)) (now (newest .exit)) (now (stamps .exit))) ≡ true ⌝ }
+    requires { ⌜ isPool (lentBy pool book textures retiring doomed spares newest stamps) ≡ true ⌝ }
+    ensures { λ r. ⌜ isPool (atExit (r .pool) (r .book) textures retiring doomed spares newest stamps) ≡ true ⌝ }
 {
     let renamed = rename_round(
         pool,

@@ -2,7 +2,7 @@
 // time that it took.
 ghost use mathlib.Core.Path.{_≡_};
 ghost use mathlib.Core.Bool.{true};
-ghost use Rattle.pool_memory.specs.Lent.{lent};
+ghost use Rattle.pool_memory.specs.Lent.{lentBy, atExit};
 ghost use Rattle.pool_memory.specs.IsPool.{isPool};
 use bench_work::elapsed;
 use bench_work::id_of;
@@ -30,8 +30,8 @@ pub fn regenerate_all(
     stamps: &mut [u64],
     n: usize,
 ) -> Phase
-    requires { ⌜ isPool (lent pool book (now textures) (now retiring) (now doomed) (now spares) (now newest) (now stamps)) ≡ true ⌝ }
-    ensures { λ r. ⌜ isPool (lent (r .pool) book (now (textures .exit)) (now (retiring .entry)) (now (doomed .entry)) (now (spares .entry)) (now (newest .exit)) (now (stamps .exit))) ≡ true ⌝ }
+    requires { ⌜ isPool (lentBy pool book textures retiring doomed spares newest stamps) ≡ true ⌝ }
+    ensures { λ r. ⌜ isPool (atExit (r .pool) book textures retiring doomed spares newest stamps) ≡ true ⌝ }
 {
     let start = reading();
     let mut counts = pool;
@@ -84,8 +84,8 @@ pub fn hand_out(
     stamps: &[u64],
     views: &mut [u64],
 ) -> Emptied
-    requires { ⌜ isPool (lent pool book (now textures) (now retiring) (now doomed) (now spares) (now newest) (now stamps)) ≡ true ⌝ }
-    ensures { λ r. ⌜ isPool (lent (r .pool) (r .book) (now (textures .exit)) (now (retiring .entry)) (now (doomed .entry)) (now (spares .entry)) (now (newest .entry)) (now (stamps .entry))) ≡ true ⌝ }
+    requires { ⌜ isPool (lentBy pool book textures retiring doomed spares newest stamps) ≡ true ⌝ }
+    ensures { λ r. ⌜ isPool (atExit (r .pool) (r .book) textures retiring doomed spares newest stamps) ≡ true ⌝ }
 {
     let start = reading();
     let said = drain_versions(
@@ -122,8 +122,8 @@ pub fn forget_all(
     stamps: &mut [u64],
     n: usize,
 ) -> Phase
-    requires { ⌜ isPool (lent pool book (now textures) (now retiring) (now doomed) (now spares) (now newest) (now stamps)) ≡ true ⌝ }
-    ensures { λ r. ⌜ isPool (lent (r .pool) book (now (textures .exit)) (now (retiring .entry)) (now (doomed .exit)) (now (spares .exit)) (now (newest .exit)) (now (stamps .exit))) ≡ true ⌝ }
+    requires { ⌜ isPool (lentBy pool book textures retiring doomed spares newest stamps) ≡ true ⌝ }
+    ensures { λ r. ⌜ isPool (atExit (r .pool) book textures retiring doomed spares newest stamps) ≡ true ⌝ }
 {
     let start = reading();
     let mut counts = pool;

@@ -1,7 +1,7 @@
 // A round: every texture is renamed and regenerated, and its versions are handed out. In the last of a lifetime every texture is forgotten.
 ghost use mathlib.Core.Path.{_≡_};
 ghost use mathlib.Core.Bool.{true};
-ghost use Rattle.pool_memory.specs.Lent.{lent};
+ghost use Rattle.pool_memory.specs.Lent.{lentBy, atExit};
 ghost use Rattle.pool_memory.specs.IsPool.{isPool};
 use crate::phases::Phase;
 use crate::phases::forget_all;
@@ -34,8 +34,8 @@ fn rename_all(
     levels: u64,
     seq: u64,
 ) -> Phase
-    requires { ⌜ isPool (lent pool book (now textures) (now retiring) (now doomed) (now spares) (now newest) (now stamps)) ≡ true ⌝ }
-    ensures { λ r. ⌜ isPool (lent (r .pool) book (now (textures .exit)) (now (retiring .exit)) (now (doomed .exit)) (now (spares .exit)) (now (newest .exit)) (now (stamps .exit))) ≡ true ⌝ }
+    requires { ⌜ isPool (lentBy pool book textures retiring doomed spares newest stamps) ≡ true ⌝ }
+    ensures { λ r. ⌜ isPool (atExit (r .pool) book textures retiring doomed spares newest stamps) ≡ true ⌝ }
 {
     let start = reading();
     let taken = take_all(
@@ -91,8 +91,8 @@ pub fn run_round(
     levels: u64,
     seq: u64,
 ) -> Round
-    requires { ⌜ isPool (lent pool book (now textures) (now retiring) (now doomed) (now spares) (now newest) (now stamps)) ≡ true ⌝ }
-    ensures { λ r. ⌜ isPool (lent (r .pool) (r .book) (now (textures .exit)) (now (retiring .exit)) (now (doomed .exit)) (now (spares .exit)) (now (newest .exit)) (now (stamps .exit))) ≡ true ⌝ }
+    requires { ⌜ isPool (lentBy pool book textures retiring doomed spares newest stamps) ≡ true ⌝ }
+    ensures { λ r. ⌜ isPool (atExit (r .pool) (r .book) textures retiring doomed spares newest stamps) ≡ true ⌝ }
 {
     let renamed = rename_all(
         pool,

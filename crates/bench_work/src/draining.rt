@@ -1,7 +1,7 @@
 // The phases of a round in which what settled is parked and the pool is looked after.
 ghost use mathlib.Core.Path.{_≡_};
 ghost use mathlib.Core.Bool.{true};
-ghost use Rattle.pool_memory.specs.Lent.{lent};
+ghost use Rattle.pool_memory.specs.Lent.{lentBy, atExit};
 ghost use Rattle.pool_memory.specs.IsPool.{isPool};
 use crate::clock::elapsed;
 use crate::clock::elapsed_if;
@@ -35,8 +35,8 @@ pub fn settle_all(
     seq: u64,
     timed: bool,
 ) -> Pops
-    requires { ⌜ isPool (lent pool book (now textures) (now retiring) (now doomed) (now spares) (now newest) (now stamps)) ≡ true ⌝ }
-    ensures { λ r. ⌜ isPool (lent (r .pool) book (now (textures .exit)) (now (retiring .entry)) (now (doomed .exit)) (now (spares .exit)) (now (newest .entry)) (now (stamps .entry))) ≡ true ⌝ }
+    requires { ⌜ isPool (lentBy pool book textures retiring doomed spares newest stamps) ≡ true ⌝ }
+    ensures { λ r. ⌜ isPool (atExit (r .pool) book textures retiring doomed spares newest stamps) ≡ true ⌝ }
 {
     let mut counts = pool;
     let mut time = 0;
@@ -93,8 +93,8 @@ pub fn settle_round(
     seq: u64,
     timed: bool,
 ) -> Settled
-    requires { ⌜ isPool (lent pool book (now textures) (now retiring) (now doomed) (now spares) (now newest) (now stamps)) ≡ true ⌝ }
-    ensures { λ r. ⌜ isPool (lent (r .pool) book (now (textures .exit)) (now (retiring .entry)) (now (doomed .exit)) (now (spares .exit)) (now (newest .entry)) (now (stamps .entry))) ≡ true ⌝ }
+    requires { ⌜ isPool (lentBy pool book textures retiring doomed spares newest stamps) ≡ true ⌝ }
+    ensures { λ r. ⌜ isPool (atExit (r .pool) book textures retiring doomed spares newest stamps) ≡ true ⌝ }
 {
     let start = reading();
     let settled = settle_all(
@@ -136,8 +136,8 @@ pub fn note_all(
     stamps: &[u64],
     n: usize,
 ) -> Noted
-    requires { ⌜ isPool (lent pool book (now textures) (now retiring) (now doomed) (now spares) (now newest) (now stamps)) ≡ true ⌝ }
-    ensures { λ r. ⌜ isPool (lent (r .pool) (r .book) (now (textures .exit)) (now (retiring .entry)) (now (doomed .exit)) (now (spares .exit)) (now (newest .entry)) (now (stamps .entry))) ≡ true ⌝ }
+    requires { ⌜ isPool (lentBy pool book textures retiring doomed spares newest stamps) ≡ true ⌝ }
+    ensures { λ r. ⌜ isPool (atExit (r .pool) (r .book) textures retiring doomed spares newest stamps) ≡ true ⌝ }
 {
     let mut counts = pool;
     let mut paces = book;
@@ -176,8 +176,8 @@ pub fn doomed_all(
     stamps: &[u64],
     n: usize,
 ) -> Noted
-    requires { ⌜ isPool (lent pool book (now textures) (now retiring) (now doomed) (now spares) (now newest) (now stamps)) ≡ true ⌝ }
-    ensures { λ r. ⌜ isPool (lent (r .pool) (r .book) (now (textures .entry)) (now (retiring .entry)) (now (doomed .entry)) (now (spares .entry)) (now (newest .entry)) (now (stamps .entry))) ≡ true ⌝ }
+    requires { ⌜ isPool (lentBy pool book textures retiring doomed spares newest stamps) ≡ true ⌝ }
+    ensures { λ r. ⌜ isPool (atExit (r .pool) (r .book) textures retiring doomed spares newest stamps) ≡ true ⌝ }
 {
     let mut views = [0; 1];
     let mut counts = pool;
@@ -217,8 +217,8 @@ pub fn trim_all(
     n: usize,
     seq: u64,
 ) -> Pool
-    requires { ⌜ isPool (lent pool book (now textures) (now retiring) (now doomed) (now spares) (now newest) (now stamps)) ≡ true ⌝ }
-    ensures { λ r. ⌜ isPool (lent r book (now (textures .exit)) (now (retiring .entry)) (now (doomed .exit)) (now (spares .exit)) (now (newest .exit)) (now (stamps .exit))) ≡ true ⌝ }
+    requires { ⌜ isPool (lentBy pool book textures retiring doomed spares newest stamps) ≡ true ⌝ }
+    ensures { λ r. ⌜ isPool (atExit r book textures retiring doomed spares newest stamps) ≡ true ⌝ }
 {
     let mut counts = pool;
     let mut i = 0;

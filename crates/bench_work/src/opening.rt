@@ -1,7 +1,7 @@
 // The pool to begin with.
 ghost use mathlib.Core.Path.{_≡_};
 ghost use mathlib.Core.Bool.{true};
-ghost use Rattle.pool_memory.specs.Lent.{lent};
+ghost use Rattle.pool_memory.specs.Lent.{atExit};
 ghost use Rattle.pool_memory.specs.IsPool.{isPool};
 use pool::OpenAnswer;
 use pool::open;
@@ -15,7 +15,7 @@ pub fn open_work(
     newest: &[u64],
     stamps: &[u64],
 ) -> OpenAnswer
-    ensures { λ r. ⌜ (r .outcome ≡ 0 → isPool (lent (r .pool) (r .book) (now (textures .entry)) (now (retiring .entry)) (now (doomed .entry)) (now (spares .entry)) (now (newest .entry)) (now (stamps .entry))) ≡ true) ⌝ }
+    ensures { λ r. ⌜ (r .outcome ≡ 0 → isPool (atExit (r .pool) (r .book) textures retiring doomed spares newest stamps) ≡ true) ⌝ }
 {
     open(
         17179869184,

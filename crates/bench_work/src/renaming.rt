@@ -1,7 +1,7 @@
 // The phases of a round in which every texture is renamed: a loop over the textures for each kind of call.
 ghost use mathlib.Core.Path.{_≡_};
 ghost use mathlib.Core.Bool.{true};
-ghost use Rattle.pool_memory.specs.Lent.{lent};
+ghost use Rattle.pool_memory.specs.Lent.{lentBy, atExit};
 ghost use Rattle.pool_memory.specs.IsPool.{isPool};
 use crate::workload::bench_shape;
 use crate::workload::copies_in;
@@ -34,8 +34,8 @@ pub fn take_all(
     levels: u64,
     seq: u64,
 ) -> Pool
-    requires { ⌜ isPool (lent pool book (now textures) (now retiring) (now doomed) (now spares) (now newest) (now stamps)) ≡ true ⌝ }
-    ensures { λ r. ⌜ isPool (lent r book (now (textures .exit)) (now (retiring .entry)) (now (doomed .exit)) (now (spares .exit)) (now (newest .exit)) (now (stamps .exit))) ≡ true ⌝ }
+    requires { ⌜ isPool (lentBy pool book textures retiring doomed spares newest stamps) ≡ true ⌝ }
+    ensures { λ r. ⌜ isPool (atExit r book textures retiring doomed spares newest stamps) ≡ true ⌝ }
 {
     let shape = bench_shape(n, levels);
     let mut counts = pool;
@@ -77,7 +77,7 @@ pub fn plan_all(
     held: &[u64],
     n: usize,
 ) -> u64
-    requires { ⌜ isPool (lent pool book (now textures) (now retiring) (now doomed) (now spares) (now newest) (now stamps)) ≡ true ⌝ }
+    requires { ⌜ isPool (lentBy pool book textures retiring doomed spares newest stamps) ≡ true ⌝ }
 {
     let shape = bench_shape(n, 1);
     let mut copies = [0; COPY_STRIDE];
@@ -121,8 +121,8 @@ pub fn retire_all(
     n: usize,
     seq: u64,
 ) -> Pool
-    requires { ⌜ isPool (lent pool book (now textures) (now retiring) (now doomed) (now spares) (now newest) (now stamps)) ≡ true ⌝ }
-    ensures { λ r. ⌜ isPool (lent r book (now (textures .exit)) (now (retiring .exit)) (now (doomed .entry)) (now (spares .entry)) (now (newest .entry)) (now (stamps .entry))) ≡ true ⌝ }
+    requires { ⌜ isPool (lentBy pool book textures retiring doomed spares newest stamps) ≡ true ⌝ }
+    ensures { λ r. ⌜ isPool (atExit r book textures retiring doomed spares newest stamps) ≡ true ⌝ }
 {
     let mut counts = pool;
     let mut i = 0;
@@ -159,8 +159,8 @@ pub fn write_all(
     n: usize,
     seq: u64,
 ) -> Pool
-    requires { ⌜ isPool (lent pool book (now textures) (now retiring) (now doomed) (now spares) (now newest) (now stamps)) ≡ true ⌝ }
-    ensures { λ r. ⌜ isPool (lent r book (now (textures .exit)) (now (retiring .entry)) (now (doomed .entry)) (now (spares .entry)) (now (newest .exit)) (now (stamps .exit))) ≡ true ⌝ }
+    requires { ⌜ isPool (lentBy pool book textures retiring doomed spares newest stamps) ≡ true ⌝ }
+    ensures { λ r. ⌜ isPool (atExit r book textures retiring doomed spares newest stamps) ≡ true ⌝ }
 {
     let mut counts = pool;
     let mut i = 0;

@@ -62,8 +62,11 @@ pub fn feed_block(
     requires { ⌜ Ready (length (now copies)) (length (now views)) before
         (stateOf (before .session) (now textures) (now retiring) (now doomed) (now spares) (now newest) (now stamps)) (now buf) (now out) ⌝ }
     ensures { λ r. ⌜ Turn (length (now (copies .entry))) (length (now (views .entry)))
-        (carriedOf before (stateOf (before .session) (now (textures .entry)) (now (retiring .entry)) (now (doomed .entry)) (now (spares .entry)) (now (newest .entry)) (now (stamps .entry))) (now (buf .entry)))
-        (carriedOf r (stateOf (r .session) (now (textures .exit)) (now (retiring .exit)) (now (doomed .exit)) (now (spares .exit)) (now (newest .exit)) (now (stamps .exit))) (now (buf .exit)))
+        (carriedOf before
+        (stateOf (before .session) (now (textures .entry)) (now (retiring .entry)) (now (doomed .entry)) (now (spares .entry)) (now (newest .entry))
+        (now (stamps .entry))) (now (buf .entry)))
+        (carriedOf r (stateOf (r .session) (now (textures .exit)) (now (retiring .exit)) (now (doomed .exit)) (now (spares .exit)) (now (newest .exit))
+        (now (stamps .exit))) (now (buf .exit)))
         (waits before (now (buf .entry))) (waits r (now (buf .exit))) (r .filled) (now (out .entry)) (now (out .exit))
         × Placed r (length (now (buf .entry))) ⌝ }
 {

@@ -33,8 +33,10 @@ pub fn run_line(
     requires { ⌜ HoldsPool (stateOf session (now textures) (now retiring) (now doomed) (now spares) (now newest) (now stamps))
         × (filled + longestAnswer (length (now copies)) (length (now views)) ≤ length (now out)) ⌝ }
     ensures { λ r. ⌜ EventRan (length (now (copies .entry))) (length (now (views .entry))) number
-        (stateOf session (now (textures .entry)) (now (retiring .entry)) (now (doomed .entry)) (now (spares .entry)) (now (newest .entry)) (now (stamps .entry)))
-        (stateOf (r .session) (now (textures .exit)) (now (retiring .exit)) (now (doomed .exit)) (now (spares .exit)) (now (newest .exit)) (now (stamps .exit)))
+        (stateOf session (now (textures .entry)) (now (retiring .entry)) (now (doomed .entry)) (now (spares .entry)) (now (newest .entry))
+        (now (stamps .entry)))
+        (stateOf (r .session) (now (textures .exit)) (now (retiring .exit)) (now (doomed .exit)) (now (spares .exit)) (now (newest .exit))
+        (now (stamps .exit)))
         event filled (r .filled) (now (out .entry)) (now (out .exit)) ⌝ }
 {
     let answered = answer_event(

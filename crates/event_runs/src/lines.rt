@@ -54,9 +54,11 @@ pub fn run_lines(
 ) -> Run
     requires { ⌜ HoldsPool (stateOf session (now textures) (now retiring) (now doomed) (now spares) (now newest) (now stamps))
         × (number + length (now input) < 2 ^ 64) ⌝ }
-    ensures { λ r. ⌜ (progressOf r (now (textures .exit)) (now (retiring .exit)) (now (doomed .exit)) (now (spares .exit)) (now (newest .exit)) (now (stamps .exit)) (now (out .exit))
+    ensures { λ r. ⌜ (progressOf r (now (textures .exit)) (now (retiring .exit)) (now (doomed .exit)) (now (spares .exit)) (now (newest .exit))
+        (now (stamps .exit)) (now (out .exit))
         ≡ ranAll (length (now (copies .entry))) (length (now (views .entry)))
-        (start (stateOf session (now (textures .entry)) (now (retiring .entry)) (now (doomed .entry)) (now (spares .entry)) (now (newest .entry)) (now (stamps .entry))) number (now (out .entry)))
+        (start (stateOf session (now (textures .entry)) (now (retiring .entry)) (now (doomed .entry)) (now (spares .entry)) (now (newest .entry))
+        (now (stamps .entry))) number (now (out .entry)))
         (wholeLines (now (input .entry))))
         × (r .filled ≤ length (now (out .entry))) ⌝ }
 {

@@ -25,8 +25,14 @@ pub fn answer_event(
 ) -> Answered
     requires { ⌜ HoldsPool (stateOf session (now textures) (now retiring) (now doomed) (now spares) (now newest) (now stamps)) ⌝ }
     ensures { λ r. ⌜ InBuffers (r .answer) (now (copies .exit)) (now (views .exit))
-        × ((replyOf (r .answer) (now (copies .exit)) (now (views .exit)), stateOf (r .session) (now (textures .exit)) (now (retiring .exit)) (now (doomed .exit)) (now (spares .exit)) (now (newest .exit)) (now (stamps .exit)))
-        ≡ step (length (now (copies .entry))) (length (now (views .entry))) (stateOf session (now (textures .entry)) (now (retiring .entry)) (now (doomed .entry)) (now (spares .entry)) (now (newest .entry)) (now (stamps .entry))) event) ⌝ }
+        × ((
+          replyOf (r .answer) (now (copies .exit)) (now (views .exit)),
+          stateOf (r .session) (now (textures .exit)) (now (retiring .exit))
+              (now (doomed .exit)) (now (spares .exit)) (now (newest .exit)) (now (stamps .exit)),
+        )
+        ≡ step (length (now (copies .entry))) (length (now (views .entry)))
+        (stateOf session (now (textures .entry)) (now (retiring .entry)) (now (doomed .entry)) (now (spares .entry)) (now (newest .entry))
+        (now (stamps .entry))) event) ⌝ }
 {
     let opened = session.opened;
     if opened != 1 {

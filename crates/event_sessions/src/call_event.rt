@@ -2,7 +2,7 @@
 ghost use mathlib.Core.Path.{_≡_};
 ghost use mathlib.Core.Bool.{true};
 ghost use lib.ListN.{length};
-ghost use Rattle.pool_memory.specs.Lent.{lent};
+ghost use Rattle.pool_memory.specs.Lent.{lentBy, atEntry, atExit};
 ghost use Rattle.pool_memory.specs.IsPool.{isPool};
 ghost use Rattle.event_sessions.specs.Parts.{opened, Stepped};
 use event_answers::Answer;
@@ -40,8 +40,10 @@ pub fn call_event(
     shape: VersionShape,
     event: Event,
 ) -> Called
-    requires { ⌜ isPool (lent pool book (now textures) (now retiring) (now doomed) (now spares) (now newest) (now stamps)) ≡ true ⌝ }
-    ensures { λ r. ⌜ Stepped (length (now (copies .entry))) (length (now (views .entry))) (opened taken shape (lent pool book (now (textures .entry)) (now (retiring .entry)) (now (doomed .entry)) (now (spares .entry)) (now (newest .entry)) (now (stamps .entry)))) event (r .answer) (now (copies .exit)) (now (views .exit)) (lent (r .pool) (r .book) (now (textures .exit)) (now (retiring .exit)) (now (doomed .exit)) (now (spares .exit)) (now (newest .exit)) (now (stamps .exit))) ⌝ }
+    requires { ⌜ isPool (lentBy pool book textures retiring doomed spares newest stamps) ≡ true ⌝ }
+    ensures { λ r. ⌜ Stepped (length (now (copies .entry))) (length (now (views .entry)))
+        (opened taken shape (atEntry pool book textures retiring doomed spares newest stamps)) event (r .answer) (now (copies .exit)) (now (views .exit))
+        (atExit (r .pool) (r .book) textures retiring doomed spares newest stamps) ⌝ }
 {
     match event {
         Event::Take {

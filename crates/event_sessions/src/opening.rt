@@ -20,7 +20,11 @@ fn open_session(
     stamps: &[u64],
     working: u64,
 ) -> Answered
-    ensures { λ r. ⌜ SaysOnly (r .answer) (stateOf (r .session) (now (textures .entry)) (now (retiring .entry)) (now (doomed .entry)) (now (spares .entry)) (now (newest .entry)) (now (stamps .entry))) (opens (stateOf session (now (textures .entry)) (now (retiring .entry)) (now (doomed .entry)) (now (spares .entry)) (now (newest .entry)) (now (stamps .entry))) working) ⌝ }
+    ensures { λ r. ⌜ SaysOnly (r .answer)
+        (stateOf (r .session) (now (textures .entry)) (now (retiring .entry)) (now (doomed .entry)) (now (spares .entry)) (now (newest .entry))
+        (now (stamps .entry)))
+        (opens (stateOf session (now (textures .entry)) (now (retiring .entry)) (now (doomed .entry)) (now (spares .entry)) (now (newest .entry))
+        (now (stamps .entry))) working) ⌝ }
 {
     let said = pool::open(working, textures, retiring, doomed, spares, newest, stamps);
     if said.outcome != 0 {
@@ -56,7 +60,11 @@ pub fn answer_unopened(
     event: Event,
 ) -> Answered
     requires { ⌜ eqb (session .opened) 1 ≡ false ⌝ }
-    ensures { λ r. ⌜ AnsweredAlone (r .answer) (stateOf (r .session) (now (textures .entry)) (now (retiring .entry)) (now (doomed .entry)) (now (spares .entry)) (now (newest .entry)) (now (stamps .entry))) (stateOf session (now (textures .entry)) (now (retiring .entry)) (now (doomed .entry)) (now (spares .entry)) (now (newest .entry)) (now (stamps .entry))) event ⌝ }
+    ensures { λ r. ⌜ AnsweredAlone (r .answer)
+        (stateOf (r .session) (now (textures .entry)) (now (retiring .entry)) (now (doomed .entry)) (now (spares .entry)) (now (newest .entry))
+        (now (stamps .entry)))
+        (stateOf session (now (textures .entry)) (now (retiring .entry)) (now (doomed .entry)) (now (spares .entry)) (now (newest .entry))
+        (now (stamps .entry))) event ⌝ }
 {
     match event {
         Event::Open(working) => open_session(

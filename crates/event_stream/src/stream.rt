@@ -44,8 +44,10 @@ pub fn run_all(
 ) -> Stopped
     requires { ⌜ (196 < length (now buf)) × (length (now buf) ≤ 65536) × (longestAnswer (length (now copies)) (length (now views)) ≤ length (now out)) ⌝ }
     ensures { λ r. ⌜ RunOf (length (now (copies .entry))) (length (now (views .entry)))
-        (stateOf freshSession (now (textures .entry)) (now (retiring .entry)) (now (doomed .entry)) (now (spares .entry)) (now (newest .entry)) (now (stamps .entry)))
-        (stateOf (r .session) (now (textures .exit)) (now (retiring .exit)) (now (doomed .exit)) (now (spares .exit)) (now (newest .exit)) (now (stamps .exit)))
+        (stateOf freshSession (now (textures .entry)) (now (retiring .entry)) (now (doomed .entry)) (now (spares .entry)) (now (newest .entry))
+        (now (stamps .entry)))
+        (stateOf (r .session) (now (textures .exit)) (now (retiring .exit)) (now (doomed .exit)) (now (spares .exit)) (now (newest .exit))
+        (now (stamps .exit)))
         (r .why) (r .bytes) (r .lines) ⌝ }
 {
     let mut at = begin();

@@ -24,7 +24,8 @@ fn stamp_rows(
     bottom: usize,
     n: u64,
 )
-    requires { ⌜ (left + width ≤ columns) × (bottom * columns ≤ length (now page)) × (columns ≤ maxTilesPerAxis) × (bottom ≤ maxTilesPerAxis) × (top ≤ bottom) ⌝ }
+    requires { ⌜ (left + width ≤ columns) × (bottom * columns ≤ length (now page)) × (columns ≤ maxTilesPerAxis) × (bottom ≤ maxTilesPerAxis)
+        × (top ≤ bottom) ⌝ }
     ensures { λ _. ⌜ now (page .exit) ≡ rowsStamped columns left width n top (bottom - top) (now (page .entry)) ⌝ }
 {
     let mut row = top;
@@ -61,7 +62,8 @@ pub fn stamp(
 ) -> u64
     requires { ⌜ AxisOk across × AxisOk down × (stampCount (tiled across down) ≤ length (now page)) ⌝ }
     ensures { λ r. ⌜ (r ≡ (stampedBy (tiled across down) rect n (gridIn (tiled across down) newest (now (page .entry)))) .newest)
-        × (now (page .exit) ≡ over ((stampedBy (tiled across down) rect n (gridIn (tiled across down) newest (now (page .entry)))) .stamps) (now (page .entry))) ⌝ }
+        × (now (page .exit)
+        ≡ over ((stampedBy (tiled across down) rect n (gridIn (tiled across down) newest (now (page .entry)))) .stamps) (now (page .entry))) ⌝ }
 {
     let Touched::Tiles(columns) = touched_tiles(across, rect.x, rect.width) else {
         return newest;

@@ -29,7 +29,9 @@ impl<'a> GridView<'a> {
     // The smallest box of whole tiles around those stamped above `held`, cut to the level.
     pub fn written_since(self, newest: u64, held: u64) -> Dirty
         requires { ⌜ AxisOk (self .columns) × AxisOk (self .rows) × (stampCount (tiled (self .columns) (self .rows)) ≤ length (now (self .page))) ⌝ }
-        ensures { λ r. ⌜ r ≡ boxSince (tiled (self .entry .columns) (self .entry .rows)) held (gridIn (tiled (self .entry .columns) (self .entry .rows)) newest (now (self .entry .page))) ⌝ }
+        ensures { λ r.
+            ⌜ r ≡ boxSince (tiled (self .entry .columns) (self .entry .rows)) held
+            (gridIn (tiled (self .entry .columns) (self .entry .rows)) newest (now (self .entry .page))) ⌝ }
     {
         grid_stamps::written_since(self.page, self.columns, self.rows, newest, held)
     }

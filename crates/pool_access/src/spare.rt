@@ -34,7 +34,8 @@ pub fn spare_at(s: &[u64], k: usize) -> SpareRecord
 // Of n records, one more put in before record k.
 pub fn insert_spare(s: &mut [u64], n: usize, k: usize, x: SpareRecord)
     requires { ⌜ (spareStride * n + spareStride ≤ length (now s)) × (k ≤ n) × HeldFits (x .held) ⌝ }
-    ensures { λ _. ⌜ now (s .exit) ≡ sets (moved (now (s .entry)) (spareStride * k + spareStride) (spareStride * k) (spareStride * (n - k))) (spareStride * k) (writeSpare x) ⌝ }
+    ensures { λ _. ⌜ now (s .exit)
+        ≡ sets (moved (now (s .entry)) (spareStride * k + spareStride) (spareStride * k) (spareStride * (n - k))) (spareStride * k) (writeSpare x) ⌝ }
 {
     let numbers = spare_numbers(x);
     insert_record(s, SPARE_STRIDE, n, k, &numbers);
@@ -88,7 +89,8 @@ fn fewer(n: usize, i: usize) -> Stretch
 
 // Where the spares of texture i begin, of n textures that have `kept` in all: summed up from the nearer end.
 pub fn first_spare(textures: &[u64], n: usize, kept: usize, i: usize) -> usize
-    requires { ⌜ (textureStride * n ≤ length (now textures)) × (i ≤ n) × (total (λ t. t .spares) (texturesIn n (now textures)) ≡ kept) × (kept ≤ mostPlaces) ⌝ }
+    requires { ⌜ (textureStride * n ≤ length (now textures)) × (i ≤ n) × (total (λ t. t .spares) (texturesIn n (now textures)) ≡ kept)
+        × (kept ≤ mostPlaces) ⌝ }
     ensures { λ r. ⌜ r ≡ total (λ t. t .spares) (texturesIn i (now (textures .entry))) ⌝ }
 {
     let near = fewer(n, i);

@@ -51,7 +51,9 @@ pub fn put_texture(s: &mut [u64], i: usize, t: TextureRecord)
 // Of n records, one more put in before record i.
 pub fn insert_texture(s: &mut [u64], n: usize, i: usize, t: TextureRecord)
     requires { ⌜ (textureStride * n + textureStride ≤ length (now s)) × (i ≤ n) × RecordedFits (t .history) ⌝ }
-    ensures { λ _. ⌜ now (s .exit) ≡ sets (moved (now (s .entry)) (textureStride * i + textureStride) (textureStride * i) (textureStride * (n - i))) (textureStride * i) (writeTexture t) ⌝ }
+    ensures { λ _. ⌜ now (s .exit)
+        ≡ sets (moved (now (s .entry)) (textureStride * i + textureStride) (textureStride * i) (textureStride * (n - i))) (textureStride * i)
+        (writeTexture t) ⌝ }
 {
     let numbers = texture_numbers(t);
     insert_record(s, TEXTURE_STRIDE, n, i, &numbers);

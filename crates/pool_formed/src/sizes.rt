@@ -3,7 +3,7 @@ ghost use mathlib.Core.Path.{_≡_};
 ghost use Prim.Native.Nat.{_≤_};
 ghost use Rattle.pool_memory.specs.declared.pool.Pool.{Pool as Counts};
 ghost use Rattle.pool_memory.specs.declared.book.PacingBook.{PacingBook};
-ghost use Rattle.pool_memory.specs.Lent.{lent};
+ghost use Rattle.pool_memory.specs.Lent.{atEntry};
 ghost use Rattle.pool_memory.specs.IsPool.{sizesFit};
 ghost use Rattle.pool_formed.specs.Parts.{lengthsFit, placesHold};
 ghost use Rattle.pool_rules.specs.RuleConstants.{mostPlaces};
@@ -53,7 +53,7 @@ pub fn sizes_fit(
     stamps: &[u64],
 ) -> bool
     ensures { λ r. ⌜ ((pool : Counts) (book : PacingBook)
-        → r ≡ sizesFit (lent pool book (now (textures .entry)) (now (retiring .entry)) (now (doomed .entry)) (now (spares .entry)) (now (newest .entry)) (now (stamps .entry)))) ⌝ }
+        → r ≡ sizesFit (atEntry pool book textures retiring doomed spares newest stamps)) ⌝ }
 {
     lengths_fit(
         textures.len(),

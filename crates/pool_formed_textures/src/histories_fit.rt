@@ -67,7 +67,8 @@ fn grids_fit(s: VersionShape, writes: u64, newest: &[u64], stamps: &[u64], page:
 fn history_fits(p: &[u64], newest: &[u64], stamps: &[u64], page: usize) -> bool
     requires { ⌜ (textureStride ≤ length (now p)) × (isShape (readTexture (now p) .shape) ≡ true)
         × (page + recordPages (readTexture (now p)) ≤ length (now newest)) × (length (now stamps) ≡ pageStamps * length (now newest)) ⌝ }
-    ensures { λ r. ⌜ r ≡ historyFits (now (newest .entry)) (now (stamps .entry)) (readTexture (now (p .entry)) .shape) page (readTexture (now (p .entry)) .history) ⌝ }
+    ensures { λ r. ⌜ r
+        ≡ historyFits (now (newest .entry)) (now (stamps .entry)) (readTexture (now (p .entry)) .shape) page (readTexture (now (p .entry)) .history) ⌝ }
 {
     let t = read_texture(p);
     let shape = t.shape;

@@ -32,8 +32,12 @@ pub fn stamp_page(
 )
     requires { ⌜ (isShape shape ≡ true) × (p < length (now newest)) × (pageStamps * length (now newest) ≤ length (now stamps)) ⌝ }
     ensures { λ _. ⌜
-        (now (newest .exit) ≡ newestWritten (now (newest .entry)) p (stampedBy (tilingOf shape level) rect n (gridOn shape level (now (newest .entry)) (now (stamps .entry)) p) ∷ []))
-        × (now (stamps .exit) ≡ pagesWritten (now (stamps .entry)) p (stampedBy (tilingOf shape level) rect n (gridOn shape level (now (newest .entry)) (now (stamps .entry)) p) ∷ [])) ⌝ }
+        (now (newest .exit)
+        ≡ newestWritten (now (newest .entry)) p
+        (stampedBy (tilingOf shape level) rect n (gridOn shape level (now (newest .entry)) (now (stamps .entry)) p) ∷ []))
+        × (now (stamps .exit)
+        ≡ pagesWritten (now (stamps .entry)) p
+        (stampedBy (tilingOf shape level) rect n (gridOn shape level (now (newest .entry)) (now (stamps .entry)) p) ∷ [])) ⌝ }
 {
     let across = across_axis(shape, level);
     let down = down_axis(shape, level);
@@ -54,8 +58,10 @@ fn regenerate_page(
 )
     requires { ⌜ (isShape shape ≡ true) × (p < length (now newest)) × (pageStamps * length (now newest) ≤ length (now stamps)) ⌝ }
     ensures { λ _. ⌜
-        (now (newest .exit) ≡ newestWritten (now (newest .entry)) p (remadeGrid shape n level (gridOn shape level (now (newest .entry)) (now (stamps .entry)) p) ∷ []))
-        × (now (stamps .exit) ≡ pagesWritten (now (stamps .entry)) p (remadeGrid shape n level (gridOn shape level (now (newest .entry)) (now (stamps .entry)) p) ∷ [])) ⌝ }
+        (now (newest .exit)
+        ≡ newestWritten (now (newest .entry)) p (remadeGrid shape n level (gridOn shape level (now (newest .entry)) (now (stamps .entry)) p) ∷ []))
+        × (now (stamps .exit)
+        ≡ pagesWritten (now (stamps .entry)) p (remadeGrid shape n level (gridOn shape level (now (newest .entry)) (now (stamps .entry)) p) ∷ [])) ⌝ }
 {
     if level == 0 {
         return;

@@ -11,6 +11,8 @@
 use Prim.Native.Nat.{ℕ, _/_}
 use mathlib.Core.List.{List}
 use lib.ListN.{length}
+use denote.Triple.Both.{Both}
+use denote.Ref.{RefT, now}
 use Rattle.pool_memory.specs.declared.pool.Pool.{Pool}
 use Rattle.pool_memory.specs.declared.book.PacingBook.{PacingBook}
 use Rattle.pool_records.specs.RecordConstants.{retiringStride}
@@ -36,6 +38,27 @@ lent pool book textures retiring doomed spares newest stamps = record {
   newest = newest;
   stamps = stamps;
 }
+
+-- ---- what is lent, as a contract names it
+
+-- a lent slice at a call's entry and at its exit
+abbrev pub Slice : Type 0
+Slice = Both (RefT (List ℕ)) (RefT (List ℕ))
+
+-- in a `requires`
+abbrev pub lentBy : Pool → PacingBook → RefT (List ℕ) → RefT (List ℕ) → RefT (List ℕ) → RefT (List ℕ) → RefT (List ℕ) → RefT (List ℕ) → Lent
+lentBy pool book textures retiring doomed spares newest stamps =
+    lent pool book (now textures) (now retiring) (now doomed) (now spares) (now newest) (now stamps)
+
+-- in an `ensures`: what the slices held when the call was made, with the counts and the book that it was given
+abbrev pub atEntry : Pool → PacingBook → Slice → Slice → Slice → Slice → Slice → Slice → Lent
+atEntry pool book textures retiring doomed spares newest stamps =
+    lentBy pool book (textures .entry) (retiring .entry) (doomed .entry) (spares .entry) (newest .entry) (stamps .entry)
+
+-- what they hold when it returns, with the counts and the book that it answers
+abbrev pub atExit : Pool → PacingBook → Slice → Slice → Slice → Slice → Slice → Slice → Lent
+atExit pool book textures retiring doomed spares newest stamps =
+    lentBy pool book (textures .exit) (retiring .exit) (doomed .exit) (spares .exit) (newest .exit) (stamps .exit)
 
 -- how many versions the lent slices have places for
 unfoldable pub versionPlaces : Lent → ℕ

@@ -30,7 +30,8 @@ pub fn give_spares(
     count: usize,
     bytes: u64,
 )
-    requires { ⌜ (textureStride * i + textureStride ≤ length (now textures)) × (doomedStride * cap ≤ length (now doomed)) × (first < cap) × (queued + count ≤ cap)
+    requires { ⌜ (textureStride * i + textureStride ≤ length (now textures)) × (doomedStride * cap ≤ length (now doomed)) × (first < cap)
+        × (queued + count ≤ cap)
         × (spareStride * (from + n) ≤ length (now spares)) × (to ≤ from) × (count ≤ n) ⌝ }
     ensures { λ _. ⌜ (now (textures .exit) ≡ set (now (textures .entry)) (textureStride * i + textureSparesAt) (n - count))
         × (now (doomed .exit) ≡ laid doomedStride writeDoomed cap first queued (givenRecords (now (spares .entry)) bytes from count) (now (doomed .entry)))

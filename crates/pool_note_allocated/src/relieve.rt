@@ -8,7 +8,7 @@ ghost use Rattle.base_tables.specs.Rings.{laid};
 ghost use Rattle.grid_shapes.specs.Shapes.{isShape, bytesOf};
 ghost use Rattle.pool_records.specs.Texture.{textureIn, texturesIn};
 ghost use Rattle.pool_records.specs.Doomed.{writeDoomed};
-ghost use Rattle.pool_memory.specs.Lent.{lent};
+ghost use Rattle.pool_memory.specs.Lent.{lentBy, atEntry};
 ghost use Rattle.pool_memory.specs.IsPool.{isPool};
 ghost use Rattle.pool_take_doomed.specs.Given.{givenRecords};
 ghost use Rattle.pool_relief_line.specs.Line.{IsLine, takenAt, gives};
@@ -107,10 +107,10 @@ pub fn relieve(
     freed: u64,
     excess: u64,
 ) -> Relief
-    requires { ⌜ (isPool (lent pool book (now textures) (now retiring) (now doomed) (now spares) (now newest) (now stamps)) ≡ true)
+    requires { ⌜ (isPool (lentBy pool book textures retiring doomed spares newest stamps) ≡ true)
         × IsLine (pool .dooming) excess (λ k. bytesFrom (now spares) k 0 (texturesIn (pool .tracked) (now textures))) line
         × (freed ≡ pool .dooming + bytesFrom (now spares) line 0 (texturesIn (pool .tracked) (now textures))) ⌝ }
-    ensures { λ r. ⌜ Relieves (lent pool book (now (textures .entry)) (now (retiring .entry)) (now (doomed .entry)) (now (spares .entry)) (now (newest .entry)) (now (stamps .entry)))
+    ensures { λ r. ⌜ Relieves (atEntry pool book textures retiring doomed spares newest stamps)
         excess (r .kept) (r .bytes) (now (textures .exit)) (now (doomed .exit)) (now (spares .exit)) ⌝ }
 {
     let cap = retiring.len() / RETIRING_STRIDE;

@@ -50,7 +50,8 @@ pub fn in_shape(s: VersionShape, slice: u64, level: u64) -> bool
 // Record i with another history.
 pub fn set_history(textures: &mut [u64], i: usize, history: Recorded)
     requires { ⌜ (textureStride * i + textureStride ≤ length (now textures)) × RecordedFits history ⌝ }
-    ensures { λ _. ⌜ now (textures .exit) ≡ sets (now (textures .entry)) (textureStride * i) (writeTexture (recordedAs history (textureIn (now (textures .entry)) i))) ⌝ }
+    ensures { λ _. ⌜ now (textures .exit)
+        ≡ sets (now (textures .entry)) (textureStride * i) (writeTexture (recordedAs history (textureIn (now (textures .entry)) i))) ⌝ }
 {
     let t = texture_at(textures, i);
     let shape = t.shape;
@@ -88,10 +89,15 @@ pub fn stamp_subresource(
     rect: TexelRect,
     n: u64,
 )
-    requires { ⌜ HistoryAt (now textures) i × (pagesEnd (now textures) i ≤ length (now newest)) × (pageStamps * length (now newest) ≤ length (now stamps)) × (inShape (textureIn (now textures) i .shape) slice level ≡ true) ⌝ }
+    requires { ⌜ HistoryAt (now textures) i × (pagesEnd (now textures) i ≤ length (now newest)) × (pageStamps * length (now newest) ≤ length (now stamps))
+        × (inShape (textureIn (now textures) i .shape) slice level ≡ true) ⌝ }
     ensures { λ _. ⌜
-        (now (newest .exit) ≡ newestWritten (now (newest .entry)) (pageOf (now (textures .entry)) i slice level) (stampedOn (now (textures .entry)) i slice level rect n (now (newest .entry)) (now (stamps .entry)) ∷ []))
-        × (now (stamps .exit) ≡ pagesWritten (now (stamps .entry)) (pageOf (now (textures .entry)) i slice level) (stampedOn (now (textures .entry)) i slice level rect n (now (newest .entry)) (now (stamps .entry)) ∷ [])) ⌝ }
+        (now (newest .exit)
+        ≡ newestWritten (now (newest .entry)) (pageOf (now (textures .entry)) i slice level)
+        (stampedOn (now (textures .entry)) i slice level rect n (now (newest .entry)) (now (stamps .entry)) ∷ []))
+        × (now (stamps .exit)
+        ≡ pagesWritten (now (stamps .entry)) (pageOf (now (textures .entry)) i slice level)
+        (stampedOn (now (textures .entry)) i slice level rect n (now (newest .entry)) (now (stamps .entry)) ∷ [])) ⌝ }
 {
     let t = texture_at(textures, i);
     let shape = t.shape;
@@ -109,8 +115,14 @@ pub fn regenerate_history(
 )
     requires { ⌜ HistoryAt (now textures) i × (pagesEnd (now textures) i ≤ length (now newest)) × (pageStamps * length (now newest) ≤ length (now stamps)) ⌝ }
     ensures { λ _. ⌜
-        (now (newest .exit) ≡ newestWritten (now (newest .entry)) (pagesUpTo (now (textures .entry)) i) (remadeGrids (textureIn (now (textures .entry)) i .shape) n (now (newest .entry)) (now (stamps .entry)) (pagesUpTo (now (textures .entry)) i) (pagesHere (now (textures .entry)) i)))
-        × (now (stamps .exit) ≡ pagesWritten (now (stamps .entry)) (pagesUpTo (now (textures .entry)) i) (remadeGrids (textureIn (now (textures .entry)) i .shape) n (now (newest .entry)) (now (stamps .entry)) (pagesUpTo (now (textures .entry)) i) (pagesHere (now (textures .entry)) i))) ⌝ }
+        (now (newest .exit)
+        ≡ newestWritten (now (newest .entry)) (pagesUpTo (now (textures .entry)) i)
+        (remadeGrids (textureIn (now (textures .entry)) i .shape) n (now (newest .entry)) (now (stamps .entry)) (pagesUpTo (now (textures .entry)) i)
+        (pagesHere (now (textures .entry)) i)))
+        × (now (stamps .exit)
+        ≡ pagesWritten (now (stamps .entry)) (pagesUpTo (now (textures .entry)) i)
+        (remadeGrids (textureIn (now (textures .entry)) i .shape) n (now (newest .entry)) (now (stamps .entry)) (pagesUpTo (now (textures .entry)) i)
+        (pagesHere (now (textures .entry)) i))) ⌝ }
 {
     let t = texture_at(textures, i);
     let page = pages_before(textures, i);
@@ -126,10 +138,16 @@ pub fn drop_history(
     used: usize,
     i: usize,
 ) -> usize
-    requires { ⌜ HistoryAt (now textures) i × (pagesEnd (now textures) i ≤ used) × (used ≤ length (now newest)) × (pageStamps * used ≤ length (now stamps)) ⌝ }
+    requires { ⌜ HistoryAt (now textures) i × (pagesEnd (now textures) i ≤ used) × (used ≤ length (now newest))
+        × (pageStamps * used ≤ length (now stamps)) ⌝ }
     ensures { λ r. ⌜ (r ≡ used - pagesHere (now (textures .entry)) i)
-        × (now (newest .exit) ≡ moved (now (newest .entry)) (pagesUpTo (now (textures .entry)) i) (pagesUpTo (now (textures .entry)) i + pagesHere (now (textures .entry)) i) (used - (pagesUpTo (now (textures .entry)) i + pagesHere (now (textures .entry)) i)))
-        × (now (stamps .exit) ≡ moved (now (stamps .entry)) (pageStamps * pagesUpTo (now (textures .entry)) i) (pageStamps * pagesUpTo (now (textures .entry)) i + pageStamps * pagesHere (now (textures .entry)) i) (pageStamps * (used - (pagesUpTo (now (textures .entry)) i + pagesHere (now (textures .entry)) i)))) ⌝ }
+        × (now (newest .exit)
+        ≡ moved (now (newest .entry)) (pagesUpTo (now (textures .entry)) i) (pagesUpTo (now (textures .entry)) i + pagesHere (now (textures .entry)) i)
+        (used - (pagesUpTo (now (textures .entry)) i + pagesHere (now (textures .entry)) i)))
+        × (now (stamps .exit)
+        ≡ moved (now (stamps .entry)) (pageStamps * pagesUpTo (now (textures .entry)) i)
+        (pageStamps * pagesUpTo (now (textures .entry)) i + pageStamps * pagesHere (now (textures .entry)) i)
+        (pageStamps * (used - (pagesUpTo (now (textures .entry)) i + pagesHere (now (textures .entry)) i)))) ⌝ }
 {
     let page = pages_before(textures, i);
     let pages = pages_at(textures, i);

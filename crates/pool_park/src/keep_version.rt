@@ -64,9 +64,11 @@ pub fn keep_version(
     requires { ⌜ (textureStride * i + textureStride ≤ length (now textures)) × RecordedFits (textureIn (now textures) i .history)
         × (sparesEnd (now textures) i ≤ kept) × (kept ≤ mostPlaces) × (spareStride * kept + spareStride ≤ length (now spares)) × HeldFits (x .held)
         × (textureStride * tracked ≤ length (now textures)) × (i < tracked) × (total (λ t. t .spares) (texturesIn tracked (now textures)) ≡ kept) ⌝ }
-    ensures { λ _. ⌜ (now (textures .exit) ≡ sets (now (textures .entry)) (textureStride * i) (writeTexture (oneMore (textureIn (now (textures .entry)) i))))
+    ensures { λ _. ⌜ (now (textures .exit)
+        ≡ sets (now (textures .entry)) (textureStride * i) (writeTexture (oneMore (textureIn (now (textures .entry)) i))))
         × (now (spares .exit)
-        ≡ sets (moved (now (spares .entry)) (spareStride * sparesEnd (now (textures .entry)) i + spareStride) (spareStride * sparesEnd (now (textures .entry)) i) (spareStride * (kept - sparesEnd (now (textures .entry)) i)))
+        ≡ sets (moved (now (spares .entry)) (spareStride * sparesEnd (now (textures .entry)) i + spareStride)
+        (spareStride * sparesEnd (now (textures .entry)) i) (spareStride * (kept - sparesEnd (now (textures .entry)) i)))
         (spareStride * sparesEnd (now (textures .entry)) i) (writeSpare x)) ⌝ }
 {
     let t = texture_at(textures, i);

@@ -30,7 +30,8 @@ pub fn version_bytes(textures: &[u64], i: usize) -> u64
 
 // Bytes of the spares parked before a line, of texture i, which has n spares from place `from` on.
 fn run_bytes(textures: &[u64], i: usize, spares: &[u64], from: usize, n: usize, line: u64) -> u64
-    requires { ⌜ (textureStride * i + textureStride ≤ length (now textures)) × (isShape (textureIn (now textures) i .shape) ≡ true) × (spareStride * (from + n) ≤ length (now spares))
+    requires { ⌜ (textureStride * i + textureStride ≤ length (now textures)) × (isShape (textureIn (now textures) i .shape) ≡ true)
+        × (spareStride * (from + n) ≤ length (now spares))
         × (bytesOf (textureIn (now textures) i .shape) * n ≤ 72057594037927936) ⌝ }
     ensures { λ r. ⌜ r ≡ bytesOf (textureIn (now (textures .entry)) i .shape) * countBefore line (parkings (now (spares .entry)) from n) ⌝ }
 {

@@ -22,7 +22,8 @@ pub fn push_spares(
     bytes: u64,
 )
     requires { ⌜ (doomedStride * cap ≤ length (now doomed)) × (first < cap) × (n + k ≤ cap) × (spareStride * (from + k) ≤ length (now spares)) ⌝ }
-    ensures { λ _. ⌜ now (doomed .exit) ≡ laid doomedStride writeDoomed cap first n (givenRecords (now (spares .entry)) bytes from k) (now (doomed .entry)) ⌝ }
+    ensures { λ _. ⌜ now (doomed .exit)
+        ≡ laid doomedStride writeDoomed cap first n (givenRecords (now (spares .entry)) bytes from k) (now (doomed .entry)) ⌝ }
 {
     let mut j = 0;
     while j < k {

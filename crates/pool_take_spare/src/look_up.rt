@@ -1,7 +1,7 @@
 // What take_spare looks up before anything changes.
 ghost use mathlib.Core.Path.{_≡_};
 ghost use mathlib.Core.Bool.{true};
-ghost use Rattle.pool_memory.specs.Lent.{lent};
+ghost use Rattle.pool_memory.specs.Lent.{lentBy, atEntry};
 ghost use Rattle.pool_memory.specs.IsPool.{isPool};
 ghost use Rattle.pool_take_spare.specs.LookUp.{Looked};
 use crate::take_refusal::take_refusal;
@@ -35,8 +35,8 @@ pub fn look_up(
     records: bool,
     seq: u64,
 ) -> Look
-    requires { ⌜ isPool (lent pool book (now textures) (now retiring) (now doomed) (now spares) (now newest) (now stamps)) ≡ true ⌝ }
-    ensures { λ r. ⌜ Looked (lent pool book (now (textures .entry)) (now (retiring .entry)) (now (doomed .entry)) (now (spares .entry)) (now (newest .entry)) (now (stamps .entry))) id shape records seq r ⌝ }
+    requires { ⌜ isPool (lentBy pool book textures retiring doomed spares newest stamps) ≡ true ⌝ }
+    ensures { λ r. ⌜ Looked (atEntry pool book textures retiring doomed spares newest stamps) id shape records seq r ⌝ }
 {
     let place = find_texture(textures, pool.tracked, id);
     let outcome = take_refusal(

@@ -2,7 +2,7 @@
 ghost use mathlib.Core.Path.{_≡_};
 ghost use mathlib.Core.Bool.{true};
 ghost use Rattle.grid_shapes.specs.Shapes.{sameShape};
-ghost use Rattle.pool_memory.specs.Lent.{lent};
+ghost use Rattle.pool_memory.specs.Lent.{lentBy, atEntry, atExit};
 ghost use Rattle.pool_memory.specs.Calls.{takeSpareCall};
 ghost use Rattle.pool_take_spare.specs.Answer.{takenTold};
 ghost use Rattle.pool_tracking.specs.Cases.{Accepted, recordOf, TrackedAt};
@@ -45,11 +45,11 @@ pub fn take_newest(
     records: bool,
     seq: u64,
 ) -> TakeAnswer
-    requires { ⌜ Accepted (lent pool book (now textures) (now retiring) (now doomed) (now spares) (now newest) (now stamps)) i id shape records seq
-        × TrackedAt (lent pool book (now textures) (now retiring) (now doomed) (now spares) (now newest) (now stamps)) i id
-        × (sameShape (recordOf (lent pool book (now textures) (now retiring) (now doomed) (now spares) (now newest) (now stamps)) i .shape) shape ≡ true) ⌝ }
-    ensures { λ r. ⌜ (takenTold (r .taken), lent (r .pool) book (now (textures .exit)) (now (retiring .entry)) (now (doomed .entry)) (now (spares .exit)) (now (newest .entry)) (now (stamps .entry)))
-        ≡ takeSpareCall (lent pool book (now (textures .entry)) (now (retiring .entry)) (now (doomed .entry)) (now (spares .entry)) (now (newest .entry)) (now (stamps .entry))) id shape records seq ⌝ }
+    requires { ⌜ Accepted (lentBy pool book textures retiring doomed spares newest stamps) i id shape records seq
+        × TrackedAt (lentBy pool book textures retiring doomed spares newest stamps) i id
+        × (sameShape (recordOf (lentBy pool book textures retiring doomed spares newest stamps) i .shape) shape ≡ true) ⌝ }
+    ensures { λ r. ⌜ (takenTold (r .taken), atExit (r .pool) book textures retiring doomed spares newest stamps)
+        ≡ takeSpareCall (atEntry pool book textures retiring doomed spares newest stamps) id shape records seq ⌝ }
 {
     let t = texture_at(textures, i);
     if t.spares == 0 {

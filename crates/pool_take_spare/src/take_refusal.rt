@@ -4,7 +4,7 @@ ghost use mathlib.Core.Bool.{true};
 ghost use Prim.Native.Nat.{_≤_};
 ghost use Rattle.pool_rules.specs.Model.{pagesOf};
 ghost use Rattle.pool_records.specs.Find.{textures as textures′, below};
-ghost use Rattle.pool_memory.specs.Lent.{lent};
+ghost use Rattle.pool_memory.specs.Lent.{lentBy, atEntry};
 ghost use Rattle.pool_memory.specs.Reading.{modelOf};
 ghost use Rattle.pool_memory.specs.IsPool.{isPool};
 ghost use Rattle.pool_tracking.specs.Refusal.{trackingRefusal, takeRefusal};
@@ -57,9 +57,9 @@ pub fn take_refusal(
     records: bool,
     seq: u64,
 ) -> u64
-    requires { ⌜ (isPool (lent pool book (now textures) (now retiring) (now doomed) (now spares) (now newest) (now stamps)) ≡ true)
+    requires { ⌜ (isPool (lentBy pool book textures retiring doomed spares newest stamps) ≡ true)
         × (i ≡ below id (textures′ (pool .tracked) (now textures))) ⌝ }
-    ensures { λ r. ⌜ r ≡ takeRefusal (modelOf (lent pool book (now (textures .entry)) (now (retiring .entry)) (now (doomed .entry)) (now (spares .entry)) (now (newest .entry)) (now (stamps .entry)))) id shape records seq ⌝ }
+    ensures { λ r. ⌜ r ≡ takeRefusal (modelOf (atEntry pool book textures retiring doomed spares newest stamps)) id shape records seq ⌝ }
 {
     if !is_shape(shape) {
         return 2;

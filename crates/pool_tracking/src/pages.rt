@@ -43,10 +43,13 @@ pub fn renew_pages(
     old: usize,
     n: usize,
 )
-    requires { ⌜ (page + old ≤ used) × (used ≤ length (now newest)) × (used + n ≤ length (now newest) + old) × (length (now newest) ≤ mostPlaces) × (pageStamps * length (now newest) ≡ length (now stamps)) ⌝ }
+    requires { ⌜ (page + old ≤ used) × (used ≤ length (now newest)) × (used + n ≤ length (now newest) + old) × (length (now newest) ≤ mostPlaces)
+        × (pageStamps * length (now newest) ≡ length (now stamps)) ⌝ }
     ensures { λ _. ⌜
         (now (newest .exit) ≡ sets (moved (now (newest .entry)) (page + n) (page + old) (used - (page + old))) page (replicate n 0))
-        × (now (stamps .exit) ≡ sets (moved (now (stamps .entry)) (pageStamps * page + pageStamps * n) (pageStamps * page + pageStamps * old) (pageStamps * (used - (page + old)))) (pageStamps * page) (replicate (pageStamps * n) 0)) ⌝ }
+        × (now (stamps .exit)
+        ≡ sets (moved (now (stamps .entry)) (pageStamps * page + pageStamps * n) (pageStamps * page + pageStamps * old)
+        (pageStamps * (used - (page + old)))) (pageStamps * page) (replicate (pageStamps * n) 0)) ⌝ }
 {
     let later = used - (page + old);
     renew_block(newest, page, old, n, later);

@@ -8,7 +8,7 @@ ghost use Rattle.base_blocks.specs.Blocks.{moved};
 ghost use Rattle.base_tables.specs.Rings.{laid};
 ghost use Rattle.grid_shapes.specs.Shapes.{sameShape};
 ghost use Rattle.pool_records.specs.Doomed.{writeDoomed};
-ghost use Rattle.pool_memory.specs.Lent.{lent};
+ghost use Rattle.pool_memory.specs.Lent.{lentBy, atEntry, atExit};
 ghost use Rattle.pool_memory.specs.Calls.{answer, takeSpareCall};
 ghost use Rattle.pool_take_doomed.specs.Given.{givenRecords};
 ghost use Rattle.pool_tracking.specs.Cases.{Accepted, recordOf, TrackedAt};
@@ -41,8 +41,10 @@ fn give_up(
         × (from + k ≤ pool .kept) × (spareStride * pool .kept ≤ length (now spares)) × (bytes * k ≤ pool .parked)
         × (pool .dooming + bytes * k < 2 ^ 64) × (pool .since + k < 2 ^ 64) ⌝ }
     ensures { λ r. ⌜ (r ≡ givenUp pool k bytes)
-        × (now (doomed .exit) ≡ laid doomedStride writeDoomed places (pool .first) (pool .doomed) (givenRecords (now (spares .entry)) bytes from k) (now (doomed .entry)))
-        × (now (spares .exit) ≡ moved (now (spares .entry)) (spareStride * from) (spareStride * from + spareStride * k) (spareStride * (pool .kept - (from + k)))) ⌝ }
+        × (now (doomed .exit)
+        ≡ laid doomedStride writeDoomed places (pool .first) (pool .doomed) (givenRecords (now (spares .entry)) bytes from k) (now (doomed .entry)))
+        × (now (spares .exit)
+        ≡ moved (now (spares .entry)) (spareStride * from) (spareStride * from + spareStride * k) (spareStride * (pool .kept - (from + k)))) ⌝ }
 {
     push_spares(
         doomed,
@@ -80,11 +82,11 @@ pub fn renew_tracking(
     records: bool,
     seq: u64,
 ) -> Pool
-    requires { ⌜ Accepted (lent pool book (now textures) (now retiring) (now doomed) (now spares) (now newest) (now stamps)) i id shape records seq
-        × TrackedAt (lent pool book (now textures) (now retiring) (now doomed) (now spares) (now newest) (now stamps)) i id
-        × (sameShape (recordOf (lent pool book (now textures) (now retiring) (now doomed) (now spares) (now newest) (now stamps)) i .shape) shape ≡ false) ⌝ }
-    ensures { λ r. ⌜ (answer none, lent r book (now (textures .exit)) (now (retiring .entry)) (now (doomed .exit)) (now (spares .exit)) (now (newest .exit)) (now (stamps .exit)))
-        ≡ takeSpareCall (lent pool book (now (textures .entry)) (now (retiring .entry)) (now (doomed .entry)) (now (spares .entry)) (now (newest .entry)) (now (stamps .entry))) id shape records seq ⌝ }
+    requires { ⌜ Accepted (lentBy pool book textures retiring doomed spares newest stamps) i id shape records seq
+        × TrackedAt (lentBy pool book textures retiring doomed spares newest stamps) i id
+        × (sameShape (recordOf (lentBy pool book textures retiring doomed spares newest stamps) i .shape) shape ≡ false) ⌝ }
+    ensures { λ r. ⌜ (answer none, atExit r book textures retiring doomed spares newest stamps)
+        ≡ takeSpareCall (atEntry pool book textures retiring doomed spares newest stamps) id shape records seq ⌝ }
 {
     let places = retiring.len() / RETIRING_STRIDE;
     let old = holding_at(textures, i);

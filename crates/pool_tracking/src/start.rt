@@ -1,7 +1,7 @@
 // A texture that is not tracked yet.
 ghost use mathlib.Core.Path.{_≡_};
 ghost use mathlib.Core.Option.{none};
-ghost use Rattle.pool_memory.specs.Lent.{lent};
+ghost use Rattle.pool_memory.specs.Lent.{lentBy, atEntry, atExit};
 ghost use Rattle.pool_memory.specs.Calls.{answer, takeSpareCall};
 ghost use Rattle.pool_tracking.specs.Cases.{Accepted, TrackedAt};
 use crate::begun::fresh_pages;
@@ -28,10 +28,10 @@ pub fn start_tracking(
     records: bool,
     seq: u64,
 ) -> Pool
-    requires { ⌜ Accepted (lent pool book (now textures) (now retiring) (now doomed) (now spares) (now newest) (now stamps)) i id shape records seq
-        × (TrackedAt (lent pool book (now textures) (now retiring) (now doomed) (now spares) (now newest) (now stamps)) i id → ⊥) ⌝ }
-    ensures { λ r. ⌜ (answer none, lent r book (now (textures .exit)) (now (retiring .entry)) (now (doomed .entry)) (now (spares .entry)) (now (newest .exit)) (now (stamps .exit)))
-        ≡ takeSpareCall (lent pool book (now (textures .entry)) (now (retiring .entry)) (now (doomed .entry)) (now (spares .entry)) (now (newest .entry)) (now (stamps .entry))) id shape records seq ⌝ }
+    requires { ⌜ Accepted (lentBy pool book textures retiring doomed spares newest stamps) i id shape records seq
+        × (TrackedAt (lentBy pool book textures retiring doomed spares newest stamps) i id → ⊥) ⌝ }
+    ensures { λ r. ⌜ (answer none, atExit r book textures retiring doomed spares newest stamps)
+        ≡ takeSpareCall (atEntry pool book textures retiring doomed spares newest stamps) id shape records seq ⌝ }
 {
     let epoch = pool.trackings + 1;
     let fresh = fresh_pages(shape, records);

@@ -54,7 +54,8 @@ pub fn pass_on(pass: Pass, look: Look) -> Pass
 
 // The counts after the pass. The spares given up wait to be destroyed.
 pub fn counts_after(pool: Pool, pass: Pass) -> Pool
-    requires { ⌜ (pool .doomed + pass .count ≤ mostPlaces) × (pool .since ≤ mostPlaces) × (pass .freed ≤ pool .parked) × (pool .dooming + pass .freed < 2 ^ 64) ⌝ }
+    requires { ⌜ (pool .doomed + pass .count ≤ mostPlaces) × (pool .since ≤ mostPlaces) × (pass .freed ≤ pool .parked)
+        × (pool .dooming + pass .freed < 2 ^ 64) ⌝ }
     ensures { λ r. ⌜ r ≡ countsAfter pool pass ⌝ }
 {
     let given = pass.count as u64;

@@ -51,7 +51,8 @@ fn run_next(
     out: &mut [u8],
 )
     requires { ⌜ (1280 ≤ length (now textures)) × (14000 ≤ length (now retiring)) × (4000 ≤ length (now doomed))
-        × (6000 ≤ length (now spares)) × (256 ≤ length (now newest)) × (262144 ≤ length (now stamps)) × (28672 ≤ length (now copies)) × (4096 ≤ length (now views)) ⌝ }
+        × (6000 ≤ length (now spares)) × (256 ≤ length (now newest)) × (262144 ≤ length (now stamps)) × (28672 ≤ length (now copies))
+        × (4096 ≤ length (now views)) ⌝ }
 {
     io::write_all(STDOUT_FILENO, line);
     let sizes = sizes_of(line);
@@ -91,7 +92,8 @@ pub fn run_lists(
     out: &mut [u8],
 )
     requires { ⌜ (1280 ≤ length (now textures)) × (14000 ≤ length (now retiring)) × (4000 ≤ length (now doomed))
-        × (6000 ≤ length (now spares)) × (256 ≤ length (now newest)) × (262144 ≤ length (now stamps)) × (28672 ≤ length (now copies)) × (4096 ≤ length (now views)) ⌝ }
+        × (6000 ≤ length (now spares)) × (256 ≤ length (now newest)) × (262144 ≤ length (now stamps)) × (28672 ≤ length (now copies))
+        × (4096 ≤ length (now views)) ⌝ }
 {
     let to = io::read_full(STDIN_FILENO, input);
     let mut from = 0;

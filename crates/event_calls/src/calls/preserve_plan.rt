@@ -1,7 +1,7 @@
 // The call of a plan line.
 ghost use mathlib.Core.Path.{_≡_};
 ghost use mathlib.Core.Bool.{true};
-ghost use Rattle.pool_memory.specs.Lent.{lent};
+ghost use Rattle.pool_memory.specs.Lent.{lentBy, atEntry, atExit};
 ghost use Rattle.pool_memory.specs.IsPool.{isPool};
 ghost use Rattle.pool_books.specs.LentLists.{lentPlan};
 ghost use Rattle.event_calls.specs.Calls.{MadeCopies, blank};
@@ -30,8 +30,10 @@ pub fn call_plan(
     level: u64,
     cover: bool,
 ) -> Called
-    requires { ⌜ isPool (lent pool book (now textures) (now retiring) (now doomed) (now spares) (now newest) (now stamps)) ≡ true ⌝ }
-    ensures { λ r. ⌜ MadeCopies (lent pool book (now (textures .entry)) (now (retiring .entry)) (now (doomed .entry)) (now (spares .entry)) (now (newest .entry)) (now (stamps .entry))) (lentPlan id shape held (record { slice = slice; level = level; cover = cover }) (blank (now (copies .entry)))) (r .answer) (now (copies .exit)) (lent (r .pool) (r .book) (now (textures .entry)) (now (retiring .entry)) (now (doomed .entry)) (now (spares .entry)) (now (newest .entry)) (now (stamps .entry))) ⌝ }
+    requires { ⌜ isPool (lentBy pool book textures retiring doomed spares newest stamps) ≡ true ⌝ }
+    ensures { λ r. ⌜ MadeCopies (atEntry pool book textures retiring doomed spares newest stamps)
+        (lentPlan id shape held (record { slice = slice; level = level; cover = cover }) (blank (now (copies .entry)))) (r .answer) (now (copies .exit))
+        (atExit (r .pool) (r .book) textures retiring doomed spares newest stamps) ⌝ }
 {
     let said = pool_preserve_plan::preserve_plan(
         pool,

@@ -1,7 +1,7 @@
 // The call of a retire line.
 ghost use mathlib.Core.Path.{_≡_};
 ghost use mathlib.Core.Bool.{true};
-ghost use Rattle.pool_memory.specs.Lent.{lent};
+ghost use Rattle.pool_memory.specs.Lent.{lentBy, atEntry, atExit};
 ghost use Rattle.pool_memory.specs.IsPool.{isPool};
 ghost use Rattle.pool_books.specs.LentLists.{lentRetire};
 ghost use Rattle.event_calls.specs.Calls.{Made};
@@ -24,8 +24,9 @@ pub fn call_retire(
     view: u64,
     seq: u64,
 ) -> Called
-    requires { ⌜ isPool (lent pool book (now textures) (now retiring) (now doomed) (now spares) (now newest) (now stamps)) ≡ true ⌝ }
-    ensures { λ r. ⌜ Made (lent pool book (now (textures .entry)) (now (retiring .entry)) (now (doomed .entry)) (now (spares .entry)) (now (newest .entry)) (now (stamps .entry))) (lentRetire id view seq) (r .answer) (lent (r .pool) (r .book) (now (textures .exit)) (now (retiring .exit)) (now (doomed .entry)) (now (spares .entry)) (now (newest .entry)) (now (stamps .entry))) ⌝ }
+    requires { ⌜ isPool (lentBy pool book textures retiring doomed spares newest stamps) ≡ true ⌝ }
+    ensures { λ r. ⌜ Made (atEntry pool book textures retiring doomed spares newest stamps) (lentRetire id view seq) (r .answer)
+        (atExit (r .pool) (r .book) textures retiring doomed spares newest stamps) ⌝ }
 {
     let said = pool_retire::retire(
         pool,

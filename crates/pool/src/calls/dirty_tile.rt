@@ -1,5 +1,5 @@
 // dirty_tile, on any memory: some tile that was written since.
-ghost use Rattle.pool_memory.specs.Lent.{lent};
+ghost use Rattle.pool_memory.specs.Lent.{atEntry};
 ghost use Rattle.pool.specs.Queries.{tileTold, DirtyTileCall};
 use grid_stamps::DirtyTile;
 use pool_formed::is_pool;
@@ -27,7 +27,7 @@ pub fn dirty_tile(
     level: u64,
     held: u64,
 ) -> DirtyAnswer
-    ensures { λ r. ⌜ DirtyTileCall (lent pool book (now (textures .entry)) (now (retiring .entry)) (now (doomed .entry)) (now (spares .entry)) (now (newest .entry)) (now (stamps .entry))) id slice level held (tileTold r) ⌝ }
+    ensures { λ r. ⌜ DirtyTileCall (atEntry pool book textures retiring doomed spares newest stamps) id slice level held (tileTold r) ⌝ }
 {
     if !is_pool(
         pool,

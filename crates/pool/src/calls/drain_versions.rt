@@ -1,6 +1,6 @@
 // drain_versions, on any memory: every version but the one in the hand.
 ghost use mathlib.Core.Path.{_≡_};
-ghost use Rattle.pool_memory.specs.Lent.{lent};
+ghost use Rattle.pool_memory.specs.Lent.{atEntry, atExit};
 ghost use Rattle.pool_memory.specs.Calls.{drainVersionsCall};
 ghost use Rattle.pool_take_doomed.specs.Answer.{handedTold};
 use pool_formed::is_pool;
@@ -21,8 +21,8 @@ pub fn drain_versions(
     stamps: &[u64],
     buffer: &mut [u64],
 ) -> DrainAnswer
-    ensures { λ r. ⌜ (handedTold (r .handed), (now (buffer .exit), lent (r .pool) (r .book) (now (textures .exit)) (now (retiring .entry)) (now (doomed .entry)) (now (spares .entry)) (now (newest .entry)) (now (stamps .entry))))
-        ≡ drainVersionsCall (lent pool book (now (textures .entry)) (now (retiring .entry)) (now (doomed .entry)) (now (spares .entry)) (now (newest .entry)) (now (stamps .entry))) (now (buffer .entry)) ⌝ }
+    ensures { λ r. ⌜ (handedTold (r .handed), (now (buffer .exit), atExit (r .pool) (r .book) textures retiring doomed spares newest stamps))
+        ≡ drainVersionsCall (atEntry pool book textures retiring doomed spares newest stamps) (now (buffer .entry)) ⌝ }
 {
     if !is_pool(
         pool,

@@ -1,6 +1,6 @@
 // forget_texture, on any memory: a released texture is no longer tracked.
 ghost use mathlib.Core.Path.{_≡_};
-ghost use Rattle.pool_memory.specs.Lent.{lent};
+ghost use Rattle.pool_memory.specs.Lent.{atEntry, atExit};
 ghost use Rattle.pool_memory.specs.Calls.{toldNumber, forgetTextureCall};
 use pool_formed::is_pool;
 use pool_memory::DoneAnswer;
@@ -19,8 +19,8 @@ pub fn forget_texture(
     stamps: &mut [u64],
     id: u64,
 ) -> DoneAnswer
-    ensures { λ r. ⌜ (toldNumber (r .outcome), lent (r .pool) book (now (textures .exit)) (now (retiring .entry)) (now (doomed .exit)) (now (spares .exit)) (now (newest .exit)) (now (stamps .exit)))
-        ≡ forgetTextureCall (lent pool book (now (textures .entry)) (now (retiring .entry)) (now (doomed .entry)) (now (spares .entry)) (now (newest .entry)) (now (stamps .entry))) id ⌝ }
+    ensures { λ r. ⌜ (toldNumber (r .outcome), atExit (r .pool) book textures retiring doomed spares newest stamps)
+        ≡ forgetTextureCall (atEntry pool book textures retiring doomed spares newest stamps) id ⌝ }
 {
     if !is_pool(
         pool,

@@ -1,6 +1,6 @@
 // note_allocated, on any memory: the pressure on memory, and the spares that it costs.
 ghost use mathlib.Core.Path.{_≡_};
-ghost use Rattle.pool_memory.specs.Lent.{lent};
+ghost use Rattle.pool_memory.specs.Lent.{atEntry, atExit};
 ghost use Rattle.pool_memory.specs.Calls.{toldNumber, noteAllocatedCall};
 use pool_formed::is_pool;
 use pool_memory::PacingBook;
@@ -19,8 +19,8 @@ pub fn note_allocated(
     stamps: &[u64],
     allocated: u64,
 ) -> NotedAnswer
-    ensures { λ r. ⌜ (toldNumber (r .outcome), lent (r .pool) (r .book) (now (textures .exit)) (now (retiring .entry)) (now (doomed .exit)) (now (spares .exit)) (now (newest .entry)) (now (stamps .entry)))
-        ≡ noteAllocatedCall (lent pool book (now (textures .entry)) (now (retiring .entry)) (now (doomed .entry)) (now (spares .entry)) (now (newest .entry)) (now (stamps .entry))) allocated ⌝ }
+    ensures { λ r. ⌜ (toldNumber (r .outcome), atExit (r .pool) (r .book) textures retiring doomed spares newest stamps)
+        ≡ noteAllocatedCall (atEntry pool book textures retiring doomed spares newest stamps) allocated ⌝ }
 {
     if !is_pool(
         pool,

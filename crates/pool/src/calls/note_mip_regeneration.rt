@@ -1,6 +1,6 @@
 // note_mip_regeneration, on any memory: every level but the first was made again.
 ghost use mathlib.Core.Path.{_≡_};
-ghost use Rattle.pool_memory.specs.Lent.{lent};
+ghost use Rattle.pool_memory.specs.Lent.{atEntry, atExit};
 ghost use Rattle.pool_memory.specs.Calls.{toldNumber, noteMipRegenerationCall};
 use pool_formed::is_pool;
 use pool_memory::DoneAnswer;
@@ -19,8 +19,8 @@ pub fn note_mip_regeneration(
     stamps: &mut [u64],
     id: u64,
 ) -> DoneAnswer
-    ensures { λ r. ⌜ (toldNumber (r .outcome), lent (r .pool) book (now (textures .exit)) (now (retiring .entry)) (now (doomed .entry)) (now (spares .entry)) (now (newest .exit)) (now (stamps .exit)))
-        ≡ noteMipRegenerationCall (lent pool book (now (textures .entry)) (now (retiring .entry)) (now (doomed .entry)) (now (spares .entry)) (now (newest .entry)) (now (stamps .entry))) id ⌝ }
+    ensures { λ r. ⌜ (toldNumber (r .outcome), atExit (r .pool) book textures retiring doomed spares newest stamps)
+        ≡ noteMipRegenerationCall (atEntry pool book textures retiring doomed spares newest stamps) id ⌝ }
 {
     if !is_pool(
         pool,

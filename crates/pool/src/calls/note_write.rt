@@ -1,6 +1,6 @@
 // note_write, on any memory: a write to one subresource.
 ghost use mathlib.Core.Path.{_≡_};
-ghost use Rattle.pool_memory.specs.Lent.{lent};
+ghost use Rattle.pool_memory.specs.Lent.{atEntry, atExit};
 ghost use Rattle.pool_memory.specs.Calls.{toldNumber, noteWriteCall};
 use grid_rects::TexelRect;
 use pool_formed::is_pool;
@@ -23,8 +23,8 @@ pub fn note_write(
     level: u64,
     rect: TexelRect,
 ) -> DoneAnswer
-    ensures { λ r. ⌜ (toldNumber (r .outcome), lent (r .pool) book (now (textures .exit)) (now (retiring .entry)) (now (doomed .entry)) (now (spares .entry)) (now (newest .exit)) (now (stamps .exit)))
-        ≡ noteWriteCall (lent pool book (now (textures .entry)) (now (retiring .entry)) (now (doomed .entry)) (now (spares .entry)) (now (newest .entry)) (now (stamps .entry))) id slice level rect ⌝ }
+    ensures { λ r. ⌜ (toldNumber (r .outcome), atExit (r .pool) book textures retiring doomed spares newest stamps)
+        ≡ noteWriteCall (atEntry pool book textures retiring doomed spares newest stamps) id slice level rect ⌝ }
 {
     if !is_pool(
         pool,

@@ -1,6 +1,6 @@
 // A pool just opened (the Rust's `new`).
 ghost use mathlib.Core.Path.{_≡_};
-ghost use Rattle.pool_memory.specs.Lent.{lent};
+ghost use Rattle.pool_memory.specs.Lent.{atEntry};
 ghost use Rattle.pool_memory.specs.Calls.{openNumber, openedPool, openedBook};
 use pool_formed::sizes_fit;
 use pool_memory::PacingBook;
@@ -60,7 +60,7 @@ pub fn open(
     stamps: &[u64],
 ) -> OpenAnswer
     ensures { λ r. ⌜ r ≡ record {
-      outcome = openNumber (lent (openedPool working) openedBook (now (textures .entry)) (now (retiring .entry)) (now (doomed .entry)) (now (spares .entry)) (now (newest .entry)) (now (stamps .entry)));
+      outcome = openNumber (atEntry (openedPool working) openedBook textures retiring doomed spares newest stamps);
       pool = openedPool working;
       book = openedBook;
     } ⌝ }

@@ -1,6 +1,6 @@
 // park, on any memory: the version in the hand becomes a spare, or is queued for destruction.
 ghost use mathlib.Core.Path.{_≡_};
-ghost use Rattle.pool_memory.specs.Lent.{lent};
+ghost use Rattle.pool_memory.specs.Lent.{atEntry, atExit};
 ghost use Rattle.pool_memory.specs.Calls.{toldNumber, parkCall};
 use pool_formed::is_pool;
 use pool_memory::DoneAnswer;
@@ -20,8 +20,8 @@ pub fn park(
     failed: u64,
     current: u64,
 ) -> DoneAnswer
-    ensures { λ r. ⌜ (toldNumber (r .outcome), lent (r .pool) book (now (textures .exit)) (now (retiring .entry)) (now (doomed .exit)) (now (spares .exit)) (now (newest .entry)) (now (stamps .entry)))
-        ≡ parkCall (lent pool book (now (textures .entry)) (now (retiring .entry)) (now (doomed .entry)) (now (spares .entry)) (now (newest .entry)) (now (stamps .entry))) failed current ⌝ }
+    ensures { λ r. ⌜ (toldNumber (r .outcome), atExit (r .pool) book textures retiring doomed spares newest stamps)
+        ≡ parkCall (atEntry pool book textures retiring doomed spares newest stamps) failed current ⌝ }
 {
     if !is_pool(
         pool,

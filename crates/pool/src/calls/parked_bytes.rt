@@ -1,6 +1,6 @@
 // parked_bytes, on any memory: the bytes of all spares.
 ghost use mathlib.Core.Path.{_≡_};
-ghost use Rattle.pool_memory.specs.Lent.{lent};
+ghost use Rattle.pool_memory.specs.Lent.{atEntry};
 ghost use Rattle.pool.specs.Queries.{bytesTold, parkedBytesCall};
 use pool_formed::is_pool;
 use pool_memory::PacingBook;
@@ -22,7 +22,7 @@ pub fn parked_bytes(
     newest: &[u64],
     stamps: &[u64],
 ) -> BytesAnswer
-    ensures { λ r. ⌜ bytesTold r ≡ parkedBytesCall (lent pool book (now (textures .entry)) (now (retiring .entry)) (now (doomed .entry)) (now (spares .entry)) (now (newest .entry)) (now (stamps .entry))) ⌝ }
+    ensures { λ r. ⌜ bytesTold r ≡ parkedBytesCall (atEntry pool book textures retiring doomed spares newest stamps) ⌝ }
 {
     if !is_pool(
         pool,

@@ -1,6 +1,6 @@
 // pop_retired, on any memory: the queue's front, if its submission is settled.
 ghost use mathlib.Core.Path.{_≡_};
-ghost use Rattle.pool_memory.specs.Lent.{lent};
+ghost use Rattle.pool_memory.specs.Lent.{atEntry, atExit};
 ghost use Rattle.pool_memory.specs.Calls.{popRetiredCall};
 ghost use Rattle.pool_retire.specs.Answers.{poppedTold};
 use pool_formed::is_pool;
@@ -21,8 +21,8 @@ pub fn pop_retired(
     stamps: &[u64],
     settled: u64,
 ) -> PopAnswer
-    ensures { λ r. ⌜ (poppedTold (r .popped), lent (r .pool) book (now (textures .entry)) (now (retiring .entry)) (now (doomed .entry)) (now (spares .entry)) (now (newest .entry)) (now (stamps .entry)))
-        ≡ popRetiredCall (lent pool book (now (textures .entry)) (now (retiring .entry)) (now (doomed .entry)) (now (spares .entry)) (now (newest .entry)) (now (stamps .entry))) settled ⌝ }
+    ensures { λ r. ⌜ (poppedTold (r .popped), atExit (r .pool) book textures retiring doomed spares newest stamps)
+        ≡ popRetiredCall (atEntry pool book textures retiring doomed spares newest stamps) settled ⌝ }
 {
     if !is_pool(
         pool,

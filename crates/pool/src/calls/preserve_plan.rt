@@ -1,6 +1,6 @@
 // preserve_plan, on any memory: the copies that bring a rename's new version up to the live one.
 ghost use mathlib.Core.Path.{_≡_};
-ghost use Rattle.pool_memory.specs.Lent.{lent};
+ghost use Rattle.pool_memory.specs.Lent.{atEntry};
 ghost use Rattle.pool_memory.specs.Calls.{preservePlanCall};
 ghost use Rattle.pool_preserve_plan.specs.PreservePlan.{plannedTold};
 use grid_shapes::VersionShape;
@@ -28,8 +28,9 @@ pub fn preserve_plan(
     level: u64,
     cover: bool,
 ) -> PlanAnswer
-    ensures { λ r. ⌜ (plannedTold r, (now (buffer .exit), lent pool book (now (textures .entry)) (now (retiring .entry)) (now (doomed .entry)) (now (spares .entry)) (now (newest .entry)) (now (stamps .entry))))
-        ≡ preservePlanCall (lent pool book (now (textures .entry)) (now (retiring .entry)) (now (doomed .entry)) (now (spares .entry)) (now (newest .entry)) (now (stamps .entry))) (now (buffer .entry)) id shape held (record { slice = slice; level = level; cover = cover }) ⌝ }
+    ensures { λ r. ⌜ (plannedTold r, (now (buffer .exit), atEntry pool book textures retiring doomed spares newest stamps))
+        ≡ preservePlanCall (atEntry pool book textures retiring doomed spares newest stamps) (now (buffer .entry)) id shape held
+        (record { slice = slice; level = level; cover = cover }) ⌝ }
 {
     if !is_pool(
         pool,

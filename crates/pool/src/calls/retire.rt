@@ -1,6 +1,6 @@
 // retire, on any memory: the version that a rename replaced is queued.
 ghost use mathlib.Core.Path.{_≡_};
-ghost use Rattle.pool_memory.specs.Lent.{lent};
+ghost use Rattle.pool_memory.specs.Lent.{atEntry, atExit};
 ghost use Rattle.pool_memory.specs.Calls.{toldNumber, retireCall};
 use pool_formed::is_pool;
 use pool_memory::DoneAnswer;
@@ -21,8 +21,8 @@ pub fn retire(
     view: u64,
     seq: u64,
 ) -> DoneAnswer
-    ensures { λ r. ⌜ (toldNumber (r .outcome), lent (r .pool) book (now (textures .exit)) (now (retiring .exit)) (now (doomed .entry)) (now (spares .entry)) (now (newest .entry)) (now (stamps .entry)))
-        ≡ retireCall (lent pool book (now (textures .entry)) (now (retiring .entry)) (now (doomed .entry)) (now (spares .entry)) (now (newest .entry)) (now (stamps .entry))) id view seq ⌝ }
+    ensures { λ r. ⌜ (toldNumber (r .outcome), atExit (r .pool) book textures retiring doomed spares newest stamps)
+        ≡ retireCall (atEntry pool book textures retiring doomed spares newest stamps) id view seq ⌝ }
 {
     if !is_pool(
         pool,

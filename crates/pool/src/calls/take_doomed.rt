@@ -1,6 +1,6 @@
 // take_doomed, on any memory: the next batch of versions to destroy.
 ghost use mathlib.Core.Path.{_≡_};
-ghost use Rattle.pool_memory.specs.Lent.{lent};
+ghost use Rattle.pool_memory.specs.Lent.{atEntry, atExit};
 ghost use Rattle.pool_memory.specs.Calls.{takeDoomedCall};
 ghost use Rattle.pool_take_doomed.specs.Answer.{handedTold};
 use pool_formed::is_pool;
@@ -21,8 +21,8 @@ pub fn take_doomed(
     stamps: &[u64],
     buffer: &mut [u64],
 ) -> DrainAnswer
-    ensures { λ r. ⌜ (handedTold (r .handed), (now (buffer .exit), lent (r .pool) (r .book) (now (textures .entry)) (now (retiring .entry)) (now (doomed .entry)) (now (spares .entry)) (now (newest .entry)) (now (stamps .entry))))
-        ≡ takeDoomedCall (lent pool book (now (textures .entry)) (now (retiring .entry)) (now (doomed .entry)) (now (spares .entry)) (now (newest .entry)) (now (stamps .entry))) (now (buffer .entry)) ⌝ }
+    ensures { λ r. ⌜ (handedTold (r .handed), (now (buffer .exit), atExit (r .pool) (r .book) textures retiring doomed spares newest stamps))
+        ≡ takeDoomedCall (atEntry pool book textures retiring doomed spares newest stamps) (now (buffer .entry)) ⌝ }
 {
     if !is_pool(
         pool,

@@ -1,6 +1,6 @@
 // take_spare, on any memory: a rename begins, with the texture's newest spare if it has one.
 ghost use mathlib.Core.Path.{_≡_};
-ghost use Rattle.pool_memory.specs.Lent.{lent};
+ghost use Rattle.pool_memory.specs.Lent.{atEntry, atExit};
 ghost use Rattle.pool_memory.specs.Calls.{takeSpareCall};
 ghost use Rattle.pool_take_spare.specs.Answer.{takenTold};
 use grid_shapes::VersionShape;
@@ -25,8 +25,8 @@ pub fn take_spare(
     records: bool,
     seq: u64,
 ) -> TakeAnswer
-    ensures { λ r. ⌜ (takenTold (r .taken), lent (r .pool) book (now (textures .exit)) (now (retiring .entry)) (now (doomed .exit)) (now (spares .exit)) (now (newest .exit)) (now (stamps .exit)))
-        ≡ takeSpareCall (lent pool book (now (textures .entry)) (now (retiring .entry)) (now (doomed .entry)) (now (spares .entry)) (now (newest .entry)) (now (stamps .entry))) id shape records seq ⌝ }
+    ensures { λ r. ⌜ (takenTold (r .taken), atExit (r .pool) book textures retiring doomed spares newest stamps)
+        ≡ takeSpareCall (atEntry pool book textures retiring doomed spares newest stamps) id shape records seq ⌝ }
 {
     if !is_pool(
         pool,

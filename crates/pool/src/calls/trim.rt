@@ -1,6 +1,6 @@
 // trim, on any memory: spares that were idle too long are queued for destruction, and idle textures are forgotten.
 ghost use mathlib.Core.Path.{_≡_};
-ghost use Rattle.pool_memory.specs.Lent.{lent};
+ghost use Rattle.pool_memory.specs.Lent.{atEntry, atExit};
 ghost use Rattle.pool_memory.specs.Calls.{toldNumber, trimCall};
 use pool_formed::is_pool;
 use pool_memory::DoneAnswer;
@@ -19,8 +19,8 @@ pub fn trim(
     stamps: &mut [u64],
     current: u64,
 ) -> DoneAnswer
-    ensures { λ r. ⌜ (toldNumber (r .outcome), lent (r .pool) book (now (textures .exit)) (now (retiring .entry)) (now (doomed .exit)) (now (spares .exit)) (now (newest .exit)) (now (stamps .exit)))
-        ≡ trimCall (lent pool book (now (textures .entry)) (now (retiring .entry)) (now (doomed .entry)) (now (spares .entry)) (now (newest .entry)) (now (stamps .entry))) current ⌝ }
+    ensures { λ r. ⌜ (toldNumber (r .outcome), atExit (r .pool) book textures retiring doomed spares newest stamps)
+        ≡ trimCall (atEntry pool book textures retiring doomed spares newest stamps) current ⌝ }
 {
     if !is_pool(
         pool,

@@ -1,7 +1,7 @@
 // forget_texture: stop tracking a released texture, queueing its spares for destruction.
 ghost use mathlib.Core.Path.{_≡_};
 ghost use mathlib.Core.Bool.{true};
-ghost use Rattle.pool_memory.specs.Lent.{lent};
+ghost use Rattle.pool_memory.specs.Lent.{lent, lentBy};
 ghost use Rattle.pool_memory.specs.IsPool.{isPool};
 ghost use Rattle.pool_memory.specs.Calls.{toldNumber, forgetTextureCall};
 use crate::owned::counts_without;
@@ -30,7 +30,7 @@ pub fn forget_texture(
     stamps: &mut [u64],
     id: u64,
 ) -> DoneAnswer
-    requires { ⌜ isPool (lent pool book (now textures) (now retiring) (now doomed) (now spares) (now newest) (now stamps)) ≡ true ⌝ }
+    requires { ⌜ isPool (lentBy pool book textures retiring doomed spares newest stamps) ≡ true ⌝ }
     ensures { λ r. ⌜ (
       toldNumber (r .outcome),
       lent (r .pool) book (now (textures .exit)) (now (retiring .entry)) (now (doomed .exit)) (now (spares .exit))

@@ -1,6 +1,6 @@
 // Whether lent memory forms a pool.
 ghost use mathlib.Core.Path.{_≡_};
-ghost use Rattle.pool_memory.specs.Lent.{lent};
+ghost use Rattle.pool_memory.specs.Lent.{atEntry};
 ghost use Rattle.pool_memory.specs.IsPool.{isPool};
 use crate::numbers_fit::numbers_fit;
 use crate::rings_fit::rings_fit;
@@ -22,7 +22,7 @@ pub fn is_pool(
     newest: &[u64],
     stamps: &[u64],
 ) -> bool
-    ensures { λ r. ⌜ r ≡ isPool (lent pool book (now (textures .entry)) (now (retiring .entry)) (now (doomed .entry)) (now (spares .entry)) (now (newest .entry)) (now (stamps .entry))) ⌝ }
+    ensures { λ r. ⌜ r ≡ isPool (atEntry pool book textures retiring doomed spares newest stamps) ⌝ }
 {
     if !sizes_fit(textures, retiring, doomed, spares, newest, stamps) {
         return false;

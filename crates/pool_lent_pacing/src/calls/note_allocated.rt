@@ -1,6 +1,6 @@
 // note_allocated, with the pacing book lent.
 ghost use mathlib.Core.Path.{_≡_};
-ghost use Rattle.pool_memory.specs.Lent.{lent};
+ghost use Rattle.pool_memory.specs.Lent.{atEntry, atExit};
 ghost use Rattle.pool_memory.specs.Calls.{toldNumber, noteAllocatedCall};
 use pool_memory::DoneAnswer;
 use pool_memory::PacingBook;
@@ -18,8 +18,8 @@ pub fn note_allocated(
     stamps: &[u64],
     allocated: u64,
 ) -> DoneAnswer
-    ensures { λ r. ⌜ (toldNumber (r .outcome), lent (r .pool) (now (book .exit)) (now (textures .exit)) (now (retiring .entry)) (now (doomed .exit)) (now (spares .exit)) (now (newest .entry)) (now (stamps .entry)))
-        ≡ noteAllocatedCall (lent pool (now (book .entry)) (now (textures .entry)) (now (retiring .entry)) (now (doomed .entry)) (now (spares .entry)) (now (newest .entry)) (now (stamps .entry))) allocated ⌝ }
+    ensures { λ r. ⌜ (toldNumber (r .outcome), atExit (r .pool) (now (book .exit)) textures retiring doomed spares newest stamps)
+        ≡ noteAllocatedCall (atEntry pool (now (book .entry)) textures retiring doomed spares newest stamps) allocated ⌝ }
 {
     let answer = pool::note_allocated(
         pool,

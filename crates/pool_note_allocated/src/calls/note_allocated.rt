@@ -4,7 +4,7 @@ ghost use mathlib.Core.Bool.{true};
 ghost use Prim.Native.Nat.{_+_, _-_, _≤_, _<_, _^_};
 ghost use Rattle.pool_rules.specs.declared.budget.VersionBudget.{VersionBudget};
 ghost use Rattle.pool_rules.specs.NoteAllocated.{pressedAfter};
-ghost use Rattle.pool_memory.specs.Lent.{lent};
+ghost use Rattle.pool_memory.specs.Lent.{lentBy, atEntry, atExit};
 ghost use Rattle.pool_memory.specs.IsPool.{isPool};
 ghost use Rattle.pool_memory.specs.Calls.{toldNumber, noteAllocatedCall};
 ghost use Rattle.pool_note_allocated.specs.NoteAllocated.{countsAfter, notedBook};
@@ -59,7 +59,8 @@ fn noted(pool: Pool, book: PacingBook, allocated: u64) -> PacingBook
 
 // The counts when so many spares are kept, and bytes of so many went to the destroy queue.
 fn counts_after(pool: Pool, kept: usize, bytes: u64) -> Pool
-    requires { ⌜ (kept ≤ pool .kept) × (pool .doomed + pool .kept ≤ mostPlaces) × (pool .since ≤ mostPlaces) × (bytes ≤ pool .parked) × (pool .dooming + bytes < 2 ^ 64) ⌝ }
+    requires { ⌜ (kept ≤ pool .kept) × (pool .doomed + pool .kept ≤ mostPlaces) × (pool .since ≤ mostPlaces) × (bytes ≤ pool .parked)
+        × (pool .dooming + bytes < 2 ^ 64) ⌝ }
     ensures { λ r. ⌜ r ≡ countsAfter pool kept bytes ⌝ }
 {
     let given = pool.kept - kept;
@@ -84,9 +85,9 @@ pub fn note_allocated(
     stamps: &[u64],
     allocated: u64,
 ) -> NotedAnswer
-    requires { ⌜ isPool (lent pool book (now textures) (now retiring) (now doomed) (now spares) (now newest) (now stamps)) ≡ true ⌝ }
-    ensures { λ r. ⌜ (toldNumber (r .outcome), lent (r .pool) (r .book) (now (textures .exit)) (now (retiring .entry)) (now (doomed .exit)) (now (spares .exit)) (now (newest .entry)) (now (stamps .entry)))
-        ≡ noteAllocatedCall (lent pool book (now (textures .entry)) (now (retiring .entry)) (now (doomed .entry)) (now (spares .entry)) (now (newest .entry)) (now (stamps .entry))) allocated ⌝ }
+    requires { ⌜ isPool (lentBy pool book textures retiring doomed spares newest stamps) ≡ true ⌝ }
+    ensures { λ r. ⌜ (toldNumber (r .outcome), atExit (r .pool) (r .book) textures retiring doomed spares newest stamps)
+        ≡ noteAllocatedCall (atEntry pool book textures retiring doomed spares newest stamps) allocated ⌝ }
 {
     let after = noted(pool, book, allocated);
     let excess = excess_over(pool.line, allocated);

@@ -6,7 +6,7 @@ ghost use lib.ListN.{length};
 ghost use Rattle.grid_stamps.specs.Grids.{tilingOf, IsDirtyTile};
 ghost use Rattle.pool_rules.specs.Histories.{inShape};
 ghost use Rattle.pool_rules.specs.NoteWrite.{IsDirtyTileOf};
-ghost use Rattle.pool_memory.specs.Lent.{lent};
+ghost use Rattle.pool_memory.specs.Lent.{lentBy, atEntry};
 ghost use Rattle.pool_memory.specs.Reading.{pageAt, modelOf};
 ghost use Rattle.pool_memory.specs.IsPool.{isPool};
 ghost use Rattle.pool_note_write.specs.History.{pagesEnd, HistoryAt, pageOf};
@@ -34,8 +34,10 @@ fn dirty_subresource(
     level: u64,
     held: u64,
 ) -> DirtyTile
-    requires { ⌜ HistoryAt (now textures) i × (pageStamps * pagesEnd (now textures) i ≤ length (now stamps)) × (inShape (textureIn (now textures) i .shape) slice level ≡ true) ⌝ }
-    ensures { λ r. ⌜ IsDirtyTile (tilingOf (textureIn (now (textures .entry)) i .shape) level) held (pageAt (now (stamps .entry)) (pageOf (now (textures .entry)) i slice level)) r ⌝ }
+    requires { ⌜ HistoryAt (now textures) i × (pageStamps * pagesEnd (now textures) i ≤ length (now stamps))
+        × (inShape (textureIn (now textures) i .shape) slice level ≡ true) ⌝ }
+    ensures { λ r. ⌜ IsDirtyTile (tilingOf (textureIn (now (textures .entry)) i .shape) level) held
+        (pageAt (now (stamps .entry)) (pageOf (now (textures .entry)) i slice level)) r ⌝ }
 {
     let t = texture_at(textures, i);
     let shape = t.shape;
@@ -62,8 +64,8 @@ pub fn dirty_tile(
     level: u64,
     held: u64,
 ) -> DirtyTile
-    requires { ⌜ isPool (lent pool book (now textures) (now retiring) (now doomed) (now spares) (now newest) (now stamps)) ≡ true ⌝ }
-    ensures { λ r. ⌜ IsDirtyTileOf (modelOf (lent pool book (now (textures .entry)) (now (retiring .entry)) (now (doomed .entry)) (now (spares .entry)) (now (newest .entry)) (now (stamps .entry)))) id slice level held r ⌝ }
+    requires { ⌜ isPool (lentBy pool book textures retiring doomed spares newest stamps) ≡ true ⌝ }
+    ensures { λ r. ⌜ IsDirtyTileOf (modelOf (atEntry pool book textures retiring doomed spares newest stamps)) id slice level held r ⌝ }
 {
     let tracked = pool.tracked;
     let i = find_texture(textures, tracked, id);

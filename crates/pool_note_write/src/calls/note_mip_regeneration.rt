@@ -1,7 +1,7 @@
 // A reported mip regeneration: one more write, which stamps every level but the first whole.
 ghost use mathlib.Core.Path.{_≡_};
 ghost use mathlib.Core.Bool.{true};
-ghost use Rattle.pool_memory.specs.Lent.{lent};
+ghost use Rattle.pool_memory.specs.Lent.{lentBy, atEntry, atExit};
 ghost use Rattle.pool_memory.specs.IsPool.{isPool};
 ghost use Rattle.pool_memory.specs.Calls.{toldNumber, noteMipRegenerationCall};
 use crate::history::history_at;
@@ -26,10 +26,10 @@ pub fn note_mip_regeneration(
     stamps: &mut [u64],
     id: u64,
 ) -> DoneAnswer
-    requires { ⌜ isPool (lent pool book (now textures) (now retiring) (now doomed) (now spares) (now newest) (now stamps)) ≡ true ⌝ }
+    requires { ⌜ isPool (lentBy pool book textures retiring doomed spares newest stamps) ≡ true ⌝ }
     ensures { λ r. ⌜
-        (toldNumber (r .outcome), lent (r .pool) book (now (textures .exit)) (now (retiring .entry)) (now (doomed .entry)) (now (spares .entry)) (now (newest .exit)) (now (stamps .exit)))
-        ≡ noteMipRegenerationCall (lent pool book (now (textures .entry)) (now (retiring .entry)) (now (doomed .entry)) (now (spares .entry)) (now (newest .entry)) (now (stamps .entry))) id ⌝ }
+        (toldNumber (r .outcome), atExit (r .pool) book textures retiring doomed spares newest stamps)
+        ≡ noteMipRegenerationCall (atEntry pool book textures retiring doomed spares newest stamps) id ⌝ }
 {
     let tracked = pool.tracked;
     let i = find_texture(textures, tracked, id);

@@ -1,7 +1,7 @@
 // A reported write: it is counted, and the tiles that it touches are stamped.
 ghost use mathlib.Core.Path.{_≡_};
 ghost use mathlib.Core.Bool.{true};
-ghost use Rattle.pool_memory.specs.Lent.{lent};
+ghost use Rattle.pool_memory.specs.Lent.{lentBy, atEntry, atExit};
 ghost use Rattle.pool_memory.specs.IsPool.{isPool};
 ghost use Rattle.pool_memory.specs.Calls.{toldNumber, noteWriteCall};
 use crate::history::drop_history;
@@ -34,10 +34,10 @@ pub fn note_write(
     level: u64,
     rect: TexelRect,
 ) -> DoneAnswer
-    requires { ⌜ isPool (lent pool book (now textures) (now retiring) (now doomed) (now spares) (now newest) (now stamps)) ≡ true ⌝ }
+    requires { ⌜ isPool (lentBy pool book textures retiring doomed spares newest stamps) ≡ true ⌝ }
     ensures { λ r. ⌜
-        (toldNumber (r .outcome), lent (r .pool) book (now (textures .exit)) (now (retiring .entry)) (now (doomed .entry)) (now (spares .entry)) (now (newest .exit)) (now (stamps .exit)))
-        ≡ noteWriteCall (lent pool book (now (textures .entry)) (now (retiring .entry)) (now (doomed .entry)) (now (spares .entry)) (now (newest .entry)) (now (stamps .entry))) id slice level rect ⌝ }
+        (toldNumber (r .outcome), atExit (r .pool) book textures retiring doomed spares newest stamps)
+        ≡ noteWriteCall (atEntry pool book textures retiring doomed spares newest stamps) id slice level rect ⌝ }
 {
     let tracked = pool.tracked;
     let i = find_texture(textures, tracked, id);

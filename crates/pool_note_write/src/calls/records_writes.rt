@@ -2,7 +2,7 @@
 ghost use mathlib.Core.Path.{_≡_};
 ghost use mathlib.Core.Bool.{true};
 ghost use Rattle.pool_rules.specs.NoteWrite.{recordsWrites};
-ghost use Rattle.pool_memory.specs.Lent.{lent};
+ghost use Rattle.pool_memory.specs.Lent.{lentBy, atEntry};
 ghost use Rattle.pool_memory.specs.Reading.{modelOf};
 ghost use Rattle.pool_memory.specs.IsPool.{isPool};
 use crate::history::history_at;
@@ -23,8 +23,8 @@ pub fn records_writes(
     stamps: &[u64],
     id: u64,
 ) -> bool
-    requires { ⌜ isPool (lent pool book (now textures) (now retiring) (now doomed) (now spares) (now newest) (now stamps)) ≡ true ⌝ }
-    ensures { λ r. ⌜ r ≡ recordsWrites (modelOf (lent pool book (now (textures .entry)) (now (retiring .entry)) (now (doomed .entry)) (now (spares .entry)) (now (newest .entry)) (now (stamps .entry)))) id ⌝ }
+    requires { ⌜ isPool (lentBy pool book textures retiring doomed spares newest stamps) ≡ true ⌝ }
+    ensures { λ r. ⌜ r ≡ recordsWrites (modelOf (atEntry pool book textures retiring doomed spares newest stamps)) id ⌝ }
 {
     let tracked = pool.tracked;
     let i = find_texture(textures, tracked, id);

@@ -1,7 +1,7 @@
 // The call.
 ghost use mathlib.Core.Path.{_≡_};
 ghost use mathlib.Core.Bool.{true};
-ghost use Rattle.pool_memory.specs.Lent.{lent};
+ghost use Rattle.pool_memory.specs.Lent.{lentBy, atEntry};
 ghost use Rattle.pool_memory.specs.IsPool.{isPool};
 ghost use Rattle.pool_memory.specs.Calls.{preservePlanCall};
 ghost use Rattle.pool_preserve_plan.specs.PreservePlan.{plannedTold};
@@ -42,9 +42,9 @@ pub fn preserve_plan(
     level: u64,
     cover: bool,
 ) -> PlanAnswer
-    requires { ⌜ isPool (lent pool book (now textures) (now retiring) (now doomed) (now spares) (now newest) (now stamps)) ≡ true ⌝ }
-    ensures { λ r. ⌜ (plannedTold r, (now (buffer .exit), lent pool book (now (textures .entry)) (now (retiring .entry)) (now (doomed .entry)) (now (spares .entry)) (now (newest .entry)) (now (stamps .entry))))
-        ≡ preservePlanCall (lent pool book (now (textures .entry)) (now (retiring .entry)) (now (doomed .entry)) (now (spares .entry)) (now (newest .entry)) (now (stamps .entry)))
+    requires { ⌜ isPool (lentBy pool book textures retiring doomed spares newest stamps) ≡ true ⌝ }
+    ensures { λ r. ⌜ (plannedTold r, (now (buffer .exit), atEntry pool book textures retiring doomed spares newest stamps))
+        ≡ preservePlanCall (atEntry pool book textures retiring doomed spares newest stamps)
         (now (buffer .entry)) id shape held (record { slice = slice; level = level; cover = cover }) ⌝ }
 {
     let tracked = pool.tracked;

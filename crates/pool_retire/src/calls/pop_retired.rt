@@ -1,7 +1,7 @@
 // pop_retired: the queue's front goes to the hand if its submission is settled. Nothing moves: the hand is the ring's front.
 ghost use mathlib.Core.Path.{_≡_};
 ghost use mathlib.Core.Bool.{true};
-ghost use Rattle.pool_memory.specs.Lent.{lent};
+ghost use Rattle.pool_memory.specs.Lent.{lentBy, atEntry, atExit};
 ghost use Rattle.pool_memory.specs.IsPool.{isPool};
 ghost use Rattle.pool_memory.specs.Calls.{popRetiredCall};
 ghost use Rattle.pool_retire.specs.Answers.{poppedTold};
@@ -34,9 +34,9 @@ pub fn pop_retired(
     stamps: &[u64],
     settled: u64,
 ) -> PopAnswer
-    requires { ⌜ isPool (lent pool book (now textures) (now retiring) (now doomed) (now spares) (now newest) (now stamps)) ≡ true ⌝ }
-    ensures { λ r. ⌜ (poppedTold (r .popped), lent (r .pool) book (now (textures .entry)) (now (retiring .entry)) (now (doomed .entry)) (now (spares .entry)) (now (newest .entry)) (now (stamps .entry)))
-        ≡ popRetiredCall (lent pool book (now (textures .entry)) (now (retiring .entry)) (now (doomed .entry)) (now (spares .entry)) (now (newest .entry)) (now (stamps .entry))) settled ⌝ }
+    requires { ⌜ isPool (lentBy pool book textures retiring doomed spares newest stamps) ≡ true ⌝ }
+    ensures { λ r. ⌜ (poppedTold (r .popped), atExit (r .pool) book textures retiring doomed spares newest stamps)
+        ≡ popRetiredCall (atEntry pool book textures retiring doomed spares newest stamps) settled ⌝ }
 {
     if settled > LIMIT {
         return PopAnswer {

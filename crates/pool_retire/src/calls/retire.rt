@@ -6,7 +6,7 @@ ghost use lib.ListN.{length};
 ghost use lib.Seq.{sets};
 ghost use Rattle.pool_records.specs.Recorded.{RecordedFits};
 ghost use Rattle.pool_records.specs.Texture.{writeTexture, textureIn};
-ghost use Rattle.pool_memory.specs.Lent.{lent};
+ghost use Rattle.pool_memory.specs.Lent.{lentBy, atEntry, atExit};
 ghost use Rattle.pool_memory.specs.IsPool.{isPool};
 ghost use Rattle.pool_memory.specs.Calls.{toldNumber, retireCall};
 ghost use Rattle.pool_retire.specs.Counts.{ringCount};
@@ -33,7 +33,8 @@ use pool_rules::LIMIT;
 
 // The number of the first refusal, or 0.
 fn retire_refusal(pool: Pool, retiring: &[u64], places: usize, seq: u64) -> u64
-    requires { ⌜ (retiringStride * places ≤ length (now retiring)) × (pool .head < places) × (ringCount pool + pool .kept + pool .doomed ≤ places) × (places ≤ mostPlaces) ⌝ }
+    requires { ⌜ (retiringStride * places ≤ length (now retiring)) × (pool .head < places) × (ringCount pool + pool .kept + pool .doomed ≤ places)
+        × (places ≤ mostPlaces) ⌝ }
     ensures { λ r. ⌜ r ≡ retireRefusal pool (now (retiring .entry)) places seq ⌝ }
 {
     if seq > LIMIT {
@@ -137,9 +138,9 @@ pub fn retire(
     view: u64,
     seq: u64,
 ) -> DoneAnswer
-    requires { ⌜ isPool (lent pool book (now textures) (now retiring) (now doomed) (now spares) (now newest) (now stamps)) ≡ true ⌝ }
-    ensures { λ r. ⌜ (toldNumber (r .outcome), lent (r .pool) book (now (textures .exit)) (now (retiring .exit)) (now (doomed .entry)) (now (spares .entry)) (now (newest .entry)) (now (stamps .entry)))
-        ≡ retireCall (lent pool book (now (textures .entry)) (now (retiring .entry)) (now (doomed .entry)) (now (spares .entry)) (now (newest .entry)) (now (stamps .entry))) id view seq ⌝ }
+    requires { ⌜ isPool (lentBy pool book textures retiring doomed spares newest stamps) ≡ true ⌝ }
+    ensures { λ r. ⌜ (toldNumber (r .outcome), atExit (r .pool) book textures retiring doomed spares newest stamps)
+        ≡ retireCall (atEntry pool book textures retiring doomed spares newest stamps) id view seq ⌝ }
 {
     let places = retiring.len() / RETIRING_STRIDE;
     let refusal = retire_refusal(pool, retiring, places, seq);

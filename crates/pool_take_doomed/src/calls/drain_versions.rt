@@ -4,7 +4,7 @@ ghost use mathlib.Core.Bool.{true};
 ghost use Prim.Native.Nat.{_+_, _*_, _≤_, _<_};
 ghost use lib.ListN.{length};
 ghost use Rattle.base_blocks.specs.Lists.{over};
-ghost use Rattle.pool_memory.specs.Lent.{lent};
+ghost use Rattle.pool_memory.specs.Lent.{lentBy, atEntry, atExit};
 ghost use Rattle.pool_memory.specs.IsPool.{isPool};
 ghost use Rattle.pool_memory.specs.Calls.{drainVersionsCall};
 ghost use Rattle.pool_take_doomed.specs.Answer.{handedTold};
@@ -32,7 +32,8 @@ fn copy_views(
     spares: &[u64],
     buffer: &mut [u64],
 )
-    requires { ⌜ (retiringStride * places ≤ length (now retiring)) × (doomedStride * places ≤ length (now doomed)) × (spareStride * places ≤ length (now spares))
+    requires { ⌜ (retiringStride * places ≤ length (now retiring)) × (doomedStride * places ≤ length (now doomed))
+        × (spareStride * places ≤ length (now spares))
         × (pool .head < places) × (pool .first < places) × (pool .queued + pool .popped + pool .kept + pool .doomed ≤ places)
         × (pool .queued + pool .doomed + pool .kept ≤ length (now buffer)) ⌝ }
     ensures { λ _. ⌜ now (buffer .exit)
@@ -135,9 +136,9 @@ pub fn drain_versions(
     stamps: &[u64],
     buffer: &mut [u64],
 ) -> DrainAnswer
-    requires { ⌜ isPool (lent pool book (now textures) (now retiring) (now doomed) (now spares) (now newest) (now stamps)) ≡ true ⌝ }
-    ensures { λ r. ⌜ (handedTold (r .handed), (now (buffer .exit), lent (r .pool) (r .book) (now (textures .exit)) (now (retiring .entry)) (now (doomed .entry)) (now (spares .entry)) (now (newest .entry)) (now (stamps .entry))))
-        ≡ drainVersionsCall (lent pool book (now (textures .entry)) (now (retiring .entry)) (now (doomed .entry)) (now (spares .entry)) (now (newest .entry)) (now (stamps .entry))) (now (buffer .entry)) ⌝ }
+    requires { ⌜ isPool (lentBy pool book textures retiring doomed spares newest stamps) ≡ true ⌝ }
+    ensures { λ r. ⌜ (handedTold (r .handed), (now (buffer .exit), atExit (r .pool) (r .book) textures retiring doomed spares newest stamps))
+        ≡ drainVersionsCall (atEntry pool book textures retiring doomed spares newest stamps) (now (buffer .entry)) ⌝ }
 {
     let places = retiring.len() / RETIRING_STRIDE;
     let count = pool.queued + pool.doomed + pool.kept;
