@@ -16,8 +16,7 @@ use Rattle.pool_records.specs.declared.recorded.Recorded.{Recorded}
 use Rattle.pool_records.specs.declared.recorded.Recorded.the-variants.{Writes, NoHistory}
 use Rattle.pool_records.specs.declared.texture.TextureRecord.{TextureRecord}
 use Rattle.pool_records.specs.Recorded.{recordedOf}
-use Rattle.pool_records.specs.Texture.{readTexture, textureIn}
-use Rattle.pool_memory.specs.Reading.{recordPages, recordedPages}
+use Rattle.pool_records.specs.Texture.{readTexture, textureIn, recordedPages, recordPages}
 use Rattle.pool_records.specs.RecordConstants.{textureStride}
 
 -- ---- the pages of a shape

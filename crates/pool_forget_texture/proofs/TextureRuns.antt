@@ -6,9 +6,9 @@ use native.Mathlib.Omega.{arith}
 use Rattle.base_blocks.specs.Lists.{listed}
 use Rattle.grid_shapes.specs.Shapes.{bytesOf}
 use Rattle.grid_shapes.proofs.ShapeBytes.{bytes-bound}
-use Rattle.pool_records.specs.Texture.{readTexture, textureIn}
+use Rattle.pool_records.specs.Texture.{readTexture, textureIn, recordPages}
 use Rattle.pool_memory.specs.Lent.{Lent}
-use Rattle.pool_memory.specs.Reading.{recordPages, spareRead, stateRead}
+use Rattle.pool_memory.specs.Reading.{spareRead, stateRead}
 use Rattle.pool_memory.proofs.Fits.{Fits}
 use Rattle.pool_memory.proofs.Runs.{sparesOf, stateOf}
 use Rattle.pool_memory.proofs.Tracked.{record-read, spares-to, shape-passes}

@@ -3,9 +3,8 @@ use Prim.Native.Nat.{ℕ, _+_, _-_, _*_}
 use mathlib.Core.List.{List}
 use Rattle.base_blocks.specs.Lists.{total}
 use Rattle.pool_records.specs.declared.texture.TextureRecord.{TextureRecord}
-use Rattle.pool_records.specs.Texture.{textureIn, texturesIn}
+use Rattle.pool_records.specs.Texture.{textureIn, texturesIn, recordPages}
 use Rattle.pool_memory.specs.declared.pool.Pool.{Pool as Counts}
-use Rattle.pool_memory.specs.Reading.{recordPages}
 use Rattle.pool_forget_texture.specs.declared.owned.Owned.{Owned}
 
 -- where the spares and the pages of texture i begin

@@ -16,7 +16,7 @@ use Rattle.pool_rules.specs.Model.{Places, limit, spareBytes, doomedBytes}
 use Rattle.pool_rules.specs.Open.{arePlaces}
 use Rattle.pool_records.specs.declared.texture.TextureRecord.{TextureRecord}
 use Rattle.pool_memory.specs.Lent.{Lent, versionPlaces}
-use Rattle.pool_memory.specs.Reading.{trackedRecords, recordPages, statesRead, retiringRead, handRead, doomedRead, modelOf}
+use Rattle.pool_memory.specs.Reading.{trackedRecords, statesRead, retiringRead, handRead, doomedRead, modelOf}
 use Rattle.pool_memory.specs.IsPool.{sizesFit, countsFit, runsFit, bytesHold, bytesFit, markFits, stateId, isSpare, isState, isRetiring, isHand, isDoomed, isArrival, isFormed, isPool}
 use Rattle.pool_formed.specs.Parts.{lengthsFit, placesHold, retiringAt, retiringFit, doomedAt, doomedFit, ringsFit, numbersFit}
 use Rattle.pool_formed_textures.specs.Textures.{isRecord, recordSpares, claim, spareAt, historiesFit, texturesFit}
@@ -26,6 +26,7 @@ use Rattle.pool_formed.proofs.RingTests.{hand-test}
 use Rattle.grid_stamps.specs.StampConstants.{pageStamps}
 use Rattle.pool_records.specs.RecordConstants.{doomedStride, retiringStride, spareStride, textureStride}
 use Rattle.pool_rules.specs.RuleConstants.{destroySpreadDrains, mostPlaces}
+use Rattle.pool_records.specs.Texture.{recordPages}
 
 pub sizes-lengths : (l : Lent) → sizesFit l
     ≡ lengthsFit (length (l .textures)) (length (l .retiring)) (length (l .doomed)) (length (l .spares)) (length (l .newest)) (length (l .stamps))

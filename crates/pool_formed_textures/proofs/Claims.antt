@@ -14,13 +14,12 @@ use Rattle.grid_shapes.specs.Shapes.{bytesOf}
 use Rattle.grid_shapes.proofs.ShapeBytes.{bytes-bound}
 use Rattle.pool_records.specs.declared.texture.TextureRecord.{TextureRecord}
 use Rattle.pool_records.specs.Find.{textures}
-use Rattle.pool_memory.specs.Reading.{recordPages}
 use Rattle.pool_formed_textures.specs.Textures.{isRecord, recordSpares, recordBytes, claim}
 use Rattle.pool_formed_textures.proofs.Tests.{same-test}
 use Rattle.pool_formed_textures.proofs.RecordTests.{record-shape}
 use Rattle.grid_shapes.specs.ShapeConstants.{mostShapeBytes}
 use Rattle.pool_rules.specs.RuleConstants.{mostPlaces}
-use Rattle.pool_records.specs.Texture.{textureIn}
+use Rattle.pool_records.specs.Texture.{textureIn, recordPages}
 
 -- ---- spares and pages claimed: what is left of both
 

@@ -19,11 +19,10 @@ use Rattle.pool_rules.specs.Model.{pagesOf}
 use Rattle.pool_records.specs.declared.recorded.Recorded.{Recorded}
 use Rattle.pool_records.specs.declared.recorded.Recorded.the-variants.{Writes, NoHistory}
 use Rattle.pool_records.specs.declared.texture.TextureRecord.{TextureRecord}
-use Rattle.pool_memory.specs.Reading.{recordPages, recordedPages}
 use Rattle.pool_memory.specs.IsPool.{isGrid}
 use Rattle.pool_formed_textures.specs.Textures.{gridsFit, historyFits, historiesFit}
 use Rattle.grid_stamps.specs.StampConstants.{pageStamps}
-use Rattle.pool_records.specs.Texture.{textureIn}
+use Rattle.pool_records.specs.Texture.{textureIn, recordedPages, recordPages}
 
 -- ---- grids
 

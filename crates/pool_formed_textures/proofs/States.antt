@@ -14,10 +14,11 @@ use Rattle.pool_records.specs.declared.recorded.Recorded.{Recorded}
 use Rattle.pool_records.specs.declared.recorded.Recorded.the-variants.{Writes, NoHistory}
 use Rattle.pool_records.specs.declared.texture.TextureRecord.{TextureRecord}
 use Rattle.pool_records.specs.Find.{idOf}
-use Rattle.pool_memory.specs.Reading.{recordPages, gridRead, historyRead, spareRead, stateRead, statesRead}
+use Rattle.pool_memory.specs.Reading.{gridRead, historyRead, spareRead, stateRead, statesRead}
 use Rattle.pool_memory.specs.IsPool.{bytesHold, isSpare, stateId, isHistory, isState}
 use Rattle.pool_formed_textures.specs.Textures.{writesFit, isRecord, recordSpares, recordBytes, spareAt, gridsFit, historyFits, historiesFit, gridAt}
 use Rattle.pool_memory.specs.Lent.{Lent}
+use Rattle.pool_records.specs.Texture.{recordPages}
 
 -- conditions of one state and of the rest, by kind
 by-kind : (a h s b g r : Bool) → a && (h && s) && (b && (g && r)) ≡ a && b && (h && g && (s && r))

@@ -10,9 +10,9 @@ use Rattle.base_blocks.proofs.Lists.{passed}
 use Rattle.pool_records.specs.declared.texture.TextureRecord.{TextureRecord}
 use Rattle.pool_records.specs.Find.{textures, idOf}
 use Rattle.pool_memory.specs.declared.pool.Pool.{Pool}
-use Rattle.pool_memory.specs.Reading.{recordPages}
 use Rattle.pool_memory.specs.IsPool.{isSpare}
 use Rattle.pool_formed_textures.specs.Textures.{isRecord, recordSpares, recordBytes, claim, spareAt, historiesFit, texturesFit}
+use Rattle.pool_records.specs.Texture.{recordPages}
 
 module _ (ts : List TextureRecord) (kept pages : ℕ) (e : claim ts kept pages ≡ true) where
   pub claimed-spares : total recordSpares ts ≡ kept

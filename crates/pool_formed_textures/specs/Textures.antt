@@ -18,9 +18,10 @@ use Rattle.pool_records.specs.Spare.{readSpare}
 use Rattle.pool_records.specs.Views.{spareOf}
 use Rattle.pool_records.specs.Find.{textures, idOf}
 use Rattle.pool_memory.specs.declared.pool.Pool.{Pool}
-use Rattle.pool_memory.specs.Reading.{pageAt, recordPages}
+use Rattle.pool_memory.specs.Reading.{pageAt}
 use Rattle.pool_memory.specs.IsPool.{bytesHold, isGrid, isSpare}
 use Rattle.pool_records.specs.RecordConstants.{spareStride}
+use Rattle.pool_records.specs.Texture.{recordPages}
 
 -- ---- textures
 

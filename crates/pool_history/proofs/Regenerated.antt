@@ -20,9 +20,9 @@ use Rattle.grid_rects.specs.declared.rect.TexelRect.{TexelRect}
 use Rattle.grid_rects.specs.Rects.{wholeLevel}
 use Rattle.grid_stamps.specs.Grids.{StampGrid, gridIn, tilingOf, stampedBy}
 use Rattle.pool_rules.specs.Histories.{regenerateFrom}
-use Rattle.pool_memory.specs.Reading.{pageAt}
+use Rattle.pool_memory.specs.Reading.{pageAt, gridOn}
 use Rattle.pool_memory.specs.Writing.{pagesFrom}
-use Rattle.pool_history.specs.Written.{gridOn, newestWritten, pagesWritten, remadeGrid, remadeGrids}
+use Rattle.pool_history.specs.Written.{newestWritten, pagesWritten, remadeGrid, remadeGrids}
 use Rattle.pool_history.proofs.Written.{Small, small-stamped, small-grid, newest-past, newest-more, page-past, pages-more}
 use Rattle.grid_stamps.specs.StampConstants.{pageStamps}
 

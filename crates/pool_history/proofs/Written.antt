@@ -20,12 +20,12 @@ use Rattle.grid_axes.specs.Axes.{AxisOk}
 use Rattle.grid_stamps.specs.Grids.{Tiling, tiled, StampGrid, gridIn, tilingOf, stampCount, stampedBy}
 use Rattle.grid_stamps.proofs.Tilings.{tiling-ok, count-bound}
 use Rattle.grid_stamps.proofs.Stamps.{length-stamped}
-use Rattle.pool_memory.specs.Reading.{pageAt}
+use Rattle.pool_memory.specs.Reading.{pageAt, gridOn}
 use Rattle.pool_memory.specs.Writing.{pagesFrom}
 use Rattle.pool_memory.proofs.Rewritten.{sets-self}
 use Rattle.pool_memory.proofs.Rewritten.{sets-append}
 use Rattle.pool_memory.proofs.Stamped.{length-pages}
-use Rattle.pool_history.specs.Written.{gridOn, newestStamp, newestWritten, pagesWritten}
+use Rattle.pool_history.specs.Written.{newestStamp, newestWritten, pagesWritten}
 use Rattle.grid_stamps.specs.StampConstants.{pageStamps}
 
 -- ---- a run of numbers stored

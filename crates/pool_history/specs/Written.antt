@@ -10,13 +10,9 @@ use Rattle.grid_shapes.specs.declared.shape.VersionShape.{VersionShape}
 use Rattle.grid_shapes.specs.Shapes.{levelWidth, levelHeight}
 use Rattle.grid_rects.specs.Rects.{wholeLevel}
 use Rattle.grid_stamps.specs.Grids.{StampGrid, gridIn, tilingOf, stampedBy}
-use Rattle.pool_memory.specs.Reading.{pageAt}
+use Rattle.pool_memory.specs.Reading.{pageAt, gridOn}
 use Rattle.pool_memory.specs.Writing.{pagesFrom}
 use Rattle.grid_stamps.specs.StampConstants.{pageStamps}
-
--- the grid of a level on page p
-unfoldable pub gridOn : VersionShape → ℕ → List ℕ → List ℕ → ℕ → StampGrid
-gridOn s level newest stamps p = gridIn (tilingOf s level) (getD newest p 0) (pageAt stamps p)
 
 abbrev pub newestStamp : StampGrid → ℕ
 newestStamp g = g .newest

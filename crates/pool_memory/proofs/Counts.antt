@@ -9,12 +9,13 @@ use Rattle.base_blocks.proofs.Lists.{length-removed, length-inserted, total-app
 use Rattle.pool_rules.specs.Model.{Spare, VersionState, Pool, pagesUsed}
 use Rattle.pool_rules.proofs.Lists.{total-cut}
 use Rattle.pool_memory.specs.Lent.{Lent}
-use Rattle.pool_memory.specs.Reading.{trackedRecords, recordPages, modelOf}
+use Rattle.pool_memory.specs.Reading.{trackedRecords, modelOf}
 use Rattle.pool_memory.specs.Writing.{everySpare}
 use Rattle.pool_memory.proofs.Runs.{sparesOf, spareCount, firstPageOf, tracked-model, pages-model}
 use Rattle.pool_memory.proofs.Kept.{page-of}
 use Rattle.pool_memory.proofs.Changes.{sparesBefore, length-spares}
 use Rattle.pool_memory.proofs.Pages.{pagesAt, next-page, page-bound, removed-parts}
+use Rattle.pool_records.specs.Texture.{recordPages}
 
 -- as many as all of them in a row
 pub count-spares : (ts : List (VersionState ℕ)) → total spareCount ts ≡ length (everySpare ts)

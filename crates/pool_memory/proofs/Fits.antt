@@ -8,11 +8,12 @@ use Rattle.pool_rules.specs.Open.{arePlaces}
 use Rattle.pool_rules.specs.Formed.{Formed}
 use Rattle.pool_records.specs.declared.texture.TextureRecord.{TextureRecord}
 use Rattle.pool_memory.specs.Lent.{Lent, versionPlaces}
-use Rattle.pool_memory.specs.Reading.{trackedRecords, recordPages, modelOf}
+use Rattle.pool_memory.specs.Reading.{trackedRecords, modelOf}
 use Rattle.pool_memory.specs.IsPool.{bytesFit}
 use Rattle.grid_stamps.specs.StampConstants.{pageStamps}
 use Rattle.pool_records.specs.RecordConstants.{doomedStride, retiringStride, spareStride, textureStride}
 use Rattle.pool_rules.specs.RuleConstants.{mostPlaces}
+use Rattle.pool_records.specs.Texture.{recordPages}
 
 pub record Fits (l : Lent) : Type 0 where
   -- the slices are as long as whole places, as many as may be lent

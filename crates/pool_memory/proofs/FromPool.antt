@@ -31,7 +31,7 @@ use Rattle.pool_records.specs.declared.recorded.Recorded.{Recorded}
 use Rattle.pool_records.specs.declared.recorded.Recorded.the-variants.{Writes, NoHistory}
 use Rattle.pool_records.specs.declared.texture.TextureRecord.{TextureRecord}
 use Rattle.pool_memory.specs.Lent.{Lent, versionPlaces}
-use Rattle.pool_memory.specs.Reading.{trackedRecords, pageAt, gridRead, historyRead, recordPages, recordedPages, spareRead, stateRead, statesRead, retiringRead, doomedRead, modelOf}
+use Rattle.pool_memory.specs.Reading.{trackedRecords, pageAt, gridRead, historyRead, spareRead, stateRead, statesRead, retiringRead, doomedRead, modelOf}
 use Rattle.pool_memory.specs.IsPool.{sizesFit, countsFit, runsFit, bytesFit, markFits, isGrid, isHistory, isHeldCount, isSpare, isState, isRetiring, isHand, isDoomed, isArrival, isFormed, isPool}
 use Rattle.pool_memory.proofs.FitsTests.{all-holds, ascending-holds}
 use Rattle.pool_memory.proofs.Fits.{Fits}
@@ -40,6 +40,7 @@ use Rattle.pool_memory.proofs.Rings.{hand-model}
 use Rattle.grid_stamps.specs.StampConstants.{pageStamps}
 use Rattle.pool_records.specs.RecordConstants.{doomedStride, retiringStride, spareStride, textureStride}
 use Rattle.pool_rules.specs.RuleConstants.{mostPlaces}
+use Rattle.pool_records.specs.Texture.{recordedPages, recordPages}
 
 -- ---- 01's conditions of each part
 

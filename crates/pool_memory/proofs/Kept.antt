@@ -19,10 +19,10 @@ use Rattle.grid_stamps.specs.Grids.{StampGrid, gridIn, tilingOf, stampCount}
 use Rattle.pool_rules.specs.Model.{WriteHistory, VersionState, hasHistory, pagesOf, pagesUsed}
 use Rattle.pool_records.specs.declared.recorded.Recorded.{Recorded}
 use Rattle.pool_records.specs.declared.recorded.Recorded.the-variants.{Writes, NoHistory}
-use Rattle.pool_records.specs.Texture.{readTexture}
+use Rattle.pool_records.specs.Texture.{readTexture, recordedPages}
 use Rattle.pool_records.specs.Find.{idOf}
 use Rattle.pool_memory.specs.Lent.{Lent}
-use Rattle.pool_memory.specs.Reading.{trackedRecords, pageAt, gridRead, historyRead, recordedPages, stateRead, modelOf}
+use Rattle.pool_memory.specs.Reading.{trackedRecords, pageAt, gridRead, historyRead, stateRead, modelOf}
 use Rattle.pool_memory.specs.Writing.{gridsOf, firstPage, pageBefore, pagesFrom, pagesAfter, newestOf}
 use Rattle.pool_memory.proofs.Parts.{flat-mapped, total-mapped, Stands, stands-whole, stands-take, stands-drop}
 use Rattle.pool_memory.proofs.Runs.{firstSpare, firstPageOf, pages-state, stateOf, tracked-records, tracked-model, model-at, id-model, take-states, pages-states}

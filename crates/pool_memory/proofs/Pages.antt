@@ -14,10 +14,10 @@ use Rattle.base_blocks.specs.Blocks.{moved}
 use Rattle.pool_rules.specs.Model.{WriteHistory, VersionState, Pool, pagesUsed}
 use Rattle.pool_rules.proofs.Lists.{total-cut}
 use Rattle.grid_stamps.specs.Grids.{StampGrid}
-use Rattle.pool_records.specs.Texture.{readTexture}
+use Rattle.pool_records.specs.Texture.{readTexture, recordPages}
 use Rattle.pool_records.specs.Find.{idOf}
 use Rattle.pool_memory.specs.Lent.{Lent}
-use Rattle.pool_memory.specs.Reading.{trackedRecords, recordPages, modelOf}
+use Rattle.pool_memory.specs.Reading.{trackedRecords, modelOf}
 use Rattle.pool_memory.specs.Writing.{gridsOf, newestOf, newestAfter, firstPage, pageBefore, pagesFrom, pagesAfter, stampsAfter}
 use Rattle.pool_memory.proofs.Parts.{total-next, flat-append}
 use Rattle.pool_memory.proofs.Rewritten.{repacked}

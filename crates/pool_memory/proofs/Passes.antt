@@ -13,12 +13,12 @@ use Rattle.base_tables.specs.Records.{recordAt, table, flat}
 use Rattle.pool_rules.specs.Model.{Spare, VersionState, Pool}
 use Rattle.pool_records.specs.declared.texture.TextureRecord.{TextureRecord}
 use Rattle.pool_records.specs.declared.spare.SpareRecord.{SpareRecord}
-use Rattle.pool_records.specs.Texture.{readTexture, writeTexture, textureIn}
+use Rattle.pool_records.specs.Texture.{readTexture, writeTexture, textureIn, recordPages}
 use Rattle.pool_records.specs.Spare.{readSpare, writeSpare}
 use Rattle.pool_records.specs.Find.{idOf}
 use Rattle.pool_records.proofs.Codecs.{texture-codec, spare-codec}
 use Rattle.pool_memory.specs.Lent.{Lent}
-use Rattle.pool_memory.specs.Reading.{trackedRecords, recordPages}
+use Rattle.pool_memory.specs.Reading.{trackedRecords}
 use Rattle.pool_memory.specs.Writing.{textureRecord, spareRecord, everySpare, newestOf, texturesAfter, sparesAfter, newestAfter, pagesAfter, stampsAfter}
 use Rattle.pool_memory.proofs.Parts.{flat-append, map-take, map-drop}
 use Rattle.pool_memory.proofs.Packed.{packed-read, packed-put, packed-moved, over-moved}

@@ -17,13 +17,13 @@ use Rattle.pool_rules.specs.Model.{Retiring, VersionState, Places, Pool, pagesU
 use Rattle.pool_rules.specs.Open.{arePlaces}
 use Rattle.pool_rules.specs.Formed.{Formed}
 use Rattle.pool_records.specs.declared.texture.TextureRecord.{TextureRecord}
-use Rattle.pool_records.specs.Texture.{writeTexture}
+use Rattle.pool_records.specs.Texture.{writeTexture, recordPages}
 use Rattle.pool_records.specs.Spare.{writeSpare}
 use Rattle.pool_records.specs.Retiring.{writeRetiring}
 use Rattle.pool_records.specs.Doomed.{writeDoomed}
 use Rattle.pool_records.proofs.Codecs.{texture-codec, spare-codec}
 use Rattle.pool_memory.specs.Lent.{Lent, versionPlaces}
-use Rattle.pool_memory.specs.Reading.{trackedRecords, recordPages, statesRead, retiringRead, handRead, doomedRead, modelOf}
+use Rattle.pool_memory.specs.Reading.{trackedRecords, statesRead, retiringRead, handRead, doomedRead, modelOf}
 use Rattle.pool_memory.specs.Writing.{textureRecord, spareRecord, retiringRecord, doomedRecord, texturesAfter, everySpare, sparesAfter, newestAfter, stampsAfter, headAfter, handList, retiringAfter, firstAfter, doomedAfter, poolAfter, markOf, bookAfter, after}
 use Rattle.pool_memory.specs.IsPool.{bytesHold, bytesFit, isPool}
 use Rattle.pool_memory.proofs.Fits.{Fits}

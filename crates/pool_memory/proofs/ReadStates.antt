@@ -24,12 +24,13 @@ use Rattle.pool_records.specs.Spare.{readSpare, writeSpare}
 use Rattle.pool_records.specs.Views.{spareOf}
 use Rattle.pool_records.proofs.Codecs.{spare-codec}
 use Rattle.pool_memory.specs.Lent.{Lent}
-use Rattle.pool_memory.specs.Reading.{historyRead, recordPages, recordedPages, spareRead, stateRead, statesRead, modelOf}
+use Rattle.pool_memory.specs.Reading.{historyRead, spareRead, stateRead, statesRead, modelOf}
 use Rattle.pool_memory.specs.Writing.{recordedOf, textureRecord, spareRecord, everySpare, gridsOf, newestOf, firstPage, pageBefore, pagesFrom, pagesAfter}
 use Rattle.pool_memory.specs.IsPool.{bytesHold}
 use Rattle.pool_memory.proofs.ReadHistories.{length-pages, grids-back, whole-pages}
 use Rattle.grid_stamps.specs.StampConstants.{pageStamps}
 use Rattle.pool_records.specs.RecordConstants.{spareStride}
+use Rattle.pool_records.specs.Texture.{recordedPages, recordPages}
 
 -- what stands past a front part, of a list that stands from place i on
 drop-past : (xs a b rest : List ℕ) (i n j : ℕ) → drop i xs ≡ (a ++ b) ++ rest → length a ≡ n → i + n ≡ j → drop j xs ≡ b ++ rest

@@ -18,9 +18,9 @@ use Rattle.pool_rules.specs.Model.{Spare, VersionState, pagesOf, hasHistory, pa
 use Rattle.pool_records.specs.declared.recorded.Recorded.{Recorded}
 use Rattle.pool_records.specs.declared.recorded.Recorded.the-variants.{Writes, NoHistory}
 use Rattle.pool_records.specs.declared.texture.TextureRecord.{TextureRecord}
-use Rattle.pool_records.specs.Texture.{readTexture}
+use Rattle.pool_records.specs.Texture.{readTexture, recordedPages, recordPages}
 use Rattle.pool_memory.specs.Lent.{Lent}
-use Rattle.pool_memory.specs.Reading.{trackedRecords, gridRead, historyRead, recordedPages, recordPages, spareRead, stateRead, statesRead, modelOf}
+use Rattle.pool_memory.specs.Reading.{trackedRecords, gridRead, historyRead, spareRead, stateRead, statesRead, modelOf}
 use Rattle.pool_memory.specs.IsPool.{bytesHold, bytesFit, stateId}
 use Rattle.pool_memory.specs.Writing.{recordedOf, textureRecord, everySpare, gridsOf, newestOf}
 use Rattle.pool_records.specs.RecordConstants.{textureStride}

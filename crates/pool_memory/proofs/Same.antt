@@ -15,12 +15,12 @@ use Rattle.base_tables.proofs.Records.{over-table}
 use Rattle.pool_rules.specs.Model.{Pool, pagesUsed}
 use Rattle.pool_records.specs.declared.texture.TextureRecord.{TextureRecord}
 use Rattle.pool_records.specs.declared.spare.SpareRecord.{SpareRecord}
-use Rattle.pool_records.specs.Texture.{writeTexture}
+use Rattle.pool_records.specs.Texture.{writeTexture, recordPages}
 use Rattle.pool_records.specs.Spare.{readSpare, writeSpare}
 use Rattle.pool_records.specs.Find.{idOf}
 use Rattle.pool_records.proofs.Codecs.{texture-codec, spare-codec}
 use Rattle.pool_memory.specs.Lent.{Lent, versionPlaces}
-use Rattle.pool_memory.specs.Reading.{trackedRecords, recordPages, spareRead, retiringRead, doomedRead, modelOf}
+use Rattle.pool_memory.specs.Reading.{trackedRecords, spareRead, retiringRead, doomedRead, modelOf}
 use Rattle.pool_memory.specs.Writing.{textureRecord, spareRecord, everySpare, texturesAfter, sparesAfter, newestAfter, stampsAfter, poolAfter, markOf, bookAfter, after}
 use Rattle.pool_memory.specs.IsPool.{bytesFit}
 use Rattle.pool_memory.proofs.Runs.{sparesOf, stateOf, tracked-model, records-model, spares-model, kept-model, pages-model, newest-model}

@@ -16,9 +16,9 @@ use Rattle.grid_stamps.specs.Grids.{StampGrid, gridIn, tilingOf, stampCount}
 use Rattle.pool_rules.specs.Model.{hasHistory, pagesOf, pagesUsed}
 use Rattle.pool_records.specs.declared.recorded.Recorded.{Recorded}
 use Rattle.pool_records.specs.declared.recorded.Recorded.the-variants.{Writes, NoHistory}
-use Rattle.pool_records.specs.Texture.{readTexture}
+use Rattle.pool_records.specs.Texture.{readTexture, recordedPages}
 use Rattle.pool_memory.specs.Lent.{Lent}
-use Rattle.pool_memory.specs.Reading.{trackedRecords, recordedPages, pageAt, gridRead, historyRead, stateRead}
+use Rattle.pool_memory.specs.Reading.{trackedRecords, pageAt, gridRead, historyRead, stateRead}
 use Rattle.pool_memory.specs.Writing.{gridsOf, pageBefore, pagesFrom}
 use Rattle.pool_memory.proofs.Rewritten.{sets-self, sets-part}
 use Rattle.pool_memory.proofs.Runs.{firstSpare, firstPageOf, stateOf, pages-state}

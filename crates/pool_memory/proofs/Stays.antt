@@ -15,7 +15,7 @@ use Rattle.pool_records.specs.Find.{idOf}
 use Rattle.pool_memory.specs.declared.pool.Pool.{Pool as Counts}
 use Rattle.pool_memory.specs.declared.book.PacingBook.{PacingBook}
 use Rattle.pool_memory.specs.Lent.{Lent, lent, versionPlaces}
-use Rattle.pool_memory.specs.Reading.{trackedRecords, recordPages, modelOf}
+use Rattle.pool_memory.specs.Reading.{trackedRecords, modelOf}
 use Rattle.pool_memory.specs.Writing.{textureRecord, everySpare, texturesAfter, sparesAfter, newestAfter, stampsAfter, retiringAfter, doomedAfter, poolAfter, markOf, bookAfter, after}
 use Rattle.pool_memory.specs.IsPool.{stateId}
 use Rattle.pool_memory.proofs.FitsTests.{ascending-passes}
@@ -26,6 +26,7 @@ use Rattle.pool_memory.proofs.Rings.{retiring-same, doomed-same}
 use Rattle.pool_memory.proofs.Same.{book-same, textures-same, spares-same, newest-same, stamps-same, after-same}
 use Rattle.grid_shapes.specs.ShapeConstants.{mostShapeBytes}
 use Rattle.pool_records.specs.RecordConstants.{spareStride, textureStride}
+use Rattle.pool_records.specs.Texture.{recordPages}
 
 -- what a call leaves, slice by slice
 pub put-together : (p : Pool ℕ) (l : Lent) (c : Counts) (b : PacingBook) (textures retiring doomed spares newest stamps : List ℕ)

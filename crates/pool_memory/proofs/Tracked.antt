@@ -15,9 +15,9 @@ use Rattle.pool_rules.specs.Model.{WriteHistory, pagesUsed}
 use Rattle.pool_rules.specs.Formed.{Given, HistoryFormed, StateFormed}
 use Rattle.pool_records.specs.declared.texture.TextureRecord.{TextureRecord}
 use Rattle.pool_records.specs.Recorded.{RecordedFits, recordedNumber}
-use Rattle.pool_records.specs.Texture.{readTexture, textureIn, texturesIn}
+use Rattle.pool_records.specs.Texture.{readTexture, textureIn, texturesIn, recordPages}
 use Rattle.pool_memory.specs.Lent.{Lent}
-use Rattle.pool_memory.specs.Reading.{trackedRecords, recordPages, stateRead, modelOf}
+use Rattle.pool_memory.specs.Reading.{trackedRecords, stateRead, modelOf}
 use Rattle.pool_memory.specs.Writing.{recordedOf, textureRecord}
 use Rattle.pool_memory.specs.IsPool.{bytesHold, bytesFit}
 use Rattle.pool_memory.proofs.Fits.{Fits}

@@ -20,9 +20,9 @@ use Rattle.grid_stamps.proofs.RowByRow.{tile-place}
 use Rattle.pool_rules.specs.Model.{WriteHistory, VersionState, Pool, hasHistory, pagesOf}
 use Rattle.pool_rules.specs.Histories.{gridAt, gridPlace}
 use Rattle.pool_records.specs.Find.{idOf}
-use Rattle.pool_records.specs.Texture.{readTexture}
+use Rattle.pool_records.specs.Texture.{readTexture, recordPages}
 use Rattle.pool_memory.specs.Lent.{Lent}
-use Rattle.pool_memory.specs.Reading.{trackedRecords, recordPages, pageAt, gridRead, modelOf}
+use Rattle.pool_memory.specs.Reading.{trackedRecords, pageAt, gridRead, modelOf}
 use Rattle.pool_memory.specs.Writing.{gridsOf, newestOf, newestAfter, firstPage, pageBefore, pagesFrom, pagesAfter, stampsAfter}
 use Rattle.pool_memory.proofs.Parts.{map-set}
 use Rattle.pool_memory.proofs.Rewritten.{moved-self, sets-self, set-sets}

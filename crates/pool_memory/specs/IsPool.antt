@@ -15,11 +15,12 @@ use Rattle.pool_rules.specs.Model.{WriteHistory, Spare, Retiring, Doomed, Versi
 use Rattle.pool_rules.specs.Open.{arePlaces}
 use Rattle.pool_records.specs.declared.texture.TextureRecord.{TextureRecord}
 use Rattle.pool_memory.specs.Lent.{Lent, versionPlaces}
-use Rattle.pool_memory.specs.Reading.{trackedRecords, recordPages, modelOf}
+use Rattle.pool_memory.specs.Reading.{trackedRecords, modelOf}
 use Rattle.grid_shapes.specs.ShapeConstants.{mostShapeBytes}
 use Rattle.grid_stamps.specs.StampConstants.{pageStamps}
 use Rattle.pool_records.specs.RecordConstants.{doomedStride, retiringStride, spareStride, textureStride}
 use Rattle.pool_rules.specs.RuleConstants.{destroySpreadDrains, mostPlaces}
+use Rattle.pool_records.specs.Texture.{recordPages}
 
 -- the slices' lengths are those of whole places, as many as may be lent, and fit together
 unfoldable pub sizesFit : Lent → Bool

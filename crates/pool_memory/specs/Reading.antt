@@ -13,7 +13,7 @@ use Rattle.pool_rules.specs.Model.{WriteHistory, Spare, Retiring, Doomed, Versi
 use Rattle.pool_records.specs.declared.recorded.Recorded.{Recorded}
 use Rattle.pool_records.specs.declared.recorded.Recorded.the-variants.{Writes, NoHistory}
 use Rattle.pool_records.specs.declared.texture.TextureRecord.{TextureRecord}
-use Rattle.pool_records.specs.Texture.{texturesIn}
+use Rattle.pool_records.specs.Texture.{texturesIn, recordedPages, recordPages}
 use Rattle.pool_records.specs.Spare.{readSpare}
 use Rattle.pool_records.specs.Retiring.{readRetiring}
 use Rattle.pool_records.specs.Doomed.{readDoomed}
@@ -39,14 +39,6 @@ gridRead l s page k = gridIn (tilingOf s (k % s .levels)) (getD (l .newest) (pag
 abbrev pub historyRead : Lent → VersionShape → ℕ → Recorded → Option WriteHistory
 historyRead l s page NoHistory = none
 historyRead l s page (Writes n) = some (record { writes = n; grids = listed (gridRead l s page) 0 (pagesOf s) })
-
-abbrev pub recordedPages : Recorded → VersionShape → ℕ
-recordedPages NoHistory s = 0
-recordedPages (Writes n) s = pagesOf s
-
--- how many pages a texture's record claims
-abbrev pub recordPages : TextureRecord → ℕ
-recordPages t = recordedPages (t .history) (t .shape)
 
 -- ---- textures
 
@@ -100,3 +92,7 @@ modelOf l = record {
   budget = record { cap = l .pool .cap; line = l .pool .line };
   pacing = record { arrivals = l .book .arrivals; slot = l .book .slot; pressed = eqb (l .book .pressed) 1; excess = l .book .excess };
 }
+
+-- the grid of a level on page p
+unfoldable pub gridOn : VersionShape → ℕ → List ℕ → List ℕ → ℕ → StampGrid
+gridOn s level newest stamps p = gridIn (tilingOf s level) (getD newest p 0) (pageAt stamps p)

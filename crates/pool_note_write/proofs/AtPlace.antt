@@ -18,11 +18,11 @@ use Rattle.grid_stamps.proofs.RowByRow.{tile-place}
 use Rattle.pool_records.specs.declared.recorded.Recorded.{Recorded}
 use Rattle.pool_records.specs.declared.recorded.Recorded.the-variants.{Writes, NoHistory}
 use Rattle.pool_records.specs.declared.texture.TextureRecord.{TextureRecord}
-use Rattle.pool_records.specs.Texture.{readTexture, textureIn}
+use Rattle.pool_records.specs.Texture.{readTexture, textureIn, recordedPages, recordPages}
 use Rattle.pool_records.specs.Find.{idOf}
 use Rattle.pool_access.proofs.Ids.{found}
 use Rattle.pool_memory.specs.Lent.{Lent}
-use Rattle.pool_memory.specs.Reading.{trackedRecords, recordedPages, recordPages, gridRead, historyRead, stateRead}
+use Rattle.pool_memory.specs.Reading.{trackedRecords, gridRead, historyRead, stateRead}
 use Rattle.pool_memory.proofs.Fits.{Fits}
 use Rattle.pool_memory.proofs.Runs.{firstPageOf, stateOf}
 use Rattle.pool_memory.proofs.Tracked.{record-read, pages-to, shape-passes}

@@ -20,7 +20,7 @@ use Rattle.pool_records.specs.declared.recorded.Recorded.the-variants.{Writes, 
 use Rattle.pool_records.specs.declared.texture.TextureRecord.{TextureRecord}
 use Rattle.pool_records.specs.Texture.{writeTexture, textureIn}
 use Rattle.pool_memory.specs.Lent.{Lent, lent}
-use Rattle.pool_memory.specs.Reading.{pageAt, gridRead, stateRead, modelOf}
+use Rattle.pool_memory.specs.Reading.{pageAt, gridRead, stateRead, modelOf, gridOn}
 use Rattle.pool_memory.specs.Writing.{recordedOf, textureRecord, gridsOf, pageBefore, texturesAfter, newestAfter, stampsAfter, poolAfter, after}
 use Rattle.pool_memory.proofs.Fits.{Fits}
 use Rattle.pool_memory.proofs.Runs.{spareCount, firstPageOf, stateOf, tracked-model, model-at, kept-model, pages-model}
@@ -32,7 +32,7 @@ use Rattle.pool_memory.proofs.Pages.{pagesAt, pages-in, newest-dropped, stamps-
 use Rattle.pool_memory.proofs.Stamped.{gridsAt, used-at, whole-grids}
 use Rattle.pool_memory.proofs.Written.{all-pages, place-page, grid-held, newest-rewritten, newest-stamped, stamps-rewritten, stamps-stamped}
 use Rattle.pool_memory.proofs.Tracked.{record-read, bytes-at, shape-at}
-use Rattle.pool_history.specs.Written.{gridOn, newestWritten, pagesWritten, remadeGrids}
+use Rattle.pool_history.specs.Written.{newestWritten, pagesWritten, remadeGrids}
 use Rattle.pool_history.proofs.Written.{small-stamped, one-newest, one-page}
 use Rattle.pool_history.proofs.Regenerated.{regenerate-listed, length-remade, small-remade}
 use Rattle.pool_note_write.specs.History.{recordedAs, pagesUpTo, pagesHere, pagesEnd, pageOf, stampedOn}

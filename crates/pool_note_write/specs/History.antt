@@ -13,10 +13,9 @@ use Rattle.pool_rules.specs.Histories.{gridPlace}
 use Rattle.pool_records.specs.declared.recorded.Recorded.{Recorded}
 use Rattle.pool_records.specs.declared.recorded.Recorded.the-variants.{Writes, NoHistory}
 use Rattle.pool_records.specs.declared.texture.TextureRecord.{TextureRecord}
-use Rattle.pool_records.specs.Texture.{textureIn, texturesIn}
+use Rattle.pool_records.specs.Texture.{textureIn, texturesIn, recordPages}
 use Rattle.pool_records.specs.Find.{idOf}
-use Rattle.pool_memory.specs.Reading.{recordPages}
-use Rattle.pool_history.specs.Written.{gridOn}
+use Rattle.pool_memory.specs.Reading.{gridOn}
 use Rattle.pool_records.specs.RecordConstants.{textureStride}
 use Rattle.pool_rules.specs.RuleConstants.{mostPlaces}
 

@@ -20,10 +20,10 @@ use Rattle.pool_rules.proofs.Lists.{total-cut}
 use Rattle.pool_records.specs.declared.recorded.Recorded.{Recorded}
 use Rattle.pool_records.specs.declared.recorded.Recorded.the-variants.{Writes, NoHistory}
 use Rattle.pool_records.specs.declared.texture.TextureRecord.{TextureRecord}
-use Rattle.pool_records.specs.Texture.{readTexture, textureIn, texturesIn}
+use Rattle.pool_records.specs.Texture.{readTexture, textureIn, texturesIn, recordedPages, recordPages}
 use Rattle.pool_records.specs.Find.{idOf, below}
 use Rattle.pool_memory.specs.Lent.{Lent}
-use Rattle.pool_memory.specs.Reading.{trackedRecords, recordPages, recordedPages, historyRead, stateRead, modelOf}
+use Rattle.pool_memory.specs.Reading.{trackedRecords, historyRead, stateRead, modelOf}
 use Rattle.pool_memory.proofs.Fits.{Fits}
 use Rattle.pool_memory.proofs.Parts.{total-within}
 use Rattle.pool_memory.proofs.Runs.{firstSpare, firstPageOf, stateOf, tracked-records}

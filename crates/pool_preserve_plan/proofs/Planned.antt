@@ -24,11 +24,11 @@ use Rattle.grid_stamps.proofs.RowByRow.{tile-place}
 use Rattle.pool_rules.specs.Model.{UploadFootprint, pagesOf}
 use Rattle.pool_rules.specs.Histories.{gridPlace}
 use Rattle.pool_rules.specs.PreservePlan.{sameRect, covers}
-use Rattle.pool_memory.specs.Reading.{pageAt}
+use Rattle.pool_memory.specs.Reading.{pageAt, gridOn}
 use Rattle.pool_preserve_plan.specs.declared.copy.Planned.the-variants.{Skipped, Copied}
 use Rattle.pool_preserve_plan.specs.declared.since.Since.{Since}
 use Rattle.pool_preserve_plan.specs.declared.since.Since.the-variants.{After, Nothing}
-use Rattle.pool_preserve_plan.specs.Copies.{SinceFits, gridOn, boxPlanned, plannedSince, plannedAt}
+use Rattle.pool_preserve_plan.specs.Copies.{SinceFits, boxPlanned, plannedSince, plannedAt}
 use Rattle.grid_stamps.specs.StampConstants.{pageStamps}
 
 -- ---- a box

@@ -20,7 +20,7 @@ use Rattle.pool_rules.specs.Model.{Pool, Out, refused, accepted, guard, find, P
 use Rattle.pool_rules.specs.Histories.{inShape, gridPlace, gridAt}
 use Rattle.pool_rules.specs.PreservePlan.{covers, boxCopy, copyOf, copies, planFound, preservePlan}
 use Rattle.pool_memory.specs.Lent.{Lent}
-use Rattle.pool_memory.specs.Reading.{pageAt, gridRead, modelOf}
+use Rattle.pool_memory.specs.Reading.{pageAt, gridRead, modelOf, gridOn}
 use Rattle.pool_memory.specs.IsPool.{isPool}
 use Rattle.pool_memory.specs.Calls.{refusal, answer, copyNumbers, inBuffer, preservePlanCall}
 use Rattle.pool_memory.proofs.Fits.{Fits}
@@ -31,7 +31,7 @@ use Rattle.pool_preserve_plan.specs.declared.copy.Planned.the-variants.{
 use Rattle.pool_preserve_plan.specs.declared.since.Since.{Since}
 use Rattle.pool_preserve_plan.specs.declared.history.Found.{Found}
 use Rattle.pool_preserve_plan.specs.declared.history.Found.the-variants.{OtherShape, NothingRecorded, History}
-use Rattle.pool_preserve_plan.specs.Copies.{SinceFits, gridOn, boxPlanned, plannedSince, plannedAt, copyList, inOrder, copiesAt, sliceCopies, lentCopies, withCopies}
+use Rattle.pool_preserve_plan.specs.Copies.{SinceFits, boxPlanned, plannedSince, plannedAt, copyList, inOrder, copiesAt, sliceCopies, lentCopies, withCopies}
 use Rattle.pool_preserve_plan.specs.PreservePlan.{sinceOf, isOther, skipsSpent, planRefusal}
 use Rattle.pool_preserve_plan.proofs.Passes.{list-most, with-front}
 use Rattle.pool_preserve_plan.proofs.Finding.{historyIn, spent-found, foundIn, plan-found, found-fits}

@@ -17,7 +17,7 @@ use Rattle.grid_stamps.specs.Grids.{StampGrid, gridIn, tilingOf, boxSince}
 use Rattle.pool_rules.specs.Model.{PreserveCopy, UploadFootprint}
 use Rattle.pool_rules.specs.Histories.{gridPlace}
 use Rattle.pool_rules.specs.PreservePlan.{sameRect, covers}
-use Rattle.pool_memory.specs.Reading.{pageAt}
+use Rattle.pool_memory.specs.Reading.{pageAt, gridOn}
 use Rattle.pool_memory.specs.Calls.{copyNumbers}
 use Rattle.pool_preserve_plan.specs.declared.copy.Planned.{Planned}
 use Rattle.pool_preserve_plan.specs.declared.copy.Planned.the-variants.{Skipped, Copied}
@@ -36,10 +36,6 @@ SinceFits Nothing pages newest stamps = Unit
 SinceFits (After page held) pages newest stamps = (page + pages ≤ newest) × (pageStamps * newest ≤ stamps)
 
 -- ---- one subresource
-
--- the grid of a level, on page k
-unfoldable pub gridOn : VersionShape → ℕ → List ℕ → List ℕ → ℕ → StampGrid
-gridOn s level newest stamps k = gridIn (tilingOf s level) (getD newest k 0) (pageAt stamps k)
 
 -- none where no tile was stamped since; a box equal to the level is whole
 unfoldable pub boxPlanned : VersionShape → ℕ → Dirty → Planned

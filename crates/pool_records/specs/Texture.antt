@@ -7,6 +7,9 @@ use Rattle.grid_shapes.specs.declared.shape.VersionShape.{VersionShape}
 use Rattle.pool_records.specs.declared.texture.TextureRecord.{TextureRecord}
 use Rattle.pool_records.specs.RecordConstants.{textureStride}
 use Rattle.pool_records.specs.Recorded.{recordedOf, recordedNumber}
+use Rattle.pool_rules.specs.Model.{pagesOf}
+use Rattle.pool_records.specs.declared.recorded.Recorded.{Recorded}
+use Rattle.pool_records.specs.declared.recorded.Recorded.the-variants.{Writes, NoHistory}
 
 abbrev pub shapeIn : List ℕ → VersionShape
 shapeIn s = record {
@@ -51,3 +54,11 @@ textureIn s i = recordAt textureStride readTexture s i
 
 abbrev pub texturesIn : ℕ → List ℕ → List TextureRecord
 texturesIn n s = table textureStride readTexture n s
+
+abbrev pub recordedPages : Recorded → VersionShape → ℕ
+recordedPages NoHistory s = 0
+recordedPages (Writes n) s = pagesOf s
+
+-- how many pages a texture's record claims
+abbrev pub recordPages : TextureRecord → ℕ
+recordPages t = recordedPages (t .history) (t .shape)

@@ -13,10 +13,10 @@ use Rattle.grid_shapes.specs.Shapes.{isShape, sameShape}
 use Rattle.pool_rules.specs.Model.{VersionState, Pool, find, limit, pagesOf, pagesUsed}
 use Rattle.pool_rules.specs.TakeSpare.{takeSpare}
 use Rattle.pool_records.specs.declared.texture.TextureRecord.{TextureRecord}
-use Rattle.pool_records.specs.Texture.{textureIn}
+use Rattle.pool_records.specs.Texture.{textureIn, recordPages}
 use Rattle.pool_records.specs.Find.{below}
 use Rattle.pool_memory.specs.Lent.{Lent}
-use Rattle.pool_memory.specs.Reading.{trackedRecords, recordPages, modelOf}
+use Rattle.pool_memory.specs.Reading.{trackedRecords, modelOf}
 use Rattle.pool_memory.specs.IsPool.{isPool}
 use Rattle.pool_memory.proofs.Fits.{Fits}
 use Rattle.pool_memory.proofs.FromPool.{pool-fits}

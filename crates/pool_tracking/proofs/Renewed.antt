@@ -22,11 +22,11 @@ use Rattle.pool_rules.proofs.States.{length-change, total-change}
 use Rattle.pool_rules.proofs.Moves.{as-doomed-bytes, as-doomed-length}
 use Rattle.pool_records.specs.declared.texture.TextureRecord.{TextureRecord}
 use Rattle.pool_records.specs.declared.doomed.DoomedRecord.{DoomedRecord}
-use Rattle.pool_records.specs.Texture.{writeTexture, texturesIn}
+use Rattle.pool_records.specs.Texture.{writeTexture, texturesIn, recordPages}
 use Rattle.pool_records.specs.Doomed.{writeDoomed}
 use Rattle.pool_memory.specs.declared.pool.Pool.{Pool as Counts}
 use Rattle.pool_memory.specs.Lent.{Lent, lent, versionPlaces}
-use Rattle.pool_memory.specs.Reading.{recordPages, spareRead, stateRead, modelOf}
+use Rattle.pool_memory.specs.Reading.{spareRead, stateRead, modelOf}
 use Rattle.pool_memory.specs.Writing.{doomedRecord, everySpare, firstPage, sparesAfter, doomedAfter, poolAfter, after}
 use Rattle.pool_memory.specs.Calls.{answer, takenOf, takeSpareCall}
 use Rattle.pool_memory.proofs.Fits.{Fits}

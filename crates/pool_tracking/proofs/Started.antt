@@ -19,10 +19,10 @@ use Rattle.pool_rules.specs.Updates.{withTextures, withTrackings, insert}
 use Rattle.pool_rules.specs.TakeSpare.{takeSpare}
 use Rattle.pool_rules.proofs.States.{length-insert, total-insert}
 use Rattle.pool_records.specs.declared.texture.TextureRecord.{TextureRecord}
-use Rattle.pool_records.specs.Texture.{readTexture, writeTexture, texturesIn}
+use Rattle.pool_records.specs.Texture.{readTexture, writeTexture, texturesIn, recordPages}
 use Rattle.pool_records.proofs.Places.{below-length}
 use Rattle.pool_memory.specs.Lent.{Lent, lent}
-use Rattle.pool_memory.specs.Reading.{trackedRecords, recordPages, modelOf}
+use Rattle.pool_memory.specs.Reading.{trackedRecords, modelOf}
 use Rattle.pool_memory.specs.Writing.{everySpare, poolAfter, after}
 use Rattle.pool_memory.specs.Calls.{answer, takenOf, takeSpareCall}
 use Rattle.pool_memory.proofs.Fits.{Fits}

@@ -3,9 +3,8 @@ use Prim.Native.Nat.{ℕ, _+_, _*_, _-_}
 use mathlib.Core.List.{List}
 use Rattle.base_blocks.specs.Lists.{total}
 use Rattle.pool_records.specs.declared.texture.TextureRecord.{TextureRecord}
-use Rattle.pool_records.specs.Texture.{textureIn, texturesIn}
+use Rattle.pool_records.specs.Texture.{textureIn, texturesIn, recordPages}
 use Rattle.pool_memory.specs.declared.pool.Pool.{Pool}
-use Rattle.pool_memory.specs.Reading.{recordPages}
 use Rattle.pool_tracking.specs.declared.holding.Holding.{Holding}
 
 unfoldable pub holdingAt : List ℕ → ℕ → Holding

@@ -19,7 +19,7 @@ use Rattle.pool_rules.specs.Trim.{aged, agedCount, thinned, isEmpty, idle, look
 use Rattle.pool_rules.proofs.Moves.{as-doomed-bytes, as-doomed-length}
 use Rattle.pool_records.specs.declared.texture.TextureRecord.{TextureRecord}
 use Rattle.pool_memory.specs.Lent.{Lent}
-use Rattle.pool_memory.specs.Reading.{recordPages, spareRead}
+use Rattle.pool_memory.specs.Reading.{spareRead}
 use Rattle.pool_memory.specs.Writing.{textureRecord, doomedRecord}
 use Rattle.pool_memory.proofs.Fits.{Fits}
 use Rattle.pool_memory.proofs.Runs.{stateOf}
@@ -34,7 +34,7 @@ use Rattle.pool_trim.specs.Pass.{givenOne}
 use Rattle.pool_forget_texture.proofs.TextureRuns.{spares-in}
 use Rattle.pool_trim.proofs.Ages.{aged-most}
 use Rattle.grid_shapes.specs.ShapeConstants.{mostShapeBytes}
-use Rattle.pool_records.specs.Texture.{textureIn}
+use Rattle.pool_records.specs.Texture.{textureIn, recordPages}
 
 -- ---- any state
 

@@ -16,11 +16,11 @@ use Rattle.pool_rules.specs.Model.{Doomed, VersionState, Pool, pagesUsed}
 use Rattle.pool_rules.specs.Trim.{idle, thinned}
 use Rattle.pool_records.specs.declared.texture.TextureRecord.{TextureRecord}
 use Rattle.pool_records.specs.declared.doomed.DoomedRecord.{DoomedRecord}
-use Rattle.pool_records.specs.Texture.{writeTexture, textureIn}
+use Rattle.pool_records.specs.Texture.{writeTexture, textureIn, recordPages}
 use Rattle.pool_records.specs.Spare.{writeSpare}
 use Rattle.pool_records.specs.Doomed.{writeDoomed}
 use Rattle.pool_memory.specs.Lent.{Lent}
-use Rattle.pool_memory.specs.Reading.{recordPages, modelOf}
+use Rattle.pool_memory.specs.Reading.{modelOf}
 use Rattle.pool_memory.specs.Writing.{textureRecord, spareRecord, doomedRecord, everySpare, newestOf, texturesAfter, sparesAfter, newestAfter, pagesAfter, stampsAfter}
 use Rattle.pool_memory.proofs.Fits.{Fits}
 use Rattle.pool_memory.proofs.Parts.{flat-append}

@@ -21,10 +21,10 @@ use Rattle.pool_records.specs.declared.recorded.Recorded.{Recorded}
 use Rattle.pool_records.specs.declared.recorded.Recorded.the-variants.{Writes, NoHistory}
 use Rattle.pool_records.specs.declared.texture.TextureRecord.{TextureRecord}
 use Rattle.pool_records.specs.Recorded.{RecordedFits}
-use Rattle.pool_records.specs.Texture.{readTexture, textureIn}
+use Rattle.pool_records.specs.Texture.{readTexture, textureIn, recordPages}
 use Rattle.pool_memory.specs.declared.pool.Pool.{Pool as Counts}
 use Rattle.pool_memory.specs.Lent.{Lent, lent, versionPlaces}
-use Rattle.pool_memory.specs.Reading.{trackedRecords, recordPages, historyRead, stateRead, modelOf}
+use Rattle.pool_memory.specs.Reading.{trackedRecords, historyRead, stateRead, modelOf}
 use Rattle.pool_memory.specs.Writing.{poolAfter, bookAfter, retiringAfter, doomedAfter, after}
 use Rattle.pool_memory.specs.IsPool.{isPool}
 use Rattle.pool_memory.specs.Calls.{refusal, answer, trimCall}

@@ -18,12 +18,12 @@ use Rattle.pool_rules.specs.Model.{Spare, Doomed, VersionState, pagesUsed, doom
 use Rattle.pool_rules.specs.Trim.{agedCount, thinned, idle}
 use Rattle.pool_records.specs.declared.texture.TextureRecord.{TextureRecord}
 use Rattle.pool_records.specs.declared.spare.SpareRecord.{SpareRecord}
-use Rattle.pool_records.specs.Texture.{readTexture, writeTexture, textureIn}
+use Rattle.pool_records.specs.Texture.{readTexture, writeTexture, textureIn, recordPages}
 use Rattle.pool_records.specs.Spare.{readSpare}
 use Rattle.pool_records.specs.Doomed.{writeDoomed}
 use Rattle.pool_records.specs.Views.{spareOf}
 use Rattle.pool_memory.specs.Lent.{Lent}
-use Rattle.pool_memory.specs.Reading.{recordPages, spareRead}
+use Rattle.pool_memory.specs.Reading.{spareRead}
 use Rattle.pool_memory.specs.Writing.{doomedRecord, everySpare, newestOf, texturesAfter, sparesAfter, newestAfter, pagesAfter, stampsAfter}
 use Rattle.pool_memory.proofs.Fits.{Fits}
 use Rattle.pool_memory.proofs.Runs.{stateOf}

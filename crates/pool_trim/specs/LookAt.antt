@@ -8,11 +8,10 @@ use Rattle.base_blocks.specs.Lists.{listed}
 use Rattle.base_tables.specs.Records.{recordAt}
 use Rattle.pool_records.specs.declared.texture.TextureRecord.{TextureRecord}
 use Rattle.pool_records.specs.Spare.{readSpare}
-use Rattle.pool_records.specs.Texture.{writeTexture, textureIn}
+use Rattle.pool_records.specs.Texture.{writeTexture, textureIn, recordPages}
 use Rattle.pool_records.specs.Views.{spareOf}
 use Rattle.pool_rules.specs.Model.{Spare}
 use Rattle.pool_rules.specs.Trim.{aged, agedCount}
-use Rattle.pool_memory.specs.Reading.{recordPages}
 use Rattle.pool_trim.specs.declared.look_at.Look.{Look}
 use Rattle.pool_records.specs.RecordConstants.{spareStride, textureStride}
 

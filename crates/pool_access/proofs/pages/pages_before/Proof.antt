@@ -6,8 +6,7 @@ use native.Mathlib.Omega.{arith}
 use Rattle.base_blocks.specs.Lists.{total}
 use Rattle.base_blocks.proofs.Listed.{left}
 use Rattle.base_tables.specs.Records.{recordAt}
-use Rattle.pool_records.specs.Texture.{readTexture, texturesIn}
-use Rattle.pool_memory.specs.Reading.{recordPages}
+use Rattle.pool_records.specs.Texture.{readTexture, texturesIn, recordPages}
 use Rattle.pool_access.proofs.Totals.{sum-start, sum-fits, sum-more, sum-done, total-one}
 use Rattle.pool_access.proofs.pages.pages_before.Statement.{statement}
 use Rattle.pool_access.proofs.pages.pages_before.Tie as tie

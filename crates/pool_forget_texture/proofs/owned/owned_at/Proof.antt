@@ -2,8 +2,7 @@
 use borrow.Author.Needs.{needs}
 use mathlib.Core.Path.{ap, _∙_}
 use native.Mathlib.Omega.{arith}
-use Rattle.pool_records.specs.Texture.{readTexture}
-use Rattle.pool_memory.specs.Reading.{recordPages}
+use Rattle.pool_records.specs.Texture.{readTexture, recordPages}
 use Rattle.pool_access.proofs.Totals.{total-next}
 use Rattle.pool_forget_texture.specs.Owned.{ownedAt}
 use Rattle.pool_forget_texture.proofs.owned.owned_at.Statement.{statement}

@@ -7,9 +7,8 @@ use Rattle.base_blocks.specs.Lists.{total}
 use Rattle.base_blocks.proofs.Listed.{left, total-more}
 use Rattle.base_tables.proofs.Records.{table-left}
 use Rattle.pool_records.specs.declared.texture.TextureRecord.{TextureRecord}
-use Rattle.pool_records.specs.Texture.{readTexture, textureIn}
+use Rattle.pool_records.specs.Texture.{readTexture, textureIn, recordPages}
 use Rattle.pool_records.specs.Find.{textures as textures′}
-use Rattle.pool_memory.specs.Reading.{recordPages}
 use Rattle.pool_formed_textures.specs.Textures.{historyFits, historiesFit}
 use Rattle.pool_formed_textures.proofs.RecordTests.{texture-read, read-shape}
 use Rattle.pool_formed_textures.proofs.HistoryTests.{histories-more, histories-stop, histories-done}

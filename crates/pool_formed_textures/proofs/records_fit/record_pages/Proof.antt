@@ -2,10 +2,10 @@
 use mathlib.Core.Path.{sym, ap, _∙_}
 use Rattle.grid_shapes.specs.Shapes.{isShape}
 use Rattle.pool_records.specs.declared.texture.TextureRecord.{TextureRecord}
-use Rattle.pool_memory.specs.Reading.{recordPages, recordedPages}
 use borrow.Author.Needs.{needs}
 use Rattle.pool_formed_textures.proofs.records_fit.record_pages.Statement.{statement}
 use Rattle.pool_formed_textures.proofs.records_fit.record_pages.Tie as tie
+use Rattle.pool_records.specs.Texture.{recordedPages, recordPages}
 
 read-texture-requires : tie.Need-read-texture-requires
 read-texture-requires c κs = search needs

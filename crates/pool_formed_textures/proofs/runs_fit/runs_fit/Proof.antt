@@ -6,9 +6,8 @@ use Rattle.base_blocks.proofs.Listed.{left}
 use Rattle.base_tables.proofs.Records.{table-left}
 use Rattle.pool_records.specs.declared.texture.TextureRecord.{TextureRecord}
 use mathlib.Core.List.{List}
-use Rattle.pool_records.specs.Texture.{readTexture, textureIn}
+use Rattle.pool_records.specs.Texture.{readTexture, textureIn, recordPages}
 use Rattle.pool_records.specs.Find.{textures as textures′}
-use Rattle.pool_memory.specs.Reading.{recordPages}
 use Rattle.pool_formed_textures.specs.Textures.{claim}
 use Rattle.pool_formed_textures.proofs.RecordTests.{texture-read, read-shape, read-spares}
 use Rattle.pool_formed_textures.proofs.Claims.{claim-more, claim-short, claim-cut, claim-done}

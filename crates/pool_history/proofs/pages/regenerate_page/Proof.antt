@@ -4,11 +4,12 @@ use mathlib.Core.List.{[], _∷_}
 use native.Mathlib.Omega.{arith}
 use borrow.Author.Needs.{needs}
 use Rattle.grid_stamps.specs.Grids.{StampGrid}
-use Rattle.pool_history.specs.Written.{gridOn, newestWritten, pagesWritten}
+use Rattle.pool_history.specs.Written.{newestWritten, pagesWritten}
 use Rattle.pool_history.proofs.Written.{newest-stands, page-stands}
 use Rattle.pool_history.proofs.Regenerated.{remade-first, remade-later}
 use Rattle.pool_history.proofs.pages.regenerate_page.Statement.{statement}
 use Rattle.pool_history.proofs.pages.regenerate_page.Tie as tie
+use Rattle.pool_memory.specs.Reading.{gridOn}
 
 -- src/pages.rt:60:9
 returns : tie.Need-returns

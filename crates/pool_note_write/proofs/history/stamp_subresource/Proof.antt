@@ -8,11 +8,12 @@ use Rattle.grid_shapes.specs.Shapes.{isShape}
 use Rattle.grid_stamps.specs.Grids.{StampGrid, tilingOf, stampedBy}
 use Rattle.pool_rules.specs.Histories.{gridPlace}
 use Rattle.pool_records.specs.declared.texture.TextureRecord.{TextureRecord}
-use Rattle.pool_history.specs.Written.{gridOn, newestWritten, pagesWritten}
+use Rattle.pool_history.specs.Written.{newestWritten, pagesWritten}
 use Rattle.pool_note_write.specs.History.{pagesUpTo, pageOf, stampedOn}
 use Rattle.pool_note_write.proofs.AtPlace.{page-small, page-below}
 use Rattle.pool_note_write.proofs.history.stamp_subresource.Statement.{statement}
 use Rattle.pool_note_write.proofs.history.stamp_subresource.Tie as tie
+use Rattle.pool_memory.specs.Reading.{gridOn}
 
 texture-at-requires : tie.Need-texture-at-requires
 texture-at-requires c κs = search needs

@@ -1,11 +1,11 @@
 -- `holding_at` meets its contract: each number is read by itself. Assumes nothing.
 use mathlib.Core.Path.{ap, _∙_}
 use native.Mathlib.Omega.{arith}
-use Rattle.pool_memory.specs.Reading.{recordPages}
 use Rattle.pool_tracking.specs.Holdings.{holdingAt}
 use borrow.Author.Needs.{needs}
 use Rattle.pool_tracking.proofs.holding.holding_at.Statement.{statement}
 use Rattle.pool_tracking.proofs.holding.holding_at.Tie as tie
+use Rattle.pool_records.specs.Texture.{recordPages}
 
 texture-at-requires : tie.Need-texture-at-requires
 texture-at-requires c κs = search needs
