@@ -8,9 +8,9 @@ use Rattle.grid_shapes.specs.declared.shape.VersionShape.{VersionShape}
 use Rattle.grid_rects.specs.declared.rect.TexelRect.{TexelRect}
 use Rattle.pool_memory.specs.Lent.{Lent}
 use Rattle.pool_memory.specs.IsPool.{isPool}
-use Rattle.pool_memory.specs.Calls.{Told, TakenVersion, PoppedVersion, takeSpareCall, retireCall, noteWriteCall, popRetiredCall, parkCall, noteAllocatedCall, takeDoomedCall, trimCall, noteMipRegenerationCall, drainVersionsCall, forgetTextureCall}
+use Rattle.pool_memory.specs.Calls.{Told, TakenVersion, PoppedVersion, takeSpareOn, retireOn, noteWriteOn, popRetiredOn, parkOn, noteAllocatedOn, takeDoomedOn, trimOn, noteMipRegenerationOn, drainVersionsOn, forgetTextureOn}
 use Rattle.pool_books.specs.Demand3.{Reply, done}
-use Rattle.pool_books.specs.LentLists.{LentCall, lentTake, lentRetire, lentWrite, lentPop, lentPark, lentNote, lentDoomed, lentTrim, lentRegen, lentDrain, lentForget, said, filled, replyOf, takenReply, poppedReply, viewsReply, lentCall, EveryCallKeepsPool}
+use Rattle.pool_books.specs.LentLists.{LentCall, lentTake, lentRetire, lentWrite, lentPop, lentPark, lentNote, lentDoomed, lentTrim, lentRegen, lentDrain, lentForget, said, filled, replyOf, takenReply, poppedVersionReply, viewsFilled, lentCall, EveryCallKeepsPool}
 use Rattle.pool_books.proofs.LentLists.{calls-keep-pool}
 
 module _ (l after : Lent) (e : isPool l ≡ true) where
@@ -19,47 +19,47 @@ module _ (l after : Lent) (e : isPool l ≡ true) where
   kept c r k = subst (λ x. isPool x ≡ true) (sym (ap (λ (x : Reply × Lent). x .1) k)) (calls-keep-pool l e c)
 
   pub take-keeps : (t : Told (Option TakenVersion)) (id : ℕ) (shape : VersionShape) (records : Bool) (seq : ℕ)
-      → (t, after) ≡ takeSpareCall l id shape records seq → isPool after ≡ true
+      → (t, after) ≡ takeSpareOn l id shape records seq → isPool after ≡ true
   unfolding lentCall
   take-keeps t id shape records seq q = kept (lentTake id shape records seq) (replyOf takenReply t) (ap (said takenReply) q)
 
-  pub pop-keeps : (t : Told (Option PoppedVersion)) (settled : ℕ) → (t, after) ≡ popRetiredCall l settled → isPool after ≡ true
+  pub pop-keeps : (t : Told (Option PoppedVersion)) (settled : ℕ) → (t, after) ≡ popRetiredOn l settled → isPool after ≡ true
   unfolding lentCall
-  pop-keeps t settled q = kept (lentPop settled) (replyOf poppedReply t) (ap (said poppedReply) q)
+  pop-keeps t settled q = kept (lentPop settled) (replyOf poppedVersionReply t) (ap (said poppedVersionReply) q)
 
-  pub doomed-keeps : (t : Told ℕ) (b exit : List ℕ) → (t, (exit, after)) ≡ takeDoomedCall l b → isPool after ≡ true
+  pub doomed-keeps : (t : Told ℕ) (b exit : List ℕ) → (t, (exit, after)) ≡ takeDoomedOn l b → isPool after ≡ true
   unfolding lentCall
-  doomed-keeps t b exit q = kept (lentDoomed b) (replyOf (λ (n : ℕ). viewsReply n exit) t) (ap (filled viewsReply) q)
+  doomed-keeps t b exit q = kept (lentDoomed b) (replyOf (λ (n : ℕ). viewsFilled n exit) t) (ap (filled viewsFilled) q)
 
-  pub drain-keeps : (t : Told ℕ) (b exit : List ℕ) → (t, (exit, after)) ≡ drainVersionsCall l b → isPool after ≡ true
+  pub drain-keeps : (t : Told ℕ) (b exit : List ℕ) → (t, (exit, after)) ≡ drainVersionsOn l b → isPool after ≡ true
   unfolding lentCall
-  drain-keeps t b exit q = kept (lentDrain b) (replyOf (λ (n : ℕ). viewsReply n exit) t) (ap (filled viewsReply) q)
+  drain-keeps t b exit q = kept (lentDrain b) (replyOf (λ (n : ℕ). viewsFilled n exit) t) (ap (filled viewsFilled) q)
 
   module _ (t : Told (Unit {0})) where
-    pub retire-keeps : (id view seq : ℕ) → (t, after) ≡ retireCall l id view seq → isPool after ≡ true
+    pub retire-keeps : (id view seq : ℕ) → (t, after) ≡ retireOn l id view seq → isPool after ≡ true
     unfolding lentCall
     retire-keeps id view seq q = kept (lentRetire id view seq) (replyOf (λ a. done) t) (ap (said (λ a. done)) q)
 
-    pub write-keeps : (id slice level : ℕ) (rect : TexelRect) → (t, after) ≡ noteWriteCall l id slice level rect → isPool after ≡ true
+    pub write-keeps : (id slice level : ℕ) (rect : TexelRect) → (t, after) ≡ noteWriteOn l id slice level rect → isPool after ≡ true
     unfolding lentCall
     write-keeps id slice level rect q = kept (lentWrite id slice level rect) (replyOf (λ a. done) t) (ap (said (λ a. done)) q)
 
-    pub park-keeps : (failed now : ℕ) → (t, after) ≡ parkCall l failed now → isPool after ≡ true
+    pub park-keeps : (failed now : ℕ) → (t, after) ≡ parkOn l failed now → isPool after ≡ true
     unfolding lentCall
     park-keeps failed now q = kept (lentPark failed now) (replyOf (λ a. done) t) (ap (said (λ a. done)) q)
 
-    pub note-keeps : (allocated : ℕ) → (t, after) ≡ noteAllocatedCall l allocated → isPool after ≡ true
+    pub note-keeps : (allocated : ℕ) → (t, after) ≡ noteAllocatedOn l allocated → isPool after ≡ true
     unfolding lentCall
     note-keeps allocated q = kept (lentNote allocated) (replyOf (λ a. done) t) (ap (said (λ a. done)) q)
 
-    pub trim-keeps : (now : ℕ) → (t, after) ≡ trimCall l now → isPool after ≡ true
+    pub trim-keeps : (now : ℕ) → (t, after) ≡ trimOn l now → isPool after ≡ true
     unfolding lentCall
     trim-keeps now q = kept (lentTrim now) (replyOf (λ a. done) t) (ap (said (λ a. done)) q)
 
-    pub regeneration-keeps : (id : ℕ) → (t, after) ≡ noteMipRegenerationCall l id → isPool after ≡ true
+    pub regeneration-keeps : (id : ℕ) → (t, after) ≡ noteMipRegenerationOn l id → isPool after ≡ true
     unfolding lentCall
     regeneration-keeps id q = kept (lentRegen id) (replyOf (λ a. done) t) (ap (said (λ a. done)) q)
 
-    pub forget-keeps : (id : ℕ) → (t, after) ≡ forgetTextureCall l id → isPool after ≡ true
+    pub forget-keeps : (id : ℕ) → (t, after) ≡ forgetTextureOn l id → isPool after ≡ true
     unfolding lentCall
     forget-keeps id q = kept (lentForget id) (replyOf (λ a. done) t) (ap (said (λ a. done)) q)

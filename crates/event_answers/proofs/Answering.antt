@@ -13,8 +13,8 @@ use Rattle.pool_books.specs.LentLists.{readCopy}
 use Rattle.event_text.specs.Numbers.{digitsOf}
 use Rattle.event_answers.specs.declared.answer.Answer.{Answer}
 use Rattle.event_answers.specs.declared.answer.Answer.the-variants.{Question, Refused, Done, Spare, NoSpare, Version, NothingSettled, Views, Copies}
-use Rattle.event_answers.specs.Answers.{replyOf, entries, InBuffers}
-use Rattle.event_answers.specs.Printed.{question, dash, accepted, row, acceptedRow, optional, heldField, regionFields, copyRow, viewRow, replyRows, printed}
+use Rattle.event_answers.specs.Answers.{replyTold, entries, InBuffers}
+use Rattle.event_answers.specs.Printed.{question, dash, acceptedText, row, acceptedRow, optional, heldField, regionFields, copyRow, viewRow, replyRows, printed}
 use Rattle.event_answers.specs.Put.{Put, fieldsEnded}
 use Rattle.event_answers.proofs.Puts.{put-as, put-then, row-ended, put-row, put-field, put-accepted}
 use Rattle.pool_memory.specs.MemoryConstants.{copyStride}
@@ -53,56 +53,56 @@ copy-from s i = ap readCopy (take-all (length s - copyStride * i) (drop (copyStr
 -- ---- an answer
 
 abbrev pub Shown : List ℕ → ℕ → ℕ → Answer → List ℕ → List ℕ → ℕ → List ℕ → Type 0
-Shown a i n k copies views j b = Put a i (printed n (replyOf k copies views)) j b
+Shown a i n k copies views j b = Put a i (printed n (replyTold k copies views)) j b
 
 -- as the contract says it
 pub shown : {a b : List ℕ} {i j : ℕ} (n : ℕ) (copies views : List ℕ) {answer k : Answer} → answer ≡ k → Shown a i n k copies views j b
-    → (j ≡ i + length (printed n (replyOf answer copies views))) × (b ≡ sets a i (printed n (replyOf answer copies views)))
+    → (j ≡ i + length (printed n (replyTold answer copies views))) × (b ≡ sets a i (printed n (replyTold answer copies views)))
 shown {a} {b} {i} {j} n copies views e p =
-    let q = put-as (ap (λ (x : Answer). printed n (replyOf x copies views)) (sym e)) p in
+    let q = put-as (ap (λ (x : Answer). printed n (replyTold x copies views)) (sym e)) p in
     (q .ends, q .makes)
 
 dashes : (n : ℕ) → digitsOf n ++ (44 ∷ 48 ∷ 44 ∷ 45 ∷ 44 ∷ 45 ∷ 10 ∷ []) ≡ acceptedRow n (dash ∷ dash ∷ [])
 unfolding fieldsEnded
-dashes n = row-ended n (accepted ∷ dash ∷ dash ∷ [])
+dashes n = row-ended n (acceptedText ∷ dash ∷ dash ∷ [])
 
 module _ {a b : List ℕ} {i j : ℕ} (n : ℕ) (copies views : List ℕ) where
   pub show-question : Put a i (digitsOf n ++ (44 ∷ 63 ∷ 10 ∷ [])) j b → Shown a i n Question copies views j b
-  unfolding printed replyOf fieldsEnded
+  unfolding printed replyTold fieldsEnded
   show-question p = put-as (row-ended n (question ∷ [])) p
 
   pub show-refused : (k : ℕ) → Put a i (row n (digitsOf k ∷ [])) j b → Shown a i n (Refused k) copies views j b
-  unfolding printed replyOf replyRows
+  unfolding printed replyTold replyRows
   show-refused k p = p
 
   pub show-done : Put a i (digitsOf n ++ (44 ∷ 48 ∷ 10 ∷ [])) j b → Shown a i n Done copies views j b
-  unfolding printed replyOf replyRows fieldsEnded
-  show-done p = put-as (row-ended n (accepted ∷ [])) p
+  unfolding printed replyTold replyRows fieldsEnded
+  show-done p = put-as (row-ended n (acceptedText ∷ [])) p
 
   pub show-spare : (view : ℕ) (held : Held) → Put a i (acceptedRow n (digitsOf view ∷ heldField held ∷ [])) j b → Shown a i n (Spare view held) copies views j b
-  unfolding printed replyOf replyRows optional
+  unfolding printed replyTold replyRows optional
   show-spare view held p = p
 
   pub show-no-spare : Put a i (digitsOf n ++ (44 ∷ 48 ∷ 44 ∷ 45 ∷ 44 ∷ 45 ∷ 10 ∷ [])) j b → Shown a i n NoSpare copies views j b
-  unfolding printed replyOf replyRows optional heldField
+  unfolding printed replyTold replyRows optional heldField
   show-no-spare p = put-as (dashes n) p
 
   pub show-version : (id view : ℕ) → Put a i (acceptedRow n (digitsOf id ∷ digitsOf view ∷ [])) j b → Shown a i n (Version id view) copies views j b
-  unfolding printed replyOf replyRows
+  unfolding printed replyTold replyRows
   show-version id view p = p
 
   pub show-nothing : Put a i (digitsOf n ++ (44 ∷ 48 ∷ 44 ∷ 45 ∷ 44 ∷ 45 ∷ 10 ∷ [])) j b → Shown a i n NothingSettled copies views j b
-  unfolding printed replyOf replyRows
+  unfolding printed replyTold replyRows
   show-nothing p = put-as (dashes n) p
 
   module _ {c : List ℕ} {k : ℕ} (m : ℕ) (count : Put a i (acceptedRow n (digitsOf m ∷ [])) k c) where
     pub show-views : m ≤ length views → Put c k (flatMap (viewRow n) (take m views)) j b → Shown a i n (Views m) copies views j b
-    unfolding printed replyOf replyRows
+    unfolding printed replyTold replyRows
     show-views h p =
         put-as (ap (λ (x : ℕ). acceptedRow n (digitsOf x ∷ []) ++ flatMap (viewRow n) (take m views)) (sym (length-take-le m views h))) (put-then count p)
 
     pub show-copies : Put c k (flatMap (copyRow n) (table copyStride readCopy m copies)) j b → Shown a i n (Copies m) copies views j b
-    unfolding printed replyOf replyRows
+    unfolding printed replyTold replyRows
     show-copies p =
         put-as (ap (λ (x : ℕ). acceptedRow n (digitsOf x ∷ []) ++ flatMap (copyRow n) (table copyStride readCopy m copies)) (sym (length-table copyStride readCopy m copies))) (put-then count p)
 

@@ -16,8 +16,8 @@ use Rattle.event_text.specs.Numbers.{digitsOf}
 use Rattle.event_text.proofs.Printing.{digits-room}
 use Rattle.event_answers.specs.declared.answer.Answer.{Answer}
 use Rattle.event_answers.specs.declared.answer.Answer.the-variants.{Question, Refused, Done, Spare, NoSpare, Version, NothingSettled, Views, Copies}
-use Rattle.event_answers.specs.Answers.{replyOf, entries}
-use Rattle.event_answers.specs.Printed.{question, dash, accepted, row, acceptedRow, optional, heldField, regionFields, copyRow, viewRow, replyRows, printed, mostBytes}
+use Rattle.event_answers.specs.Answers.{replyTold, entries}
+use Rattle.event_answers.specs.Printed.{question, dash, acceptedText, row, acceptedRow, optional, heldField, regionFields, copyRow, viewRow, replyRows, printed, mostBytes}
 use Rattle.event_answers.specs.Put.{fieldsEnded}
 use Rattle.event_answers.proofs.Puts.{row-ended}
 use Rattle.pool_memory.specs.MemoryConstants.{copyStride}
@@ -75,10 +75,10 @@ unfolding heldField
 held-most (Known n) = digits-room n
 held-most Unknown = omega arith
 
--- an accepted call's line of two fields at most, and of a count with rows behind it
+-- an acceptedText call's line of two fields at most, and of a count with rows behind it
 pair-most : (n : ℕ) (fs : List (List ℕ)) → Few 2 fs → length (acceptedRow n fs) ≤ 147
 unfolding Few
-pair-most n fs h = let g = row-most n 3 (accepted ∷ fs) (omega arith, h) in omega arith
+pair-most n fs h = let g = row-most n 3 (acceptedText ∷ fs) (omega arith, h) in omega arith
 
 list-most : {A : Type 0} (n k : ℕ) (rows : A → List ℕ) → ((x : A) → length (rows x) ≤ 147) → (xs : List A) → length xs ≤ k
     → length (acceptedRow n (digitsOf (length xs) ∷ []) ++ flatMap rows xs) ≤ 147 * (k + 1)
@@ -88,8 +88,8 @@ list-most n k rows h xs q =
     let g = rows-most rows h xs in
     omega (arith, q, length-append (acceptedRow n (digitsOf (length xs) ∷ [])) (flatMap rows xs))
 
-pub printed-most : (a : Answer) (copies views : List ℕ) (n : ℕ) → length (printed n (replyOf a copies views)) ≤ mostBytes (entries a)
-unfolding printed replyOf replyRows entries optional heldField Few
+pub printed-most : (a : Answer) (copies views : List ℕ) (n : ℕ) → length (printed n (replyTold a copies views)) ≤ mostBytes (entries a)
+unfolding printed replyTold replyRows entries optional heldField Few
 printed-most Question copies views n = let g = row-most n 1 (question ∷ []) (omega arith, tt) in omega arith
 printed-most (Refused k) copies views n = let g = row-most n 1 (digitsOf k ∷ []) (digits-room k, tt) in omega arith
 printed-most Done copies views n = pair-most n [] tt

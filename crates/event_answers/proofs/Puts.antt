@@ -12,7 +12,7 @@ use Rattle.pool_memory.proofs.Rewritten.{sets-append}
 use Rattle.event_text.specs.Fields.{comma}
 use Rattle.event_text.specs.Numbers.{digitsOf}
 use Rattle.event_text.proofs.Printing.{digits-room}
-use Rattle.event_answers.specs.Printed.{lineFeed, accepted, row, acceptedRow}
+use Rattle.event_answers.specs.Printed.{lineFeed, acceptedText, row, acceptedRow}
 use Rattle.event_answers.specs.Put.{Put, fieldsEnded}
 
 module _ {a b : List ℕ} {i j : ℕ} {xs : List ℕ} where
@@ -60,12 +60,12 @@ pub put-field : {a b c : List ℕ} {i j k : ℕ} (f : List ℕ) (fs : List (List
 unfolding fieldsEnded
 put-field f fs p q = put-then p q
 
--- behind the outcome of an accepted call
-pub put-accepted : {a b c : List ℕ} {i j k : ℕ} (n : ℕ) (fs : List (List ℕ)) → Put a i (digitsOf n ++ (comma ∷ accepted)) j b → Put b j (fieldsEnded fs) k c
+-- behind the outcome of an acceptedText call
+pub put-accepted : {a b c : List ℕ} {i j k : ℕ} (n : ℕ) (fs : List (List ℕ)) → Put a i (digitsOf n ++ (comma ∷ acceptedText)) j b → Put b j (fieldsEnded fs) k c
     → Put a i (acceptedRow n fs) k c
 unfolding fieldsEnded
 put-accepted n fs p q =
-    put-as (append-assoc (digitsOf n) (comma ∷ accepted) (fieldsEnded fs) ∙ row-ended n (accepted ∷ fs)) (put-then p q)
+    put-as (append-assoc (digitsOf n) (comma ∷ acceptedText) (fieldsEnded fs) ∙ row-ended n (acceptedText ∷ fs)) (put-then p q)
 
 -- ---- the rows of a list, one by one: those before i are put, and with those from i on all are
 

@@ -5,21 +5,21 @@ use mathlib.Core.List.{List}
 use lib.ListN.{length}
 use Rattle.pool_rules.specs.declared.held.Held.the-variants.{Unknown}
 use Rattle.pool_books.specs.Demand3.{Reply, refusal, done, spareTaken, versionPopped}
-use Rattle.pool_books.specs.LentLists.{copiesReply, viewsReply}
+use Rattle.pool_books.specs.LentLists.{copiesFilled, viewsFilled}
 use Rattle.event_answers.specs.declared.answer.Answer.{Answer}
 use Rattle.event_answers.specs.declared.answer.Answer.the-variants.{Question, Refused, Done, Spare, NoSpare, Version, NothingSettled, Views, Copies}
 use Rattle.pool_memory.specs.MemoryConstants.{copyStride}
 
-unfoldable pub replyOf : Answer → List ℕ → List ℕ → Option Reply
-replyOf Question copies views = none
-replyOf (Refused n) copies views = some (refusal n)
-replyOf Done copies views = some done
-replyOf (Spare view held) copies views = some (spareTaken (some view) held)
-replyOf NoSpare copies views = some (spareTaken none Unknown)
-replyOf (Version id view) copies views = some (versionPopped (some (id, view)))
-replyOf NothingSettled copies views = some (versionPopped none)
-replyOf (Views n) copies views = some (viewsReply n views)
-replyOf (Copies n) copies views = some (copiesReply n copies)
+unfoldable pub replyTold : Answer → List ℕ → List ℕ → Option Reply
+replyTold Question copies views = none
+replyTold (Refused n) copies views = some (refusal n)
+replyTold Done copies views = some done
+replyTold (Spare view held) copies views = some (spareTaken (some view) held)
+replyTold NoSpare copies views = some (spareTaken none Unknown)
+replyTold (Version id view) copies views = some (versionPopped (some (id, view)))
+replyTold NothingSettled copies views = some (versionPopped none)
+replyTold (Views n) copies views = some (viewsFilled n views)
+replyTold (Copies n) copies views = some (copiesFilled n copies)
 
 -- how many entries of a buffer the answer has
 unfoldable pub entries : Answer → ℕ

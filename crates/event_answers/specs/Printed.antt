@@ -1,4 +1,4 @@
--- The output of the event program (01, "Upload rectangle, event program"): line number, outcome and, if accepted, answer fields; "-" is none,
+-- The output of the event program (01, "Upload rectangle, event program"): line number, outcome and, if acceptedText, answer fields; "-" is none,
 -- unknown or whole. Views and copies stand on lines of their own, each after the line number.
 use Prim.Native.Nat.{ℕ, _+_, _*_}
 use mathlib.Core.Option.{Option, none, some}
@@ -23,8 +23,8 @@ question = 63 ∷ []
 abbrev pub dash : List ℕ
 dash = 45 ∷ []
 
-abbrev pub accepted : List ℕ
-accepted = 48 ∷ []
+abbrev pub acceptedText : List ℕ
+acceptedText = 48 ∷ []
 
 -- a line of output: the number of the event's line, each field behind a comma, a line feed
 unfoldable pub row : ℕ → List (List ℕ) → List ℕ
@@ -49,9 +49,9 @@ copyRow n c = row n (digitsOf (c .slice) ∷ digitsOf (c .level) ∷ regionField
 unfoldable pub viewRow : ℕ → ℕ → List ℕ
 viewRow n view = row n (digitsOf view ∷ [])
 
--- an accepted call's line: outcome 0 and its fields
+-- an acceptedText call's line: outcome 0 and its fields
 abbrev pub acceptedRow : ℕ → List (List ℕ) → List ℕ
-acceptedRow n fields = row n (accepted ∷ fields)
+acceptedRow n fields = row n (acceptedText ∷ fields)
 
 unfoldable pub replyRows : ℕ → Reply → List ℕ
 replyRows n (refusal k) = row n (digitsOf k ∷ [])

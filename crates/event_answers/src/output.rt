@@ -5,7 +5,7 @@ ghost use mathlib.Core.List.{[], _∷_};
 ghost use lib.ListN.{length};
 ghost use lib.Seq.{sets};
 ghost use Rattle.event_text.specs.Numbers.{digitsOf};
-ghost use Rattle.event_answers.specs.Answers.{replyOf, entries, InBuffers};
+ghost use Rattle.event_answers.specs.Answers.{replyTold, entries, InBuffers};
 ghost use Rattle.event_answers.specs.Printed.{acceptedRow, heldField, printed, mostBytes};
 ghost use Rattle.event_answers.specs.Put.{Put};
 use crate::answer::Answer;
@@ -43,8 +43,8 @@ pub fn put_answer(
     views: &[u64],
 ) -> usize
     requires { ⌜ (at + mostBytes (entries answer) ≤ length (now out)) × InBuffers answer (now copies) (now views) ⌝ }
-    ensures { λ r. ⌜ (r ≡ at + length (printed number (replyOf answer (now (copies .entry)) (now (views .entry)))))
-        × (now (out .exit) ≡ sets (now (out .entry)) at (printed number (replyOf answer (now (copies .entry)) (now (views .entry))))) ⌝ }
+    ensures { λ r. ⌜ (r ≡ at + length (printed number (replyTold answer (now (copies .entry)) (now (views .entry)))))
+        × (now (out .exit) ≡ sets (now (out .entry)) at (printed number (replyTold answer (now (copies .entry)) (now (views .entry))))) ⌝ }
 {
     match answer {
         Answer::Question => {

@@ -4,7 +4,7 @@ ghost use mathlib.Core.List.{[], _∷_, _++_};
 ghost use lib.ListN.{length};
 ghost use Rattle.event_text.specs.Fields.{comma};
 ghost use Rattle.event_text.specs.Numbers.{digitsOf};
-ghost use Rattle.event_answers.specs.Printed.{accepted, acceptedRow, row};
+ghost use Rattle.event_answers.specs.Printed.{acceptedText, acceptedRow, row};
 ghost use Rattle.event_answers.specs.Put.{Put, fieldsEnded};
 use event_text::put_number;
 use event_text::put_text;
@@ -46,10 +46,10 @@ pub fn put_words(out: &mut [u8], at: usize, number: u64, words: &[u8]) -> usize
     put_text(out, start, words)
 }
 
-// The number and the outcome of an accepted call's line.
+// The number and the outcome of an acceptedText call's line.
 pub fn put_accepted(out: &mut [u8], at: usize, number: u64) -> usize
     requires { ⌜ at + 22 ≤ length (now out) ⌝ }
-    ensures { λ r. ⌜ (r ≤ at + 22) × Put (now (out .entry)) at (digitsOf number ++ (comma ∷ accepted)) r (now (out .exit)) ⌝ }
+    ensures { λ r. ⌜ (r ≤ at + 22) × Put (now (out .entry)) at (digitsOf number ++ (comma ∷ acceptedText)) r (now (out .exit)) ⌝ }
 {
     let start = put_number(out, at, number);
     out[start] = b',';
@@ -57,7 +57,7 @@ pub fn put_accepted(out: &mut [u8], at: usize, number: u64) -> usize
     start + 2
 }
 
-// An accepted call's line of one number.
+// An acceptedText call's line of one number.
 pub fn put_count(out: &mut [u8], at: usize, number: u64, n: u64) -> usize
     requires { ⌜ at + 44 ≤ length (now out) ⌝ }
     ensures { λ r. ⌜ (r ≤ at + 44) × Put (now (out .entry)) at (acceptedRow number (digitsOf n ∷ [])) r (now (out .exit)) ⌝ }
@@ -66,7 +66,7 @@ pub fn put_count(out: &mut [u8], at: usize, number: u64, n: u64) -> usize
     put_last(out, start, n)
 }
 
-// An accepted call's line of two numbers.
+// An acceptedText call's line of two numbers.
 pub fn put_pair(out: &mut [u8], at: usize, number: u64, a: u64, b: u64) -> usize
     requires { ⌜ at + 65 ≤ length (now out) ⌝ }
     ensures { λ r. ⌜ Put (now (out .entry)) at (acceptedRow number (digitsOf a ∷ digitsOf b ∷ [])) r (now (out .exit)) ⌝ }

@@ -2,7 +2,7 @@
 use mathlib.Core.Path.{_∙_}
 use Rattle.event_sessions.specs.Sessions.{stateOf}
 use Rattle.event_sessions.specs.Parts.{freshSession}
-use Rattle.event_feed.specs.Blocks.{joined}
+use Rattle.event_feed.specs.Blocks.{joinedBlocks}
 use Rattle.event_feed.proofs.Cutting.{every-cutting}
 use Rattle.event_books.specs.EventLists.{Demand3Text}
 use Rattle.event_books.specs.Cuttings.{Demand3Blocks}
@@ -11,7 +11,7 @@ use Rattle.event_books.proofs.Demand3Text.{demand3-text}
 pub demand3-blocks : Demand3Blocks
 unfolding Demand3Blocks Demand3Text
 demand3-blocks copies views textures retiring doomed spares newest stamps blocks h =
-    let t = demand3-text copies views textures retiring doomed spares newest stamps (joined blocks) h in
+    let t = demand3-text copies views textures retiring doomed spares newest stamps (joinedBlocks blocks) h in
     record {
       agree = t .agree;
       prints = every-cutting copies views .output-is (stateOf freshSession textures retiring doomed spares newest stamps) blocks ∙ t .prints;

@@ -17,13 +17,13 @@ use Rattle.pool_books.proofs.LentLists.{demand3-lent}
 use Rattle.event_lines.specs.declared.event.Event.{Event}
 use Rattle.event_lines.specs.Grammar.{eventOf}
 use Rattle.event_answers.specs.Printed.{printed}
-use Rattle.event_sessions.specs.Sessions.{State, stateOf, opens, openedState, step}
-use Rattle.event_sessions.specs.Parts.{noShape, freshSession, opened, takenAfter, shapeAfter}
+use Rattle.event_sessions.specs.Sessions.{SessionState, stateOf, opens, openedState, lineStep}
+use Rattle.event_sessions.specs.Parts.{noShape, freshSession, sessionOpened, takenAfter, shapeAfter}
 use Rattle.event_runs.specs.Lines.{lineOutput, lineState, output}
 use Rattle.event_runs.specs.Texts.{allLines, textOutput}
 use Rattle.event_books.specs.EventLists.{callOf, Opened, afterCall, replyTo, MayCall, call, opening, openingReply, next, reply, InRenames, Agree, AgreeThroughout, replies, repliesText, Demand3Text}
 
--- ---- a line once the pool is opened
+-- ---- a line once the pool is sessionOpened
 
 -- a call's reply, and the lent stores after it
 abbrev repliedBy : Lent → Option LentCall → Option Reply
@@ -35,8 +35,8 @@ lentAfter l none = l
 lentAfter l (some c) = lentCall l c .1
 
 module _ (cs vs : ℕ) where
-  step-reply : (taken : Bool) (shape : VersionShape) (l : Lent) (e : Event) → step cs vs (opened taken shape l) e .0 ≡ repliedBy l (callOf cs vs taken shape e)
-  unfolding step callOf
+  step-reply : (taken : Bool) (shape : VersionShape) (l : Lent) (e : Event) → lineStep cs vs (sessionOpened taken shape l) e .0 ≡ repliedBy l (callOf cs vs taken shape e)
+  unfolding lineStep callOf
   step-reply taken shape l (Event.Open working) = refl
   step-reply taken shape l (Event.Take id new records seq) = refl
   step-reply true shape l (Event.Plan id held slice level cover) = refl
@@ -54,8 +54,8 @@ module _ (cs vs : ℕ) where
   step-reply taken shape l Event.Unread = refl
 
   step-state : (taken : Bool) (shape : VersionShape) (l : Lent) (e : Event)
-      → step cs vs (opened taken shape l) e .1 ≡ opened (takenAfter true taken e) (shapeAfter shape e) (lentAfter l (callOf cs vs taken shape e))
-  unfolding step callOf
+      → lineStep cs vs (sessionOpened taken shape l) e .1 ≡ sessionOpened (takenAfter true taken e) (shapeAfter shape e) (lentAfter l (callOf cs vs taken shape e))
+  unfolding lineStep callOf
   step-state taken shape l (Event.Open working) = refl
   step-state taken shape l (Event.Take id new records seq) = refl
   step-state true shape l (Event.Plan id held slice level cover) = refl
@@ -122,34 +122,34 @@ module _ (cs vs : ℕ) where
     here b l (some c) calls t = record { agrees = now-agrees b l (c ∷ calls) t; same = ap some (t .1); on = t .2 }
 
     -- the claim of lines, from any point
-    record Told (o : Option Opened) (s : State) (lines : List (List ℕ)) : Type 0 where
+    record Told (o : Option Opened) (s : SessionState) (lines : List (List ℕ)) : Type 0 where
       agree : AgreeThroughout cs vs fits places o (map eventOf lines)
       prints : (n : ℕ) → output cs vs n s lines ≡ repliesText n (replies cs vs fits places o (map eventOf lines))
 
     -- one line more
-    told-more : (o : Option Opened) (s : State) (line : List ℕ) (lines : List (List ℕ)) → Agree cs vs fits places o
-        → step cs vs s (eventOf line) .0 ≡ reply cs vs fits places o (eventOf line) → (t : State) → step cs vs s (eventOf line) .1 ≡ t
+    told-more : (o : Option Opened) (s : SessionState) (line : List ℕ) (lines : List (List ℕ)) → Agree cs vs fits places o
+        → lineStep cs vs s (eventOf line) .0 ≡ reply cs vs fits places o (eventOf line) → (t : SessionState) → lineStep cs vs s (eventOf line) .1 ≡ t
         → Told (next cs vs fits places o (eventOf line)) t lines → Told o s (line ∷ lines)
     unfolding AgreeThroughout replies repliesText output lineOutput lineState
     told-more o s line lines a r t e told = record {
       agree = (a, told .agree);
-      prints = λ n. ap₂ (λ (x : Option Reply) (y : State). printed (n + 1) x ++ output cs vs (n + 1) y lines) r e ∙ ap (λ (l : List ℕ). printed (n + 1) (reply cs vs fits places o (eventOf line)) ++ l) (told .prints (n + 1));
+      prints = λ n. ap₂ (λ (x : Option Reply) (y : SessionState). printed (n + 1) x ++ output cs vs (n + 1) y lines) r e ∙ ap (λ (l : List ℕ). printed (n + 1) (reply cs vs fits places o (eventOf line)) ++ l) (told .prints (n + 1));
     }
 
-    opened-told : (o : Opened) (l : Lent) (lines : List (List ℕ)) → Along (o .books) l (callsOf o (map eventOf lines)) → Told (some o) (opened (o .taken) (o .shape) l) lines
+    opened-told : (o : Opened) (l : Lent) (lines : List (List ℕ)) → Along (o .books) l (callsOf o (map eventOf lines)) → Told (some o) (sessionOpened (o .taken) (o .shape) l) lines
     unfolding AgreeThroughout replies repliesText output callsOf
     opened-told o l [] t = record { agree = t; prints = λ n. refl }
     opened-told o l (line ∷ lines) t =
         let e = eventOf line in
         let h = here (o .books) l (call cs vs fits places o e) (callsOf (behind o e) (map eventOf lines)) t in
-        told-more (some o) (opened (o .taken) (o .shape) l) line lines (h .agrees o refl) (step-reply (o .taken) (o .shape) l e ∙ h .same)
-        (opened (takenAfter true (o .taken) e) (shapeAfter (o .shape) e) (lentAfter l (call cs vs fits places o e))) (step-state (o .taken) (o .shape) l e)
+        told-more (some o) (sessionOpened (o .taken) (o .shape) l) line lines (h .agrees o refl) (step-reply (o .taken) (o .shape) l e ∙ h .same)
+        (sessionOpened (takenAfter true (o .taken) e) (shapeAfter (o .shape) e) (lentAfter l (call cs vs fits places o e))) (step-state (o .taken) (o .shape) l e)
         (opened-told (behind o e) (lentAfter l (call cs vs fits places o e)) lines (h .on))
 
 -- ---- from the first line on
 
 module _ (cs vs : ℕ) (textures retiring doomed spares newest stamps : List ℕ) where
-  abbrev fresh : State
+  abbrev fresh : SessionState
   fresh = stateOf freshSession textures retiring doomed spares newest stamps
 
   abbrev fits : Bool
@@ -172,7 +172,7 @@ module _ (cs vs : ℕ) (textures retiring doomed spares newest stamps : List ℕ
 
   -- behind an accepted `open`, demand 3 of the lines' calls
   after-open : (working : ℕ) → fits ≡ true → (lines : List (List ℕ)) → InRenames cs vs fits places (some (atOpening working)) (map eventOf lines)
-      → Told cs vs fits places (some (atOpening working)) (opened false noShape (openedLent working textures retiring doomed spares newest stamps)) lines
+      → Told cs vs fits places (some (atOpening working)) (sessionOpened false noShape (openedLent working textures retiring doomed spares newest stamps)) lines
   unfolding Demand3Lent
   after-open working q lines h =
       let l = openedLent working textures retiring doomed spares newest stamps in
@@ -181,11 +181,11 @@ module _ (cs vs : ℕ) (textures retiring doomed spares newest stamps : List ℕ
       let t = rw (same-places working) at (demand3-lent working textures retiring doomed spares newest stamps (same-fits working ∙ q) calls (rw (same-places working) r)) in
       opened-told cs vs fits places (atOpening working) l lines t
 
-  closed-reply : (e : Event) → step cs vs fresh e .0 ≡ openingReply cs vs fits places e
-  unfolding step opens openingReply freshSession
+  closed-reply : (e : Event) → lineStep cs vs fresh e .0 ≡ openingReply cs vs fits places e
+  unfolding lineStep opens openingReply freshSession
   closed-reply (Event.Open working) = go fits
     where
-      go : (b : Bool) → (cond {A = Option Reply × State} b (some done, openedState fresh working) (some (refusal 1), fresh)) .0 ≡ some (cond b done (refusal 1))
+      go : (b : Bool) → (cond {A = Option Reply × SessionState} b (some done, openedState fresh working) (some (refusal 1), fresh)) .0 ≡ some (cond b done (refusal 1))
       go true = refl
       go false = refl
   closed-reply (Event.Take id new records seq) = refl
@@ -204,14 +204,14 @@ module _ (cs vs : ℕ) (textures retiring doomed spares newest stamps : List ℕ
 
   module _ (lines : List (List ℕ)) (same : InRenames cs vs fits places none (map eventOf lines) → Told cs vs fits places none fresh lines) where
     abbrev Next : Event → Type 0
-    Next e = InRenames cs vs fits places (opening cs vs fits places e) (map eventOf lines) → Told cs vs fits places (opening cs vs fits places e) (step cs vs fresh e .1) lines
+    Next e = InRenames cs vs fits places (opening cs vs fits places e) (map eventOf lines) → Told cs vs fits places (opening cs vs fits places e) (lineStep cs vs fresh e .1) lines
 
     closed-next : (e : Event) → Next e
-    unfolding step opens opening freshSession
+    unfolding lineStep opens opening freshSession
     closed-next (Event.Open working) = go fits refl
       where
         go : (b : Bool) → fits ≡ b → InRenames cs vs fits places (cond b (some (atOpening working)) none) (map eventOf lines)
-            → Told cs vs fits places (cond b (some (atOpening working)) none) (cond {A = Option Reply × State} b (some done, openedState fresh working) (some (refusal 1), fresh) .1) lines
+            → Told cs vs fits places (cond b (some (atOpening working)) none) (cond {A = Option Reply × SessionState} b (some done, openedState fresh working) (some (refusal 1), fresh) .1) lines
         go true q h = after-open working q lines h
         go false q h = same h
     closed-next (Event.Take id new records seq) = same
@@ -232,7 +232,7 @@ module _ (cs vs : ℕ) (textures retiring doomed spares newest stamps : List ℕ
   unfolding InRenames AgreeThroughout replies repliesText output
   closed-told [] h = record { agree = tt; prints = λ n. refl }
   closed-told (line ∷ lines) h =
-      told-more cs vs fits places none fresh line lines tt (closed-reply (eventOf line)) (step cs vs fresh (eventOf line) .1) refl
+      told-more cs vs fits places none fresh line lines tt (closed-reply (eventOf line)) (lineStep cs vs fresh (eventOf line) .1) refl
       (closed-next lines (closed-told lines) (eventOf line) (h .1))
 
 pub demand3-text : Demand3Text

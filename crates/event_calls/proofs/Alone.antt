@@ -6,29 +6,29 @@ use mathlib.Core.Option.{Option, none, some}
 use Rattle.grid_shapes.specs.declared.shape.VersionShape.{VersionShape}
 use Rattle.grid_rects.specs.declared.rect.TexelRect.{TexelRect}
 use Rattle.pool_memory.specs.Lent.{Lent}
-use Rattle.pool_memory.specs.Calls.{Told, refusal, answer, TakenVersion, PoppedVersion, takeSpareCall, retireCall, noteWriteCall, noteMipRegenerationCall, popRetiredCall, parkCall, noteAllocatedCall, trimCall, forgetTextureCall}
+use Rattle.pool_memory.specs.Calls.{Told, refusedWith, answer, TakenVersion, PoppedVersion, takeSpareOn, retireOn, noteWriteOn, noteMipRegenerationOn, popRetiredOn, parkOn, noteAllocatedOn, trimOn, forgetTextureOn}
 use Rattle.pool_books.specs.Demand3.{Reply, done}
-use Rattle.pool_books.specs.LentLists.{LentCall, lentTake, lentRetire, lentWrite, lentRegen, lentPop, lentPark, lentNote, lentTrim, lentForget, said, replyOf as toldReply, takenReply, poppedReply, lentCall}
-use Rattle.event_answers.specs.Answers.{replyOf, InBuffers}
+use Rattle.pool_books.specs.LentLists.{LentCall, lentTake, lentRetire, lentWrite, lentRegen, lentPop, lentPark, lentNote, lentTrim, lentForget, said, replyOf as toldReply, takenReply, poppedVersionReply, lentCall}
+use Rattle.event_answers.specs.Answers.{replyTold, InBuffers}
 use Rattle.event_answers.specs.declared.answer.Answer.{Answer}
 use Rattle.event_calls.specs.Calls.{SaysAlone, Made, doneAnswer, takenAnswer, poppedAnswer}
 
 -- ---- what an answer says
 
 done-says : (t : Told (Unit {0})) → SaysAlone (doneAnswer t) (toldReply (λ a. done) t)
-unfolding replyOf InBuffers
-done-says (refusal n) copies views = (tt, refl)
+unfolding replyTold InBuffers
+done-says (refusedWith n) copies views = (tt, refl)
 done-says (answer a) copies views = (tt, refl)
 
 taken-says : (t : Told (Option TakenVersion)) → SaysAlone (takenAnswer t) (toldReply takenReply t)
-unfolding replyOf InBuffers
-taken-says (refusal n) copies views = (tt, refl)
+unfolding replyTold InBuffers
+taken-says (refusedWith n) copies views = (tt, refl)
 taken-says (answer none) copies views = (tt, refl)
 taken-says (answer (some v)) copies views = (tt, refl)
 
-popped-says : (t : Told (Option PoppedVersion)) → SaysAlone (poppedAnswer t) (toldReply poppedReply t)
-unfolding replyOf InBuffers
-popped-says (refusal n) copies views = (tt, refl)
+popped-says : (t : Told (Option PoppedVersion)) → SaysAlone (poppedAnswer t) (toldReply poppedVersionReply t)
+unfolding replyTold InBuffers
+popped-says (refusedWith n) copies views = (tt, refl)
 popped-says (answer none) copies views = (tt, refl)
 popped-says (answer (some v)) copies views = (tt, refl)
 
@@ -44,45 +44,45 @@ module _ (l after : Lent) where
       )
 
   pub made-take : (t : Told (Option TakenVersion)) (id : ℕ) (shape : VersionShape) (records : Bool) (seq : ℕ)
-      → (t, after) ≡ takeSpareCall l id shape records seq → (a : Answer) → a ≡ takenAnswer t → Made l (lentTake id shape records seq) a after
+      → (t, after) ≡ takeSpareOn l id shape records seq → (a : Answer) → a ≡ takenAnswer t → Made l (lentTake id shape records seq) a after
   unfolding lentCall
   made-take t id shape records seq e a q =
       says-made (lentTake id shape records seq) (toldReply takenReply t) a (takenAnswer t) (ap (said takenReply) e) (taken-says t) q
 
-  pub made-pop : (t : Told (Option PoppedVersion)) (settled : ℕ) → (t, after) ≡ popRetiredCall l settled
+  pub made-pop : (t : Told (Option PoppedVersion)) (settled : ℕ) → (t, after) ≡ popRetiredOn l settled
       → (a : Answer) → a ≡ poppedAnswer t → Made l (lentPop settled) a after
   unfolding lentCall
   made-pop t settled e a q =
-      says-made (lentPop settled) (toldReply poppedReply t) a (poppedAnswer t) (ap (said poppedReply) e) (popped-says t) q
+      says-made (lentPop settled) (toldReply poppedVersionReply t) a (poppedAnswer t) (ap (said poppedVersionReply) e) (popped-says t) q
 
   module _ (t : Told (Unit {0})) (a : Answer) (q : a ≡ doneAnswer t) where
     done-made : (c : LentCall) → (toldReply (λ a. done) t, after) ≡ lentCall l c → Made l c a after
     done-made c k = says-made c (toldReply (λ a. done) t) a (doneAnswer t) k (done-says t) q
 
-    pub made-retire : (id view seq : ℕ) → (t, after) ≡ retireCall l id view seq → Made l (lentRetire id view seq) a after
+    pub made-retire : (id view seq : ℕ) → (t, after) ≡ retireOn l id view seq → Made l (lentRetire id view seq) a after
     unfolding lentCall
     made-retire id view seq e = done-made (lentRetire id view seq) (ap (said (λ a. done)) e)
 
-    pub made-write : (id slice level : ℕ) (rect : TexelRect) → (t, after) ≡ noteWriteCall l id slice level rect → Made l (lentWrite id slice level rect) a after
+    pub made-write : (id slice level : ℕ) (rect : TexelRect) → (t, after) ≡ noteWriteOn l id slice level rect → Made l (lentWrite id slice level rect) a after
     unfolding lentCall
     made-write id slice level rect e = done-made (lentWrite id slice level rect) (ap (said (λ a. done)) e)
 
-    pub made-regen : (id : ℕ) → (t, after) ≡ noteMipRegenerationCall l id → Made l (lentRegen id) a after
+    pub made-regen : (id : ℕ) → (t, after) ≡ noteMipRegenerationOn l id → Made l (lentRegen id) a after
     unfolding lentCall
     made-regen id e = done-made (lentRegen id) (ap (said (λ a. done)) e)
 
-    pub made-park : (failed now : ℕ) → (t, after) ≡ parkCall l failed now → Made l (lentPark failed now) a after
+    pub made-park : (failed now : ℕ) → (t, after) ≡ parkOn l failed now → Made l (lentPark failed now) a after
     unfolding lentCall
     made-park failed now e = done-made (lentPark failed now) (ap (said (λ a. done)) e)
 
-    pub made-note : (allocated : ℕ) → (t, after) ≡ noteAllocatedCall l allocated → Made l (lentNote allocated) a after
+    pub made-note : (allocated : ℕ) → (t, after) ≡ noteAllocatedOn l allocated → Made l (lentNote allocated) a after
     unfolding lentCall
     made-note allocated e = done-made (lentNote allocated) (ap (said (λ a. done)) e)
 
-    pub made-trim : (now : ℕ) → (t, after) ≡ trimCall l now → Made l (lentTrim now) a after
+    pub made-trim : (now : ℕ) → (t, after) ≡ trimOn l now → Made l (lentTrim now) a after
     unfolding lentCall
     made-trim now e = done-made (lentTrim now) (ap (said (λ a. done)) e)
 
-    pub made-forget : (id : ℕ) → (t, after) ≡ forgetTextureCall l id → Made l (lentForget id) a after
+    pub made-forget : (id : ℕ) → (t, after) ≡ forgetTextureOn l id → Made l (lentForget id) a after
     unfolding lentCall
     made-forget id e = done-made (lentForget id) (ap (said (λ a. done)) e)

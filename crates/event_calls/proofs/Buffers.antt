@@ -12,28 +12,28 @@ use Rattle.grid_shapes.specs.declared.shape.VersionShape.{VersionShape}
 use Rattle.grid_rects.specs.declared.rect.Region.{Region}
 use Rattle.grid_rects.specs.declared.rect.Region.the-variants.{Whole, Part}
 use Rattle.pool_rules.specs.declared.held.Held.{Held}
-use Rattle.pool_rules.specs.Model.{Pool, PreserveCopy, UploadFootprint}
+use Rattle.pool_rules.specs.Model.{PoolModel, PreserveCopy, UploadFootprint}
 use Rattle.pool_rules.specs.PreservePlan.{preservePlan}
 use Rattle.pool_rules.specs.TakeDoomed.{takeDoomed}
 use Rattle.pool_rules.specs.DrainVersions.{drainVersions}
 use Rattle.pool_memory.specs.Lent.{Lent}
-use Rattle.pool_memory.specs.Calls.{Told, refusal, answer, asked, inBuffer, regionNumbers, copyNumbers, viewNumbers, preservePlanCall, takeDoomedCall, drainVersionsCall}
+use Rattle.pool_memory.specs.Calls.{Told, refusedWith, answer, asked, inBuffer, regionNumbers, copyNumbers, viewNumbers, preservePlanOn, takeDoomedOn, drainVersionsOn}
 use Rattle.pool_books.specs.Demand3.{Reply, copiesPlanned, viewsHanded}
-use Rattle.pool_books.specs.LentLists.{LentCall, lentTake, lentPlan, lentRetire, lentWrite, lentRegen, lentPop, lentPark, lentNote, lentDoomed, lentDrain, lentTrim, lentForget, said, filled, replyOf as toldReply, copiesReply, viewsReply, lentCall}
+use Rattle.pool_books.specs.LentLists.{LentCall, lentTake, lentPlan, lentRetire, lentWrite, lentRegen, lentPop, lentPark, lentNote, lentDoomed, lentDrain, lentTrim, lentForget, said, filled, replyOf as toldReply, copiesFilled, viewsFilled, lentCall}
 use Rattle.pool_books.proofs.Answers.{copies-read, views-read}
-use Rattle.event_answers.specs.Answers.{replyOf, InBuffers}
+use Rattle.event_answers.specs.Answers.{replyTold, InBuffers}
 use Rattle.event_answers.specs.declared.answer.Answer.{Answer}
 use Rattle.event_calls.specs.Calls.{MadeCopies, MadeViews, blank, blanked, viewsAnswer, copiesAnswer}
 use Rattle.pool_memory.specs.MemoryConstants.{copyStride}
 
 -- ---- the reply, without the buffer
 
-copies-said : (b : List ℕ) (o : Told (List PreserveCopy) × Lent) → filled copiesReply (inBuffer copyNumbers b o) ≡ said copiesPlanned o
-copies-said b (refusal n, l) = refl
+copies-said : (b : List ℕ) (o : Told (List PreserveCopy) × Lent) → filled copiesFilled (inBuffer copyNumbers b o) ≡ said copiesPlanned o
+copies-said b (refusedWith n, l) = refl
 copies-said b (answer cs, l) = ap (λ (x : List PreserveCopy). (copiesPlanned x, l)) (copies-read cs b)
 
-views-said : (b : List ℕ) (o : Told (List ℕ) × Lent) → filled viewsReply (inBuffer viewNumbers b o) ≡ said viewsHanded o
-views-said b (refusal n, l) = refl
+views-said : (b : List ℕ) (o : Told (List ℕ) × Lent) → filled viewsFilled (inBuffer viewNumbers b o) ≡ said viewsHanded o
+views-said b (refusedWith n, l) = refl
 views-said b (answer vs, l) = ap (λ (x : List ℕ). (viewsHanded x, l)) (views-read vs b)
 
 -- ---- two buffers of one length give one reply, and leave the same stores
@@ -41,21 +41,21 @@ views-said b (answer vs, l) = ap (λ (x : List ℕ). (viewsHanded x, l)) (views-
 module _ (l : Lent) (b c : List ℕ) (same : length b ≡ length c) where
   any-buffer-plan : (id : ℕ) (shape : VersionShape) (held : Held) (u : UploadFootprint)
       → lentCall l (lentPlan id shape held u b) ≡ lentCall l (lentPlan id shape held u c)
-  unfolding lentCall preservePlanCall
+  unfolding lentCall preservePlanOn
   any-buffer-plan id shape held u =
-      let o : ℕ → Told (List PreserveCopy) × Lent = λ n. asked (λ a. a) l (λ (p : Pool ℕ). preservePlan p id shape held u (n / copyStride)) in
+      let o : ℕ → Told (List PreserveCopy) × Lent = λ n. asked (λ a. a) l (λ (p : PoolModel ℕ). preservePlan p id shape held u (n / copyStride)) in
       copies-said b (o (length b)) ∙ ap (λ (n : ℕ). said copiesPlanned (o n)) same ∙ sym (copies-said c (o (length c)))
 
   any-buffer-doomed : lentCall l (lentDoomed b) ≡ lentCall l (lentDoomed c)
-  unfolding lentCall takeDoomedCall
+  unfolding lentCall takeDoomedOn
   any-buffer-doomed =
-      let o : ℕ → Told (List ℕ) × Lent = λ n. asked (λ a. a) l (λ (p : Pool ℕ). takeDoomed p n) in
+      let o : ℕ → Told (List ℕ) × Lent = λ n. asked (λ a. a) l (λ (p : PoolModel ℕ). takeDoomed p n) in
       views-said b (o (length b)) ∙ ap (λ (n : ℕ). said viewsHanded (o n)) same ∙ sym (views-said c (o (length c)))
 
   any-buffer-drain : lentCall l (lentDrain b) ≡ lentCall l (lentDrain c)
-  unfolding lentCall drainVersionsCall
+  unfolding lentCall drainVersionsOn
   any-buffer-drain =
-      let o : ℕ → Told (List ℕ) × Lent = λ n. asked (λ a. a) l (λ (p : Pool ℕ). drainVersions p n) in
+      let o : ℕ → Told (List ℕ) × Lent = λ n. asked (λ a. a) l (λ (p : PoolModel ℕ). drainVersions p n) in
       views-said b (o (length b)) ∙ ap (λ (n : ℕ). said viewsHanded (o n)) same ∙ sym (views-said c (o (length c)))
 
 blank-long : (b : List ℕ) → length b ≡ length (blank b)
@@ -105,7 +105,7 @@ module _ (other : List ℕ) where
 
   copies-stand : (b : List ℕ) (o : Told (List PreserveCopy) × Lent) → CopiesStand (inBuffer copyNumbers b o)
   unfolding InBuffers
-  copies-stand b (refusal n, l) = tt
+  copies-stand b (refusedWith n, l) = tt
   copies-stand b (answer cs, l) = omega (arith, stands copyStride copyNumbers long-copy cs b)
 
   abbrev ViewsStand : Told ℕ × (List ℕ × Lent) → Type 0
@@ -113,52 +113,52 @@ module _ (other : List ℕ) where
 
   views-stand : (b : List ℕ) (o : Told (List ℕ) × Lent) → ViewsStand (inBuffer viewNumbers b o)
   unfolding InBuffers
-  views-stand b (refusal n, l) = tt
+  views-stand b (refusedWith n, l) = tt
   views-stand b (answer vs, l) = omega (arith, stands 1 viewNumbers (λ n. refl) vs b)
 
 -- ---- what the answer says
 
-copies-answered : (t : Told ℕ) (exit views : List ℕ) → replyOf (copiesAnswer t) exit views ≡ some (toldReply (λ (n : ℕ). copiesReply n exit) t)
-unfolding replyOf
-copies-answered (refusal n) exit views = refl
+copies-answered : (t : Told ℕ) (exit views : List ℕ) → replyTold (copiesAnswer t) exit views ≡ some (toldReply (λ (n : ℕ). copiesFilled n exit) t)
+unfolding replyTold
+copies-answered (refusedWith n) exit views = refl
 copies-answered (answer n) exit views = refl
 
-views-answered : (t : Told ℕ) (copies exit : List ℕ) → replyOf (viewsAnswer t) copies exit ≡ some (toldReply (λ (n : ℕ). viewsReply n exit) t)
-unfolding replyOf
-views-answered (refusal n) copies exit = refl
+views-answered : (t : Told ℕ) (copies exit : List ℕ) → replyTold (viewsAnswer t) copies exit ≡ some (toldReply (λ (n : ℕ). viewsFilled n exit) t)
+unfolding replyTold
+views-answered (refusedWith n) copies exit = refl
 views-answered (answer n) copies exit = refl
 
 module _ (l after : Lent) (b exit : List ℕ) (t : Told ℕ) where
-  pub made-plan : (id : ℕ) (shape : VersionShape) (held : Held) (u : UploadFootprint) → (t, (exit, after)) ≡ preservePlanCall l b id shape held u
+  pub made-plan : (id : ℕ) (shape : VersionShape) (held : Held) (u : UploadFootprint) → (t, (exit, after)) ≡ preservePlanOn l b id shape held u
       → (a : Answer) → a ≡ copiesAnswer t → MadeCopies l (lentPlan id shape held u (blank b)) a exit after
-  unfolding MadeCopies lentCall preservePlanCall
+  unfolding MadeCopies lentCall preservePlanOn
   made-plan id shape held u e a q =
-      let o = asked (λ a. a) l (λ (p : Pool ℕ). preservePlan p id shape held u (length b / copyStride)) in
-      let k : (toldReply (λ (n : ℕ). copiesReply n exit) t, after) ≡ lentCall l (lentPlan id shape held u (blank b)) =
-      ap (filled copiesReply) e ∙ any-buffer l (lentPlan id shape held u b) in
+      let o = asked (λ a. a) l (λ (p : PoolModel ℕ). preservePlan p id shape held u (length b / copyStride)) in
+      let k : (toldReply (λ (n : ℕ). copiesFilled n exit) t, after) ≡ lentCall l (lentPlan id shape held u (blank b)) =
+      ap (filled copiesFilled) e ∙ any-buffer l (lentPlan id shape held u b) in
       rw q (
         λ views. (subst (CopiesStand views) (sym e) (copies-stand views b o), copies-answered t exit views ∙ ap (λ (x : Reply × Lent). some (x .0)) k),
         ap (λ (x : Reply × Lent). x .1) k,
       )
 
   module _ (a : Answer) (q : a ≡ viewsAnswer t) where
-    pub made-doomed : (t, (exit, after)) ≡ takeDoomedCall l b → MadeViews l (lentDoomed (blank b)) a exit after
-    unfolding MadeViews lentCall takeDoomedCall
+    pub made-doomed : (t, (exit, after)) ≡ takeDoomedOn l b → MadeViews l (lentDoomed (blank b)) a exit after
+    unfolding MadeViews lentCall takeDoomedOn
     made-doomed e =
-        let o = asked (λ a. a) l (λ (p : Pool ℕ). takeDoomed p (length b)) in
-        let k : (toldReply (λ (n : ℕ). viewsReply n exit) t, after) ≡ lentCall l (lentDoomed (blank b)) =
-        ap (filled viewsReply) e ∙ any-buffer l (lentDoomed b) in
+        let o = asked (λ a. a) l (λ (p : PoolModel ℕ). takeDoomed p (length b)) in
+        let k : (toldReply (λ (n : ℕ). viewsFilled n exit) t, after) ≡ lentCall l (lentDoomed (blank b)) =
+        ap (filled viewsFilled) e ∙ any-buffer l (lentDoomed b) in
         rw q (
           λ copies. (subst (ViewsStand copies) (sym e) (views-stand copies b o), views-answered t copies exit ∙ ap (λ (x : Reply × Lent). some (x .0)) k),
           ap (λ (x : Reply × Lent). x .1) k,
         )
 
-    pub made-drain : (t, (exit, after)) ≡ drainVersionsCall l b → MadeViews l (lentDrain (blank b)) a exit after
-    unfolding MadeViews lentCall drainVersionsCall
+    pub made-drain : (t, (exit, after)) ≡ drainVersionsOn l b → MadeViews l (lentDrain (blank b)) a exit after
+    unfolding MadeViews lentCall drainVersionsOn
     made-drain e =
-        let o = asked (λ a. a) l (λ (p : Pool ℕ). drainVersions p (length b)) in
-        let k : (toldReply (λ (n : ℕ). viewsReply n exit) t, after) ≡ lentCall l (lentDrain (blank b)) =
-        ap (filled viewsReply) e ∙ any-buffer l (lentDrain b) in
+        let o = asked (λ a. a) l (λ (p : PoolModel ℕ). drainVersions p (length b)) in
+        let k : (toldReply (λ (n : ℕ). viewsFilled n exit) t, after) ≡ lentCall l (lentDrain (blank b)) =
+        ap (filled viewsFilled) e ∙ any-buffer l (lentDrain b) in
         rw q (
           λ copies. (subst (ViewsStand copies) (sym e) (views-stand copies b o), views-answered t copies exit ∙ ap (λ (x : Reply × Lent). some (x .0)) k),
           ap (λ (x : Reply × Lent). x .1) k,

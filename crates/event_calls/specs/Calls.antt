@@ -5,16 +5,16 @@ use mathlib.Core.Option.{Option, none, some}
 use mathlib.Core.List.{List}
 use lib.ListN.{length, replicate}
 use Rattle.pool_memory.specs.Lent.{Lent}
-use Rattle.pool_memory.specs.Calls.{Told, refusal, answer, TakenVersion, PoppedVersion}
+use Rattle.pool_memory.specs.Calls.{Told, refusedWith, answer, TakenVersion, PoppedVersion}
 use Rattle.pool_books.specs.Demand3.{Reply}
 use Rattle.pool_books.specs.LentLists.{LentCall, lentTake, lentPlan, lentRetire, lentWrite, lentRegen, lentPop, lentPark, lentNote, lentDoomed, lentDrain, lentTrim, lentForget, lentCall}
-use Rattle.event_answers.specs.Answers.{replyOf, InBuffers}
+use Rattle.event_answers.specs.Answers.{replyTold, InBuffers}
 use Rattle.event_answers.specs.declared.answer.Answer.{Answer}
 use Rattle.event_answers.specs.declared.answer.Answer.the-variants.{Refused, Done, Spare, NoSpare, Version, NothingSettled, Views, Copies}
 
 -- the answer and the buffers say this reply
 abbrev pub Says : Answer → List ℕ → List ℕ → Reply → Type 0
-Says a copies views r = InBuffers a copies views × (replyOf a copies views ≡ some r)
+Says a copies views r = InBuffers a copies views × (replyTold a copies views ≡ some r)
 
 -- the answer says it, whatever the buffers hold
 abbrev pub SaysAlone : Answer → Reply → Type 0
@@ -53,23 +53,23 @@ MadeViews l c a views exit = ((copies : List ℕ) → Says a copies views (lentC
 -- ---- what each call's answer is as a line's
 
 abbrev pub doneAnswer : Told (Unit {0}) → Answer
-doneAnswer (refusal n) = Refused n
+doneAnswer (refusedWith n) = Refused n
 doneAnswer (answer a) = Done
 
 abbrev pub takenAnswer : Told (Option TakenVersion) → Answer
-takenAnswer (refusal n) = Refused n
+takenAnswer (refusedWith n) = Refused n
 takenAnswer (answer none) = NoSpare
 takenAnswer (answer (some v)) = Spare (v .view) (v .held)
 
 abbrev pub poppedAnswer : Told (Option PoppedVersion) → Answer
-poppedAnswer (refusal n) = Refused n
+poppedAnswer (refusedWith n) = Refused n
 poppedAnswer (answer none) = NothingSettled
 poppedAnswer (answer (some v)) = Version (v .id) (v .view)
 
 abbrev pub viewsAnswer : Told ℕ → Answer
-viewsAnswer (refusal n) = Refused n
+viewsAnswer (refusedWith n) = Refused n
 viewsAnswer (answer n) = Views n
 
 abbrev pub copiesAnswer : Told ℕ → Answer
-copiesAnswer (refusal n) = Refused n
+copiesAnswer (refusedWith n) = Refused n
 copiesAnswer (answer n) = Copies n

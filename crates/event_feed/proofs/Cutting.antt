@@ -6,13 +6,13 @@ use mathlib.Core.List.{List, [], _∷_, _++_, append-nil, append-assoc}
 use Prim.Native.Nat.{ℕ, zero, suc, _+_, _<_}
 use native.Mathlib.Omega.{arith}
 use lib.ListN.{length, take, drop, take-append-drop, length-append}
-use Rattle.event_sessions.specs.Sessions.{State, HoldsPool}
+use Rattle.event_sessions.specs.Sessions.{SessionState, HoldsPool}
 use Rattle.event_runs.specs.Lines.{wholeLines, output}
 use Rattle.event_runs.specs.Texts.{lastLine, ifAny, allLines, afterLines, textOutput}
 use Rattle.event_runs.proofs.Cuts.{Unfinished, inFront, lines-append, last-append, front-lines, front-last, last-unfinished, take-unfinished, line-more}
 use Rattle.event_runs.proofs.Texts.{after-append, output-append, after-holds, cut-output, cut-after, cut-count, cut-last, cut-any, cut-any-after}
 use Rattle.event_feed.specs.Places.{Turn}
-use Rattle.event_feed.specs.Blocks.{Carried, first, joined, ending, fed, fedOutput, finished, finishOutput, fedAll, outputs, EveryCutting}
+use Rattle.event_feed.specs.Blocks.{Carried, first, joinedBlocks, ending, fed, fedOutput, finished, finishOutput, fedAll, outputs, EveryCutting}
 
 -- more bytes than any event has
 long : 195 < 196
@@ -47,7 +47,7 @@ module _ (x ys : List ℕ) (h : Unfinished x) where
   same-last : take 196 (lastLine (take 196 x ++ ys)) ≡ take 196 (lastLine (x ++ ys))
   same-last = ap (take 196) (front-last (take 196 x) ys cut) ∙ cut-last 196 x (wholeLines ys) (lastLine ys) ∙ ap (take 196) (sym (front-last x ys h))
 
-  module _ (cs vs : ℕ) (s : State) where
+  module _ (cs vs : ℕ) (s : SessionState) where
     same-after : afterLines cs vs s (wholeLines (take 196 x ++ ys)) ≡ afterLines cs vs s (wholeLines (x ++ ys))
     same-after = ap (afterLines cs vs s) cut-lines ∙ cut-after cs vs 196 long s x (wholeLines ys) ∙ ap (afterLines cs vs s) (sym (front-lines x ys h))
 
@@ -56,14 +56,14 @@ module _ (x ys : List ℕ) (h : Unfinished x) where
 
 module _ (cs vs : ℕ) where
   -- what is carried after the bytes xs, from line n in state s
-  abbrev reached : ℕ → State → List ℕ → Carried
+  abbrev reached : ℕ → SessionState → List ℕ → Carried
   reached n s xs = record {
     state = afterLines cs vs s (wholeLines xs);
     number = n + length (wholeLines xs);
     line = take 196 (lastLine xs);
   }
 
-  module _ (n : ℕ) (s : State) (xs ys : List ℕ) where
+  module _ (n : ℕ) (s : SessionState) (xs ys : List ℕ) where
     abbrev here : Carried
     here = reached n s xs
 
@@ -131,37 +131,37 @@ module _ (cs vs : ℕ) where
 
   -- ---- every cutting
 
-  fed-joined : (s : State) (xs : List ℕ) (blocks : List (List ℕ)) → fedAll cs vs (reached 0 s xs) blocks ≡ reached 0 s (xs ++ joined blocks)
-  unfolding fedAll joined
+  fed-joined : (s : SessionState) (xs : List ℕ) (blocks : List (List ℕ)) → fedAll cs vs (reached 0 s xs) blocks ≡ reached 0 s (xs ++ joinedBlocks blocks)
+  unfolding fedAll joinedBlocks
   fed-joined s xs [] = ap (reached 0 s) (sym (append-nil xs))
   fed-joined s xs (b ∷ bs) =
-      ap (λ (c : Carried). fedAll cs vs c bs) (reached-more 0 s xs b) ∙ fed-joined s (xs ++ b) bs ∙ ap (reached 0 s) (append-assoc xs b (joined bs))
+      ap (λ (c : Carried). fedAll cs vs c bs) (reached-more 0 s xs b) ∙ fed-joined s (xs ++ b) bs ∙ ap (reached 0 s) (append-assoc xs b (joinedBlocks bs))
 
-  outputs-joined : (s : State) (xs : List ℕ) (blocks : List (List ℕ))
-      → output cs vs 0 s (wholeLines xs) ++ outputs cs vs (reached 0 s xs) blocks ≡ output cs vs 0 s (wholeLines (xs ++ joined blocks))
-  unfolding outputs joined
+  outputs-joined : (s : SessionState) (xs : List ℕ) (blocks : List (List ℕ))
+      → output cs vs 0 s (wholeLines xs) ++ outputs cs vs (reached 0 s xs) blocks ≡ output cs vs 0 s (wholeLines (xs ++ joinedBlocks blocks))
+  unfolding outputs joinedBlocks
   outputs-joined s xs [] = append-nil _ ∙ ap (λ (l : List ℕ). output cs vs 0 s (wholeLines l)) (sym (append-nil xs))
   outputs-joined s xs (b ∷ bs) =
       ap (λ (c : Carried). output cs vs 0 s (wholeLines xs) ++ (fedOutput cs vs (reached 0 s xs) b ++ outputs cs vs c bs)) (reached-more 0 s xs b)
       ∙ sym (append-assoc (output cs vs 0 s (wholeLines xs)) (fedOutput cs vs (reached 0 s xs) b) (outputs cs vs (reached 0 s (xs ++ b)) bs))
       ∙ ap (λ (l : List ℕ). l ++ outputs cs vs (reached 0 s (xs ++ b)) bs) (sym (reached-output 0 s xs b))
-      ∙ outputs-joined s (xs ++ b) bs ∙ ap (λ (l : List ℕ). output cs vs 0 s (wholeLines l)) (append-assoc xs b (joined bs))
+      ∙ outputs-joined s (xs ++ b) bs ∙ ap (λ (l : List ℕ). output cs vs 0 s (wholeLines l)) (append-assoc xs b (joinedBlocks bs))
 
-  first-reached : (s : State) → first s ≡ reached 0 s []
+  first-reached : (s : SessionState) → first s ≡ reached 0 s []
   unfolding wholeLines lastLine afterLines
   first-reached s = refl
 
-  first-output : (s : State) (blocks : List (List ℕ)) → outputs cs vs (reached 0 s []) blocks ≡ output cs vs 0 s (wholeLines (joined blocks))
+  first-output : (s : SessionState) (blocks : List (List ℕ)) → outputs cs vs (reached 0 s []) blocks ≡ output cs vs 0 s (wholeLines (joinedBlocks blocks))
   unfolding wholeLines output
   first-output s blocks = outputs-joined s [] blocks
 
-  finished-state : (s : State) (xs : List ℕ) → finished cs vs (reached 0 s xs) .state ≡ afterLines cs vs s (allLines xs)
+  finished-state : (s : SessionState) (xs : List ℕ) → finished cs vs (reached 0 s xs) .state ≡ afterLines cs vs s (allLines xs)
   unfolding finished fed allLines
   finished-state s xs =
       ap (afterLines cs vs (afterLines cs vs s (wholeLines xs))) (ending-line (take 196 (lastLine xs)) (take-unfinished 196 (lastLine xs) (last-unfinished xs)))
       ∙ cut-any-after cs vs 196 long (afterLines cs vs s (wholeLines xs)) (lastLine xs) ∙ sym (after-append cs vs s (wholeLines xs) (ifAny (lastLine xs)))
 
-  finished-number : (s : State) (xs : List ℕ) → finished cs vs (reached 0 s xs) .number ≡ length (allLines xs)
+  finished-number : (s : SessionState) (xs : List ℕ) → finished cs vs (reached 0 s xs) .number ≡ length (allLines xs)
   unfolding finished fed allLines
   finished-number s xs =
       let a = ap length (ending-line (take 196 (lastLine xs)) (take-unfinished 196 (lastLine xs) (last-unfinished xs))) in
@@ -169,7 +169,7 @@ module _ (cs vs : ℕ) where
       let d = length-append (wholeLines xs) (ifAny (lastLine xs)) in
       omega arith
 
-  finished-output : (s : State) (xs : List ℕ) → output cs vs 0 s (wholeLines xs) ++ finishOutput cs vs (reached 0 s xs) ≡ textOutput cs vs s xs
+  finished-output : (s : SessionState) (xs : List ℕ) → output cs vs 0 s (wholeLines xs) ++ finishOutput cs vs (reached 0 s xs) ≡ textOutput cs vs s xs
   unfolding finishOutput fedOutput textOutput allLines
   finished-output s xs =
       let n = 0 + length (wholeLines xs) in
@@ -181,18 +181,18 @@ module _ (cs vs : ℕ) where
   pub every-cutting : EveryCutting cs vs
   every-cutting = record { output-is = output-is; state-is = state-is; number-is = number-is }
     where
-      at-end : (s : State) (blocks : List (List ℕ)) → fedAll cs vs (first s) blocks ≡ reached 0 s (joined blocks)
+      at-end : (s : SessionState) (blocks : List (List ℕ)) → fedAll cs vs (first s) blocks ≡ reached 0 s (joinedBlocks blocks)
       at-end s blocks = ap (λ (c : Carried). fedAll cs vs c blocks) (first-reached s) ∙ fed-joined s [] blocks
 
-      before : (s : State) (blocks : List (List ℕ)) → outputs cs vs (first s) blocks ≡ output cs vs 0 s (wholeLines (joined blocks))
+      before : (s : SessionState) (blocks : List (List ℕ)) → outputs cs vs (first s) blocks ≡ output cs vs 0 s (wholeLines (joinedBlocks blocks))
       before s blocks = ap (λ (c : Carried). outputs cs vs c blocks) (first-reached s) ∙ first-output s blocks
 
-      state-is : (s : State) (blocks : List (List ℕ)) → finished cs vs (fedAll cs vs (first s) blocks) .state ≡ afterLines cs vs s (allLines (joined blocks))
-      state-is s blocks = ap (λ (c : Carried). finished cs vs c .state) (at-end s blocks) ∙ finished-state s (joined blocks)
+      state-is : (s : SessionState) (blocks : List (List ℕ)) → finished cs vs (fedAll cs vs (first s) blocks) .state ≡ afterLines cs vs s (allLines (joinedBlocks blocks))
+      state-is s blocks = ap (λ (c : Carried). finished cs vs c .state) (at-end s blocks) ∙ finished-state s (joinedBlocks blocks)
 
-      number-is : (s : State) (blocks : List (List ℕ)) → finished cs vs (fedAll cs vs (first s) blocks) .number ≡ length (allLines (joined blocks))
-      number-is s blocks = ap (λ (c : Carried). finished cs vs c .number) (at-end s blocks) ∙ finished-number s (joined blocks)
+      number-is : (s : SessionState) (blocks : List (List ℕ)) → finished cs vs (fedAll cs vs (first s) blocks) .number ≡ length (allLines (joinedBlocks blocks))
+      number-is s blocks = ap (λ (c : Carried). finished cs vs c .number) (at-end s blocks) ∙ finished-number s (joinedBlocks blocks)
 
-      output-is : (s : State) (blocks : List (List ℕ))
-          → outputs cs vs (first s) blocks ++ finishOutput cs vs (fedAll cs vs (first s) blocks) ≡ textOutput cs vs s (joined blocks)
-      output-is s blocks = ap₂ (λ (a b : List ℕ). a ++ b) (before s blocks) (ap (finishOutput cs vs) (at-end s blocks)) ∙ finished-output s (joined blocks)
+      output-is : (s : SessionState) (blocks : List (List ℕ))
+          → outputs cs vs (first s) blocks ++ finishOutput cs vs (fedAll cs vs (first s) blocks) ≡ textOutput cs vs s (joinedBlocks blocks)
+      output-is s blocks = ap₂ (λ (a b : List ℕ). a ++ b) (before s blocks) (ap (finishOutput cs vs) (at-end s blocks)) ∙ finished-output s (joinedBlocks blocks)

@@ -7,8 +7,8 @@ use native.Mathlib.Decide.{decLt}
 use native.Mathlib.Omega.{arith}
 use lib.ListN.{length, take, drop, length-take, length-drop}
 use lib.Seq.{sets, take-add, drop-drop, take-append-le, take-append-add, length-take-le, drop-length, take-length}
-use Rattle.event_sessions.specs.Sessions.{State, HoldsPool}
-use Rattle.event_runs.specs.Lines.{wholeLines, output, longestAnswer, Progress, start, ranAll}
+use Rattle.event_sessions.specs.Sessions.{SessionState, HoldsPool}
+use Rattle.event_runs.specs.Lines.{wholeLines, output, longestAnswer, Progress, progressStart, ranAll}
 use Rattle.event_runs.specs.Texts.{lastLine, afterLines}
 use Rattle.event_runs.proofs.Cuts.{Unfinished, take-unfinished, unfinished-last}
 use Rattle.event_runs.proofs.Texts.{Ran, ran-front}
@@ -34,7 +34,7 @@ part-short from size l = omega (arith, length-take size (drop from l), length-dr
 no-bytes : (l : List ℕ) → l ≡ [] → length l ≡ 0
 no-bytes l e = ap length e
 
-module _ (cs vs : ℕ) (s : State) (n from held end : ℕ) (buf exit out : List ℕ) (inside : from + held ≤ end) (within : end ≤ length buf) where
+module _ (cs vs : ℕ) (s : SessionState) (n from held end : ℕ) (buf exit out : List ℕ) (inside : from + held ≤ end) (within : end ≤ length buf) where
   abbrev line : List ℕ
   line = part from held buf
 
@@ -62,29 +62,29 @@ module _ (cs vs : ℕ) (s : State) (n from held end : ℕ) (buf exit out : List 
   bytes-length : length bytes ≡ end - from
   bytes-length = length-take-le (end - from) (drop from buf) (omega (arith, length-drop from buf))
 
-  run-of : (q : Progress) → q ≡ ranAll cs vs (start s n out) (wholeLines bytes) → Ran cs vs (start s n out) q bytes
-  run-of q e = rw e (ran-front cs vs bytes (wholeLines bytes) (start s n out) refl)
+  run-of : (q : Progress) → q ≡ ranAll cs vs (progressStart s n out) (wholeLines bytes) → Ran cs vs (progressStart s n out) q bytes
+  run-of q e = rw e (ran-front cs vs bytes (wholeLines bytes) (progressStart s n out) refl)
 
   -- no more was run than there is
-  pub ran-within : (q : Progress) → q ≡ ranAll cs vs (start s n out) (wholeLines bytes) → from + q .from ≤ end
+  pub ran-within : (q : Progress) → q ≡ ranAll cs vs (progressStart s n out) (wholeLines bytes) → from + q .from ≤ end
   ran-within q e = omega (arith, run-of q e .from, run-of q e .fits, bytes-length)
 
   module _ (plain : Unfinished line) (pool : HoldsPool s) (room : longestAnswer cs vs ≤ length out) (q : Progress)
-      (is-run : q ≡ ranAll cs vs (start s n out) (wholeLines bytes)) (filling : q .filled ≤ length out) (place : Place) (kept : Kept from end (q .from) place buf exit) where
+      (is-run : q ≡ ranAll cs vs (progressStart s n out) (wholeLines bytes)) (filling : q .filled ≤ length out) (place : Place) (kept : Kept from end (q .from) place buf exit) where
     abbrev after : Carried
     after = record { state = q .state; number = q .number; line = part (place .from) (place .held) exit }
 
     abbrev left : List ℕ
     left = part (place .from + place .held) (place .end - (place .from + place .held)) exit
 
-    was-run : Ran cs vs (start s n out) q bytes
+    was-run : Ran cs vs (progressStart s n out) q bytes
     was-run = run-of q is-run
 
     -- ---- no line is whole
 
     module _ (z : q .from ≡ 0) where
       none-whole : wholeLines bytes ≡ []
-      none-whole = ran-none cs vs bytes (start s n out) q is-run pool (omega arith) z
+      none-whole = ran-none cs vs bytes (progressStart s n out) q is-run pool (omega arith) z
 
       block-none : wholeLines (line ++ take (length block) block) ≡ []
       block-none = ap (λ (l : List ℕ). wholeLines (line ++ l)) (take-length block) ∙ ap wholeLines (sym bytes-are) ∙ none-whole

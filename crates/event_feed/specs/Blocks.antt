@@ -4,27 +4,27 @@ use mathlib.Core.Path.{_≡_}
 use mathlib.Core.List.{List, [], _∷_, _++_}
 use lib.ListN.{length, take}
 use Rattle.event_answers.specs.Printed.{lineFeed}
-use Rattle.event_sessions.specs.Sessions.{State}
+use Rattle.event_sessions.specs.Sessions.{SessionState}
 use Rattle.event_runs.specs.Lines.{wholeLines, output}
 use Rattle.event_runs.specs.Texts.{lastLine, allLines, afterLines, textOutput}
 
 -- Of a line that is not whole yet the first 196 bytes are kept. No event is as long, so a line of which 196 bytes are kept is none, whatever its rest is
 -- (law `long-unread` of crates/event_runs/proofs/LongLines.antt).
 pub record Carried : Type 0 where
-  pub state : State
+  pub state : SessionState
   -- lines run so far
   pub number : ℕ
   -- the line that is not whole yet
   pub line : List ℕ
 
 -- before the first block
-abbrev pub first : State → Carried
+abbrev pub first : SessionState → Carried
 first s = record { state = s; number = 0; line = [] }
 
 -- blocks one after the other
-unfoldable pub joined : List (List ℕ) → List ℕ
-joined [] = []
-joined (block ∷ blocks) = block ++ joined blocks
+unfoldable pub joinedBlocks : List (List ℕ) → List ℕ
+joinedBlocks [] = []
+joinedBlocks (block ∷ blocks) = block ++ joinedBlocks blocks
 
 -- what is fed where the input has ended: the line feed that its last line lacks
 unfoldable pub ending : List ℕ → List ℕ
@@ -65,7 +65,7 @@ module _ (copies views : ℕ) where
   -- For every cutting of an input, the outputs of its blocks one after the other, and that of its end, are the output of the whole; and
   -- so are the state and the number of lines.
   pub record EveryCutting : Type 0 where
-    pub output-is : (s : State) (blocks : List (List ℕ))
-        → outputs (first s) blocks ++ finishOutput (fedAll (first s) blocks) ≡ textOutput copies views s (joined blocks)
-    pub state-is : (s : State) (blocks : List (List ℕ)) → finished (fedAll (first s) blocks) .state ≡ afterLines copies views s (allLines (joined blocks))
-    pub number-is : (s : State) (blocks : List (List ℕ)) → finished (fedAll (first s) blocks) .number ≡ length (allLines (joined blocks))
+    pub output-is : (s : SessionState) (blocks : List (List ℕ))
+        → outputs (first s) blocks ++ finishOutput (fedAll (first s) blocks) ≡ textOutput copies views s (joinedBlocks blocks)
+    pub state-is : (s : SessionState) (blocks : List (List ℕ)) → finished (fedAll (first s) blocks) .state ≡ afterLines copies views s (allLines (joinedBlocks blocks))
+    pub number-is : (s : SessionState) (blocks : List (List ℕ)) → finished (fedAll (first s) blocks) .number ≡ length (allLines (joinedBlocks blocks))

@@ -4,7 +4,7 @@ use mathlib.Core.Path.{_≡_}
 use mathlib.Core.List.{List, []}
 use lib.ListN.{length, take, drop}
 use lib.Seq.{sets}
-use Rattle.event_sessions.specs.Sessions.{State, HoldsPool}
+use Rattle.event_sessions.specs.Sessions.{SessionState, HoldsPool}
 use Rattle.event_runs.specs.Lines.{wholeLines, longestAnswer}
 use Rattle.event_feed.specs.declared.feed.Feed.{Feed}
 use Rattle.event_feed.specs.Blocks.{Carried, ending, fed, fedOutput}
@@ -13,7 +13,7 @@ use Rattle.event_feed.specs.Blocks.{Carried, ending, fed, fedOutput}
 abbrev pub part : ℕ → ℕ → List ℕ → List ℕ
 part from size buf = take size (drop from buf)
 
-abbrev pub carriedOf : Feed → State → List ℕ → Carried
+abbrev pub carriedOf : Feed → SessionState → List ℕ → Carried
 carriedOf f s buf = record { state = s; number = f .number; line = part (f .from) (f .held) buf }
 
 -- how many bytes have come and are still to be fed
@@ -30,7 +30,7 @@ pub record Placed (f : Feed) (size : ℕ) : Type 0 where
   pub space : waiting f ≡ 0 → f .end ≤ 196
 
 -- what feeding asks for: a line that is not whole, a pool, numbers for as many lines as there are bytes, and room for an answer
-pub record Ready (copies views : ℕ) (f : Feed) (s : State) (buf out : List ℕ) : Type 0 where
+pub record Ready (copies views : ℕ) (f : Feed) (s : SessionState) (buf out : List ℕ) : Type 0 where
   pub placed : Placed f (length buf)
   pub large : 196 < length buf
   pub plain : wholeLines (part (f .from) (f .held) buf) ≡ []

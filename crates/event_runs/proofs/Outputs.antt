@@ -14,7 +14,7 @@ use Rattle.pool_memory.proofs.Rewritten.{sets-append}
 use Rattle.event_text.specs.Searches.{indexOf}
 use Rattle.event_lines.specs.Grammar.{eventOf}
 use Rattle.event_answers.specs.Printed.{lineFeed}
-use Rattle.event_sessions.specs.Sessions.{State, HoldsPool}
+use Rattle.event_sessions.specs.Sessions.{SessionState, HoldsPool}
 use Rattle.event_sessions.proofs.Keeps.{step-keeps}
 use Rattle.event_runs.specs.Lines.{inFirstLine, wholeLines, lineOutput, lineState, output, longestAnswer, Progress, hasRoom, ran, ranAll}
 use Rattle.event_runs.proofs.Splits.{first-line, no-line}
@@ -63,7 +63,7 @@ pub record Left (bytes : ℕ) (p q : Progress) : Type 0 where
   pub pool : HoldsPool (q .state)
 
 module _ (cs vs : ℕ) where
-  state-kept : (s : State) (line : List ℕ) → HoldsPool s → HoldsPool (lineState cs vs s line)
+  state-kept : (s : SessionState) (line : List ℕ) → HoldsPool s → HoldsPool (lineState cs vs s line)
   unfolding lineState
   state-kept s line h = step-keeps cs vs s (eventOf line) h
 

@@ -11,7 +11,7 @@ use lib.ListN.{length, drop, length-drop}
 use Rattle.event_text.specs.Searches.{indexOf}
 use Rattle.event_answers.specs.declared.answer.Answer.{Answer}
 use Rattle.event_answers.specs.declared.answer.Answer.the-variants.{Question, Refused, Done, Spare, NoSpare, Version, NothingSettled, Views, Copies}
-use Rattle.event_answers.specs.Answers.{replyOf, entries, InBuffers}
+use Rattle.event_answers.specs.Answers.{replyTold, entries, InBuffers}
 use Rattle.event_answers.specs.Printed.{lineFeed, printed, mostBytes}
 use Rattle.event_answers.proofs.Most.{printed-most}
 use Rattle.event_runs.specs.Lines.{longestAnswer}
@@ -72,7 +72,7 @@ find-within input from r h e =
 
 -- and its output ends inside the buffer
 pub output-fits : (a : Answer) (copies views : List ℕ) (m n filled size number end : ℕ) → InBuffers a copies views → length copies ≡ m → length views ≡ n
-    → filled + longestAnswer m n ≤ size → end ≡ filled + length (printed number (replyOf a copies views)) → end ≤ size
+    → filled + longestAnswer m n ≤ size → end ≡ filled + length (printed number (replyTold a copies views)) → end ≤ size
 output-fits a copies views m n filled size number end h p q r e =
     let k = answer-fits a copies views m n filled size h p q r in
     let o = printed-most a copies views number in

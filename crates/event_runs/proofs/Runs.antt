@@ -16,9 +16,9 @@ use Rattle.event_text.proofs.FirstLines.{first-index}
 use Rattle.event_lines.specs.declared.event.Event.{Event}
 use Rattle.event_lines.specs.Grammar.{eventOf}
 use Rattle.event_answers.specs.declared.answer.Answer.{Answer}
-use Rattle.event_answers.specs.Answers.{replyOf}
+use Rattle.event_answers.specs.Answers.{replyTold}
 use Rattle.event_answers.specs.Printed.{lineFeed, printed}
-use Rattle.event_sessions.specs.Sessions.{State, HoldsPool, step}
+use Rattle.event_sessions.specs.Sessions.{SessionState, HoldsPool, lineStep}
 use Rattle.event_sessions.proofs.Keeps.{step-keeps}
 use Rattle.event_runs.specs.Lines.{wholeLines, lineOutput, lineState, EventRan, longestAnswer, Progress, hasRoom, ran, ranAll}
 use Rattle.event_runs.specs.Ends.{lineEnd, nextEnd}
@@ -27,12 +27,12 @@ use Rattle.event_runs.proofs.Rooms.{next-full, next-line, find-end, fin
 
 -- ---- one line
 
-module _ (cs vs : ℕ) (s after : State) (event : Event) (a : Answer) (copies views : List ℕ) (e : (replyOf a copies views, after) ≡ step cs vs s event) where
-  pub event-state : after ≡ step cs vs s event .1
-  event-state = ap (λ (r : Option Reply × State). r .1) e
+module _ (cs vs : ℕ) (s after : SessionState) (event : Event) (a : Answer) (copies views : List ℕ) (e : (replyTold a copies views, after) ≡ lineStep cs vs s event) where
+  pub event-state : after ≡ lineStep cs vs s event .1
+  event-state = ap (λ (r : Option Reply × SessionState). r .1) e
 
-  pub event-output : (n : ℕ) → printed n (replyOf a copies views) ≡ printed n (step cs vs s event .0)
-  event-output n = ap (λ (r : Option Reply × State). printed n (r .0)) e
+  pub event-output : (n : ℕ) → printed n (replyTold a copies views) ≡ printed n (lineStep cs vs s event .0)
+  event-output n = ap (λ (r : Option Reply × SessionState). printed n (r .0)) e
 
 -- ---- the next line, or none
 
@@ -169,9 +169,9 @@ module _ (cs vs a b : ℕ) (ea : a ≡ cs) (eb : b ≡ vs) (input : List ℕ) (p
           let l = line-length in
           let e : q .from ≡ p .from + (length line + 1) = omega arith in
           ran-is a b p q line
-          (r .state ∙ ap (λ (x : Event). step a b (p .state) x .1) is-event) n e
-          (r .length-is ∙ ap (λ (x : Event). p .filled + length (printed (p .number + 1) (step a b (p .state) x .0))) is-event)
-          (r .put ∙ ap (λ (x : Event). sets (p .out) (p .filled) (printed (p .number + 1) (step a b (p .state) x .0))) is-event)
+          (r .state ∙ ap (λ (x : Event). lineStep a b (p .state) x .1) is-event) n e
+          (r .length-is ∙ ap (λ (x : Event). p .filled + length (printed (p .number + 1) (lineStep a b (p .state) x .0))) is-event)
+          (r .put ∙ ap (λ (x : Event). sets (p .out) (p .filled) (printed (p .number + 1) (lineStep a b (p .state) x .0))) is-event)
           ∙ ap₂ (λ (i j : ℕ). ran i j p line) ea eb
 
       kept : HoldsPool (q .state)
@@ -182,7 +182,7 @@ module _ (cs vs a b : ℕ) (ea : a ≡ cs) (eb : b ≡ vs) (input : List ℕ) (p
         inside = omega arith;
         counted = let l = g .counted in omega arith;
         filling = let l = g .sized in let z = r .fits in omega arith;
-        sized = ap length (r .put) ∙ length-sets (p .out) (p .filled) (printed (p .number + 1) (step a b (p .state) event .0)) ∙ g .sized;
+        sized = ap length (r .put) ∙ length-sets (p .out) (p .filled) (printed (p .number + 1) (lineStep a b (p .state) event .0)) ∙ g .sized;
         pool = kept;
         left = ap (λ (i : ℕ). ranAll cs vs q (wholeLines (drop i input))) f
             ∙ ap (λ (x : Progress). ranAll cs vs x (wholeLines (drop (end + 1) input))) was-run

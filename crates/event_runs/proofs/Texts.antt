@@ -11,7 +11,7 @@ use Rattle.pool_memory.proofs.Rewritten.{sets-append}
 use Rattle.event_lines.specs.declared.event.Event.{Event}
 use Rattle.event_lines.specs.Grammar.{eventOf}
 use Rattle.event_answers.specs.Printed.{lineFeed, printed}
-use Rattle.event_sessions.specs.Sessions.{State, HoldsPool, step}
+use Rattle.event_sessions.specs.Sessions.{SessionState, HoldsPool, lineStep}
 use Rattle.event_sessions.proofs.Keeps.{step-keeps}
 use Rattle.event_runs.specs.Lines.{wholeLines, lineOutput, lineState, output, Progress, hasRoom, ran, ranAll}
 use Rattle.event_runs.specs.Texts.{lastLine, ifAny, afterLines}
@@ -37,12 +37,12 @@ cut-count k x (l ∷ ls) = refl
 module _ (cs vs : ℕ) where
   -- ---- some lines, and more behind them
 
-  pub after-append : (s : State) (xs ys : List (List ℕ)) → afterLines cs vs s (xs ++ ys) ≡ afterLines cs vs (afterLines cs vs s xs) ys
+  pub after-append : (s : SessionState) (xs ys : List (List ℕ)) → afterLines cs vs s (xs ++ ys) ≡ afterLines cs vs (afterLines cs vs s xs) ys
   unfolding afterLines
   after-append s [] ys = refl
   after-append s (x ∷ xs) ys = after-append (lineState cs vs s x) xs ys
 
-  pub output-append : (n : ℕ) (s : State) (xs ys : List (List ℕ))
+  pub output-append : (n : ℕ) (s : SessionState) (xs ys : List (List ℕ))
       → output cs vs n s (xs ++ ys) ≡ output cs vs n s xs ++ output cs vs (n + length xs) (afterLines cs vs s xs) ys
   unfolding output afterLines
   output-append n s [] ys = ap (λ (k : ℕ). output cs vs k s ys) (sym (add-zero n))
@@ -52,10 +52,10 @@ module _ (cs vs : ℕ) where
       (output-append (n + 1) t xs ys ∙ ap (λ (k : ℕ). output cs vs (n + 1) t xs ++ output cs vs k (afterLines cs vs t xs) ys) (let e : n + 1 + length xs ≡ n + suc (length xs) = omega arith in e))
       ∙ sym (append-assoc (lineOutput cs vs (n + 1) s x) (output cs vs (n + 1) t xs) _)
 
-  pub after-holds : (s : State) (lines : List (List ℕ)) → HoldsPool s → HoldsPool (afterLines cs vs s lines)
+  pub after-holds : (s : SessionState) (lines : List (List ℕ)) → HoldsPool s → HoldsPool (afterLines cs vs s lines)
   unfolding afterLines lineState
   after-holds s [] h = h
-  after-holds s (l ∷ ls) h = after-holds (step cs vs s (eventOf l) .1) ls (step-keeps cs vs s (eventOf l) h)
+  after-holds s (l ∷ ls) h = after-holds (lineStep cs vs s (eventOf l) .1) ls (step-keeps cs vs s (eventOf l) h)
 
   -- ---- a line's front says what the line does, if no event is as long
 
@@ -63,19 +63,19 @@ module _ (cs vs : ℕ) where
     same-event : (x l : List ℕ) → eventOf (take k x ++ l) ≡ eventOf (x ++ l)
     same-event x l = cut-unread k long x l
 
-    pub cut-output : (n : ℕ) (s : State) (x : List ℕ) (ls : List (List ℕ)) → output cs vs n s (inFront (take k x) ls) ≡ output cs vs n s (inFront x ls)
+    pub cut-output : (n : ℕ) (s : SessionState) (x : List ℕ) (ls : List (List ℕ)) → output cs vs n s (inFront (take k x) ls) ≡ output cs vs n s (inFront x ls)
     unfolding output lineOutput lineState inFront
     cut-output n s x [] = refl
     cut-output n s x (l ∷ ls) =
-        ap (λ (e : Event). printed (n + 1) (step cs vs s e .0) ++ output cs vs (n + 1) (step cs vs s e .1) ls) (same-event x l)
+        ap (λ (e : Event). printed (n + 1) (lineStep cs vs s e .0) ++ output cs vs (n + 1) (lineStep cs vs s e .1) ls) (same-event x l)
 
-    pub cut-after : (s : State) (x : List ℕ) (ls : List (List ℕ)) → afterLines cs vs s (inFront (take k x) ls) ≡ afterLines cs vs s (inFront x ls)
+    pub cut-after : (s : SessionState) (x : List ℕ) (ls : List (List ℕ)) → afterLines cs vs s (inFront (take k x) ls) ≡ afterLines cs vs s (inFront x ls)
     unfolding afterLines lineState inFront
     cut-after s x [] = refl
-    cut-after s x (l ∷ ls) = ap (λ (e : Event). afterLines cs vs (step cs vs s e .1) ls) (same-event x l)
+    cut-after s x (l ∷ ls) = ap (λ (e : Event). afterLines cs vs (lineStep cs vs s e .1) ls) (same-event x l)
 
     -- nor does the last line's rest
-    pub cut-any : (n : ℕ) (s : State) (x : List ℕ) → output cs vs n s (ifAny (take k x)) ≡ output cs vs n s (ifAny x)
+    pub cut-any : (n : ℕ) (s : SessionState) (x : List ℕ) → output cs vs n s (ifAny (take k x)) ≡ output cs vs n s (ifAny x)
     unfolding output lineOutput lineState ifAny
     cut-any n s [] = go k
       where
@@ -88,9 +88,9 @@ module _ (cs vs : ℕ) where
         go zero q h = absurd (let y : ⊥ = omega arith in y)
         go (suc j) q h =
             let e : eventOf (b ∷ take j x) ≡ eventOf (b ∷ x) = ap eventOf (sym (append-nil (b ∷ take j x))) ∙ q ∙ ap eventOf (append-nil (b ∷ x)) in
-            ap (λ (v : Event). printed (n + 1) (step cs vs s v .0) ++ []) e
+            ap (λ (v : Event). printed (n + 1) (lineStep cs vs s v .0) ++ []) e
 
-    pub cut-any-after : (s : State) (x : List ℕ) → afterLines cs vs s (ifAny (take k x)) ≡ afterLines cs vs s (ifAny x)
+    pub cut-any-after : (s : SessionState) (x : List ℕ) → afterLines cs vs s (ifAny (take k x)) ≡ afterLines cs vs s (ifAny x)
     unfolding afterLines lineState ifAny
     cut-any-after s [] = go k
       where
@@ -103,7 +103,7 @@ module _ (cs vs : ℕ) where
         go zero q h = absurd (let y : ⊥ = omega arith in y)
         go (suc j) q h =
             let e : eventOf (b ∷ take j x) ≡ eventOf (b ∷ x) = ap eventOf (sym (append-nil (b ∷ take j x))) ∙ q ∙ ap eventOf (append-nil (b ∷ x)) in
-            ap (λ (v : Event). step cs vs s v .1) e
+            ap (λ (v : Event). lineStep cs vs s v .1) e
 
   -- ---- what running an input's lines as far as there is room did: the lines of a front of it that a line feed ends, and nothing else
 

@@ -9,7 +9,7 @@ use lib.Seq.{sets}
 use Rattle.event_lines.specs.declared.event.Event.{Event}
 use Rattle.event_lines.specs.Grammar.{eventOf}
 use Rattle.event_answers.specs.Printed.{lineFeed, printed, mostBytes}
-use Rattle.event_sessions.specs.Sessions.{State, stateOf, step}
+use Rattle.event_sessions.specs.Sessions.{SessionState, stateOf, lineStep}
 use Rattle.event_runs.specs.declared.run.Run.{Run}
 use Rattle.pool_memory.specs.MemoryConstants.{copyStride}
 
@@ -25,26 +25,26 @@ unfoldable pub wholeLines : List ℕ → List (List ℕ)
 wholeLines [] = []
 wholeLines (b ∷ bs) = cond (eqb b lineFeed) ([] ∷ wholeLines bs) (inFirstLine b (wholeLines bs))
 
--- ---- what lines do; the answer buffers have so many numbers, as in `step`
+-- ---- what lines do; the answer buffers have so many numbers, as in `lineStep`
 
 module _ (copies views : ℕ) where
   -- the output of line n, and the state after it
-  unfoldable pub lineOutput : ℕ → State → List ℕ → List ℕ
-  lineOutput n s line = printed n (step copies views s (eventOf line) .0)
+  unfoldable pub lineOutput : ℕ → SessionState → List ℕ → List ℕ
+  lineOutput n s line = printed n (lineStep copies views s (eventOf line) .0)
 
-  unfoldable pub lineState : State → List ℕ → State
-  lineState s line = step copies views s (eventOf line) .1
+  unfoldable pub lineState : SessionState → List ℕ → SessionState
+  lineState s line = lineStep copies views s (eventOf line) .1
 
   -- the output of the lines behind line n
-  unfoldable pub output : ℕ → State → List (List ℕ) → List ℕ
+  unfoldable pub output : ℕ → SessionState → List (List ℕ) → List ℕ
   output n s [] = []
   output n s (line ∷ lines) = lineOutput (n + 1) s line ++ output (n + 1) (lineState s line) lines
 
   -- Line n, which is this event, was run: `after` is the state after it, and its output stands behind the filled bytes of the buffer, up to `end`.
-  pub record EventRan (n : ℕ) (before after : State) (event : Event) (filled end : ℕ) (out exit : List ℕ) : Type 0 where
-    pub state : after ≡ step copies views before event .1
-    pub length-is : end ≡ filled + length (printed n (step copies views before event .0))
-    pub put : exit ≡ sets out filled (printed n (step copies views before event .0))
+  pub record EventRan (n : ℕ) (before after : SessionState) (event : Event) (filled end : ℕ) (out exit : List ℕ) : Type 0 where
+    pub state : after ≡ lineStep copies views before event .1
+    pub length-is : end ≡ filled + length (printed n (lineStep copies views before event .0))
+    pub put : exit ≡ sets out filled (printed n (lineStep copies views before event .0))
     pub fits : end ≤ length out
 
   -- no line's output has more bytes
@@ -54,7 +54,7 @@ module _ (copies views : ℕ) where
 -- ---- lines run as long as the output's buffer has room for the longest answer
 
 pub record Progress : Type 0 where
-  pub state : State
+  pub state : SessionState
   -- lines run so far
   pub number : ℕ
   -- bytes of the input before the next line
@@ -74,8 +74,8 @@ progressOf r textures retiring doomed spares newest stamps out = record {
 }
 
 -- before the first line of an input, of which n lines have been run before
-abbrev pub start : State → ℕ → List ℕ → Progress
-start s n out = record { state = s; number = n; from = 0; filled = 0; out = out }
+abbrev pub progressStart : SessionState → ℕ → List ℕ → Progress
+progressStart s n out = record { state = s; number = n; from = 0; filled = 0; out = out }
 
 module _ (copies views : ℕ) where
   unfoldable pub hasRoom : Progress → Bool

@@ -4,7 +4,7 @@ use mathlib.Core.Bool.{cond}
 use mathlib.Core.List.{List, [], _∷_, _++_}
 use lib.Dec.{eqb}
 use Rattle.event_answers.specs.Printed.{lineFeed}
-use Rattle.event_sessions.specs.Sessions.{State}
+use Rattle.event_sessions.specs.Sessions.{SessionState}
 use Rattle.event_runs.specs.Lines.{wholeLines, lineState, output}
 
 -- b in front of the last line, if no line feed stands between them
@@ -28,10 +28,10 @@ allLines input = wholeLines input ++ ifAny (lastLine input)
 
 module _ (copies views : ℕ) where
   -- the state after lines
-  unfoldable pub afterLines : State → List (List ℕ) → State
+  unfoldable pub afterLines : SessionState → List (List ℕ) → SessionState
   afterLines s [] = s
   afterLines s (line ∷ lines) = afterLines (lineState copies views s line) lines
 
   -- the output of an input, no line having been run before
-  unfoldable pub textOutput : State → List ℕ → List ℕ
+  unfoldable pub textOutput : SessionState → List ℕ → List ℕ
   textOutput s input = output copies views 0 s (allLines input)

@@ -3,7 +3,7 @@ ghost use mathlib.Core.Path.{_≡_};
 ghost use Prim.Native.Nat.{_+_, _/_, _^_, _≤_, _<_, min, max};
 ghost use lib.ListN.{length};
 ghost use Rattle.event_sessions.specs.Sessions.{stateOf, HoldsPool};
-ghost use Rattle.event_runs.specs.Lines.{longestAnswer, progressOf, start, wholeLines, ranAll};
+ghost use Rattle.event_runs.specs.Lines.{longestAnswer, progressOf, progressStart, wholeLines, ranAll};
 ghost use Rattle.pool_memory.specs.MemoryConstants.{copyStride};
 use crate::line::run_line;
 use crate::run::Run;
@@ -57,7 +57,7 @@ pub fn run_lines(
     ensures { λ r. ⌜ (progressOf r (now (textures .exit)) (now (retiring .exit)) (now (doomed .exit)) (now (spares .exit)) (now (newest .exit))
         (now (stamps .exit)) (now (out .exit))
         ≡ ranAll (length (now (copies .entry))) (length (now (views .entry)))
-        (start (stateOf session (now (textures .entry)) (now (retiring .entry)) (now (doomed .entry)) (now (spares .entry)) (now (newest .entry))
+        (progressStart (stateOf session (now (textures .entry)) (now (retiring .entry)) (now (doomed .entry)) (now (spares .entry)) (now (newest .entry))
         (now (stamps .entry))) number (now (out .entry)))
         (wholeLines (now (input .entry))))
         × (r .filled ≤ length (now (out .entry))) ⌝ }

@@ -11,7 +11,7 @@ use Rattle.pool_books.specs.Demand3.{Reply, refusal, done}
 use Rattle.pool_books.specs.LentLists.{LentCall, lentTake, lentPlan, EveryCallKeepsPool, OpenedIsPool}
 use Rattle.pool_books.proofs.LentLists.{calls-keep-pool, opened-is-pool}
 use Rattle.event_lines.specs.declared.event.Event.{Event}
-use Rattle.event_sessions.specs.Sessions.{State, stateOf, HoldsPool, opens, openedState, called, notCalled, takeLine, ifOpened, step}
+use Rattle.event_sessions.specs.Sessions.{SessionState, stateOf, HoldsPool, opens, openedState, called, notCalled, takeLine, ifOpened, lineStep}
 use Rattle.event_sessions.specs.Parts.{freshSession}
 use Rattle.event_sessions.proofs.Opened.{same-sizes}
 
@@ -20,19 +20,19 @@ pub fresh-holds : (textures retiring doomed spares newest stamps : List ℕ) →
 unfolding freshSession
 fresh-holds textures retiring doomed spares newest stamps e = absurd (false≢true e)
 
-opened-holds : (s : State) (working : ℕ) → sizesFit (s .lent) ≡ true → isPool (openedState s working .lent) ≡ true
+opened-holds : (s : SessionState) (working : ℕ) → sizesFit (s .lent) ≡ true → isPool (openedState s working .lent) ≡ true
 unfolding OpenedIsPool
 opened-holds s working q =
     let l = s .lent in
     opened-is-pool working (l .textures) (l .retiring) (l .doomed) (l .spares) (l .newest) (l .stamps)
     (same-sizes (openedPool working) (l .pool) openedBook (l .book) (l .textures) (l .retiring) (l .doomed) (l .spares) (l .newest) (l .stamps) ∙ q)
 
-call-keeps : (s : State) → HoldsPool s → (c : LentCall) → HoldsPool (called s c .1)
+call-keeps : (s : SessionState) → HoldsPool s → (c : LentCall) → HoldsPool (called s c .1)
 unfolding EveryCallKeepsPool
 call-keeps s h c e = calls-keep-pool (s .lent) (h e) c
 
-module _ (s : State) (h : HoldsPool s) where
-  if-keeps : (r : Option Reply × State) → HoldsPool (r .1) → HoldsPool (ifOpened s r .1)
+module _ (s : SessionState) (h : HoldsPool s) where
+  if-keeps : (r : Option Reply × SessionState) → HoldsPool (r .1) → HoldsPool (ifOpened s r .1)
   if-keeps r k = go (s .opened)
     where
       go : (b : Bool) → HoldsPool (cond b r (notCalled s) .1)
@@ -43,7 +43,7 @@ module _ (s : State) (h : HoldsPool s) where
   unfolding opens
   opens-keeps working = go (sizesFit (s .lent)) refl
     where
-      go : (b : Bool) → sizesFit (s .lent) ≡ b → HoldsPool (cond {A = Option Reply × State} b (some done, openedState s working) (some (refusal 1), s) .1)
+      go : (b : Bool) → sizesFit (s .lent) ≡ b → HoldsPool (cond {A = Option Reply × SessionState} b (some done, openedState s working) (some (refusal 1), s) .1)
       go true q = λ e. opened-holds s working q
       go false q = h
 
@@ -51,8 +51,8 @@ module _ (s : State) (h : HoldsPool s) where
   made-keeps : (c : LentCall) → HoldsPool (ifOpened s (called s c) .1)
   made-keeps c = if-keeps (called s c) (call-keeps s h c)
 
-pub step-keeps : (copies views : ℕ) (s : State) (e : Event) → HoldsPool s → HoldsPool (step copies views s e .1)
-unfolding step
+pub step-keeps : (copies views : ℕ) (s : SessionState) (e : Event) → HoldsPool s → HoldsPool (lineStep copies views s e .1)
+unfolding lineStep
 step-keeps copies views s (Event.Open working) h = go (s .opened)
   where
     go : (b : Bool) → HoldsPool (cond b (notCalled s) (opens s working) .1)

@@ -19,12 +19,12 @@ use Rattle.pool_books.specs.Demand3.{Reply, refusal, done}
 use Rattle.pool_books.specs.LentLists.{openedLent}
 use Rattle.event_lines.specs.declared.event.Event.{Event}
 use Rattle.event_lines.proofs.event.Event.{the-type}
-use Rattle.event_answers.specs.Answers.{replyOf, InBuffers}
+use Rattle.event_answers.specs.Answers.{replyTold, InBuffers}
 use Rattle.event_answers.specs.declared.answer.Answer.{Answer}
 use Rattle.event_answers.specs.declared.answer.Answer.the-variants.{Question, Refused, Done}
 use Rattle.event_sessions.specs.declared.session.Session.{Session}
-use Rattle.event_sessions.specs.Sessions.{State, stateOf, opens, openedState, notCalled, ifOpened, step}
-use Rattle.event_sessions.specs.Parts.{opened, sessionAfter, takenAfter, shapeAfter, Stepped, SaysOnly, AnsweredAlone}
+use Rattle.event_sessions.specs.Sessions.{SessionState, stateOf, opens, openedState, notCalled, ifOpened, lineStep}
+use Rattle.event_sessions.specs.Parts.{sessionOpened, sessionAfter, takenAfter, shapeAfter, Stepped, SaysOnly, AnsweredAlone}
 use Rattle.event_sessions.proofs.Steps.{step-notes}
 
 -- ---- `open`
@@ -37,7 +37,7 @@ same-sizes p q b c textures retiring doomed spares newest stamps = refl
 
 module _ (s : Session) (textures retiring doomed spares newest stamps : List ℕ) (working outcome : ℕ)
     (e : outcome ≡ openNumber (openedLent working textures retiring doomed spares newest stamps)) where
-  abbrev before : State
+  abbrev before : SessionState
   before = stateOf s textures retiring doomed spares newest stamps
 
   outcome-here : outcome ≡ cond (sizesFit (before .lent)) 0 1
@@ -46,29 +46,29 @@ module _ (s : Session) (textures retiring doomed spares newest stamps : List ℕ
       e ∙ ap (λ (b : Bool). cond b 0 1) (same-sizes (openedPool working) (s .pool) openedBook (s .book) textures retiring doomed spares newest stamps)
 
   pub open-refused : (outcome ≡ 0 → ⊥) → SaysOnly (Refused 1) before (opens before working)
-  unfolding SaysOnly opens InBuffers replyOf
+  unfolding SaysOnly opens InBuffers replyTold
   open-refused n copies views = (tt, go (sizesFit (before .lent)) outcome-here)
     where
       go : (b : Bool) → outcome ≡ cond b 0 1
-          → _≡_ {A = Option Reply × State} (some (refusal 1), before) (cond b (some done, openedState before working) (some (refusal 1), before))
+          → _≡_ {A = Option Reply × SessionState} (some (refusal 1), before) (cond b (some done, openedState before working) (some (refusal 1), before))
       go true q = absurd (n q)
       go false q = refl
 
   pub open-done : outcome ≡ 0 → (p : Pool) (b : PacingBook) → p ≡ openedPool working → b ≡ openedBook
-      → SaysOnly Done (stateOf (record { opened = 1; taken = s .taken; pool = p; book = b; shape = s .shape }) textures retiring doomed spares newest stamps) (opens before working)
-  unfolding SaysOnly opens InBuffers replyOf
-  open-done z p b ep eb copies views = (tt, ap (λ (x : State). (some done, x)) same ∙ go (sizesFit (before .lent)) outcome-here)
+      → SaysOnly Done (stateOf (record { sessionOpened = 1; taken = s .taken; pool = p; book = b; shape = s .shape }) textures retiring doomed spares newest stamps) (opens before working)
+  unfolding SaysOnly opens InBuffers replyTold
+  open-done z p b ep eb copies views = (tt, ap (λ (x : SessionState). (some done, x)) same ∙ go (sizesFit (before .lent)) outcome-here)
     where
-      same : stateOf (record { opened = 1; taken = s .taken; pool = p; book = b; shape = s .shape }) textures retiring doomed spares newest stamps ≡ openedState before working
+      same : stateOf (record { sessionOpened = 1; taken = s .taken; pool = p; book = b; shape = s .shape }) textures retiring doomed spares newest stamps ≡ openedState before working
       same = λ i. record {
-        opened = true;
+        sessionOpened = true;
         taken = eqb (s .taken) 1;
         shape = s .shape;
         lent = lent (ep i) (eb i) textures retiring doomed spares newest stamps;
       }
 
       go : (b : Bool) → outcome ≡ cond b 0 1
-          → _≡_ {A = Option Reply × State} (some done, openedState before working) (cond b (some done, openedState before working) (some (refusal 1), before))
+          → _≡_ {A = Option Reply × SessionState} (some done, openedState before working) (cond b (some done, openedState before working) (some (refusal 1), before))
       go true q = refl
       go false q = absurd (let y : ⊥ = omega (arith, z, q) in y)
 
@@ -77,21 +77,21 @@ module _ (s : Session) (textures retiring doomed spares newest stamps : List ℕ
 abbrev notOpen : List ℕ
 notOpen = 1 ∷ 2 ∷ 3 ∷ 4 ∷ 5 ∷ 6 ∷ 7 ∷ 8 ∷ 9 ∷ 10 ∷ 11 ∷ 12 ∷ 13 ∷ []
 
-module _ (s : State) (e : s .opened ≡ false) where
-  pub open-alone : (a : Answer) (exit : State) (f : Event) (working : ℕ) → f ≡ Event.Open working → SaysOnly a exit (opens s working) → AnsweredAlone a exit s f
-  unfolding AnsweredAlone step
+module _ (s : SessionState) (e : s .opened ≡ false) where
+  pub open-alone : (a : Answer) (exit : SessionState) (f : Event) (working : ℕ) → f ≡ Event.Open working → SaysOnly a exit (opens s working) → AnsweredAlone a exit s f
+  unfolding AnsweredAlone lineStep
   open-alone a exit f working q m copies views =
       rw q (subst (SaysOnly a exit) (sym (ap (λ (b : Bool). cond b (notCalled s) (opens s working)) e)) m)
 
   none-answered : SaysOnly Question s (notCalled s)
-  unfolding SaysOnly InBuffers replyOf
+  unfolding SaysOnly InBuffers replyTold
   none-answered copies views = (tt, refl)
 
-  not-called : (r : Option Reply × State) → SaysOnly Question s (ifOpened s r)
+  not-called : (r : Option Reply × SessionState) → SaysOnly Question s (ifOpened s r)
   not-called r = subst (SaysOnly Question s) (sym (ap (λ (b : Bool). cond b r (notCalled s)) e)) none-answered
 
   pub none-alone : (f : Event) → OneOf notOpen (tagOf the-type f) → AnsweredAlone Question s s f
-  unfolding AnsweredAlone step
+  unfolding AnsweredAlone lineStep
   none-alone (Event.Open working) k copies views = absurd (miss notOpen 0 tt k)
   none-alone (Event.Take id shape records seq) k copies views = not-called _
   none-alone (Event.Plan id held slice level cover) k copies views = not-called _
@@ -109,25 +109,25 @@ module _ (s : State) (e : s .opened ≡ false) where
 
 -- ---- the answer of a line
 
-module _ (a : Answer) (exit s : State) (e : Event) (copies views : ℕ) (copiesExit viewsExit : List ℕ) where
+module _ (a : Answer) (exit s : SessionState) (e : Event) (copies views : ℕ) (copiesExit viewsExit : List ℕ) where
   abbrev Answers : Type 0
-  Answers = InBuffers a copiesExit viewsExit × ((replyOf a copiesExit viewsExit, exit) ≡ step copies views s e)
+  Answers = InBuffers a copiesExit viewsExit × ((replyTold a copiesExit viewsExit, exit) ≡ lineStep copies views s e)
 
   pub alone-answers : AnsweredAlone a exit s e → Answers
   unfolding AnsweredAlone SaysOnly
   alone-answers m = m copies views copiesExit viewsExit
 
-  pub stepped-answers : s .opened ≡ true → (after : Lent) → Stepped copies views (opened (s .taken) (s .shape) (s .lent)) e a copiesExit viewsExit after
-      → exit ≡ opened (takenAfter true (s .taken) e) (shapeAfter (s .shape) e) after → Answers
+  pub stepped-answers : s .opened ≡ true → (after : Lent) → Stepped copies views (sessionOpened (s .taken) (s .shape) (s .lent)) e a copiesExit viewsExit after
+      → exit ≡ sessionOpened (takenAfter true (s .taken) e) (shapeAfter (s .shape) e) after → Answers
   unfolding Stepped
   stepped-answers o after m x =
       let t = s .taken in
       let h = s .shape in
       let l = s .lent in
-      let here : s ≡ opened t h l = λ i. record { opened = o i; taken = t; shape = h; lent = l } in (
+      let here : s ≡ sessionOpened t h l = λ i. record { sessionOpened = o i; taken = t; shape = h; lent = l } in (
         m .0,
-        ap₂ (λ (r : Option Reply) (y : State). (r, y)) (m .1) (x ∙ ap (opened (takenAfter true t e) (shapeAfter h e)) (m .2) ∙ sym (step-notes copies views t h l e))
-            ∙ sym (ap (λ (y : State). step copies views y e) here),
+        ap₂ (λ (r : Option Reply) (y : SessionState). (r, y)) (m .1) (x ∙ ap (sessionOpened (takenAfter true t e) (shapeAfter h e)) (m .2) ∙ sym (step-notes copies views t h l e))
+            ∙ sym (ap (λ (y : SessionState). lineStep copies views y e) here),
       )
 
 -- the session after the event, in the state that it stands for
@@ -149,8 +149,8 @@ taken-noted taken Event.Unread = refl
 
 pub session-state : (r : Session) (taken : ℕ) (shape : VersionShape) (p : Pool) (b : PacingBook) (e : Event) (textures retiring doomed spares newest stamps : List ℕ)
     → r ≡ sessionAfter taken shape p b e
-    → stateOf r textures retiring doomed spares newest stamps ≡ opened (takenAfter true (eqb taken 1) e) (shapeAfter shape e) (lent p b textures retiring doomed spares newest stamps)
+    → stateOf r textures retiring doomed spares newest stamps ≡ sessionOpened (takenAfter true (eqb taken 1) e) (shapeAfter shape e) (lent p b textures retiring doomed spares newest stamps)
 unfolding sessionAfter
 session-state r taken shape p b e textures retiring doomed spares newest stamps q =
     ap (λ (x : Session). stateOf x textures retiring doomed spares newest stamps) q
-    ∙ ap (λ (t : Bool). opened t (shapeAfter shape e) (lent p b textures retiring doomed spares newest stamps)) (taken-noted taken e)
+    ∙ ap (λ (t : Bool). sessionOpened t (shapeAfter shape e) (lent p b textures retiring doomed spares newest stamps)) (taken-noted taken e)

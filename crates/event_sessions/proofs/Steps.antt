@@ -1,4 +1,4 @@
--- What an event's call says and leaves is what its step has. Assumes nothing.
+-- What an event's call says and leaves is what its lineStep has. Assumes nothing.
 use Prim.Native.Nat.{ℕ}
 use mathlib.Core.Path.{_≡_, refl}
 use mathlib.Core.Bool.{Bool, true, false}
@@ -14,14 +14,14 @@ use Rattle.pool_memory.specs.Lent.{Lent}
 use Rattle.pool_books.specs.LentLists.{LentCall, lentCall, lentTake, lentPlan, lentRetire, lentWrite, lentRegen, lentPop, lentPark, lentNote, lentDoomed, lentDrain, lentTrim, lentForget}
 use Rattle.event_lines.specs.declared.event.Event.{Event}
 use Rattle.event_lines.proofs.event.Event.{the-type}
-use Rattle.event_answers.specs.Answers.{replyOf, InBuffers}
+use Rattle.event_answers.specs.Answers.{replyTold, InBuffers}
 use Rattle.event_answers.specs.declared.answer.Answer.{Answer}
 use Rattle.event_answers.specs.declared.answer.Answer.the-variants.{Question}
 use Rattle.event_calls.specs.Calls.{Made, MadeCopies, MadeViews}
-use Rattle.event_sessions.specs.Sessions.{State, step}
-use Rattle.event_sessions.specs.Parts.{opened, Stepped, takenAfter, shapeAfter}
+use Rattle.event_sessions.specs.Sessions.{SessionState, lineStep}
+use Rattle.event_sessions.specs.Parts.{sessionOpened, Stepped, takenAfter, shapeAfter}
 
--- ---- the step of an opened session
+-- ---- the lineStep of an sessionOpened session
 
 module _ (copies views : ℕ) (taken : Bool) (shape : VersionShape) (l : Lent) (a : Answer) (copiesExit viewsExit : List ℕ) (exit : Lent) where
   -- an event's call was made, with buffers of so many numbers; a second `open` and an unread line have none
@@ -44,15 +44,15 @@ module _ (copies views : ℕ) (taken : Bool) (shape : VersionShape) (l : Lent) (
   CallMade Event.Unread = ⊥
 
   abbrev SteppedHere : Event → Type 0
-  SteppedHere e = Stepped copies views (opened taken shape l) e a copiesExit viewsExit exit
+  SteppedHere e = Stepped copies views (sessionOpened taken shape l) e a copiesExit viewsExit exit
 
   -- a call that fills no buffer
-  alone : (c : LentCall) → Made l c a exit → InBuffers a copiesExit viewsExit × (replyOf a copiesExit viewsExit ≡ some (lentCall l c .0)) × (exit ≡ lentCall l c .1)
+  alone : (c : LentCall) → Made l c a exit → InBuffers a copiesExit viewsExit × (replyTold a copiesExit viewsExit ≡ some (lentCall l c .0)) × (exit ≡ lentCall l c .1)
   unfolding Made
   alone c m = (m .0 copiesExit viewsExit .0, m .0 copiesExit viewsExit .1, m .1)
 
   made-stepped : (e : Event) → CallMade e → SteppedHere e
-  unfolding MadeCopies MadeViews Stepped step
+  unfolding MadeCopies MadeViews Stepped lineStep
   made-stepped (Event.Take id s records seq) m = alone _ m
   made-stepped (Event.Plan id held slice level cover) m = rw (m .0) (m .1 .0 viewsExit .0, m .1 .0 viewsExit .1, m .1 .1)
   made-stepped (Event.Retire id view seq) m = alone _ m
@@ -80,10 +80,10 @@ uncalled = 0 ∷ 13 ∷ []
 
 module _ (taken : Bool) (shape : VersionShape) (l : Lent) (copiesExit viewsExit : List ℕ) (copies views : ℕ) where
   abbrev NotCalled : Event → Type 0
-  NotCalled e = Stepped copies views (opened taken shape l) e Question copiesExit viewsExit l
+  NotCalled e = Stepped copies views (sessionOpened taken shape l) e Question copiesExit viewsExit l
 
   pub uncalled-stepped : (e : Event) → OneOf uncalled (tagOf the-type e) → NotCalled e
-  unfolding Stepped step InBuffers replyOf
+  unfolding Stepped lineStep InBuffers replyTold
   uncalled-stepped (Event.Open working) k = (tt, refl, refl)
   uncalled-stepped Event.Unread k = (tt, refl, refl)
   uncalled-stepped (Event.Take id s records seq) k = absurd (miss uncalled 1 tt k)
@@ -101,21 +101,21 @@ module _ (taken : Bool) (shape : VersionShape) (l : Lent) (copiesExit viewsExit 
 
   -- nor does a plan without a take line
   pub untaken-stepped : (e : Event) (id : ℕ) (held : Held) (slice level : ℕ) (cover : Bool) → e ≡ Event.Plan id held slice level cover → taken ≡ false → NotCalled e
-  unfolding Stepped step InBuffers replyOf
+  unfolding Stepped lineStep InBuffers replyTold
   untaken-stepped e id held slice level cover q t = rw (q, t) (tt, refl, refl)
 
--- what a step notes of the line
+-- what a lineStep notes of the line
 module _ (copies views : ℕ) (taken : Bool) (shape : VersionShape) (l : Lent) where
-  abbrev noted : Event → State
+  abbrev noted : Event → SessionState
   noted e = record {
-    opened = true;
+    sessionOpened = true;
     taken = takenAfter true taken e;
     shape = shapeAfter shape e;
-    lent = step copies views (opened taken shape l) e .1 .lent;
+    lent = lineStep copies views (sessionOpened taken shape l) e .1 .lent;
   }
 
-  pub step-notes : (e : Event) → step copies views (opened taken shape l) e .1 ≡ noted e
-  unfolding step
+  pub step-notes : (e : Event) → lineStep copies views (sessionOpened taken shape l) e .1 ≡ noted e
+  unfolding lineStep
   step-notes (Event.Take id s records seq) = refl
   step-notes (Event.Retire id view seq) = refl
   step-notes (Event.Write id slice level rect) = refl
@@ -131,7 +131,7 @@ module _ (copies views : ℕ) (taken : Bool) (shape : VersionShape) (l : Lent) w
   step-notes Event.Unread = refl
   step-notes (Event.Plan id held slice level cover) = go taken
     where
-      go : (t : Bool) → step copies views (opened t shape l) (Event.Plan id held slice level cover) .1
-          ≡ record { opened = true; taken = t; shape = shape; lent = step copies views (opened t shape l) (Event.Plan id held slice level cover) .1 .lent }
+      go : (t : Bool) → lineStep copies views (sessionOpened t shape l) (Event.Plan id held slice level cover) .1
+          ≡ record { sessionOpened = true; taken = t; shape = shape; lent = lineStep copies views (sessionOpened t shape l) (Event.Plan id held slice level cover) .1 .lent }
       go true = refl
       go false = refl

@@ -17,7 +17,7 @@ use Rattle.event_sessions.specs.declared.session.Session.{Session}
 
 -- ---- between two lines
 
-pub record State : Type 0 where
+pub record SessionState : Type 0 where
   -- an `open` was accepted
   pub opened : Bool
   -- a take line came after it
@@ -27,7 +27,7 @@ pub record State : Type 0 where
   -- the pool and the lent stores
   pub lent : Lent
 
-abbrev pub stateOf : Session → List ℕ → List ℕ → List ℕ → List ℕ → List ℕ → List ℕ → State
+abbrev pub stateOf : Session → List ℕ → List ℕ → List ℕ → List ℕ → List ℕ → List ℕ → SessionState
 stateOf s textures retiring doomed spares newest stamps = record {
   opened = eqb (s .opened) 1;
   taken = eqb (s .taken) 1;
@@ -36,24 +36,24 @@ stateOf s textures retiring doomed spares newest stamps = record {
 }
 
 -- once opened, the stores form a pool
-abbrev pub HoldsPool : State → Type 0
+abbrev pub HoldsPool : SessionState → Type 0
 HoldsPool s = s .opened ≡ true → isPool (s .lent) ≡ true
 
 -- ---- an event
 
 -- a call's reply, and the state with the stores as the call left them
-abbrev pub called : State → LentCall → Option Reply × State
+abbrev pub called : SessionState → LentCall → Option Reply × SessionState
 called s c =
     (some (lentCall (s .lent) c .0), record { opened = s .opened; taken = s .taken; shape = s .shape; lent = lentCall (s .lent) c .1 })
 
 -- no call is made, and the outcome is "?"
-abbrev pub notCalled : State → Option Reply × State
+abbrev pub notCalled : SessionState → Option Reply × SessionState
 notCalled s = (none, s)
 
-abbrev pub takeLine : State → VersionShape → State
+abbrev pub takeLine : SessionState → VersionShape → SessionState
 takeLine s shape = record { opened = s .opened; taken = true; shape = shape; lent = s .lent }
 
-abbrev pub openedState : State → ℕ → State
+abbrev pub openedState : SessionState → ℕ → SessionState
 openedState s working =
     let l = s .lent in
     record {
@@ -64,29 +64,29 @@ openedState s working =
     }
 
 -- lent memory that is too small or too large for a pool is refused with 1
-unfoldable pub opens : State → ℕ → Option Reply × State
+unfoldable pub opens : SessionState → ℕ → Option Reply × SessionState
 opens s working = cond (sizesFit (s .lent)) (some done, openedState s working) (some (refusal 1), s)
 
 -- a call before `open` is none
-abbrev pub ifOpened : State → Option Reply × State → Option Reply × State
+abbrev pub ifOpened : SessionState → Option Reply × SessionState → Option Reply × SessionState
 ifOpened s r = cond (s .opened) r (notCalled s)
 
 -- Answer buffers of so many numbers for copies and for views. What they hold before a call does not show in its reply (law `any-buffer`),
 -- so they are all 0 here.
-unfoldable pub step : ℕ → ℕ → State → Event → Option Reply × State
-step copies views s (Event.Open working) = cond (s .opened) (notCalled s) (opens s working)
-step copies views s (Event.Take id shape records seq) = ifOpened s (called (takeLine s shape) (lentTake id shape records seq))
-step copies views s (Event.Plan id held slice level cover) =
+unfoldable pub lineStep : ℕ → ℕ → SessionState → Event → Option Reply × SessionState
+lineStep copies views s (Event.Open working) = cond (s .opened) (notCalled s) (opens s working)
+lineStep copies views s (Event.Take id shape records seq) = ifOpened s (called (takeLine s shape) (lentTake id shape records seq))
+lineStep copies views s (Event.Plan id held slice level cover) =
     let upload : UploadFootprint = record { slice = slice; level = level; cover = cover } in
     ifOpened s (cond (s .taken) (called s (lentPlan id (s .shape) held upload (replicate copies 0))) (notCalled s))
-step copies views s (Event.Retire id view seq) = ifOpened s (called s (lentRetire id view seq))
-step copies views s (Event.Write id slice level rect) = ifOpened s (called s (lentWrite id slice level rect))
-step copies views s (Event.Regen id) = ifOpened s (called s (lentRegen id))
-step copies views s (Event.Pop settled) = ifOpened s (called s (lentPop settled))
-step copies views s (Event.Park failed now) = ifOpened s (called s (lentPark failed now))
-step copies views s (Event.Note allocated) = ifOpened s (called s (lentNote allocated))
-step copies views s Event.Doomed = ifOpened s (called s (lentDoomed (replicate views 0)))
-step copies views s Event.Drain = ifOpened s (called s (lentDrain (replicate views 0)))
-step copies views s (Event.Trim now) = ifOpened s (called s (lentTrim now))
-step copies views s (Event.Forget id) = ifOpened s (called s (lentForget id))
-step copies views s Event.Unread = notCalled s
+lineStep copies views s (Event.Retire id view seq) = ifOpened s (called s (lentRetire id view seq))
+lineStep copies views s (Event.Write id slice level rect) = ifOpened s (called s (lentWrite id slice level rect))
+lineStep copies views s (Event.Regen id) = ifOpened s (called s (lentRegen id))
+lineStep copies views s (Event.Pop settled) = ifOpened s (called s (lentPop settled))
+lineStep copies views s (Event.Park failed now) = ifOpened s (called s (lentPark failed now))
+lineStep copies views s (Event.Note allocated) = ifOpened s (called s (lentNote allocated))
+lineStep copies views s Event.Doomed = ifOpened s (called s (lentDoomed (replicate views 0)))
+lineStep copies views s Event.Drain = ifOpened s (called s (lentDrain (replicate views 0)))
+lineStep copies views s (Event.Trim now) = ifOpened s (called s (lentTrim now))
+lineStep copies views s (Event.Forget id) = ifOpened s (called s (lentForget id))
+lineStep copies views s Event.Unread = notCalled s

@@ -1,8 +1,8 @@
 // What a line's event is answered with.
 ghost use mathlib.Core.Path.{_≡_};
 ghost use lib.ListN.{length};
-ghost use Rattle.event_answers.specs.Answers.{replyOf, InBuffers};
-ghost use Rattle.event_sessions.specs.Sessions.{stateOf, HoldsPool, step};
+ghost use Rattle.event_answers.specs.Answers.{replyTold, InBuffers};
+ghost use Rattle.event_sessions.specs.Sessions.{stateOf, HoldsPool, lineStep};
 use crate::answered::Answered;
 use crate::call_event::call_event;
 use crate::opening::answer_unopened;
@@ -26,11 +26,11 @@ pub fn answer_event(
     requires { ⌜ HoldsPool (stateOf session (now textures) (now retiring) (now doomed) (now spares) (now newest) (now stamps)) ⌝ }
     ensures { λ r. ⌜ InBuffers (r .answer) (now (copies .exit)) (now (views .exit))
         × ((
-          replyOf (r .answer) (now (copies .exit)) (now (views .exit)),
+          replyTold (r .answer) (now (copies .exit)) (now (views .exit)),
           stateOf (r .session) (now (textures .exit)) (now (retiring .exit))
               (now (doomed .exit)) (now (spares .exit)) (now (newest .exit)) (now (stamps .exit)),
         )
-        ≡ step (length (now (copies .entry))) (length (now (views .entry)))
+        ≡ lineStep (length (now (copies .entry))) (length (now (views .entry)))
         (stateOf session (now (textures .entry)) (now (retiring .entry)) (now (doomed .entry)) (now (spares .entry)) (now (newest .entry))
         (now (stamps .entry))) event) ⌝ }
 {

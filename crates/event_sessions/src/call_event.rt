@@ -1,10 +1,10 @@
-// The call of an opened session's event.
+// The call of an sessionOpened session's event.
 ghost use mathlib.Core.Path.{_≡_};
 ghost use mathlib.Core.Bool.{true};
 ghost use lib.ListN.{length};
 ghost use Rattle.pool_memory.specs.Lent.{lentBy, atEntry, atExit};
 ghost use Rattle.pool_memory.specs.IsPool.{isPool};
-ghost use Rattle.event_sessions.specs.Parts.{opened, Stepped};
+ghost use Rattle.event_sessions.specs.Parts.{sessionOpened, Stepped};
 use event_answers::Answer;
 use event_calls::Called;
 use event_calls::call_doomed;
@@ -42,7 +42,7 @@ pub fn call_event(
 ) -> Called
     requires { ⌜ isPool (lentBy pool book textures retiring doomed spares newest stamps) ≡ true ⌝ }
     ensures { λ r. ⌜ Stepped (length (now (copies .entry))) (length (now (views .entry)))
-        (opened taken shape (atEntry pool book textures retiring doomed spares newest stamps)) event (r .answer) (now (copies .exit)) (now (views .exit))
+        (sessionOpened taken shape (atEntry pool book textures retiring doomed spares newest stamps)) event (r .answer) (now (copies .exit)) (now (views .exit))
         (atExit (r .pool) (r .book) textures retiring doomed spares newest stamps) ⌝ }
 {
     match event {

@@ -10,12 +10,12 @@ use lib.Dec.{eqb}
 use lib.ListN.{length, take, drop, length-append, length-drop}
 use lib.Seq.{take-take, take-all, length-take-le}
 use Rattle.event_answers.specs.Printed.{lineFeed}
-use Rattle.event_sessions.specs.Sessions.{State, HoldsPool}
+use Rattle.event_sessions.specs.Sessions.{SessionState, HoldsPool}
 use Rattle.event_sessions.specs.Parts.{freshSession}
 use Rattle.event_runs.specs.Lines.{inFirstLine, wholeLines, longestAnswer}
 use Rattle.event_runs.specs.Texts.{lastLine, allLines, afterLines}
 use Rattle.event_runs.proofs.Cuts.{Unfinished}
-use Rattle.event_feed.specs.Blocks.{Carried, first, joined, ending, fed, finished, fedAll}
+use Rattle.event_feed.specs.Blocks.{Carried, first, joinedBlocks, ending, fed, finished, fedAll}
 use Rattle.event_feed.specs.declared.feed.Feed.{Feed}
 use Rattle.event_feed.specs.Places.{part, carriedOf, waiting, waits, Placed, Ready, Turn, Filled}
 use Rattle.event_feed.proofs.Cutting.{fed-append, fed-plain, fed-holds, every-cutting}
@@ -62,12 +62,12 @@ part-length from size buf h = length-take-le size (drop from buf) (omega (arith,
 
 -- ---- what was fed so far
 
-pub record Sofar (cs vs : ℕ) (s : State) (c : Carried) (seen wait : ℕ) : Type 0 where
+pub record Sofar (cs vs : ℕ) (s : SessionState) (c : Carried) (seen wait : ℕ) : Type 0 where
   pub input : List ℕ
   pub is : c ≡ fed cs vs (first s) input
   pub bytes : length input + wait ≡ seen
 
-module _ (cs vs : ℕ) (s : State) where
+module _ (cs vs : ℕ) (s : SessionState) where
   pub sofar-first : Sofar cs vs s (first s) 0 0
   unfolding fed wholeLines lastLine afterLines
   sofar-first = record { input = []; is = refl; bytes = refl }
@@ -127,7 +127,7 @@ module _ (cs vs : ℕ) (s : State) where
 
     -- it was, and its last line was run
     pub stopped-ended : wait ≡ 0 → RunOf cs vs s (finished cs vs c .state) 1 seen (finished cs vs c .number)
-    unfolding fedAll joined
+    unfolding fedAll joinedBlocks
     stopped-ended w =
         let e = every-cutting cs vs in
         let one = append-nil (r .input) in
@@ -144,7 +144,7 @@ module _ (cs vs : ℕ) (s : State) where
         }
 
 -- nothing is said where output could not be written
-unwritten : (cs vs : ℕ) (s t : State) (why bytes lines : ℕ) → 0 < why → (why ≡ 1 → ⊥) → (why ≡ 3 → ⊥) → RunOf cs vs s t why bytes lines
+unwritten : (cs vs : ℕ) (s t : SessionState) (why bytes lines : ℕ) → 0 < why → (why ≡ 1 → ⊥) → (why ≡ 3 → ⊥) → RunOf cs vs s t why bytes lines
 unwritten cs vs s t why bytes lines a b d = record {
   input = [];
   fed-bytes = omega arith;
@@ -156,12 +156,12 @@ unwritten cs vs s t why bytes lines a b d = record {
 -- ---- the loop
 
 -- the last line was run, behind all that came
-pub record Closed (cs vs : ℕ) (s : State) (c : Carried) (seen : ℕ) : Type 0 where
+pub record Closed (cs vs : ℕ) (s : SessionState) (c : Carried) (seen : ℕ) : Type 0 where
   pub before : Carried
   pub sofar : Sofar cs vs s before seen 0
   pub is : c ≡ finished cs vs before
 
-pub record Going (cs vs : ℕ) (s : State) (c : Carried) (at : Feed) (seen why size : ℕ) : Type 0 where
+pub record Going (cs vs : ℕ) (s : SessionState) (c : Carried) (at : Feed) (seen why size : ℕ) : Type 0 where
   pub placed : Placed at size
   pub going : why ≡ 0 → Sofar cs vs s c seen (waiting at) × (seen + 131072 < 2 ^ 64)
   pub ended : why ≡ 1 → Closed cs vs s c seen
@@ -170,7 +170,7 @@ pub record Going (cs vs : ℕ) (s : State) (c : Carried) (at : Feed) (seen why s
 abbrev atFirst : Feed
 atFirst = record { session = freshSession; number = 0; from = 0; held = 0; end = 0; filled = 0 }
 
-pub going-first : (cs vs : ℕ) (s : State) (buf : List ℕ) (size : ℕ) → Going cs vs s (carriedOf atFirst s buf) atFirst 0 0 size
+pub going-first : (cs vs : ℕ) (s : SessionState) (buf : List ℕ) (size : ℕ) → Going cs vs s (carriedOf atFirst s buf) atFirst 0 0 size
 going-first cs vs s buf size = record {
   placed = record { inside = omega arith; within = omega arith; space = λ z. omega arith };
   going = λ z. (sofar-first cs vs s, omega arith);
@@ -179,7 +179,7 @@ going-first cs vs s buf size = record {
 }
 
 -- a turn: `read` is the buffer behind the read, up to `end`, and `now` the one that is fed, up to `fill`
-module _ (cs vs : ℕ) (s : State) (at : Feed) (st : State) (buf read now : List ℕ) (seen why size : ℕ) (g : Going cs vs s (carriedOf at st buf) at seen why size)
+module _ (cs vs : ℕ) (s : SessionState) (at : Feed) (st : SessionState) (buf read now : List ℕ) (seen why size : ℕ) (g : Going cs vs s (carriedOf at st buf) at seen why size)
     (read-size : length read ≡ size) (now-size : length now ≡ size) (most-size : size ≤ 65536) (on : why ≡ 0) (end fill : ℕ) (least : at .end ≤ end)
     (kept : take (at .end) read ≡ take (at .end) buf) (f : Filled (at .from) (at .held) end fill read now) where
   abbrev next : Feed
@@ -214,7 +214,7 @@ module _ (cs vs : ℕ) (s : State) (at : Feed) (st : State) (buf read now : List
         room = room;
       }
 
-  module _ (after : Feed) (ast : State) (abuf : List ℕ) (out exit : List ℕ)
+  module _ (after : Feed) (ast : SessionState) (abuf : List ℕ) (out exit : List ℕ)
       (t : Turn cs vs (carriedOf next st now) (carriedOf after ast abuf) (waits next now) (waits after abuf) (after .filled) out exit)
       (p : Placed after size) (abuf-size : length abuf ≡ size) (got : ℕ) (is-got : got ≡ end - at .end) where
     left-length : length (waits after abuf) ≡ waiting after
@@ -292,7 +292,7 @@ module _ (cs vs : ℕ) (s : State) (at : Feed) (st : State) (buf read now : List
           (λ z. came-less (let k = reason .going z .0 in omega arith) (omega arith)))
 
 -- behind the loop
-pub stopped : (cs vs : ℕ) (s : State) (c : Carried) (at : Feed) (seen why size : ℕ) → Going cs vs s c at seen why size → (why ≡ 0 → ⊥) → RunOf cs vs s (c .state) why seen (c .number)
+pub stopped : (cs vs : ℕ) (s : SessionState) (c : Carried) (at : Feed) (seen why size : ℕ) → Going cs vs s c at seen why size → (why ≡ 0 → ⊥) → RunOf cs vs s (c .state) why seen (c .number)
 stopped cs vs s c at seen zero size g n = absurd (n refl)
 stopped cs vs s c at seen (suc zero) size g n =
     let e = g .ended refl in

@@ -5,7 +5,7 @@ use mathlib.Core.Path.{_≡_}
 use mathlib.Core.Bool.{Bool, true, false}
 use mathlib.Core.List.{List}
 use lib.ListN.{length}
-use Rattle.event_sessions.specs.Sessions.{State}
+use Rattle.event_sessions.specs.Sessions.{SessionState}
 use Rattle.event_runs.specs.Lines.{wholeLines}
 use Rattle.event_runs.specs.Texts.{allLines, afterLines}
 
@@ -16,7 +16,7 @@ pub record Reason (came : ℕ) (written : Bool) (seen why : ℕ) : Type 0 where
   pub unwritten : why ≡ 2 → written ≡ false
   pub long : why ≡ 3 → (0 < came) × (2 ^ 64 ≤ seen + 131072)
 
-pub record RunOf (copies views : ℕ) (s t : State) (why bytes lines : ℕ) : Type 0 where
+pub record RunOf (copies views : ℕ) (s t : SessionState) (why bytes lines : ℕ) : Type 0 where
   -- what was fed
   pub input : List ℕ
   pub fed-bytes : length input ≤ bytes

@@ -7,7 +7,7 @@ use lib.ListN.{length}
 use Rattle.grid_shapes.specs.declared.shape.VersionShape.{VersionShape}
 use Rattle.grid_rects.specs.declared.rect.TexelRect.{TexelRect}
 use Rattle.pool_rules.specs.declared.held.Held.{Held}
-use Rattle.pool_rules.specs.Model.{Pool, UploadFootprint}
+use Rattle.pool_rules.specs.Model.{PoolModel, UploadFootprint}
 use Rattle.pool_rules.specs.TakeSpare.{takeSpare}
 use Rattle.pool_rules.specs.PreservePlan.{preservePlan}
 use Rattle.pool_rules.specs.Retire.{retire}
@@ -21,57 +21,57 @@ use Rattle.pool_rules.specs.Trim.{trim}
 use Rattle.pool_rules.specs.ForgetTexture.{forgetTexture}
 use Rattle.pool_memory.specs.Lent.{Lent}
 use Rattle.pool_memory.specs.IsPool.{isPool}
-use Rattle.pool_memory.specs.Calls.{refusal, takenOf, poppedOf, inBuffer, copyNumbers, viewNumbers, takeSpareCall, preservePlanCall, retireCall, noteWriteCall, noteMipRegenerationCall, popRetiredCall, parkCall, noteAllocatedCall, takeDoomedCall, drainVersionsCall, trimCall, forgetTextureCall}
+use Rattle.pool_memory.specs.Calls.{refusedWith, takenOf, poppedOf, inBuffer, copyNumbers, viewNumbers, takeSpareOn, preservePlanOn, retireOn, noteWriteOn, noteMipRegenerationOn, popRetiredOn, parkOn, noteAllocatedOn, takeDoomedOn, drainVersionsOn, trimOn, forgetTextureOn}
 use Rattle.pool_memory.proofs.Asked.{asked-no-pool}
 use Rattle.pool_memory.specs.MemoryConstants.{copyStride}
 
 module _ (l : Lent) (e : isPool l ≡ false) where
-  pub no-take : (id : ℕ) (shape : VersionShape) (records : Bool) (seq : ℕ) → (refusal 1, l) ≡ takeSpareCall l id shape records seq
-  unfolding takeSpareCall
-  no-take id shape records seq = sym (asked-no-pool takenOf l (λ (p : Pool ℕ). takeSpare p id shape records seq) e)
+  pub no-take : (id : ℕ) (shape : VersionShape) (records : Bool) (seq : ℕ) → (refusedWith 1, l) ≡ takeSpareOn l id shape records seq
+  unfolding takeSpareOn
+  no-take id shape records seq = sym (asked-no-pool takenOf l (λ (p : PoolModel ℕ). takeSpare p id shape records seq) e)
 
-  pub no-retire : (id view seq : ℕ) → (refusal 1, l) ≡ retireCall l id view seq
-  unfolding retireCall
-  no-retire id view seq = sym (asked-no-pool (λ a. a) l (λ (p : Pool ℕ). retire p id view seq) e)
+  pub no-retire : (id view seq : ℕ) → (refusedWith 1, l) ≡ retireOn l id view seq
+  unfolding retireOn
+  no-retire id view seq = sym (asked-no-pool (λ a. a) l (λ (p : PoolModel ℕ). retire p id view seq) e)
 
-  pub no-write : (id slice level : ℕ) (rect : TexelRect) → (refusal 1, l) ≡ noteWriteCall l id slice level rect
-  unfolding noteWriteCall
-  no-write id slice level rect = sym (asked-no-pool (λ a. a) l (λ (p : Pool ℕ). noteWrite p id slice level rect) e)
+  pub no-write : (id slice level : ℕ) (rect : TexelRect) → (refusedWith 1, l) ≡ noteWriteOn l id slice level rect
+  unfolding noteWriteOn
+  no-write id slice level rect = sym (asked-no-pool (λ a. a) l (λ (p : PoolModel ℕ). noteWrite p id slice level rect) e)
 
-  pub no-regeneration : (id : ℕ) → (refusal 1, l) ≡ noteMipRegenerationCall l id
-  unfolding noteMipRegenerationCall
-  no-regeneration id = sym (asked-no-pool (λ a. a) l (λ (p : Pool ℕ). noteMipRegeneration p id) e)
+  pub no-regeneration : (id : ℕ) → (refusedWith 1, l) ≡ noteMipRegenerationOn l id
+  unfolding noteMipRegenerationOn
+  no-regeneration id = sym (asked-no-pool (λ a. a) l (λ (p : PoolModel ℕ). noteMipRegeneration p id) e)
 
-  pub no-pop : (settled : ℕ) → (refusal 1, l) ≡ popRetiredCall l settled
-  unfolding popRetiredCall
-  no-pop settled = sym (asked-no-pool poppedOf l (λ (p : Pool ℕ). popRetired p settled) e)
+  pub no-pop : (settled : ℕ) → (refusedWith 1, l) ≡ popRetiredOn l settled
+  unfolding popRetiredOn
+  no-pop settled = sym (asked-no-pool poppedOf l (λ (p : PoolModel ℕ). popRetired p settled) e)
 
-  pub no-park : (failed now : ℕ) → (refusal 1, l) ≡ parkCall l failed now
-  unfolding parkCall
-  no-park failed now = sym (asked-no-pool (λ a. a) l (λ (p : Pool ℕ). park p failed now) e)
+  pub no-park : (failed now : ℕ) → (refusedWith 1, l) ≡ parkOn l failed now
+  unfolding parkOn
+  no-park failed now = sym (asked-no-pool (λ a. a) l (λ (p : PoolModel ℕ). park p failed now) e)
 
-  pub no-note : (allocated : ℕ) → (refusal 1, l) ≡ noteAllocatedCall l allocated
-  unfolding noteAllocatedCall
-  no-note allocated = sym (asked-no-pool (λ a. a) l (λ (p : Pool ℕ). noteAllocated p allocated) e)
+  pub no-note : (allocated : ℕ) → (refusedWith 1, l) ≡ noteAllocatedOn l allocated
+  unfolding noteAllocatedOn
+  no-note allocated = sym (asked-no-pool (λ a. a) l (λ (p : PoolModel ℕ). noteAllocated p allocated) e)
 
-  pub no-trim : (now : ℕ) → (refusal 1, l) ≡ trimCall l now
-  unfolding trimCall
-  no-trim now = sym (asked-no-pool (λ a. a) l (λ (p : Pool ℕ). trim p now) e)
+  pub no-trim : (now : ℕ) → (refusedWith 1, l) ≡ trimOn l now
+  unfolding trimOn
+  no-trim now = sym (asked-no-pool (λ a. a) l (λ (p : PoolModel ℕ). trim p now) e)
 
-  pub no-forget : (id : ℕ) → (refusal 1, l) ≡ forgetTextureCall l id
-  unfolding forgetTextureCall
-  no-forget id = sym (asked-no-pool (λ a. a) l (λ (p : Pool ℕ). forgetTexture p id) e)
+  pub no-forget : (id : ℕ) → (refusedWith 1, l) ≡ forgetTextureOn l id
+  unfolding forgetTextureOn
+  no-forget id = sym (asked-no-pool (λ a. a) l (λ (p : PoolModel ℕ). forgetTexture p id) e)
 
   module _ (buffer : List ℕ) where
-    pub no-plan : (id : ℕ) (shape : VersionShape) (held : Held) (u : UploadFootprint) → (refusal 1, (buffer, l)) ≡ preservePlanCall l buffer id shape held u
-    unfolding preservePlanCall
+    pub no-plan : (id : ℕ) (shape : VersionShape) (held : Held) (u : UploadFootprint) → (refusedWith 1, (buffer, l)) ≡ preservePlanOn l buffer id shape held u
+    unfolding preservePlanOn
     no-plan id shape held u =
-        sym (ap (inBuffer copyNumbers buffer) (asked-no-pool (λ a. a) l (λ (p : Pool ℕ). preservePlan p id shape held u (length buffer / copyStride)) e))
+        sym (ap (inBuffer copyNumbers buffer) (asked-no-pool (λ a. a) l (λ (p : PoolModel ℕ). preservePlan p id shape held u (length buffer / copyStride)) e))
 
-    pub no-doomed : (refusal 1, (buffer, l)) ≡ takeDoomedCall l buffer
-    unfolding takeDoomedCall
-    no-doomed = sym (ap (inBuffer viewNumbers buffer) (asked-no-pool (λ a. a) l (λ (p : Pool ℕ). takeDoomed p (length buffer)) e))
+    pub no-doomed : (refusedWith 1, (buffer, l)) ≡ takeDoomedOn l buffer
+    unfolding takeDoomedOn
+    no-doomed = sym (ap (inBuffer viewNumbers buffer) (asked-no-pool (λ a. a) l (λ (p : PoolModel ℕ). takeDoomed p (length buffer)) e))
 
-    pub no-drain : (refusal 1, (buffer, l)) ≡ drainVersionsCall l buffer
-    unfolding drainVersionsCall
-    no-drain = sym (ap (inBuffer viewNumbers buffer) (asked-no-pool (λ a. a) l (λ (p : Pool ℕ). drainVersions p (length buffer)) e))
+    pub no-drain : (refusedWith 1, (buffer, l)) ≡ drainVersionsOn l buffer
+    unfolding drainVersionsOn
+    no-drain = sym (ap (inBuffer viewNumbers buffer) (asked-no-pool (λ a. a) l (λ (p : PoolModel ℕ). drainVersions p (length buffer)) e))

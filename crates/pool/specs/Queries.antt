@@ -8,7 +8,7 @@ use Rattle.pool_rules.specs.NoteWrite.{recordsWrites, IsDirtyTileOf}
 use Rattle.pool_memory.specs.Lent.{Lent}
 use Rattle.pool_memory.specs.Reading.{modelOf}
 use Rattle.pool_memory.specs.IsPool.{isPool}
-use Rattle.pool_memory.specs.Calls.{Told, refusal, answer}
+use Rattle.pool_memory.specs.Calls.{Told, refusedWith, answer}
 use Rattle.pool.specs.declared.calls.records_writes.RecordsAnswer.{RecordsAnswer}
 use Rattle.pool.specs.declared.calls.records_writes.RecordsAnswer.the-variants.{Records, NoPool as NoPoolRecords}
 use Rattle.pool.specs.declared.calls.parked_bytes.BytesAnswer.{BytesAnswer}
@@ -20,35 +20,35 @@ use Rattle.pool.specs.declared.calls.dirty_tile.DirtyAnswer.the-variants
 
 abbrev pub recordsTold : RecordsAnswer → Told Bool
 recordsTold (Records b) = answer b
-recordsTold NoPoolRecords = refusal 1
+recordsTold NoPoolRecords = refusedWith 1
 
 abbrev pub bytesTold : BytesAnswer → Told ℕ
 bytesTold (Bytes n) = answer n
-bytesTold NoPoolBytes = refusal 1
+bytesTold NoPoolBytes = refusedWith 1
 
 abbrev pub tileTold : DirtyAnswer → Told DirtyTile
 tileTold (Tile column row) = answer (At column row)
 tileTold Clean = answer NoTile
-tileTold NoPoolTile = refusal 1
+tileTold NoPoolTile = refusedWith 1
 
 -- ---- the queries
 
 -- whether the texture keeps a history
-unfoldable pub recordsWritesCall : Lent → ℕ → Told Bool
-recordsWritesCall l id = cond (isPool l) (answer (recordsWrites (modelOf l) id)) (refusal 1)
+unfoldable pub recordsWritesOn : Lent → ℕ → Told Bool
+recordsWritesOn l id = cond (isPool l) (answer (recordsWrites (modelOf l) id)) (refusedWith 1)
 
 -- bytes of the spares
-unfoldable pub parkedBytesCall : Lent → Told ℕ
-parkedBytesCall l = cond (isPool l) (answer (modelOf l .parked)) (refusal 1)
+unfoldable pub parkedBytesOn : Lent → Told ℕ
+parkedBytesOn l = cond (isPool l) (answer (modelOf l .parked)) (refusedWith 1)
 
 -- bytes of the destroy queue
-unfoldable pub pendingDestroyBytesCall : Lent → Told ℕ
-pendingDestroyBytesCall l = cond (isPool l) (answer (modelOf l .dooming)) (refusal 1)
+unfoldable pub pendingDestroyBytesOn : Lent → Told ℕ
+pendingDestroyBytesOn l = cond (isPool l) (answer (modelOf l .dooming)) (refusedWith 1)
 
 -- the one answer that 01 leaves open: some tile stamped above `held`, none only where none is
 abbrev pub IsTile : Lent → ℕ → ℕ → ℕ → ℕ → Told DirtyTile → Type 0
-IsTile l id slice level held (refusal n) = ⊥
+IsTile l id slice level held (refusedWith n) = ⊥
 IsTile l id slice level held (answer t) = IsDirtyTileOf (modelOf l) id slice level held t
 
-unfoldable pub DirtyTileCall : Lent → ℕ → ℕ → ℕ → ℕ → Told DirtyTile → Type 0
-DirtyTileCall l id slice level held r = cond (isPool l) (IsTile l id slice level held r) (r ≡ refusal 1)
+unfoldable pub DirtyTileOn : Lent → ℕ → ℕ → ℕ → ℕ → Told DirtyTile → Type 0
+DirtyTileOn l id slice level held r = cond (isPool l) (IsTile l id slice level held r) (r ≡ refusedWith 1)

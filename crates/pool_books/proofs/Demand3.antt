@@ -9,7 +9,7 @@ use Rattle.base_blocks.specs.All.{nil}
 use Rattle.base_blocks.proofs.Lists.{either}
 use Rattle.grid_shapes.specs.declared.shape.VersionShape.{VersionShape}
 use Rattle.pool_rules.specs.declared.held.Held.{Held}
-use Rattle.pool_rules.specs.Model.{Spare, Retiring, Places, Pool, Out, refused, accepted, PreserveCopy, UploadFootprint}
+use Rattle.pool_rules.specs.Model.{Spare, Retiring, Places, PoolModel, Out, refused, accepted, PreserveCopy, UploadFootprint}
 use Rattle.pool_rules.specs.Formed.{end}
 use Rattle.pool_rules.specs.Updates.{withRetiring}
 use Rattle.pool_rules.specs.TakeSpare.{takeSpare}
@@ -106,7 +106,7 @@ start-inv places working = record { ids = end; states = nil; waits = nil; agrees
 
 -- ---- the pool of plain view numbers and the version book's copy answer alike
 
-same-answer : {A B : Type 0} (g : A → B) (fr : A → Reply) (fr′ : B → Reply) (carry : ℕ → ℕ → Retired) → ((a : A) → fr′ (g a) ≡ fr a) → (p0 p1 : Pool Retired)
+same-answer : {A B : Type 0} (g : A → B) (fr : A → Reply) (fr′ : B → Reply) (carry : ℕ → ℕ → Retired) → ((a : A) → fr′ (g a) ≡ fr a) → (p0 p1 : PoolModel Retired)
     {o : Out Retired A} {o′ : Out ℕ B} → Carried viewOf g o o′
     → answered (λ (n : ℕ). n) (λ (id n : ℕ). n) fr′ (mapPool viewOf p0) o′ ≡ (answered viewOf carry fr p1 o .0, mapPool viewOf (answered viewOf carry fr p0 o .1))
 same-answer g fr fr′ carry e p0 p1 alike-no = refl
@@ -159,8 +159,8 @@ module _ (s : State) where
       ap (λ (n : ℕ). some (record { id = v .id; view = n; seq = v .seq; epoch = v .epoch; birth = v .birth; held = v .held; bytes = v .bytes }))
       (either (λ (r : Retired). r .view ≡ v .view .view) (not (eqb failed 0) && leb (v .view .before) failed) _ _ (λ e. refl) (λ e. refl))
 
-  then : {x : Reply × Pool ℕ} {r : Reply} {p q : Pool Retired} → x ≡ (r, mapPool viewOf p) → p ≡ q → x ≡ (r, mapPool viewOf q)
-  then {r = r} a b = a ∙ ap (λ (z : Pool Retired). (r, mapPool viewOf z)) b
+  then : {x : Reply × PoolModel ℕ} {r : Reply} {p q : PoolModel Retired} → x ≡ (r, mapPool viewOf p) → p ≡ q → x ≡ (r, mapPool viewOf q)
+  then {r = r} a b = a ∙ ap (λ (z : PoolModel Retired). (r, mapPool viewOf z)) b
 
   mirror-between : (c : Between) → Mirrors (between c)
   unfolding step perform performBetween stepBetween
@@ -177,7 +177,7 @@ module _ (s : State) where
       let e : mapPool viewOf p1 ≡ mapPool viewOf (s .pool) =
       λ i. withRetiring (map (mapRetiring viewOf) (s .pool .retiring)) (lost-same failed (s .pool .hand) i) (mapPool viewOf (s .pool)) in
       then
-      (ap (λ (z : Pool ℕ). answered (λ (n : ℕ). n) (λ (id n : ℕ). n) {A = Unit {0}} (λ a. done) (mapPool viewOf (s .pool)) (park z failed now)) (sym e)
+      (ap (λ (z : PoolModel ℕ). answered (λ (n : ℕ). n) (λ (id n : ℕ). n) {A = Unit {0}} (λ a. done) (mapPool viewOf (s .pool)) (park z failed now)) (sym e)
       ∙ same-answer _ _ _ (carriedBy (s .books)) (λ a. refl) (s .pool) p1 (park-map viewOf p1 failed now))
       (just-same {A = Unit {0}} (λ a. done) (park p1 failed now))
   mirror-between (noteCall allocated) =
@@ -210,19 +210,19 @@ module _ (s : State) where
 
 -- ---- along the list
 
-throughout : (s : State) (p : Pool ℕ) (cs : List Call) → p ≡ mapPool viewOf (s .pool) → InvOf s → Renames s cs → Throughout s p cs
+throughout : (s : State) (p : PoolModel ℕ) (cs : List Call) → p ≡ mapPool viewOf (s .pool) → InvOf s → Renames s cs → Throughout s p cs
 unfolding Renames
 throughout s p [] e i k = record { agrees = i .agrees; same = e }
 throughout s p (c ∷ cs) e i k =
-    let m : call p c ≡ (replied s c, mapPool viewOf (step s c .pool)) = ap (λ (z : Pool ℕ). call z c) e ∙ mirror s c in
-    (record { agrees = i .agrees; same = e }, ap (λ (z : Reply × Pool ℕ). z .0) m, throughout (step s c) (call p c .1) cs (ap (λ (z : Reply × Pool ℕ). z .1) m) (keeps s c i (k .0)) (k .1))
+    let m : call p c ≡ (replied s c, mapPool viewOf (step s c .pool)) = ap (λ (z : PoolModel ℕ). call z c) e ∙ mirror s c in
+    (record { agrees = i .agrees; same = e }, ap (λ (z : Reply × PoolModel ℕ). z .0) m, throughout (step s c) (call p c .1) cs (ap (λ (z : Reply × PoolModel ℕ). z .1) m) (keeps s c i (k .0)) (k .1))
 
 pub demand3 : Demand3
 unfolding Demand3 start
 demand3 places working cs k = throughout (start places working) (opened places working) cs refl (start-inv places working) k
 
 -- so after any list the books of every id agree
-agree-run : (s : State) (p : Pool ℕ) (cs : List Call) → Throughout s p cs → (id : ℕ) → Agrees (run s cs .books id)
+agree-run : (s : State) (p : PoolModel ℕ) (cs : List Call) → Throughout s p cs → (id : ℕ) → Agrees (run s cs .books id)
 unfolding run
 agree-run s p [] t id = t .agrees id
 agree-run s p (c ∷ cs) t id = agree-run (step s c) (call p c .1) cs (t .2) id

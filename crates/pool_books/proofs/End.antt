@@ -4,7 +4,7 @@ use Prim.Native.Nat.{ℕ}
 use mathlib.Core.Path.{_≡_, _∙_}
 use mathlib.Core.Bool.{true}
 use mathlib.Core.List.{List, [], _∷_, map}
-use Rattle.pool_rules.specs.Model.{Pool, Places, Out, refused, accepted}
+use Rattle.pool_rules.specs.Model.{PoolModel, Places, Out, refused, accepted}
 use Rattle.pool_rules.specs.Formed.{Formed}
 use Rattle.pool_rules.specs.Closed.{OutFormed, formed}
 use Rattle.pool_rules.specs.Open.{arePlaces, opened}
@@ -15,11 +15,11 @@ use Rattle.pool_books.proofs.Demand3.{demand3}
 
 -- ---- a call, refused or not, leaves a formed pool
 
-answer-formed : {A : Type 0} (f : A → Reply) (p : Pool ℕ) → Formed p → (o : Out ℕ A) → OutFormed o → Formed (answered (λ (n : ℕ). n) (λ (id n : ℕ). n) f p o .1)
+answer-formed : {A : Type 0} (f : A → Reply) (p : PoolModel ℕ) → Formed p → (o : Out ℕ A) → OutFormed o → Formed (answered (λ (n : ℕ). n) (λ (id n : ℕ). n) f p o .1)
 answer-formed f p k (refused n) o = k
 answer-formed f p k (accepted a q) (formed o) = o
 
-between-formed : (p : Pool ℕ) → Formed p → (c : Between) → Formed (performBetween (λ (n : ℕ). n) (λ (id n : ℕ). n) p c .1)
+between-formed : (p : PoolModel ℕ) → Formed p → (c : Between) → Formed (performBetween (λ (n : ℕ). n) (λ (id n : ℕ). n) p c .1)
 unfolding performBetween
 between-formed p k (writeCall id slice level r) = answer-formed _ p k _ (closed p k .note-write id slice level r)
 between-formed p k (regenCall id) = answer-formed _ p k _ (closed p k .note-mip-regeneration id)
@@ -31,7 +31,7 @@ between-formed p k (drainCall buffer) = answer-formed _ p k _ (closed p k .drain
 between-formed p k (trimCall now) = answer-formed _ p k _ (closed p k .trims now)
 between-formed p k (forgetCall id) = answer-formed _ p k _ (closed p k .forget-texture id)
 
-pub call-formed : (p : Pool ℕ) → Formed p → (c : Call) → Formed (call p c .1)
+pub call-formed : (p : PoolModel ℕ) → Formed p → (c : Call) → Formed (call p c .1)
 unfolding perform
 call-formed p k (takeCall id sh records seq) = answer-formed _ p k _ (closed p k .take-spare id sh records seq)
 call-formed p k (planCall id sh held u buffer) = answer-formed _ p k _ (closed p k .preserve-plan id sh held u buffer)
@@ -40,10 +40,10 @@ call-formed p k (between c) = between-formed p k c
 
 -- ---- demand 3 of what represents the pool
 
-module _ {S C : Type 0} (standsFor : C → Call) (calls : S → C → Reply × S) (Represents : S → Pool ℕ → Type 0)
-    (simulates : (σ : S) (p : Pool ℕ) (c : C) → Formed p → Represents σ p
+module _ {S C : Type 0} (standsFor : C → Call) (calls : S → C → Reply × S) (Represents : S → PoolModel ℕ → Type 0)
+    (simulates : (σ : S) (p : PoolModel ℕ) (c : C) → Formed p → Represents σ p
     → (calls σ c .0 ≡ call p (standsFor c) .0) × Represents (calls σ c .1) (call p (standsFor c) .1)) where
-  along : (s : State) (p : Pool ℕ) (σ : S) (cs : List C) → Formed p → Represents σ p → Throughout s p (map standsFor cs)
+  along : (s : State) (p : PoolModel ℕ) (σ : S) (cs : List C) → Formed p → Represents σ p → Throughout s p (map standsFor cs)
       → ThroughoutOf standsFor calls s σ cs
   along s p σ [] k r t = t .agrees
   along s p σ (c ∷ cs) k r t = (

@@ -13,7 +13,7 @@ use Rattle.base_blocks.proofs.All.{all-mono, all-map, all-left, all-right, all-
 use Rattle.grid_shapes.specs.declared.shape.VersionShape.{VersionShape}
 use Rattle.pool_rules.specs.declared.held.Held.{Held}
 use Rattle.pool_rules.specs.declared.held.Held.the-variants.{Known}
-use Rattle.pool_rules.specs.Model.{WriteHistory, Spare, Retiring, VersionState, Pool, Out, refused, accepted, guard}
+use Rattle.pool_rules.specs.Model.{WriteHistory, Spare, Retiring, VersionState, PoolModel, Out, refused, accepted, guard}
 use Rattle.pool_rules.specs.Formed.{Given, Ascending}
 use Rattle.pool_rules.specs.Updates.{withSpares, withDue, withTextures, withRetiring}
 use Rattle.pool_rules.specs.PopRetired.{popRetired, popFront, isHeld}
@@ -38,7 +38,7 @@ handed none = []
 handed (some v) = v ∷ []
 
 -- the retired versions that wait: in the queue or in the hand
-abbrev pub waiting : Pool Retired → List (Retiring Retired)
+abbrev pub waiting : PoolModel Retired → List (Retiring Retired)
 waiting p = p .retiring ++ handed (p .hand)
 
 abbrev pub GoodSpare : VersionShape → WriteHistory → Book → Spare Retired → Type 0
@@ -80,7 +80,7 @@ PhaseOk books ts idle = Unit {0}
 PhaseOk books ts (taken id shape held new) = Exists (TakenOk id held new ts shape) (books id)
 PhaseOk books ts (planned id skip new) = Exists (PlannedOk skip new) (books id)
 
-pub record Inv (p : Pool Retired) (books : Books) (ph : Phase) : Type 0 where
+pub record Inv (p : PoolModel Retired) (books : Books) (ph : Phase) : Type 0 where
   pub ids : Ascending 0 (p .textures)
   pub states : All (λ (t : VersionState Retired). StateOk (books (t .id)) (p .trackings) (waiting p) t) (p .textures)
   pub waits : All (WaitOk (p .trackings)) (waiting p)
@@ -93,17 +93,17 @@ InvOf s = Inv (s .pool) (s .books) (s .phase)
 -- ---- outcomes
 
 -- what is true of an accepted call
-pub data OutOk {W A : Type 0} (P : A → Pool W → Type 0) : Out W A → Type 0 where
+pub data OutOk {W A : Type 0} (P : A → PoolModel W → Type 0) : Out W A → Type 0 where
   nay : {n : ℕ} → OutOk P (refused n)
-  ok : {a : A} {p : Pool W} → P a p → OutOk P (accepted a p)
+  ok : {a : A} {p : PoolModel W} → P a p → OutOk P (accepted a p)
 
-pub guarded : {W A : Type 0} {P : A → Pool W → Type 0} (b : Bool) (n : ℕ) {o : Out W A} → OutOk P o → OutOk P (guard b n o)
+pub guarded : {W A : Type 0} {P : A → PoolModel W → Type 0} (b : Bool) (n : ℕ) {o : Out W A} → OutOk P o → OutOk P (guard b n o)
 unfolding guard
 guarded true n k = nay
 guarded false n k = k
 
 -- with the test's failure in hand
-pub guarded-by : {W A : Type 0} {P : A → Pool W → Type 0} (b : Bool) (n : ℕ) {o : Out W A} → (b ≡ false → OutOk P o) → OutOk P (guard b n o)
+pub guarded-by : {W A : Type 0} {P : A → PoolModel W → Type 0} (b : Bool) (n : ℕ) {o : Out W A} → (b ≡ false → OutOk P o) → OutOk P (guard b n o)
 unfolding guard
 guarded-by true n k = nay
 guarded-by false n k = k refl
@@ -143,13 +143,13 @@ fewer-waiting o n rest rest′ t f (e, x) = (
   }) x,
 )
 
-module _ (p : Pool Retired) (books : Books) (i : Inv p books idle) where
+module _ (p : PoolModel Retired) (books : Books) (i : Inv p books idle) where
   -- calls that alter no texture, no queue and no hand
-  pub same-parts : (q : Pool Retired) → q .textures ≡ p .textures → q .retiring ≡ p .retiring → q .hand ≡ p .hand → q .trackings ≡ p .trackings → Inv q books idle
+  pub same-parts : (q : PoolModel Retired) → q .textures ≡ p .textures → q .retiring ≡ p .retiring → q .hand ≡ p .hand → q .trackings ≡ p .trackings → Inv q books idle
   same-parts q a b c d = record { ids = rw a (i .ids); states = rw (a, b, c, d) (i .states); waits = rw (b, c, d) (i .waits); agrees = i .agrees; phase = tt }
 
   -- calls that take spares away
-  pub fewer : (f : VersionState Retired → VersionState Retired) (q : Pool Retired) → q .textures ≡ map f (p .textures) → waiting q ≡ waiting p
+  pub fewer : (f : VersionState Retired → VersionState Retired) (q : PoolModel Retired) → q .textures ≡ map f (p .textures) → waiting q ≡ waiting p
       → q .trackings ≡ p .trackings → ((t : VersionState Retired) → f t .id ≡ t .id)
       → ((o : Option Book) (n : ℕ) (rest : List (Retiring Retired)) (t : VersionState Retired) → StateOk o n rest t → StateOk o n rest (f t)) → Inv q books idle
   fewer f q a b c e k = record {
@@ -163,7 +163,7 @@ module _ (p : Pool Retired) (books : Books) (i : Inv p books idle) where
   }
 
   -- calls that drop textures
-  pub kept : (f : VersionState Retired → Bool) (q : Pool Retired) → q .textures ≡ keep f (p .textures) → waiting q ≡ waiting p → q .trackings ≡ p .trackings
+  pub kept : (f : VersionState Retired → Bool) (q : PoolModel Retired) → q .textures ≡ keep f (p .textures) → waiting q ≡ waiting p → q .trackings ≡ p .trackings
       → Inv q books idle
   kept f q a b c = record {
     ids = rw a (ascending-keep f (i .ids));
@@ -174,7 +174,7 @@ module _ (p : Pool Retired) (books : Books) (i : Inv p books idle) where
   }
 
 -- fewer versions that wait
-pub less : (p q : Pool Retired) (books : Books) → Inv p books idle → q .textures ≡ p .textures → Fewer (waiting q) (waiting p) → q .trackings ≡ p .trackings
+pub less : (p q : PoolModel Retired) (books : Books) → Inv p books idle → q .textures ≡ p .textures → Fewer (waiting q) (waiting p) → q .trackings ≡ p .trackings
     → Inv q books idle
 less p q books i a f c = record {
   ids = rw a (i .ids);
@@ -192,7 +192,7 @@ look-id n t = either (λ (u : VersionState Retired). u .id ≡ t .id) (aged n (t
 look-state : (n : ℕ) (o : Option Book) (m : ℕ) (rest : List (Retiring Retired)) (t : VersionState Retired) → StateOk o m rest t → StateOk o m rest (lookedAt n t)
 look-state n o m rest t x = either (StateOk o m rest) (aged n (t .due)) (withDue (cond (aged n (t .rename)) n (t .rename)) t) t (λ e. x) (λ e. x)
 
-module _ (p : Pool Retired) (books : Books) (i : Inv p books idle) where
+module _ (p : PoolModel Retired) (books : Books) (i : Inv p books idle) where
   relieve-inv : (chosen : List Aged) → Inv (relieved chosen p) books idle
   relieve-inv chosen =
       fewer p books i (λ t. withSpares (drop (countOf (t .id) chosen) (t .spares)) t) (relieved chosen p) refl refl refl (λ t. refl)
@@ -234,7 +234,7 @@ module _ (p : Pool Retired) (books : Books) (i : Inv p books idle) where
       queue : p .hand ≡ none → (q : List (Retiring Retired)) → p .retiring ≡ q → Keeps books (popFront p n q)
       queue e [] f = ok i
       queue e (v ∷ vs) f =
-          either (OutOk (λ (a : Option (Retiring Retired)) (q : Pool Retired). Inv q books idle)) (leb (v .seq) n) (accepted (some v) (withRetiring vs (some v) p))
+          either (OutOk (λ (a : Option (Retiring Retired)) (q : PoolModel Retired). Inv q books idle)) (leb (v .seq) n) (accepted (some v) (withRetiring vs (some v) p))
           (accepted none p) (λ k. ok (less p (withRetiring vs (some v) p) books i refl (λ P a. turn P (rw (f, e) at a)) refl)) (λ k. ok i)
         where
           turn : (P : Retiring Retired → Type 0) → All P ((v ∷ vs) ++ []) → All P (vs ++ (v ∷ []))

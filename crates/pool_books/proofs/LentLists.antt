@@ -7,7 +7,7 @@ use mathlib.Core.List.{List, map-id}
 use lib.ListN.{length}
 use Rattle.base_blocks.specs.Lists.{over}
 use Rattle.base_tables.specs.Records.{flat}
-use Rattle.pool_rules.specs.Model.{Spare, Retiring, Pool, Out, refused, accepted}
+use Rattle.pool_rules.specs.Model.{Spare, Retiring, PoolModel, Out, refused, accepted}
 use Rattle.pool_rules.specs.Formed.{Formed}
 use Rattle.pool_rules.specs.Closed.{OutFormed, formed}
 use Rattle.pool_rules.specs.TakeSpare.{takeSpare}
@@ -25,21 +25,21 @@ use Rattle.pool_rules.proofs.Closure.{closed}
 use Rattle.pool_memory.specs.Lent.{Lent}
 use Rattle.pool_memory.specs.Reading.{modelOf}
 use Rattle.pool_memory.specs.Writing.{after}
-use Rattle.pool_memory.specs.Calls.{writtenBack, asked, inBuffer, takenOf, poppedOf, copyNumbers, viewNumbers, takeSpareCall, retireCall, noteWriteCall, noteMipRegenerationCall, popRetiredCall, parkCall, noteAllocatedCall, trimCall, forgetTextureCall, preservePlanCall, takeDoomedCall, drainVersionsCall}
+use Rattle.pool_memory.specs.Calls.{writtenBack, asked, inBuffer, takenOf, poppedOf, copyNumbers, viewNumbers, takeSpareOn, retireOn, noteWriteOn, noteMipRegenerationOn, popRetiredOn, parkOn, noteAllocatedOn, trimOn, forgetTextureOn, preservePlanOn, takeDoomedOn, drainVersionsOn}
 use Rattle.pool_memory.proofs.Fits.{Fits}
 use Rattle.pool_memory.proofs.FromPool.{pool-fits, are-places}
 use Rattle.pool_memory.proofs.FitsOpened.{opened-model, opened-fits}
 use Rattle.pool_memory.proofs.ToPool.{fits-pool}
 use Rattle.pool_memory.proofs.ReadBack.{read-back, after-fits}
 use Rattle.pool_books.specs.Demand3.{Reply, answered, perform, performBetween, call, done, copiesPlanned, viewsHanded, spareReply, poppedReply as popReply, viewsReply as handedReply}
-use Rattle.pool_books.specs.LentLists.{LentCall, lentTake, lentPlan, lentRetire, lentWrite, lentRegen, lentPop, lentPark, lentNote, lentDoomed, lentDrain, lentTrim, lentForget, roomOf, takenReply, poppedReply, copiesReply, viewsReply, said, filled, lentCall, openedLent, Demand3Lent, EveryCallKeepsPool, OpenedIsPool}
+use Rattle.pool_books.specs.LentLists.{LentCall, lentTake, lentPlan, lentRetire, lentWrite, lentRegen, lentPop, lentPark, lentNote, lentDoomed, lentDrain, lentTrim, lentForget, roomOf, takenReply, poppedVersionReply, copiesFilled, viewsFilled, said, filled, lentCall, openedLent, Demand3Lent, EveryCallKeepsPool, OpenedIsPool}
 use Rattle.pool_books.proofs.End.{demand3-of}
 use Rattle.pool_books.proofs.Places.{SamePlaces, take-spare-places, preserve-plan-places, retire-places, note-write-places, note-mip-regeneration-places, pop-retired-places, park-places, note-allocated-places, take-doomed-places, drain-versions-places, trim-places, forget-texture-places}
 use Rattle.pool_books.proofs.Answers.{copies-read, views-read}
 use Rattle.pool_memory.specs.MemoryConstants.{copyStride}
 
 -- the stores stand for the pool
-abbrev Represents : Lent → Pool ℕ → Type 0
+abbrev Represents : Lent → PoolModel ℕ → Type 0
 Represents l p = Fits l × (modelOf l ≡ p)
 
 abbrev number : ℕ → ℕ
@@ -49,18 +49,18 @@ abbrev carried : ℕ → ℕ → ℕ
 carried id n = n
 
 -- the same answer, and stores that stand for the pool that the model leaves
-abbrev Simulates : Reply × Lent → Reply × Pool ℕ → Type 0
+abbrev Simulates : Reply × Lent → Reply × PoolModel ℕ → Type 0
 Simulates x y = (x .0 ≡ y .0) × Represents (x .1) (y .1)
 
-module _ (l : Lent) (p : Pool ℕ) (represents : Represents l p) {A : Type 0} (rule : Pool ℕ → Out ℕ A) (kept : OutFormed (rule p))
+module _ (l : Lent) (p : PoolModel ℕ) (represents : Represents l p) {A : Type 0} (rule : PoolModel ℕ → Out ℕ A) (kept : OutFormed (rule p))
     (same : SamePlaces p (rule p)) where
   asked-model : {B : Type 0} (f : A → B) → asked f l rule ≡ writtenBack f l (rule p)
   unfolding asked
   asked-model f = rw (fits-pool l (represents .0), represents .1)
 
-  after-represents : (q : Pool ℕ) → Formed q → q .places ≡ p .places → Represents (after q l) q
+  after-represents : (q : PoolModel ℕ) → Formed q → q .places ≡ p .places → Represents (after q l) q
   after-represents q k e =
-      let f = e ∙ ap (λ (r : Pool ℕ). r .places) (sym (represents .1)) in
+      let f = e ∙ ap (λ (r : PoolModel ℕ). r .places) (sym (represents .1)) in
       (after-fits l q (represents .0) k f, read-back l q (represents .0) k f)
 
   -- a call that answers numbers
@@ -77,7 +77,7 @@ module _ (l : Lent) (p : Pool ℕ) (represents : Represents l p) {A : Type 0} (r
   does f = says f (λ b. done) (λ a. done) (λ a. refl)
 
 -- a call that fills a buffer
-fills : (l : Lent) (p : Pool ℕ) (represents : Represents l p) {A : Type 0} (rule : Pool ℕ → Out ℕ (List A)) → OutFormed (rule p) → SamePlaces p (rule p)
+fills : (l : Lent) (p : PoolModel ℕ) (represents : Represents l p) {A : Type 0} (rule : PoolModel ℕ → Out ℕ (List A)) → OutFormed (rule p) → SamePlaces p (rule p)
     → (wr : A → List ℕ) (buffer : List ℕ) (g : ℕ → List ℕ → Reply) (r : List A → Reply)
     → ((xs : List A) → g (length xs) (over (flat wr xs) buffer) ≡ r xs)
     → Simulates (filled g (inBuffer wr buffer (asked (λ a. a) l rule))) (answered number carried r p (rule p))
@@ -96,21 +96,21 @@ taken-reply : (o : Option (Spare ℕ)) → takenReply (takenOf o) ≡ spareReply
 taken-reply none = refl
 taken-reply (some s) = refl
 
-popped-reply : (o : Option (Retiring ℕ)) → poppedReply (poppedOf o) ≡ popReply number carried o
+popped-reply : (o : Option (Retiring ℕ)) → poppedVersionReply (poppedOf o) ≡ popReply number carried o
 popped-reply none = refl
 popped-reply (some v) = refl
 
-views-reply : (buffer vs : List ℕ) → viewsReply (length vs) (over (flat viewNumbers vs) buffer) ≡ handedReply number carried vs
+views-reply : (buffer vs : List ℕ) → viewsFilled (length vs) (over (flat viewNumbers vs) buffer) ≡ handedReply number carried vs
 views-reply buffer vs = ap viewsHanded (views-read vs buffer ∙ sym (map-id vs))
 
-simulates : (l : Lent) (p : Pool ℕ) (c : LentCall) → Formed p → Represents l p → Simulates (lentCall l c) (call p (roomOf c))
-unfolding lentCall perform performBetween takeSpareCall retireCall noteWriteCall noteMipRegenerationCall popRetiredCall parkCall noteAllocatedCall trimCall forgetTextureCall preservePlanCall takeDoomedCall drainVersionsCall
+simulates : (l : Lent) (p : PoolModel ℕ) (c : LentCall) → Formed p → Represents l p → Simulates (lentCall l c) (call p (roomOf c))
+unfolding lentCall perform performBetween takeSpareOn retireOn noteWriteOn noteMipRegenerationOn popRetiredOn parkOn noteAllocatedOn trimOn forgetTextureOn preservePlanOn takeDoomedOn drainVersionsOn
 simulates l p (lentTake id shape records seq) k r =
     says l p r (λ q. takeSpare q id shape records seq) (closed p k .take-spare id shape records seq) (take-spare-places p id shape records seq)
     takenOf takenReply _ taken-reply
 simulates l p (lentPlan id shape held u buffer) k r =
     fills l p r (λ q. preservePlan q id shape held u (length buffer / copyStride)) (closed p k .preserve-plan id shape held u (length buffer / copyStride))
-    (preserve-plan-places p id shape held u (length buffer / copyStride)) copyNumbers buffer copiesReply _ (λ cs. ap copiesPlanned (copies-read cs buffer))
+    (preserve-plan-places p id shape held u (length buffer / copyStride)) copyNumbers buffer copiesFilled _ (λ cs. ap copiesPlanned (copies-read cs buffer))
 simulates l p (lentRetire id view seq) k r =
     does l p r (λ q. retire q id view seq) (closed p k .retires id view seq) (retire-places p id view seq) (λ a. a)
 simulates l p (lentWrite id slice level rect) k r =
@@ -118,17 +118,17 @@ simulates l p (lentWrite id slice level rect) k r =
 simulates l p (lentRegen id) k r =
     does l p r (λ q. noteMipRegeneration q id) (closed p k .note-mip-regeneration id) (note-mip-regeneration-places p id) (λ a. a)
 simulates l p (lentPop settled) k r =
-    says l p r (λ q. popRetired q settled) (closed p k .pop-retired settled) (pop-retired-places p settled) poppedOf poppedReply _ popped-reply
+    says l p r (λ q. popRetired q settled) (closed p k .pop-retired settled) (pop-retired-places p settled) poppedOf poppedVersionReply _ popped-reply
 simulates l p (lentPark failed now) k r =
     does l p r (λ q. park q failed now) (closed p k .parks failed now) (park-places p failed now) (λ a. a)
 simulates l p (lentNote allocated) k r =
     does l p r (λ q. noteAllocated q allocated) (closed p k .note-allocated allocated) (note-allocated-places p allocated) (λ a. a)
 simulates l p (lentDoomed buffer) k r =
     fills l p r (λ q. takeDoomed q (length buffer)) (closed p k .take-doomed (length buffer)) (take-doomed-places p (length buffer))
-    viewNumbers buffer viewsReply _ (views-reply buffer)
+    viewNumbers buffer viewsFilled _ (views-reply buffer)
 simulates l p (lentDrain buffer) k r =
     fills l p r (λ q. drainVersions q (length buffer)) (closed p k .drain-versions (length buffer)) (drain-versions-places p (length buffer))
-    viewNumbers buffer viewsReply _ (views-reply buffer)
+    viewNumbers buffer viewsFilled _ (views-reply buffer)
 simulates l p (lentTrim now) k r = does l p r (λ q. trim q now) (closed p k .trims now) (trim-places p now) (λ a. a)
 simulates l p (lentForget id) k r =
     does l p r (λ q. forgetTexture q id) (closed p k .forget-texture id) (forget-texture-places p id) (λ a. a)

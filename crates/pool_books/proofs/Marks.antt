@@ -14,7 +14,7 @@ use Rattle.grid_shapes.specs.declared.shape.VersionShape.{VersionShape}
 use Rattle.grid_shapes.specs.Shapes.{slicesOf}
 use Rattle.grid_rects.specs.declared.rect.TexelRect.{TexelRect}
 use Rattle.pool_rules.specs.declared.held.Held.the-variants.{Known}
-use Rattle.pool_rules.specs.Model.{WriteHistory, Spare, Retiring, VersionState, Pool, Out, find}
+use Rattle.pool_rules.specs.Model.{WriteHistory, Spare, Retiring, VersionState, PoolModel, Out, find}
 use Rattle.pool_rules.specs.Formed.{Given}
 use Rattle.pool_rules.specs.Updates.{withHistory, withSpares, withTextures, withRetiring, withParked, change}
 use Rattle.pool_rules.specs.Histories.{inShape, stampWrite, written, regenerated}
@@ -51,8 +51,8 @@ unfolding changeBook
 change-none f id books e = rw (e, changeBook)
 
 -- one id's book changes, with what belongs to that id
-module _ (p : Pool Retired) (books : Books) (i : Inv p books idle) (id : ℕ) (b′ : Book) (agree : Agrees (some b′)) where
-  pub rebook : (b : Book) → books id ≡ some b → (q : Pool Retired) (ph : Phase) (f : VersionState Retired → VersionState Retired) (Q : VersionState Retired → Type 0)
+module _ (p : PoolModel Retired) (books : Books) (i : Inv p books idle) (id : ℕ) (b′ : Book) (agree : Agrees (some b′)) where
+  pub rebook : (b : Book) → books id ≡ some b → (q : PoolModel Retired) (ph : Phase) (f : VersionState Retired → VersionState Retired) (Q : VersionState Retired → Type 0)
       → All Q (p .textures) → q .textures ≡ change id f (p .textures) → ((t : VersionState Retired) → t .id ≡ id → f t .id ≡ t .id)
       → ((t : VersionState Retired) → t .id ≡ id → Q t → StateOk (some b) (p .trackings) (waiting p) t → StateOk (some b′) (q .trackings) (waiting q) (f t))
       → ((t : VersionState Retired) → (t .id ≡ id → ⊥) → StateOk (books (t .id)) (p .trackings) (waiting p) t → StateOk (books (t .id)) (q .trackings) (waiting q) t)
@@ -123,7 +123,7 @@ abbrev pub Marks : (Book → Book) → ℕ → Books → Out Retired (Unit {0}) 
 Marks f id books o = OutOk (λ a q. Inv q (changeBook f id books) idle) o
 
 -- no texture is tracked whose id has no book
-bookless : (p : Pool Retired) (books : Books) → Inv p books idle → (id : ℕ) → books id ≡ none → (f : VersionState Retired → VersionState Retired)
+bookless : (p : PoolModel Retired) (books : Books) → Inv p books idle → (id : ℕ) → books id ≡ none → (f : VersionState Retired → VersionState Retired)
     → ((t : VersionState Retired) → f t .id ≡ t .id) → Inv (withTextures (change id f (p .textures)) p) books idle
 bookless p books i id e f eid = record {
   ids = ascending-change id f (λ t q. eid t) (i .ids);
@@ -136,7 +136,7 @@ bookless p books i id e f eid = record {
     gone : (t : VersionState Retired) → t .id ≡ id → StateOk (books (t .id)) (p .trackings) (waiting p) t → ⊥
     gone t q x = subst (λ (o : Option Book). StateOk o (p .trackings) (waiting p) t) (ap books q ∙ e) x .1
 
-module _ (p : Pool Retired) (books : Books) (i : Inv p books idle) where
+module _ (p : PoolModel Retired) (books : Books) (i : Inv p books idle) where
   agree-at : (id : ℕ) (b : Book) → books id ≡ some b → Agrees (some b)
   agree-at id b e = subst (λ (o : Option Book). Agrees o) e (i .agrees id)
 
@@ -199,7 +199,7 @@ park-good s h b v failed now le g = go (not (eqb failed 0) && leb (v .birth) fai
         absurd (clash (not (eqb failed 0) && leb (v .birth) failed)
         (and-true (and-left (not (eqb failed 0)) _ f) (le-leb (v .birth) failed (omega (arith, leb-true (v .view .before) failed (and-right (not (eqb failed 0)) _ f))))) e)
 
-module _ (p : Pool Retired) (books : Books) (i : Inv p books idle) (failed now : ℕ) where
+module _ (p : PoolModel Retired) (books : Books) (i : Inv p books idle) (failed now : ℕ) where
   hand-empty : Inv (withRetiring (p .retiring) none p) books idle
   hand-empty = less p (withRetiring (p .retiring) none p) books i refl (λ P a. all-both (all-left (p .retiring) (handed (p .hand)) a) nil) refl
 
@@ -248,13 +248,13 @@ module _ (p : Pool Retired) (books : Books) (i : Inv p books idle) (failed now :
   unfolding park
   park-inv = guarded _ _ (go (p .hand) refl)
     where
-      p0 : Pool Retired
+      p0 : PoolModel Retired
       p0 = withRetiring (p .retiring) none p
 
       found : (v : Retiring Retired) → p .hand ≡ some v → (o : Option (VersionState Retired)) → find (v .id) (p .textures) ≡ o
           → Inv (parkFound p0 failed now (lostVersion failed v) o) books idle
       found v e o f =
-          park-cases (λ (q : Pool Retired). Inv q books idle) p0 failed now (lostVersion failed v) o
+          park-cases (λ (q : PoolModel Retired). Inv q books idle) p0 failed now (lostVersion failed v) o
           (λ ds. same-parts p0 books hand-empty _ refl refl refl refl) (λ t g ep bytes. park-here v e t (f ∙ g) ep bytes)
 
       go : (h : Option (Retiring Retired)) → p .hand ≡ h → Keeps books (parkHand (withRetiring (p .retiring) (lostHand failed h) p) failed now (lostHand failed h))

@@ -10,7 +10,7 @@ use Rattle.grid_shapes.specs.declared.shape.VersionShape.{VersionShape}
 use Rattle.grid_shapes.specs.Shapes.{sameShape, bytesOf}
 use Rattle.grid_rects.specs.declared.rect.TexelRect.{TexelRect}
 use Rattle.pool_rules.specs.declared.held.Held.{Held}
-use Rattle.pool_rules.specs.Model.{WriteHistory, Spare, Retiring, Doomed, VersionState, Pool, Out, refused, accepted, guard, find, handCount, versionsUsed, pagesOf, pagesUsed, doomedBytes, PreserveCopy, UploadFootprint}
+use Rattle.pool_rules.specs.Model.{WriteHistory, Spare, Retiring, Doomed, VersionState, PoolModel, Out, refused, accepted, guard, find, handCount, versionsUsed, pagesOf, pagesUsed, doomedBytes, PreserveCopy, UploadFootprint}
 use Rattle.pool_rules.specs.Updates.{withHistory, withSpares, withBirth, withRename, withTextures, withRetiring, withTrackings, withParked, withDoomed, change, insert, doom, asDoomed, doomSpares}
 use Rattle.pool_rules.specs.Histories.{written, regenerated, spent}
 use Rattle.pool_rules.specs.TakeSpare.{newState, historyFull, newest, others, takenBytes, takeNew, takeRenewed, takeTracked, takeFound, takeSpare}
@@ -47,7 +47,7 @@ module _ {W X : Type 0} (f : W → X) where
   -- an outcome and the same with other views
   pub data Carried {A B : Type 0} (g : A → B) : Out W A → Out X B → Type 0 where
     alike-no : {n : ℕ} → Carried g (refused n) (refused n)
-    alike : {a : A} {p : Pool W} {b : B} {q : Pool X} → b ≡ g a → q ≡ mapPool f p → Carried g (accepted a p) (accepted b q)
+    alike : {a : A} {p : PoolModel W} {b : B} {q : PoolModel X} → b ≡ g a → q ≡ mapPool f p → Carried g (accepted a p) (accepted b q)
 
   pub guard-eq : {A B : Type 0} {g : A → B} (b b′ : Bool) (n : ℕ) {o : Out W A} {o′ : Out X B} → b′ ≡ b → Carried g o o′ → Carried g (guard b n o) (guard b′ n o′)
   unfolding guard
@@ -63,11 +63,11 @@ module _ {W X : Type 0} (f : W → X) where
   pub bytes-map : (ds : List (Doomed W)) → doomedBytes (map (mapDoomed f) ds) ≡ doomedBytes ds
   bytes-map ds = map-total (mapDoomed f) (λ (d : Doomed X). d .bytes) (λ (d : Doomed W). d .bytes) (λ d. refl) ds
 
-  pub doom-map : (ds : List (Doomed W)) (p : Pool W) → doom (map (mapDoomed f) ds) (mapPool f p) ≡ mapPool f (doom ds p)
+  pub doom-map : (ds : List (Doomed W)) (p : PoolModel W) → doom (map (mapDoomed f) ds) (mapPool f p) ≡ mapPool f (doom ds p)
   doom-map ds p =
       λ i. withDoomed (sym (map-both (mapDoomed f) (p .doomed) ds) i) (p .since + length-map ds (mapDoomed f) i) (p .dooming + bytes-map ds i) (mapPool f p)
 
-  pub spares-map : (ds : List (Doomed W)) (p : Pool W) → doomSpares (map (mapDoomed f) ds) (mapPool f p) ≡ mapPool f (doomSpares ds p)
+  pub spares-map : (ds : List (Doomed W)) (p : PoolModel W) → doomSpares (map (mapDoomed f) ds) (mapPool f p) ≡ mapPool f (doomSpares ds p)
   spares-map ds p =
       (λ i. doom (map (mapDoomed f) ds) (withParked (p .parked - bytes-map ds i) (mapPool f p))) ∙ doom-map ds (withParked (p .parked - doomedBytes ds) p)
 
@@ -95,7 +95,7 @@ module _ {W X : Type 0} (f : W → X) where
   abbrev pub spareOf : Option (Spare W) → Option (Spare X)
   spareOf = Option·map (mapSpare f)
 
-  module _ (p : Pool W) where
+  module _ (p : PoolModel W) where
     full-map : (sh : VersionShape) (records : Bool) (own : ℕ) → historyFull (mapPool f p) sh records own ≡ historyFull p sh records own
     full-map sh records own =
         λ i. records && ltb (p .places .pages + own) (map-total (mapState f) pagesUsed pagesUsed (λ t. refl) (p .textures) i + pagesOf sh)
@@ -238,7 +238,7 @@ module _ {W X : Type 0} (f : W → X) where
     unfolding park
     park-map failed now = guard-eq _ _ 3 refl (hand (p .hand))
       where
-        p0 : Pool W
+        p0 : PoolModel W
         p0 = withRetiring (p .retiring) none p
 
         found : (v : Retiring W) (o : Option (VersionState W))

@@ -7,7 +7,7 @@ use lib.ListN.{length, take, drop, length-map, replicate}
 use lib.Dec.{ltb, eqb}
 use Rattle.base_blocks.specs.Lists.{ceilDiv, keep, total}
 use Rattle.grid_shapes.specs.Shapes.{bytesOf}
-use Rattle.pool_rules.specs.Model.{Spare, Retiring, Doomed, VersionState, Pool, doomedBytes}
+use Rattle.pool_rules.specs.Model.{Spare, Retiring, Doomed, VersionState, PoolModel, doomedBytes}
 use Rattle.pool_rules.specs.Updates.{withSpares, withTextures, withRetiring, withParked, withDoomed, withPacing, asDoomed, doomSpares}
 use Rattle.pool_rules.specs.NoteAllocated.{Aged, agedOf, byAge, picked, pickedIn, countOf, pressedAfter, relieved, noteAllocated}
 use Rattle.pool_rules.specs.TakeDoomed.{arrived, paced, coverMore, batch, takeDoomed}
@@ -39,7 +39,7 @@ module _ {W X : Type 0} (f : W → X) where
   oldest-map : (n : ℕ) (t : VersionState W) → asDoomed (bytesOf (t .shape)) (take n (map (mapSpare f) (t .spares))) ≡ map (mapDoomed f) (asDoomed (bytesOf (t .shape)) (take n (t .spares)))
   oldest-map n t = ap (asDoomed (bytesOf (t .shape))) (map-take (mapSpare f) n (t .spares)) ∙ as-doomed f (bytesOf (t .shape)) (take n (t .spares))
 
-  module _ (p : Pool W) where
+  module _ (p : PoolModel W) where
     -- ---- forget_texture
 
     pub forget-map : (id : ℕ) → Carried f (λ (a : Unit {0}). a) (forgetTexture p id) (forgetTexture (mapPool f p) id)

@@ -10,7 +10,7 @@ use Rattle.grid_shapes.specs.declared.shape.VersionShape.{VersionShape}
 use Rattle.grid_shapes.specs.Shapes.{sameShape}
 use Rattle.grid_rects.specs.declared.rect.TexelRect.{TexelRect}
 use Rattle.pool_rules.specs.declared.held.Held.{Held}
-use Rattle.pool_rules.specs.Model.{WriteHistory, Spare, Retiring, VersionState, Pool, Out, refused, accepted, guard, find, UploadFootprint}
+use Rattle.pool_rules.specs.Model.{WriteHistory, Spare, Retiring, VersionState, PoolModel, Out, refused, accepted, guard, find, UploadFootprint}
 use Rattle.pool_rules.specs.Updates.{withRetiring}
 use Rattle.pool_rules.specs.TakeSpare.{takeTracked, takeRenewed, takeFound, takeSpare}
 use Rattle.pool_rules.specs.PreservePlan.{planWith, planFound, preservePlan}
@@ -25,7 +25,7 @@ use Rattle.pool_rules.specs.Trim.{trim}
 use Rattle.pool_rules.specs.ForgetTexture.{forgetTexture}
 use Rattle.pool_rules.proofs.Parking.{park-cases}
 
-module _ {W : Type 0} (p : Pool W) where
+module _ {W : Type 0} (p : PoolModel W) where
   abbrev pub SamePlaces : {A : Type 0} → Out W A → Type 0
   SamePlaces (refused n) = Unit {0}
   SamePlaces (accepted a q) = q .places ≡ p .places
@@ -86,7 +86,7 @@ module _ {W : Type 0} (p : Pool W) where
       go : (o : Option (Retiring W)) → SamePlaces (parkHand p failed now o)
       go none = tt
       go (some v) =
-          park-cases (λ (q : Pool W). q .places ≡ p .places) (withRetiring (p .retiring) none p) failed now v (find (v .id) (p .textures))
+          park-cases (λ (q : PoolModel W). q .places ≡ p .places) (withRetiring (p .retiring) none p) failed now v (find (v .id) (p .textures))
           (λ ds. refl) (λ t e f bytes. refl)
 
   pub note-allocated-places : (allocated : ℕ) → SamePlaces (noteAllocated p allocated)

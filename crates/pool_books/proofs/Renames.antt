@@ -15,7 +15,7 @@ use Rattle.grid_shapes.specs.Shapes.{isShape, sameShape}
 use Rattle.grid_shapes.proofs.Shapes.{same-shape, same-self}
 use Rattle.pool_rules.specs.declared.held.Held.{Held}
 use Rattle.pool_rules.specs.declared.held.Held.the-variants.{Unknown}
-use Rattle.pool_rules.specs.Model.{WriteHistory, Spare, Retiring, VersionState, Pool, Out, find, UploadFootprint}
+use Rattle.pool_rules.specs.Model.{WriteHistory, Spare, Retiring, VersionState, PoolModel, Out, find, UploadFootprint}
 use Rattle.pool_rules.specs.Formed.{Given, Ascending}
 use Rattle.pool_rules.specs.Updates.{withSpares, withRename, withTextures, withParked, change}
 use Rattle.pool_rules.specs.Histories.{newHistory}
@@ -25,7 +25,7 @@ use Rattle.pool_rules.proofs.Lists.{all-pairs}
 use Rattle.pool_rules.proofs.States.{ascending-change, ascending-insert, all-insert, find-all, find-none, find-only}
 use Rattle.pool_rules.proofs.Histories.{HistoryOk, new-ok}
 use Rattle.pool_books.specs.Texels.{Texel, Inside}
-use Rattle.pool_books.specs.VersionBook.{Numbers, Retired, Book, Books, put, newBook, startBook, heldOf, numbersOf, liveOf, copied, skipped}
+use Rattle.pool_books.specs.VersionBook.{Numbers, Retired, Book, Books, put, newBook, startBook, heldBySpare, numbersOf, liveOf, copied, skipped}
 use Rattle.pool_books.specs.Lists.{idle, taken, planned}
 use Rattle.pool_books.specs.Demand3.{Agrees}
 use Rattle.pool_books.proofs.Laws.{given-mono, all-newest, all-others, all-changed, found-id}
@@ -75,13 +75,13 @@ started books id sh ag = go (books id) refl
         (λ q. anew (b .before))
 
 abbrev pub Takes : ℕ → VersionShape → Books → Out Retired (Option (Spare Retired)) → Type 0
-Takes id sh books o = OutOk (λ a q. Inv q (startBook id sh (books id) books) (taken id sh (heldOf a) (numbersOf a))) o
+Takes id sh books o = OutOk (λ a q. Inv q (startBook id sh (books id) books) (taken id sh (heldBySpare a) (numbersOf a))) o
 
 more-trackings : (books books′ : Books) (n : ℕ) (rest : List (Retiring Retired)) (t : VersionState Retired) → books′ (t .id) ≡ books (t .id)
     → StateOk (books (t .id)) n rest t → StateOk (books′ (t .id)) (suc n) rest t
 more-trackings books books′ n rest t e x = subst (λ (o : Option Book). StateOk o (suc n) rest t) (sym e) (up (x .0), x .1)
 
-module _ (p : Pool Retired) (books : Books) (i : Inv p books idle) (id : ℕ) (sh : VersionShape) (shaped : isShape sh ≡ true) (records : Bool) (seq : ℕ) where
+module _ (p : PoolModel Retired) (books : Books) (i : Inv p books idle) (id : ℕ) (sh : VersionShape) (shaped : isShape sh ≡ true) (records : Bool) (seq : ℕ) where
   abbrev begun : VersionState Retired
   begun = newState id sh records (suc (p .trackings)) seq
 
@@ -106,7 +106,7 @@ module _ (p : Pool Retired) (books : Books) (i : Inv p books idle) (id : ℕ) (s
         late a n h e = omega arith
 
     -- the states are those that were there, but for the new one
-    take-begun : (q : Pool Retired) → Ascending 0 (q .textures) → All (λ (t : VersionState Retired). StateOk (books′ (t .id)) (suc (p .trackings)) (waiting p) t) (q .textures)
+    take-begun : (q : PoolModel Retired) → Ascending 0 (q .textures) → All (λ (t : VersionState Retired). StateOk (books′ (t .id)) (suc (p .trackings)) (waiting p) t) (q .textures)
         → All (λ (t : VersionState Retired). t .id ≡ id → t ≡ newState id sh records (suc (p .trackings)) seq) (q .textures) → waiting q ≡ waiting p
         → q .trackings ≡ suc (p .trackings) → Inv q books′ (taken id sh Unknown (λ t. none))
     take-begun q ids states only ef et = record {
@@ -155,10 +155,10 @@ module _ (p : Pool Retired) (books : Books) (i : Inv p books idle) (id : ℕ) (s
       (all-changed id (λ u. begun) (λ u q x k. refl) (λ u q x k. absurd (q k)) (i .states)) refl refl)))
 
   -- the newest spare is good
-  newest-good : (s : VersionShape) (h : WriteHistory) (b : Book) (vs : List (Spare Retired)) → All (GoodSpare s h b) vs → Good s h b (heldOf (newest vs)) (numbersOf (newest vs))
+  newest-good : (s : VersionShape) (h : WriteHistory) (b : Book) (vs : List (Spare Retired)) → All (GoodSpare s h b) vs → Good s h b (heldBySpare (newest vs)) (numbersOf (newest vs))
   newest-good s h b vs a = go (newest vs) (all-newest (GoodSpare s h b) a)
     where
-      go : (o : Option (Spare Retired)) → Given (GoodSpare s h b) o → Good s h b (heldOf o) (numbersOf o)
+      go : (o : Option (Spare Retired)) → Given (GoodSpare s h b) o → Good s h b (heldBySpare o) (numbersOf o)
       go none k = tt
       go (some v) k = k
 
@@ -177,7 +177,7 @@ module _ (p : Pool Retired) (books : Books) (i : Inv p books idle) (id : ℕ) (s
       at-book u b q e x = subst (λ (o : Option Book). StateOk o (p .trackings) (waiting p) u) (ap books q ∙ e) x
 
       go : (n : ℕ) (o : Option Book) → books id ≡ o
-          → Inv (withParked n (withTextures (change id g (p .textures)) p)) (startBook id sh o books) (taken id sh (heldOf (newest (t .spares))) (numbersOf (newest (t .spares))))
+          → Inv (withParked n (withTextures (change id g (p .textures)) p)) (startBook id sh o books) (taken id sh (heldBySpare (newest (t .spares))) (numbersOf (newest (t .spares))))
       go n none e = absurd (subst (λ (o : Option Book). StateOk o (p .trackings) (waiting p) t) (ap books (found-id id t (p .textures) ef) ∙ e) state .1)
       go n (some b) e =
           let bsh : b .shape ≡ sh = at-book t b (found-id id t (p .textures) ef) e state .1 .shape ∙ es in
@@ -199,7 +199,7 @@ module _ (p : Pool Retired) (books : Books) (i : Inv p books idle) (id : ℕ) (s
             );
           })
 
-pub take-inv : (p : Pool Retired) (books : Books) → Inv p books idle → (id : ℕ) (sh : VersionShape) (records : Bool) (seq : ℕ) → Takes id sh books (takeSpare p id sh records seq)
+pub take-inv : (p : PoolModel Retired) (books : Books) → Inv p books idle → (id : ℕ) (sh : VersionShape) (records : Bool) (seq : ℕ) → Takes id sh books (takeSpare p id sh records seq)
 unfolding takeSpare
 take-inv p books i id sh records seq = guarded-by _ _ (λ bad. guarded _ _ (go (passed-not (isShape sh) bad) (find id (p .textures)) refl))
   where
@@ -215,7 +215,7 @@ pub agree-live : (b : Book) → Agrees (some b) → (t : Texel) → Inside (b .s
 unfolding Agrees
 agree-live b a t ins left = a t ins left
 
-pub plan-inv : (p : Pool Retired) (books : Books) (id : ℕ) (sh : VersionShape) (held : Held) (new : Numbers) → Inv p books (taken id sh held new)
+pub plan-inv : (p : PoolModel Retired) (books : Books) (id : ℕ) (sh : VersionShape) (held : Held) (new : Numbers) → Inv p books (taken id sh held new)
     → (u : UploadFootprint) (buffer : ℕ)
     → OutOk (λ cs q. Inv q books (planned id (skipped u cs) (copied cs (liveOf (books id)) new))) (preservePlan p id sh held u buffer)
 unfolding preservePlan

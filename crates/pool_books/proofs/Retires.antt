@@ -10,7 +10,7 @@ use Rattle.base_blocks.proofs.All.{all-mono, all-left, all-right, all-both}
 use Rattle.grid_shapes.specs.declared.shape.VersionShape.{VersionShape}
 use Rattle.pool_rules.specs.declared.held.Held.{Held}
 use Rattle.pool_rules.specs.declared.held.Held.the-variants.{Known, Unknown}
-use Rattle.pool_rules.specs.Model.{WriteHistory, Retiring, VersionState, Pool, find, writesOf}
+use Rattle.pool_rules.specs.Model.{WriteHistory, Retiring, VersionState, PoolModel, find, writesOf}
 use Rattle.pool_rules.specs.Formed.{Given}
 use Rattle.pool_rules.specs.Updates.{withBirth, withTextures, withRetiring, change}
 use Rattle.pool_rules.specs.Retire.{retire, retired}
@@ -29,7 +29,7 @@ or-false : (a c : Bool) → a || c ≡ false → (a ≡ false) × (c ≡ false)
 or-false true c e = absurd (true≢false e)
 or-false false c e = (refl, e)
 
-module _ (p : Pool Retired) (books : Books) (id : ℕ) (u : ℕ → ℕ → Bool) (new : Numbers) (i : Inv p books (planned id u new)) (view seq : ℕ) (b : Book) (eb : books id ≡ some b) where
+module _ (p : PoolModel Retired) (books : Books) (id : ℕ) (u : ℕ → ℕ → Bool) (new : Numbers) (i : Inv p books (planned id u new)) (view seq : ℕ) (b : Book) (eb : books id ≡ some b) where
   agreed : Agrees (some b)
   agreed = subst (λ (o : Option Book). Agrees o) eb (i .agrees id)
 
@@ -60,7 +60,7 @@ module _ (p : Pool Retired) (books : Books) (id : ℕ) (u : ℕ → ℕ → Bool
     abbrev last : Retiring Retired
     last = retired id replaced seq o
 
-    abbrev left : Pool Retired
+    abbrev left : PoolModel Retired
     left = withTextures (change id (withBirth seq) (p .textures)) (withRetiring (p .retiring ++ (retired id replaced seq o ∷ [])) (p .hand) p)
 
     longer : (P : Retiring Retired → Type 0) → P last → All P (waiting p) → All P (waiting left)
@@ -115,7 +115,7 @@ module _ (p : Pool Retired) (books : Books) (id : ℕ) (u : ℕ → ℕ → Bool
       state : StateOk (books (t0 .id)) (p .trackings) (waiting p) t0
       state = find-all (λ w. StateOk (books (w .id)) (p .trackings) (waiting p) w) id t0 (p .textures) (i .states) eo
 
-pub retire-inv : (p : Pool Retired) (books : Books) (id : ℕ) (u : ℕ → ℕ → Bool) (new : Numbers) → Inv p books (planned id u new) → (view seq : ℕ)
+pub retire-inv : (p : PoolModel Retired) (books : Books) (id : ℕ) (u : ℕ → ℕ → Bool) (new : Numbers) → Inv p books (planned id u new) → (view seq : ℕ)
     → OutOk (λ a q. Inv q (renameIn seq (planned id u new) books) idle) (retire p id (carriedBy books id view) seq)
 unfolding retire renameIn
 retire-inv p books id u new i view seq = guarded _ _ (guarded _ _ (guarded _ _ (ok (go (books id) refl))))

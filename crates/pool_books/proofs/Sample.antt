@@ -21,14 +21,14 @@ use Rattle.pool_rules.specs.TakeDoomed.{coverMore, takeDoomed}
 use Rattle.pool_rules.specs.Trim.{agedCount, trim}
 use Rattle.pool_rules.specs.Open.{opened}
 use Rattle.pool_books.specs.Demand3.{perform, performBetween}
-use Rattle.pool_books.specs.Sample.{shapeOf, lent, replies, sample, sampleAnswers, parkedAt10, sparesOf, queued678, handedOut, Edges}
+use Rattle.pool_books.specs.Sample.{flatShape, sampleLent, repliesOf, sample, sampleAnswers, parkedAt10, sparesOf, queued678, handedOut, Edges}
 
-pub sample-answers : replies (opened lent 0) sample ≡ sampleAnswers
-unfolding replies sample shapeOf perform performBetween takeSpare preservePlan retire noteWrite popRetired park guard find pagesOf change insert gridAt newHistory stampWrite boxCopy copyOf copies budgetOf isShape sameShape slicesOf levelExtent levelWidth levelHeight levelDepth levelBytes bytesOf blockEdge blockBytes wholeLevel tileEdge axisOf tilesOf cutEnd isCut touched oneTile widened spanAround spanStart spanSize tilingOf columnsOf rowsOf stampCount newGrid rowByRow stampOf touches isCutRect stampedBy dirtyTiles boxOf boxAround boxSince listed total keep tests after ceilDiv flatMap
+pub sample-answers : repliesOf (opened sampleLent 0) sample ≡ sampleAnswers
+unfolding repliesOf sample flatShape perform performBetween takeSpare preservePlan retire noteWrite popRetired park guard find pagesOf change insert gridAt newHistory stampWrite boxCopy copyOf copies budgetOf isShape sameShape slicesOf levelExtent levelWidth levelHeight levelDepth levelBytes bytesOf blockEdge blockBytes wholeLevel tileEdge axisOf tilesOf cutEnd isCut touched oneTile widened spanAround spanStart spanSize tilingOf columnsOf rowsOf stampCount newGrid rowByRow stampOf touches isCutRect stampedBy dirtyTiles boxOf boxAround boxSince listed total keep tests after ceilDiv flatMap
 sample-answers = refl
 
 pub edges : Edges
-unfolding tileEdge ceilDiv bytesOf shapeOf levelBytes levelWidth levelHeight levelDepth levelExtent blockEdge blockBytes slicesOf listed total budgetOf sparesOf trim agedCount parkedAt10 keep flatMap guard handedOut replies perform performBetween queued678 takeDoomed coverMore
+unfolding tileEdge ceilDiv bytesOf flatShape levelBytes levelWidth levelHeight levelDepth levelExtent blockEdge blockBytes slicesOf listed total budgetOf sparesOf trim agedCount parkedAt10 keep flatMap guard handedOut repliesOf perform performBetween queued678 takeDoomed coverMore
 edges = record {
   edge-512 = refl;
   edge-512-blocks = refl;

@@ -1,7 +1,7 @@
 -- Views are only carried: a pool with one kind of view read as a pool with another.
 use mathlib.Core.Option.{Option·map}
 use mathlib.Core.List.{map}
-use Rattle.pool_rules.specs.Model.{Spare, Retiring, Doomed, VersionState, Pool}
+use Rattle.pool_rules.specs.Model.{Spare, Retiring, Doomed, VersionState, PoolModel}
 
 module _ {W X : Type 0} (f : W → X) where
   abbrev pub mapSpare : Spare W → Spare X
@@ -25,7 +25,7 @@ module _ {W X : Type 0} (f : W → X) where
     spares = map mapSpare (t .spares);
   }
 
-  abbrev pub mapPool : Pool W → Pool X
+  abbrev pub mapPool : PoolModel W → PoolModel X
   mapPool p = record {
     textures = map mapState (p .textures);
     retiring = map mapRetiring (p .retiring);

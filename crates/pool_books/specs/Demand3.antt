@@ -6,7 +6,7 @@ use mathlib.Core.Option.{Option, none, some}
 use mathlib.Core.List.{List, [], _∷_, map}
 use Rattle.pool_rules.specs.declared.held.Held.{Held}
 use Rattle.pool_rules.specs.declared.held.Held.the-variants.{Unknown}
-use Rattle.pool_rules.specs.Model.{Spare, Retiring, Pool, Places, Out, refused, accepted, PreserveCopy}
+use Rattle.pool_rules.specs.Model.{Spare, Retiring, PoolModel, Places, Out, refused, accepted, PreserveCopy}
 use Rattle.pool_rules.specs.TakeSpare.{takeSpare}
 use Rattle.pool_rules.specs.PreservePlan.{preservePlan}
 use Rattle.pool_rules.specs.Retire.{retire}
@@ -41,7 +41,7 @@ pub data Reply : Type 0 where
 
 -- a call on a pool of any views, of which `number` gives the view number; `carried` makes the view of a version retired under an id
 module _ {W : Type 0} (number : W → ℕ) (carried : ℕ → ℕ → W) where
-  abbrev pub answered : {A : Type 0} → (A → Reply) → Pool W → Out W A → Reply × Pool W
+  abbrev pub answered : {A : Type 0} → (A → Reply) → PoolModel W → Out W A → Reply × PoolModel W
   answered f p (refused n) = (refusal n, p)
   answered f p (accepted a q) = (f a, q)
 
@@ -56,7 +56,7 @@ module _ {W : Type 0} (number : W → ℕ) (carried : ℕ → ℕ → W) where
   abbrev pub viewsReply : List W → Reply
   viewsReply vs = viewsHanded (map number vs)
 
-  unfoldable pub performBetween : Pool W → Between → Reply × Pool W
+  unfoldable pub performBetween : PoolModel W → Between → Reply × PoolModel W
   performBetween p (writeCall id slice level r) = answered (λ a. done) p (noteWrite p id slice level r)
   performBetween p (regenCall id) = answered (λ a. done) p (noteMipRegeneration p id)
   performBetween p (popCall settled) = answered poppedReply p (popRetired p settled)
@@ -67,18 +67,18 @@ module _ {W : Type 0} (number : W → ℕ) (carried : ℕ → ℕ → W) where
   performBetween p (trimCall now) = answered (λ a. done) p (trim p now)
   performBetween p (forgetCall id) = answered (λ a. done) p (forgetTexture p id)
 
-  unfoldable pub perform : Pool W → Call → Reply × Pool W
+  unfoldable pub perform : PoolModel W → Call → Reply × PoolModel W
   perform p (takeCall id shape records seq) = answered spareReply p (takeSpare p id shape records seq)
   perform p (planCall id shape held u buffer) = answered copiesPlanned p (preservePlan p id shape held u buffer)
   perform p (retireCall id view seq) = answered (λ a. done) p (retire p id (carried id view) seq)
   perform p (between c) = performBetween p c
 
 -- a call on the pool of plain view numbers
-abbrev pub call : Pool ℕ → Call → Reply × Pool ℕ
+abbrev pub call : PoolModel ℕ → Call → Reply × PoolModel ℕ
 call p c = perform (λ (n : ℕ). n) (λ (id n : ℕ). n) p c
 
 -- what the version book's copy of the pool answers
-abbrev pub ready : Pool Retired → Call → Pool Retired
+abbrev pub ready : PoolModel Retired → Call → PoolModel Retired
 ready p (takeCall id shape records seq) = p
 ready p (planCall id shape held u buffer) = p
 ready p (retireCall id view seq) = p
@@ -93,12 +93,12 @@ replied s c = perform viewOf (carriedBy (s .books)) (ready (s .pool) c) c .0
 -- ---- the claim
 
 -- at a point of a list: the books agree, and the pool is the version book's copy with plain view numbers
-pub record Here (s : State) (p : Pool ℕ) : Type 0 where
+pub record Here (s : State) (p : PoolModel ℕ) : Type 0 where
   pub agrees : (id : ℕ) → Agrees (s .books id)
   pub same : p ≡ mapPool viewOf (s .pool)
 
 -- at every point, with each answer that of the pool
-abbrev pub Throughout : State → Pool ℕ → List Call → Type 0
+abbrev pub Throughout : State → PoolModel ℕ → List Call → Type 0
 Throughout s p [] = Here s p
 Throughout s p (c ∷ cs) = Here s p × (call p c .0 ≡ replied s c) × Throughout (step s c) (call p c .1) cs
 

@@ -22,7 +22,7 @@ use Rattle.pool_rules.specs.Model.{PreserveCopy, UploadFootprint}
 use Rattle.pool_memory.specs.Lent.{Lent, lent}
 use Rattle.pool_memory.specs.Reading.{modelOf}
 use Rattle.pool_memory.specs.IsPool.{isPool, sizesFit}
-use Rattle.pool_memory.specs.Calls.{openedPool, openedBook, Told, refusal as refusedWith, answer, TakenVersion, PoppedVersion, takeSpareCall, retireCall as retireLent, noteWriteCall, noteMipRegenerationCall, popRetiredCall, parkCall as parkLent, noteAllocatedCall, trimCall as trimLent, forgetTextureCall, preservePlanCall, takeDoomedCall, drainVersionsCall}
+use Rattle.pool_memory.specs.Calls.{openedPool, openedBook, Told, refusedWith, answer, TakenVersion, PoppedVersion, takeSpareOn, retireOn, noteWriteOn, noteMipRegenerationOn, popRetiredOn, parkOn, noteAllocatedOn, trimOn, forgetTextureOn, preservePlanOn, takeDoomedOn, drainVersionsOn}
 use Rattle.pool_books.specs.Lists.{writeCall, regenCall, popCall, parkCall, noteCall, doomedCall, drainCall, trimCall, forgetCall, Call, takeCall, planCall, retireCall, between, Renames, start}
 use Rattle.pool_books.specs.Demand3.{Reply, refusal, done, spareTaken, copiesPlanned, versionPopped, viewsHanded, ThroughoutOf}
 use Rattle.pool_memory.specs.MemoryConstants.{copyStride}
@@ -68,9 +68,9 @@ abbrev pub takenReply : Option TakenVersion → Reply
 takenReply none = spareTaken none Unknown
 takenReply (some v) = spareTaken (some (v .view)) (v .held)
 
-abbrev pub poppedReply : Option PoppedVersion → Reply
-poppedReply none = versionPopped none
-poppedReply (some v) = versionPopped (some (v .id, v .view))
+abbrev pub poppedVersionReply : Option PoppedVersion → Reply
+poppedVersionReply none = versionPopped none
+poppedVersionReply (some v) = versionPopped (some (v .id, v .view))
 
 -- a copy out of seven numbers: slice, level, whole or not, left, top, width, height
 unfoldable pub readCopy : List ℕ → PreserveCopy
@@ -81,11 +81,11 @@ readCopy s = record {
 }
 
 -- the first n entries of a buffer
-abbrev pub copiesReply : ℕ → List ℕ → Reply
-copiesReply n buffer = copiesPlanned (table copyStride readCopy n buffer)
+abbrev pub copiesFilled : ℕ → List ℕ → Reply
+copiesFilled n buffer = copiesPlanned (table copyStride readCopy n buffer)
 
-abbrev pub viewsReply : ℕ → List ℕ → Reply
-viewsReply n buffer = viewsHanded (take n buffer)
+abbrev pub viewsFilled : ℕ → List ℕ → Reply
+viewsFilled n buffer = viewsHanded (take n buffer)
 
 -- ---- a call on the lent stores: what a caller reads, and the stores after it
 
@@ -96,18 +96,18 @@ abbrev pub filled : (ℕ → List ℕ → Reply) → Told ℕ × (List ℕ × Le
 filled f (told, (buffer, l)) = (replyOf (λ (n : ℕ). f n buffer) told, l)
 
 unfoldable pub lentCall : Lent → LentCall → Reply × Lent
-lentCall l (lentTake id shape records seq) = said takenReply (takeSpareCall l id shape records seq)
-lentCall l (lentPlan id shape held u buffer) = filled copiesReply (preservePlanCall l buffer id shape held u)
-lentCall l (lentRetire id view seq) = said (λ a. done) (retireLent l id view seq)
-lentCall l (lentWrite id slice level r) = said (λ a. done) (noteWriteCall l id slice level r)
-lentCall l (lentRegen id) = said (λ a. done) (noteMipRegenerationCall l id)
-lentCall l (lentPop settled) = said poppedReply (popRetiredCall l settled)
-lentCall l (lentPark failed now) = said (λ a. done) (parkLent l failed now)
-lentCall l (lentNote allocated) = said (λ a. done) (noteAllocatedCall l allocated)
-lentCall l (lentDoomed buffer) = filled viewsReply (takeDoomedCall l buffer)
-lentCall l (lentDrain buffer) = filled viewsReply (drainVersionsCall l buffer)
-lentCall l (lentTrim now) = said (λ a. done) (trimLent l now)
-lentCall l (lentForget id) = said (λ a. done) (forgetTextureCall l id)
+lentCall l (lentTake id shape records seq) = said takenReply (takeSpareOn l id shape records seq)
+lentCall l (lentPlan id shape held u buffer) = filled copiesFilled (preservePlanOn l buffer id shape held u)
+lentCall l (lentRetire id view seq) = said (λ a. done) (retireOn l id view seq)
+lentCall l (lentWrite id slice level r) = said (λ a. done) (noteWriteOn l id slice level r)
+lentCall l (lentRegen id) = said (λ a. done) (noteMipRegenerationOn l id)
+lentCall l (lentPop settled) = said poppedVersionReply (popRetiredOn l settled)
+lentCall l (lentPark failed now) = said (λ a. done) (parkOn l failed now)
+lentCall l (lentNote allocated) = said (λ a. done) (noteAllocatedOn l allocated)
+lentCall l (lentDoomed buffer) = filled viewsFilled (takeDoomedOn l buffer)
+lentCall l (lentDrain buffer) = filled viewsFilled (drainVersionsOn l buffer)
+lentCall l (lentTrim now) = said (λ a. done) (trimOn l now)
+lentCall l (lentForget id) = said (λ a. done) (forgetTextureOn l id)
 
 -- ---- the claim
 

@@ -7,7 +7,7 @@ use mathlib.Core.List.{List, [], _∷_}
 use Rattle.grid_shapes.specs.declared.shape.VersionShape.{VersionShape}
 use Rattle.grid_rects.specs.declared.rect.TexelRect.{TexelRect}
 use Rattle.pool_rules.specs.declared.held.Held.{Held}
-use Rattle.pool_rules.specs.Model.{Spare, Pool, Places, Out, refused, accepted, PreserveCopy, UploadFootprint}
+use Rattle.pool_rules.specs.Model.{Spare, PoolModel, Places, Out, refused, accepted, PreserveCopy, UploadFootprint}
 use Rattle.pool_rules.specs.Updates.{withRetiring}
 use Rattle.pool_rules.specs.TakeSpare.{takeSpare}
 use Rattle.pool_rules.specs.PreservePlan.{preservePlan}
@@ -21,7 +21,7 @@ use Rattle.pool_rules.specs.DrainVersions.{drainVersions}
 use Rattle.pool_rules.specs.Trim.{trim}
 use Rattle.pool_rules.specs.ForgetTexture.{forgetTexture}
 use Rattle.pool_rules.specs.Open.{opened}
-use Rattle.pool_books.specs.VersionBook.{Numbers, Retired, Book, Books, changeBook, startBook, bookWrite, bookRegeneration, heldOf, numbersOf, liveOf, copied, skipped, renamed, carriedBy, lostHand}
+use Rattle.pool_books.specs.VersionBook.{Numbers, Retired, Book, Books, changeBook, startBook, bookWrite, bookRegeneration, heldBySpare, numbersOf, liveOf, copied, skipped, renamed, carriedBy, lostHand}
 
 -- ---- calls, named as in the event lines, each with its arguments; a last number is the room of the answer's buffer
 
@@ -72,7 +72,7 @@ Allowed (planned id skip new) (between c) = ⊥
 
 -- the version book's copy of the pool, the books of each id, how many writes and regenerations were counted, and where the list stands
 pub record State : Type 0 where
-  pub pool : Pool Retired
+  pub pool : PoolModel Retired
   pub books : Books
   pub count : ℕ
   pub phase : Phase
@@ -87,7 +87,7 @@ afterTake s id shape (accepted spare p) = record {
   pool = p;
   books = startBook id shape (s .books id) (s .books);
   count = s .count;
-  phase = taken id shape (heldOf spare) (numbersOf spare);
+  phase = taken id shape (heldBySpare spare) (numbersOf spare);
 }
 
 abbrev pub planIn : Phase → UploadFootprint → List PreserveCopy → Books → Phase
@@ -119,7 +119,7 @@ marking s f id (refused n) = s
 marking s f id (accepted a p) = record { pool = p; books = changeBook (f (suc (s .count))) id (s .books); count = suc (s .count); phase = s .phase }
 
 -- the version book's copy of the pool as a call finds it: parking loses an aborted version's numbers
-abbrev pub readyBetween : Pool Retired → Between → Pool Retired
+abbrev pub readyBetween : PoolModel Retired → Between → PoolModel Retired
 readyBetween p (writeCall id slice level r) = p
 readyBetween p (regenCall id) = p
 readyBetween p (popCall settled) = p

@@ -91,9 +91,9 @@ bookRegeneration next b = record {
 -- ---- renaming
 
 -- "The new version starts as the spare's numbers, or all unknown if fresh"
-abbrev pub heldOf : Option (Spare Retired) → Held
-heldOf none = Unknown
-heldOf (some s) = s .held
+abbrev pub heldBySpare : Option (Spare Retired) → Held
+heldBySpare none = Unknown
+heldBySpare (some s) = s .held
 
 abbrev pub numbersOf : Option (Spare Retired) → Numbers
 numbersOf none = λ t. none

@@ -11,7 +11,7 @@ use Rattle.base_blocks.specs.Blocks.{moved}
 use Rattle.base_blocks.proofs.Lists.{total-get}
 use Rattle.base_tables.specs.Rings.{laid}
 use Rattle.grid_shapes.specs.Shapes.{bytesOf}
-use Rattle.pool_rules.specs.Model.{Spare, Doomed, VersionState, Pool, accepted, spareBytes, doomedBytes}
+use Rattle.pool_rules.specs.Model.{Spare, Doomed, VersionState, PoolModel, accepted, spareBytes, doomedBytes}
 use Rattle.pool_rules.specs.Updates.{withTextures, asDoomed, doomSpares}
 use Rattle.pool_rules.specs.ForgetTexture.{forgetTexture}
 use Rattle.pool_rules.proofs.Moves.{as-doomed-bytes, as-doomed-length}
@@ -23,7 +23,7 @@ use Rattle.pool_memory.specs.Lent.{Lent, lent, versionPlaces}
 use Rattle.pool_memory.specs.Reading.{trackedRecords, modelOf}
 use Rattle.pool_memory.specs.Writing.{doomedRecord, poolAfter, bookAfter, doomedAfter, sparesAfter, newestAfter, stampsAfter, after}
 use Rattle.pool_memory.specs.IsPool.{isPool}
-use Rattle.pool_memory.specs.Calls.{answer, forgetTextureCall}
+use Rattle.pool_memory.specs.Calls.{answer, forgetTextureOn}
 use Rattle.pool_memory.proofs.Fits.{Fits}
 use Rattle.pool_memory.proofs.FromPool.{pool-fits}
 use Rattle.pool_memory.proofs.Asked.{asked-accepted}
@@ -52,7 +52,7 @@ use Rattle.pool_rules.specs.RuleConstants.{mostPlaces}
 abbrev given : Lent → ℕ → List (Doomed ℕ)
 given l i = asDoomed (bytesOf (stateOf l i .shape)) (stateOf l i .spares)
 
-abbrev forgotten : Lent → ℕ → Pool ℕ
+abbrev forgotten : Lent → ℕ → PoolModel ℕ
 forgotten l i = doomSpares (given l i) (withTextures (removed i 1 (modelOf l .textures)) (modelOf l))
 
 -- as the code counts them
@@ -66,7 +66,7 @@ module _ (l : Lent) (f : Fits l) (i : ℕ) (h : i < l .pool .tracked) where
   abbrev out : List (Doomed ℕ)
   out = given l i
 
-  abbrev left : Pool ℕ
+  abbrev left : PoolModel ℕ
   left = forgotten l i
 
   -- ---- what the calls of its parts ask for
@@ -286,14 +286,14 @@ module _ (l : Lent) (pool : isPool l ≡ true) (id : ℕ) where
     is-nowhere q (h, e) = not-found (l .textures) (l .pool .tracked) i id up at q (place l id up) h (ap idOf (sym (record-read l (place l id up) h)) ∙ e)
 
     pub forget-tracked : hasId (l .textures) (l .pool .tracked) i id ≡ true → (r : Lent) → r ≡ after (forgotten l i) l
-        → (answer tt, r) ≡ forgetTextureCall l id
-    unfolding forgetTextureCall
+        → (answer tt, r) ≡ forgetTextureOn l id
+    unfolding forgetTextureOn
     forget-tracked q r e =
         ap (λ (s : Lent). (answer tt, s)) (e ∙ ap (λ (k : ℕ). after (forgotten l k) l) at)
-        ∙ sym (asked-accepted (λ a. a) l (λ (p : Pool ℕ). forgetTexture p id) pool tt (forgotten l (place l id up)) (rule-tracked (is-there q)))
+        ∙ sym (asked-accepted (λ a. a) l (λ (p : PoolModel ℕ). forgetTexture p id) pool tt (forgotten l (place l id up)) (rule-tracked (is-there q)))
 
-    pub forget-untracked : hasId (l .textures) (l .pool .tracked) i id ≡ false → (answer tt, l) ≡ forgetTextureCall l id
-    unfolding forgetTextureCall
+    pub forget-untracked : hasId (l .textures) (l .pool .tracked) i id ≡ false → (answer tt, l) ≡ forgetTextureOn l id
+    unfolding forgetTextureOn
     forget-untracked q =
-        sym (asked-accepted (λ a. a) l (λ (p : Pool ℕ). forgetTexture p id) pool tt (modelOf l) (rule-untracked (is-nowhere q))
+        sym (asked-accepted (λ a. a) l (λ (p : PoolModel ℕ). forgetTexture p id) pool tt (modelOf l) (rule-untracked (is-nowhere q))
         ∙ ap (λ (s : Lent). (answer tt, s)) (nothing-changed l f))

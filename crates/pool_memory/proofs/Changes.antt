@@ -13,7 +13,7 @@ use Rattle.base_blocks.proofs.Lists.{removed-none}
 use Rattle.base_blocks.proofs.Listed.{length-listed, drop-listed, take-listed}
 use Rattle.base_tables.specs.Records.{table, flat}
 use Rattle.base_tables.proofs.Records.{removed-records, inserted-records, replaced-record}
-use Rattle.pool_rules.specs.Model.{Spare, VersionState, Pool}
+use Rattle.pool_rules.specs.Model.{Spare, VersionState, PoolModel}
 use Rattle.pool_rules.specs.TakeSpare.{newest, others}
 use Rattle.pool_records.specs.declared.texture.TextureRecord.{TextureRecord}
 use Rattle.pool_records.specs.declared.spare.SpareRecord.{SpareRecord}
@@ -31,7 +31,7 @@ use Rattle.pool_records.specs.RecordConstants.{spareStride, textureStride}
 
 -- ---- the textures' records
 
-module _ (l : Lent) (p : Pool ℕ) (f : Fits l) where
+module _ (l : Lent) (p : PoolModel ℕ) (f : Fits l) where
   fits : textureStride * l .pool .tracked ≤ length (l .textures)
   fits = omega (arith, f .textures, f .tracked)
 
@@ -175,7 +175,7 @@ module _ (l : Lent) where
 
 -- ---- the spares' records
 
-module _ (l : Lent) (p : Pool ℕ) (kept : total sparesOf (trackedRecords l) ≡ l .pool .kept) (fits : spareStride * l .pool .kept ≤ length (l .spares)) where
+module _ (l : Lent) (p : PoolModel ℕ) (kept : total sparesOf (trackedRecords l) ≡ l .pool .kept) (fits : spareStride * l .pool .kept ≤ length (l .spares)) where
   -- the records of all the spares
   pub table-spares : map spareRecord (sparesBefore l) ≡ table spareStride readSpare (l .pool .kept) (l .spares)
   table-spares =

@@ -6,7 +6,7 @@ use native.Mathlib.Omega.{arith}
 use lib.ListN.{length, take, drop, length-append}
 use Rattle.base_blocks.specs.Lists.{total, removed, inserted}
 use Rattle.base_blocks.proofs.Lists.{length-removed, length-inserted, total-append}
-use Rattle.pool_rules.specs.Model.{Spare, VersionState, Pool, pagesUsed}
+use Rattle.pool_rules.specs.Model.{Spare, VersionState, PoolModel, pagesUsed}
 use Rattle.pool_rules.proofs.Lists.{total-cut}
 use Rattle.pool_memory.specs.Lent.{Lent}
 use Rattle.pool_memory.specs.Reading.{trackedRecords, modelOf}
@@ -23,7 +23,7 @@ unfolding total flatMap
 count-spares [] = refl
 count-spares (t ∷ ts) = ap (λ (n : ℕ). spareCount t + n) (count-spares ts) ∙ sym (length-append (t .spares) (everySpare ts))
 
-module _ (l : Lent) (p : Pool ℕ) where
+module _ (l : Lent) (p : PoolModel ℕ) where
   -- ---- tracked textures
 
   pub tracked-removed : (i k : ℕ) → i + k ≤ l .pool .tracked → p .textures ≡ removed i k (modelOf l .textures)

@@ -6,7 +6,7 @@ use Prim.Native.Nat.{ℕ}
 use native.Mathlib.Omega.{arith}
 use Rattle.base_blocks.specs.Lists.{listed, all, total}
 use Rattle.base_tables.specs.Records.{table}
-use Rattle.pool_rules.specs.Model.{Pool}
+use Rattle.pool_rules.specs.Model.{PoolModel}
 use Rattle.pool_rules.specs.Open.{opened}
 use Rattle.pool_rules.specs.Formed.{Formed}
 use Rattle.pool_rules.proofs.Closure.{opened-formed}
@@ -47,5 +47,5 @@ module _ (working : ℕ) (textures retiring doomed spares newest stamps : List �
     claimed = refl;
     bytes = refl;
     mark = omega arith;
-    formed = subst (λ (p : Pool ℕ). Formed p) (sym opened-model) (opened-formed (modelOf new .places) (are-places new e) working);
+    formed = subst (λ (p : PoolModel ℕ). Formed p) (sym opened-model) (opened-formed (modelOf new .places) (are-places new e) working);
   }

@@ -11,7 +11,7 @@ use lib.ListN.{length, take, drop, getD, set}
 use lib.Seq.{sets, set-split, take-take}
 use Rattle.base_blocks.specs.Lists.{listed, over, total, ascending, removed}
 use Rattle.base_blocks.specs.Blocks.{moved}
-use Rattle.pool_rules.specs.Model.{WriteHistory, VersionState, Pool, pagesUsed}
+use Rattle.pool_rules.specs.Model.{WriteHistory, VersionState, PoolModel, pagesUsed}
 use Rattle.pool_rules.proofs.Lists.{total-cut}
 use Rattle.grid_stamps.specs.Grids.{StampGrid}
 use Rattle.pool_records.specs.Texture.{readTexture, recordPages}
@@ -87,7 +87,7 @@ unfolding flatMap pagesAfter pagesFrom
 no-stamps l t e =
     ap (λ (o : Option WriteHistory). pagesFrom (pageBefore l (firstPage (t .id) (t .shape) 0 (modelOf l .textures))) 0 (gridsOf o) ++ []) e
 
-module _ (l : Lent) (p : Pool ℕ) (i : ℕ) where
+module _ (l : Lent) (p : PoolModel ℕ) (i : ℕ) where
   pub removed-parts : p .textures ≡ removed i 1 (modelOf l .textures)
       → p .textures ≡ take i (modelOf l .textures) ++ ([] ++ drop (suc i) (modelOf l .textures))
   unfolding removed
@@ -99,7 +99,7 @@ module _ (l : Lent) (p : Pool ℕ) (i : ℕ) where
 
 -- ---- the textures from i up to j replaced by others
 
-module _ (l : Lent) (p : Pool ℕ) (pages : total recordPages (trackedRecords l) ≡ l .pool .pages) where
+module _ (l : Lent) (p : PoolModel ℕ) (pages : total recordPages (trackedRecords l) ≡ l .pool .pages) where
   module _ (i j : ℕ) (between : List (VersionState ℕ)) (h : i ≤ j)
       (e : p .textures ≡ take i (modelOf l .textures) ++ (between ++ drop j (modelOf l .textures))) where
     abbrev last : ℕ

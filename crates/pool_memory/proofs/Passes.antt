@@ -10,7 +10,7 @@ use Rattle.base_blocks.specs.Lists.{over, total, ascending}
 use Rattle.base_blocks.specs.Blocks.{moved}
 use Rattle.base_blocks.proofs.Lists.{over-nothing}
 use Rattle.base_tables.specs.Records.{recordAt, table, flat}
-use Rattle.pool_rules.specs.Model.{Spare, VersionState, Pool}
+use Rattle.pool_rules.specs.Model.{Spare, VersionState, PoolModel}
 use Rattle.pool_records.specs.declared.texture.TextureRecord.{TextureRecord}
 use Rattle.pool_records.specs.declared.spare.SpareRecord.{SpareRecord}
 use Rattle.pool_records.specs.Texture.{readTexture, writeTexture, textureIn, recordPages}
@@ -33,7 +33,7 @@ use Rattle.pool_records.specs.RecordConstants.{spareStride, textureStride}
 
 -- ---- at the start nothing is packed
 
-module _ (l : Lent) (p : Pool ℕ) (e : p .textures ≡ []) where
+module _ (l : Lent) (p : PoolModel ℕ) (e : p .textures ≡ []) where
   pub textures-start : texturesAfter p l ≡ l .textures
   unfolding texturesAfter flat
   textures-start = ap (λ (ts : List (VersionState ℕ)). over (flat writeTexture (map textureRecord ts)) (l .textures)) e ∙ over-nothing (l .textures)
@@ -53,7 +53,7 @@ module _ (l : Lent) (p : Pool ℕ) (e : p .textures ≡ []) where
 
 -- ---- what is not packed yet stands as it was
 
-module _ (l : Lent) (p : Pool ℕ) where
+module _ (l : Lent) (p : PoolModel ℕ) where
   pub texture-unread : (j : ℕ) → length (p .textures) ≤ j → textureIn (texturesAfter p l) j ≡ textureIn (l .textures) j
   unfolding texturesAfter
   texture-unread j h =
@@ -67,7 +67,7 @@ module _ (l : Lent) (p : Pool ℕ) where
 
 -- ---- one texture more
 
-module _ (l : Lent) (p q : Pool ℕ) (t : VersionState ℕ) (e : q .textures ≡ p .textures ++ (t ∷ [])) where
+module _ (l : Lent) (p q : PoolModel ℕ) (t : VersionState ℕ) (e : q .textures ≡ p .textures ++ (t ∷ [])) where
   pub texture-packed : textureStride * length (p .textures) + textureStride ≤ length (l .textures)
       → sets (texturesAfter p l) (textureStride * length (p .textures)) (writeTexture (textureRecord t)) ≡ texturesAfter q l
   unfolding texturesAfter

@@ -13,7 +13,7 @@ use Rattle.base_tables.specs.Records.{flat}
 use Rattle.base_tables.specs.Rings.{laid}
 use Rattle.base_tables.proofs.Records.{length-flat, reread}
 use Rattle.base_tables.proofs.Rings.{place-in, length-laid}
-use Rattle.pool_rules.specs.Model.{Retiring, VersionState, Places, Pool, pagesUsed, handCount, versionsUsed}
+use Rattle.pool_rules.specs.Model.{Retiring, VersionState, Places, PoolModel, pagesUsed, handCount, versionsUsed}
 use Rattle.pool_rules.specs.Open.{arePlaces}
 use Rattle.pool_rules.specs.Formed.{Formed}
 use Rattle.pool_records.specs.declared.texture.TextureRecord.{TextureRecord}
@@ -48,7 +48,7 @@ mark-back : (b : Bool) → eqb (markOf b) 1 ≡ b
 mark-back true = refl
 mark-back false = refl
 
-module _ (l : Lent) (p : Pool ℕ) (fits : Fits l) (formed : Formed p) (same : p .places ≡ modelOf l .places) where
+module _ (l : Lent) (p : PoolModel ℕ) (fits : Fits l) (formed : Formed p) (same : p .places ≡ modelOf l .places) where
   -- ---- the pool has room in the slices
 
   texture-room : length (p .textures) ≤ modelOf l .places .textures
@@ -221,7 +221,7 @@ module _ (l : Lent) (p : Pool ℕ) (fits : Fits l) (formed : Formed p) (same : p
     claimed = ap (total recordPages) records-back ∙ pages-recorded (p .textures);
     bytes = bytes-back;
     mark = mark-few (p .pacing .pressed);
-    formed = subst (λ (q : Pool ℕ). Formed q) (sym read-back) formed;
+    formed = subst (λ (q : PoolModel ℕ). Formed q) (sym read-back) formed;
   }
 
   pub after-pool : isPool (after p l) ≡ true

@@ -14,7 +14,7 @@ use Rattle.base_tables.specs.Records.{recordAt}
 use Rattle.base_tables.specs.Rings.{placeOf, along, ring, laid}
 use Rattle.base_tables.proofs.Records.{Codec}
 use Rattle.base_tables.proofs.Rings.{place-in, place-head, place-place, laid-ring}
-use Rattle.pool_rules.specs.Model.{Retiring, Doomed, Pool, handCount}
+use Rattle.pool_rules.specs.Model.{Retiring, Doomed, PoolModel, handCount}
 use Rattle.pool_records.specs.declared.retiring.RetiringRecord.{RetiringRecord}
 use Rattle.pool_records.specs.declared.doomed.DoomedRecord.{DoomedRecord}
 use Rattle.pool_records.specs.Retiring.{readRetiring, writeRetiring}
@@ -100,7 +100,7 @@ module _ (l : Lent) where
   unfolding modelOf
   queue-behind e = ap (λ (n : ℕ). listed (retiringRead l) n (l .pool .queued)) e
 
-  module _ (p : Pool ℕ) where
+  module _ (p : PoolModel ℕ) where
     abbrev popped : ℕ
     popped = l .pool .popped
 
@@ -181,7 +181,7 @@ module _ (l : Lent) where
 
 -- ---- the destroy ring
 
-module _ (l : Lent) (p : Pool ℕ) where
+module _ (l : Lent) (p : PoolModel ℕ) where
   doomed-records : (k n : ℕ)
       → map doomedRecord (listed (doomedRead l) k n) ≡ listed (along doomedStride readDoomed (versionPlaces l) (l .pool .first) (l .doomed)) k n
   unfolding doomedRead

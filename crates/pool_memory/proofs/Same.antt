@@ -12,7 +12,7 @@ use Rattle.base_blocks.proofs.Lists.{over-self}
 use Rattle.base_blocks.proofs.Listed.{length-listed, map-listed}
 use Rattle.base_tables.specs.Records.{table, flat}
 use Rattle.base_tables.proofs.Records.{over-table}
-use Rattle.pool_rules.specs.Model.{Pool, pagesUsed}
+use Rattle.pool_rules.specs.Model.{PoolModel, pagesUsed}
 use Rattle.pool_records.specs.declared.texture.TextureRecord.{TextureRecord}
 use Rattle.pool_records.specs.declared.spare.SpareRecord.{SpareRecord}
 use Rattle.pool_records.specs.Texture.{writeTexture, recordPages}
@@ -45,7 +45,7 @@ pub spare-records : (l : Lent) (n : ℕ) → map spareRecord (listed (spareRead 
 unfolding spareRead table
 spare-records l n = map-listed spareRecord (spareRead l) 0 n
 
-module _ (l : Lent) (p : Pool ℕ) where
+module _ (l : Lent) (p : PoolModel ℕ) where
   pub textures-same : textureStride * l .pool .tracked ≤ length (l .textures) → map textureRecord (p .textures) ≡ trackedRecords l
       → texturesAfter p l ≡ l .textures
   unfolding texturesAfter

@@ -8,7 +8,7 @@ use lib.Dec.{ltb}
 use lib.ListN.{length}
 use Rattle.base_blocks.specs.Lists.{ascending, total}
 use Rattle.base_blocks.specs.All.{All, nil, cons}
-use Rattle.pool_rules.specs.Model.{Doomed, VersionState, Pool, doomedBytes}
+use Rattle.pool_rules.specs.Model.{Doomed, VersionState, PoolModel, doomedBytes}
 use Rattle.pool_rules.specs.Formed.{DoomedFormed}
 use Rattle.pool_records.specs.declared.texture.TextureRecord.{TextureRecord}
 use Rattle.pool_records.specs.Find.{idOf}
@@ -29,7 +29,7 @@ use Rattle.pool_records.specs.RecordConstants.{spareStride, textureStride}
 use Rattle.pool_records.specs.Texture.{recordPages}
 
 -- what a call leaves, slice by slice
-pub put-together : (p : Pool ℕ) (l : Lent) (c : Counts) (b : PacingBook) (textures retiring doomed spares newest stamps : List ℕ)
+pub put-together : (p : PoolModel ℕ) (l : Lent) (c : Counts) (b : PacingBook) (textures retiring doomed spares newest stamps : List ℕ)
     → c ≡ poolAfter p l → b ≡ bookAfter p → textures ≡ texturesAfter p l → retiring ≡ retiringAfter p l → doomed ≡ doomedAfter p l
     → spares ≡ sparesAfter p l → newest ≡ newestAfter p l → stamps ≡ stampsAfter p l
     → lent c b textures retiring doomed spares newest stamps ≡ after p l
@@ -75,7 +75,7 @@ module _ (l : Lent) (f : Fits l) where
       after-same l (f .kept) (f .claimed) (f .head) (f .first) (f .hand) textures-fit (omega (arith, f .retiring)) (omega (arith, f .doomed))
       (omega (arith, f .spares, f .versions)) (f .pages) ring-fits doomed-fit (f .bytes) (f .mark) ids-ascend
 
-  module _ (p : Pool ℕ) where
+  module _ (p : PoolModel ℕ) where
     pub book-stays : p .pacing ≡ modelOf l .pacing → l .book ≡ bookAfter p
     unfolding bookAfter
     book-stays e =

@@ -10,7 +10,7 @@ use Rattle.grid_shapes.specs.declared.shape.VersionShape.{VersionShape}
 use Rattle.grid_stamps.specs.Grids.{Tiling, StampGrid}
 use Rattle.pool_rules.specs.declared.held.Held.{Held}
 use Rattle.pool_rules.specs.declared.held.Held.the-variants.{Known, Unknown}
-use Rattle.pool_rules.specs.Model.{WriteHistory, Spare, Retiring, Doomed, VersionState, Pool}
+use Rattle.pool_rules.specs.Model.{WriteHistory, Spare, Retiring, Doomed, VersionState, PoolModel}
 use Rattle.pool_rules.specs.Formed.{Given, HeldFormed, GridFormed, HistoryFormed, SpareFormed, RetiringFormed, DoomedFormed, StateFormed, Formed}
 use Rattle.pool_memory.specs.Lent.{Lent}
 use Rattle.pool_memory.specs.Reading.{modelOf}
@@ -62,7 +62,7 @@ arrival-passes : (n : ℕ) → n ≤ mostPlaces → isArrival n ≡ true
 unfolding isArrival
 arrival-passes n h = le-leb _ _ h
 
-pub formed-passes : (p : Pool ℕ) → Formed p → isFormed p ≡ true
+pub formed-passes : (p : PoolModel ℕ) → Formed p → isFormed p ≡ true
 unfolding isFormed
 formed-passes p f =
     every (cons (ascending-passes (f .ids)) (cons (all-passes isState state-passes (f .textures)) (cons (all-passes isRetiring retiring-passes (f .retiring))

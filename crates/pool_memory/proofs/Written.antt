@@ -17,7 +17,7 @@ use Rattle.grid_shapes.specs.Shapes.{slicesOf, sameShape}
 use Rattle.grid_shapes.proofs.Shapes.{same-self}
 use Rattle.grid_stamps.specs.Grids.{StampGrid, gridIn, tilingOf}
 use Rattle.grid_stamps.proofs.RowByRow.{tile-place}
-use Rattle.pool_rules.specs.Model.{WriteHistory, VersionState, Pool, hasHistory, pagesOf}
+use Rattle.pool_rules.specs.Model.{WriteHistory, VersionState, PoolModel, hasHistory, pagesOf}
 use Rattle.pool_rules.specs.Histories.{gridAt, gridPlace}
 use Rattle.pool_records.specs.Find.{idOf}
 use Rattle.pool_records.specs.Texture.{readTexture, recordPages}
@@ -81,7 +81,7 @@ whole-set before d gs k g w q j h = go (ℕ-discrete j k)
         ∙ ap (λ (x : StampGrid). length (over (x .stamps) (before (0 + k)))) (getD-set-same gs k g d (omega (arith, m))) ∙ q
     go (no e) = ap (λ (x : StampGrid). length (over (x .stamps) (before (0 + j)))) (getD-set-other gs k j g d e) ∙ w j m
 
-module _ (l : Lent) (p : Pool ℕ) (pages : total recordPages (trackedRecords l) ≡ l .pool .pages) (i : ℕ) (h : i < l .pool .tracked)
+module _ (l : Lent) (p : PoolModel ℕ) (pages : total recordPages (trackedRecords l) ≡ l .pool .pages) (i : ℕ) (h : i < l .pool .tracked)
     (t : VersionState ℕ)
     (e : p .textures ≡ set (modelOf l .textures) i t) where
   -- ---- newest

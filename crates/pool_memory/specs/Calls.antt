@@ -14,7 +14,7 @@ use Rattle.grid_rects.specs.declared.rect.Region.{Region}
 use Rattle.grid_rects.specs.declared.rect.Region.the-variants.{Whole, Part}
 use Rattle.pool_rules.specs.declared.held.Held.{Held}
 use Rattle.pool_rules.specs.Budget.{budgetOf}
-use Rattle.pool_rules.specs.Model.{Spare, Retiring, Pool, Out, refused, accepted, PreserveCopy, UploadFootprint}
+use Rattle.pool_rules.specs.Model.{Spare, Retiring, PoolModel, Out, refused, accepted, PreserveCopy, UploadFootprint}
 use Rattle.pool_rules.specs.TakeSpare.{takeSpare}
 use Rattle.pool_rules.specs.PreservePlan.{preservePlan}
 use Rattle.pool_rules.specs.Retire.{retire}
@@ -65,22 +65,22 @@ openNumber l = cond (sizesFit l) 0 1
 
 -- ---- what a call says
 
--- 01's number of a refusal, or outcome 0 with the answer's values
+-- 01's number of a refusedWith, or outcome 0 with the answer's values
 pub data Told (A : Type 0) : Type 0 where
-  refusal : ℕ → Told A
+  refusedWith : ℕ → Told A
   answer : A → Told A
 
 -- a call that answers nothing but its outcome
 abbrev pub toldNumber : ℕ → Told (Unit {0})
-toldNumber n = cond (eqb n 0) (answer tt) (refusal n)
+toldNumber n = cond (eqb n 0) (answer tt) (refusedWith n)
 
--- a refusal leaves everything as it was
+-- a refusedWith leaves everything as it was
 abbrev pub writtenBack : {A B : Type 0} → (A → B) → Lent → Out ℕ A → Told B × Lent
-writtenBack f l (refused n) = (refusal n, l)
+writtenBack f l (refused n) = (refusedWith n, l)
 writtenBack f l (accepted a p) = (answer (f a), after p l)
 
-unfoldable pub asked : {A B : Type 0} → (A → B) → Lent → (Pool ℕ → Out ℕ A) → Told B × Lent
-asked f l rule = cond (isPool l) (writtenBack f l (rule (modelOf l))) (refusal 1, l)
+unfoldable pub asked : {A B : Type 0} → (A → B) → Lent → (PoolModel ℕ → Out ℕ A) → Told B × Lent
+asked f l rule = cond (isPool l) (writtenBack f l (rule (modelOf l))) (refusedWith 1, l)
 
 -- ---- the calls that answer numbers
 
@@ -93,17 +93,17 @@ abbrev pub takenOf : Option (Spare ℕ) → Option TakenVersion
 takenOf none = none
 takenOf (some s) = some (record { view = s .view; held = s .held })
 
-unfoldable pub takeSpareCall : Lent → ℕ → VersionShape → Bool → ℕ → Told (Option TakenVersion) × Lent
-takeSpareCall l id shape records seq = asked takenOf l (λ (p : Pool ℕ). takeSpare p id shape records seq)
+unfoldable pub takeSpareOn : Lent → ℕ → VersionShape → Bool → ℕ → Told (Option TakenVersion) × Lent
+takeSpareOn l id shape records seq = asked takenOf l (λ (p : PoolModel ℕ). takeSpare p id shape records seq)
 
-unfoldable pub retireCall : Lent → ℕ → ℕ → ℕ → Told (Unit {0}) × Lent
-retireCall l id view seq = asked (λ a. a) l (λ (p : Pool ℕ). retire p id view seq)
+unfoldable pub retireOn : Lent → ℕ → ℕ → ℕ → Told (Unit {0}) × Lent
+retireOn l id view seq = asked (λ a. a) l (λ (p : PoolModel ℕ). retire p id view seq)
 
-unfoldable pub noteWriteCall : Lent → ℕ → ℕ → ℕ → TexelRect → Told (Unit {0}) × Lent
-noteWriteCall l id slice level r = asked (λ a. a) l (λ (p : Pool ℕ). noteWrite p id slice level r)
+unfoldable pub noteWriteOn : Lent → ℕ → ℕ → ℕ → TexelRect → Told (Unit {0}) × Lent
+noteWriteOn l id slice level r = asked (λ a. a) l (λ (p : PoolModel ℕ). noteWrite p id slice level r)
 
-unfoldable pub noteMipRegenerationCall : Lent → ℕ → Told (Unit {0}) × Lent
-noteMipRegenerationCall l id = asked (λ a. a) l (λ (p : Pool ℕ). noteMipRegeneration p id)
+unfoldable pub noteMipRegenerationOn : Lent → ℕ → Told (Unit {0}) × Lent
+noteMipRegenerationOn l id = asked (λ a. a) l (λ (p : PoolModel ℕ). noteMipRegeneration p id)
 
 -- the popped version's id and view number
 pub record PoppedVersion : Type 0 where
@@ -114,26 +114,26 @@ abbrev pub poppedOf : Option (Retiring ℕ) → Option PoppedVersion
 poppedOf none = none
 poppedOf (some v) = some (record { id = v .id; view = v .view })
 
-unfoldable pub popRetiredCall : Lent → ℕ → Told (Option PoppedVersion) × Lent
-popRetiredCall l settled = asked poppedOf l (λ (p : Pool ℕ). popRetired p settled)
+unfoldable pub popRetiredOn : Lent → ℕ → Told (Option PoppedVersion) × Lent
+popRetiredOn l settled = asked poppedOf l (λ (p : PoolModel ℕ). popRetired p settled)
 
-unfoldable pub parkCall : Lent → ℕ → ℕ → Told (Unit {0}) × Lent
-parkCall l failed now = asked (λ a. a) l (λ (p : Pool ℕ). park p failed now)
+unfoldable pub parkOn : Lent → ℕ → ℕ → Told (Unit {0}) × Lent
+parkOn l failed now = asked (λ a. a) l (λ (p : PoolModel ℕ). park p failed now)
 
-unfoldable pub noteAllocatedCall : Lent → ℕ → Told (Unit {0}) × Lent
-noteAllocatedCall l allocated = asked (λ a. a) l (λ (p : Pool ℕ). noteAllocated p allocated)
+unfoldable pub noteAllocatedOn : Lent → ℕ → Told (Unit {0}) × Lent
+noteAllocatedOn l allocated = asked (λ a. a) l (λ (p : PoolModel ℕ). noteAllocated p allocated)
 
-unfoldable pub trimCall : Lent → ℕ → Told (Unit {0}) × Lent
-trimCall l now = asked (λ a. a) l (λ (p : Pool ℕ). trim p now)
+unfoldable pub trimOn : Lent → ℕ → Told (Unit {0}) × Lent
+trimOn l now = asked (λ a. a) l (λ (p : PoolModel ℕ). trim p now)
 
-unfoldable pub forgetTextureCall : Lent → ℕ → Told (Unit {0}) × Lent
-forgetTextureCall l id = asked (λ a. a) l (λ (p : Pool ℕ). forgetTexture p id)
+unfoldable pub forgetTextureOn : Lent → ℕ → Told (Unit {0}) × Lent
+forgetTextureOn l id = asked (λ a. a) l (λ (p : PoolModel ℕ). forgetTexture p id)
 
 -- ---- the calls that fill an answer buffer
 
 -- how many entries the answer has, and the buffer: entries past an accepted answer keep what they held
 abbrev pub inBuffer : {A : Type 0} → (A → List ℕ) → List ℕ → Told (List A) × Lent → Told ℕ × (List ℕ × Lent)
-inBuffer wr buffer (refusal n, l) = (refusal n, (buffer, l))
+inBuffer wr buffer (refusedWith n, l) = (refusedWith n, (buffer, l))
 inBuffer wr buffer (answer xs, l) = (answer (length xs), (over (flat wr xs) buffer, l))
 
 -- seven numbers a copy: slice, level, whole or not, left, top, width, height
@@ -144,16 +144,16 @@ regionNumbers (Part r) = 0 ∷ r .x ∷ r .y ∷ r .width ∷ r .height ∷ []
 unfoldable pub copyNumbers : PreserveCopy → List ℕ
 copyNumbers c = c .slice ∷ c .level ∷ regionNumbers (c .region)
 
-unfoldable pub preservePlanCall : Lent → List ℕ → ℕ → VersionShape → Held → UploadFootprint → Told ℕ × (List ℕ × Lent)
-preservePlanCall l buffer id shape held u =
-    inBuffer copyNumbers buffer (asked (λ a. a) l (λ (p : Pool ℕ). preservePlan p id shape held u (length buffer / copyStride)))
+unfoldable pub preservePlanOn : Lent → List ℕ → ℕ → VersionShape → Held → UploadFootprint → Told ℕ × (List ℕ × Lent)
+preservePlanOn l buffer id shape held u =
+    inBuffer copyNumbers buffer (asked (λ a. a) l (λ (p : PoolModel ℕ). preservePlan p id shape held u (length buffer / copyStride)))
 
 -- one view number an entry
 abbrev pub viewNumbers : ℕ → List ℕ
 viewNumbers n = n ∷ []
 
-unfoldable pub takeDoomedCall : Lent → List ℕ → Told ℕ × (List ℕ × Lent)
-takeDoomedCall l buffer = inBuffer viewNumbers buffer (asked (λ a. a) l (λ (p : Pool ℕ). takeDoomed p (length buffer)))
+unfoldable pub takeDoomedOn : Lent → List ℕ → Told ℕ × (List ℕ × Lent)
+takeDoomedOn l buffer = inBuffer viewNumbers buffer (asked (λ a. a) l (λ (p : PoolModel ℕ). takeDoomed p (length buffer)))
 
-unfoldable pub drainVersionsCall : Lent → List ℕ → Told ℕ × (List ℕ × Lent)
-drainVersionsCall l buffer = inBuffer viewNumbers buffer (asked (λ a. a) l (λ (p : Pool ℕ). drainVersions p (length buffer)))
+unfoldable pub drainVersionsOn : Lent → List ℕ → Told ℕ × (List ℕ × Lent)
+drainVersionsOn l buffer = inBuffer viewNumbers buffer (asked (λ a. a) l (λ (p : PoolModel ℕ). drainVersions p (length buffer)))

@@ -11,7 +11,7 @@ use Rattle.grid_stamps.specs.Grids.{StampGrid}
 use Rattle.base_blocks.specs.Blocks.{largest}
 use Rattle.pool_rules.specs.declared.held.Held.{Held}
 use Rattle.pool_rules.specs.declared.held.Held.the-variants.{Known, Unknown}
-use Rattle.pool_rules.specs.Model.{WriteHistory, Spare, Retiring, Doomed, VersionState, Pool, limit, spareBytes, doomedBytes}
+use Rattle.pool_rules.specs.Model.{WriteHistory, Spare, Retiring, Doomed, VersionState, PoolModel, limit, spareBytes, doomedBytes}
 use Rattle.pool_rules.specs.Open.{arePlaces}
 use Rattle.pool_records.specs.declared.texture.TextureRecord.{TextureRecord}
 use Rattle.pool_memory.specs.Lent.{Lent, versionPlaces}
@@ -105,7 +105,7 @@ isDoomed d = leb (d .bytes) mostShapeBytes
 unfoldable pub isArrival : ℕ → Bool
 isArrival n = leb n mostPlaces
 
-unfoldable pub isFormed : Pool ℕ → Bool
+unfoldable pub isFormed : PoolModel ℕ → Bool
 isFormed p = tests (
     ascending stateId (p .textures)
     ∷ all isState (p .textures)

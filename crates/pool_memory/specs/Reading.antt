@@ -9,7 +9,7 @@ use Rattle.base_tables.specs.Records.{recordAt}
 use Rattle.base_tables.specs.Rings.{along}
 use Rattle.grid_shapes.specs.declared.shape.VersionShape.{VersionShape}
 use Rattle.grid_stamps.specs.Grids.{StampGrid, gridIn, tilingOf}
-use Rattle.pool_rules.specs.Model.{WriteHistory, Spare, Retiring, Doomed, VersionState, Pool, pagesOf}
+use Rattle.pool_rules.specs.Model.{WriteHistory, Spare, Retiring, Doomed, VersionState, PoolModel, pagesOf}
 use Rattle.pool_records.specs.declared.recorded.Recorded.{Recorded}
 use Rattle.pool_records.specs.declared.recorded.Recorded.the-variants.{Writes, NoHistory}
 use Rattle.pool_records.specs.declared.texture.TextureRecord.{TextureRecord}
@@ -78,7 +78,7 @@ doomedRead l k = doomedOf (along doomedStride readDoomed (versionPlaces l) (l .p
 
 -- ---- the pool
 
-unfoldable pub modelOf : Lent → Pool ℕ
+unfoldable pub modelOf : Lent → PoolModel ℕ
 modelOf l = record {
   textures = statesRead l 0 0 (trackedRecords l);
   retiring = listed (retiringRead l) (l .pool .popped) (l .pool .queued);

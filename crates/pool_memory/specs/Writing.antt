@@ -11,7 +11,7 @@ use Rattle.base_tables.specs.Rings.{placeOf, laid}
 use Rattle.grid_shapes.specs.declared.shape.VersionShape.{VersionShape}
 use Rattle.grid_shapes.specs.Shapes.{sameShape, bytesOf}
 use Rattle.grid_stamps.specs.Grids.{StampGrid}
-use Rattle.pool_rules.specs.Model.{WriteHistory, Spare, Retiring, Doomed, VersionState, Pool, hasHistory, pagesUsed, handCount}
+use Rattle.pool_rules.specs.Model.{WriteHistory, Spare, Retiring, Doomed, VersionState, PoolModel, hasHistory, pagesUsed, handCount}
 use Rattle.pool_records.specs.declared.recorded.Recorded.{Recorded}
 use Rattle.pool_records.specs.declared.recorded.Recorded.the-variants.{Writes, NoHistory}
 use Rattle.pool_records.specs.declared.texture.TextureRecord.{TextureRecord}
@@ -59,14 +59,14 @@ doomedRecord d = record { view = d .view; bytes = d .bytes }
 
 -- ---- packed slices
 
-unfoldable pub texturesAfter : Pool ℕ → Lent → List ℕ
+unfoldable pub texturesAfter : PoolModel ℕ → Lent → List ℕ
 texturesAfter p l = over (flat writeTexture (map textureRecord (p .textures))) (l .textures)
 
 -- every texture's spares, in ascending id
 abbrev pub everySpare : List (VersionState ℕ) → List (Spare ℕ)
 everySpare ts = flatMap (λ (t : VersionState ℕ). t .spares) ts
 
-unfoldable pub sparesAfter : Pool ℕ → Lent → List ℕ
+unfoldable pub sparesAfter : PoolModel ℕ → Lent → List ℕ
 sparesAfter p l = over (flat writeSpare (map spareRecord (everySpare (p .textures)))) (l .spares)
 
 abbrev pub gridsOf : Option WriteHistory → List StampGrid
@@ -76,7 +76,7 @@ gridsOf (some h) = h .grids
 abbrev pub newestOf : VersionState ℕ → List ℕ
 newestOf t = map (λ (g : StampGrid). g .newest) (gridsOf (t .history))
 
-unfoldable pub newestAfter : Pool ℕ → Lent → List ℕ
+unfoldable pub newestAfter : PoolModel ℕ → Lent → List ℕ
 newestAfter p l = over (flatMap newestOf (p .textures)) (l .newest)
 
 -- ---- pages: a texture of the same id and shape that had a history has it still, and its pages keep what stands past the stamps; a fresh page is
@@ -100,30 +100,30 @@ pagesFrom before k (g ∷ gs) = over (g .stamps) (before k) ++ pagesFrom before 
 unfoldable pub pagesAfter : Lent → VersionState ℕ → List ℕ
 pagesAfter l t = pagesFrom (pageBefore l (firstPage (t .id) (t .shape) 0 (modelOf l .textures))) 0 (gridsOf (t .history))
 
-unfoldable pub stampsAfter : Pool ℕ → Lent → List ℕ
+unfoldable pub stampsAfter : PoolModel ℕ → Lent → List ℕ
 stampsAfter p l = over (flatMap (pagesAfter l) (p .textures)) (l .stamps)
 
 -- ---- rings: a head moves on by as many as left at the front, by parking and by a take of doomed versions
 
-unfoldable pub headAfter : Pool ℕ → Lent → ℕ
+unfoldable pub headAfter : PoolModel ℕ → Lent → ℕ
 headAfter p l = placeOf (versionPlaces l) (l .pool .head) (l .pool .popped - handCount (p .hand))
 
 abbrev pub handList : Option (Retiring ℕ) → List (Retiring ℕ)
 handList none = []
 handList (some v) = v ∷ []
 
-unfoldable pub retiringAfter : Pool ℕ → Lent → List ℕ
+unfoldable pub retiringAfter : PoolModel ℕ → Lent → List ℕ
 retiringAfter p l = laid retiringStride writeRetiring (versionPlaces l) (headAfter p l) 0 (map retiringRecord (handList (p .hand) ++ p .retiring)) (l .retiring)
 
-unfoldable pub firstAfter : Pool ℕ → Lent → ℕ
+unfoldable pub firstAfter : PoolModel ℕ → Lent → ℕ
 firstAfter p l = placeOf (versionPlaces l) (l .pool .first) (l .pool .doomed - length (p .doomed))
 
-unfoldable pub doomedAfter : Pool ℕ → Lent → List ℕ
+unfoldable pub doomedAfter : PoolModel ℕ → Lent → List ℕ
 doomedAfter p l = laid doomedStride writeDoomed (versionPlaces l) (firstAfter p l) 0 (map doomedRecord (p .doomed)) (l .doomed)
 
 -- ---- all of it
 
-unfoldable pub poolAfter : Pool ℕ → Lent → Counts
+unfoldable pub poolAfter : PoolModel ℕ → Lent → Counts
 poolAfter p l = record {
   tracked = length (p .textures);
   kept = total (λ (t : VersionState ℕ). length (t .spares)) (p .textures);
@@ -146,9 +146,9 @@ abbrev pub markOf : Bool → ℕ
 markOf true = 1
 markOf false = 0
 
-unfoldable pub bookAfter : Pool ℕ → PacingBook
+unfoldable pub bookAfter : PoolModel ℕ → PacingBook
 bookAfter p = record { arrivals = p .pacing .arrivals; slot = p .pacing .slot; pressed = markOf (p .pacing .pressed); excess = p .pacing .excess }
 
-unfoldable pub after : Pool ℕ → Lent → Lent
+unfoldable pub after : PoolModel ℕ → Lent → Lent
 after p l =
     lent (poolAfter p l) (bookAfter p) (texturesAfter p l) (retiringAfter p l) (doomedAfter p l) (sparesAfter p l) (newestAfter p l) (stampsAfter p l)

@@ -13,7 +13,7 @@ use Rattle.base_blocks.specs.Lists.{total}
 use Rattle.base_blocks.specs.All.{All, nil, cons}
 use Rattle.grid_shapes.specs.Shapes.{bytesOf}
 use Rattle.grid_shapes.proofs.ShapeBytes.{bytes-bound}
-use Rattle.pool_rules.specs.Model.{Doomed, VersionState, Pool, accepted, pagesUsed, spareBytes, doomedBytes}
+use Rattle.pool_rules.specs.Model.{Doomed, VersionState, PoolModel, accepted, pagesUsed, spareBytes, doomedBytes}
 use Rattle.pool_rules.specs.Updates.{withPacing}
 use Rattle.pool_rules.specs.NoteAllocated.{pressedAfter, countOf, pickedIn, relieved, noteAllocated}
 use Rattle.pool_rules.specs.Formed.{StateFormed}
@@ -23,7 +23,7 @@ use Rattle.pool_memory.specs.Lent.{Lent, lent}
 use Rattle.pool_memory.specs.Reading.{modelOf}
 use Rattle.pool_memory.specs.Writing.{texturesAfter, sparesAfter, newestAfter, stampsAfter, headAfter, retiringAfter, firstAfter, doomedAfter, poolAfter, markOf, bookAfter, after}
 use Rattle.pool_memory.specs.IsPool.{isPool}
-use Rattle.pool_memory.specs.Calls.{answer, toldNumber, noteAllocatedCall}
+use Rattle.pool_memory.specs.Calls.{answer, toldNumber, noteAllocatedOn}
 use Rattle.pool_memory.proofs.Fits.{Fits}
 use Rattle.pool_memory.proofs.Runs.{spareCount, tracked-model, kept-model, pages-model}
 use Rattle.pool_memory.proofs.Kept.{pagedOf}
@@ -31,7 +31,7 @@ use Rattle.pool_memory.proofs.Rings.{hand-model, head-stays, first-stays}
 use Rattle.pool_memory.proofs.Same.{queued-model, doomed-model}
 use Rattle.pool_memory.proofs.Stays.{put-together, nothing-changed, newest-stay, stamps-stay, retiring-stay}
 use Rattle.pool_memory.proofs.Asked.{asked-accepted}
-use Rattle.pool_note_allocated.specs.NoteAllocated.{relievedPool, givenUp, Relieves, countsAfter, notedBook}
+use Rattle.pool_note_allocated.specs.NoteAllocated.{relievedPool, sparesGiven, Relieves, countsAfter, notedBook}
 use Rattle.pool_relief_line.proofs.Picked.{picked-none}
 use Rattle.pool_note_allocated.proofs.Chosen.{share, dooming-most}
 use Rattle.grid_shapes.specs.ShapeConstants.{mostShapeBytes}
@@ -62,7 +62,7 @@ module _ (l : Lent) (f : Fits l) (allocated : ℕ) where
   excess = allocated - l .pool .line
 
   -- the pool that the rule leaves
-  abbrev notedPool : Pool ℕ
+  abbrev notedPool : PoolModel ℕ
   notedPool =
       withPacing
       (record {
@@ -86,7 +86,7 @@ module _ (l : Lent) (f : Fits l) (allocated : ℕ) where
   spares-counted : total spareCount (modelOf l .textures) ≡ l .pool .kept
   spares-counted = kept-model l ∙ f .kept
 
-  kept-counted : poolAfter (relievedPool excess l) l .kept + length (givenUp excess l) ≡ l .pool .kept
+  kept-counted : poolAfter (relievedPool excess l) l .kept + length (sparesGiven excess l) ≡ l .pool .kept
   unfolding poolAfter
   kept-counted = given-count (share l excess) (modelOf l .textures) ∙ spares-counted
 
@@ -99,7 +99,7 @@ module _ (l : Lent) (f : Fits l) (allocated : ℕ) where
   since-counted = omega (arith, f .formed .since, doomed-model l)
 
   -- what the sums of the counts ask for
-  pub counts-need : {kept bytes : ℕ} → kept ≡ poolAfter (relievedPool excess l) l .kept → bytes ≡ doomedBytes (givenUp excess l)
+  pub counts-need : {kept bytes : ℕ} → kept ≡ poolAfter (relievedPool excess l) l .kept → bytes ≡ doomedBytes (sparesGiven excess l)
       → (kept ≤ l .pool .kept) × (l .pool .doomed + l .pool .kept ≤ mostPlaces) × (l .pool .since ≤ mostPlaces) × (bytes ≤ l .pool .parked) × (l .pool .dooming + bytes < 2 ^ 64)
   counts-need {kept} {bytes} e g =
       let le : bytes ≤ l .pool .parked = omega (arith, g, given-bytes (share l excess) (modelOf l .textures), parked-counted) in (
@@ -113,7 +113,7 @@ module _ (l : Lent) (f : Fits l) (allocated : ℕ) where
   -- ---- what relief leaves
 
   module _ {kept bytes : ℕ} {textures doomed spares : List ℕ} (r : Relieves l excess kept bytes textures doomed spares) where
-    given-counted : length (givenUp excess l) ≡ l .pool .kept - kept
+    given-counted : length (sparesGiven excess l) ≡ l .pool .kept - kept
     given-counted = omega (arith, r .count, kept-counted)
 
     hand-same : headAfter notedPool l ≡ l .pool .head
@@ -128,8 +128,8 @@ module _ (l : Lent) (f : Fits l) (allocated : ℕ) where
       head = hand-same i;
       popped = hand-model l (f .hand) i;
       queued = queued-model l i;
-      first = first-stays l notedPool (f .first) (omega (arith, doomed-model l, length-append (modelOf l .doomed) (givenUp excess l))) i;
-      doomed = (length-append (modelOf l .doomed) (givenUp excess l) ∙ ap₂ (λ (a b : ℕ). a + b) (doomed-model l) given-counted) i;
+      first = first-stays l notedPool (f .first) (omega (arith, doomed-model l, length-append (modelOf l .doomed) (sparesGiven excess l))) i;
+      doomed = (length-append (modelOf l .doomed) (sparesGiven excess l) ∙ ap₂ (λ (a b : ℕ). a + b) (doomed-model l) given-counted) i;
       since = ap (λ (n : ℕ). l .pool .since + n) given-counted i;
       trackings = l .pool .trackings;
       parked = ap (λ (n : ℕ). l .pool .parked - n) (sym (r .sum)) i;
@@ -152,14 +152,14 @@ module _ (l : Lent) (f : Fits l) (allocated : ℕ) where
 
     pub noted-relieved : isPool l ≡ true
         → (toldNumber 0, lent (countsAfter (l .pool) kept bytes) (notedBook (l .pool) (l .book) allocated) textures (l .retiring) doomed spares (l .newest) (l .stamps))
-        ≡ noteAllocatedCall l allocated
-    unfolding noteAllocatedCall
+        ≡ noteAllocatedOn l allocated
+    unfolding noteAllocatedOn
     noted-relieved e =
         let same = paged-lessened (share l excess) (modelOf l .textures) in
         ap (λ (m : Lent). (answer tt, m))
         (put-together notedPool l (countsAfter (l .pool) kept bytes) (notedBook (l .pool) (l .book) allocated) textures (l .retiring) doomed spares (l .newest) (l .stamps)
         counts-left book-noted records-left (retiring-stay l f notedPool refl refl) ring-left runs-left (newest-stay l f notedPool same) (stamps-stay l f notedPool same))
-        ∙ sym (asked-accepted (λ a. a) l (λ (p : Pool ℕ). noteAllocated p allocated) e tt notedPool the-rule)
+        ∙ sym (asked-accepted (λ a. a) l (λ (p : PoolModel ℕ). noteAllocated p allocated) e tt notedPool the-rule)
 
   -- ---- where the queued bytes cover the excess
 
@@ -173,7 +173,7 @@ module _ (l : Lent) (f : Fits l) (allocated : ℕ) where
   none-given-up [] = refl
   none-given-up (t ∷ ts) = none-given-up ts
 
-  nothing-relieved : (p : Pool ℕ) → relieved [] p ≡ p
+  nothing-relieved : (p : PoolModel ℕ) → relieved [] p ≡ p
   unfolding total
   nothing-relieved p =
       let ds = flatMap (given (λ t. countOf (t .id) [])) (p .textures) in
@@ -204,12 +204,12 @@ module _ (l : Lent) (f : Fits l) (allocated : ℕ) where
     unfolding after poolAfter bookAfter headAfter firstAfter texturesAfter retiringAfter doomedAfter sparesAfter newestAfter stampsAfter
     book-alone =
         let same = nothing-changed l f in
-        ap (λ (p : Pool ℕ). after (withPacing (notedPool .pacing) p) l) pool-stays
+        ap (λ (p : PoolModel ℕ). after (withPacing (notedPool .pacing) p) l) pool-stays
         ∙ (λ i. lent (same i .pool) (notedBook (l .pool) (l .book) allocated) (same i .textures) (same i .retiring) (same i .doomed) (same i .spares) (same i .newest) (same i .stamps))
 
     pub noted-covered : isPool l ≡ true
         → (toldNumber 0, lent (l .pool) (notedBook (l .pool) (l .book) allocated) (l .textures) (l .retiring) (l .doomed) (l .spares) (l .newest) (l .stamps))
-        ≡ noteAllocatedCall l allocated
-    unfolding noteAllocatedCall
+        ≡ noteAllocatedOn l allocated
+    unfolding noteAllocatedOn
     noted-covered e =
-        sym (asked-accepted (λ a. a) l (λ (p : Pool ℕ). noteAllocated p allocated) e tt notedPool the-rule ∙ ap (λ (m : Lent). (answer tt, m)) book-alone)
+        sym (asked-accepted (λ a. a) l (λ (p : PoolModel ℕ). noteAllocated p allocated) e tt notedPool the-rule ∙ ap (λ (m : Lent). (answer tt, m)) book-alone)

@@ -30,7 +30,7 @@ use Rattle.pool_memory.proofs.Stays.{textures-fit, doomed-fit}
 use Rattle.pool_take_doomed.specs.Given.{givenRecords}
 use Rattle.pool_relief_line.specs.Line.{IsLine, takenAt, gives}
 use Rattle.pool_relief_line.specs.Parked.{parkedAt, parkings, bytesFrom}
-use Rattle.pool_note_allocated.specs.NoteAllocated.{relievedPool, givenUp, Relieves}
+use Rattle.pool_note_allocated.specs.NoteAllocated.{relievedPool, sparesGiven, Relieves}
 use Rattle.pool_note_allocated.proofs.Thinned.{first-next, texturesTo, sparesTo, doomedTo, keptTo, bytesTo, textures-next, record-next, kept-most, kept-next, spares-next, spare-next, doomed-next, bytes-next, none-given, none-counted, all-given}
 use Rattle.pool_note_allocated.proofs.Chosen.{share, freedTo, countable, share-gives, share-most, freed-next, freed-fits}
 use Rattle.pool_records.specs.RecordConstants.{doomedStride, spareStride, textureSparesAt, textureStride}
@@ -194,7 +194,7 @@ module _ (l : Lent) (f : Fits l) (excess line : ℕ) {i from kept bytes sum : �
   unfolding keptTo poolAfter
   kept-all = ap (λ (ts : List (VersionState ℕ)). total spareCount (map (lessened part) ts)) all-there
 
-  bytes-all : bytesTo l part i ≡ doomedBytes (givenUp excess l)
+  bytes-all : bytesTo l part i ≡ doomedBytes (sparesGiven excess l)
   unfolding bytesTo
   bytes-all = ap (λ (ts : List (VersionState ℕ)). doomedBytes (flatMap (given part) ts)) all-there
 
@@ -210,7 +210,7 @@ module _ (l : Lent) (f : Fits l) (excess line : ℕ) {i from kept bytes sum : �
   unfolding doomedTo
   doomed-all =
       ap (λ (ts : List (VersionState ℕ)). laid doomedStride writeDoomed (versionPlaces l) (l .pool .first) (l .pool .doomed) (map doomedRecord (flatMap (given part) ts)) (l .doomed)) all-there
-      ∙ doomed-pushed l (relievedPool excess l) (f .first) (omega (arith, f .doomed)) (doomed-fit l f) (givenUp excess l) refl
+      ∙ doomed-pushed l (relievedPool excess l) (f .first) (omega (arith, f .doomed)) (doomed-fit l f) (sparesGiven excess l) refl
 
   pub progress-end : Relieves l excess kept bytes textures doomed spares
   progress-end = record {

@@ -5,7 +5,7 @@ use mathlib.Core.List.{List, flatMap}
 use lib.Dec.{eqb}
 use lib.ListN.{take}
 use Rattle.grid_shapes.specs.Shapes.{bytesOf}
-use Rattle.pool_rules.specs.Model.{Doomed, VersionState, Pool, doomedBytes}
+use Rattle.pool_rules.specs.Model.{Doomed, VersionState, PoolModel, doomedBytes}
 use Rattle.pool_rules.specs.Updates.{asDoomed}
 use Rattle.pool_rules.specs.NoteAllocated.{pressedAfter, countOf, pickedIn, relieved}
 use Rattle.pool_memory.specs.declared.pool.Pool.{Pool as Counts}
@@ -14,18 +14,18 @@ use Rattle.pool_memory.specs.Lent.{Lent}
 use Rattle.pool_memory.specs.Reading.{modelOf}
 use Rattle.pool_memory.specs.Writing.{texturesAfter, doomedAfter, sparesAfter, poolAfter, markOf}
 
-abbrev pub relievedPool : ℕ → Lent → Pool ℕ
+abbrev pub relievedPool : ℕ → Lent → PoolModel ℕ
 relievedPool excess l = relieved (pickedIn excess (modelOf l)) (modelOf l)
 
 -- what it sends to the destroy queue
-abbrev pub givenUp : ℕ → Lent → List (Doomed ℕ)
-givenUp excess l =
+abbrev pub sparesGiven : ℕ → Lent → List (Doomed ℕ)
+sparesGiven excess l =
     flatMap (λ (t : VersionState ℕ). asDoomed (bytesOf (t .shape)) (take (countOf (t .id) (pickedIn excess (modelOf l))) (t .spares))) (modelOf l .textures)
 
 -- what relief leaves: that many spares in the slices as they are then, bytes of so many given up
 pub record Relieves (l : Lent) (excess kept bytes : ℕ) (textures doomed spares : List ℕ) : Type 0 where
   pub count : kept ≡ poolAfter (relievedPool excess l) l .kept
-  pub sum : bytes ≡ doomedBytes (givenUp excess l)
+  pub sum : bytes ≡ doomedBytes (sparesGiven excess l)
   pub records : textures ≡ texturesAfter (relievedPool excess l) l
   pub ring : doomed ≡ doomedAfter (relievedPool excess l) l
   pub runs : spares ≡ sparesAfter (relievedPool excess l) l

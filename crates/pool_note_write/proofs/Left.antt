@@ -13,7 +13,7 @@ use Rattle.grid_shapes.specs.declared.shape.VersionShape.{VersionShape}
 use Rattle.grid_shapes.specs.Shapes.{isShape, slicesOf, bytesOf}
 use Rattle.grid_rects.specs.declared.rect.TexelRect.{TexelRect}
 use Rattle.grid_stamps.specs.Grids.{StampGrid, gridIn, tilingOf, stampedBy}
-use Rattle.pool_rules.specs.Model.{WriteHistory, VersionState, Pool, hasHistory, pagesOf, pagesUsed}
+use Rattle.pool_rules.specs.Model.{WriteHistory, VersionState, PoolModel, hasHistory, pagesOf, pagesUsed}
 use Rattle.pool_rules.specs.Updates.{withHistory, withTextures}
 use Rattle.pool_rules.specs.Histories.{gridAt, gridPlace, stampWrite, regenerateFrom, stampRegeneration}
 use Rattle.pool_records.specs.declared.recorded.Recorded.the-variants.{Writes, NoHistory}
@@ -69,7 +69,7 @@ module _ (l : Lent) (f : Fits l) (i : ℕ) (h : i < l .pool .tracked) where
     abbrev pub otherState : VersionState ℕ
     otherState = withHistory o (stateOf l i)
 
-    abbrev pub otherPool : Pool ℕ
+    abbrev pub otherPool : PoolModel ℕ
     otherPool = withTextures (set (modelOf l .textures) i otherState) (modelOf l)
 
     other-record : textureRecord otherState ≡ recordedAs (recordedOf o) (textureIn (l .textures) i)

@@ -9,7 +9,7 @@ use borrow.Author.Tests.{le-leb, lt-leb}
 use lib.ListN.{set}
 use Rattle.grid_shapes.specs.declared.shape.VersionShape.{VersionShape}
 use Rattle.grid_shapes.specs.Shapes.{isShape}
-use Rattle.pool_rules.specs.Model.{WriteHistory, VersionState, Pool, Out, accepted, find, limit}
+use Rattle.pool_rules.specs.Model.{WriteHistory, VersionState, PoolModel, Out, accepted, find, limit}
 use Rattle.pool_rules.specs.Updates.{withHistory, withTextures, change}
 use Rattle.pool_rules.specs.Histories.{regenerated, stampRegeneration, spent}
 use Rattle.pool_rules.specs.NoteWrite.{historyIn, noteMipRegeneration}
@@ -18,7 +18,7 @@ use Rattle.pool_memory.specs.Lent.{Lent}
 use Rattle.pool_memory.specs.Reading.{modelOf}
 use Rattle.pool_memory.specs.Writing.{after}
 use Rattle.pool_memory.specs.IsPool.{isPool}
-use Rattle.pool_memory.specs.Calls.{refusal, answer, noteMipRegenerationCall}
+use Rattle.pool_memory.specs.Calls.{refusedWith, answer, noteMipRegenerationOn}
 use Rattle.pool_memory.proofs.Fits.{Fits}
 use Rattle.pool_memory.proofs.FromPool.{pool-fits}
 use Rattle.pool_memory.proofs.Asked.{guard-passed, guard-refused, asked-refused, asked-accepted}
@@ -40,22 +40,22 @@ module _ (l : Lent) (e : isPool l ≡ true) (id : ℕ) where
   abbrev i : ℕ
   i = at l fits id
 
-  abbrev rule : Pool ℕ → Out ℕ (Unit {0})
+  abbrev rule : PoolModel ℕ → Out ℕ (Unit {0})
   rule p = noteMipRegeneration p id
 
   abbrev regenerate : VersionState ℕ → VersionState ℕ
   regenerate t = withHistory (regenerated (t .shape) (t .history)) t
 
   passes : spent (historyIn (find id (modelOf l .textures))) ≡ false → (ts : List (VersionState ℕ)) → change id regenerate (modelOf l .textures) ≡ ts
-      → noteMipRegenerationCall l id ≡ (answer tt, after (withTextures ts (modelOf l)) l)
-  unfolding noteMipRegenerationCall noteMipRegeneration
+      → noteMipRegenerationOn l id ≡ (answer tt, after (withTextures ts (modelOf l)) l)
+  unfolding noteMipRegenerationOn noteMipRegeneration
   passes q ts k =
       asked-accepted (λ (a : Unit {0}). a) l rule e tt (withTextures ts (modelOf l))
       (guard-passed (spent (historyIn (find id (modelOf l .textures)))) 12 (accepted tt (withTextures (change id regenerate (modelOf l .textures)) (modelOf l))) q
       ∙ ap (λ (us : List (VersionState ℕ)). accepted tt (withTextures us (modelOf l))) k)
 
   -- nothing for an untracked texture, or one without a history
-  pub regeneration-unrecorded : Unrecorded l fits id → (answer tt, l) ≡ noteMipRegenerationCall l id
+  pub regeneration-unrecorded : Unrecorded l fits id → (answer tt, l) ≡ noteMipRegenerationOn l id
   regeneration-unrecorded (untracked ne) =
       sym (passes (ap (λ (o : Option (VersionState ℕ)). spent (historyIn o)) (not-found l id (ids-ascend l fits) ne)) (modelOf l .textures) (not-changed l id (ids-ascend l fits) ne regenerate)
       ∙ ap (λ (l′ : Lent). (answer tt, l′)) (nothing-changed l fits))
@@ -78,8 +78,8 @@ module _ (l : Lent) (e : isPool l ≡ true) (id : ℕ) where
     spent-here = ap (λ (o : Option (VersionState ℕ)). spent (historyIn o)) (found l id (ids-ascend l fits) (rec .tracked)) ∙ ap spent (has-history l fits id n rec)
 
     -- the count is to pass 2^48
-    pub regeneration-spent : limit ≤ n → (refusal 12, l) ≡ noteMipRegenerationCall l id
-    unfolding noteMipRegenerationCall noteMipRegeneration
+    pub regeneration-spent : limit ≤ n → (refusedWith 12, l) ≡ noteMipRegenerationOn l id
+    unfolding noteMipRegenerationOn noteMipRegeneration
     regeneration-spent h =
         sym (asked-refused (λ (a : Unit {0}). a) l rule e 12
         (guard-refused (spent (historyIn (find id (modelOf l .textures)))) 12 (accepted tt (withTextures (change id regenerate (modelOf l .textures)) (modelOf l)))
@@ -92,7 +92,7 @@ module _ (l : Lent) (e : isPool l ≡ true) (id : ℕ) where
           keptLent l i (n + 1) (pagesUpTo (l .textures) i)
               (remadeGrids (textureIn (l .textures) i .shape) (n + 1) (l .newest) (l .stamps) (pagesUpTo (l .textures) i) (pagesHere (l .textures) i)),
         )
-        ≡ noteMipRegenerationCall l id
+        ≡ noteMipRegenerationOn l id
     regeneration-done h =
         ap
         (λ (k : ℕ). (
@@ -109,7 +109,7 @@ module _ (l : Lent) (e : isPool l ≡ true) (id : ℕ) where
     -- the same by what the code found and left
     pub left-regenerated : (k : ℕ) → k ≡ i → n < limit → (l′ : Lent)
         → l′ ≡ keptLent l k (n + 1) (pagesUpTo (l .textures) k) (remadeGrids (textureIn (l .textures) k .shape) (n + 1) (l .newest) (l .stamps) (pagesUpTo (l .textures) k) (pagesHere (l .textures) k))
-        → (answer tt, l′) ≡ noteMipRegenerationCall l id
+        → (answer tt, l′) ≡ noteMipRegenerationOn l id
     left-regenerated k q h l′ w =
         ap (λ (x : Lent). (answer tt, x))
         (w

@@ -13,7 +13,7 @@ use Rattle.base_blocks.proofs.Lists.{and-both}
 use Rattle.grid_shapes.specs.declared.shape.VersionShape.{VersionShape}
 use Rattle.grid_shapes.specs.Shapes.{isShape, slicesOf}
 use Rattle.grid_rects.specs.declared.rect.TexelRect.{TexelRect}
-use Rattle.pool_rules.specs.Model.{WriteHistory, VersionState, Pool, Out, accepted, find, limit}
+use Rattle.pool_rules.specs.Model.{WriteHistory, VersionState, PoolModel, Out, accepted, find, limit}
 use Rattle.pool_rules.specs.Updates.{withHistory, withTextures, change}
 use Rattle.pool_rules.specs.Histories.{inShape, written, stampWrite, spent}
 use Rattle.pool_rules.specs.NoteWrite.{writeSpent, noteWrite}
@@ -23,7 +23,7 @@ use Rattle.pool_memory.specs.Lent.{Lent}
 use Rattle.pool_memory.specs.Reading.{modelOf}
 use Rattle.pool_memory.specs.Writing.{after}
 use Rattle.pool_memory.specs.IsPool.{isPool}
-use Rattle.pool_memory.specs.Calls.{refusal, answer, noteWriteCall}
+use Rattle.pool_memory.specs.Calls.{refusedWith, answer, noteWriteOn}
 use Rattle.pool_memory.proofs.Fits.{Fits}
 use Rattle.pool_memory.proofs.FromPool.{pool-fits}
 use Rattle.pool_memory.proofs.Asked.{guard-passed, guard-refused, asked-refused, asked-accepted}
@@ -47,7 +47,7 @@ module _ (l : Lent) (e : isPool l ≡ true) (id slice level : ℕ) (r : TexelRec
   abbrev i : ℕ
   i = at l fits id
 
-  abbrev rule : Pool ℕ → Out ℕ (Unit {0})
+  abbrev rule : PoolModel ℕ → Out ℕ (Unit {0})
   rule p = noteWrite p id slice level r
 
   abbrev write : VersionState ℕ → VersionState ℕ
@@ -55,15 +55,15 @@ module _ (l : Lent) (e : isPool l ≡ true) (id slice level : ℕ) (r : TexelRec
 
   -- not refused
   passes : writeSpent (find id (modelOf l .textures)) slice level ≡ false → (ts : List (VersionState ℕ)) → change id write (modelOf l .textures) ≡ ts
-      → noteWriteCall l id slice level r ≡ (answer tt, after (withTextures ts (modelOf l)) l)
-  unfolding noteWriteCall noteWrite
+      → noteWriteOn l id slice level r ≡ (answer tt, after (withTextures ts (modelOf l)) l)
+  unfolding noteWriteOn noteWrite
   passes q ts k =
       asked-accepted (λ (a : Unit {0}). a) l rule e tt (withTextures ts (modelOf l))
       (guard-passed (writeSpent (find id (modelOf l .textures)) slice level) 12 (accepted tt (withTextures (change id write (modelOf l .textures)) (modelOf l))) q
       ∙ ap (λ (us : List (VersionState ℕ)). accepted tt (withTextures us (modelOf l))) k)
 
   -- nothing for an untracked texture, or one without a history
-  pub write-unrecorded : Unrecorded l fits id → (answer tt, l) ≡ noteWriteCall l id slice level r
+  pub write-unrecorded : Unrecorded l fits id → (answer tt, l) ≡ noteWriteOn l id slice level r
   write-unrecorded (untracked ne) =
       sym (passes (ap (λ (o : Option (VersionState ℕ)). writeSpent o slice level) (not-found l id (ids-ascend l fits) ne)) (modelOf l .textures) (not-changed l id (ids-ascend l fits) ne write)
       ∙ ap (λ (l′ : Lent). (answer tt, l′)) (nothing-changed l fits))
@@ -102,7 +102,7 @@ module _ (l : Lent) (e : isPool l ≡ true) (id slice level : ℕ) (r : TexelRec
         ∙ ap (λ (w : Option WriteHistory). set (modelOf l .textures) i (withHistory w (stateOf l i))) (ap (written slice level r shape) (has-history l fits id n rec) ∙ q)
 
     -- outside slices or levels the history is dropped
-    pub write-outside : inShape (textureIn (l .textures) i .shape) slice level ≡ false → (answer tt, droppedLent l i) ≡ noteWriteCall l id slice level r
+    pub write-outside : inShape (textureIn (l .textures) i .shape) slice level ≡ false → (answer tt, droppedLent l i) ≡ noteWriteOn l id slice level r
     write-outside out =
         ap (λ (l′ : Lent). (answer tt, l′)) (history-dropped l fits i (rec .tracked .0))
         ∙ sym (passes (spent-here ∙ ap (λ (b : Bool). b && leb limit n) out) (set (modelOf l .textures) i (withHistory none (stateOf l i)))
@@ -110,8 +110,8 @@ module _ (l : Lent) (e : isPool l ≡ true) (id slice level : ℕ) (r : TexelRec
 
     module _ (inside : inShape (textureIn (l .textures) i .shape) slice level ≡ true) where
       -- the count is to pass 2^48
-      pub write-spent : limit ≤ n → (refusal 12, l) ≡ noteWriteCall l id slice level r
-      unfolding noteWriteCall noteWrite
+      pub write-spent : limit ≤ n → (refusedWith 12, l) ≡ noteWriteOn l id slice level r
+      unfolding noteWriteOn noteWrite
       write-spent h =
           sym (asked-refused (λ (a : Unit {0}). a) l rule e 12
           (guard-refused (writeSpent (find id (modelOf l .textures)) slice level) 12 (accepted tt (withTextures (change id write (modelOf l .textures)) (modelOf l)))
@@ -120,7 +120,7 @@ module _ (l : Lent) (e : isPool l ≡ true) (id slice level : ℕ) (r : TexelRec
       -- the write is counted, and its tiles are stamped
       pub write-inside : n < limit
           → (answer tt, keptLent l i (n + 1) (pageOf (l .textures) i slice level) (stampedOn (l .textures) i slice level r (n + 1) (l .newest) (l .stamps) ∷ []))
-          ≡ noteWriteCall l id slice level r
+          ≡ noteWriteOn l id slice level r
       write-inside h =
           let here : inShape shape slice level ≡ true = ap (λ (s : VersionShape). inShape s slice level) read-shape ∙ inside in
           let q = and-both (ltb slice (slicesOf shape)) (ltb level (shape .levels)) here in
@@ -140,15 +140,15 @@ module _ (l : Lent) (e : isPool l ≡ true) (id slice level : ℕ) (r : TexelRec
       in-found : (b : Bool) → inShape (t .shape) slice level ≡ b → inShape (textureIn (l .textures) i .shape) slice level ≡ b
       in-found b g = ap (λ (s : VersionShape). inShape s slice level) (sym found-shape) ∙ g
 
-      pub left-outside : inShape (t .shape) slice level ≡ false → (l′ : Lent) → l′ ≡ droppedLent l k → (answer tt, l′) ≡ noteWriteCall l id slice level r
+      pub left-outside : inShape (t .shape) slice level ≡ false → (l′ : Lent) → l′ ≡ droppedLent l k → (answer tt, l′) ≡ noteWriteOn l id slice level r
       left-outside g l′ w = ap (λ (x : Lent). (answer tt, x)) (w ∙ ap (droppedLent l) q) ∙ write-outside (in-found false g)
 
-      pub left-spent : inShape (t .shape) slice level ≡ true → limit ≤ n → (refusal 12, l) ≡ noteWriteCall l id slice level r
+      pub left-spent : inShape (t .shape) slice level ≡ true → limit ≤ n → (refusedWith 12, l) ≡ noteWriteOn l id slice level r
       left-spent g h = write-spent (in-found true g) h
 
       pub left-inside : inShape (t .shape) slice level ≡ true → n < limit → (l′ : Lent)
           → l′ ≡ keptLent l k (n + 1) (pageOf (l .textures) k slice level) (stampedOn (l .textures) k slice level r (n + 1) (l .newest) (l .stamps) ∷ [])
-          → (answer tt, l′) ≡ noteWriteCall l id slice level r
+          → (answer tt, l′) ≡ noteWriteOn l id slice level r
       left-inside g h l′ w =
           ap (λ (x : Lent). (answer tt, x))
           (w ∙ ap (λ (m : ℕ). keptLent l m (n + 1) (pageOf (l .textures) m slice level) (stampedOn (l .textures) m slice level r (n + 1) (l .newest) (l .stamps) ∷ [])) q)

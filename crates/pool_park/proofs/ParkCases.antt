@@ -16,7 +16,7 @@ use Rattle.base_tables.specs.Rings.{placeOf, along, laid}
 use Rattle.base_tables.proofs.Records.{take-table}
 use Rattle.grid_shapes.specs.Shapes.{bytesOf}
 use Rattle.grid_shapes.proofs.ShapeBytes.{bytes-bound}
-use Rattle.pool_rules.specs.Model.{Spare, Retiring, Doomed, VersionState, Pool, accepted, refused, guard, find, limit, pagesUsed}
+use Rattle.pool_rules.specs.Model.{Spare, Retiring, Doomed, VersionState, PoolModel, accepted, refused, guard, find, limit, pagesUsed}
 use Rattle.pool_rules.specs.Updates.{withSpares, withTextures, withRetiring, withParked, change, doom}
 use Rattle.pool_rules.specs.Park.{asSpare, parkFound, parkHand, park}
 use Rattle.pool_rules.specs.Formed.{Given, RetiringFormed}
@@ -38,7 +38,7 @@ use Rattle.pool_memory.specs.Lent.{Lent, lent, versionPlaces}
 use Rattle.pool_memory.specs.Reading.{trackedRecords, handRead, modelOf}
 use Rattle.pool_memory.specs.Writing.{textureRecord, everySpare, texturesAfter, doomedAfter, sparesAfter, poolAfter, after}
 use Rattle.pool_memory.specs.IsPool.{isPool}
-use Rattle.pool_memory.specs.Calls.{refusal, answer, toldNumber, parkCall}
+use Rattle.pool_memory.specs.Calls.{refusedWith, answer, toldNumber, parkOn}
 use Rattle.pool_memory.proofs.Fits.{Fits}
 use Rattle.pool_memory.proofs.FromPool.{pool-fits}
 use Rattle.pool_memory.proofs.Asked.{asked-refused, asked-accepted}
@@ -111,11 +111,11 @@ module _ (l : Lent) (e : isPool l ≡ true) (failed current : ℕ) where
   refuses false (suc m) n q h =
       absurd (h (q ∙ ap (λ (b : Bool). cond b 10 0) (ne-eqb (suc m) 0 (λ z. let y : ⊥ = omega (arith, z) in y))))
 
-  pub park-refused : (n : ℕ) → n ≡ parkRefusal (l .pool) failed current → (n ≡ 0 → ⊥) → (toldNumber n, l) ≡ parkCall l failed current
-  unfolding parkCall parkRefusal
+  pub park-refused : (n : ℕ) → n ≡ parkRefusal (l .pool) failed current → (n ≡ 0 → ⊥) → (toldNumber n, l) ≡ parkOn l failed current
+  unfolding parkOn parkRefusal
   park-refused n q h =
-      ap (λ (b : Bool). (cond b (answer tt) (refusal n), l)) (ne-eqb n 0 h)
-      ∙ sym (asked-refused (λ a. a) l (λ (p : Pool ℕ). park p failed current) e n (rule ∙ refuses late (l .pool .popped) n q h))
+      ap (λ (b : Bool). (cond b (answer tt) (refusedWith n), l)) (ne-eqb n 0 h)
+      ∙ sym (asked-refused (λ a. a) l (λ (p : PoolModel ℕ). park p failed current) e n (rule ∙ refuses late (l .pool .popped) n q h))
 
   -- ---- the code's number is 0: the ring's front is the hand
 
@@ -147,7 +147,7 @@ module _ (l : Lent) (e : isPool l ≡ true) (failed current : ℕ) where
       unfolding modelOf
       hand-formed = subst (Given RetiringFormed) hand-read (fits .formed .hand)
 
-      abbrev emptied : Pool ℕ
+      abbrev emptied : PoolModel ℕ
       emptied = withRetiring (modelOf l .retiring) none (modelOf l)
 
       rule-passed : park (modelOf l) failed current ≡ accepted tt (parkFound emptied failed current v (find (x .id) (modelOf l .textures)))
@@ -162,7 +162,7 @@ module _ (l : Lent) (e : isPool l ≡ true) (failed current : ℕ) where
       grown = change (x .id) (withOne spare) (modelOf l .textures)
 
       -- the pool after each decision
-      abbrev parked : Parking → Pool ℕ
+      abbrev parked : Parking → PoolModel ℕ
       parked (Destroyed bytes) = doom (record { view = x .view; bytes = bytes } ∷ []) emptied
       parked (Kept bytes) = withParked (l .pool .parked + bytes) (withTextures grown emptied)
 
@@ -196,11 +196,11 @@ module _ (l : Lent) (e : isPool l ≡ true) (failed current : ℕ) where
             ∙ tracked-parks (stateOf l i)
             ∙ ap (λ (t : TextureRecord). parked (parkingOf (l .pool) pressed true t x)) (record-at l i (inside l fits (x .id) i at q) fits)
 
-        decides : (d : Parking) → decided ≡ d → (m : Lent) → m ≡ after (parked d) l → (answer tt, m) ≡ parkCall l failed current
-        unfolding parkCall
+        decides : (d : Parking) → decided ≡ d → (m : Lent) → m ≡ after (parked d) l → (answer tt, m) ≡ parkOn l failed current
+        unfolding parkOn
         decides d q m left =
             ap (λ (m′ : Lent). (answer tt, m′)) left
-            ∙ sym (asked-accepted (λ a. a) l (λ (p : Pool ℕ). park p failed current) e tt (parked d)
+            ∙ sym (asked-accepted (λ a. a) l (λ (p : PoolModel ℕ). park p failed current) e tt (parked d)
             (rule-passed ∙ ap (accepted tt) (parks here refl ∙ ap parked q)))
 
         pub decision-fits : (textureStride * l .pool .tracked ≤ length (l .textures)) × (l .pool .parked ≤ l .pool .cap)
@@ -240,7 +240,7 @@ module _ (l : Lent) (e : isPool l ≡ true) (failed current : ℕ) where
                   omega (arith, dooming, doomed-model l, doomed-fit l fits, fits .most, few),
                 )
 
-            abbrev lost : Pool ℕ
+            abbrev lost : PoolModel ℕ
             lost = parked (Destroyed bytes)
 
             abbrev one : List (Doomed ℕ)
@@ -274,7 +274,7 @@ module _ (l : Lent) (e : isPool l ≡ true) (failed current : ℕ) where
                 → doomed ≡ sets (l .doomed) (doomedStride * placeOf (places l) (l .pool .first) (l .pool .doomed))
                 (writeDoomed (record { view = x .view; bytes = bytes }))
                 → c ≡ handDoomed head bytes (l .pool)
-                → (toldNumber 0, lent c (l .book) (l .textures) (l .retiring) doomed (l .spares) (l .newest) (l .stamps)) ≡ parkCall l failed current
+                → (toldNumber 0, lent c (l .book) (l .textures) (l .retiring) doomed (l .spares) (l .newest) (l .stamps)) ≡ parkOn l failed current
             park-destroyed head c doomed e1 e2 e3 =
                 decides (Destroyed bytes) (sym taken ∙ told) (lent c (l .book) (l .textures) (l .retiring) doomed (l .spares) (l .newest) (l .stamps))
                 (put-together lost l c (l .book) (l .textures) (l .retiring) doomed (l .spares) (l .newest) (l .stamps)
@@ -325,7 +325,7 @@ module _ (l : Lent) (e : isPool l ≡ true) (failed current : ℕ) where
             pub kept-counts-fit : (l .pool .kept ≤ mostPlaces) × (l .pool .parked + bytes ≤ l .pool .cap)
             kept-counts-fit = (omega (arith, fits .versions, fits .most), kept-says .1)
 
-            abbrev stays : Pool ℕ
+            abbrev stays : PoolModel ℕ
             stays = parked (Kept bytes)
 
             grown-is : grown ≡ set (modelOf l .textures) i (withOne spare (stateOf l i))
@@ -373,7 +373,7 @@ module _ (l : Lent) (e : isPool l ≡ true) (failed current : ℕ) where
                 → textures ≡ sets (l .textures) (textureStride * i) (writeTexture (oneMore (textureAt l i)))
                 → spares ≡ sets (moved (l .spares) (spareStride * end + spareStride) (spareStride * end) (spareStride * (l .pool .kept - end))) (spareStride * end) (writeSpare s)
                 → c ≡ handKept head bytes (l .pool)
-                → (toldNumber 0, lent c (l .book) textures (l .retiring) (l .doomed) spares (l .newest) (l .stamps)) ≡ parkCall l failed current
+                → (toldNumber 0, lent c (l .book) textures (l .retiring) (l .doomed) spares (l .newest) (l .stamps)) ≡ parkOn l failed current
             park-kept head s c textures spares e1 e2 e3 e4 e5 =
                 decides (Kept bytes) (sym taken ∙ told) (lent c (l .book) textures (l .retiring) (l .doomed) spares (l .newest) (l .stamps))
                 (put-together stays l c (l .book) textures (l .retiring) (l .doomed) spares (l .newest) (l .stamps)

@@ -16,13 +16,13 @@ use Rattle.grid_stamps.specs.declared.since.Dirty.the-variants.{Box, Clean}
 use Rattle.grid_stamps.specs.Grids.{StampGrid, tilingOf, gridIn, boxSince}
 use Rattle.pool_rules.specs.declared.held.Held.{Held}
 use Rattle.pool_rules.specs.declared.held.Held.the-variants.{Known, Unknown}
-use Rattle.pool_rules.specs.Model.{Pool, Out, refused, accepted, guard, find, PreserveCopy, UploadFootprint, pagesOf}
+use Rattle.pool_rules.specs.Model.{PoolModel, Out, refused, accepted, guard, find, PreserveCopy, UploadFootprint, pagesOf}
 use Rattle.pool_rules.specs.Histories.{inShape, gridPlace, gridAt}
 use Rattle.pool_rules.specs.PreservePlan.{covers, boxCopy, copyOf, copies, planFound, preservePlan}
 use Rattle.pool_memory.specs.Lent.{Lent}
 use Rattle.pool_memory.specs.Reading.{pageAt, gridRead, modelOf, gridOn}
 use Rattle.pool_memory.specs.IsPool.{isPool}
-use Rattle.pool_memory.specs.Calls.{refusal, answer, copyNumbers, inBuffer, preservePlanCall}
+use Rattle.pool_memory.specs.Calls.{refusedWith, answer, copyNumbers, inBuffer, preservePlanOn}
 use Rattle.pool_memory.proofs.Fits.{Fits}
 use Rattle.pool_memory.proofs.FromPool.{pool-fits, grid-place}
 use Rattle.pool_memory.proofs.Stays.{nothing-changed}
@@ -200,19 +200,19 @@ module _ (l : Lent) (pool : isPool l ≡ true) (id : ℕ) (shape : VersionShape)
 
   module _ (buffer : List ℕ) where
     pub plan-refused : (number-of (length buffer / copyStride) ≡ 0 → ⊥)
-        → (refusal (number-of (length buffer / copyStride)), (buffer, l)) ≡ preservePlanCall l buffer id shape held u
-    unfolding preservePlanCall planRefusal
+        → (refusedWith (number-of (length buffer / copyStride)), (buffer, l)) ≡ preservePlanOn l buffer id shape held u
+    unfolding preservePlanOn planRefusal
     plan-refused h =
         sym (ap (inBuffer copyNumbers buffer)
-        (asked-refused (λ a. a) l (λ (p : Pool ℕ). preservePlan p id shape held u (length buffer / copyStride)) pool _
+        (asked-refused (λ a. a) l (λ (p : PoolModel ℕ). preservePlan p id shape held u (length buffer / copyStride)) pool _
         (plan-rule (length buffer / copyStride) ∙ guards-refused (accepted planned (modelOf l)) _ _ _ _ h)))
 
     pub plan-accepted : number-of (length buffer / copyStride) ≡ 0
-        → (answer (length planned), (withCopies 0 planned buffer, l)) ≡ preservePlanCall l buffer id shape held u
-    unfolding preservePlanCall planRefusal
+        → (answer (length planned), (withCopies 0 planned buffer, l)) ≡ preservePlanOn l buffer id shape held u
+    unfolding preservePlanOn planRefusal
     plan-accepted h =
         sym (ap (inBuffer copyNumbers buffer)
-        (asked-accepted (λ a. a) l (λ (p : Pool ℕ). preservePlan p id shape held u (length buffer / copyStride)) pool planned (modelOf l)
+        (asked-accepted (λ a. a) l (λ (p : PoolModel ℕ). preservePlan p id shape held u (length buffer / copyStride)) pool planned (modelOf l)
         (plan-rule (length buffer / copyStride) ∙ guards-passed (accepted planned (modelOf l)) _ _ _ _ h))
         ∙ ap₂ (λ (b : List ℕ) (m : Lent). (answer (length planned), (b, m)))
         (sym (with-front planned buffer (omega (arith, plan-room (length buffer / copyStride) h .1)))) (nothing-changed l fits))
@@ -233,16 +233,16 @@ module _ (l : Lent) (pool : isPool l ≡ true) (id : ℕ) (shape : VersionShape)
           (r .0, omega (arith, r .1, ap length same-copies))
 
       pub says-refused : (n : ℕ) → n ≡ planRefusal shape f u (length (lentCopies (l .newest) (l .stamps) shape since u)) (length buffer / copyStride)
-          → (n ≡ 0 → ⊥) → (refusal n, (buffer, l)) ≡ preservePlanCall l buffer id shape held u
+          → (n ≡ 0 → ⊥) → (refusedWith n, (buffer, l)) ≡ preservePlanOn l buffer id shape held u
       says-refused n q h =
           let w = same-number n q in
-          ap (λ (k : ℕ). (refusal k, (buffer, l))) w ∙ plan-refused (λ z. h (w ∙ z))
+          ap (λ (k : ℕ). (refusedWith k, (buffer, l))) w ∙ plan-refused (λ z. h (w ∙ z))
 
       pub says-accepted : (n count : ℕ) (after : List ℕ)
           → n ≡ planRefusal shape f u (length (lentCopies (l .newest) (l .stamps) shape since u)) (length buffer / copyStride) → n ≡ 0
           → count ≡ length (lentCopies (l .newest) (l .stamps) shape since u)
           → after ≡ withCopies 0 (lentCopies (l .newest) (l .stamps) shape since u) buffer
-          → (answer count, (after, l)) ≡ preservePlanCall l buffer id shape held u
+          → (answer count, (after, l)) ≡ preservePlanOn l buffer id shape held u
       says-accepted n count after q z c a =
           ap₂ (λ (k : ℕ) (x : List ℕ). (answer k, (x, l))) (c ∙ ap length same-copies)
           (a ∙ ap (λ (cs : List PreserveCopy). withCopies 0 cs buffer) same-copies)

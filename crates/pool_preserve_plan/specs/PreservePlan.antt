@@ -15,7 +15,7 @@ use Rattle.pool_records.specs.declared.recorded.Recorded.the-variants.{Writes, 
 use Rattle.pool_records.specs.declared.texture.TextureRecord.{TextureRecord}
 use Rattle.pool_records.specs.Texture.{textureIn, texturesIn, recordPages}
 use Rattle.pool_records.specs.Find.{idOf, below}
-use Rattle.pool_memory.specs.Calls.{Told, refusal, answer}
+use Rattle.pool_memory.specs.Calls.{Told, refusedWith, answer}
 use Rattle.pool_preserve_plan.specs.declared.since.Since.{Since}
 use Rattle.pool_preserve_plan.specs.declared.since.Since.the-variants.{After, Nothing}
 use Rattle.pool_preserve_plan.specs.declared.history.Found.{Found}
@@ -78,7 +78,7 @@ planRefusal shape found u count room =
 
 -- ---- the answer
 
--- how many copies, or 01's number of a refusal
+-- how many copies, or 01's number of a refusedWith
 abbrev pub plannedTold : PlanAnswer → Told ℕ
 plannedTold (Copies n) = answer n
-plannedTold (Refused n) = refusal n
+plannedTold (Refused n) = refusedWith n

@@ -14,14 +14,14 @@ use Rattle.base_tables.specs.Rings.{along}
 use Rattle.pool_records.specs.declared.retiring.RetiringRecord.{RetiringRecord}
 use Rattle.pool_records.specs.Retiring.{readRetiring}
 use Rattle.pool_records.specs.Views.{retiringOf}
-use Rattle.pool_rules.specs.Model.{Retiring, Pool, accepted, guard, limit}
+use Rattle.pool_rules.specs.Model.{Retiring, PoolModel, accepted, guard, limit}
 use Rattle.pool_rules.specs.Updates.{withRetiring}
 use Rattle.pool_rules.specs.PopRetired.{popFront, isHeld, popRetired}
 use Rattle.pool_memory.specs.Lent.{Lent, lent, versionPlaces}
 use Rattle.pool_memory.specs.Reading.{handRead, retiringRead, modelOf}
 use Rattle.pool_memory.specs.Writing.{poolAfter}
 use Rattle.pool_memory.specs.IsPool.{isPool}
-use Rattle.pool_memory.specs.Calls.{refusal, answer, poppedOf, popRetiredCall}
+use Rattle.pool_memory.specs.Calls.{refusedWith, answer, poppedOf, popRetiredOn}
 use Rattle.pool_memory.proofs.Fits.{Fits}
 use Rattle.pool_memory.proofs.FromPool.{pool-fits}
 use Rattle.pool_memory.proofs.Asked.{guard-passed, guard-refused, asked-refused, asked-accepted}
@@ -61,10 +61,10 @@ module _ (l : Lent) (e : isPool l ≡ true) (settled : ℕ) where
   fits = pool-fits l e
 
   -- a bad submission
-  pub pop-late : limit < settled → (refusal 3, l) ≡ popRetiredCall l settled
-  unfolding popRetiredCall popRetired
+  pub pop-late : limit < settled → (refusedWith 3, l) ≡ popRetiredOn l settled
+  unfolding popRetiredOn popRetired
   pop-late h =
-      sym (asked-refused poppedOf l (λ (p : Pool ℕ). popRetired p settled) e 3
+      sym (asked-refused poppedOf l (λ (p : PoolModel ℕ). popRetired p settled) e 3
       (guard-refused (ltb limit settled) 3 (guard (isHeld (modelOf l .hand)) 9 (popFront (modelOf l) settled (modelOf l .retiring))) (lt-ltb limit settled h)))
 
   module _ (h : settled ≤ limit) where
@@ -73,20 +73,20 @@ module _ (l : Lent) (e : isPool l ≡ true) (settled : ℕ) where
     in-time = guard-passed (ltb limit settled) 3 (guard (isHeld (modelOf l .hand)) 9 (popFront (modelOf l) settled (modelOf l .retiring))) (le-ltb limit settled h)
 
     -- one was popped and not parked yet
-    pub pop-full : (l .pool .popped ≡ 0 → ⊥) → (refusal 9, l) ≡ popRetiredCall l settled
-    unfolding popRetiredCall
+    pub pop-full : (l .pool .popped ≡ 0 → ⊥) → (refusedWith 9, l) ≡ popRetiredOn l settled
+    unfolding popRetiredOn
     pop-full q =
-        sym (asked-refused poppedOf l (λ (p : Pool ℕ). popRetired p settled) e 9
+        sym (asked-refused poppedOf l (λ (p : PoolModel ℕ). popRetired p settled) e 9
         (in-time ∙ guard-refused (isHeld (modelOf l .hand)) 9 (popFront (modelOf l) settled (modelOf l .retiring)) (hand-held l q)))
 
     module _ (q : l .pool .popped ≡ 0) where
       free : popRetired (modelOf l) settled ≡ popFront (modelOf l) settled (modelOf l .retiring)
       free = in-time ∙ guard-passed (isHeld (modelOf l .hand)) 9 (popFront (modelOf l) settled (modelOf l .retiring)) (hand-free l q)
 
-      nothing : popRetired (modelOf l) settled ≡ accepted none (modelOf l) → (answer none, l) ≡ popRetiredCall l settled
-      unfolding popRetiredCall
+      nothing : popRetired (modelOf l) settled ≡ accepted none (modelOf l) → (answer none, l) ≡ popRetiredOn l settled
+      unfolding popRetiredOn
       nothing k =
-          sym (asked-accepted poppedOf l (λ (p : Pool ℕ). popRetired p settled) e none (modelOf l) k
+          sym (asked-accepted poppedOf l (λ (p : PoolModel ℕ). popRetired p settled) e none (modelOf l) k
           ∙ ap (λ (l′ : Lent). (answer none, l′)) (nothing-changed l fits))
 
       queue : (n : ℕ) → l .pool .queued ≡ n → modelOf l .retiring ≡ listed (retiringRead l) 0 n
@@ -94,7 +94,7 @@ module _ (l : Lent) (e : isPool l ≡ true) (settled : ℕ) where
       queue n k = ap₂ (listed (retiringRead l)) q k
 
       -- nothing is queued
-      pub pop-none : l .pool .queued ≡ 0 → (answer none, l) ≡ popRetiredCall l settled
+      pub pop-none : l .pool .queued ≡ 0 → (answer none, l) ≡ popRetiredOn l settled
       unfolding listed
       pop-none k = nothing (free ∙ ap (popFront (modelOf l) settled) (queue 0 k))
 
@@ -104,7 +104,7 @@ module _ (l : Lent) (e : isPool l ≡ true) (settled : ℕ) where
         unfolding listed
         front = queue (suc (l .pool .queued - 1)) (omega arith)
 
-        pop-unsettled : settled < retiringRead l 0 .seq → (answer none, l) ≡ popRetiredCall l settled
+        pop-unsettled : settled < retiringRead l 0 .seq → (answer none, l) ≡ popRetiredOn l settled
         pop-unsettled k =
             nothing (free ∙ ap (popFront (modelOf l) settled) front
             ∙ ap
@@ -114,7 +114,7 @@ module _ (l : Lent) (e : isPool l ≡ true) (settled : ℕ) where
         abbrev rest : List (Retiring ℕ)
         rest = listed (retiringRead l) 1 (l .pool .queued - 1)
 
-        abbrev popped : Pool ℕ
+        abbrev popped : PoolModel ℕ
         popped = withRetiring rest (some (retiringRead l 0)) (modelOf l)
 
         counts : frontPopped (l .pool) ≡ poolAfter popped l
@@ -139,13 +139,13 @@ module _ (l : Lent) (e : isPool l ≡ true) (settled : ℕ) where
         -- the front is settled: it is in the hand
         pop-front : retiringRead l 0 .seq ≤ settled
             → (answer (some (record { id = retiringRead l 0 .id; view = retiringRead l 0 .view })), lent (frontPopped (l .pool)) (l .book) (l .textures) (l .retiring) (l .doomed) (l .spares) (l .newest) (l .stamps))
-            ≡ popRetiredCall l settled
-        unfolding popRetiredCall
+            ≡ popRetiredOn l settled
+        unfolding popRetiredOn
         pop-front k =
             let r : popRetired (modelOf l) settled ≡ accepted (some (retiringRead l 0)) popped =
             free ∙ ap (popFront (modelOf l) settled) front
             ∙ ap (λ (b : Bool). cond b (accepted (some (retiringRead l 0)) popped) (accepted none (modelOf l))) (le-leb (retiringRead l 0 .seq) settled k) in
-            sym (asked-accepted poppedOf l (λ (p : Pool ℕ). popRetired p settled) e (some (retiringRead l 0)) popped r
+            sym (asked-accepted poppedOf l (λ (p : PoolModel ℕ). popRetired p settled) e (some (retiringRead l 0)) popped r
             ∙ ap (λ (l′ : Lent). (answer (some (record { id = retiringRead l 0 .id; view = retiringRead l 0 .view })), l′))
             (sym (put-together popped l (frontPopped (l .pool)) (l .book) (l .textures) (l .retiring) (l .doomed) (l .spares) (l .newest) (l .stamps) counts
             (book-stays l fits popped refl) (textures-stay l fits popped refl)
@@ -157,12 +157,12 @@ module _ (l : Lent) (e : isPool l ≡ true) (settled : ℕ) where
           as-read : retiringOf x ≡ retiringRead l 0
           as-read = front-read l x read
 
-          pub unsettled-front : settled < x .seq → (answer none, l) ≡ popRetiredCall l settled
+          pub unsettled-front : settled < x .seq → (answer none, l) ≡ popRetiredOn l settled
           unsettled-front k = pop-unsettled (omega (arith, ap (λ (v : Retiring ℕ). v .seq) as-read))
 
           pub settled-front : x .seq ≤ settled
               → (answer (some (record { id = x .id; view = x .view })), lent (frontPopped (l .pool)) (l .book) (l .textures) (l .retiring) (l .doomed) (l .spares) (l .newest) (l .stamps))
-              ≡ popRetiredCall l settled
+              ≡ popRetiredOn l settled
           settled-front k =
               ap (λ (v : Retiring ℕ). (answer (some (record { id = v .id; view = v .view })), lent (frontPopped (l .pool)) (l .book) (l .textures) (l .retiring) (l .doomed) (l .spares) (l .newest) (l .stamps))) as-read
               ∙ pop-front (omega (arith, ap (λ (v : Retiring ℕ). v .seq) as-read))

@@ -10,7 +10,7 @@ use lib.Dec.{leb, ltb}
 use lib.ListN.{length, length-append}
 use lib.Seq.{sets}
 use Rattle.base_tables.specs.Rings.{placeOf}
-use Rattle.pool_rules.specs.Model.{Retiring, VersionState, Pool, accepted, guard, find, limit, pagesUsed}
+use Rattle.pool_rules.specs.Model.{Retiring, VersionState, PoolModel, accepted, guard, find, limit, pagesUsed}
 use Rattle.pool_rules.specs.Updates.{withBirth, withTextures, withRetiring, change}
 use Rattle.pool_rules.specs.Retire.{retired, retire}
 use Rattle.pool_rules.proofs.States.{length-change, total-unchanged}
@@ -24,7 +24,7 @@ use Rattle.pool_memory.specs.Lent.{Lent, lent, versionPlaces}
 use Rattle.pool_memory.specs.Reading.{trackedRecords, modelOf}
 use Rattle.pool_memory.specs.Writing.{textureRecord, retiringRecord, everySpare, texturesAfter, retiringAfter, poolAfter}
 use Rattle.pool_memory.specs.IsPool.{isPool}
-use Rattle.pool_memory.specs.Calls.{refusal, answer, toldNumber, retireCall}
+use Rattle.pool_memory.specs.Calls.{refusedWith, answer, toldNumber, retireOn}
 use Rattle.pool_memory.proofs.Fits.{Fits}
 use Rattle.pool_memory.proofs.FromPool.{pool-fits, version-places}
 use Rattle.pool_memory.proofs.Asked.{asked-refused, asked-accepted}
@@ -70,7 +70,7 @@ module _ (l : Lent) (e : isPool l ≡ true) (id view seq : ℕ) where
   abbrev born : List (VersionState ℕ)
   born = change id (withBirth seq) (modelOf l .textures)
 
-  abbrev queued : Pool ℕ
+  abbrev queued : PoolModel ℕ
   queued = withTextures born (withRetiring (modelOf l .retiring ++ (version ∷ [])) (modelOf l .hand) (modelOf l))
 
   abbrev refusalOf : ℕ
@@ -87,11 +87,11 @@ module _ (l : Lent) (e : isPool l ≡ true) (id view seq : ℕ) where
   unfolding retire
   rule = λ i. guard (ltb limit seq) 3 (guard (leb (place-count i) (used-model l fits i)) 7 (guard (ltb seq (last-model l i)) 8 (accepted tt queued)))
 
-  pub retire-refused : (n : ℕ) → n ≡ refusalOf → (n ≡ 0 → ⊥) → (toldNumber n, l) ≡ retireCall l id view seq
-  unfolding retireCall retireRefusal
+  pub retire-refused : (n : ℕ) → n ≡ refusalOf → (n ≡ 0 → ⊥) → (toldNumber n, l) ≡ retireOn l id view seq
+  unfolding retireOn retireRefusal
   retire-refused n q h =
-      ap (λ (b : Bool). (cond b (answer tt) (refusal n), l)) (ne-eqb n 0 h)
-      ∙ sym (asked-refused (λ a. a) l (λ (p : Pool ℕ). retire p id view seq) e n
+      ap (λ (b : Bool). (cond b (answer tt) (refusedWith n), l)) (ne-eqb n 0 h)
+      ∙ sym (asked-refused (λ a. a) l (λ (p : PoolModel ℕ). retire p id view seq) e n
       (rule ∙ guards-refused (accepted tt queued) (ltb limit seq) (leb (places l) (ringCount (l .pool) + l .pool .kept + l .pool .doomed))
       (ltb seq (lastQueued (l .pool) (l .retiring) (places l))) n q h))
 
@@ -175,8 +175,8 @@ module _ (l : Lent) (e : isPool l ≡ true) (id view seq : ℕ) where
           → n ≡ ringCount (l .pool)
           → retiring ≡ sets (l .retiring) (retiringStride * placeOf (places l) (l .pool .head) n) (writeRetiring v)
           → c ≡ oneQueued (l .pool)
-          → (toldNumber 0, lent c (l .book) textures retiring (l .doomed) (l .spares) (l .newest) (l .stamps)) ≡ retireCall l id view seq
-      unfolding retireCall
+          → (toldNumber 0, lent c (l .book) textures retiring (l .doomed) (l .spares) (l .newest) (l .stamps)) ≡ retireOn l id view seq
+      unfolding retireOn
       retire-accepted v n c textures retiring e1 e2 e3 e4 e5 =
           ap (λ (m : Lent). (answer tt, m))
           (put-together queued l c (l .book) textures retiring (l .doomed) (l .spares) (l .newest) (l .stamps)
@@ -188,4 +188,4 @@ module _ (l : Lent) (e : isPool l ≡ true) (id view seq : ℕ) where
           ∙ retiring-left)
           (doomed-stay l fits queued refl) (spares-stay l fits queued spares-kept) (newest-stay l fits queued paged)
           (stamps-stay l fits queued paged))
-          ∙ sym (asked-accepted (λ a. a) l (λ (p : Pool ℕ). retire p id view seq) e tt queued rule-passed)
+          ∙ sym (asked-accepted (λ a. a) l (λ (p : PoolModel ℕ). retire p id view seq) e tt queued rule-passed)

@@ -12,10 +12,10 @@ use Rattle.base_blocks.proofs.Lists.{total-append}
 use Rattle.base_blocks.proofs.All.{all-both, all-drop, all-map, all-flatMap}
 use Rattle.grid_shapes.specs.Shapes.{bytesOf}
 use Rattle.grid_shapes.proofs.ShapeBytes.{bytes-bound}
-use Rattle.pool_rules.specs.Model.{Spare, Doomed, VersionState, Pool, Out, guard, pagesUsed, spareBytes, doomedBytes}
+use Rattle.pool_rules.specs.Model.{Spare, Doomed, VersionState, PoolModel, Out, guard, pagesUsed, spareBytes, doomedBytes}
 use Rattle.pool_rules.specs.Updates.{withSpares, withTextures, asDoomed, doomSpares}
 use Rattle.pool_rules.specs.Formed.{DoomedFormed, StateFormed, Ascending, Formed}
-use Rattle.pool_rules.specs.Closed.{OutFormed, refusal}
+use Rattle.pool_rules.specs.Closed.{OutFormed, refusalFormed}
 use Rattle.pool_rules.proofs.Lists.{total-map, length-cut}
 use Rattle.pool_rules.proofs.States.{ascending-map}
 
@@ -23,7 +23,7 @@ module _ {W : Type 0} where
   -- what is refused changes nothing, so only the other case is to be shown
   pub guarded : {A : Type 0} (b : Bool) (n : ℕ) {o : Out W A} → (b ≡ false → OutFormed o) → OutFormed (guard b n o)
   unfolding guard
-  guarded true n k = refusal
+  guarded true n k = refusalFormed
   guarded false n k = k refl
 
   abbrev pub spareCount : VersionState W → ℕ
@@ -45,7 +45,7 @@ module _ {W : Type 0} where
 
   -- ---- a pool whose states gave some of their spares, which may have gone themselves
 
-  pub spares-doomed : (p : Pool W) → Formed p → (ts : List (VersionState W)) (ds : List (Doomed W)) → Ascending 0 ts → All StateFormed ts
+  pub spares-doomed : (p : PoolModel W) → Formed p → (ts : List (VersionState W)) (ds : List (Doomed W)) → Ascending 0 ts → All StateFormed ts
       → length ts ≤ length (p .textures) → total pagesUsed ts ≤ total pagesUsed (p .textures) → All DoomedFormed ds
       → total spareBytes ts + doomedBytes ds ≡ total spareBytes (p .textures) → total spareCount ts + length ds ≡ total spareCount (p .textures)
       → Formed (doomSpares ds (withTextures ts p))
@@ -113,7 +113,7 @@ module _ {W : Type 0} where
     pub given-formed : (ts : List (VersionState W)) → All StateFormed ts → All DoomedFormed (flatMap given ts)
     given-formed ts fs = all-flatMap given (λ t f. as-doomed-formed t f (take (k t) (t .spares))) fs
 
-    pub oldest-doomed : (p : Pool W) → Formed p → Formed (doomSpares (flatMap given (p .textures)) (withTextures (map lessened (p .textures)) p))
+    pub oldest-doomed : (p : PoolModel W) → Formed p → Formed (doomSpares (flatMap given (p .textures)) (withTextures (map lessened (p .textures)) p))
     oldest-doomed p f =
         spares-doomed p f (map lessened (p .textures)) (flatMap given (p .textures)) (ascending-map lessened (λ t. refl) (f .ids))
         (all-map lessened lessened-formed (f .textures)) (omega (arith, length-map (p .textures) lessened))

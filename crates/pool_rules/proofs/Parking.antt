@@ -10,7 +10,7 @@ use borrow.Author.Tests.{eqb-true, ne-eqb, le-leb, lt-leb}
 use Rattle.base_blocks.proofs.Lists.{either}
 use Rattle.grid_shapes.specs.Shapes.{bytesOf}
 use Rattle.pool_rules.specs.declared.held.Held.the-variants.{Known, Unknown}
-use Rattle.pool_rules.specs.Model.{WriteHistory, Retiring, Doomed, VersionState, Pool, writesOf}
+use Rattle.pool_rules.specs.Model.{WriteHistory, Retiring, Doomed, VersionState, PoolModel, writesOf}
 use Rattle.pool_rules.specs.Updates.{withSpares, withTextures, withParked, change, doom}
 use Rattle.pool_rules.specs.Retire.{retired}
 use Rattle.pool_rules.specs.Park.{asSpare, parkTracked, parkFound}
@@ -39,7 +39,7 @@ module _ {W : Type 0} where
 
   -- what holds wherever the version is queued for destruction, and where it is parked under its own tracking, holds after parking: a
   -- version of an older tracking is never parked
-  pub park-cases : (P : Pool W → Type 0) (p : Pool W) (failed now : ℕ) (v : Retiring W) (o : Option (VersionState W))
+  pub park-cases : (P : PoolModel W → Type 0) (p : PoolModel W) (failed now : ℕ) (v : Retiring W) (o : Option (VersionState W))
       → ((ds : List (Doomed W)) → P (doom ds p))
       → ((t : VersionState W) → o ≡ some t → t .epoch ≡ v .epoch → (bytes : ℕ)
       → P (withParked bytes (withTextures (change (v .id) (λ (u : VersionState W). withSpares (u .spares ++ (asSpare failed now v ∷ [])) u) (p .textures)) p)))

@@ -18,7 +18,7 @@ use Rattle.grid_shapes.specs.declared.shape.VersionShape.{VersionShape}
 use Rattle.grid_shapes.specs.Shapes.{bytesOf}
 use Rattle.grid_shapes.proofs.ShapeBytes.{bytes-bound}
 use Rattle.pool_rules.specs.declared.held.Held.the-variants.{Known, Unknown}
-use Rattle.pool_rules.specs.Model.{WriteHistory, Spare, Retiring, Doomed, VersionState, Pool, accepted, find, limit, writesOf, pagesUsed, spareBytes, handCount, versionsUsed}
+use Rattle.pool_rules.specs.Model.{WriteHistory, Spare, Retiring, Doomed, VersionState, PoolModel, accepted, find, limit, writesOf, pagesUsed, spareBytes, handCount, versionsUsed}
 use Rattle.pool_rules.specs.Updates.{withSpares, withBirth, withTextures, withRetiring, withParked, change, doom}
 use Rattle.pool_rules.specs.Retire.{retire, retired}
 use Rattle.pool_rules.specs.PopRetired.{popRetired, popFront, isHeld}
@@ -26,7 +26,7 @@ use Rattle.pool_rules.specs.Park.{park, parkHand, parkFound, parkTracked
 use Rattle.pool_rules.specs.TakeDoomed.{takeDoomed, batch}
 use Rattle.pool_rules.specs.DrainVersions.{drainVersions}
 use Rattle.pool_rules.specs.Formed.{Given, HeldFormed, HistoryFormed, SpareFormed, RetiringFormed, DoomedFormed, StateFormed, Formed}
-use Rattle.pool_rules.specs.Closed.{OutFormed, refusal, formed}
+use Rattle.pool_rules.specs.Closed.{OutFormed, refusalFormed, formed}
 use Rattle.pool_rules.proofs.Lists.{total-cut, total-map, length-cut, all-set, all-replicate}
 use Rattle.pool_rules.proofs.States.{ascending-map, ascending-change, all-change, find-all, length-change, total-unchanged, total-change}
 use Rattle.pool_rules.proofs.Moves.{guarded, spareCount}
@@ -61,7 +61,7 @@ module _ {W : Type 0} where
     spares = nil;
   }
 
-  module _ (p : Pool W) (f : Formed p) where
+  module _ (p : PoolModel W) (f : Formed p) where
     since-bound : p .since ≤ mostPlaces
     since-bound = omega (arith, f .since, f .versions, f .most)
 
@@ -205,7 +205,7 @@ module _ {W : Type 0} where
 
   -- ---- park
 
-  module _ (p : Pool W) (f : Formed p) (v : Retiring W) (held : p .hand ≡ some v) where
+  module _ (p : PoolModel W) (f : Formed p) (v : Retiring W) (held : p .hand ≡ some v) where
     hand-formed : RetiringFormed v
     hand-formed = rw held at (f .hand)
 
@@ -288,7 +288,7 @@ module _ {W : Type 0} where
         most = f .most;
       }
 
-  module _ (p : Pool W) (f : Formed p) (failed now : ℕ) where
+  module _ (p : PoolModel W) (f : Formed p) (failed now : ℕ) where
     found-parked : now ≤ limit → (v : Retiring W) → p .hand ≡ some v → (o : Option (VersionState W)) → find (v .id) (p .textures) ≡ o
         → Formed (parkFound (withRetiring (p .retiring) none p) failed now v o)
     found-parked le v held none e = hand-doomed p f v held _ (record { bytes = hand-formed p f v held .bytes })
@@ -301,7 +301,7 @@ module _ {W : Type 0} where
         (λ other. hand-doomed p f v held _ (record { bytes = hand-formed p f v held .bytes }))
 
     hand-out : now ≤ limit → (hand : Option (Retiring W)) → p .hand ≡ hand → OutFormed (parkHand p failed now hand)
-    hand-out le none e = refusal
+    hand-out le none e = refusalFormed
     hand-out le (some v) e = formed (found-parked le v e (find (v .id) (p .textures)) refl)
 
     pub park-formed : OutFormed (park p failed now)

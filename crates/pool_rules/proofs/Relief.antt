@@ -13,7 +13,7 @@ use Rattle.base_blocks.specs.All.{All, nil}
 use Rattle.base_blocks.proofs.Lists.{either, and-both, length-keep, total-append}
 use Rattle.base_blocks.proofs.All.{all-keep, all-map, all-flatMap}
 use Rattle.grid_shapes.specs.Shapes.{bytesOf}
-use Rattle.pool_rules.specs.Model.{Spare, Doomed, VersionState, PacingBook, Pool, limit, pagesUsed, spareBytes, doomedBytes}
+use Rattle.pool_rules.specs.Model.{Spare, Doomed, VersionState, PacingModel, PoolModel, limit, pagesUsed, spareBytes, doomedBytes}
 use Rattle.pool_rules.specs.Updates.{withDue, withTextures, withPacing, asDoomed, doomSpares}
 use Rattle.pool_rules.specs.NoteAllocated.{noteAllocated, countOf, pickedIn, relieved}
 use Rattle.pool_rules.specs.Trim.{trim, aged, agedCount, thinned, isEmpty, idle, lookedAt}
@@ -28,7 +28,7 @@ use Rattle.pool_rules.specs.RuleConstants.{destroySpreadDrains, mostPlac
 module _ {W : Type 0} where
   -- ---- note_allocated
 
-  pub repaced : (p : Pool W) → Formed p → (b : PacingBook) → b .slot < destroySpreadDrains → length (b .arrivals) ≡ destroySpreadDrains → All (λ (n : ℕ). n ≤ mostPlaces) (b .arrivals)
+  pub repaced : (p : PoolModel W) → Formed p → (b : PacingModel) → b .slot < destroySpreadDrains → length (b .arrivals) ≡ destroySpreadDrains → All (λ (n : ℕ). n ≤ mostPlaces) (b .arrivals)
       → Formed (withPacing b p)
   repaced p f b slot eight arrivals = record {
     ids = f .ids;
@@ -50,7 +50,7 @@ module _ {W : Type 0} where
     most = f .most;
   }
 
-  pub note-allocated-formed : (p : Pool W) → Formed p → (allocated : ℕ) → OutFormed (noteAllocated p allocated)
+  pub note-allocated-formed : (p : PoolModel W) → Formed p → (allocated : ℕ) → OutFormed (noteAllocated p allocated)
   unfolding noteAllocated
   note-allocated-formed p f allocated =
       let chosen = pickedIn (allocated - p .budget .line) p in
@@ -94,7 +94,7 @@ module _ {W : Type 0} where
     idle-bytes : (t : VersionState W) → not (idle now t) ≡ false → spareBytes t ≡ 0
     idle-bytes t e = rw (idle-count t e) (mul-zero (bytesOf (t .shape)))
 
-    module _ (p : Pool W) (f : Formed p) (le : now ≤ limit) where
+    module _ (p : PoolModel W) (f : Formed p) (le : now ≤ limit) where
       abbrev old : VersionState W → ℕ
       old t = agedCount now (t .spares)
 
@@ -130,7 +130,7 @@ module _ {W : Type 0} where
             given-count old (p .textures),
           ))
 
-  pub trim-formed : (p : Pool W) → Formed p → (now : ℕ) → OutFormed (trim p now)
+  pub trim-formed : (p : PoolModel W) → Formed p → (now : ℕ) → OutFormed (trim p now)
   unfolding trim
   trim-formed p f now = guarded _ _ (λ e. formed (trimmed now p f (ltb-false _ _ e)))
 
@@ -175,7 +175,7 @@ module _ {W : Type 0} where
             ))
         go false e ih = rw e (omega (arith, ih))
 
-  pub forget-texture-formed : (p : Pool W) → Formed p → (id : ℕ) → OutFormed (forgetTexture p id)
+  pub forget-texture-formed : (p : PoolModel W) → Formed p → (id : ℕ) → OutFormed (forgetTexture p id)
   unfolding forgetTexture
   forget-texture-formed p f id =
       formed (spares-doomed p f (keep (stays-tracked id) (p .textures)) (flatMap (forgotten id) (p .textures)) (ascending-keep (stays-tracked id) (f .ids))

@@ -17,7 +17,7 @@ use Rattle.grid_shapes.specs.declared.shape.VersionShape.{VersionShape}
 use Rattle.grid_shapes.specs.Shapes.{isShape, sameShape, bytesOf}
 use Rattle.grid_rects.specs.declared.rect.TexelRect.{TexelRect}
 use Rattle.pool_rules.specs.declared.held.Held.{Held}
-use Rattle.pool_rules.specs.Model.{WriteHistory, Spare, Doomed, VersionState, Pool, UploadFootprint, find, limit, pagesOf, hasHistory, pagesUsed, spareBytes}
+use Rattle.pool_rules.specs.Model.{WriteHistory, Spare, Doomed, VersionState, PoolModel, UploadFootprint, find, limit, pagesOf, hasHistory, pagesUsed, spareBytes}
 use Rattle.pool_rules.specs.Updates.{withHistory, withSpares, withRename, withTextures, withParked, change, asDoomed}
 use Rattle.pool_rules.specs.Histories.{newHistory, inShape, written, regenerated, spent}
 use Rattle.pool_rules.specs.TakeSpare.{takeSpare, takeFound, takeNew, takeTracked, takeRenewed, newState, newest, others, takenBytes}
@@ -30,7 +30,7 @@ use Rattle.pool_rules.proofs.States.{ascending-change, ascending-insert
 use Rattle.pool_rules.proofs.GridsFormed.{new-formed, written-formed, regenerated-formed, written-pages, regenerated-pages}
 use Rattle.pool_rules.proofs.Moves.{guarded, spareCount, as-doomed-bytes, as-doomed-length, as-doomed-formed}
 
-module _ {W : Type 0} (p : Pool W) (f : Formed p) where
+module _ {W : Type 0} (p : PoolModel W) (f : Formed p) where
   -- ---- preserve_plan
 
   pub preserve-plan-formed : (id : ℕ) (shape : VersionShape) (held : Held) (upload : UploadFootprint) (buffer : ℕ)
@@ -133,7 +133,7 @@ module _ {W : Type 0} where
 
 -- ---- take_spare
 
-module _ {W : Type 0} (p : Pool W) (f : Formed p) (id : ℕ) (shape : VersionShape) (records : Bool) (seq : ℕ) (shaped : isShape shape ≡ true) (le : seq ≤ limit) where
+module _ {W : Type 0} (p : PoolModel W) (f : Formed p) (id : ℕ) (shape : VersionShape) (records : Bool) (seq : ℕ) (shaped : isShape shape ≡ true) (le : seq ≤ limit) where
   abbrev fresh : VersionState W
   fresh = newState id shape records (suc (p .trackings)) seq
 
@@ -263,7 +263,7 @@ module _ {W : Type 0} (p : Pool W) (f : Formed p) (id : ℕ) (shape : VersionSha
         most = f .most;
       })
 
-module _ {W : Type 0} (p : Pool W) (f : Formed p) where
+module _ {W : Type 0} (p : PoolModel W) (f : Formed p) where
   pub take-spare-formed : (id : ℕ) (shape : VersionShape) (records : Bool) (seq : ℕ) → OutFormed (takeSpare p id shape records seq)
   unfolding takeSpare
   take-spare-formed id shape records seq = guarded _ _ (λ a. guarded _ _ (λ b. go (not-false _ a) (ltb-false _ _ b) (find id (p .textures)) refl))

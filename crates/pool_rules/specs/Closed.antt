@@ -6,7 +6,7 @@ use mathlib.Core.Bool.{Bool, true}
 use Rattle.grid_shapes.specs.declared.shape.VersionShape.{VersionShape}
 use Rattle.grid_rects.specs.declared.rect.TexelRect.{TexelRect}
 use Rattle.pool_rules.specs.declared.held.Held.{Held}
-use Rattle.pool_rules.specs.Model.{Places, Pool, Out, refused, accepted, UploadFootprint}
+use Rattle.pool_rules.specs.Model.{Places, PoolModel, Out, refused, accepted, UploadFootprint}
 use Rattle.pool_rules.specs.Formed.{Formed}
 use Rattle.pool_rules.specs.Open.{arePlaces, opened}
 use Rattle.pool_rules.specs.TakeSpare.{takeSpare}
@@ -21,13 +21,13 @@ use Rattle.pool_rules.specs.DrainVersions.{drainVersions}
 use Rattle.pool_rules.specs.Trim.{trim}
 use Rattle.pool_rules.specs.ForgetTexture.{forgetTexture}
 
--- a refusal leaves the pool as it was; of what is accepted the pool after it is formed
+-- a refusalFormed leaves the pool as it was; of what is accepted the pool after it is formed
 pub data OutFormed {W A : Type 0} : Out W A → Type 0 where
-  refusal : {n : ℕ} → OutFormed (refused n)
-  formed : {a : A} {p : Pool W} → Formed p → OutFormed (accepted a p)
+  refusalFormed : {n : ℕ} → OutFormed (refused n)
+  formed : {a : A} {p : PoolModel W} → Formed p → OutFormed (accepted a p)
 
 -- of one pool, whatever is asked of it
-pub record CallsKeepFormed {W : Type 0} (p : Pool W) : Type 0 where
+pub record CallsKeepFormed {W : Type 0} (p : PoolModel W) : Type 0 where
   pub take-spare : (id : ℕ) (shape : VersionShape) (records : Bool) (seq : ℕ) → OutFormed (takeSpare p id shape records seq)
   pub preserve-plan : (id : ℕ) (shape : VersionShape) (held : Held) (upload : UploadFootprint) (buffer : ℕ)
       → OutFormed (preservePlan p id shape held upload buffer)
@@ -43,7 +43,7 @@ pub record CallsKeepFormed {W : Type 0} (p : Pool W) : Type 0 where
   pub forget-texture : (id : ℕ) → OutFormed (forgetTexture p id)
 
 abbrev pub EveryCallKeepsFormed : Type 0 → Type 0
-EveryCallKeepsFormed W = (p : Pool W) → Formed p → CallsKeepFormed p
+EveryCallKeepsFormed W = (p : PoolModel W) → Formed p → CallsKeepFormed p
 
 abbrev pub OpenedIsFormed : Type 0 → Type 0
 OpenedIsFormed W = (places : Places) → arePlaces places ≡ true → (working : ℕ) → Formed (opened {W = W} places working)

@@ -13,7 +13,7 @@ use Rattle.grid_shapes.specs.Shapes.{isShape, slicesOf}
 use Rattle.grid_stamps.specs.Grids.{Tiling, tilingOf, stampCount, StampGrid}
 use Rattle.pool_rules.specs.declared.held.Held.{Held}
 use Rattle.pool_rules.specs.declared.held.Held.the-variants.{Known, Unknown}
-use Rattle.pool_rules.specs.Model.{WriteHistory, Spare, Retiring, Doomed, VersionState, Pool, limit, pagesUsed, spareBytes, doomedBytes, versionsUsed}
+use Rattle.pool_rules.specs.Model.{WriteHistory, Spare, Retiring, Doomed, VersionState, PoolModel, limit, pagesUsed, spareBytes, doomedBytes, versionsUsed}
 use Rattle.pool_rules.specs.Histories.{gridAt}
 use Rattle.grid_shapes.specs.ShapeConstants.{mostShapeBytes}
 use Rattle.pool_rules.specs.RuleConstants.{destroySpreadDrains, mostPlaces}
@@ -70,7 +70,7 @@ module _ {W : Type 0} where
     end : {lo : ℕ} → Ascending lo []
     more : {lo : ℕ} {t : VersionState W} {ts : List (VersionState W)} → lo ≤ t .id → Ascending (suc (t .id)) ts → Ascending lo (t ∷ ts)
 
-  pub record Formed (p : Pool W) : Type 0 where
+  pub record Formed (p : PoolModel W) : Type 0 where
     pub ids : Ascending 0 (p .textures)
     pub textures : All StateFormed (p .textures)
     pub retiring : All RetiringFormed (p .retiring)

@@ -61,7 +61,7 @@ pub record VersionState (W : Type 0) : Type 0 where
 
 -- the arrivals between each of the last eight takes, the slot that the next take writes, the pressure mark, and the bytes that the next take
 -- hands out at least
-pub record PacingBook : Type 0 where
+pub record PacingModel : Type 0 where
   pub arrivals : List ℕ
   pub slot : ℕ
   pub pressed : Bool
@@ -75,7 +75,7 @@ pub record Places : Type 0 where
 
 -- the textures in ascending id; `hand` is 01's hand, the version that was popped and not parked yet; `doomed` is the destroy queue, `since` how
 -- many arrived there since the last take
-pub record Pool (W : Type 0) : Type 0 where
+pub record PoolModel (W : Type 0) : Type 0 where
   pub textures : List (VersionState W)
   pub retiring : List (Retiring W)
   pub hand : Option (Retiring W)
@@ -86,12 +86,12 @@ pub record Pool (W : Type 0) : Type 0 where
   pub dooming : ℕ
   pub places : Places
   pub budget : VersionBudget
-  pub pacing : PacingBook
+  pub pacing : PacingModel
 
 -- what a call answers: a refusal's number, or an answer and the pool after it. A refusal leaves the pool as it was.
 pub data Out (W A : Type 0) : Type 0 where
   refused : ℕ → Out W A
-  accepted : A → Pool W → Out W A
+  accepted : A → PoolModel W → Out W A
 
 -- one preserve copy
 pub record PreserveCopy : Type 0 where
@@ -146,5 +146,5 @@ module _ {W : Type 0} where
   handCount (some v) = 1
 
   -- version places in use: queue, hand, spares and destroy queue
-  abbrev pub versionsUsed : Pool W → ℕ
+  abbrev pub versionsUsed : PoolModel W → ℕ
   versionsUsed p = length (p .retiring) + handCount (p .hand) + total (λ (t : VersionState W). length (t .spares)) (p .textures) + length (p .doomed)

@@ -7,7 +7,7 @@ use lib.ListN.{take, drop}
 use Rattle.grid_shapes.specs.Shapes.{bytesOf}
 use Rattle.pool_rules.specs.declared.budget.VersionBudget.{VersionBudget}
 use Rattle.pool_rules.specs.Budget.{resumeBelow}
-use Rattle.pool_rules.specs.Model.{Spare, VersionState, Pool, Out, accepted}
+use Rattle.pool_rules.specs.Model.{Spare, VersionState, PoolModel, Out, accepted}
 use Rattle.pool_rules.specs.Updates.{withSpares, withTextures, withPacing, asDoomed, doomSpares}
 
 -- it presses above the line and releases below `resume_below`
@@ -47,17 +47,17 @@ module _ {W : Type 0} where
   abbrev pub agedOf : VersionState W → List Aged
   agedOf t = map (λ (s : Spare W). record { parked = s .parked; id = t .id; bytes = bytesOf (t .shape) }) (t .spares)
 
-  abbrev pub pickedIn : ℕ → Pool W → List Aged
+  abbrev pub pickedIn : ℕ → PoolModel W → List Aged
   pickedIn excess p = picked (p .dooming) excess (byAge (flatMap agedOf (p .textures)))
 
   -- each texture gives as many as were picked of it, the oldest first, in ascending id
-  abbrev pub relieved : List Aged → Pool W → Pool W
+  abbrev pub relieved : List Aged → PoolModel W → PoolModel W
   relieved chosen p =
       doomSpares (flatMap (λ (t : VersionState W). asDoomed (bytesOf (t .shape)) (take (countOf (t .id) chosen) (t .spares))) (p .textures))
       (withTextures (map (λ (t : VersionState W). withSpares (drop (countOf (t .id) chosen) (t .spares)) t) (p .textures)) p)
 
   -- the excess is allocated minus the line, at least 0
-  unfoldable pub noteAllocated : Pool W → ℕ → Out W (Unit {0})
+  unfoldable pub noteAllocated : PoolModel W → ℕ → Out W (Unit {0})
   noteAllocated p allocated =
       accepted tt
       (withPacing

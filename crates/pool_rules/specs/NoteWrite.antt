@@ -8,7 +8,7 @@ use Rattle.grid_rects.specs.declared.rect.TexelRect.{TexelRect}
 use Rattle.grid_stamps.specs.declared.dirty.DirtyTile.{DirtyTile}
 use Rattle.grid_stamps.specs.declared.dirty.DirtyTile.the-variants.{NoTile}
 use Rattle.grid_stamps.specs.Grids.{tilingOf, IsDirtyTile}
-use Rattle.pool_rules.specs.Model.{WriteHistory, VersionState, Pool, Out, accepted, guard, find, hasHistory}
+use Rattle.pool_rules.specs.Model.{WriteHistory, VersionState, PoolModel, Out, accepted, guard, find, hasHistory}
 use Rattle.pool_rules.specs.Updates.{withHistory, withTextures, change}
 use Rattle.pool_rules.specs.Histories.{inShape, gridAt, written, regenerated, spent}
 
@@ -29,23 +29,23 @@ module _ {W : Type 0} where
   writeSpent (some t) slice level = inShape (t .shape) slice level && spent (t .history)
 
   -- nothing for an untracked texture, or one without a history
-  unfoldable pub noteWrite : Pool W → ℕ → ℕ → ℕ → TexelRect → Out W (Unit {0})
+  unfoldable pub noteWrite : PoolModel W → ℕ → ℕ → ℕ → TexelRect → Out W (Unit {0})
   noteWrite p id slice level r =
       guard (writeSpent (find id (p .textures)) slice level) 12
       (accepted tt (withTextures (change id (λ (t : VersionState W). withHistory (written slice level r (t .shape) (t .history)) t) (p .textures)) p))
 
-  unfoldable pub noteMipRegeneration : Pool W → ℕ → Out W (Unit {0})
+  unfoldable pub noteMipRegeneration : PoolModel W → ℕ → Out W (Unit {0})
   noteMipRegeneration p id =
       guard (spent (historyIn (find id (p .textures)))) 12
       (accepted tt (withTextures (change id (λ (t : VersionState W). withHistory (regenerated (t .shape) (t .history)) t) (p .textures)) p))
 
   -- whether the texture keeps a history
-  unfoldable pub recordsWrites : Pool W → ℕ → Bool
+  unfoldable pub recordsWrites : PoolModel W → ℕ → Bool
   recordsWrites p id = hasHistory (historyIn (find id (p .textures)))
 
   abbrev pub DirtyTileFound : Option (VersionState W) → ℕ → ℕ → ℕ → DirtyTile → Type 0
   DirtyTileFound none slice level held r = r ≡ NoTile
   DirtyTileFound (some t) slice level held r = DirtyTileIn (t .shape) (t .history) slice level held r
 
-  unfoldable pub IsDirtyTileOf : Pool W → ℕ → ℕ → ℕ → ℕ → DirtyTile → Type 0
+  unfoldable pub IsDirtyTileOf : PoolModel W → ℕ → ℕ → ℕ → ℕ → DirtyTile → Type 0
   IsDirtyTileOf p id slice level held r = DirtyTileFound (find id (p .textures)) slice level held r

@@ -7,14 +7,14 @@ use lib.Dec.{leb}
 use lib.ListN.{replicate}
 use Rattle.base_blocks.specs.Lists.{tests}
 use Rattle.pool_rules.specs.Budget.{budgetOf}
-use Rattle.pool_rules.specs.Model.{Places, Pool}
+use Rattle.pool_rules.specs.Model.{Places, PoolModel}
 use Rattle.pool_rules.specs.RuleConstants.{destroySpreadDrains, mostPlaces}
 
 -- 1 to 4,096 texture places, 1 to 4,096 version places, 0 to 4,096 history pages
 unfoldable pub arePlaces : Places → Bool
 arePlaces n = tests (leb 1 (n .textures) ∷ leb (n .textures) mostPlaces ∷ leb 1 (n .versions) ∷ leb (n .versions) mostPlaces ∷ leb (n .pages) mostPlaces ∷ [])
 
-abbrev pub opened : {W : Type 0} → Places → ℕ → Pool W
+abbrev pub opened : {W : Type 0} → Places → ℕ → PoolModel W
 opened places working = record {
   textures = [];
   retiring = [];

@@ -4,12 +4,12 @@ use mathlib.Core.Bool.{Bool, true, false, cond}
 use mathlib.Core.Option.{Option, none, some}
 use mathlib.Core.List.{List, [], _∷_}
 use lib.Dec.{leb, ltb}
-use Rattle.pool_rules.specs.Model.{Retiring, Pool, Out, accepted, guard, limit}
+use Rattle.pool_rules.specs.Model.{Retiring, PoolModel, Out, accepted, guard, limit}
 use Rattle.pool_rules.specs.Updates.{withRetiring}
 
 module _ {W : Type 0} where
   -- "nothing settled" is an accepted answer
-  abbrev pub popFront : Pool W → ℕ → List (Retiring W) → Out W (Option (Retiring W))
+  abbrev pub popFront : PoolModel W → ℕ → List (Retiring W) → Out W (Option (Retiring W))
   popFront p settled [] = accepted none p
   popFront p settled (v ∷ vs) = cond (leb (v .seq) settled) (accepted (some v) (withRetiring vs (some v) p)) (accepted none p)
 
@@ -17,5 +17,5 @@ module _ {W : Type 0} where
   isHeld none = false
   isHeld (some v) = true
 
-  unfoldable pub popRetired : Pool W → ℕ → Out W (Option (Retiring W))
+  unfoldable pub popRetired : PoolModel W → ℕ → Out W (Option (Retiring W))
   popRetired p settled = guard (ltb limit settled) 3 (guard (isHeld (p .hand)) 9 (popFront p settled (p .retiring)))

@@ -16,7 +16,7 @@ use Rattle.grid_stamps.specs.declared.since.Dirty.the-variants.{Box, Clean}
 use Rattle.grid_stamps.specs.Grids.{tilingOf, boxSince}
 use Rattle.pool_rules.specs.declared.held.Held.{Held}
 use Rattle.pool_rules.specs.declared.held.Held.the-variants.{Known, Unknown}
-use Rattle.pool_rules.specs.Model.{WriteHistory, VersionState, Pool, Out, accepted, guard, find, PreserveCopy, UploadFootprint}
+use Rattle.pool_rules.specs.Model.{WriteHistory, VersionState, PoolModel, Out, accepted, guard, find, PreserveCopy, UploadFootprint}
 use Rattle.pool_rules.specs.Histories.{inShape, gridAt, spent}
 
 abbrev pub sameRect : TexelRect → TexelRect → Bool
@@ -49,15 +49,15 @@ copies s h held u =
 
 module _ {W : Type 0} where
   -- 12: a plan would skip a covered level of a history at 2^48, whose covering write could then not be taken
-  abbrev pub planWith : Pool W → VersionShape → Option WriteHistory → Held → UploadFootprint → ℕ → Out W (List PreserveCopy)
+  abbrev pub planWith : PoolModel W → VersionShape → Option WriteHistory → Held → UploadFootprint → ℕ → Out W (List PreserveCopy)
   planWith p shape h held u buffer =
       guard (ltb buffer (length (copies shape h held u))) 11
       (guard (u .cover && inShape shape (u .slice) (u .level) && spent h) 12 (accepted (copies shape h held u) p))
 
-  abbrev pub planFound : Pool W → VersionShape → Held → UploadFootprint → ℕ → Option (VersionState W) → Out W (List PreserveCopy)
+  abbrev pub planFound : PoolModel W → VersionShape → Held → UploadFootprint → ℕ → Option (VersionState W) → Out W (List PreserveCopy)
   planFound p shape held u buffer none = planWith p shape none held u buffer
   planFound p shape held u buffer (some t) = guard (not (sameShape (t .shape) shape)) 4 (planWith p shape (t .history) held u buffer)
 
   -- `buffer` is how many copies the answer has room for
-  unfoldable pub preservePlan : Pool W → ℕ → VersionShape → Held → UploadFootprint → ℕ → Out W (List PreserveCopy)
+  unfoldable pub preservePlan : PoolModel W → ℕ → VersionShape → Held → UploadFootprint → ℕ → Out W (List PreserveCopy)
   preservePlan p id shape held u buffer = guard (not (isShape shape)) 2 (planFound p shape held u buffer (find id (p .textures)))

@@ -4,7 +4,7 @@ use mathlib.Core.Option.{Option, none, some}
 use mathlib.Core.List.{List, [], _∷_, _++_}
 use lib.Dec.{leb, ltb}
 use Rattle.grid_shapes.specs.Shapes.{bytesOf}
-use Rattle.pool_rules.specs.Model.{Retiring, VersionState, Pool, Out, accepted, guard, find, limit, writesOf, versionsUsed}
+use Rattle.pool_rules.specs.Model.{Retiring, VersionState, PoolModel, Out, accepted, guard, find, limit, writesOf, versionsUsed}
 use Rattle.pool_rules.specs.Updates.{withBirth, withTextures, withRetiring, change}
 
 module _ {W : Type 0} where
@@ -27,7 +27,7 @@ module _ {W : Type 0} where
     bytes = bytesOf (t .shape);
   }
 
-  unfoldable pub retire : Pool W → ℕ → W → ℕ → Out W (Unit {0})
+  unfoldable pub retire : PoolModel W → ℕ → W → ℕ → Out W (Unit {0})
   retire p id view seq =
       guard (ltb limit seq) 3
       (guard (leb (p .places .versions) (versionsUsed p)) 7

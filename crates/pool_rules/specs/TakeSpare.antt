@@ -8,7 +8,7 @@ use lib.ListN.{length}
 use Rattle.base_blocks.specs.Lists.{total}
 use Rattle.grid_shapes.specs.declared.shape.VersionShape.{VersionShape}
 use Rattle.grid_shapes.specs.Shapes.{isShape, sameShape, bytesOf}
-use Rattle.pool_rules.specs.Model.{Spare, VersionState, Pool, Out, accepted, guard, find, limit, pagesOf, pagesUsed}
+use Rattle.pool_rules.specs.Model.{Spare, VersionState, PoolModel, Out, accepted, guard, find, limit, pagesOf, pagesUsed}
 use Rattle.pool_rules.specs.Updates.{withSpares, withRename, withTextures, withTrackings, withParked, change, insert, asDoomed, doomSpares}
 use Rattle.pool_rules.specs.Histories.{newHistory}
 
@@ -27,11 +27,11 @@ module _ {W : Type 0} where
   }
 
   -- a new history needs more pages than are free, `own` counted as free
-  abbrev pub historyFull : Pool W → VersionShape → Bool → ℕ → Bool
+  abbrev pub historyFull : PoolModel W → VersionShape → Bool → ℕ → Bool
   historyFull p shape records own = records && ltb (p .places .pages + own) (total pagesUsed (p .textures) + pagesOf shape)
 
   -- an untracked id
-  abbrev pub takeNew : Pool W → ℕ → VersionShape → Bool → ℕ → Out W (Option (Spare W))
+  abbrev pub takeNew : PoolModel W → ℕ → VersionShape → Bool → ℕ → Out W (Option (Spare W))
   takeNew p id shape records seq =
       guard (leb (p .places .textures) (length (p .textures))) 5
       (guard (historyFull p shape records 0) 6
@@ -39,7 +39,7 @@ module _ {W : Type 0} where
       (accepted none (withTrackings (suc (p .trackings)) (withTextures (insert (newState id shape records (suc (p .trackings)) seq) (p .textures)) p)))))
 
   -- another shape: the spares are queued for destruction and the tracking is renewed
-  abbrev pub takeRenewed : Pool W → ℕ → VersionShape → Bool → ℕ → VersionState W → Out W (Option (Spare W))
+  abbrev pub takeRenewed : PoolModel W → ℕ → VersionShape → Bool → ℕ → VersionState W → Out W (Option (Spare W))
   takeRenewed p id shape records seq t =
       guard (historyFull p shape records (pagesUsed t)) 6
       (guard (leb limit (p .trackings)) 12
@@ -64,16 +64,16 @@ module _ {W : Type 0} where
   takenBytes shape (some s) = bytesOf shape
 
   -- the same shape
-  abbrev pub takeTracked : Pool W → ℕ → ℕ → VersionState W → Out W (Option (Spare W))
+  abbrev pub takeTracked : PoolModel W → ℕ → ℕ → VersionState W → Out W (Option (Spare W))
   takeTracked p id seq t =
       accepted (newest (t .spares))
       (withParked (p .parked - takenBytes (t .shape) (newest (t .spares)))
       (withTextures (change id (λ (u : VersionState W). withRename seq (withSpares (others (u .spares)) u)) (p .textures)) p))
 
-  abbrev pub takeFound : Pool W → ℕ → VersionShape → Bool → ℕ → Option (VersionState W) → Out W (Option (Spare W))
+  abbrev pub takeFound : PoolModel W → ℕ → VersionShape → Bool → ℕ → Option (VersionState W) → Out W (Option (Spare W))
   takeFound p id shape records seq none = takeNew p id shape records seq
   takeFound p id shape records seq (some t) = cond (sameShape (t .shape) shape) (takeTracked p id seq t) (takeRenewed p id shape records seq t)
 
-  unfoldable pub takeSpare : Pool W → ℕ → VersionShape → Bool → ℕ → Out W (Option (Spare W))
+  unfoldable pub takeSpare : PoolModel W → ℕ → VersionShape → Bool → ℕ → Out W (Option (Spare W))
   takeSpare p id shape records seq =
       guard (not (isShape shape)) 2 (guard (ltb limit seq) 3 (takeFound p id shape records seq (find id (p .textures))))

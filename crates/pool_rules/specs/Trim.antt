@@ -6,7 +6,7 @@ use lib.Dec.{ltb}
 use lib.ListN.{take, drop}
 use Rattle.base_blocks.specs.Lists.{keep}
 use Rattle.grid_shapes.specs.Shapes.{bytesOf}
-use Rattle.pool_rules.specs.Model.{Spare, VersionState, Pool, Out, accepted, guard, limit}
+use Rattle.pool_rules.specs.Model.{Spare, VersionState, PoolModel, Out, accepted, guard, limit}
 use Rattle.pool_rules.specs.Updates.{withSpares, withDue, withTextures, asDoomed, doomSpares}
 use Rattle.pool_rules.specs.RuleConstants.{spareMaxIdleSubmits, stateMaxIdleSubmits}
 
@@ -35,7 +35,7 @@ module _ {W : Type 0} where
   abbrev pub lookedAt : ℕ → VersionState W → VersionState W
   lookedAt now t = cond (aged now (t .due)) (withDue (cond (aged now (t .rename)) now (t .rename)) t) t
 
-  unfoldable pub trim : Pool W → ℕ → Out W (Unit {0})
+  unfoldable pub trim : PoolModel W → ℕ → Out W (Unit {0})
   trim p now =
       guard (ltb limit now) 3
       (accepted tt

@@ -5,7 +5,7 @@ use mathlib.Core.Option.{Option}
 use mathlib.Core.List.{List, [], _∷_, _++_, map}
 use lib.Dec.{eqb, ltb}
 use lib.ListN.{length}
-use Rattle.pool_rules.specs.Model.{WriteHistory, Spare, Retiring, Doomed, VersionState, PacingBook, Pool, doomedBytes}
+use Rattle.pool_rules.specs.Model.{WriteHistory, Spare, Retiring, Doomed, VersionState, PacingModel, PoolModel, doomedBytes}
 
 module _ {W : Type 0} where
   abbrev pub withHistory : Option WriteHistory → VersionState W → VersionState W
@@ -32,7 +32,7 @@ module _ {W : Type 0} where
   insert t [] = t ∷ []
   insert t (u ∷ us) = cond (ltb (t .id) (u .id)) (t ∷ u ∷ us) (u ∷ insert t us)
 
-  abbrev pub withTextures : List (VersionState W) → Pool W → Pool W
+  abbrev pub withTextures : List (VersionState W) → PoolModel W → PoolModel W
   withTextures ts p = record {
     textures = ts;
     retiring = p .retiring;
@@ -47,7 +47,7 @@ module _ {W : Type 0} where
     pacing = p .pacing;
   }
 
-  abbrev pub withTrackings : ℕ → Pool W → Pool W
+  abbrev pub withTrackings : ℕ → PoolModel W → PoolModel W
   withTrackings n p = record {
     textures = p .textures;
     retiring = p .retiring;
@@ -62,7 +62,7 @@ module _ {W : Type 0} where
     pacing = p .pacing;
   }
 
-  abbrev pub withRetiring : List (Retiring W) → Option (Retiring W) → Pool W → Pool W
+  abbrev pub withRetiring : List (Retiring W) → Option (Retiring W) → PoolModel W → PoolModel W
   withRetiring queue hand p = record {
     textures = p .textures;
     retiring = queue;
@@ -77,7 +77,7 @@ module _ {W : Type 0} where
     pacing = p .pacing;
   }
 
-  abbrev pub withParked : ℕ → Pool W → Pool W
+  abbrev pub withParked : ℕ → PoolModel W → PoolModel W
   withParked bytes p = record {
     textures = p .textures;
     retiring = p .retiring;
@@ -92,7 +92,7 @@ module _ {W : Type 0} where
     pacing = p .pacing;
   }
 
-  abbrev pub withDoomed : List (Doomed W) → ℕ → ℕ → Pool W → Pool W
+  abbrev pub withDoomed : List (Doomed W) → ℕ → ℕ → PoolModel W → PoolModel W
   withDoomed queue since bytes p = record {
     textures = p .textures;
     retiring = p .retiring;
@@ -107,7 +107,7 @@ module _ {W : Type 0} where
     pacing = p .pacing;
   }
 
-  abbrev pub withPacing : PacingBook → Pool W → Pool W
+  abbrev pub withPacing : PacingModel → PoolModel W → PoolModel W
   withPacing b p = record {
     textures = p .textures;
     retiring = p .retiring;
@@ -123,7 +123,7 @@ module _ {W : Type 0} where
   }
 
   -- queue versions for destruction, behind those that wait
-  abbrev pub doom : List (Doomed W) → Pool W → Pool W
+  abbrev pub doom : List (Doomed W) → PoolModel W → PoolModel W
   doom ds p = withDoomed (p .doomed ++ ds) (p .since + length ds) (p .dooming + doomedBytes ds) p
 
   -- spares as entries of the destroy queue, each with its texture's bytes
@@ -131,5 +131,5 @@ module _ {W : Type 0} where
   asDoomed bytes ss = map (λ (s : Spare W). record { view = s .view; bytes = bytes }) ss
 
   -- the same for spares, which leave the parked total
-  abbrev pub doomSpares : List (Doomed W) → Pool W → Pool W
+  abbrev pub doomSpares : List (Doomed W) → PoolModel W → PoolModel W
   doomSpares ds p = doom ds (withParked (p .parked - doomedBytes ds) p)

@@ -11,7 +11,7 @@ use Rattle.base_blocks.specs.Lists.{listed, over}
 use Rattle.base_blocks.proofs.Lists.{length-over, drop-over}
 use Rattle.base_blocks.proofs.Listed.{length-listed, listed-more}
 use Rattle.pool_memory.specs.declared.pool.Pool.{Pool}
-use Rattle.pool_take_doomed.specs.Views.{numberAt, column}
+use Rattle.pool_take_doomed.specs.Views.{columnNumber, column}
 use Rattle.pool_take_doomed.specs.DrainVersions.{drainedViews}
 use Rattle.pool_records.specs.RecordConstants.{doomedStride, retiringStride, spareStride}
 
@@ -25,7 +25,7 @@ sets-more (v ∷ vs) x l i =
 module _ (w k cap head : ℕ) (s : List ℕ) (i : ℕ) where
   pub length-column : (n : ℕ) → length (column w k cap head s i n) ≡ n
   unfolding column
-  length-column n = length-listed (numberAt w k cap head s) i n
+  length-column n = length-listed (columnNumber w k cap head s) i n
 
   module _ (o : List ℕ) (at : ℕ) where
     pub column-none : o ≡ sets o at (column w k cap head s i 0)
@@ -33,10 +33,10 @@ module _ (w k cap head : ℕ) (s : List ℕ) (i : ℕ) where
     column-none = refl
 
     pub column-more : (j : ℕ)
-        → set (sets o at (column w k cap head s i j)) (at + j) (numberAt w k cap head s (i + j)) ≡ sets o at (column w k cap head s i (j + 1))
+        → set (sets o at (column w k cap head s i j)) (at + j) (columnNumber w k cap head s (i + j)) ≡ sets o at (column w k cap head s i (j + 1))
     unfolding column
     column-more j =
-        let f = numberAt w k cap head s in
+        let f = columnNumber w k cap head s in
         sym (ap (λ (n : ℕ). sets o at (listed f i n)) (add-one j)
         ∙ ap (sets o at) (listed-more f i j)
         ∙ sets-more (listed f i j) (f (i + j)) o at

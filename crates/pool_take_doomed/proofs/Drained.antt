@@ -18,7 +18,7 @@ use Rattle.pool_records.specs.Texture.{writeTexture}
 use Rattle.pool_records.specs.Spare.{readSpare, writeSpare}
 use Rattle.pool_records.specs.Retiring.{readRetiring}
 use Rattle.pool_records.specs.Doomed.{readDoomed}
-use Rattle.pool_rules.specs.Model.{Spare, Retiring, Doomed, VersionState, Pool, guard}
+use Rattle.pool_rules.specs.Model.{Spare, Retiring, Doomed, VersionState, PoolModel, guard}
 use Rattle.pool_rules.specs.Updates.{withSpares, withTextures, withRetiring, withParked, withDoomed, withPacing}
 use Rattle.pool_rules.specs.DrainVersions.{everyView, drainVersions}
 use Rattle.pool_memory.specs.declared.pool.Pool.{Pool as Counts}
@@ -27,14 +27,14 @@ use Rattle.pool_memory.specs.Lent.{Lent, lent, versionPlaces}
 use Rattle.pool_memory.specs.Reading.{spareRead, retiringRead, doomedRead, modelOf}
 use Rattle.pool_memory.specs.Writing.{textureRecord, spareRecord, everySpare, texturesAfter, sparesAfter, bookAfter, poolAfter, after}
 use Rattle.pool_memory.specs.IsPool.{isPool}
-use Rattle.pool_memory.specs.Calls.{refusal, answer, viewNumbers, asked, drainVersionsCall}
+use Rattle.pool_memory.specs.Calls.{refusedWith, answer, viewNumbers, asked, drainVersionsOn}
 use Rattle.pool_memory.proofs.Fits.{Fits}
 use Rattle.pool_memory.proofs.Runs.{spareCount, tracked-model, records-model, spares-model, pages-model}
 use Rattle.pool_memory.proofs.Kept.{pagedOf, used-paged}
 use Rattle.pool_memory.proofs.Rings.{head-stays, hand-model, retiring-drained, first-taken, doomed-taken}
 use Rattle.pool_memory.proofs.Same.{mark-same}
 use Rattle.pool_memory.proofs.Stays.{put-together, ring-fits, doomed-fit, newest-stay, stamps-stay}
-use Rattle.pool_take_doomed.specs.Views.{numberAt, column}
+use Rattle.pool_take_doomed.specs.Views.{columnNumber, column}
 use Rattle.pool_take_doomed.specs.DrainVersions.{drainedViews, drainedCounts, drainedBook, spareless, cleared}
 use Rattle.pool_take_doomed.proofs.Columns.{length-column}
 use Rattle.pool_take_doomed.proofs.Taken.{flat-views}
@@ -75,7 +75,7 @@ spare-views (t ∷ ts) =
     ∙ sym (map-append (λ (s : Spare ℕ). s .view) (t .spares) (everySpare ts))
 
 -- the pool that the rule leaves
-abbrev restOf : Lent → Pool ℕ
+abbrev restOf : Lent → PoolModel ℕ
 restOf l =
     let b = modelOf l .pacing in
     withPacing (record { arrivals = replicate destroySpreadDrains 0; slot = b .slot; pressed = b .pressed; excess = b .excess })
@@ -98,14 +98,14 @@ module _ (l : Lent) (f : Fits l) where
   unfolding modelOf column retiringRead along recordAt readRetiring
   queue-views =
       map-listed (λ (v : Retiring ℕ). v .view) (retiringRead l) from (l .pool .queued)
-      ∙ listed-same (λ (j : ℕ). retiringRead l j .view) (numberAt retiringStride 1 places (l .pool .head) (l .retiring)) (l .pool .queued) from from
+      ∙ listed-same (λ (j : ℕ). retiringRead l j .view) (columnNumber retiringStride 1 places (l .pool .head) (l .retiring)) (l .pool .queued) from from
       (λ j q. getD-drop (retiringStride * placeOf places (l .pool .head) (from + j)) (l .retiring) 1 0)
 
   doomed-views : map (λ (d : Doomed ℕ). d .view) (modelOf l .doomed) ≡ column doomedStride 0 places (l .pool .first) (l .doomed) 0 (l .pool .doomed)
   unfolding modelOf column doomedRead along recordAt readDoomed
   doomed-views =
       map-listed (λ (d : Doomed ℕ). d .view) (doomedRead l) 0 (l .pool .doomed)
-      ∙ listed-same (λ (j : ℕ). doomedRead l j .view) (numberAt doomedStride 0 places (l .pool .first) (l .doomed)) (l .pool .doomed) 0 0
+      ∙ listed-same (λ (j : ℕ). doomedRead l j .view) (columnNumber doomedStride 0 places (l .pool .first) (l .doomed)) (l .pool .doomed) 0 0
       (λ j q. getD-drop (doomedStride * placeOf places (l .pool .first) (0 + j)) (l .doomed) 0 0)
 
   -- the spares are packed: a ring that begins at place 0
@@ -116,7 +116,7 @@ module _ (l : Lent) (f : Fits l) where
       spare-views (modelOf l .textures)
       ∙ ap (map (λ (s : Spare ℕ). s .view)) (spares-model l ∙ ap (listed (spareRead l) 0) (f .kept))
       ∙ map-listed (λ (s : Spare ℕ). s .view) (spareRead l) 0 (l .pool .kept)
-      ∙ listed-same (λ (j : ℕ). spareRead l j .view) (numberAt spareStride 0 places 0 (l .spares)) (l .pool .kept) 0 0
+      ∙ listed-same (λ (j : ℕ). spareRead l j .view) (columnNumber spareStride 0 places 0 (l .spares)) (l .pool .kept) 0 0
       (λ j q. getD-drop (spareStride * (0 + j)) (l .spares) 0 0
       ∙ ap (λ (k : ℕ). getD (l .spares) (spareStride * k + 0) 0) (sym (zero-add (0 + j)) ∙ place-near places 0 (0 + j) (omega (arith, q, f .versions))))
 
@@ -137,7 +137,7 @@ module _ (l : Lent) (f : Fits l) where
 
   -- ---- what is left
 
-  abbrev rest : Pool ℕ
+  abbrev rest : PoolModel ℕ
   rest = restOf l
 
   none-left : [] ≡ drop (l .pool .doomed) (modelOf l .doomed)
@@ -206,18 +206,18 @@ module _ (l : Lent) (f : Fits l) where
     counted : length (everyView (modelOf l)) ≡ handedOut
     counted = ap length (sym views-drained) ∙ views-count
 
-    pub drain-refused : length buffer < handedOut → (refusal 11, (buffer, l)) ≡ drainVersionsCall l buffer
-    unfolding drainVersionsCall asked drainVersions guard
+    pub drain-refused : length buffer < handedOut → (refusedWith 11, (buffer, l)) ≡ drainVersionsOn l buffer
+    unfolding drainVersionsOn asked drainVersions guard
     drain-refused h = sym (rw (pooled, lt-ltb (length buffer) (length (everyView (modelOf l))) (omega (arith, counted))))
 
     drain-said : handedOut ≤ length buffer
-        → (answer (length (everyView (modelOf l))), (over (flat viewNumbers (everyView (modelOf l))) buffer, after rest l)) ≡ drainVersionsCall l buffer
-    unfolding drainVersionsCall asked drainVersions guard
+        → (answer (length (everyView (modelOf l))), (over (flat viewNumbers (everyView (modelOf l))) buffer, after rest l)) ≡ drainVersionsOn l buffer
+    unfolding drainVersionsOn asked drainVersions guard
     drain-said h = sym (rw (pooled, le-ltb (length buffer) (length (everyView (modelOf l))) (omega (arith, counted))))
 
     pub drain-accepted : handedOut ≤ length buffer → (out textures : List ℕ) (c : Counts) (b : PacingBook)
         → out ≡ over viewsIn buffer → textures ≡ cleared (l .pool .tracked) (l .textures) → c ≡ drainedCounts (l .pool) places
-        → b ≡ drainedBook (l .book) → (answer handedOut, (out, leaving c b textures)) ≡ drainVersionsCall l buffer
+        → b ≡ drainedBook (l .book) → (answer handedOut, (out, leaving c b textures)) ≡ drainVersionsOn l buffer
     drain-accepted h out textures c b e1 e2 e3 e4 =
         let full : out ≡ over (flat viewNumbers (everyView (modelOf l))) buffer =
         e1 ∙ ap (λ (vs : List ℕ). over vs buffer) (views-drained ∙ sym (flat-views (everyView (modelOf l)))) in

@@ -14,7 +14,7 @@ use Rattle.base_blocks.proofs.Listed.{take-listed, map-listed, listed-same}
 use Rattle.base_tables.specs.Records.{recordAt, flat}
 use Rattle.base_tables.specs.Rings.{placeOf, along}
 use Rattle.pool_records.specs.Doomed.{readDoomed}
-use Rattle.pool_rules.specs.Model.{Doomed, Pool, guard, doomedBytes}
+use Rattle.pool_rules.specs.Model.{Doomed, PoolModel, guard, doomedBytes}
 use Rattle.pool_rules.specs.Updates.{withDoomed, withPacing}
 use Rattle.pool_rules.specs.TakeDoomed.{arrived, batch, takeDoomed}
 use Rattle.pool_rules.proofs.Lists.{all-set}
@@ -24,13 +24,13 @@ use Rattle.pool_memory.specs.Lent.{Lent, lent, versionPlaces}
 use Rattle.pool_memory.specs.Reading.{doomedRead, modelOf}
 use Rattle.pool_memory.specs.Writing.{bookAfter, poolAfter, after}
 use Rattle.pool_memory.specs.IsPool.{isPool}
-use Rattle.pool_memory.specs.Calls.{Told, refusal, answer, viewNumbers, asked, takeDoomedCall}
+use Rattle.pool_memory.specs.Calls.{Told, refusedWith, answer, viewNumbers, asked, takeDoomedOn}
 use Rattle.pool_memory.proofs.Fits.{Fits}
 use Rattle.pool_memory.proofs.Runs.{tracked-model, kept-model, pages-model}
 use Rattle.pool_memory.proofs.Rings.{head-stays, hand-model, first-taken, doomed-taken}
 use Rattle.pool_memory.proofs.Same.{mark-same, queued-model, doomed-model}
 use Rattle.pool_memory.proofs.Stays.{put-together, doomed-fit, textures-stay, retiring-stay, spares-stay, newest-stay, stamps-stay}
-use Rattle.pool_take_doomed.specs.Views.{numberAt, column}
+use Rattle.pool_take_doomed.specs.Views.{columnNumber, column}
 use Rattle.pool_take_doomed.specs.NextBatch.{doomedEntry, doomedEntries, pacedOf, batchOf}
 use Rattle.pool_take_doomed.specs.TakeDoomed.{takenCounts, takenBook}
 use Rattle.pool_take_doomed.proofs.Columns.{length-column, front-sets}
@@ -54,7 +54,7 @@ flat-views (x ∷ xs) = ap (λ (l : List ℕ). x ∷ l) (flat-views xs)
 abbrev viewsOf : Lent → ℕ → List ℕ
 viewsOf l n = map (λ (d : Doomed ℕ). d .view) (take n (modelOf l .doomed))
 
-abbrev restOf : Lent → ℕ → Pool ℕ
+abbrev restOf : Lent → ℕ → PoolModel ℕ
 restOf l n =
     withPacing (record { arrivals = arrived (modelOf l); slot = suc (modelOf l .pacing .slot) % destroySpreadDrains; pressed = modelOf l .pacing .pressed; excess = 0 })
     (withDoomed (drop n (modelOf l .doomed)) 0 (modelOf l .dooming - doomedBytes (take n (modelOf l .doomed))) (modelOf l))
@@ -128,7 +128,7 @@ module _ (l : Lent) where
     -- ---- what is left
 
     module _ (n bytes : ℕ) (few : n ≤ l .pool .doomed) (sum : bytes ≡ doomedBytes (entries n)) where
-      abbrev rest : Pool ℕ
+      abbrev rest : PoolModel ℕ
       rest = restOf l n
 
       counts-taken : takenCounts (l .pool) (versionPlaces l) n bytes ≡ poolAfter rest l
@@ -175,7 +175,7 @@ module _ (l : Lent) where
       let e = doomedEntry (versionPlaces l) (l .pool .first) (l .doomed) in
       ap (map (λ (d : Doomed ℕ). d .view)) (entries-taken n h)
       ∙ map-listed (λ (d : Doomed ℕ). d .view) e 0 n
-      ∙ listed-same (λ (j : ℕ). e j .view) (numberAt doomedStride 0 (versionPlaces l) (l .pool .first) (l .doomed)) n 0 0
+      ∙ listed-same (λ (j : ℕ). e j .view) (columnNumber doomedStride 0 (versionPlaces l) (l .pool .first) (l .doomed)) n 0 0
       (λ j q. getD-drop (doomedStride * placeOf (versionPlaces l) (l .pool .first) (0 + j)) (l .doomed) 0 0)
 
   module _ (pooled : isPool l ≡ true) (buffer arrivals : List ℕ) (n : ℕ) (now : arrivals ≡ noted)
@@ -184,19 +184,19 @@ module _ (l : Lent) where
     counted =
         batched ∙ ap (λ (xs : List ℕ). batchOf (pacedOf xs (l .pool .doomed)) (l .book .excess) (entries (l .pool .doomed))) now ∙ batch-model
 
-    pub take-refused : length buffer < n → (refusal 11, (buffer, l)) ≡ takeDoomedCall l buffer
-    unfolding takeDoomedCall asked takeDoomed guard
+    pub take-refused : length buffer < n → (refusedWith 11, (buffer, l)) ≡ takeDoomedOn l buffer
+    unfolding takeDoomedOn asked takeDoomed guard
     take-refused h = sym (rw (pooled, lt-ltb (length buffer) (batch (modelOf l)) (omega (arith, counted))))
 
-    accepted-views : n ≤ length buffer → said l buffer (batch (modelOf l)) ≡ takeDoomedCall l buffer
-    unfolding takeDoomedCall asked takeDoomed guard
+    accepted-views : n ≤ length buffer → said l buffer (batch (modelOf l)) ≡ takeDoomedOn l buffer
+    unfolding takeDoomedOn asked takeDoomed guard
     accepted-views h = sym (rw (pooled, le-ltb (length buffer) (batch (modelOf l)) (omega (arith, counted))))
 
     module _ (f : Fits l) (bytes : ℕ) (few : n ≤ l .pool .doomed) (sum : bytes ≡ doomedBytes (entries n)) (room : n ≤ length buffer) where
       pub take-accepted : (out : List ℕ) (c : Counts) (b : PacingBook)
           → out ≡ sets buffer 0 (column doomedStride 0 (versionPlaces l) (l .pool .first) (l .doomed) 0 n)
           → c ≡ takenCounts (l .pool) (versionPlaces l) n bytes → b ≡ takenBook (l .book) arrivals
-          → (answer n, (out, leaving l c b)) ≡ takeDoomedCall l buffer
+          → (answer n, (out, leaving l c b)) ≡ takeDoomedOn l buffer
       take-accepted out c b e1 e2 e3 =
           let vs = column doomedStride 0 (versionPlaces l) (l .pool .first) (l .doomed) 0 n in
           let long : length vs ≡ n = length-column doomedStride 0 (versionPlaces l) (l .pool .first) (l .doomed) 0 n in

@@ -6,9 +6,9 @@ use Rattle.base_blocks.specs.Lists.{listed}
 use Rattle.base_tables.specs.Rings.{placeOf}
 
 -- number k of record j: w numbers a record, cap places, the first record at place head
-abbrev pub numberAt : ℕ → ℕ → ℕ → ℕ → List ℕ → ℕ → ℕ
-numberAt w k cap head s j = getD s (w * placeOf cap head j + k) 0
+abbrev pub columnNumber : ℕ → ℕ → ℕ → ℕ → List ℕ → ℕ → ℕ
+columnNumber w k cap head s j = getD s (w * placeOf cap head j + k) 0
 
 -- number k of the n records from the i-th on
 unfoldable pub column : ℕ → ℕ → ℕ → ℕ → List ℕ → ℕ → ℕ → List ℕ
-column w k cap head s i n = listed (numberAt w k cap head s) i n
+column w k cap head s i n = listed (columnNumber w k cap head s) i n

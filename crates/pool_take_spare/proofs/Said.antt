@@ -10,7 +10,7 @@ use lib.Dec.{ltb, leb}
 use lib.ListN.{length}
 use Rattle.grid_shapes.specs.declared.shape.VersionShape.{VersionShape}
 use Rattle.grid_shapes.specs.Shapes.{isShape, sameShape}
-use Rattle.pool_rules.specs.Model.{VersionState, Pool, find, limit, pagesOf, pagesUsed}
+use Rattle.pool_rules.specs.Model.{VersionState, PoolModel, find, limit, pagesOf, pagesUsed}
 use Rattle.pool_rules.specs.TakeSpare.{takeSpare}
 use Rattle.pool_records.specs.declared.texture.TextureRecord.{TextureRecord}
 use Rattle.pool_records.specs.Texture.{textureIn, recordPages}
@@ -25,7 +25,7 @@ use Rattle.pool_memory.proofs.Stays.{ids-ascend}
 use Rattle.pool_memory.proofs.Places.{not-found}
 use Rattle.pool_access.proofs.Ids as ids
 use Rattle.pool_access.proofs.Fields.{pages-bound, claims-bound}
-use Rattle.pool_memory.specs.Calls.{refusal, takenOf, takeSpareCall}
+use Rattle.pool_memory.specs.Calls.{refusedWith, takenOf, takeSpareOn}
 use Rattle.pool_memory.proofs.Asked.{asked-refused}
 use Rattle.pool_memory.proofs.Tracked.{shape-at, pages-at, shape-passes}
 use Rattle.pool_tracking.specs.Refusal.{trackingRefusal, begunRefusal, foundRefusal, takeRefusal}
@@ -158,8 +158,8 @@ module _ (l : Lent) (i id : ℕ) (shape : VersionShape) (records : Bool) (seq : 
                   ∙ ap (begunRefusal (modelOf l) shape records) (eo ∙ ap recordPages is-record ∙ sym (pages-at l i (here .0)))
                   ∙ sym (ap (λ (c : Bool). cond c 0 (begunRefusal (modelOf l) shape records (pagesUsed (stateOf l i)))) y) ∙ by-shape q e
 
-  -- a refusal is what the call says, and nothing changes
-  pub refused-call : (n : ℕ) → n ≡ said → (n ≡ 0 → ⊥) → (refusal n, l) ≡ takeSpareCall l id shape records seq
-  unfolding takeSpareCall
+  -- a refusedWith is what the call says, and nothing changes
+  pub refused-call : (n : ℕ) → n ≡ said → (n ≡ 0 → ⊥) → (refusedWith n, l) ≡ takeSpareOn l id shape records seq
+  unfolding takeSpareOn
   refused-call n e other =
-      sym (asked-refused takenOf l (λ (p : Pool ℕ). takeSpare p id shape records seq) pool n (take-refused (modelOf l) id shape records seq n other (sym e)))
+      sym (asked-refused takenOf l (λ (p : PoolModel ℕ). takeSpare p id shape records seq) pool n (take-refused (modelOf l) id shape records seq n other (sym e)))

@@ -15,7 +15,7 @@ use Rattle.base_blocks.proofs.Listed.{getD-listed}
 use Rattle.base_tables.specs.Records.{recordAt}
 use Rattle.grid_shapes.specs.declared.shape.VersionShape.{VersionShape}
 use Rattle.grid_shapes.specs.Shapes.{sameShape, bytesOf}
-use Rattle.pool_rules.specs.Model.{Spare, VersionState, Pool, find, pagesUsed}
+use Rattle.pool_rules.specs.Model.{Spare, VersionState, PoolModel, find, pagesUsed}
 use Rattle.pool_rules.specs.Updates.{withSpares, withRename, withTextures, withParked, change}
 use Rattle.pool_rules.specs.TakeSpare.{newest, others, takenBytes, takeSpare}
 use Rattle.pool_rules.proofs.States.{length-change, total-change, total-unchanged}
@@ -28,7 +28,7 @@ use Rattle.pool_memory.specs.declared.pool.Pool.{Pool as Counts}
 use Rattle.pool_memory.specs.Lent.{Lent, lent}
 use Rattle.pool_memory.specs.Reading.{spareRead, stateRead, modelOf}
 use Rattle.pool_memory.specs.Writing.{textureRecord, everySpare, poolAfter, sparesAfter, after}
-use Rattle.pool_memory.specs.Calls.{Told, answer, TakenVersion, takenOf, takeSpareCall}
+use Rattle.pool_memory.specs.Calls.{Told, answer, TakenVersion, takenOf, takeSpareOn}
 use Rattle.pool_memory.proofs.Fits.{Fits}
 use Rattle.pool_memory.proofs.FromPool.{pool-fits}
 use Rattle.pool_memory.proofs.Runs.{sparesOf, spareCount, firstSpare, stateOf, tracked-model, kept-model, pages-model}
@@ -96,15 +96,15 @@ module _ (l : Lent) (i id : ℕ) (shape : VersionShape) (records : Bool) (seq : 
   there : find id (modelOf l .textures) ≡ some u
   there = found-there l f i (h .0) id (ok .1 .0) (h .1)
 
-  abbrev after-take : Pool ℕ
+  abbrev after-take : PoolModel ℕ
   after-take =
       withParked (modelOf l .parked - takenBytes (u .shape) (newest (u .spares)))
       (withTextures (change id (renamedState seq) (modelOf l .textures)) (modelOf l))
 
-  ruled : takeSpareCall l id shape records seq ≡ (answer (takenOf (newest (u .spares))), after after-take l)
-  unfolding takeSpareCall
+  ruled : takeSpareOn l id shape records seq ≡ (answer (takenOf (newest (u .spares))), after after-take l)
+  unfolding takeSpareOn
   ruled =
-      asked-accepted takenOf l (λ (p : Pool ℕ). takeSpare p id shape records seq) (ok .0) (newest (u .spares)) after-take
+      asked-accepted takenOf l (λ (p : PoolModel ℕ). takeSpare p id shape records seq) (ok .0) (newest (u .spares)) after-take
       (take-tracked (modelOf l) id shape records seq (ok .1 .1) u there (ap (λ (s : VersionShape). sameShape s shape) (shape-at l i (h .0)) ∙ same))
 
   changed-there : change id (renamedState seq) (modelOf l .textures) ≡ set (modelOf l .textures) i (renamedState seq u)
@@ -160,7 +160,7 @@ module _ (l : Lent) (i id : ℕ) (shape : VersionShape) (records : Bool) (seq : 
 
   pub no-spare : count ≡ 0
       → (answer none, lent (l .pool) (l .book) (sets (l .textures) (textureStride * i) (writeTexture (renamedRecord seq 0 t))) (l .retiring) (l .doomed) (l .spares) (l .newest) (l .stamps))
-      ≡ takeSpareCall l id shape records seq
+      ≡ takeSpareOn l id shape records seq
   no-spare e =
       let none-there : u .spares ≡ [] = empty (u .spares) (spares-counted ∙ e) in
       ap₂ (λ (a : Told (Option TakenVersion)) (m : Lent). (a, m)) (ap (λ (ss : List (Spare ℕ)). answer (takenOf (newest ss))) (sym none-there))
@@ -198,7 +198,7 @@ module _ (l : Lent) (i id : ℕ) (shape : VersionShape) (records : Bool) (seq : 
           (l .book) (sets (l .textures) (textureStride * i) (writeTexture (renamedRecord seq (count - 1) t))) (l .retiring) (l .doomed)
           (moved (l .spares) (spareStride * k) (spareStride * k + spareStride * 1) (spareStride * (l .pool .kept - (k + 1)))) (l .newest) (l .stamps),
     )
-        ≡ takeSpareCall l id shape records seq
+        ≡ takeSpareOn l id shape records seq
     unfolding recordAt spareRead
     spare-taken =
         ap₂ (λ (a : Told (Option TakenVersion)) (m : Lent). (a, m)) (ap (λ (o : Option (Spare ℕ)). answer (takenOf o)) (sym last-spare))
@@ -212,7 +212,7 @@ module _ (l : Lent) (i id : ℕ) (shape : VersionShape) (records : Bool) (seq : 
 
   module _ (t′ x : TextureRecord) (textures : List ℕ) (is-record : t′ ≡ t) where
     pub left-without : t′ .spares ≡ 0 → x ≡ renamedRecord seq 0 t′ → textures ≡ sets (l .textures) (textureStride * i) (writeTexture x)
-        → (answer none, lent (l .pool) (l .book) textures (l .retiring) (l .doomed) (l .spares) (l .newest) (l .stamps)) ≡ takeSpareCall l id shape records seq
+        → (answer none, lent (l .pool) (l .book) textures (l .retiring) (l .doomed) (l .spares) (l .newest) (l .stamps)) ≡ takeSpareOn l id shape records seq
     left-without e r w =
         ap (λ (ts : List ℕ). (answer none, lent (l .pool) (l .book) ts (l .retiring) (l .doomed) (l .spares) (l .newest) (l .stamps)))
         (w ∙ ap (λ (y : TextureRecord). sets (l .textures) (textureStride * i) (writeTexture y)) (r ∙ ap (renamedRecord seq 0) is-record))
@@ -228,7 +228,7 @@ module _ (l : Lent) (i id : ℕ) (shape : VersionShape) (records : Bool) (seq : 
                 (counted (l .pool) (l .pool .tracked) (l .pool .kept - 1) (l .pool .pages) (l .pool .doomed) (l .pool .since) (l .pool .trackings) (l .pool .parked - t′ .bytes) (l .pool .dooming))
                 (l .book) textures (l .retiring) (l .doomed) spares (l .newest) (l .stamps),
           )
-          ≡ takeSpareCall l id shape records seq
+          ≡ takeSpareOn l id shape records seq
       left-with some-spare e1 e2 e3 e4 e5 e6 =
           let n : t′ .spares ≡ count = ap sparesOf is-record in
           let at : k ≡ firstSpare l i + (count - 1) = omega (arith, e1, e2, n, spares-to l i (h .0)) in

@@ -3,7 +3,7 @@ ghost use mathlib.Core.Path.{_≡_};
 ghost use mathlib.Core.Bool.{true};
 ghost use Rattle.grid_shapes.specs.Shapes.{sameShape};
 ghost use Rattle.pool_memory.specs.Lent.{lentBy, atEntry, atExit};
-ghost use Rattle.pool_memory.specs.Calls.{takeSpareCall};
+ghost use Rattle.pool_memory.specs.Calls.{takeSpareOn};
 ghost use Rattle.pool_take_spare.specs.Answer.{takenTold};
 ghost use Rattle.pool_tracking.specs.Cases.{Accepted, recordOf, TrackedAt};
 ghost use Rattle.pool_take_spare.specs.TakeNewest.{renamedRecord};
@@ -49,7 +49,7 @@ pub fn take_newest(
         × TrackedAt (lentBy pool book textures retiring doomed spares newest stamps) i id
         × (sameShape (recordOf (lentBy pool book textures retiring doomed spares newest stamps) i .shape) shape ≡ true) ⌝ }
     ensures { λ r. ⌜ (takenTold (r .taken), atExit (r .pool) book textures retiring doomed spares newest stamps)
-        ≡ takeSpareCall (atEntry pool book textures retiring doomed spares newest stamps) id shape records seq ⌝ }
+        ≡ takeSpareOn (atEntry pool book textures retiring doomed spares newest stamps) id shape records seq ⌝ }
 {
     let t = texture_at(textures, i);
     if t.spares == 0 {

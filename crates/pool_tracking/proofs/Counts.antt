@@ -4,7 +4,7 @@ use Prim.Native.Nat.{ℕ, _≤_}
 use native.Mathlib.Omega.{arith}
 use lib.ListN.{length}
 use Rattle.base_blocks.specs.Lists.{total}
-use Rattle.pool_rules.specs.Model.{Pool, pagesUsed, handCount}
+use Rattle.pool_rules.specs.Model.{PoolModel, pagesUsed, handCount}
 use Rattle.pool_memory.specs.declared.pool.Pool.{Pool as Counts}
 use Rattle.pool_memory.specs.Lent.{Lent}
 use Rattle.pool_memory.specs.Reading.{modelOf}
@@ -37,7 +37,7 @@ counted c tracked kept pages doomed since trackings parked dooming = record {
 abbrev pub begunCounts : Counts → (pages trackings : ℕ) → Counts
 begunCounts c pages trackings = counted c (c .tracked) (c .kept) pages (c .doomed) (c .since) trackings (c .parked) (c .dooming)
 
-module _ (l : Lent) (f : Fits l) (p : Pool ℕ) (hand : p .hand ≡ modelOf l .hand) (queue : p .retiring ≡ modelOf l .retiring)
+module _ (l : Lent) (f : Fits l) (p : PoolModel ℕ) (hand : p .hand ≡ modelOf l .hand) (queue : p .retiring ≡ modelOf l .retiring)
     (cap : l .pool .cap ≡ p .budget .cap) (line : l .pool .line ≡ p .budget .line) where
   pub counts-after : (tracked kept pages doomed : ℕ) → tracked ≡ length (p .textures) → kept ≡ total spareCount (p .textures)
       → pages ≡ total pagesUsed (p .textures) → doomed ≡ length (p .doomed) → l .pool .doomed ≤ doomed

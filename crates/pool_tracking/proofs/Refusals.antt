@@ -10,7 +10,7 @@ use lib.ListN.{length}
 use Rattle.base_blocks.specs.Lists.{total}
 use Rattle.grid_shapes.specs.declared.shape.VersionShape.{VersionShape}
 use Rattle.grid_shapes.specs.Shapes.{isShape, sameShape, bytesOf}
-use Rattle.pool_rules.specs.Model.{Spare, VersionState, Pool, Out, refused, accepted, guard, find, limit, pagesOf, pagesUsed}
+use Rattle.pool_rules.specs.Model.{Spare, VersionState, PoolModel, Out, refused, accepted, guard, find, limit, pagesOf, pagesUsed}
 use Rattle.pool_rules.specs.Updates.{withTextures, withTrackings, change, insert, asDoomed, doomSpares}
 use Rattle.pool_rules.specs.TakeSpare.{newState, historyFull, takeRenewed, takeTracked, takeFound, takeSpare}
 use Rattle.pool_memory.proofs.Asked.{guard-passed}
@@ -36,7 +36,7 @@ nothing-said n other e = absurd (other (sym e))
 
 -- ---- the rule
 
-module _ (p : Pool ℕ) (id : ℕ) (shape : VersionShape) (records : Bool) (seq : ℕ) where
+module _ (p : PoolModel ℕ) (id : ℕ) (shape : VersionShape) (records : Bool) (seq : ℕ) where
   module _ (n : ℕ) (other : n ≡ 0 → ⊥) where
     begun-refused : (own : ℕ) (out : Out ℕ (Option (Spare ℕ))) → begunRefusal p shape records own ≡ n
         → guard (historyFull p shape records own) 6 (guard (leb limit (p .trackings)) 12 out) ≡ refused n
@@ -141,7 +141,7 @@ module _ (p : Pool ℕ) (id : ℕ) (shape : VersionShape) (records : Bool) (seq 
       renewed-begun =
           sym (ap (λ (b : Bool). cond b 0 (begunRefusal p shape records (pagesUsed t))) other) ∙ ap (foundRefusal p shape records) (sym q) ∙ found-passed
 
-      abbrev pub renewedPool : Pool ℕ
+      abbrev pub renewedPool : PoolModel ℕ
       renewedPool =
           withTrackings (suc (p .trackings))
           (withTextures (change id (λ (u : VersionState ℕ). newState id shape records (suc (p .trackings)) seq) (p .textures))

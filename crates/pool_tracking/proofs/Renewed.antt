@@ -15,7 +15,7 @@ use Rattle.base_tables.specs.Rings.{laid}
 use Rattle.grid_shapes.specs.declared.shape.VersionShape.{VersionShape}
 use Rattle.grid_shapes.specs.Shapes.{isShape, sameShape, bytesOf}
 use Rattle.grid_shapes.proofs.ShapeBytes.{bytes-bound}
-use Rattle.pool_rules.specs.Model.{Spare, Doomed, VersionState, Pool, find, limit, pagesOf, pagesUsed, doomedBytes}
+use Rattle.pool_rules.specs.Model.{Spare, Doomed, VersionState, PoolModel, find, limit, pagesOf, pagesUsed, doomedBytes}
 use Rattle.pool_rules.specs.Updates.{withTextures, withTrackings, change, asDoomed, doomSpares}
 use Rattle.pool_rules.specs.TakeSpare.{takeSpare}
 use Rattle.pool_rules.proofs.States.{length-change, total-change}
@@ -28,7 +28,7 @@ use Rattle.pool_memory.specs.declared.pool.Pool.{Pool as Counts}
 use Rattle.pool_memory.specs.Lent.{Lent, lent, versionPlaces}
 use Rattle.pool_memory.specs.Reading.{spareRead, stateRead, modelOf}
 use Rattle.pool_memory.specs.Writing.{doomedRecord, everySpare, firstPage, sparesAfter, doomedAfter, poolAfter, after}
-use Rattle.pool_memory.specs.Calls.{answer, takenOf, takeSpareCall}
+use Rattle.pool_memory.specs.Calls.{answer, takenOf, takeSpareOn}
 use Rattle.pool_memory.proofs.Fits.{Fits}
 use Rattle.pool_memory.proofs.FromPool.{pool-fits, page-places}
 use Rattle.pool_memory.proofs.Runs.{sparesOf, spareCount, firstSpare, firstPageOf, stateOf, tracked-model, kept-model, pages-model}
@@ -105,16 +105,16 @@ module _ (l : Lent) (i id : ℕ) (shape : VersionShape) (records : Bool) (seq : 
   abbrev given : List (Doomed ℕ)
   given = asDoomed (bytesOf (u .shape)) (u .spares)
 
-  abbrev renewed : Pool ℕ
+  abbrev renewed : PoolModel ℕ
   renewed = withTrackings epoch (withTextures (change id (λ (v : VersionState ℕ). new) (modelOf l .textures)) (doomSpares given (modelOf l)))
 
   other-state : sameShape (u .shape) shape ≡ false
   other-state = ap (λ (s : VersionShape). sameShape s shape) (shape-at l i (h .0)) ∙ other
 
-  ruled : takeSpareCall l id shape records seq ≡ (answer none, after renewed l)
-  unfolding takeSpareCall
+  ruled : takeSpareOn l id shape records seq ≡ (answer none, after renewed l)
+  unfolding takeSpareOn
   ruled =
-      asked-accepted takenOf l (λ (p : Pool ℕ). takeSpare p id shape records seq) (ok .0) none renewed
+      asked-accepted takenOf l (λ (p : PoolModel ℕ). takeSpare p id shape records seq) (ok .0) none renewed
       (take-renewed (modelOf l) id shape records seq (ok .1 .1) u there other-state)
 
   changed-there : change id (λ (v : VersionState ℕ). new) (modelOf l .textures) ≡ set (modelOf l .textures) i new
@@ -306,7 +306,7 @@ module _ (l : Lent) (i id : ℕ) (shape : VersionShape) (records : Bool) (seq : 
         → newest ≡ sets (moved (l .newest) (hold .page + fresh) (hold .page + hold .pages) (l .pool .pages - (hold .page + hold .pages))) (hold .page) (replicate fresh 0)
         → stamps ≡ sets (moved (l .stamps) (pageStamps * hold .page + pageStamps * fresh) (pageStamps * hold .page + pageStamps * hold .pages) (pageStamps * (l .pool .pages - (hold .page + hold .pages)))) (pageStamps * hold .page) (replicate (pageStamps * fresh) 0)
         → (answer none, lent (begunCounts g (l .pool .pages - hold .pages + fresh) (l .pool .trackings + 1)) (l .book) textures (l .retiring) doomed spares newest stamps)
-        ≡ takeSpareCall l id shape records seq
+        ≡ takeSpareOn l id shape records seq
     left-renewed places fresh g x textures doomed spares newest stamps e1 e2 e3 e4 e5 e6 e7 e8 e9 =
         let parts = set-parts l renewed i (h .0) new changed-there in
         ap (λ (m : Lent). (answer none, m))

@@ -14,7 +14,7 @@ use Rattle.base_blocks.specs.Blocks.{moved}
 use Rattle.base_tables.proofs.Records.{take-table}
 use Rattle.grid_shapes.specs.declared.shape.VersionShape.{VersionShape}
 use Rattle.grid_shapes.specs.Shapes.{isShape}
-use Rattle.pool_rules.specs.Model.{VersionState, Pool, find, limit, pagesOf, pagesUsed}
+use Rattle.pool_rules.specs.Model.{VersionState, PoolModel, find, limit, pagesOf, pagesUsed}
 use Rattle.pool_rules.specs.Updates.{withTextures, withTrackings, insert}
 use Rattle.pool_rules.specs.TakeSpare.{takeSpare}
 use Rattle.pool_rules.proofs.States.{length-insert, total-insert}
@@ -24,7 +24,7 @@ use Rattle.pool_records.proofs.Places.{below-length}
 use Rattle.pool_memory.specs.Lent.{Lent, lent}
 use Rattle.pool_memory.specs.Reading.{trackedRecords, modelOf}
 use Rattle.pool_memory.specs.Writing.{everySpare, poolAfter, after}
-use Rattle.pool_memory.specs.Calls.{answer, takenOf, takeSpareCall}
+use Rattle.pool_memory.specs.Calls.{answer, takenOf, takeSpareOn}
 use Rattle.pool_memory.proofs.Fits.{Fits}
 use Rattle.pool_memory.proofs.FromPool.{pool-fits, page-places, enough}
 use Rattle.pool_memory.proofs.Runs.{spareCount, firstPageOf, tracked-records, tracked-model, kept-model, pages-model}
@@ -75,13 +75,13 @@ module _ (l : Lent) (i id : ℕ) (shape : VersionShape) (records : Bool) (seq : 
   abbrev new : VersionState ℕ
   new = begun id shape records epoch seq
 
-  abbrev started : Pool ℕ
+  abbrev started : PoolModel ℕ
   started = withTrackings epoch (withTextures (insert new (modelOf l .textures)) (modelOf l))
 
-  ruled : takeSpareCall l id shape records seq ≡ (answer none, after started l)
-  unfolding takeSpareCall
+  ruled : takeSpareOn l id shape records seq ≡ (answer none, after started l)
+  unfolding takeSpareOn
   ruled =
-      asked-accepted takenOf l (λ (p : Pool ℕ). takeSpare p id shape records seq) (ok .0) none started
+      asked-accepted takenOf l (λ (p : PoolModel ℕ). takeSpare p id shape records seq) (ok .0) none started
       (take-new (modelOf l) id shape records seq (ok .1 .1) none-there)
 
   put-there : insert new (modelOf l .textures) ≡ inserted i (new ∷ []) (modelOf l .textures)
@@ -174,7 +174,7 @@ module _ (l : Lent) (i id : ℕ) (shape : VersionShape) (records : Bool) (seq : 
         lent
             (counted (l .pool) (l .pool .tracked + 1) (l .pool .kept) (l .pool .pages + fresh) (l .pool .doomed) (l .pool .since) (l .pool .trackings + 1) (l .pool .parked) (l .pool .dooming))
             (l .book) textures (l .retiring) (l .doomed) (l .spares) newest stamps,
-      ) ≡ takeSpareCall l id shape records seq
+      ) ≡ takeSpareOn l id shape records seq
   left-started x textures newest stamps page fresh e1 e2 e3 e4 e5 e6 =
       let at : page ≡ firstPageOf l i = e2 ∙ pages-there in
       let n = freshPages shape records in

@@ -10,7 +10,7 @@ use lib.Seq.{sets}
 use Rattle.base_blocks.specs.Blocks.{moved}
 use Rattle.grid_shapes.specs.declared.shape.VersionShape.{VersionShape}
 use Rattle.grid_shapes.specs.Shapes.{isShape, bytesOf}
-use Rattle.pool_rules.specs.Model.{VersionState, Pool, pagesUsed}
+use Rattle.pool_rules.specs.Model.{VersionState, PoolModel, pagesUsed}
 use Rattle.pool_rules.specs.Histories.{newHistory}
 use Rattle.pool_rules.specs.TakeSpare.{newState}
 use Rattle.pool_records.specs.declared.recorded.Recorded.{Recorded}
@@ -79,7 +79,7 @@ module _ (id : ℕ) (shape : VersionShape) (records : Bool) (epoch seq : ℕ) wh
 
   -- ---- put in for the textures from i up to j, which have `old` pages
 
-  module _ (l : Lent) (f : Fits l) (p : Pool ℕ) (i j old : ℕ) (h : i ≤ j)
+  module _ (l : Lent) (f : Fits l) (p : PoolModel ℕ) (i j old : ℕ) (h : i ≤ j)
       (e : p .textures ≡ take i (modelOf l .textures) ++ ((begun ∷ []) ++ drop j (modelOf l .textures)))
       (next : firstPageOf l j ≡ firstPageOf l i + old) (shaped : isShape shape ≡ true) (room : l .pool .pages + freshPages shape records ≤ length (l .newest) + old) where
     abbrev n : ℕ

@@ -9,7 +9,7 @@ ghost use Rattle.base_tables.specs.Rings.{laid};
 ghost use Rattle.grid_shapes.specs.Shapes.{sameShape};
 ghost use Rattle.pool_records.specs.Doomed.{writeDoomed};
 ghost use Rattle.pool_memory.specs.Lent.{lentBy, atEntry, atExit};
-ghost use Rattle.pool_memory.specs.Calls.{answer, takeSpareCall};
+ghost use Rattle.pool_memory.specs.Calls.{answer, takeSpareOn};
 ghost use Rattle.pool_take_doomed.specs.Given.{givenRecords};
 ghost use Rattle.pool_tracking.specs.Cases.{Accepted, recordOf, TrackedAt};
 ghost use Rattle.pool_tracking.specs.Holdings.{givenUp};
@@ -86,7 +86,7 @@ pub fn renew_tracking(
         × TrackedAt (lentBy pool book textures retiring doomed spares newest stamps) i id
         × (sameShape (recordOf (lentBy pool book textures retiring doomed spares newest stamps) i .shape) shape ≡ false) ⌝ }
     ensures { λ r. ⌜ (answer none, atExit r book textures retiring doomed spares newest stamps)
-        ≡ takeSpareCall (atEntry pool book textures retiring doomed spares newest stamps) id shape records seq ⌝ }
+        ≡ takeSpareOn (atEntry pool book textures retiring doomed spares newest stamps) id shape records seq ⌝ }
 {
     let places = retiring.len() / RETIRING_STRIDE;
     let old = holding_at(textures, i);

@@ -2,7 +2,7 @@
 ghost use mathlib.Core.Path.{_≡_};
 ghost use mathlib.Core.Option.{none};
 ghost use Rattle.pool_memory.specs.Lent.{lentBy, atEntry, atExit};
-ghost use Rattle.pool_memory.specs.Calls.{answer, takeSpareCall};
+ghost use Rattle.pool_memory.specs.Calls.{answer, takeSpareOn};
 ghost use Rattle.pool_tracking.specs.Cases.{Accepted, TrackedAt};
 use crate::begun::fresh_pages;
 use crate::begun::new_record;
@@ -31,7 +31,7 @@ pub fn start_tracking(
     requires { ⌜ Accepted (lentBy pool book textures retiring doomed spares newest stamps) i id shape records seq
         × (TrackedAt (lentBy pool book textures retiring doomed spares newest stamps) i id → ⊥) ⌝ }
     ensures { λ r. ⌜ (answer none, atExit r book textures retiring doomed spares newest stamps)
-        ≡ takeSpareCall (atEntry pool book textures retiring doomed spares newest stamps) id shape records seq ⌝ }
+        ≡ takeSpareOn (atEntry pool book textures retiring doomed spares newest stamps) id shape records seq ⌝ }
 {
     let epoch = pool.trackings + 1;
     let fresh = fresh_pages(shape, records);

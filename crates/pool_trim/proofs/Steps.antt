@@ -12,7 +12,7 @@ use Rattle.base_blocks.specs.Blocks.{moved}
 use Rattle.base_blocks.proofs.Lists.{total-append}
 use Rattle.base_tables.specs.Records.{flat}
 use Rattle.base_tables.specs.Rings.{laid}
-use Rattle.pool_rules.specs.Model.{Doomed, VersionState, Pool, pagesUsed}
+use Rattle.pool_rules.specs.Model.{Doomed, VersionState, PoolModel, pagesUsed}
 use Rattle.pool_rules.specs.Trim.{idle, thinned}
 use Rattle.pool_records.specs.declared.texture.TextureRecord.{TextureRecord}
 use Rattle.pool_records.specs.declared.doomed.DoomedRecord.{DoomedRecord}
@@ -41,7 +41,7 @@ use Rattle.grid_stamps.specs.StampConstants.{pageStamps}
 use Rattle.pool_records.specs.RecordConstants.{doomedStride, spareStride, textureStride}
 
 -- what a call leaves of the packed slices depends on the textures alone
-module _ (l : Lent) (p q : Pool ℕ) (e : p .textures ≡ q .textures) where
+module _ (l : Lent) (p q : PoolModel ℕ) (e : p .textures ≡ q .textures) where
   pub textures-as : texturesAfter p l ≡ texturesAfter q l
   unfolding texturesAfter
   textures-as = ap (λ (ts : List (VersionState ℕ)). over (flat writeTexture (map textureRecord ts)) (l .textures)) e
@@ -110,10 +110,10 @@ module _ (l : Lent) (now i : ℕ) (h : i < l .pool .tracked) where
     abbrev k₀ : ℕ
     k₀ = count now (stateOf l i)
 
-    abbrev p : Pool ℕ
+    abbrev p : PoolModel ℕ
     p = trimmed l now i
 
-    abbrev q : Pool ℕ
+    abbrev q : PoolModel ℕ
     q = trimmed l now (i + 1)
 
     -- ---- a texture that stays

@@ -11,7 +11,7 @@ use lib.Seq.{take-all}
 use Rattle.base_blocks.specs.Lists.{keep, total}
 use Rattle.base_blocks.proofs.All.{all-at}
 use Rattle.grid_shapes.specs.declared.shape.VersionShape.{VersionShape}
-use Rattle.pool_rules.specs.Model.{Doomed, VersionState, Pool, refused, accepted, limit, spareBytes, doomedBytes}
+use Rattle.pool_rules.specs.Model.{Doomed, VersionState, PoolModel, refused, accepted, limit, spareBytes, doomedBytes}
 use Rattle.pool_rules.specs.Updates.{withTextures, doomSpares}
 use Rattle.pool_rules.specs.Trim.{agedCount, thinned, idle, lookedAt, trim}
 use Rattle.pool_rules.specs.Formed.{Given, HistoryFormed}
@@ -27,7 +27,7 @@ use Rattle.pool_memory.specs.Lent.{Lent, lent, versionPlaces}
 use Rattle.pool_memory.specs.Reading.{trackedRecords, historyRead, stateRead, modelOf}
 use Rattle.pool_memory.specs.Writing.{poolAfter, bookAfter, retiringAfter, doomedAfter, after}
 use Rattle.pool_memory.specs.IsPool.{isPool}
-use Rattle.pool_memory.specs.Calls.{refusal, answer, trimCall}
+use Rattle.pool_memory.specs.Calls.{refusedWith, answer, trimOn}
 use Rattle.pool_memory.proofs.Fits.{Fits}
 use Rattle.pool_memory.proofs.FromPool.{enough, pool-fits}
 use Rattle.pool_memory.proofs.Asked.{guard-passed, guard-refused, asked-refused, asked-accepted}
@@ -208,17 +208,17 @@ module _ (l : Lent) (pool : isPool l ≡ true) (now : ℕ) where
   unfolding trim
   rule-late h = guard-refused (ltb limit now) 3 _ (lt-ltb limit now h)
 
-  pub trim-done : now ≤ limit → (r : Lent) → r ≡ after (trimmed l now (l .pool .tracked)) l → (answer tt, r) ≡ trimCall l now
-  unfolding trimCall
+  pub trim-done : now ≤ limit → (r : Lent) → r ≡ after (trimmed l now (l .pool .tracked)) l → (answer tt, r) ≡ trimOn l now
+  unfolding trimOn
   trim-done h r e =
       ap (λ (x : Lent). (answer tt, x)) e
-      ∙ sym (asked-accepted (λ a. a) l (λ (p : Pool ℕ). trim p now) pool tt (trimmed l now (l .pool .tracked)) (rule-done h))
+      ∙ sym (asked-accepted (λ a. a) l (λ (p : PoolModel ℕ). trim p now) pool tt (trimmed l now (l .pool .tracked)) (rule-done h))
 
   -- nothing has aged
   pub trim-nothing : now ≤ limit → {b : Bool} → b ≡ allYoung now (l .textures) (l .spares) (l .pool .tracked) → b ≡ true
-      → (answer tt, l) ≡ trimCall l now
+      → (answer tt, l) ≡ trimOn l now
   trim-nothing h e t = trim-done h l (sym (nothing-trimmed l (pool-fits l pool) now (sym e ∙ t)))
 
-  pub trim-late : limit < now → (refusal 3, l) ≡ trimCall l now
-  unfolding trimCall
-  trim-late h = sym (asked-refused (λ a. a) l (λ (p : Pool ℕ). trim p now) pool 3 (rule-late h))
+  pub trim-late : limit < now → (refusedWith 3, l) ≡ trimOn l now
+  unfolding trimOn
+  trim-late h = sym (asked-refused (λ a. a) l (λ (p : PoolModel ℕ). trim p now) pool 3 (rule-late h))

@@ -14,7 +14,7 @@ use Rattle.base_blocks.specs.All.{All, nil, cons}
 use Rattle.base_blocks.proofs.Lists.{and-both, all-get}
 use Rattle.base_blocks.proofs.Listed.{length-listed, getD-listed, listed-getD, left, left-all, all-more, all-stop, all-done}
 use Rattle.base_blocks.proofs.All.{all-listed}
-use Rattle.pool_rules.specs.Model.{Doomed, VersionState, Pool}
+use Rattle.pool_rules.specs.Model.{Doomed, VersionState, PoolModel}
 use Rattle.pool_rules.specs.Updates.{withTextures, doomSpares}
 use Rattle.pool_rules.specs.Trim.{aged, agedCount}
 use Rattle.pool_records.specs.declared.texture.TextureRecord.{TextureRecord}
@@ -149,7 +149,7 @@ module _ (now : ℕ) where
   none-given (cons y ys) = rw (y .spares) (none-given ys)
 
 -- no spare given up and the same textures: the same pool
-pool-stays : (p : Pool ℕ) → doomSpares [] (withTextures (p .textures) p) ≡ p
+pool-stays : (p : PoolModel ℕ) → doomSpares [] (withTextures (p .textures) p) ≡ p
 unfolding total
 pool-stays p = λ j. record {
   textures = p .textures;
@@ -205,4 +205,4 @@ module _ (l : Lent) (f : Fits l) (now : ℕ) (young : allYoung now (l .textures)
       ∙ pool-stays (modelOf l)
 
   pub nothing-trimmed : after (trimmed l now (l .pool .tracked)) l ≡ l
-  nothing-trimmed = ap (λ (p : Pool ℕ). after p l) model-stays ∙ nothing-changed l f
+  nothing-trimmed = ap (λ (p : PoolModel ℕ). after p l) model-stays ∙ nothing-changed l f

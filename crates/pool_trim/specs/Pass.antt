@@ -4,7 +4,7 @@ use mathlib.Core.Bool.{cond}
 use mathlib.Core.List.{List, [], _∷_, flatMap}
 use lib.ListN.{take}
 use Rattle.grid_shapes.specs.Shapes.{bytesOf}
-use Rattle.pool_rules.specs.Model.{Doomed, VersionState, Pool}
+use Rattle.pool_rules.specs.Model.{Doomed, VersionState, PoolModel}
 use Rattle.pool_rules.specs.Updates.{withTextures, asDoomed, doomSpares}
 use Rattle.pool_rules.specs.Trim.{agedCount, thinned, idle, lookedAt}
 use Rattle.pool_memory.specs.declared.pool.Pool.{Pool as Counts}
@@ -57,7 +57,7 @@ unfoldable pub givenOne : ℕ → VersionState ℕ → List (Doomed ℕ)
 givenOne now t = asDoomed (bytesOf (t .shape)) (take (agedCount now (t .spares)) (t .spares))
 
 -- the pool with the first i textures trimmed and the others left out
-unfoldable pub trimmed : Lent → ℕ → ℕ → Pool ℕ
+unfoldable pub trimmed : Lent → ℕ → ℕ → PoolModel ℕ
 trimmed l now i =
     doomSpares (flatMap (givenOne now) (take i (modelOf l .textures)))
     (withTextures (flatMap (trimmedOne now) (take i (modelOf l .textures))) (modelOf l))

@@ -1,6 +1,6 @@
 // dirty_tile, on any memory: some tile that was written since.
 ghost use Rattle.pool_memory.specs.Lent.{atEntry};
-ghost use Rattle.pool.specs.Queries.{tileTold, DirtyTileCall};
+ghost use Rattle.pool.specs.Queries.{tileTold, DirtyTileOn};
 use grid_stamps::DirtyTile;
 use pool_formed::is_pool;
 use pool_memory::PacingBook;
@@ -27,7 +27,7 @@ pub fn dirty_tile(
     level: u64,
     held: u64,
 ) -> DirtyAnswer
-    ensures { λ r. ⌜ DirtyTileCall (atEntry pool book textures retiring doomed spares newest stamps) id slice level held (tileTold r) ⌝ }
+    ensures { λ r. ⌜ DirtyTileOn (atEntry pool book textures retiring doomed spares newest stamps) id slice level held (tileTold r) ⌝ }
 {
     if !is_pool(
         pool,

@@ -1,7 +1,7 @@
 // drain_versions, on any memory: every version but the one in the hand.
 ghost use mathlib.Core.Path.{_≡_};
 ghost use Rattle.pool_memory.specs.Lent.{atEntry, atExit};
-ghost use Rattle.pool_memory.specs.Calls.{drainVersionsCall};
+ghost use Rattle.pool_memory.specs.Calls.{drainVersionsOn};
 ghost use Rattle.pool_take_doomed.specs.Answer.{handedTold};
 use pool_formed::is_pool;
 use pool_memory::PacingBook;
@@ -22,7 +22,7 @@ pub fn drain_versions(
     buffer: &mut [u64],
 ) -> DrainAnswer
     ensures { λ r. ⌜ (handedTold (r .handed), (now (buffer .exit), atExit (r .pool) (r .book) textures retiring doomed spares newest stamps))
-        ≡ drainVersionsCall (atEntry pool book textures retiring doomed spares newest stamps) (now (buffer .entry)) ⌝ }
+        ≡ drainVersionsOn (atEntry pool book textures retiring doomed spares newest stamps) (now (buffer .entry)) ⌝ }
 {
     if !is_pool(
         pool,

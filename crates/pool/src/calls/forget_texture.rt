@@ -1,7 +1,7 @@
 // forget_texture, on any memory: a released texture is no longer tracked.
 ghost use mathlib.Core.Path.{_≡_};
 ghost use Rattle.pool_memory.specs.Lent.{atEntry, atExit};
-ghost use Rattle.pool_memory.specs.Calls.{toldNumber, forgetTextureCall};
+ghost use Rattle.pool_memory.specs.Calls.{toldNumber, forgetTextureOn};
 use pool_formed::is_pool;
 use pool_memory::DoneAnswer;
 use pool_memory::PacingBook;
@@ -20,7 +20,7 @@ pub fn forget_texture(
     id: u64,
 ) -> DoneAnswer
     ensures { λ r. ⌜ (toldNumber (r .outcome), atExit (r .pool) book textures retiring doomed spares newest stamps)
-        ≡ forgetTextureCall (atEntry pool book textures retiring doomed spares newest stamps) id ⌝ }
+        ≡ forgetTextureOn (atEntry pool book textures retiring doomed spares newest stamps) id ⌝ }
 {
     if !is_pool(
         pool,

@@ -1,7 +1,7 @@
 // note_allocated, on any memory: the pressure on memory, and the spares that it costs.
 ghost use mathlib.Core.Path.{_≡_};
 ghost use Rattle.pool_memory.specs.Lent.{atEntry, atExit};
-ghost use Rattle.pool_memory.specs.Calls.{toldNumber, noteAllocatedCall};
+ghost use Rattle.pool_memory.specs.Calls.{toldNumber, noteAllocatedOn};
 use pool_formed::is_pool;
 use pool_memory::PacingBook;
 use pool_memory::Pool;
@@ -20,7 +20,7 @@ pub fn note_allocated(
     allocated: u64,
 ) -> NotedAnswer
     ensures { λ r. ⌜ (toldNumber (r .outcome), atExit (r .pool) (r .book) textures retiring doomed spares newest stamps)
-        ≡ noteAllocatedCall (atEntry pool book textures retiring doomed spares newest stamps) allocated ⌝ }
+        ≡ noteAllocatedOn (atEntry pool book textures retiring doomed spares newest stamps) allocated ⌝ }
 {
     if !is_pool(
         pool,

@@ -1,7 +1,7 @@
 // note_mip_regeneration, on any memory: every level but the first was made again.
 ghost use mathlib.Core.Path.{_≡_};
 ghost use Rattle.pool_memory.specs.Lent.{atEntry, atExit};
-ghost use Rattle.pool_memory.specs.Calls.{toldNumber, noteMipRegenerationCall};
+ghost use Rattle.pool_memory.specs.Calls.{toldNumber, noteMipRegenerationOn};
 use pool_formed::is_pool;
 use pool_memory::DoneAnswer;
 use pool_memory::PacingBook;
@@ -20,7 +20,7 @@ pub fn note_mip_regeneration(
     id: u64,
 ) -> DoneAnswer
     ensures { λ r. ⌜ (toldNumber (r .outcome), atExit (r .pool) book textures retiring doomed spares newest stamps)
-        ≡ noteMipRegenerationCall (atEntry pool book textures retiring doomed spares newest stamps) id ⌝ }
+        ≡ noteMipRegenerationOn (atEntry pool book textures retiring doomed spares newest stamps) id ⌝ }
 {
     if !is_pool(
         pool,

@@ -1,7 +1,7 @@
 // note_write, on any memory: a write to one subresource.
 ghost use mathlib.Core.Path.{_≡_};
 ghost use Rattle.pool_memory.specs.Lent.{atEntry, atExit};
-ghost use Rattle.pool_memory.specs.Calls.{toldNumber, noteWriteCall};
+ghost use Rattle.pool_memory.specs.Calls.{toldNumber, noteWriteOn};
 use grid_rects::TexelRect;
 use pool_formed::is_pool;
 use pool_memory::DoneAnswer;
@@ -24,7 +24,7 @@ pub fn note_write(
     rect: TexelRect,
 ) -> DoneAnswer
     ensures { λ r. ⌜ (toldNumber (r .outcome), atExit (r .pool) book textures retiring doomed spares newest stamps)
-        ≡ noteWriteCall (atEntry pool book textures retiring doomed spares newest stamps) id slice level rect ⌝ }
+        ≡ noteWriteOn (atEntry pool book textures retiring doomed spares newest stamps) id slice level rect ⌝ }
 {
     if !is_pool(
         pool,

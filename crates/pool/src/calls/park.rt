@@ -1,7 +1,7 @@
 // park, on any memory: the version in the hand becomes a spare, or is queued for destruction.
 ghost use mathlib.Core.Path.{_≡_};
 ghost use Rattle.pool_memory.specs.Lent.{atEntry, atExit};
-ghost use Rattle.pool_memory.specs.Calls.{toldNumber, parkCall};
+ghost use Rattle.pool_memory.specs.Calls.{toldNumber, parkOn};
 use pool_formed::is_pool;
 use pool_memory::DoneAnswer;
 use pool_memory::PacingBook;
@@ -21,7 +21,7 @@ pub fn park(
     current: u64,
 ) -> DoneAnswer
     ensures { λ r. ⌜ (toldNumber (r .outcome), atExit (r .pool) book textures retiring doomed spares newest stamps)
-        ≡ parkCall (atEntry pool book textures retiring doomed spares newest stamps) failed current ⌝ }
+        ≡ parkOn (atEntry pool book textures retiring doomed spares newest stamps) failed current ⌝ }
 {
     if !is_pool(
         pool,

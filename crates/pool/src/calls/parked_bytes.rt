@@ -1,7 +1,7 @@
 // parked_bytes, on any memory: the bytes of all spares.
 ghost use mathlib.Core.Path.{_≡_};
 ghost use Rattle.pool_memory.specs.Lent.{atEntry};
-ghost use Rattle.pool.specs.Queries.{bytesTold, parkedBytesCall};
+ghost use Rattle.pool.specs.Queries.{bytesTold, parkedBytesOn};
 use pool_formed::is_pool;
 use pool_memory::PacingBook;
 use pool_memory::Pool;
@@ -22,7 +22,7 @@ pub fn parked_bytes(
     newest: &[u64],
     stamps: &[u64],
 ) -> BytesAnswer
-    ensures { λ r. ⌜ bytesTold r ≡ parkedBytesCall (atEntry pool book textures retiring doomed spares newest stamps) ⌝ }
+    ensures { λ r. ⌜ bytesTold r ≡ parkedBytesOn (atEntry pool book textures retiring doomed spares newest stamps) ⌝ }
 {
     if !is_pool(
         pool,

@@ -1,7 +1,7 @@
 // pending_destroy_bytes, on any memory: the bytes of the destroy queue.
 ghost use mathlib.Core.Path.{_≡_};
 ghost use Rattle.pool_memory.specs.Lent.{atEntry};
-ghost use Rattle.pool.specs.Queries.{bytesTold, pendingDestroyBytesCall};
+ghost use Rattle.pool.specs.Queries.{bytesTold, pendingDestroyBytesOn};
 use crate::calls::parked_bytes::BytesAnswer;
 use pool_formed::is_pool;
 use pool_memory::PacingBook;
@@ -18,7 +18,7 @@ pub fn pending_destroy_bytes(
     newest: &[u64],
     stamps: &[u64],
 ) -> BytesAnswer
-    ensures { λ r. ⌜ bytesTold r ≡ pendingDestroyBytesCall (atEntry pool book textures retiring doomed spares newest stamps) ⌝ }
+    ensures { λ r. ⌜ bytesTold r ≡ pendingDestroyBytesOn (atEntry pool book textures retiring doomed spares newest stamps) ⌝ }
 {
     if !is_pool(
         pool,

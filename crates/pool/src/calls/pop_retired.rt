@@ -1,7 +1,7 @@
 // pop_retired, on any memory: the queue's front, if its submission is settled.
 ghost use mathlib.Core.Path.{_≡_};
 ghost use Rattle.pool_memory.specs.Lent.{atEntry, atExit};
-ghost use Rattle.pool_memory.specs.Calls.{popRetiredCall};
+ghost use Rattle.pool_memory.specs.Calls.{popRetiredOn};
 ghost use Rattle.pool_retire.specs.Answers.{poppedTold};
 use pool_formed::is_pool;
 use pool_memory::PacingBook;
@@ -22,7 +22,7 @@ pub fn pop_retired(
     settled: u64,
 ) -> PopAnswer
     ensures { λ r. ⌜ (poppedTold (r .popped), atExit (r .pool) book textures retiring doomed spares newest stamps)
-        ≡ popRetiredCall (atEntry pool book textures retiring doomed spares newest stamps) settled ⌝ }
+        ≡ popRetiredOn (atEntry pool book textures retiring doomed spares newest stamps) settled ⌝ }
 {
     if !is_pool(
         pool,

@@ -1,7 +1,7 @@
 // preserve_plan, on any memory: the copies that bring a rename's new version up to the live one.
 ghost use mathlib.Core.Path.{_≡_};
 ghost use Rattle.pool_memory.specs.Lent.{atEntry};
-ghost use Rattle.pool_memory.specs.Calls.{preservePlanCall};
+ghost use Rattle.pool_memory.specs.Calls.{preservePlanOn};
 ghost use Rattle.pool_preserve_plan.specs.PreservePlan.{plannedTold};
 use grid_shapes::VersionShape;
 use pool_formed::is_pool;
@@ -29,7 +29,7 @@ pub fn preserve_plan(
     cover: bool,
 ) -> PlanAnswer
     ensures { λ r. ⌜ (plannedTold r, (now (buffer .exit), atEntry pool book textures retiring doomed spares newest stamps))
-        ≡ preservePlanCall (atEntry pool book textures retiring doomed spares newest stamps) (now (buffer .entry)) id shape held
+        ≡ preservePlanOn (atEntry pool book textures retiring doomed spares newest stamps) (now (buffer .entry)) id shape held
         (record { slice = slice; level = level; cover = cover }) ⌝ }
 {
     if !is_pool(

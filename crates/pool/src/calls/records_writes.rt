@@ -1,7 +1,7 @@
 // records_writes, on any memory: whether a texture keeps a history.
 ghost use mathlib.Core.Path.{_≡_};
 ghost use Rattle.pool_memory.specs.Lent.{atEntry};
-ghost use Rattle.pool.specs.Queries.{recordsTold, recordsWritesCall};
+ghost use Rattle.pool.specs.Queries.{recordsTold, recordsWritesOn};
 use pool_formed::is_pool;
 use pool_memory::PacingBook;
 use pool_memory::Pool;
@@ -23,7 +23,7 @@ pub fn records_writes(
     stamps: &[u64],
     id: u64,
 ) -> RecordsAnswer
-    ensures { λ r. ⌜ recordsTold r ≡ recordsWritesCall (atEntry pool book textures retiring doomed spares newest stamps) id ⌝ }
+    ensures { λ r. ⌜ recordsTold r ≡ recordsWritesOn (atEntry pool book textures retiring doomed spares newest stamps) id ⌝ }
 {
     if !is_pool(
         pool,

@@ -1,7 +1,7 @@
 // retire, on any memory: the version that a rename replaced is queued.
 ghost use mathlib.Core.Path.{_≡_};
 ghost use Rattle.pool_memory.specs.Lent.{atEntry, atExit};
-ghost use Rattle.pool_memory.specs.Calls.{toldNumber, retireCall};
+ghost use Rattle.pool_memory.specs.Calls.{toldNumber, retireOn};
 use pool_formed::is_pool;
 use pool_memory::DoneAnswer;
 use pool_memory::PacingBook;
@@ -22,7 +22,7 @@ pub fn retire(
     seq: u64,
 ) -> DoneAnswer
     ensures { λ r. ⌜ (toldNumber (r .outcome), atExit (r .pool) book textures retiring doomed spares newest stamps)
-        ≡ retireCall (atEntry pool book textures retiring doomed spares newest stamps) id view seq ⌝ }
+        ≡ retireOn (atEntry pool book textures retiring doomed spares newest stamps) id view seq ⌝ }
 {
     if !is_pool(
         pool,

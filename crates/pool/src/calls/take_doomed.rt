@@ -1,7 +1,7 @@
 // take_doomed, on any memory: the next batch of versions to destroy.
 ghost use mathlib.Core.Path.{_≡_};
 ghost use Rattle.pool_memory.specs.Lent.{atEntry, atExit};
-ghost use Rattle.pool_memory.specs.Calls.{takeDoomedCall};
+ghost use Rattle.pool_memory.specs.Calls.{takeDoomedOn};
 ghost use Rattle.pool_take_doomed.specs.Answer.{handedTold};
 use pool_formed::is_pool;
 use pool_memory::PacingBook;
@@ -22,7 +22,7 @@ pub fn take_doomed(
     buffer: &mut [u64],
 ) -> DrainAnswer
     ensures { λ r. ⌜ (handedTold (r .handed), (now (buffer .exit), atExit (r .pool) (r .book) textures retiring doomed spares newest stamps))
-        ≡ takeDoomedCall (atEntry pool book textures retiring doomed spares newest stamps) (now (buffer .entry)) ⌝ }
+        ≡ takeDoomedOn (atEntry pool book textures retiring doomed spares newest stamps) (now (buffer .entry)) ⌝ }
 {
     if !is_pool(
         pool,

@@ -1,7 +1,7 @@
 // take_spare, on any memory: a rename begins, with the texture's newest spare if it has one.
 ghost use mathlib.Core.Path.{_≡_};
 ghost use Rattle.pool_memory.specs.Lent.{atEntry, atExit};
-ghost use Rattle.pool_memory.specs.Calls.{takeSpareCall};
+ghost use Rattle.pool_memory.specs.Calls.{takeSpareOn};
 ghost use Rattle.pool_take_spare.specs.Answer.{takenTold};
 use grid_shapes::VersionShape;
 use pool_formed::is_pool;
@@ -26,7 +26,7 @@ pub fn take_spare(
     seq: u64,
 ) -> TakeAnswer
     ensures { λ r. ⌜ (takenTold (r .taken), atExit (r .pool) book textures retiring doomed spares newest stamps)
-        ≡ takeSpareCall (atEntry pool book textures retiring doomed spares newest stamps) id shape records seq ⌝ }
+        ≡ takeSpareOn (atEntry pool book textures retiring doomed spares newest stamps) id shape records seq ⌝ }
 {
     if !is_pool(
         pool,

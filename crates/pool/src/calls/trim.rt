@@ -1,7 +1,7 @@
 // trim, on any memory: spares that were idle too long are queued for destruction, and idle textures are forgotten.
 ghost use mathlib.Core.Path.{_≡_};
 ghost use Rattle.pool_memory.specs.Lent.{atEntry, atExit};
-ghost use Rattle.pool_memory.specs.Calls.{toldNumber, trimCall};
+ghost use Rattle.pool_memory.specs.Calls.{toldNumber, trimOn};
 use pool_formed::is_pool;
 use pool_memory::DoneAnswer;
 use pool_memory::PacingBook;
@@ -20,7 +20,7 @@ pub fn trim(
     current: u64,
 ) -> DoneAnswer
     ensures { λ r. ⌜ (toldNumber (r .outcome), atExit (r .pool) book textures retiring doomed spares newest stamps)
-        ≡ trimCall (atEntry pool book textures retiring doomed spares newest stamps) current ⌝ }
+        ≡ trimOn (atEntry pool book textures retiring doomed spares newest stamps) current ⌝ }
 {
     if !is_pool(
         pool,

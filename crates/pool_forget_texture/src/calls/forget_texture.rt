@@ -3,7 +3,7 @@ ghost use mathlib.Core.Path.{_≡_};
 ghost use mathlib.Core.Bool.{true};
 ghost use Rattle.pool_memory.specs.Lent.{lent, lentBy};
 ghost use Rattle.pool_memory.specs.IsPool.{isPool};
-ghost use Rattle.pool_memory.specs.Calls.{toldNumber, forgetTextureCall};
+ghost use Rattle.pool_memory.specs.Calls.{toldNumber, forgetTextureOn};
 use crate::owned::counts_without;
 use crate::owned::owned_at;
 use crate::pages::move_pages;
@@ -36,7 +36,7 @@ pub fn forget_texture(
       lent (r .pool) book (now (textures .exit)) (now (retiring .entry)) (now (doomed .exit)) (now (spares .exit))
           (now (newest .exit)) (now (stamps .exit)),
     )
-        ≡ forgetTextureCall (lent pool book (now (textures .entry)) (now (retiring .entry)) (now (doomed .entry)) (now (spares .entry))
+        ≡ forgetTextureOn (lent pool book (now (textures .entry)) (now (retiring .entry)) (now (doomed .entry)) (now (spares .entry))
         (now (newest .entry)) (now (stamps .entry))) id ⌝ }
 {
     let tracked = pool.tracked;

@@ -1,7 +1,7 @@
 // drain_versions, with the pacing book lent.
 ghost use mathlib.Core.Path.{_≡_};
 ghost use Rattle.pool_memory.specs.Lent.{atEntry, atExit};
-ghost use Rattle.pool_memory.specs.Calls.{drainVersionsCall};
+ghost use Rattle.pool_memory.specs.Calls.{drainVersionsOn};
 ghost use Rattle.pool_take_doomed.specs.Answer.{handedTold};
 use crate::answer::HandedAnswer;
 use pool_memory::PacingBook;
@@ -20,7 +20,7 @@ pub fn drain_versions(
     buffer: &mut [u64],
 ) -> HandedAnswer
     ensures { λ r. ⌜ (handedTold (r .handed), (now (buffer .exit), atExit (r .pool) (now (book .exit)) textures retiring doomed spares newest stamps))
-        ≡ drainVersionsCall (atEntry pool (now (book .entry)) textures retiring doomed spares newest stamps) (now (buffer .entry)) ⌝ }
+        ≡ drainVersionsOn (atEntry pool (now (book .entry)) textures retiring doomed spares newest stamps) (now (buffer .entry)) ⌝ }
 {
     let answer = pool::drain_versions(
         pool,

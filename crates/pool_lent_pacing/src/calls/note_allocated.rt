@@ -1,7 +1,7 @@
 // note_allocated, with the pacing book lent.
 ghost use mathlib.Core.Path.{_≡_};
 ghost use Rattle.pool_memory.specs.Lent.{atEntry, atExit};
-ghost use Rattle.pool_memory.specs.Calls.{toldNumber, noteAllocatedCall};
+ghost use Rattle.pool_memory.specs.Calls.{toldNumber, noteAllocatedOn};
 use pool_memory::DoneAnswer;
 use pool_memory::PacingBook;
 use pool_memory::Pool;
@@ -19,7 +19,7 @@ pub fn note_allocated(
     allocated: u64,
 ) -> DoneAnswer
     ensures { λ r. ⌜ (toldNumber (r .outcome), atExit (r .pool) (now (book .exit)) textures retiring doomed spares newest stamps)
-        ≡ noteAllocatedCall (atEntry pool (now (book .entry)) textures retiring doomed spares newest stamps) allocated ⌝ }
+        ≡ noteAllocatedOn (atEntry pool (now (book .entry)) textures retiring doomed spares newest stamps) allocated ⌝ }
 {
     let answer = pool::note_allocated(
         pool,

@@ -1,7 +1,7 @@
 // take_doomed, with the pacing book lent.
 ghost use mathlib.Core.Path.{_≡_};
 ghost use Rattle.pool_memory.specs.Lent.{atEntry, atExit};
-ghost use Rattle.pool_memory.specs.Calls.{takeDoomedCall};
+ghost use Rattle.pool_memory.specs.Calls.{takeDoomedOn};
 ghost use Rattle.pool_take_doomed.specs.Answer.{handedTold};
 use crate::answer::HandedAnswer;
 use pool_memory::PacingBook;
@@ -20,7 +20,7 @@ pub fn take_doomed(
     buffer: &mut [u64],
 ) -> HandedAnswer
     ensures { λ r. ⌜ (handedTold (r .handed), (now (buffer .exit), atExit (r .pool) (now (book .exit)) textures retiring doomed spares newest stamps))
-        ≡ takeDoomedCall (atEntry pool (now (book .entry)) textures retiring doomed spares newest stamps) (now (buffer .entry)) ⌝ }
+        ≡ takeDoomedOn (atEntry pool (now (book .entry)) textures retiring doomed spares newest stamps) (now (buffer .entry)) ⌝ }
 {
     let answer = pool::take_doomed(
         pool,

@@ -6,7 +6,7 @@ ghost use Rattle.pool_rules.specs.declared.budget.VersionBudget.{VersionBudget}
 ghost use Rattle.pool_rules.specs.NoteAllocated.{pressedAfter};
 ghost use Rattle.pool_memory.specs.Lent.{lentBy, atEntry, atExit};
 ghost use Rattle.pool_memory.specs.IsPool.{isPool};
-ghost use Rattle.pool_memory.specs.Calls.{toldNumber, noteAllocatedCall};
+ghost use Rattle.pool_memory.specs.Calls.{toldNumber, noteAllocatedOn};
 ghost use Rattle.pool_note_allocated.specs.NoteAllocated.{countsAfter, notedBook};
 ghost use Rattle.pool_rules.specs.RuleConstants.{mostPlaces};
 use crate::relieve::relieve;
@@ -87,7 +87,7 @@ pub fn note_allocated(
 ) -> NotedAnswer
     requires { ⌜ isPool (lentBy pool book textures retiring doomed spares newest stamps) ≡ true ⌝ }
     ensures { λ r. ⌜ (toldNumber (r .outcome), atExit (r .pool) (r .book) textures retiring doomed spares newest stamps)
-        ≡ noteAllocatedCall (atEntry pool book textures retiring doomed spares newest stamps) allocated ⌝ }
+        ≡ noteAllocatedOn (atEntry pool book textures retiring doomed spares newest stamps) allocated ⌝ }
 {
     let after = noted(pool, book, allocated);
     let excess = excess_over(pool.line, allocated);

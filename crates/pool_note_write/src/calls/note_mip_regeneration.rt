@@ -3,7 +3,7 @@ ghost use mathlib.Core.Path.{_≡_};
 ghost use mathlib.Core.Bool.{true};
 ghost use Rattle.pool_memory.specs.Lent.{lentBy, atEntry, atExit};
 ghost use Rattle.pool_memory.specs.IsPool.{isPool};
-ghost use Rattle.pool_memory.specs.Calls.{toldNumber, noteMipRegenerationCall};
+ghost use Rattle.pool_memory.specs.Calls.{toldNumber, noteMipRegenerationOn};
 use crate::history::history_at;
 use crate::history::regenerate_history;
 use crate::history::set_history;
@@ -29,7 +29,7 @@ pub fn note_mip_regeneration(
     requires { ⌜ isPool (lentBy pool book textures retiring doomed spares newest stamps) ≡ true ⌝ }
     ensures { λ r. ⌜
         (toldNumber (r .outcome), atExit (r .pool) book textures retiring doomed spares newest stamps)
-        ≡ noteMipRegenerationCall (atEntry pool book textures retiring doomed spares newest stamps) id ⌝ }
+        ≡ noteMipRegenerationOn (atEntry pool book textures retiring doomed spares newest stamps) id ⌝ }
 {
     let tracked = pool.tracked;
     let i = find_texture(textures, tracked, id);

@@ -3,7 +3,7 @@ ghost use mathlib.Core.Path.{_≡_};
 ghost use mathlib.Core.Bool.{true};
 ghost use Rattle.pool_memory.specs.Lent.{lentBy, atEntry, atExit};
 ghost use Rattle.pool_memory.specs.IsPool.{isPool};
-ghost use Rattle.pool_memory.specs.Calls.{toldNumber, noteWriteCall};
+ghost use Rattle.pool_memory.specs.Calls.{toldNumber, noteWriteOn};
 use crate::history::drop_history;
 use crate::history::history_at;
 use crate::history::in_shape;
@@ -37,7 +37,7 @@ pub fn note_write(
     requires { ⌜ isPool (lentBy pool book textures retiring doomed spares newest stamps) ≡ true ⌝ }
     ensures { λ r. ⌜
         (toldNumber (r .outcome), atExit (r .pool) book textures retiring doomed spares newest stamps)
-        ≡ noteWriteCall (atEntry pool book textures retiring doomed spares newest stamps) id slice level rect ⌝ }
+        ≡ noteWriteOn (atEntry pool book textures retiring doomed spares newest stamps) id slice level rect ⌝ }
 {
     let tracked = pool.tracked;
     let i = find_texture(textures, tracked, id);

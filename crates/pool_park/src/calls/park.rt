@@ -3,7 +3,7 @@ ghost use mathlib.Core.Path.{_≡_};
 ghost use mathlib.Core.Bool.{true};
 ghost use Rattle.pool_memory.specs.Lent.{lentBy, atEntry, atExit};
 ghost use Rattle.pool_memory.specs.IsPool.{isPool};
-ghost use Rattle.pool_memory.specs.Calls.{toldNumber, parkCall};
+ghost use Rattle.pool_memory.specs.Calls.{toldNumber, parkOn};
 use crate::counts::hand_doomed;
 use crate::counts::hand_kept;
 use crate::keep_version::keep_version;
@@ -35,7 +35,7 @@ pub fn park(
 ) -> DoneAnswer
     requires { ⌜ isPool (lentBy pool book textures retiring doomed spares newest stamps) ≡ true ⌝ }
     ensures { λ r. ⌜ (toldNumber (r .outcome), atExit (r .pool) book textures retiring doomed spares newest stamps)
-        ≡ parkCall (atEntry pool book textures retiring doomed spares newest stamps) failed current ⌝ }
+        ≡ parkOn (atEntry pool book textures retiring doomed spares newest stamps) failed current ⌝ }
 {
     let refusal = park_refusal(pool, failed, current);
     if refusal != 0 {

@@ -3,7 +3,7 @@ ghost use mathlib.Core.Path.{_≡_};
 ghost use mathlib.Core.Bool.{true};
 ghost use Rattle.pool_memory.specs.Lent.{lentBy, atEntry};
 ghost use Rattle.pool_memory.specs.IsPool.{isPool};
-ghost use Rattle.pool_memory.specs.Calls.{preservePlanCall};
+ghost use Rattle.pool_memory.specs.Calls.{preservePlanOn};
 ghost use Rattle.pool_preserve_plan.specs.PreservePlan.{plannedTold};
 use crate::history::find_history;
 use crate::history::since_of;
@@ -44,7 +44,7 @@ pub fn preserve_plan(
 ) -> PlanAnswer
     requires { ⌜ isPool (lentBy pool book textures retiring doomed spares newest stamps) ≡ true ⌝ }
     ensures { λ r. ⌜ (plannedTold r, (now (buffer .exit), atEntry pool book textures retiring doomed spares newest stamps))
-        ≡ preservePlanCall (atEntry pool book textures retiring doomed spares newest stamps)
+        ≡ preservePlanOn (atEntry pool book textures retiring doomed spares newest stamps)
         (now (buffer .entry)) id shape held (record { slice = slice; level = level; cover = cover }) ⌝ }
 {
     let tracked = pool.tracked;

@@ -3,7 +3,7 @@ ghost use mathlib.Core.Path.{_≡_};
 ghost use mathlib.Core.Bool.{true};
 ghost use Rattle.pool_memory.specs.Lent.{lentBy, atEntry, atExit};
 ghost use Rattle.pool_memory.specs.IsPool.{isPool};
-ghost use Rattle.pool_memory.specs.Calls.{popRetiredCall};
+ghost use Rattle.pool_memory.specs.Calls.{popRetiredOn};
 ghost use Rattle.pool_retire.specs.Answers.{poppedTold};
 use crate::counts::front_popped;
 use pool_access::retiring_at;
@@ -36,7 +36,7 @@ pub fn pop_retired(
 ) -> PopAnswer
     requires { ⌜ isPool (lentBy pool book textures retiring doomed spares newest stamps) ≡ true ⌝ }
     ensures { λ r. ⌜ (poppedTold (r .popped), atExit (r .pool) book textures retiring doomed spares newest stamps)
-        ≡ popRetiredCall (atEntry pool book textures retiring doomed spares newest stamps) settled ⌝ }
+        ≡ popRetiredOn (atEntry pool book textures retiring doomed spares newest stamps) settled ⌝ }
 {
     if settled > LIMIT {
         return PopAnswer {

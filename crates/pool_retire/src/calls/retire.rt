@@ -8,7 +8,7 @@ ghost use Rattle.pool_records.specs.Recorded.{RecordedFits};
 ghost use Rattle.pool_records.specs.Texture.{writeTexture, textureIn};
 ghost use Rattle.pool_memory.specs.Lent.{lentBy, atEntry, atExit};
 ghost use Rattle.pool_memory.specs.IsPool.{isPool};
-ghost use Rattle.pool_memory.specs.Calls.{toldNumber, retireCall};
+ghost use Rattle.pool_memory.specs.Calls.{toldNumber, retireOn};
 ghost use Rattle.pool_retire.specs.Counts.{ringCount};
 ghost use Rattle.pool_retire.specs.Noted.{retireRefusal, hasId, writesCounted, retiredRecord, bornAt};
 ghost use Rattle.pool_records.specs.RecordConstants.{retiringStride, textureStride};
@@ -140,7 +140,7 @@ pub fn retire(
 ) -> DoneAnswer
     requires { ⌜ isPool (lentBy pool book textures retiring doomed spares newest stamps) ≡ true ⌝ }
     ensures { λ r. ⌜ (toldNumber (r .outcome), atExit (r .pool) book textures retiring doomed spares newest stamps)
-        ≡ retireCall (atEntry pool book textures retiring doomed spares newest stamps) id view seq ⌝ }
+        ≡ retireOn (atEntry pool book textures retiring doomed spares newest stamps) id view seq ⌝ }
 {
     let places = retiring.len() / RETIRING_STRIDE;
     let refusal = retire_refusal(pool, retiring, places, seq);

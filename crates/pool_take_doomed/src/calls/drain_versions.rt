@@ -6,7 +6,7 @@ ghost use lib.ListN.{length};
 ghost use Rattle.base_blocks.specs.Lists.{over};
 ghost use Rattle.pool_memory.specs.Lent.{lentBy, atEntry, atExit};
 ghost use Rattle.pool_memory.specs.IsPool.{isPool};
-ghost use Rattle.pool_memory.specs.Calls.{drainVersionsCall};
+ghost use Rattle.pool_memory.specs.Calls.{drainVersionsOn};
 ghost use Rattle.pool_take_doomed.specs.Answer.{handedTold};
 ghost use Rattle.pool_take_doomed.specs.DrainVersions.{drainedViews, drainedCounts, drainedBook, cleared};
 ghost use Rattle.pool_records.specs.RecordConstants.{doomedStride, retiringStride, spareStride, textureStride};
@@ -138,7 +138,7 @@ pub fn drain_versions(
 ) -> DrainAnswer
     requires { ⌜ isPool (lentBy pool book textures retiring doomed spares newest stamps) ≡ true ⌝ }
     ensures { λ r. ⌜ (handedTold (r .handed), (now (buffer .exit), atExit (r .pool) (r .book) textures retiring doomed spares newest stamps))
-        ≡ drainVersionsCall (atEntry pool book textures retiring doomed spares newest stamps) (now (buffer .entry)) ⌝ }
+        ≡ drainVersionsOn (atEntry pool book textures retiring doomed spares newest stamps) (now (buffer .entry)) ⌝ }
 {
     let places = retiring.len() / RETIRING_STRIDE;
     let count = pool.queued + pool.doomed + pool.kept;

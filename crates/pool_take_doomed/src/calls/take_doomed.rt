@@ -4,7 +4,7 @@ ghost use mathlib.Core.Bool.{true};
 ghost use Prim.Native.Nat.{_≤_, _<_};
 ghost use Rattle.pool_memory.specs.Lent.{lentBy, atEntry, atExit};
 ghost use Rattle.pool_memory.specs.IsPool.{isPool};
-ghost use Rattle.pool_memory.specs.Calls.{takeDoomedCall};
+ghost use Rattle.pool_memory.specs.Calls.{takeDoomedOn};
 ghost use Rattle.pool_take_doomed.specs.Answer.{handedTold};
 ghost use Rattle.pool_take_doomed.specs.TakeDoomed.{takenCounts, takenBook};
 ghost use Rattle.pool_rules.specs.RuleConstants.{destroySpreadDrains};
@@ -61,7 +61,7 @@ pub fn take_doomed(
 ) -> DrainAnswer
     requires { ⌜ isPool (lentBy pool book textures retiring doomed spares newest stamps) ≡ true ⌝ }
     ensures { λ r. ⌜ (handedTold (r .handed), (now (buffer .exit), atExit (r .pool) (r .book) textures retiring doomed spares newest stamps))
-        ≡ takeDoomedCall (atEntry pool book textures retiring doomed spares newest stamps) (now (buffer .entry)) ⌝ }
+        ≡ takeDoomedOn (atEntry pool book textures retiring doomed spares newest stamps) (now (buffer .entry)) ⌝ }
 {
     let places = retiring.len() / RETIRING_STRIDE;
     let first = pool.first;

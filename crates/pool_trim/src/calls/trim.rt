@@ -8,7 +8,7 @@ ghost use Rattle.pool_records.specs.Texture.{textureIn};
 ghost use Rattle.pool_memory.specs.Lent.{lent, lentBy, atExit};
 ghost use Rattle.pool_memory.specs.IsPool.{isPool};
 ghost use Rattle.pool_memory.specs.Writing.{after};
-ghost use Rattle.pool_memory.specs.Calls.{toldNumber, trimCall};
+ghost use Rattle.pool_memory.specs.Calls.{toldNumber, trimOn};
 ghost use Rattle.pool_trim.specs.LookAt.{lookedPut};
 ghost use Rattle.pool_trim.specs.Pass.{trimmed};
 ghost use Rattle.pool_records.specs.RecordConstants.{textureStride};
@@ -132,7 +132,7 @@ pub fn trim(
       lent (r .pool) book (now (textures .exit)) (now (retiring .entry)) (now (doomed .exit)) (now (spares .exit))
           (now (newest .exit)) (now (stamps .exit)),
     )
-        ≡ trimCall (lent pool book (now (textures .entry)) (now (retiring .entry)) (now (doomed .entry)) (now (spares .entry))
+        ≡ trimOn (lent pool book (now (textures .entry)) (now (retiring .entry)) (now (doomed .entry)) (now (spares .entry))
         (now (newest .entry)) (now (stamps .entry))) current ⌝ }
 {
     if current > LIMIT {

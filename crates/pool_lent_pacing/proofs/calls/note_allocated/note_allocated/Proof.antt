@@ -40,7 +40,7 @@ use denote.Triple.Walked.{says, Stays, stay-dropped, gave-ref, gave-slice, walkO
 use denote.Exit.{yes}
 use denote.Triple.Clauses.{Lasts, ensured, lasts}
 use Rattle.pool_memory.specs.Lent.{lent}
-use Rattle.pool_memory.specs.Calls.{toldNumber, noteAllocatedCall}
+use Rattle.pool_memory.specs.Calls.{toldNumber, noteAllocatedOn}
 use Rattle.pool_memory.specs.declared.pool.Pool.{Pool}
 use Rattle.pool_memory.specs.declared.book.PacingBook.{PacingBook}
 use Rattle.pool_memory.proofs.pool.Pool as P
@@ -110,7 +110,7 @@ module _ {M : Type 1} (𝓤 : URA M) (H : Heap 𝓤) (A : Atoms 𝓤) (W : Given
 
   -- what the call says, of its answer and of the last lists
   abbrev Told : NotedAnswer → List ℕ → List ℕ → List ℕ → Type 0
-  Told r textures′ doomed′ spares′ = (toldNumber (r .outcome), lent (r .pool) (r .book) textures′ (now retiring) doomed′ spares′ (now newest) (now stamps)) ≡ noteAllocatedCall (lent p h (now textures) (now retiring) (now doomed) (now spares) (now newest) (now stamps)) allocated
+  Told r textures′ doomed′ spares′ = (toldNumber (r .outcome), lent (r .pool) (r .book) textures′ (now retiring) doomed′ spares′ (now newest) (now stamps)) ≡ noteAllocatedOn (lent p h (now textures) (now retiring) (now doomed) (now spares) (now newest) (now stamps)) allocated
 
   -- the answer without the book
   abbrev made : NotedAnswer → DoneAnswer

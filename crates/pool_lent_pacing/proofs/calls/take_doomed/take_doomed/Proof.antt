@@ -39,7 +39,7 @@ use denote.Triple.Walked.{says, Stays, stay-dropped, gave-ref, gave-slice, walkO
 use denote.Exit.{yes}
 use denote.Triple.Clauses.{Lasts, ensured, lasts}
 use Rattle.pool_memory.specs.Lent.{lent}
-use Rattle.pool_memory.specs.Calls.{takeDoomedCall}
+use Rattle.pool_memory.specs.Calls.{takeDoomedOn}
 use Rattle.pool_take_doomed.specs.Answer.{handedTold}
 use Rattle.pool_memory.specs.declared.pool.Pool.{Pool}
 use Rattle.pool_memory.specs.declared.book.PacingBook.{PacingBook}
@@ -110,7 +110,7 @@ module _ {M : Type 1} (𝓤 : URA M) (H : Heap 𝓤) (A : Atoms 𝓤) (W : Given
 
   -- what the call says, of its answer and of the last lists
   abbrev Told : DrainAnswer → List ℕ → Type 0
-  Told r buffer′ = (handedTold (r .handed), (buffer′, lent (r .pool) (r .book) (now textures) (now retiring) (now doomed) (now spares) (now newest) (now stamps))) ≡ takeDoomedCall (lent p h (now textures) (now retiring) (now doomed) (now spares) (now newest) (now stamps)) (now buffer)
+  Told r buffer′ = (handedTold (r .handed), (buffer′, lent (r .pool) (r .book) (now textures) (now retiring) (now doomed) (now spares) (now newest) (now stamps))) ≡ takeDoomedOn (lent p h (now textures) (now retiring) (now doomed) (now spares) (now newest) (now stamps)) (now buffer)
 
   -- the answer without the book
   abbrev made : DrainAnswer → HandedAnswer

@@ -8,7 +8,7 @@ use Rattle.pool_memory.specs.Writing.{poolAfter}
 use Rattle.pool_memory.specs.Calls.{toldNumber}
 use Rattle.pool_memory.proofs.FromPool.{pool-fits}
 use Rattle.pool_rules.specs.Model.{doomedBytes}
-use Rattle.pool_note_allocated.specs.NoteAllocated.{relievedPool, givenUp, Relieves}
+use Rattle.pool_note_allocated.specs.NoteAllocated.{relievedPool, sparesGiven, Relieves}
 use Rattle.pool_note_allocated.proofs.Chosen.{countable, dooming-most}
 use Rattle.pool_note_allocated.proofs.Noted.{counts-need, noted-relieved, noted-covered}
 use Rattle.pool_note_allocated.proofs.calls.note_allocated.note_allocated.Statement.{statement}
@@ -70,7 +70,7 @@ counts-after-requires c κs =
     let f = pool-fits l (s .pre) in
     let r = c .before .before .before .before .before .before .relieve in
     let e = c .before .before .before .before .before .before .before .before .before .before .before .before .before .before .before .before .before .before .before .excess-over .ensures in
-    counts-need l f (a .allocated) (r .ensures .count ∙ ap (λ x. poolAfter (relievedPool x l) l .kept) e) (r .ensures .sum ∙ ap (λ x. doomedBytes (givenUp x l)) e)
+    counts-need l f (a .allocated) (r .ensures .count ∙ ap (λ x. poolAfter (relievedPool x l) l .kept) e) (r .ensures .sum ∙ ap (λ x. doomedBytes (sparesGiven x l)) e)
 
 same-length : tie.Need-same-length
 same-length c = search needs
