@@ -10,9 +10,9 @@ use Rattle.grid_shapes.specs.declared.shape.VersionShape.{VersionShape}
 use Rattle.pool_rules.specs.Model.{Places, UploadFootprint}
 use Rattle.pool_memory.specs.Reading.{modelOf}
 use Rattle.pool_memory.specs.IsPool.{sizesFit}
-use Rattle.pool_books.specs.Lists.{Allowed, State as Books, step as bookStep, start}
+use Rattle.pool_books.specs.Lists.{Allowed, State as Books, step as bookStep, start, between, doomedCall, drainCall, forgetCall, noteCall, parkCall, planCall, popCall, regenCall, retireCall, takeCall, trimCall, writeCall}
 use Rattle.pool_books.specs.Demand3.{Agrees, Reply, refusal, done, replied}
-use Rattle.pool_books.specs.LentLists.{LentCall, lentTake, lentPlan, lentRetire, lentWrite, lentRegen, lentPop, lentPark, lentNote, lentDoomed, lentDrain, lentTrim, lentForget, roomOf}
+use Rattle.pool_books.specs.LentLists.{LentCall, roomOf}
 use Rattle.event_lines.specs.declared.event.Event.{Event}
 use Rattle.event_lines.specs.Grammar.{eventOf}
 use Rattle.event_answers.specs.Printed.{printed}
@@ -24,20 +24,20 @@ use Rattle.event_runs.specs.Texts.{allLines, textOutput}
 
 unfoldable pub callOf : ℕ → ℕ → Bool → VersionShape → Event → Option LentCall
 callOf copies views taken shape (Event.Open working) = none
-callOf copies views taken shape (Event.Take id new records seq) = some (lentTake id new records seq)
+callOf copies views taken shape (Event.Take id new records seq) = some (takeCall id new records seq)
 callOf copies views taken shape (Event.Plan id held slice level cover) =
     let upload : UploadFootprint = record { slice = slice; level = level; cover = cover } in
-    cond taken (some (lentPlan id shape held upload (replicate copies 0))) none
-callOf copies views taken shape (Event.Retire id view seq) = some (lentRetire id view seq)
-callOf copies views taken shape (Event.Write id slice level rect) = some (lentWrite id slice level rect)
-callOf copies views taken shape (Event.Regen id) = some (lentRegen id)
-callOf copies views taken shape (Event.Pop settled) = some (lentPop settled)
-callOf copies views taken shape (Event.Park failed now) = some (lentPark failed now)
-callOf copies views taken shape (Event.Note allocated) = some (lentNote allocated)
-callOf copies views taken shape Event.Doomed = some (lentDoomed (replicate views 0))
-callOf copies views taken shape Event.Drain = some (lentDrain (replicate views 0))
-callOf copies views taken shape (Event.Trim now) = some (lentTrim now)
-callOf copies views taken shape (Event.Forget id) = some (lentForget id)
+    cond taken (some (planCall id shape held upload (replicate copies 0))) none
+callOf copies views taken shape (Event.Retire id view seq) = some (retireCall id view seq)
+callOf copies views taken shape (Event.Write id slice level rect) = some (between (writeCall id slice level rect))
+callOf copies views taken shape (Event.Regen id) = some (between (regenCall id))
+callOf copies views taken shape (Event.Pop settled) = some (between (popCall settled))
+callOf copies views taken shape (Event.Park failed now) = some (between (parkCall failed now))
+callOf copies views taken shape (Event.Note allocated) = some (between (noteCall allocated))
+callOf copies views taken shape Event.Doomed = some (between (doomedCall (replicate views 0)))
+callOf copies views taken shape Event.Drain = some (between (drainCall (replicate views 0)))
+callOf copies views taken shape (Event.Trim now) = some (between (trimCall now))
+callOf copies views taken shape (Event.Forget id) = some (between (forgetCall id))
 callOf copies views taken shape Event.Unread = none
 
 -- ---- both books along lines

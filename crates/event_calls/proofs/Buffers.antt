@@ -19,12 +19,13 @@ use Rattle.pool_rules.specs.DrainVersions.{drainVersions}
 use Rattle.pool_memory.specs.Lent.{Lent}
 use Rattle.pool_memory.specs.Calls.{Told, refusedWith, answer, asked, inBuffer, regionNumbers, copyNumbers, viewNumbers, preservePlanOn, takeDoomedOn, drainVersionsOn}
 use Rattle.pool_books.specs.Demand3.{Reply, copiesPlanned, viewsHanded}
-use Rattle.pool_books.specs.LentLists.{LentCall, lentTake, lentPlan, lentRetire, lentWrite, lentRegen, lentPop, lentPark, lentNote, lentDoomed, lentDrain, lentTrim, lentForget, said, filled, replyOf as toldReply, copiesFilled, viewsFilled, lentCall}
+use Rattle.pool_books.specs.LentLists.{LentCall, said, filled, replyOf as toldReply, copiesFilled, viewsFilled, lentCall}
 use Rattle.pool_books.proofs.Answers.{copies-read, views-read}
 use Rattle.event_answers.specs.Answers.{replyTold, InBuffers}
 use Rattle.event_answers.specs.declared.answer.Answer.{Answer}
 use Rattle.event_calls.specs.Calls.{MadeCopies, MadeViews, blank, blanked, viewsAnswer, copiesAnswer}
 use Rattle.pool_memory.specs.MemoryConstants.{copyStride}
+use Rattle.pool_books.specs.Lists.{between, doomedCall, drainCall, forgetCall, noteCall, parkCall, planCall, popCall, regenCall, retireCall, takeCall, trimCall, writeCall}
 
 -- ---- the reply, without the buffer
 
@@ -40,19 +41,19 @@ views-said b (answer vs, l) = ap (λ (x : List ℕ). (viewsHanded x, l)) (views-
 
 module _ (l : Lent) (b c : List ℕ) (same : length b ≡ length c) where
   any-buffer-plan : (id : ℕ) (shape : VersionShape) (held : Held) (u : UploadFootprint)
-      → lentCall l (lentPlan id shape held u b) ≡ lentCall l (lentPlan id shape held u c)
+      → lentCall l (planCall id shape held u b) ≡ lentCall l (planCall id shape held u c)
   unfolding lentCall preservePlanOn
   any-buffer-plan id shape held u =
       let o : ℕ → Told (List PreserveCopy) × Lent = λ n. asked (λ a. a) l (λ (p : PoolModel ℕ). preservePlan p id shape held u (n / copyStride)) in
       copies-said b (o (length b)) ∙ ap (λ (n : ℕ). said copiesPlanned (o n)) same ∙ sym (copies-said c (o (length c)))
 
-  any-buffer-doomed : lentCall l (lentDoomed b) ≡ lentCall l (lentDoomed c)
+  any-buffer-doomed : lentCall l (between (doomedCall b)) ≡ lentCall l (between (doomedCall c))
   unfolding lentCall takeDoomedOn
   any-buffer-doomed =
       let o : ℕ → Told (List ℕ) × Lent = λ n. asked (λ a. a) l (λ (p : PoolModel ℕ). takeDoomed p n) in
       views-said b (o (length b)) ∙ ap (λ (n : ℕ). said viewsHanded (o n)) same ∙ sym (views-said c (o (length c)))
 
-  any-buffer-drain : lentCall l (lentDrain b) ≡ lentCall l (lentDrain c)
+  any-buffer-drain : lentCall l (between (drainCall b)) ≡ lentCall l (between (drainCall c))
   unfolding lentCall drainVersionsOn
   any-buffer-drain =
       let o : ℕ → Told (List ℕ) × Lent = λ n. asked (λ a. a) l (λ (p : PoolModel ℕ). drainVersions p n) in
@@ -63,18 +64,18 @@ blank-long b = sym (length-replicate (length b) 0)
 
 -- a call says and leaves the same with a buffer of as many zeros
 pub any-buffer : (l : Lent) (c : LentCall) → lentCall l c ≡ lentCall l (blanked c)
-any-buffer l (lentTake id shape records seq) = refl
-any-buffer l (lentPlan id shape held u b) = any-buffer-plan l b (blank b) (blank-long b) id shape held u
-any-buffer l (lentRetire id view seq) = refl
-any-buffer l (lentWrite id slice level r) = refl
-any-buffer l (lentRegen id) = refl
-any-buffer l (lentPop settled) = refl
-any-buffer l (lentPark failed now) = refl
-any-buffer l (lentNote allocated) = refl
-any-buffer l (lentDoomed b) = any-buffer-doomed l b (blank b) (blank-long b)
-any-buffer l (lentDrain b) = any-buffer-drain l b (blank b) (blank-long b)
-any-buffer l (lentTrim now) = refl
-any-buffer l (lentForget id) = refl
+any-buffer l (takeCall id shape records seq) = refl
+any-buffer l (planCall id shape held u b) = any-buffer-plan l b (blank b) (blank-long b) id shape held u
+any-buffer l (retireCall id view seq) = refl
+any-buffer l (between (writeCall id slice level r)) = refl
+any-buffer l (between (regenCall id)) = refl
+any-buffer l (between (popCall settled)) = refl
+any-buffer l (between (parkCall failed now)) = refl
+any-buffer l (between (noteCall allocated)) = refl
+any-buffer l (between (doomedCall b)) = any-buffer-doomed l b (blank b) (blank-long b)
+any-buffer l (between (drainCall b)) = any-buffer-drain l b (blank b) (blank-long b)
+any-buffer l (between (trimCall now)) = refl
+any-buffer l (between (forgetCall id)) = refl
 
 -- ---- the entries stand in the buffer
 
@@ -130,35 +131,35 @@ views-answered (answer n) copies exit = refl
 
 module _ (l after : Lent) (b exit : List ℕ) (t : Told ℕ) where
   pub made-plan : (id : ℕ) (shape : VersionShape) (held : Held) (u : UploadFootprint) → (t, (exit, after)) ≡ preservePlanOn l b id shape held u
-      → (a : Answer) → a ≡ copiesAnswer t → MadeCopies l (lentPlan id shape held u (blank b)) a exit after
+      → (a : Answer) → a ≡ copiesAnswer t → MadeCopies l (planCall id shape held u (blank b)) a exit after
   unfolding MadeCopies lentCall preservePlanOn
   made-plan id shape held u e a q =
       let o = asked (λ a. a) l (λ (p : PoolModel ℕ). preservePlan p id shape held u (length b / copyStride)) in
-      let k : (toldReply (λ (n : ℕ). copiesFilled n exit) t, after) ≡ lentCall l (lentPlan id shape held u (blank b)) =
-      ap (filled copiesFilled) e ∙ any-buffer l (lentPlan id shape held u b) in
+      let k : (toldReply (λ (n : ℕ). copiesFilled n exit) t, after) ≡ lentCall l (planCall id shape held u (blank b)) =
+      ap (filled copiesFilled) e ∙ any-buffer l (planCall id shape held u b) in
       rw q (
         λ views. (subst (CopiesStand views) (sym e) (copies-stand views b o), copies-answered t exit views ∙ ap (λ (x : Reply × Lent). some (x .0)) k),
         ap (λ (x : Reply × Lent). x .1) k,
       )
 
   module _ (a : Answer) (q : a ≡ viewsAnswer t) where
-    pub made-doomed : (t, (exit, after)) ≡ takeDoomedOn l b → MadeViews l (lentDoomed (blank b)) a exit after
+    pub made-doomed : (t, (exit, after)) ≡ takeDoomedOn l b → MadeViews l (between (doomedCall (blank b))) a exit after
     unfolding MadeViews lentCall takeDoomedOn
     made-doomed e =
         let o = asked (λ a. a) l (λ (p : PoolModel ℕ). takeDoomed p (length b)) in
-        let k : (toldReply (λ (n : ℕ). viewsFilled n exit) t, after) ≡ lentCall l (lentDoomed (blank b)) =
-        ap (filled viewsFilled) e ∙ any-buffer l (lentDoomed b) in
+        let k : (toldReply (λ (n : ℕ). viewsFilled n exit) t, after) ≡ lentCall l (between (doomedCall (blank b))) =
+        ap (filled viewsFilled) e ∙ any-buffer l (between (doomedCall b)) in
         rw q (
           λ copies. (subst (ViewsStand copies) (sym e) (views-stand copies b o), views-answered t copies exit ∙ ap (λ (x : Reply × Lent). some (x .0)) k),
           ap (λ (x : Reply × Lent). x .1) k,
         )
 
-    pub made-drain : (t, (exit, after)) ≡ drainVersionsOn l b → MadeViews l (lentDrain (blank b)) a exit after
+    pub made-drain : (t, (exit, after)) ≡ drainVersionsOn l b → MadeViews l (between (drainCall (blank b))) a exit after
     unfolding MadeViews lentCall drainVersionsOn
     made-drain e =
         let o = asked (λ a. a) l (λ (p : PoolModel ℕ). drainVersions p (length b)) in
-        let k : (toldReply (λ (n : ℕ). viewsFilled n exit) t, after) ≡ lentCall l (lentDrain (blank b)) =
-        ap (filled viewsFilled) e ∙ any-buffer l (lentDrain b) in
+        let k : (toldReply (λ (n : ℕ). viewsFilled n exit) t, after) ≡ lentCall l (between (drainCall (blank b))) =
+        ap (filled viewsFilled) e ∙ any-buffer l (between (drainCall b)) in
         rw q (
           λ copies. (subst (ViewsStand copies) (sym e) (views-stand copies b o), views-answered t copies exit ∙ ap (λ (x : Reply × Lent). some (x .0)) k),
           ap (λ (x : Reply × Lent). x .1) k,

@@ -7,10 +7,11 @@ use lib.ListN.{length, replicate}
 use Rattle.pool_memory.specs.Lent.{Lent}
 use Rattle.pool_memory.specs.Calls.{Told, refusedWith, answer, TakenVersion, PoppedVersion}
 use Rattle.pool_books.specs.Demand3.{Reply}
-use Rattle.pool_books.specs.LentLists.{LentCall, lentTake, lentPlan, lentRetire, lentWrite, lentRegen, lentPop, lentPark, lentNote, lentDoomed, lentDrain, lentTrim, lentForget, lentCall}
+use Rattle.pool_books.specs.LentLists.{LentCall, lentCall}
 use Rattle.event_answers.specs.Answers.{replyTold, InBuffers}
 use Rattle.event_answers.specs.declared.answer.Answer.{Answer}
 use Rattle.event_answers.specs.declared.answer.Answer.the-variants.{Refused, Done, Spare, NoSpare, Version, NothingSettled, Views, Copies}
+use Rattle.pool_books.specs.Lists.{between, doomedCall, drainCall, forgetCall, noteCall, parkCall, planCall, popCall, regenCall, retireCall, takeCall, trimCall, writeCall}
 
 -- the answer and the buffers say this reply
 abbrev pub Says : Answer → List ℕ → List ℕ → Reply → Type 0
@@ -31,18 +32,18 @@ abbrev pub blank : List ℕ → List ℕ
 blank buffer = replicate (length buffer) 0
 
 abbrev pub blanked : LentCall → LentCall
-blanked (lentPlan id shape held upload buffer) = lentPlan id shape held upload (blank buffer)
-blanked (lentDoomed buffer) = lentDoomed (blank buffer)
-blanked (lentDrain buffer) = lentDrain (blank buffer)
-blanked (lentTake id shape records seq) = lentTake id shape records seq
-blanked (lentRetire id view seq) = lentRetire id view seq
-blanked (lentWrite id slice level rect) = lentWrite id slice level rect
-blanked (lentRegen id) = lentRegen id
-blanked (lentPop settled) = lentPop settled
-blanked (lentPark failed now) = lentPark failed now
-blanked (lentNote allocated) = lentNote allocated
-blanked (lentTrim now) = lentTrim now
-blanked (lentForget id) = lentForget id
+blanked (planCall id shape held upload buffer) = planCall id shape held upload (blank buffer)
+blanked (between (doomedCall buffer)) = between (doomedCall (blank buffer))
+blanked (between (drainCall buffer)) = between (drainCall (blank buffer))
+blanked (takeCall id shape records seq) = takeCall id shape records seq
+blanked (retireCall id view seq) = retireCall id view seq
+blanked (between (writeCall id slice level rect)) = between (writeCall id slice level rect)
+blanked (between (regenCall id)) = between (regenCall id)
+blanked (between (popCall settled)) = between (popCall settled)
+blanked (between (parkCall failed now)) = between (parkCall failed now)
+blanked (between (noteCall allocated)) = between (noteCall allocated)
+blanked (between (trimCall now)) = between (trimCall now)
+blanked (between (forgetCall id)) = between (forgetCall id)
 
 unfoldable pub MadeCopies : Lent → LentCall → Answer → List ℕ → Lent → Type 0
 MadeCopies l c a copies exit = ((views : List ℕ) → Says a copies views (lentCall l c .0)) × (exit ≡ lentCall l c .1)

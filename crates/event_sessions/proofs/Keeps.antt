@@ -8,12 +8,13 @@ use lib.ListN.{replicate}
 use Rattle.pool_memory.specs.IsPool.{isPool, sizesFit}
 use Rattle.pool_memory.specs.Calls.{openedPool, openedBook}
 use Rattle.pool_books.specs.Demand3.{Reply, refusal, done}
-use Rattle.pool_books.specs.LentLists.{LentCall, lentTake, lentPlan, EveryCallKeepsPool, OpenedIsPool}
+use Rattle.pool_books.specs.LentLists.{LentCall, EveryCallKeepsPool, OpenedIsPool}
 use Rattle.pool_books.proofs.LentLists.{calls-keep-pool, opened-is-pool}
 use Rattle.event_lines.specs.declared.event.Event.{Event}
 use Rattle.event_sessions.specs.Sessions.{SessionState, stateOf, HoldsPool, opens, openedState, called, notCalled, takeLine, ifOpened, lineStep}
 use Rattle.event_sessions.specs.Parts.{freshSession}
 use Rattle.event_sessions.proofs.Opened.{same-sizes}
+use Rattle.pool_books.specs.Lists.{planCall, takeCall}
 
 -- nothing is opened in a fresh session
 pub fresh-holds : (textures retiring doomed spares newest stamps : List ℕ) → HoldsPool (stateOf freshSession textures retiring doomed spares newest stamps)
@@ -59,11 +60,11 @@ step-keeps copies views s (Event.Open working) h = go (s .opened)
     go true = h
     go false = opens-keeps s h working
 step-keeps copies views s (Event.Take id shape records seq) h =
-    if-keeps s h (called (takeLine s shape) (lentTake id shape records seq)) (call-keeps (takeLine s shape) h (lentTake id shape records seq))
+    if-keeps s h (called (takeLine s shape) (takeCall id shape records seq)) (call-keeps (takeLine s shape) h (takeCall id shape records seq))
 step-keeps copies views s (Event.Plan id held slice level cover) h = if-keeps s h (cond (s .taken) (called s plan) (notCalled s)) (go (s .taken))
   where
     plan : LentCall
-    plan = lentPlan id (s .shape) held (record { slice = slice; level = level; cover = cover }) (replicate copies 0)
+    plan = planCall id (s .shape) held (record { slice = slice; level = level; cover = cover }) (replicate copies 0)
 
     go : (b : Bool) → HoldsPool (cond b (called s plan) (notCalled s) .1)
     go true = call-keeps s h plan

@@ -11,7 +11,7 @@ use Rattle.grid_shapes.specs.declared.shape.VersionShape.{VersionShape}
 use Rattle.pool_rules.specs.declared.held.Held.{Held}
 use Rattle.pool_rules.specs.Model.{UploadFootprint}
 use Rattle.pool_memory.specs.Lent.{Lent}
-use Rattle.pool_books.specs.LentLists.{LentCall, lentCall, lentTake, lentPlan, lentRetire, lentWrite, lentRegen, lentPop, lentPark, lentNote, lentDoomed, lentDrain, lentTrim, lentForget}
+use Rattle.pool_books.specs.LentLists.{LentCall, lentCall}
 use Rattle.event_lines.specs.declared.event.Event.{Event}
 use Rattle.event_lines.proofs.event.Event.{the-type}
 use Rattle.event_answers.specs.Answers.{replyTold, InBuffers}
@@ -20,26 +20,27 @@ use Rattle.event_answers.specs.declared.answer.Answer.the-variants.{Question}
 use Rattle.event_calls.specs.Calls.{Made, MadeCopies, MadeViews}
 use Rattle.event_sessions.specs.Sessions.{SessionState, lineStep}
 use Rattle.event_sessions.specs.Parts.{sessionOpened, Stepped, takenAfter, shapeAfter}
+use Rattle.pool_books.specs.Lists.{between, doomedCall, drainCall, forgetCall, noteCall, parkCall, planCall, popCall, regenCall, retireCall, takeCall, trimCall, writeCall}
 
 -- ---- the lineStep of an sessionOpened session
 
 module _ (copies views : ℕ) (taken : Bool) (shape : VersionShape) (l : Lent) (a : Answer) (copiesExit viewsExit : List ℕ) (exit : Lent) where
   -- an event's call was made, with buffers of so many numbers; a second `open` and an unread line have none
   abbrev CallMade : Event → Type 0
-  CallMade (Event.Take id s records seq) = Made l (lentTake id s records seq) a exit
+  CallMade (Event.Take id s records seq) = Made l (takeCall id s records seq) a exit
   CallMade (Event.Plan id held slice level cover) =
       let upload : UploadFootprint = record { slice = slice; level = level; cover = cover } in
-      (taken ≡ true) × MadeCopies l (lentPlan id shape held upload (replicate copies 0)) a copiesExit exit
-  CallMade (Event.Retire id view seq) = Made l (lentRetire id view seq) a exit
-  CallMade (Event.Write id slice level rect) = Made l (lentWrite id slice level rect) a exit
-  CallMade (Event.Regen id) = Made l (lentRegen id) a exit
-  CallMade (Event.Pop settled) = Made l (lentPop settled) a exit
-  CallMade (Event.Park failed now) = Made l (lentPark failed now) a exit
-  CallMade (Event.Note allocated) = Made l (lentNote allocated) a exit
-  CallMade Event.Doomed = MadeViews l (lentDoomed (replicate views 0)) a viewsExit exit
-  CallMade Event.Drain = MadeViews l (lentDrain (replicate views 0)) a viewsExit exit
-  CallMade (Event.Trim now) = Made l (lentTrim now) a exit
-  CallMade (Event.Forget id) = Made l (lentForget id) a exit
+      (taken ≡ true) × MadeCopies l (planCall id shape held upload (replicate copies 0)) a copiesExit exit
+  CallMade (Event.Retire id view seq) = Made l (retireCall id view seq) a exit
+  CallMade (Event.Write id slice level rect) = Made l (between (writeCall id slice level rect)) a exit
+  CallMade (Event.Regen id) = Made l (between (regenCall id)) a exit
+  CallMade (Event.Pop settled) = Made l (between (popCall settled)) a exit
+  CallMade (Event.Park failed now) = Made l (between (parkCall failed now)) a exit
+  CallMade (Event.Note allocated) = Made l (between (noteCall allocated)) a exit
+  CallMade Event.Doomed = MadeViews l (between (doomedCall (replicate views 0))) a viewsExit exit
+  CallMade Event.Drain = MadeViews l (between (drainCall (replicate views 0))) a viewsExit exit
+  CallMade (Event.Trim now) = Made l (between (trimCall now)) a exit
+  CallMade (Event.Forget id) = Made l (between (forgetCall id)) a exit
   CallMade (Event.Open working) = ⊥
   CallMade Event.Unread = ⊥
 

@@ -11,9 +11,10 @@ use Rattle.pool_rules.specs.Model.{UploadFootprint}
 use Rattle.pool_memory.specs.Lent.{Lent, lent}
 use Rattle.pool_memory.specs.IsPool.{isPool, sizesFit}
 use Rattle.pool_books.specs.Demand3.{Reply, refusal, done}
-use Rattle.pool_books.specs.LentLists.{LentCall, lentCall, lentTake, lentPlan, lentRetire, lentWrite, lentRegen, lentPop, lentPark, lentNote, lentDoomed, lentDrain, lentTrim, lentForget, openedLent}
+use Rattle.pool_books.specs.LentLists.{LentCall, lentCall, openedLent}
 use Rattle.event_lines.specs.declared.event.Event.{Event}
 use Rattle.event_sessions.specs.declared.session.Session.{Session}
+use Rattle.pool_books.specs.Lists.{between, doomedCall, drainCall, forgetCall, noteCall, parkCall, planCall, popCall, regenCall, retireCall, takeCall, trimCall, writeCall}
 
 -- ---- between two lines
 
@@ -75,18 +76,18 @@ ifOpened s r = cond (s .opened) r (notCalled s)
 -- so they are all 0 here.
 unfoldable pub lineStep : ℕ → ℕ → SessionState → Event → Option Reply × SessionState
 lineStep copies views s (Event.Open working) = cond (s .opened) (notCalled s) (opens s working)
-lineStep copies views s (Event.Take id shape records seq) = ifOpened s (called (takeLine s shape) (lentTake id shape records seq))
+lineStep copies views s (Event.Take id shape records seq) = ifOpened s (called (takeLine s shape) (takeCall id shape records seq))
 lineStep copies views s (Event.Plan id held slice level cover) =
     let upload : UploadFootprint = record { slice = slice; level = level; cover = cover } in
-    ifOpened s (cond (s .taken) (called s (lentPlan id (s .shape) held upload (replicate copies 0))) (notCalled s))
-lineStep copies views s (Event.Retire id view seq) = ifOpened s (called s (lentRetire id view seq))
-lineStep copies views s (Event.Write id slice level rect) = ifOpened s (called s (lentWrite id slice level rect))
-lineStep copies views s (Event.Regen id) = ifOpened s (called s (lentRegen id))
-lineStep copies views s (Event.Pop settled) = ifOpened s (called s (lentPop settled))
-lineStep copies views s (Event.Park failed now) = ifOpened s (called s (lentPark failed now))
-lineStep copies views s (Event.Note allocated) = ifOpened s (called s (lentNote allocated))
-lineStep copies views s Event.Doomed = ifOpened s (called s (lentDoomed (replicate views 0)))
-lineStep copies views s Event.Drain = ifOpened s (called s (lentDrain (replicate views 0)))
-lineStep copies views s (Event.Trim now) = ifOpened s (called s (lentTrim now))
-lineStep copies views s (Event.Forget id) = ifOpened s (called s (lentForget id))
+    ifOpened s (cond (s .taken) (called s (planCall id (s .shape) held upload (replicate copies 0))) (notCalled s))
+lineStep copies views s (Event.Retire id view seq) = ifOpened s (called s (retireCall id view seq))
+lineStep copies views s (Event.Write id slice level rect) = ifOpened s (called s (between (writeCall id slice level rect)))
+lineStep copies views s (Event.Regen id) = ifOpened s (called s (between (regenCall id)))
+lineStep copies views s (Event.Pop settled) = ifOpened s (called s (between (popCall settled)))
+lineStep copies views s (Event.Park failed now) = ifOpened s (called s (between (parkCall failed now)))
+lineStep copies views s (Event.Note allocated) = ifOpened s (called s (between (noteCall allocated)))
+lineStep copies views s Event.Doomed = ifOpened s (called s (between (doomedCall (replicate views 0))))
+lineStep copies views s Event.Drain = ifOpened s (called s (between (drainCall (replicate views 0))))
+lineStep copies views s (Event.Trim now) = ifOpened s (called s (between (trimCall now)))
+lineStep copies views s (Event.Forget id) = ifOpened s (called s (between (forgetCall id)))
 lineStep copies views s Event.Unread = notCalled s

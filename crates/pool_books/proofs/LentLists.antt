@@ -32,11 +32,12 @@ use Rattle.pool_memory.proofs.FitsOpened.{opened-model, opened-fits}
 use Rattle.pool_memory.proofs.ToPool.{fits-pool}
 use Rattle.pool_memory.proofs.ReadBack.{read-back, after-fits}
 use Rattle.pool_books.specs.Demand3.{Reply, answered, perform, performBetween, call, done, copiesPlanned, viewsHanded, spareReply, poppedReply as popReply, viewsReply as handedReply}
-use Rattle.pool_books.specs.LentLists.{LentCall, lentTake, lentPlan, lentRetire, lentWrite, lentRegen, lentPop, lentPark, lentNote, lentDoomed, lentDrain, lentTrim, lentForget, roomOf, takenReply, poppedVersionReply, copiesFilled, viewsFilled, said, filled, lentCall, openedLent, Demand3Lent, EveryCallKeepsPool, OpenedIsPool}
+use Rattle.pool_books.specs.LentLists.{LentCall, roomOf, takenReply, poppedVersionReply, copiesFilled, viewsFilled, said, filled, lentCall, openedLent, Demand3Lent, EveryCallKeepsPool, OpenedIsPool}
 use Rattle.pool_books.proofs.End.{demand3-of}
 use Rattle.pool_books.proofs.Places.{SamePlaces, take-spare-places, preserve-plan-places, retire-places, note-write-places, note-mip-regeneration-places, pop-retired-places, park-places, note-allocated-places, take-doomed-places, drain-versions-places, trim-places, forget-texture-places}
 use Rattle.pool_books.proofs.Answers.{copies-read, views-read}
 use Rattle.pool_memory.specs.MemoryConstants.{copyStride}
+use Rattle.pool_books.specs.Lists.{between, doomedCall, drainCall, forgetCall, noteCall, parkCall, planCall, popCall, regenCall, retireCall, takeCall, trimCall, writeCall}
 
 -- the stores stand for the pool
 abbrev Represents : Lent → PoolModel ℕ → Type 0
@@ -105,32 +106,32 @@ views-reply buffer vs = ap viewsHanded (views-read vs buffer ∙ sym (map-id vs)
 
 simulates : (l : Lent) (p : PoolModel ℕ) (c : LentCall) → Formed p → Represents l p → Simulates (lentCall l c) (call p (roomOf c))
 unfolding lentCall perform performBetween takeSpareOn retireOn noteWriteOn noteMipRegenerationOn popRetiredOn parkOn noteAllocatedOn trimOn forgetTextureOn preservePlanOn takeDoomedOn drainVersionsOn
-simulates l p (lentTake id shape records seq) k r =
+simulates l p (takeCall id shape records seq) k r =
     says l p r (λ q. takeSpare q id shape records seq) (closed p k .take-spare id shape records seq) (take-spare-places p id shape records seq)
     takenOf takenReply _ taken-reply
-simulates l p (lentPlan id shape held u buffer) k r =
+simulates l p (planCall id shape held u buffer) k r =
     fills l p r (λ q. preservePlan q id shape held u (length buffer / copyStride)) (closed p k .preserve-plan id shape held u (length buffer / copyStride))
     (preserve-plan-places p id shape held u (length buffer / copyStride)) copyNumbers buffer copiesFilled _ (λ cs. ap copiesPlanned (copies-read cs buffer))
-simulates l p (lentRetire id view seq) k r =
+simulates l p (retireCall id view seq) k r =
     does l p r (λ q. retire q id view seq) (closed p k .retires id view seq) (retire-places p id view seq) (λ a. a)
-simulates l p (lentWrite id slice level rect) k r =
+simulates l p (between (writeCall id slice level rect)) k r =
     does l p r (λ q. noteWrite q id slice level rect) (closed p k .note-write id slice level rect) (note-write-places p id slice level rect) (λ a. a)
-simulates l p (lentRegen id) k r =
+simulates l p (between (regenCall id)) k r =
     does l p r (λ q. noteMipRegeneration q id) (closed p k .note-mip-regeneration id) (note-mip-regeneration-places p id) (λ a. a)
-simulates l p (lentPop settled) k r =
+simulates l p (between (popCall settled)) k r =
     says l p r (λ q. popRetired q settled) (closed p k .pop-retired settled) (pop-retired-places p settled) poppedOf poppedVersionReply _ popped-reply
-simulates l p (lentPark failed now) k r =
+simulates l p (between (parkCall failed now)) k r =
     does l p r (λ q. park q failed now) (closed p k .parks failed now) (park-places p failed now) (λ a. a)
-simulates l p (lentNote allocated) k r =
+simulates l p (between (noteCall allocated)) k r =
     does l p r (λ q. noteAllocated q allocated) (closed p k .note-allocated allocated) (note-allocated-places p allocated) (λ a. a)
-simulates l p (lentDoomed buffer) k r =
+simulates l p (between (doomedCall buffer)) k r =
     fills l p r (λ q. takeDoomed q (length buffer)) (closed p k .take-doomed (length buffer)) (take-doomed-places p (length buffer))
     viewNumbers buffer viewsFilled _ (views-reply buffer)
-simulates l p (lentDrain buffer) k r =
+simulates l p (between (drainCall buffer)) k r =
     fills l p r (λ q. drainVersions q (length buffer)) (closed p k .drain-versions (length buffer)) (drain-versions-places p (length buffer))
     viewNumbers buffer viewsFilled _ (views-reply buffer)
-simulates l p (lentTrim now) k r = does l p r (λ q. trim q now) (closed p k .trims now) (trim-places p now) (λ a. a)
-simulates l p (lentForget id) k r =
+simulates l p (between (trimCall now)) k r = does l p r (λ q. trim q now) (closed p k .trims now) (trim-places p now) (λ a. a)
+simulates l p (between (forgetCall id)) k r =
     does l p r (λ q. forgetTexture q id) (closed p k .forget-texture id) (forget-texture-places p id) (λ a. a)
 
 -- ---- every list of them

@@ -23,40 +23,29 @@ use Rattle.pool_memory.specs.Lent.{Lent, lent}
 use Rattle.pool_memory.specs.Reading.{modelOf}
 use Rattle.pool_memory.specs.IsPool.{isPool, sizesFit}
 use Rattle.pool_memory.specs.Calls.{openedPool, openedBook, Told, refusedWith, answer, TakenVersion, PoppedVersion, takeSpareOn, retireOn, noteWriteOn, noteMipRegenerationOn, popRetiredOn, parkOn, noteAllocatedOn, trimOn, forgetTextureOn, preservePlanOn, takeDoomedOn, drainVersionsOn}
-use Rattle.pool_books.specs.Lists.{writeCall, regenCall, popCall, parkCall, noteCall, doomedCall, drainCall, trimCall, forgetCall, Call, takeCall, planCall, retireCall, between, Renames, start}
+use Rattle.pool_books.specs.Lists.{writeCall, regenCall, popCall, parkCall, noteCall, doomedCall, drainCall, trimCall, forgetCall, Call, takeCall, planCall, retireCall, between, Renames, start, CallOf}
 use Rattle.pool_books.specs.Demand3.{Reply, refusal, done, spareTaken, copiesPlanned, versionPopped, viewsHanded, ThroughoutOf}
 use Rattle.pool_memory.specs.MemoryConstants.{copyStride}
 
 -- ---- calls, named as in the event lines, each with its arguments and its answer's buffer
 
-pub data LentCall : Type 0 where
-  lentTake : ℕ → VersionShape → Bool → ℕ → LentCall
-  lentPlan : ℕ → VersionShape → Held → UploadFootprint → List ℕ → LentCall
-  lentRetire : ℕ → ℕ → ℕ → LentCall
-  lentWrite : ℕ → ℕ → ℕ → TexelRect → LentCall
-  lentRegen : ℕ → LentCall
-  lentPop : ℕ → LentCall
-  lentPark : ℕ → ℕ → LentCall
-  lentNote : ℕ → LentCall
-  lentDoomed : List ℕ → LentCall
-  lentDrain : List ℕ → LentCall
-  lentTrim : ℕ → LentCall
-  lentForget : ℕ → LentCall
+abbrev pub LentCall : Type 0
+LentCall = CallOf (List ℕ)
 
 -- the model's call: a buffer has room for a copy in every seven numbers, and for a view number in each
 abbrev pub roomOf : LentCall → Call
-roomOf (lentTake id shape records seq) = takeCall id shape records seq
-roomOf (lentPlan id shape held u buffer) = planCall id shape held u (length buffer / copyStride)
-roomOf (lentRetire id view seq) = retireCall id view seq
-roomOf (lentWrite id slice level r) = between (writeCall id slice level r)
-roomOf (lentRegen id) = between (regenCall id)
-roomOf (lentPop settled) = between (popCall settled)
-roomOf (lentPark failed now) = between (parkCall failed now)
-roomOf (lentNote allocated) = between (noteCall allocated)
-roomOf (lentDoomed buffer) = between (doomedCall (length buffer))
-roomOf (lentDrain buffer) = between (drainCall (length buffer))
-roomOf (lentTrim now) = between (trimCall now)
-roomOf (lentForget id) = between (forgetCall id)
+roomOf (takeCall id shape records seq) = takeCall id shape records seq
+roomOf (planCall id shape held u buffer) = planCall id shape held u (length buffer / copyStride)
+roomOf (retireCall id view seq) = retireCall id view seq
+roomOf (between (writeCall id slice level r)) = between (writeCall id slice level r)
+roomOf (between (regenCall id)) = between (regenCall id)
+roomOf (between (popCall settled)) = between (popCall settled)
+roomOf (between (parkCall failed now)) = between (parkCall failed now)
+roomOf (between (noteCall allocated)) = between (noteCall allocated)
+roomOf (between (doomedCall buffer)) = between (doomedCall (length buffer))
+roomOf (between (drainCall buffer)) = between (drainCall (length buffer))
+roomOf (between (trimCall now)) = between (trimCall now)
+roomOf (between (forgetCall id)) = between (forgetCall id)
 
 -- ---- answers
 
@@ -96,18 +85,18 @@ abbrev pub filled : (ℕ → List ℕ → Reply) → Told ℕ × (List ℕ × Le
 filled f (told, (buffer, l)) = (replyOf (λ (n : ℕ). f n buffer) told, l)
 
 unfoldable pub lentCall : Lent → LentCall → Reply × Lent
-lentCall l (lentTake id shape records seq) = said takenReply (takeSpareOn l id shape records seq)
-lentCall l (lentPlan id shape held u buffer) = filled copiesFilled (preservePlanOn l buffer id shape held u)
-lentCall l (lentRetire id view seq) = said (λ a. done) (retireOn l id view seq)
-lentCall l (lentWrite id slice level r) = said (λ a. done) (noteWriteOn l id slice level r)
-lentCall l (lentRegen id) = said (λ a. done) (noteMipRegenerationOn l id)
-lentCall l (lentPop settled) = said poppedVersionReply (popRetiredOn l settled)
-lentCall l (lentPark failed now) = said (λ a. done) (parkOn l failed now)
-lentCall l (lentNote allocated) = said (λ a. done) (noteAllocatedOn l allocated)
-lentCall l (lentDoomed buffer) = filled viewsFilled (takeDoomedOn l buffer)
-lentCall l (lentDrain buffer) = filled viewsFilled (drainVersionsOn l buffer)
-lentCall l (lentTrim now) = said (λ a. done) (trimOn l now)
-lentCall l (lentForget id) = said (λ a. done) (forgetTextureOn l id)
+lentCall l (takeCall id shape records seq) = said takenReply (takeSpareOn l id shape records seq)
+lentCall l (planCall id shape held u buffer) = filled copiesFilled (preservePlanOn l buffer id shape held u)
+lentCall l (retireCall id view seq) = said (λ a. done) (retireOn l id view seq)
+lentCall l (between (writeCall id slice level r)) = said (λ a. done) (noteWriteOn l id slice level r)
+lentCall l (between (regenCall id)) = said (λ a. done) (noteMipRegenerationOn l id)
+lentCall l (between (popCall settled)) = said poppedVersionReply (popRetiredOn l settled)
+lentCall l (between (parkCall failed now)) = said (λ a. done) (parkOn l failed now)
+lentCall l (between (noteCall allocated)) = said (λ a. done) (noteAllocatedOn l allocated)
+lentCall l (between (doomedCall buffer)) = filled viewsFilled (takeDoomedOn l buffer)
+lentCall l (between (drainCall buffer)) = filled viewsFilled (drainVersionsOn l buffer)
+lentCall l (between (trimCall now)) = said (λ a. done) (trimOn l now)
+lentCall l (between (forgetCall id)) = said (λ a. done) (forgetTextureOn l id)
 
 -- ---- the claim
 

@@ -23,25 +23,32 @@ use Rattle.pool_rules.specs.ForgetTexture.{forgetTexture}
 use Rattle.pool_rules.specs.Open.{opened}
 use Rattle.pool_books.specs.VersionBook.{Numbers, Retired, Book, Books, changeBook, startBook, bookWrite, bookRegeneration, heldBySpare, numbersOf, liveOf, copied, skipped, renamed, carriedBy, lostHand}
 
--- ---- calls, named as in the event lines, each with its arguments; a last number is the room of the answer's buffer
+-- ---- calls, named as in the event lines, each with its arguments; B is what is said of the answer's buffer
 
 -- the calls that stand between renames
-pub data Between : Type 0 where
-  writeCall : ℕ → ℕ → ℕ → TexelRect → Between
-  regenCall : ℕ → Between
-  popCall : ℕ → Between
-  parkCall : ℕ → ℕ → Between
-  noteCall : ℕ → Between
-  doomedCall : ℕ → Between
-  drainCall : ℕ → Between
-  trimCall : ℕ → Between
-  forgetCall : ℕ → Between
+pub data BetweenOf (B : Type 0) : Type 0 where
+  writeCall : ℕ → ℕ → ℕ → TexelRect → BetweenOf B
+  regenCall : ℕ → BetweenOf B
+  popCall : ℕ → BetweenOf B
+  parkCall : ℕ → ℕ → BetweenOf B
+  noteCall : ℕ → BetweenOf B
+  doomedCall : B → BetweenOf B
+  drainCall : B → BetweenOf B
+  trimCall : ℕ → BetweenOf B
+  forgetCall : ℕ → BetweenOf B
 
-pub data Call : Type 0 where
-  takeCall : ℕ → VersionShape → Bool → ℕ → Call
-  planCall : ℕ → VersionShape → Held → UploadFootprint → ℕ → Call
-  retireCall : ℕ → ℕ → ℕ → Call
-  between : Between → Call
+pub data CallOf (B : Type 0) : Type 0 where
+  takeCall : ℕ → VersionShape → Bool → ℕ → CallOf B
+  planCall : ℕ → VersionShape → Held → UploadFootprint → B → CallOf B
+  retireCall : ℕ → ℕ → ℕ → CallOf B
+  between : BetweenOf B → CallOf B
+
+-- a list's calls say how much room a buffer has
+abbrev pub Between : Type 0
+Between = BetweenOf ℕ
+
+abbrev pub Call : Type 0
+Call = CallOf ℕ
 
 -- ---- renames
 

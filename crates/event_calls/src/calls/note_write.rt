@@ -3,8 +3,8 @@ ghost use mathlib.Core.Path.{_≡_};
 ghost use mathlib.Core.Bool.{true};
 ghost use Rattle.pool_memory.specs.Lent.{lentBy, atEntry, atExit};
 ghost use Rattle.pool_memory.specs.IsPool.{isPool};
-ghost use Rattle.pool_books.specs.LentLists.{lentWrite};
 ghost use Rattle.event_calls.specs.Calls.{Made};
+ghost use Rattle.pool_books.specs.Lists.{between, writeCall};
 use crate::answers::answer_done;
 use crate::called::Called;
 use grid_rects::TexelRect;
@@ -27,7 +27,7 @@ pub fn call_write(
     rect: TexelRect,
 ) -> Called
     requires { ⌜ isPool (lentBy pool book textures retiring doomed spares newest stamps) ≡ true ⌝ }
-    ensures { λ r. ⌜ Made (atEntry pool book textures retiring doomed spares newest stamps) (lentWrite id slice level rect) (r .answer)
+    ensures { λ r. ⌜ Made (atEntry pool book textures retiring doomed spares newest stamps) (between (writeCall id slice level rect)) (r .answer)
         (atExit (r .pool) (r .book) textures retiring doomed spares newest stamps) ⌝ }
 {
     let said = pool_note_write::note_write(

@@ -3,8 +3,8 @@ ghost use mathlib.Core.Path.{_≡_};
 ghost use mathlib.Core.Bool.{true};
 ghost use Rattle.pool_memory.specs.Lent.{lentBy, atEntry, atExit};
 ghost use Rattle.pool_memory.specs.IsPool.{isPool};
-ghost use Rattle.pool_books.specs.LentLists.{lentPlan};
 ghost use Rattle.event_calls.specs.Calls.{MadeCopies, blank};
+ghost use Rattle.pool_books.specs.Lists.{planCall};
 use crate::answers::answer_planned;
 use crate::called::Called;
 use grid_shapes::VersionShape;
@@ -32,7 +32,7 @@ pub fn call_plan(
 ) -> Called
     requires { ⌜ isPool (lentBy pool book textures retiring doomed spares newest stamps) ≡ true ⌝ }
     ensures { λ r. ⌜ MadeCopies (atEntry pool book textures retiring doomed spares newest stamps)
-        (lentPlan id shape held (record { slice = slice; level = level; cover = cover }) (blank (now (copies .entry)))) (r .answer) (now (copies .exit))
+        (planCall id shape held (record { slice = slice; level = level; cover = cover }) (blank (now (copies .entry)))) (r .answer) (now (copies .exit))
         (atExit (r .pool) (r .book) textures retiring doomed spares newest stamps) ⌝ }
 {
     let said = pool_preserve_plan::preserve_plan(

@@ -3,8 +3,8 @@ ghost use mathlib.Core.Path.{_≡_};
 ghost use mathlib.Core.Bool.{true};
 ghost use Rattle.pool_memory.specs.Lent.{lentBy, atEntry, atExit};
 ghost use Rattle.pool_memory.specs.IsPool.{isPool};
-ghost use Rattle.pool_books.specs.LentLists.{lentTake};
 ghost use Rattle.event_calls.specs.Calls.{Made};
+ghost use Rattle.pool_books.specs.Lists.{takeCall};
 use crate::answers::answer_taken;
 use crate::called::Called;
 use grid_shapes::VersionShape;
@@ -27,7 +27,7 @@ pub fn call_take(
     seq: u64,
 ) -> Called
     requires { ⌜ isPool (lentBy pool book textures retiring doomed spares newest stamps) ≡ true ⌝ }
-    ensures { λ r. ⌜ Made (atEntry pool book textures retiring doomed spares newest stamps) (lentTake id shape records seq) (r .answer)
+    ensures { λ r. ⌜ Made (atEntry pool book textures retiring doomed spares newest stamps) (takeCall id shape records seq) (r .answer)
         (atExit (r .pool) (r .book) textures retiring doomed spares newest stamps) ⌝ }
 {
     let said = pool_take_spare::take_spare(
