@@ -7,18 +7,18 @@ ghost use Rattle.pool_memory.specs.IsPool.{isPool};
 ghost use Rattle.event_sessions.specs.Parts.{sessionOpened, Stepped};
 use event_answers::Answer;
 use event_calls::Called;
-use event_calls::call_doomed;
-use event_calls::call_drain;
-use event_calls::call_forget;
-use event_calls::call_note;
+use event_calls::call_drain_versions;
+use event_calls::call_forget_texture;
+use event_calls::call_note_allocated;
+use event_calls::call_note_mip_regeneration;
+use event_calls::call_note_write;
 use event_calls::call_park;
-use event_calls::call_plan;
-use event_calls::call_pop;
-use event_calls::call_regen;
+use event_calls::call_pop_retired;
+use event_calls::call_preserve_plan;
 use event_calls::call_retire;
-use event_calls::call_take;
+use event_calls::call_take_doomed;
+use event_calls::call_take_spare;
 use event_calls::call_trim;
-use event_calls::call_write;
 use event_lines::Event;
 use grid_shapes::VersionShape;
 use pool_memory::PacingBook;
@@ -51,7 +51,7 @@ pub fn call_event(
             shape,
             records,
             seq,
-        } => call_take(
+        } => call_take_spare(
             pool,
             book,
             textures,
@@ -79,7 +79,7 @@ pub fn call_event(
                     answer: Answer::Question,
                 };
             }
-            call_plan(
+            call_preserve_plan(
                 pool,
                 book,
                 textures,
@@ -115,7 +115,7 @@ pub fn call_event(
             slice,
             level,
             rect,
-        } => call_write(
+        } => call_note_write(
             pool,
             book,
             textures,
@@ -129,7 +129,7 @@ pub fn call_event(
             level,
             rect,
         ),
-        Event::Regen(id) => call_regen(
+        Event::Regen(id) => call_note_mip_regeneration(
             pool,
             book,
             textures,
@@ -140,7 +140,7 @@ pub fn call_event(
             stamps,
             id,
         ),
-        Event::Pop(settled) => call_pop(
+        Event::Pop(settled) => call_pop_retired(
             pool,
             book,
             textures,
@@ -166,7 +166,7 @@ pub fn call_event(
             failed,
             current,
         ),
-        Event::Note(allocated) => call_note(
+        Event::Note(allocated) => call_note_allocated(
             pool,
             book,
             textures,
@@ -177,7 +177,7 @@ pub fn call_event(
             stamps,
             allocated,
         ),
-        Event::Doomed => call_doomed(
+        Event::Doomed => call_take_doomed(
             pool,
             book,
             textures,
@@ -188,7 +188,7 @@ pub fn call_event(
             stamps,
             views,
         ),
-        Event::Drain => call_drain(
+        Event::Drain => call_drain_versions(
             pool,
             book,
             textures,
@@ -210,7 +210,7 @@ pub fn call_event(
             stamps,
             current,
         ),
-        Event::Forget(id) => call_forget(
+        Event::Forget(id) => call_forget_texture(
             pool,
             book,
             textures,

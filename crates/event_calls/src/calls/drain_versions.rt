@@ -11,7 +11,7 @@ use pool_memory::PacingBook;
 use pool_memory::Pool;
 
 // Hands back every version but the one in the hand.
-pub fn call_drain(
+pub fn call_drain_versions(
     pool: Pool,
     book: PacingBook,
     textures: &mut [u64],

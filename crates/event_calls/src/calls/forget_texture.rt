@@ -11,7 +11,7 @@ use pool_memory::PacingBook;
 use pool_memory::Pool;
 
 // Stops tracking a released texture.
-pub fn call_forget(
+pub fn call_forget_texture(
     pool: Pool,
     book: PacingBook,
     textures: &mut [u64],

@@ -11,7 +11,7 @@ use pool_memory::PacingBook;
 use pool_memory::Pool;
 
 // Notes how much memory the process has allocated.
-pub fn call_note(
+pub fn call_note_allocated(
     pool: Pool,
     book: PacingBook,
     textures: &mut [u64],

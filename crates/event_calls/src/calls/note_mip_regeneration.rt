@@ -11,7 +11,7 @@ use pool_memory::PacingBook;
 use pool_memory::Pool;
 
 // Notes that every level but the first was made anew.
-pub fn call_regen(
+pub fn call_note_mip_regeneration(
     pool: Pool,
     book: PacingBook,
     textures: &mut [u64],

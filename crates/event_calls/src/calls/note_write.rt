@@ -12,7 +12,7 @@ use pool_memory::PacingBook;
 use pool_memory::Pool;
 
 // Notes a write to one subresource.
-pub fn call_write(
+pub fn call_note_write(
     pool: Pool,
     book: PacingBook,
     textures: &mut [u64],

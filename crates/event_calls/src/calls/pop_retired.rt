@@ -11,7 +11,7 @@ use pool_memory::PacingBook;
 use pool_memory::Pool;
 
 // Puts the queue's front in the hand if its submission is settled.
-pub fn call_pop(
+pub fn call_pop_retired(
     pool: Pool,
     book: PacingBook,
     textures: &[u64],

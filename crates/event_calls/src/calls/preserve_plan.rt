@@ -13,7 +13,7 @@ use pool_memory::Pool;
 use pool_rules::Held;
 
 // Plans the copies of a rename.
-pub fn call_plan(
+pub fn call_preserve_plan(
     pool: Pool,
     book: PacingBook,
     textures: &[u64],

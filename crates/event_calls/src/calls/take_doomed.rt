@@ -11,7 +11,7 @@ use pool_memory::PacingBook;
 use pool_memory::Pool;
 
 // Hands back the next batch of versions to destroy.
-pub fn call_doomed(
+pub fn call_take_doomed(
     pool: Pool,
     book: PacingBook,
     textures: &[u64],

@@ -12,7 +12,7 @@ use pool_memory::PacingBook;
 use pool_memory::Pool;
 
 // Starts a rename.
-pub fn call_take(
+pub fn call_take_spare(
     pool: Pool,
     book: PacingBook,
     textures: &mut [u64],

@@ -8,8 +8,8 @@ use Rattle.event_sessions.proofs.call_event.call_event.Tie as tie
 enum-known-event : tie.Need-enum-known-event
 enum-known-event c = c .match .keys1
 
-call-take-requires : tie.Need-call-take-requires
-call-take-requires c κs = c .before .before .before .before .before .before .before .before .before .before .before .before .before .before .before .before .before .pre
+call-take-spare-requires : tie.Need-call-take-spare-requires
+call-take-spare-requires c κs = c .before .before .before .before .before .before .before .before .before .before .before .before .before .before .before .before .before .pre
 
 enum-known-event-2 : tie.Need-enum-known-event-2
 enum-known-event-2 c = c .match .keys2
@@ -19,8 +19,8 @@ returns c =
     let a = c .before .before .before .before .before .before .before .before .before .before .before .before .args in
     untaken-stepped _ _ _ _ _ _ _ (a .event) _ _ _ _ _ (c .before .before .event2 .given .1) (not-true (a .taken) (c .if1 .taken))
 
-call-plan-requires : tie.Need-call-plan-requires
-call-plan-requires c κs = c .before .before .before .before .before .before .before .before .before .before .before .before .before .before .before .before .before .before .before .pre
+call-preserve-plan-requires : tie.Need-call-preserve-plan-requires
+call-preserve-plan-requires c κs = c .before .before .before .before .before .before .before .before .before .before .before .before .before .before .before .before .before .before .before .pre
 
 enum-known-event-3 : tie.Need-enum-known-event-3
 enum-known-event-3 c = c .match .keys3
@@ -31,20 +31,20 @@ call-retire-requires c κs = c .before .before .before .before .before .before .
 enum-known-event-4 : tie.Need-enum-known-event-4
 enum-known-event-4 c = c .match .keys4
 
-call-write-requires : tie.Need-call-write-requires
-call-write-requires c κs = c .before .before .before .before .before .before .before .before .before .before .before .before .before .before .before .before .before .pre
+call-note-write-requires : tie.Need-call-note-write-requires
+call-note-write-requires c κs = c .before .before .before .before .before .before .before .before .before .before .before .before .before .before .before .before .before .pre
 
 enum-known-event-5 : tie.Need-enum-known-event-5
 enum-known-event-5 c = c .match .keys5
 
-call-regen-requires : tie.Need-call-regen-requires
-call-regen-requires c κs = c .before .before .before .before .before .before .before .before .before .before .before .before .before .before .before .before .before .pre
+call-note-mip-regeneration-requires : tie.Need-call-note-mip-regeneration-requires
+call-note-mip-regeneration-requires c κs = c .before .before .before .before .before .before .before .before .before .before .before .before .before .before .before .before .before .pre
 
 enum-known-event-6 : tie.Need-enum-known-event-6
 enum-known-event-6 c = c .match .keys6
 
-call-pop-requires : tie.Need-call-pop-requires
-call-pop-requires c κs = c .before .before .before .before .before .before .before .before .before .before .before .before .before .before .before .before .before .pre
+call-pop-retired-requires : tie.Need-call-pop-retired-requires
+call-pop-retired-requires c κs = c .before .before .before .before .before .before .before .before .before .before .before .before .before .before .before .before .before .pre
 
 enum-known-event-7 : tie.Need-enum-known-event-7
 enum-known-event-7 c = c .match .keys7
@@ -55,20 +55,20 @@ call-park-requires c κs = c .before .before .before .before .before .before .be
 enum-known-event-8 : tie.Need-enum-known-event-8
 enum-known-event-8 c = c .match .keys8
 
-call-note-requires : tie.Need-call-note-requires
-call-note-requires c κs = c .before .before .before .before .before .before .before .before .before .before .before .before .before .before .before .before .before .pre
+call-note-allocated-requires : tie.Need-call-note-allocated-requires
+call-note-allocated-requires c κs = c .before .before .before .before .before .before .before .before .before .before .before .before .before .before .before .before .before .pre
 
 enum-told : tie.Need-enum-told
 enum-told c = c .match .keys9
 
-call-doomed-requires : tie.Need-call-doomed-requires
-call-doomed-requires c κs = c .before .before .before .before .before .before .before .before .before .before .before .before .before .before .before .before .before .pre
+call-take-doomed-requires : tie.Need-call-take-doomed-requires
+call-take-doomed-requires c κs = c .before .before .before .before .before .before .before .before .before .before .before .before .before .before .before .before .before .pre
 
 enum-told-2 : tie.Need-enum-told-2
 enum-told-2 c = c .match .keys10
 
-call-drain-requires : tie.Need-call-drain-requires
-call-drain-requires c κs = c .before .before .before .before .before .before .before .before .before .before .before .before .before .before .before .before .before .pre
+call-drain-versions-requires : tie.Need-call-drain-versions-requires
+call-drain-versions-requires c κs = c .before .before .before .before .before .before .before .before .before .before .before .before .before .before .before .before .before .pre
 
 enum-known-event-9 : tie.Need-enum-known-event-9
 enum-known-event-9 c = c .match .keys11
@@ -79,31 +79,31 @@ call-trim-requires c κs = c .before .before .before .before .before .before .be
 enum-known-event-10 : tie.Need-enum-known-event-10
 enum-known-event-10 c = c .match .keys12
 
-call-forget-requires : tie.Need-call-forget-requires
-call-forget-requires c κs = c .before .before .before .before .before .before .before .before .before .before .before .before .before .before .before .before .before .pre
+call-forget-texture-requires : tie.Need-call-forget-texture-requires
+call-forget-texture-requires c κs = c .before .before .before .before .before .before .before .before .before .before .before .before .before .before .before .before .before .pre
 
 same-length : tie.Need-same-length
-same-length c = c .before .before .before .before .before .before .before .before .before .before .call-take .kept .1 .1 .0
+same-length c = c .before .before .before .before .before .before .before .before .before .before .call-take-spare .kept .1 .1 .0
 
 same-length-2 : tie.Need-same-length-2
 same-length-2 c = refl
 
 same-length-3 : tie.Need-same-length-3
-same-length-3 c = c .before .before .before .before .before .before .before .before .before .before .call-take .kept .1 .1 .1 .1 .0
+same-length-3 c = c .before .before .before .before .before .before .before .before .before .before .call-take-spare .kept .1 .1 .1 .1 .0
 
 same-length-4 : tie.Need-same-length-4
-same-length-4 c = c .before .before .before .before .before .before .before .before .before .before .call-take .kept .1 .1 .1 .1 .1 .0
+same-length-4 c = c .before .before .before .before .before .before .before .before .before .before .call-take-spare .kept .1 .1 .1 .1 .1 .0
 
 same-length-5 : tie.Need-same-length-5
-same-length-5 c = c .before .before .before .before .before .before .before .before .before .before .call-take .kept .1 .1 .1 .1 .1 .1 .0
+same-length-5 c = c .before .before .before .before .before .before .before .before .before .before .call-take-spare .kept .1 .1 .1 .1 .1 .1 .0
 
 same-length-6 : tie.Need-same-length-6
-same-length-6 c = c .before .before .before .before .before .before .before .before .before .before .call-take .kept .1 .1 .1 .1 .1 .1 .1 .0
+same-length-6 c = c .before .before .before .before .before .before .before .before .before .before .call-take-spare .kept .1 .1 .1 .1 .1 .1 .1 .0
 
 returns-2 : tie.Need-returns-2
 returns-2 c =
     let a = c .before .before .before .before .before .before .before .before .before .before .before .before .before .before .before .before .before .before .before .before .before .before .before .before .before .before .before .before .args in
-    let m = c .before .before .before .before .before .before .before .before .before .before .call-take in
+    let m = c .before .before .before .before .before .before .before .before .before .before .call-take-spare in
     stepped _ _ _ _ _ _ _ _ _ (a .event) _ (c .before .before .before .before .before .before .before .before .before .before .before .before .before .before .before .before .before .before .event .given .1) (m .ensures)
 
 same-length-7 : tie.Need-same-length-7
@@ -125,12 +125,12 @@ same-length-12 : tie.Need-same-length-12
 same-length-12 c = refl
 
 same-length-13 : tie.Need-same-length-13
-same-length-13 c = c .before .before .call-plan .kept .1 .1 .1 .1 .1 .1 .1 .1 .0
+same-length-13 c = c .before .before .call-preserve-plan .kept .1 .1 .1 .1 .1 .1 .1 .1 .0
 
 returns-3 : tie.Need-returns-3
 returns-3 c =
     let a = c .before .before .before .before .before .before .before .before .before .before .before .before .before .before .before .before .before .before .before .before .before .before .args in
-    let m = c .before .before .call-plan in
+    let m = c .before .before .call-preserve-plan in
     stepped _ _ _ _ _ _ _ _ _ (a .event) _ (c .before .before .before .before .before .before .before .before .before .before .before .before .event2 .given .1) (not-false (a .taken) (c .before .before .before .before .before .before .before .before .before .before .if1 .left), m .ensures)
 
 same-length-14 : tie.Need-same-length-14
@@ -158,7 +158,7 @@ returns-4 c =
     stepped _ _ _ _ _ _ _ _ _ (a .event) _ (c .before .before .before .before .before .before .before .before .before .before .before .before .event3 .given .1) (m .ensures)
 
 same-length-20 : tie.Need-same-length-20
-same-length-20 c = c .before .before .before .before .before .before .call-write .kept .1 .1 .0
+same-length-20 c = c .before .before .before .before .before .before .call-note-write .kept .1 .1 .0
 
 same-length-21 : tie.Need-same-length-21
 same-length-21 c = refl
@@ -170,19 +170,19 @@ same-length-23 : tie.Need-same-length-23
 same-length-23 c = refl
 
 same-length-24 : tie.Need-same-length-24
-same-length-24 c = c .before .before .before .before .before .before .call-write .kept .1 .1 .1 .1 .1 .1 .0
+same-length-24 c = c .before .before .before .before .before .before .call-note-write .kept .1 .1 .1 .1 .1 .1 .0
 
 same-length-25 : tie.Need-same-length-25
-same-length-25 c = c .before .before .before .before .before .before .call-write .kept .1 .1 .1 .1 .1 .1 .1 .0
+same-length-25 c = c .before .before .before .before .before .before .call-note-write .kept .1 .1 .1 .1 .1 .1 .1 .0
 
 returns-5 : tie.Need-returns-5
 returns-5 c =
     let a = c .before .before .before .before .before .before .before .before .before .before .before .before .before .before .before .before .before .before .before .before .before .before .before .before .args in
-    let m = c .before .before .before .before .before .before .call-write in
+    let m = c .before .before .before .before .before .before .call-note-write in
     stepped _ _ _ _ _ _ _ _ _ (a .event) _ (c .before .before .before .before .before .before .before .before .before .before .before .before .before .before .event4 .given .1) (m .ensures)
 
 same-length-26 : tie.Need-same-length-26
-same-length-26 c = c .before .before .before .before .before .before .call-regen .kept .1 .1 .0
+same-length-26 c = c .before .before .before .before .before .before .call-note-mip-regeneration .kept .1 .1 .0
 
 same-length-27 : tie.Need-same-length-27
 same-length-27 c = refl
@@ -194,15 +194,15 @@ same-length-29 : tie.Need-same-length-29
 same-length-29 c = refl
 
 same-length-30 : tie.Need-same-length-30
-same-length-30 c = c .before .before .before .before .before .before .call-regen .kept .1 .1 .1 .1 .1 .1 .0
+same-length-30 c = c .before .before .before .before .before .before .call-note-mip-regeneration .kept .1 .1 .1 .1 .1 .1 .0
 
 same-length-31 : tie.Need-same-length-31
-same-length-31 c = c .before .before .before .before .before .before .call-regen .kept .1 .1 .1 .1 .1 .1 .1 .0
+same-length-31 c = c .before .before .before .before .before .before .call-note-mip-regeneration .kept .1 .1 .1 .1 .1 .1 .1 .0
 
 returns-6 : tie.Need-returns-6
 returns-6 c =
     let a = c .before .before .before .before .before .before .before .before .before .before .before .before .before .before .before .before .before .before .before .before .before .before .before .before .args in
-    let m = c .before .before .before .before .before .before .call-regen in
+    let m = c .before .before .before .before .before .before .call-note-mip-regeneration in
     stepped _ _ _ _ _ _ _ _ _ (a .event) _ (c .before .before .before .before .before .before .before .before .before .before .before .before .before .before .event5 .given .1) (m .ensures)
 
 same-length-32 : tie.Need-same-length-32
@@ -226,7 +226,7 @@ same-length-37 c = refl
 returns-7 : tie.Need-returns-7
 returns-7 c =
     let a = c .before .before .before .before .before .before .before .before .before .before .before .before .before .before .before .before .before .before .args in
-    let m = c .call-pop in
+    let m = c .call-pop-retired in
     stepped _ _ _ _ _ _ _ _ _ (a .event) _ (c .before .before .before .before .before .before .before .before .event6 .given .1) (m .ensures)
 
 same-length-38 : tie.Need-same-length-38
@@ -254,16 +254,16 @@ returns-8 c =
     stepped _ _ _ _ _ _ _ _ _ (a .event) _ (c .before .before .before .before .before .before .before .before .before .before .before .before .before .before .event7 .given .1) (m .ensures)
 
 same-length-44 : tie.Need-same-length-44
-same-length-44 c = c .before .before .before .before .before .before .call-note .kept .1 .1 .0
+same-length-44 c = c .before .before .before .before .before .before .call-note-allocated .kept .1 .1 .0
 
 same-length-45 : tie.Need-same-length-45
 same-length-45 c = refl
 
 same-length-46 : tie.Need-same-length-46
-same-length-46 c = c .before .before .before .before .before .before .call-note .kept .1 .1 .1 .1 .0
+same-length-46 c = c .before .before .before .before .before .before .call-note-allocated .kept .1 .1 .1 .1 .0
 
 same-length-47 : tie.Need-same-length-47
-same-length-47 c = c .before .before .before .before .before .before .call-note .kept .1 .1 .1 .1 .1 .0
+same-length-47 c = c .before .before .before .before .before .before .call-note-allocated .kept .1 .1 .1 .1 .1 .0
 
 same-length-48 : tie.Need-same-length-48
 same-length-48 c = refl
@@ -274,7 +274,7 @@ same-length-49 c = refl
 returns-9 : tie.Need-returns-9
 returns-9 c =
     let a = c .before .before .before .before .before .before .before .before .before .before .before .before .before .before .before .before .before .before .before .before .before .before .before .before .args in
-    let m = c .before .before .before .before .before .before .call-note in
+    let m = c .before .before .before .before .before .before .call-note-allocated in
     stepped _ _ _ _ _ _ _ _ _ (a .event) _ (c .before .before .before .before .before .before .before .before .before .before .before .before .before .before .event8 .given .1) (m .ensures)
 
 same-length-50 : tie.Need-same-length-50
@@ -296,16 +296,16 @@ same-length-55 : tie.Need-same-length-55
 same-length-55 c = refl
 
 same-length-56 : tie.Need-same-length-56
-same-length-56 c = c .before .before .call-doomed .kept .1 .1 .1 .1 .1 .1 .1 .1 .0
+same-length-56 c = c .before .before .call-take-doomed .kept .1 .1 .1 .1 .1 .1 .1 .1 .0
 
 returns-10 : tie.Need-returns-10
 returns-10 c =
     let a = c .before .before .before .before .before .before .before .before .before .before .before .before .before .before .before .before .before .before .before .before .args in
-    let m = c .before .before .call-doomed in
+    let m = c .before .before .call-take-doomed in
     stepped _ _ _ _ _ _ _ _ _ (a .event) _ (c .before .before .before .before .before .before .before .before .before .before .enum-told .given .1) (m .ensures)
 
 same-length-57 : tie.Need-same-length-57
-same-length-57 c = c .before .before .before .before .call-drain .kept .1 .1 .0
+same-length-57 c = c .before .before .before .before .call-drain-versions .kept .1 .1 .0
 
 same-length-58 : tie.Need-same-length-58
 same-length-58 c = refl
@@ -323,12 +323,12 @@ same-length-62 : tie.Need-same-length-62
 same-length-62 c = refl
 
 same-length-63 : tie.Need-same-length-63
-same-length-63 c = c .before .before .before .before .call-drain .kept .1 .1 .1 .1 .1 .1 .1 .1 .0
+same-length-63 c = c .before .before .before .before .call-drain-versions .kept .1 .1 .1 .1 .1 .1 .1 .1 .0
 
 returns-11 : tie.Need-returns-11
 returns-11 c =
     let a = c .before .before .before .before .before .before .before .before .before .before .before .before .before .before .before .before .before .before .before .before .before .before .args in
-    let m = c .before .before .before .before .call-drain in
+    let m = c .before .before .before .before .call-drain-versions in
     stepped _ _ _ _ _ _ _ _ _ (a .event) _ (c .before .before .before .before .before .before .before .before .before .before .before .before .enum-told2 .given .1) (m .ensures)
 
 same-length-64 : tie.Need-same-length-64
@@ -356,27 +356,27 @@ returns-12 c =
     stepped _ _ _ _ _ _ _ _ _ (a .event) _ (c .before .before .before .before .before .before .before .before .before .before .before .before .before .before .before .before .before .before .event9 .given .1) (m .ensures)
 
 same-length-70 : tie.Need-same-length-70
-same-length-70 c = c .before .before .before .before .before .before .before .before .before .before .call-forget .kept .1 .1 .0
+same-length-70 c = c .before .before .before .before .before .before .before .before .before .before .call-forget-texture .kept .1 .1 .0
 
 same-length-71 : tie.Need-same-length-71
 same-length-71 c = refl
 
 same-length-72 : tie.Need-same-length-72
-same-length-72 c = c .before .before .before .before .before .before .before .before .before .before .call-forget .kept .1 .1 .1 .1 .0
+same-length-72 c = c .before .before .before .before .before .before .before .before .before .before .call-forget-texture .kept .1 .1 .1 .1 .0
 
 same-length-73 : tie.Need-same-length-73
-same-length-73 c = c .before .before .before .before .before .before .before .before .before .before .call-forget .kept .1 .1 .1 .1 .1 .0
+same-length-73 c = c .before .before .before .before .before .before .before .before .before .before .call-forget-texture .kept .1 .1 .1 .1 .1 .0
 
 same-length-74 : tie.Need-same-length-74
-same-length-74 c = c .before .before .before .before .before .before .before .before .before .before .call-forget .kept .1 .1 .1 .1 .1 .1 .0
+same-length-74 c = c .before .before .before .before .before .before .before .before .before .before .call-forget-texture .kept .1 .1 .1 .1 .1 .1 .0
 
 same-length-75 : tie.Need-same-length-75
-same-length-75 c = c .before .before .before .before .before .before .before .before .before .before .call-forget .kept .1 .1 .1 .1 .1 .1 .1 .0
+same-length-75 c = c .before .before .before .before .before .before .before .before .before .before .call-forget-texture .kept .1 .1 .1 .1 .1 .1 .1 .0
 
 returns-13 : tie.Need-returns-13
 returns-13 c =
     let a = c .before .before .before .before .before .before .before .before .before .before .before .before .before .before .before .before .before .before .before .before .before .before .before .before .before .before .before .before .args in
-    let m = c .before .before .before .before .before .before .before .before .before .before .call-forget in
+    let m = c .before .before .before .before .before .before .before .before .before .before .call-forget-texture in
     stepped _ _ _ _ _ _ _ _ _ (a .event) _ (c .before .before .before .before .before .before .before .before .before .before .before .before .before .before .before .before .before .before .event10 .given .1) (m .ensures)
 
 returns-14 : tie.Need-returns-14
@@ -387,30 +387,30 @@ call-event-spec =
     tie.close
     (tie.spec
     enum-known-event
-    call-take-requires
+    call-take-spare-requires
     enum-known-event-2
     returns
-    call-plan-requires
+    call-preserve-plan-requires
     enum-known-event-3
     call-retire-requires
     enum-known-event-4
-    call-write-requires
+    call-note-write-requires
     enum-known-event-5
-    call-regen-requires
+    call-note-mip-regeneration-requires
     enum-known-event-6
-    call-pop-requires
+    call-pop-retired-requires
     enum-known-event-7
     call-park-requires
     enum-known-event-8
-    call-note-requires
+    call-note-allocated-requires
     enum-told
-    call-doomed-requires
+    call-take-doomed-requires
     enum-told-2
-    call-drain-requires
+    call-drain-versions-requires
     enum-known-event-9
     call-trim-requires
     enum-known-event-10
-    call-forget-requires
+    call-forget-texture-requires
     same-length
     same-length-2
     same-length-3

@@ -2,8 +2,8 @@
 use borrow.Author.Needs.{needs}
 use Rattle.pool_retire.specs.Answers.{poppedTold}
 use Rattle.event_calls.proofs.Alone.{made-pop}
-use Rattle.event_calls.proofs.calls.pop_retired.call_pop.Statement.{statement}
-use Rattle.event_calls.proofs.calls.pop_retired.call_pop.Tie as tie
+use Rattle.event_calls.proofs.calls.pop_retired.call_pop_retired.Statement.{statement}
+use Rattle.event_calls.proofs.calls.pop_retired.call_pop_retired.Tie as tie
 
 pop-retired-requires : tie.Need-pop-retired-requires
 pop-retired-requires c κs = search needs
@@ -18,5 +18,5 @@ returns c =
     let a = c .before .before .before .before .before .before .before .before .before .args in
     made-pop _ _ (poppedTold (m .result .popped)) (a .settled) (m .ensures) _ (s .ensures)
 
-pub call-pop-spec : {M : Type 1} → statement M
-call-pop-spec = tie.close (tie.spec pop-retired-requires answer-popped-requires returns)
+pub call-pop-retired-spec : {M : Type 1} → statement M
+call-pop-retired-spec = tie.close (tie.spec pop-retired-requires answer-popped-requires returns)

@@ -2,8 +2,8 @@
 use borrow.Author.Needs.{needs}
 use Rattle.pool_take_doomed.specs.Answer.{handedTold}
 use Rattle.event_calls.proofs.Buffers.{made-drain}
-use Rattle.event_calls.proofs.calls.drain_versions.call_drain.Statement.{statement}
-use Rattle.event_calls.proofs.calls.drain_versions.call_drain.Tie as tie
+use Rattle.event_calls.proofs.calls.drain_versions.call_drain_versions.Statement.{statement}
+use Rattle.event_calls.proofs.calls.drain_versions.call_drain_versions.Tie as tie
 
 drain-versions-requires : tie.Need-drain-versions-requires
 drain-versions-requires c κs = search needs
@@ -24,7 +24,7 @@ returns c =
     let a = c .before .before .before .before .before .before .before .before .before .before .before .before .before .before .before .before .before .args in
     made-drain _ _ (a .views .now) _ (handedTold (m .result .handed)) _ (s .ensures) (m .ensures)
 
-pub call-drain-spec : {M : Type 1} → statement M
-call-drain-spec =
+pub call-drain-versions-spec : {M : Type 1} → statement M
+call-drain-versions-spec =
     tie.close
     (tie.spec drain-versions-requires answer-handed-requires same-length same-length-2 returns)

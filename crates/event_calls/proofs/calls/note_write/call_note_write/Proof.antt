@@ -2,8 +2,8 @@
 use borrow.Author.Needs.{needs}
 use Rattle.pool_memory.specs.Calls.{toldNumber}
 use Rattle.event_calls.proofs.Alone.{made-write}
-use Rattle.event_calls.proofs.calls.note_write.call_write.Statement.{statement}
-use Rattle.event_calls.proofs.calls.note_write.call_write.Tie as tie
+use Rattle.event_calls.proofs.calls.note_write.call_note_write.Statement.{statement}
+use Rattle.event_calls.proofs.calls.note_write.call_note_write.Tie as tie
 
 note-write-requires : tie.Need-note-write-requires
 note-write-requires c κs = search needs
@@ -27,8 +27,8 @@ returns c =
     let a = c .before .before .before .before .before .before .before .before .before .before .before .before .before .before .before .before .before .before .args in
     made-write _ _ (toldNumber (m .result .outcome)) _ (s .ensures) (a .id) (a .slice) (a .level) (a .rect) (m .ensures)
 
-pub call-write-spec : {M : Type 1} → statement M
-call-write-spec =
+pub call-note-write-spec : {M : Type 1} → statement M
+call-note-write-spec =
     tie.close
     (tie.spec
     note-write-requires

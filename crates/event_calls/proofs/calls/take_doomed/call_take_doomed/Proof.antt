@@ -2,8 +2,8 @@
 use borrow.Author.Needs.{needs}
 use Rattle.pool_take_doomed.specs.Answer.{handedTold}
 use Rattle.event_calls.proofs.Buffers.{made-doomed}
-use Rattle.event_calls.proofs.calls.take_doomed.call_doomed.Statement.{statement}
-use Rattle.event_calls.proofs.calls.take_doomed.call_doomed.Tie as tie
+use Rattle.event_calls.proofs.calls.take_doomed.call_take_doomed.Statement.{statement}
+use Rattle.event_calls.proofs.calls.take_doomed.call_take_doomed.Tie as tie
 
 take-doomed-requires : tie.Need-take-doomed-requires
 take-doomed-requires c κs = search needs
@@ -21,6 +21,6 @@ returns c =
     let a = c .before .before .before .before .before .before .before .before .before .before .before .before .before .before .args in
     made-doomed _ _ (a .views .now) _ (handedTold (m .result .handed)) _ (s .ensures) (m .ensures)
 
-pub call-doomed-spec : {M : Type 1} → statement M
-call-doomed-spec =
+pub call-take-doomed-spec : {M : Type 1} → statement M
+call-take-doomed-spec =
     tie.close (tie.spec take-doomed-requires answer-handed-requires same-length returns)

@@ -2,8 +2,8 @@
 use borrow.Author.Needs.{needs}
 use Rattle.pool_preserve_plan.specs.PreservePlan.{plannedTold}
 use Rattle.event_calls.proofs.Buffers.{made-plan}
-use Rattle.event_calls.proofs.calls.preserve_plan.call_plan.Statement.{statement}
-use Rattle.event_calls.proofs.calls.preserve_plan.call_plan.Tie as tie
+use Rattle.event_calls.proofs.calls.preserve_plan.call_preserve_plan.Statement.{statement}
+use Rattle.event_calls.proofs.calls.preserve_plan.call_preserve_plan.Tie as tie
 
 preserve-plan-requires : tie.Need-preserve-plan-requires
 preserve-plan-requires c κs = search needs
@@ -21,6 +21,6 @@ returns c =
     let a = c .before .before .before .before .before .before .before .before .before .before .before .before .args in
     made-plan _ _ (a .copies .now) _ (plannedTold (m .result)) (a .id) (a .shape) (a .held) (record { slice = a .slice; level = a .level; cover = a .cover }) (m .ensures) _ (s .ensures)
 
-pub call-plan-spec : {M : Type 1} → statement M
-call-plan-spec =
+pub call-preserve-plan-spec : {M : Type 1} → statement M
+call-preserve-plan-spec =
     tie.close (tie.spec preserve-plan-requires answer-planned-requires same-length returns)

@@ -2,8 +2,8 @@
 use borrow.Author.Needs.{needs}
 use Rattle.pool_memory.specs.Calls.{toldNumber}
 use Rattle.event_calls.proofs.Alone.{made-note}
-use Rattle.event_calls.proofs.calls.note_allocated.call_note.Statement.{statement}
-use Rattle.event_calls.proofs.calls.note_allocated.call_note.Tie as tie
+use Rattle.event_calls.proofs.calls.note_allocated.call_note_allocated.Statement.{statement}
+use Rattle.event_calls.proofs.calls.note_allocated.call_note_allocated.Tie as tie
 
 note-allocated-requires : tie.Need-note-allocated-requires
 note-allocated-requires c κs = search needs
@@ -27,8 +27,8 @@ returns c =
     let a = c .before .before .before .before .before .before .before .before .before .before .before .before .before .before .before .before .before .before .before .args in
     made-note _ _ (toldNumber (m .result .outcome)) _ (s .ensures) (a .allocated) (m .ensures)
 
-pub call-note-spec : {M : Type 1} → statement M
-call-note-spec =
+pub call-note-allocated-spec : {M : Type 1} → statement M
+call-note-allocated-spec =
     tie.close
     (tie.spec
     note-allocated-requires

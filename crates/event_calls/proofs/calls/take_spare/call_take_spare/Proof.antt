@@ -2,8 +2,8 @@
 use borrow.Author.Needs.{needs}
 use Rattle.pool_take_spare.specs.Answer.{takenTold}
 use Rattle.event_calls.proofs.Alone.{made-take}
-use Rattle.event_calls.proofs.calls.take_spare.call_take.Statement.{statement}
-use Rattle.event_calls.proofs.calls.take_spare.call_take.Tie as tie
+use Rattle.event_calls.proofs.calls.take_spare.call_take_spare.Statement.{statement}
+use Rattle.event_calls.proofs.calls.take_spare.call_take_spare.Tie as tie
 
 take-spare-requires : tie.Need-take-spare-requires
 take-spare-requires c κs = search needs
@@ -33,8 +33,8 @@ returns c =
     let a = c .before .before .before .before .before .before .before .before .before .before .before .before .before .before .before .before .before .before .before .before .before .before .before .before .args in
     made-take _ _ (takenTold (m .result .taken)) (a .id) (a .shape) (a .records) (a .seq) (m .ensures) _ (s .ensures)
 
-pub call-take-spec : {M : Type 1} → statement M
-call-take-spec =
+pub call-take-spare-spec : {M : Type 1} → statement M
+call-take-spare-spec =
     tie.close
     (tie.spec
     take-spare-requires

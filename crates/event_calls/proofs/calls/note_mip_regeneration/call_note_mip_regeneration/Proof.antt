@@ -2,8 +2,8 @@
 use borrow.Author.Needs.{needs}
 use Rattle.pool_memory.specs.Calls.{toldNumber}
 use Rattle.event_calls.proofs.Alone.{made-regen}
-use Rattle.event_calls.proofs.calls.note_mip_regeneration.call_regen.Statement.{statement}
-use Rattle.event_calls.proofs.calls.note_mip_regeneration.call_regen.Tie as tie
+use Rattle.event_calls.proofs.calls.note_mip_regeneration.call_note_mip_regeneration.Statement.{statement}
+use Rattle.event_calls.proofs.calls.note_mip_regeneration.call_note_mip_regeneration.Tie as tie
 
 note-mip-regeneration-requires : tie.Need-note-mip-regeneration-requires
 note-mip-regeneration-requires c κs = search needs
@@ -27,8 +27,8 @@ returns c =
     let a = c .before .before .before .before .before .before .before .before .before .before .before .before .before .before .before .before .before .before .args in
     made-regen _ _ (toldNumber (m .result .outcome)) _ (s .ensures) (a .id) (m .ensures)
 
-pub call-regen-spec : {M : Type 1} → statement M
-call-regen-spec =
+pub call-note-mip-regeneration-spec : {M : Type 1} → statement M
+call-note-mip-regeneration-spec =
     tie.close
     (tie.spec
     note-mip-regeneration-requires

@@ -2,8 +2,8 @@
 use borrow.Author.Needs.{needs}
 use Rattle.pool_memory.specs.Calls.{toldNumber}
 use Rattle.event_calls.proofs.Alone.{made-forget}
-use Rattle.event_calls.proofs.calls.forget_texture.call_forget.Statement.{statement}
-use Rattle.event_calls.proofs.calls.forget_texture.call_forget.Tie as tie
+use Rattle.event_calls.proofs.calls.forget_texture.call_forget_texture.Statement.{statement}
+use Rattle.event_calls.proofs.calls.forget_texture.call_forget_texture.Tie as tie
 
 forget-texture-requires : tie.Need-forget-texture-requires
 forget-texture-requires c κs = search needs
@@ -33,8 +33,8 @@ returns c =
     let a = c .before .before .before .before .before .before .before .before .before .before .before .before .before .before .before .before .before .before .before .before .before .before .before .before .args in
     made-forget _ _ (toldNumber (m .result .outcome)) _ (s .ensures) (a .id) (m .ensures)
 
-pub call-forget-spec : {M : Type 1} → statement M
-call-forget-spec =
+pub call-forget-texture-spec : {M : Type 1} → statement M
+call-forget-texture-spec =
     tie.close
     (tie.spec
     forget-texture-requires
