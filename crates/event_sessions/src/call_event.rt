@@ -42,7 +42,8 @@ pub fn call_event(
 ) -> Called
     requires { ⌜ isPool (lentBy pool book textures retiring doomed spares newest stamps) ≡ true ⌝ }
     ensures { λ r. ⌜ Stepped (length (now (copies .entry))) (length (now (views .entry)))
-        (sessionOpened taken shape (atEntry pool book textures retiring doomed spares newest stamps)) event (r .answer) (now (copies .exit)) (now (views .exit))
+        (sessionOpened taken shape (atEntry pool book textures retiring doomed spares newest stamps)) event (r .answer) (now (copies .exit))
+        (now (views .exit))
         (atExit (r .pool) (r .book) textures retiring doomed spares newest stamps) ⌝ }
 {
     match event {

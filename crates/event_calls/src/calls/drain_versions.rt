@@ -23,7 +23,8 @@ pub fn call_drain_versions(
     views: &mut [u64],
 ) -> Called
     requires { ⌜ isPool (lentBy pool book textures retiring doomed spares newest stamps) ≡ true ⌝ }
-    ensures { λ r. ⌜ MadeViews (atEntry pool book textures retiring doomed spares newest stamps) (between (drainCall (blank (now (views .entry))))) (r .answer)
+    ensures { λ r. ⌜ MadeViews (atEntry pool book textures retiring doomed spares newest stamps) (between (drainCall (blank (now (views .entry)))))
+        (r .answer)
         (now (views .exit)) (atExit (r .pool) (r .book) textures retiring doomed spares newest stamps) ⌝ }
 {
     let said = pool_take_doomed::drain_versions(

@@ -23,7 +23,8 @@ pub fn call_take_doomed(
     views: &mut [u64],
 ) -> Called
     requires { ⌜ isPool (lentBy pool book textures retiring doomed spares newest stamps) ≡ true ⌝ }
-    ensures { λ r. ⌜ MadeViews (atEntry pool book textures retiring doomed spares newest stamps) (between (doomedCall (blank (now (views .entry))))) (r .answer)
+    ensures { λ r. ⌜ MadeViews (atEntry pool book textures retiring doomed spares newest stamps) (between (doomedCall (blank (now (views .entry)))))
+        (r .answer)
         (now (views .exit)) (atExit (r .pool) (r .book) textures retiring doomed spares newest stamps) ⌝ }
 {
     let said = pool_take_doomed::take_doomed(
