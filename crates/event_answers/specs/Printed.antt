@@ -1,4 +1,4 @@
--- The output of the event program (01, "Upload rectangle, event program"): line number, outcome and, if acceptedText, answer fields; "-" is none,
+-- Rule: The output of the event program (01, "Upload rectangle, event program"): line number, outcome and, if accepted, answer fields; "-" is none,
 -- unknown or whole. Views and copies stand on lines of their own, each after the line number.
 use Prim.Native.Nat.{ℕ, _+_, _*_}
 use mathlib.Core.Option.{Option, none, some}

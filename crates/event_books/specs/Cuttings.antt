@@ -1,4 +1,4 @@
--- The same of a text that comes in blocks: no cutting of it shows.
+-- Rule: Demand 3 of a text that comes in blocks: however the text is cut, the books and the output are the same.
 use Prim.Native.Nat.{ℕ}
 use mathlib.Core.Path.{_≡_}
 use mathlib.Core.Option.{none}

@@ -1,4 +1,4 @@
--- Demand 3 of a text (01, "Two books" and "Upload rectangle, event program"): the calls that a text's lines make, both books along them, and the claim.
+-- Rule: Demand 3 of a text (01, "Two books", "Upload rectangle, event program"): the calls that its lines make, both books along them, and the claim.
 -- Nothing here is read from the lent stores but their lengths.
 use Prim.Native.Nat.{ℕ, _+_}
 use mathlib.Core.Path.{_≡_}

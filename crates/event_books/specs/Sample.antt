@@ -1,4 +1,4 @@
--- 01's sample of the event program as the bytes of a text, with the bytes that it prints.
+-- Rule: 01's sample of the event program as the bytes of a text, with the bytes that it prints.
 use Prim.Native.Nat.{ℕ}
 use mathlib.Core.Path.{_≡_}
 use mathlib.Core.Bool.{true, false}

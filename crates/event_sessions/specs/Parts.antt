@@ -1,4 +1,4 @@
--- What the parts of a lineStep do.
+-- Rule: A session before its first line, and what it notes of a line; then, for proofs, what the parts of a line's step do.
 use Prim.Native.Nat.{ℕ}
 use mathlib.Core.Path.{_≡_}
 use mathlib.Core.Bool.{Bool, true}

@@ -1,4 +1,4 @@
--- What a line does (01, "Upload rectangle, event program"): the call that its event asks for, on the pool as the lines before left it.
+-- Rule: What a line does (01, "Upload rectangle, event program"): the call that its event asks for, on the pool as the lines before left it.
 use Prim.Native.Nat.{ℕ}
 use mathlib.Core.Path.{_≡_}
 use mathlib.Core.Bool.{Bool, true, cond}

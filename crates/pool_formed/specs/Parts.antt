@@ -1,4 +1,4 @@
--- The parts that the test goes by. They read the lent slices directly, where `isPool` reads the pool that they stand for.
+-- Helper: The parts that the test goes by. They read the lent slices directly, where `isPool` reads the pool that they stand for.
 -- That both say the same is a law; a reader of `is_pool` needs none of this.
 use Prim.Native.Nat.{ℕ, _+_, _*_, _/_}
 use mathlib.Core.Bool.{Bool}

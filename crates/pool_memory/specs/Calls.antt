@@ -1,4 +1,4 @@
--- What each call says and leaves, as 01 has it: stores that form no pool are refused with 1; otherwise it is the model's rule on the pool that the
+-- Rule: What each call says and leaves, as 01 has it: stores that form no pool are refused with 1; otherwise it is the model's rule on the pool that the
 -- stores stand for, written back. Every contract of a call cites one of these.
 use Prim.Native.Nat.{ℕ, _/_}
 use mathlib.Core.Bool.{Bool, cond}

@@ -1,4 +1,4 @@
--- Every accepted call leaves a formed pool, and a pool just opened is formed (01, "Outcomes": so no call on a formed pool can find stores that
+-- Rule: Every accepted call leaves a formed pool, and a pool just opened is formed (01, "Outcomes": so no call on a formed pool can find stores that
 -- form none).
 use Prim.Native.Nat.{ℕ}
 use mathlib.Core.Path.{_≡_}

@@ -1,4 +1,4 @@
--- A texture that is renamed, as the lent slices have it.
+-- Helper: A texture that is renamed, as the lent slices have it.
 use Prim.Native.Nat.{ℕ}
 use Rattle.pool_records.specs.declared.texture.TextureRecord.{TextureRecord}
 
