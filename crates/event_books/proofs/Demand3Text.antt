@@ -23,7 +23,7 @@ use Rattle.event_runs.specs.Lines.{lineOutput, lineState, output}
 use Rattle.event_runs.specs.Texts.{allLines, textOutput}
 use Rattle.event_books.specs.EventLists.{callOf, Opened, afterCall, replyTo, MayCall, call, opening, openingReply, next, reply, InRenames, Agree, AgreeThroughout, replies, repliesText, Demand3Text}
 
--- ---- a line once the pool is sessionOpened
+-- ---- a line once the pool is opened
 
 -- a call's reply, and the lent stores after it
 abbrev repliedBy : Lent → Option LentCall → Option Reply

@@ -55,13 +55,13 @@ module _ (s : Session) (textures retiring doomed spares newest stamps : List ℕ
       go false q = refl
 
   pub open-done : outcome ≡ 0 → (p : Pool) (b : PacingBook) → p ≡ openedPool working → b ≡ openedBook
-      → SaysOnly Done (stateOf (record { sessionOpened = 1; taken = s .taken; pool = p; book = b; shape = s .shape }) textures retiring doomed spares newest stamps) (opens before working)
+      → SaysOnly Done (stateOf (record { opened = 1; taken = s .taken; pool = p; book = b; shape = s .shape }) textures retiring doomed spares newest stamps) (opens before working)
   unfolding SaysOnly opens InBuffers replyTold
   open-done z p b ep eb copies views = (tt, ap (λ (x : SessionState). (some done, x)) same ∙ go (sizesFit (before .lent)) outcome-here)
     where
-      same : stateOf (record { sessionOpened = 1; taken = s .taken; pool = p; book = b; shape = s .shape }) textures retiring doomed spares newest stamps ≡ openedState before working
+      same : stateOf (record { opened = 1; taken = s .taken; pool = p; book = b; shape = s .shape }) textures retiring doomed spares newest stamps ≡ openedState before working
       same = λ i. record {
-        sessionOpened = true;
+        opened = true;
         taken = eqb (s .taken) 1;
         shape = s .shape;
         lent = lent (ep i) (eb i) textures retiring doomed spares newest stamps;
@@ -124,7 +124,7 @@ module _ (a : Answer) (exit s : SessionState) (e : Event) (copies views : ℕ) (
       let t = s .taken in
       let h = s .shape in
       let l = s .lent in
-      let here : s ≡ sessionOpened t h l = λ i. record { sessionOpened = o i; taken = t; shape = h; lent = l } in (
+      let here : s ≡ sessionOpened t h l = λ i. record { opened = o i; taken = t; shape = h; lent = l } in (
         m .0,
         ap₂ (λ (r : Option Reply) (y : SessionState). (r, y)) (m .1) (x ∙ ap (sessionOpened (takenAfter true t e) (shapeAfter h e)) (m .2) ∙ sym (step-notes copies views t h l e))
             ∙ sym (ap (λ (y : SessionState). lineStep copies views y e) here),

@@ -1,4 +1,4 @@
--- What an event's call says and leaves is what its lineStep has. Assumes nothing.
+-- What an event's call says and leaves is what its step has. Assumes nothing.
 use Prim.Native.Nat.{ℕ}
 use mathlib.Core.Path.{_≡_, refl}
 use mathlib.Core.Bool.{Bool, true, false}
@@ -22,7 +22,7 @@ use Rattle.event_sessions.specs.Sessions.{SessionState, lineStep}
 use Rattle.event_sessions.specs.Parts.{sessionOpened, Stepped, takenAfter, shapeAfter}
 use Rattle.pool_books.specs.Lists.{between, doomedCall, drainCall, forgetCall, noteCall, parkCall, planCall, popCall, regenCall, retireCall, takeCall, trimCall, writeCall}
 
--- ---- the lineStep of an sessionOpened session
+-- ---- the step of an opened session
 
 module _ (copies views : ℕ) (taken : Bool) (shape : VersionShape) (l : Lent) (a : Answer) (copiesExit viewsExit : List ℕ) (exit : Lent) where
   -- an event's call was made, with buffers of so many numbers; a second `open` and an unread line have none
@@ -105,11 +105,11 @@ module _ (taken : Bool) (shape : VersionShape) (l : Lent) (copiesExit viewsExit 
   unfolding Stepped lineStep InBuffers replyTold
   untaken-stepped e id held slice level cover q t = rw (q, t) (tt, refl, refl)
 
--- what a lineStep notes of the line
+-- what a step notes of the line
 module _ (copies views : ℕ) (taken : Bool) (shape : VersionShape) (l : Lent) where
   abbrev noted : Event → SessionState
   noted e = record {
-    sessionOpened = true;
+    opened = true;
     taken = takenAfter true taken e;
     shape = shapeAfter shape e;
     lent = lineStep copies views (sessionOpened taken shape l) e .1 .lent;
@@ -133,6 +133,6 @@ module _ (copies views : ℕ) (taken : Bool) (shape : VersionShape) (l : Lent) w
   step-notes (Event.Plan id held slice level cover) = go taken
     where
       go : (t : Bool) → lineStep copies views (sessionOpened t shape l) (Event.Plan id held slice level cover) .1
-          ≡ record { sessionOpened = true; taken = t; shape = shape; lent = lineStep copies views (sessionOpened t shape l) (Event.Plan id held slice level cover) .1 .lent }
+          ≡ record { opened = true; taken = t; shape = shape; lent = lineStep copies views (sessionOpened t shape l) (Event.Plan id held slice level cover) .1 .lent }
       go true = refl
       go false = refl

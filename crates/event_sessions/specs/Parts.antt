@@ -34,14 +34,14 @@ noShape = record {
   alpha = 0;
 }
 
--- nothing sessionOpened
+-- nothing opened
 unfoldable pub freshSession : Session
-freshSession = record { sessionOpened = 0; taken = 0; pool = openedPool 0; book = openedBook; shape = noShape }
+freshSession = record { opened = 0; taken = 0; pool = openedPool 0; book = openedBook; shape = noShape }
 
--- ---- an sessionOpened session
+-- ---- an opened session
 
 abbrev pub sessionOpened : Bool → VersionShape → Lent → SessionState
-sessionOpened taken shape l = record { sessionOpened = true; taken = taken; shape = shape; lent = l }
+sessionOpened taken shape l = record { opened = true; taken = taken; shape = shape; lent = l }
 
 -- what is noted of the line: that it is a take line, as true or as 1
 abbrev pub takenAfter : {A : Type 0} → A → A → Event → A
@@ -78,14 +78,14 @@ shapeAfter latest Event.Unread = latest
 
 unfoldable pub sessionAfter : ℕ → VersionShape → Pool → PacingBook → Event → Session
 sessionAfter taken latest pool book e =
-    record { sessionOpened = 1; taken = takenAfter 1 taken e; pool = pool; book = book; shape = shapeAfter latest e }
+    record { opened = 1; taken = takenAfter 1 taken e; pool = pool; book = book; shape = shapeAfter latest e }
 
--- the answer of an event with buffers of so many numbers, and the stores at exit, are those of its lineStep
+-- the answer of an event with buffers of so many numbers, and the stores at exit, are those of its step
 unfoldable pub Stepped : ℕ → ℕ → SessionState → Event → Answer → List ℕ → List ℕ → Lent → Type 0
 Stepped copies views s e a copiesExit viewsExit exit =
     InBuffers a copiesExit viewsExit × (replyTold a copiesExit viewsExit ≡ lineStep copies views s e .0) × (exit ≡ lineStep copies views s e .1 .lent)
 
--- ---- a session that is not sessionOpened: its answers need no buffer
+-- ---- a session that is not opened: its answers need no buffer
 
 unfoldable pub SaysOnly : Answer → SessionState → Option Reply × SessionState → Type 0
 SaysOnly a exit r = (copies views : List ℕ) → InBuffers a copies views × ((replyTold a copies views, exit) ≡ r)
