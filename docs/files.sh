@@ -7,7 +7,8 @@
 #                            - docs/FILES.md is not what would be written,
 #                            - a file of specs/ begins with neither '-- Rule: ' nor '-- Helper: ',
 #                            - a rule uses a helper,
-#                            - a call lacks one of the files that have its name.
+#                            - a call lacks one of the files that have its name,
+#                            - a theorem of docs/THEOREMS.md is not in the file that its row names.
 #
 # The proof of a function stands in proofs/<module>/<function>/Proof.antt of its crate: it is counted and not listed. Lib.antt only lists a folder's
 # modules: it is neither.
@@ -199,10 +200,19 @@ check_call() {
     [ "$found" -eq 1 ] || echo "$call has $found files crates/pool_*/src/calls/$call.rt (pool_lent_pacing aside), not one"
 }
 
+# The rows of docs/THEOREMS.md: | `name` | `file below crates/` | sentence |
+check_theorems() {
+    local name file
+    while IFS=' ' read -r name file; do
+        grep -q "pub $name :" "crates/$file" 2>/dev/null || echo "docs/THEOREMS.md: crates/$file has no theorem $name"
+    done < <(sed -n 's/^| `\([^`]*\)` | `\([^`]*[.]antt\)` |.*/\1 \2/p' docs/THEOREMS.md)
+}
+
 if [ "${1:-}" = --check ]; then
     wrong=$(
         read_files marks
         for call in $calls; do check_call "$call"; done
+        check_theorems
         read_files list | cmp -s - docs/FILES.md || echo 'docs/FILES.md is not as docs/files.sh writes it: run docs/files.sh'
     )
     if [ -n "$wrong" ]; then
