@@ -19,10 +19,12 @@ export LC_ALL=C
 # The calls of the pool, by the Rust's method (`new` is `open` here).
 calls='open take_spare preserve_plan retire note_write note_mip_regeneration pop_retired park note_allocated take_doomed drain_versions trim forget_texture'
 
-# Where a call's file has another name than the call. CALL PLACE FILE: why.
+# Where a call's file has another name than the call. CALL PLACE FILE: why. One of several files, parted by '|', is enough.
 exceptions='
 open line crates/event_sessions/src/opening.rt: opening makes the session, so it is no call on one
-open code crates/pool/src/calls/open.rt: opening reads no store, so there is no second form for memory that forms a pool
+open any crates/pool_open/src/calls/open.rt|crates/pool/src/calls/open.rt: opening reads no store, so one form serves, which `pool` hands on
+open proof crates/pool_open/proofs/calls/open/open/Proof.antt|crates/pool/proofs/calls/open/open/Proof.antt: the same
+open code crates/pool_open/src/calls/open.rt|crates/pool/src/calls/open.rt: the same
 open definition openedPool: it answers the pool to begin with, and leaves the stores as they are
 open model opened: the same, on the model
 note_mip_regeneration rule crates/pool_rules/specs/NoteWrite.antt: both report writes to one history, and share its definitions
@@ -164,7 +166,11 @@ in_capitals() {
 }
 
 want_file() {
-    [ -f "$2" ] || echo "$1 lacks $2"
+    local file
+    for file in ${2//|/ }; do
+        [ ! -f "$file" ] || return 0
+    done
+    echo "$1 lacks ${2//|/ or }"
 }
 
 want_definition() {
@@ -172,19 +178,21 @@ want_definition() {
 }
 
 check_call() {
-    local call=$1 capitals definition model line rule code found file
+    local call=$1 capitals definition model line rule code any proof found file
     capitals=$(in_capitals "$call")
     line=$(excepted "$call" line)
     rule=$(excepted "$call" rule)
     code=$(excepted "$call" code)
+    any=$(excepted "$call" any)
+    proof=$(excepted "$call" proof)
     definition=$(excepted "$call" definition)
     model=$(excepted "$call" model)
     rule=${rule:-crates/pool_rules/specs/$capitals.antt}
     want_file "$call" "$rule"
     want_definition "$call" "${model:-${capitals,}}" "$rule"
     want_definition "$call" "${definition:-${capitals,}On}" crates/pool_memory/specs/Calls.antt
-    want_file "$call" "crates/pool/src/calls/$call.rt"
-    want_file "$call" "crates/pool/proofs/calls/$call/$call/Proof.antt"
+    want_file "$call" "${any:-crates/pool/src/calls/$call.rt}"
+    want_file "$call" "${proof:-crates/pool/proofs/calls/$call/$call/Proof.antt}"
     want_file "$call" "${line:-crates/event_calls/src/calls/$call.rt}"
     if [ -n "$code" ]; then
         want_file "$call" "$code"
