@@ -49,7 +49,7 @@ copyRow n c = row n (digitsOf (c .slice) ∷ digitsOf (c .level) ∷ regionField
 unfoldable pub viewRow : ℕ → ℕ → List ℕ
 viewRow n view = row n (digitsOf view ∷ [])
 
--- an acceptedText call's line: outcome 0 and its fields
+-- an accepted call's line: outcome 0 and its fields
 abbrev pub acceptedRow : ℕ → List (List ℕ) → List ℕ
 acceptedRow n fields = row n (acceptedText ∷ fields)
 

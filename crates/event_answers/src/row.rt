@@ -46,7 +46,7 @@ pub fn put_words(out: &mut [u8], at: usize, number: u64, words: &[u8]) -> usize
     put_text(out, start, words)
 }
 
-// The number and the outcome of an acceptedText call's line.
+// The number and the outcome of an accepted call's line.
 pub fn put_accepted(out: &mut [u8], at: usize, number: u64) -> usize
     requires { ⌜ at + 22 ≤ length (now out) ⌝ }
     ensures { λ r. ⌜ (r ≤ at + 22) × Put (now (out .entry)) at (digitsOf number ++ (comma ∷ acceptedText)) r (now (out .exit)) ⌝ }
@@ -57,7 +57,7 @@ pub fn put_accepted(out: &mut [u8], at: usize, number: u64) -> usize
     start + 2
 }
 
-// An acceptedText call's line of one number.
+// An accepted call's line of one number.
 pub fn put_count(out: &mut [u8], at: usize, number: u64, n: u64) -> usize
     requires { ⌜ at + 44 ≤ length (now out) ⌝ }
     ensures { λ r. ⌜ (r ≤ at + 44) × Put (now (out .entry)) at (acceptedRow number (digitsOf n ∷ [])) r (now (out .exit)) ⌝ }
@@ -66,7 +66,7 @@ pub fn put_count(out: &mut [u8], at: usize, number: u64, n: u64) -> usize
     put_last(out, start, n)
 }
 
-// An acceptedText call's line of two numbers.
+// An accepted call's line of two numbers.
 pub fn put_pair(out: &mut [u8], at: usize, number: u64, a: u64, b: u64) -> usize
     requires { ⌜ at + 65 ≤ length (now out) ⌝ }
     ensures { λ r. ⌜ Put (now (out .entry)) at (acceptedRow number (digitsOf a ∷ digitsOf b ∷ [])) r (now (out .exit)) ⌝ }

@@ -1,4 +1,4 @@
-// The call of an sessionOpened session's event.
+// The call of an opened session's event.
 ghost use mathlib.Core.Path.{_≡_};
 ghost use mathlib.Core.Bool.{true};
 ghost use lib.ListN.{length};

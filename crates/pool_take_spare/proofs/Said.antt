@@ -158,7 +158,7 @@ module _ (l : Lent) (i id : ℕ) (shape : VersionShape) (records : Bool) (seq : 
                   ∙ ap (begunRefusal (modelOf l) shape records) (eo ∙ ap recordPages is-record ∙ sym (pages-at l i (here .0)))
                   ∙ sym (ap (λ (c : Bool). cond c 0 (begunRefusal (modelOf l) shape records (pagesUsed (stateOf l i)))) y) ∙ by-shape q e
 
-  -- a refusedWith is what the call says, and nothing changes
+  -- a refusal is what the call says, and nothing changes
   pub refused-call : (n : ℕ) → n ≡ said → (n ≡ 0 → ⊥) → (refusedWith n, l) ≡ takeSpareOn l id shape records seq
   unfolding takeSpareOn
   refused-call n e other =
