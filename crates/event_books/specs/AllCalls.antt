@@ -1,5 +1,5 @@
--- A text with all twelve calls, line by line: refused calls, lines that make no call, renames that a refusal ends, two shapes, a spare that lacks one
--- tile, one whose held writes are unknown, a covered level, and a last line without its line feed.
+-- Rule: A text with all twelve calls, line by line: refused calls, lines that make no call, renames that a refusal ends, two shapes, a spare that lacks
+-- one tile, one whose held writes are unknown, a covered level, and a last line without its line feed.
 --
 -- It is refused with 2, 3, 6, 8, 9 and 10. These stores are never refused with 1; a rename's plan has its take's shape and is never refused with 4; no
 -- answer of this program is too long (11), since a plan has at most 90 copies and there are 64 versions; 5, 7 and 12 need many more lines.

@@ -1,4 +1,4 @@
--- The bytes of a text in quotation marks, so that the witnesses can be read.
+-- Rule: The bytes of a text in quotation marks, so that the witnesses can be read.
 use Prim.Native.Nat.{ℕ}
 use Prim.Native.Char.{code}
 use Prim.Native.String.{String, [] as end, _∷_ as _then_}

@@ -1,4 +1,5 @@
--- Demand 3 of a text that comes in blocks: no cutting of it shows. That the books agree is said of the text's lines and does not ask how it came.
+-- Rule: Demand 3 of a text that comes in blocks: however the text is cut, the output is the same. That the books agree is said of the text's lines, which
+-- no cutting changes.
 use Prim.Native.Nat.{ℕ}
 use mathlib.Core.Path.{_≡_}
 use mathlib.Core.Option.{none}

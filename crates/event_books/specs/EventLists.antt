@@ -1,4 +1,4 @@
--- Demand 3 of a text (01, "Two books" and "Upload rectangle, event program"): the calls that a text's lines make, both books along them, and the claim.
+-- Rule: Demand 3 of a text (01, "Two books", "Upload rectangle, event program"): the calls that its lines make, both books along them, and the claim.
 --
 -- On the claim's left stands the program: `textOutput` is what its lines print, run one after the other on the lent memory. On its right stand the two
 -- books. They are fed the lines' events and know of the lent memory its `Room` alone, which the lengths of the stores decide (`RoomByLengths`). So what

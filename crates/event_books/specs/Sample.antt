@@ -1,4 +1,4 @@
--- 01's sample of the event program, line by line, with what it prints.
+-- Rule: 01's sample of the event program, line by line, with what it prints.
 use mathlib.Core.Bool.{true, false}
 use mathlib.Core.List.{List, [], _∷_}
 use Rattle.pool_rules.specs.declared.held.Held.the-variants.{Known, Unknown}

@@ -1,4 +1,4 @@
--- What is shown of a witness of demand 3, a text that meets the claim's hypothesis on the event program's stores.
+-- Rule: What is shown of a witness of demand 3, a text that meets the claim's hypothesis on the event program's stores.
 use Prim.Native.Nat.{ℕ, _*_}
 use Prim.Native.String.{String}
 use mathlib.Core.Path.{_≡_}
