@@ -1,8 +1,8 @@
--- `no_pool` meets its contract. Assumes nothing.
+-- `opened_pool` meets its contract. Assumes nothing.
 use borrow.Author.Needs.{needs}
 use Rattle.pool_memory.specs.Calls.{openedPool}
-use Rattle.event_sessions.proofs.beginning.no_pool.Statement.{statement}
-use Rattle.event_sessions.proofs.beginning.no_pool.Tie as tie
+use Rattle.pool_open.proofs.calls.open.opened_pool.Statement.{statement}
+use Rattle.pool_open.proofs.calls.open.opened_pool.Tie as tie
 
 from-working-set-requires : tie.Need-from-working-set-requires
 from-working-set-requires c κs = search needs
@@ -26,5 +26,5 @@ returns c = λ i. record {
   line = c .from-working-set .ensures i .line;
 }
 
-pub no-pool-spec : {M : Type 1} → statement M
-no-pool-spec = tie.close (tie.spec from-working-set-requires returns)
+pub opened-pool-spec : {M : Type 1} → statement M
+opened-pool-spec = tie.close (tie.spec from-working-set-requires returns)

@@ -1,9 +1,9 @@
 -- The sizes are the lengths' alone. Assumes nothing.
 use mathlib.Core.Path.{sym, _∙_}
-use Rattle.pool_formed.proofs.Parts.{sizes-lengths}
+use Rattle.pool_open.proofs.Sizes.{sizes-lengths}
 use borrow.Author.Needs.{needs}
-use Rattle.pool_formed.proofs.sizes.sizes_fit.Statement.{statement}
-use Rattle.pool_formed.proofs.sizes.sizes_fit.Tie as tie
+use Rattle.pool_open.proofs.calls.sizes_fit.sizes_fit.Statement.{statement}
+use Rattle.pool_open.proofs.calls.sizes_fit.sizes_fit.Tie as tie
 
 lengths-fit-requires : tie.Need-lengths-fit-requires
 lengths-fit-requires c κs = search needs

@@ -3,8 +3,8 @@ use mathlib.Core.Path.{sym}
 use native.Mathlib.Omega.{arith}
 use Rattle.pool_formed.proofs.NumberTests.{too-full, too-many, counts-test}
 use borrow.Author.Needs.{needs}
-use Rattle.pool_formed.proofs.sizes.counts_fit.Statement.{statement}
-use Rattle.pool_formed.proofs.sizes.counts_fit.Tie as tie
+use Rattle.pool_formed.proofs.counts_fit.counts_fit.Statement.{statement}
+use Rattle.pool_formed.proofs.counts_fit.counts_fit.Tie as tie
 
 returns : tie.Need-returns
 returns c = sym (too-full _ _ _ _ (omega (arith, c .if1 .taken)))

@@ -2,21 +2,21 @@
 ghost use mathlib.Core.Path.{_≡_};
 ghost use Rattle.pool_memory.specs.Lent.{atEntry};
 ghost use Rattle.pool_memory.specs.Calls.{openNumber, openedPool, openedBook};
-use pool_formed::sizes_fit;
+use crate::calls::sizes_fit::sizes_fit;
 use pool_memory::PacingBook;
 use pool_memory::Pool;
 use pool_rules::DESTROY_SPREAD_DRAINS;
 use pool_rules::VersionBudget;
 
-// 01's number, 0 if the pool was opened, and the pool and pacing book to begin with.
+// Holds 01's number, 0 if the pool was opened, and the pool and the pacing book to begin with.
 pub struct OpenAnswer {
     pub outcome: u64,
     pub pool: Pool,
     pub book: PacingBook,
 }
 
-// Nothing tracked, nothing queued, with the budget of a working set.
-fn opened_pool(working: u64) -> Pool
+// Returns a pool with nothing tracked and nothing queued, and the budget of a working set.
+pub fn opened_pool(working: u64) -> Pool
     ensures { λ r. ⌜ r ≡ openedPool working ⌝ }
 {
     let budget = VersionBudget::from_working_set(working);
@@ -38,7 +38,8 @@ fn opened_pool(working: u64) -> Pool
     }
 }
 
-fn opened_book() -> PacingBook
+// Returns the pacing book of a pool in which nothing was queued for destruction yet.
+pub fn opened_book() -> PacingBook
     ensures { λ r. ⌜ r ≡ openedBook ⌝ }
 {
     PacingBook {
@@ -49,7 +50,7 @@ fn opened_book() -> PacingBook
     }
 }
 
-// The slices are lent to be measured: whatever they hold is free, and stays.
+// Opens a pool. The slices are lent to be measured: whatever they hold is free, and stays.
 pub fn open(
     working: u64,
     textures: &[u64],

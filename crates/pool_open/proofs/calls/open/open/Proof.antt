@@ -3,9 +3,9 @@ use borrow.Author.Needs.{needs}
 use mathlib.Core.Path.{sym, _∙_}
 use Rattle.pool_memory.specs.Lent.{lent}
 use Rattle.pool_memory.specs.Calls.{openedPool, openedBook}
-use Rattle.pool.proofs.Asking.{opened, not-opened}
-use Rattle.pool.proofs.calls.open.open.Statement.{statement}
-use Rattle.pool.proofs.calls.open.open.Tie as tie
+use Rattle.pool_open.proofs.Sizes.{opened, not-opened}
+use Rattle.pool_open.proofs.calls.open.open.Statement.{statement}
+use Rattle.pool_open.proofs.calls.open.open.Tie as tie
 
 sizes-fit-requires : tie.Need-sizes-fit-requires
 sizes-fit-requires c κs = search needs

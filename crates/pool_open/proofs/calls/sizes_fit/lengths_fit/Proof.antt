@@ -1,16 +1,14 @@
 -- `lengths_fit` meets its contract. Assumes nothing.
 use mathlib.Core.Path.{refl, sym}
-use borrow.Author.Tests.{lt-leb}
 use Rattle.base_blocks.specs.Lists.{tests, after}
-use Rattle.pool_formed.specs.Parts.{lengthsFit}
-use Rattle.pool_formed_textures.proofs.Tests.{fails}
+use Rattle.pool_open.specs.Lengths.{lengthsFit}
+use Rattle.pool_open.proofs.Sizes.{too-many-pages}
 use borrow.Author.Needs.{needs}
-use Rattle.pool_formed.proofs.sizes.lengths_fit.Statement.{statement}
-use Rattle.pool_formed.proofs.sizes.lengths_fit.Tie as tie
+use Rattle.pool_open.proofs.calls.sizes_fit.lengths_fit.Statement.{statement}
+use Rattle.pool_open.proofs.calls.sizes_fit.lengths_fit.Tie as tie
 
 returns : tie.Need-returns
-unfolding lengthsFit
-returns c = sym (fails _ 4 (lt-leb _ _ (c .if1 .taken)))
+returns c = sym (too-many-pages _ _ _ _ _ _ (c .if1 .taken))
 
 mul-result : tie.Need-mul-result
 mul-result c = search needs

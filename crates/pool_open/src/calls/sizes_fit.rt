@@ -1,21 +1,19 @@
-// The lengths of the lent slices, and the counts against the places that they have.
+// The sizes of the lent slices.
 ghost use mathlib.Core.Path.{_≡_};
-ghost use Prim.Native.Nat.{_≤_};
-ghost use Rattle.pool_memory.specs.declared.pool.Pool.{Pool as Counts};
+ghost use Rattle.pool_memory.specs.declared.pool.Pool.{Pool};
 ghost use Rattle.pool_memory.specs.declared.book.PacingBook.{PacingBook};
 ghost use Rattle.pool_memory.specs.Lent.{atEntry};
 ghost use Rattle.pool_memory.specs.IsPool.{sizesFit};
-ghost use Rattle.pool_formed.specs.Parts.{lengthsFit, placesHold};
-ghost use Rattle.pool_rules.specs.RuleConstants.{mostPlaces};
+ghost use Rattle.pool_open.specs.Lengths.{lengthsFit};
 use grid_stamps::PAGE_STAMPS;
-use pool_memory::Pool;
 use pool_records::DOOMED_STRIDE;
 use pool_records::RETIRING_STRIDE;
 use pool_records::SPARE_STRIDE;
 use pool_records::TEXTURE_STRIDE;
 use pool_rules::MOST_PLACES;
 
-// The slices are of whole places, as many as may be lent, and fit together.
+// Tests that the slices are of whole places, as many as may be lent, and fit together. The pages are tested first, so that the number of
+// their stamps cannot pass a word.
 fn lengths_fit(
     textures: usize,
     retiring: usize,
@@ -43,7 +41,7 @@ fn lengths_fit(
         & (stamps == PAGE_STAMPS * newest)
 }
 
-// The lent slices have the sizes that a pool needs, whatever its counts are.
+// Tests that the lent slices have the sizes that a pool needs, whatever its counts are.
 pub fn sizes_fit(
     textures: &[u64],
     retiring: &[u64],
@@ -52,7 +50,7 @@ pub fn sizes_fit(
     newest: &[u64],
     stamps: &[u64],
 ) -> bool
-    ensures { λ r. ⌜ ((pool : Counts) (book : PacingBook)
+    ensures { λ r. ⌜ ((pool : Pool) (book : PacingBook)
         → r ≡ sizesFit (atEntry pool book textures retiring doomed spares newest stamps)) ⌝ }
 {
     lengths_fit(
@@ -63,28 +61,4 @@ pub fn sizes_fit(
         newest.len(),
         stamps.len(),
     )
-}
-
-// The counts fit their places. Each is tested before it is added, so that no sum can pass a word.
-pub fn counts_fit(pool: Pool, places: usize, versions: usize, pages: usize) -> bool
-    requires { ⌜ versions ≤ mostPlaces ⌝ }
-    ensures { λ r. ⌜ r ≡ placesHold pool places versions pages ⌝ }
-{
-    if pool.popped > 1 {
-        return false;
-    }
-    if pool.queued > versions {
-        return false;
-    }
-    if pool.kept > versions {
-        return false;
-    }
-    if pool.doomed > versions {
-        return false;
-    }
-    (pool.tracked <= places)
-        & (pool.head < versions)
-        & (pool.first < versions)
-        & (pool.queued + pool.popped + pool.kept + pool.doomed <= versions)
-        & (pool.pages <= pages)
 }

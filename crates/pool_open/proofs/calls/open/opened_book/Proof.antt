@@ -1,8 +1,8 @@
 -- `opened_book` meets its contract. Assumes nothing.
 use mathlib.Core.Path.{refl}
 use Rattle.pool_memory.specs.Calls.{openedBook}
-use Rattle.pool.proofs.calls.open.opened_book.Statement.{statement}
-use Rattle.pool.proofs.calls.open.opened_book.Tie as tie
+use Rattle.pool_open.proofs.calls.open.opened_book.Statement.{statement}
+use Rattle.pool_open.proofs.calls.open.opened_book.Tie as tie
 
 returns : tie.Need-returns
 unfolding openedBook
