@@ -10,7 +10,7 @@ use crate::called::Called;
 use pool_memory::PacingBook;
 use pool_memory::Pool;
 
-// Notes that every level but the first was made anew.
+// Notes that every level but the first was made again.
 pub fn call_note_mip_regeneration(
     pool: Pool,
     book: PacingBook,

@@ -1,4 +1,4 @@
-// drain_versions: every version that waits for anything, handed back at once.
+// drain_versions: every retiring version, queued destroy and spare is handed back; the textures stay tracked.
 ghost use mathlib.Core.Path.{_≡_};
 ghost use mathlib.Core.Bool.{true};
 ghost use Prim.Native.Nat.{_+_, _*_, _≤_, _<_};
@@ -126,8 +126,8 @@ fn drained_book(book: PacingBook) -> PacingBook
     }
 }
 
-// Hands back the versions of the queue, then of the destroy queue, then the spares. The version in the hand stays, since its caller
-// has it.
+// Hands back the versions of the queue, then of the destroy queue, then the spares: for a reset and the shutdown, whose caller
+// waits for the GPU to go idle before it destroys them. The version in the hand stays, since its caller has it.
 pub fn drain_versions(
     pool: Pool,
     book: PacingBook,
