@@ -78,7 +78,7 @@ planRefusal shape found u count room =
 
 -- ---- the answer
 
--- how many copies, or 01's number of a refusedWith
+-- how many copies, or 01's number of a refusal
 abbrev pub plannedTold : PlanAnswer → Told ℕ
 plannedTold (Copies n) = answer n
 plannedTold (Refused n) = refusedWith n

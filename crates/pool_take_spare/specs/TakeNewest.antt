@@ -19,7 +19,7 @@ use Rattle.pool_records.specs.Texture.{writeTexture, textureIn, texturesIn}
 use Rattle.pool_memory.specs.declared.pool.Pool.{Pool}
 use Rattle.pool_memory.specs.Calls.{Told, answer, TakenVersion}
 
--- its record after the rename: that many spares are left
+-- its record after the rename: `left` spares are left
 abbrev pub renamedRecord : ℕ → ℕ → TextureRecord → TextureRecord
 renamedRecord seq left t = record {
   id = t .id;
