@@ -82,7 +82,7 @@ fn regenerate_page(
 
 // Returns the level of the page after one of this level: after the last comes the next slice's first.
 fn next_level(level: u64, levels: u64) -> u64
-    requires { ⌜ (level < levels) × (levels ≤ 15) ⌝ }
+    requires { ⌜ level < levels ⌝ }
     ensures { λ r. ⌜ r ≡ (level + 1) % levels ⌝ }
 {
     if level + 1 < levels { level + 1 } else { 0 }
