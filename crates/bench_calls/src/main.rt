@@ -6,7 +6,7 @@ mod totals;
 
 use bench_work::argument;
 
-// Memory for as many places as may be lent.
+// Runs the rounds on memory for as many places as may be lent.
 fn bench(t: usize, v: usize, p: usize, rounds: u64) {
     if t > 4096 {
         return;
@@ -39,7 +39,7 @@ fn bench(t: usize, v: usize, p: usize, rounds: u64) {
     );
 }
 
-// Two arguments, for as many versions and pages as textures, or four.
+// Takes two arguments, for as many versions and pages as textures, or four.
 fn main() {
     let n = os::arg_count();
     if n < 3 {

@@ -15,6 +15,7 @@ use bench_work::write_all;
 use pool_memory::PacingBook;
 use pool_memory::Pool;
 
+// The pool after the first phases, and what each took.
 pub struct Renamed {
     pub pool: Pool,
     pub copies: u64,
@@ -24,6 +25,7 @@ pub struct Renamed {
     pub write: u64,
 }
 
+// Renames every texture, a loop over the textures for each kind of call.
 pub fn rename_round(
     pool: Pool,
     book: PacingBook,
@@ -108,6 +110,7 @@ pub fn rename_round(
     }
 }
 
+// The pool after the last phases, and what each took.
 pub struct Drained {
     pub pool: Pool,
     pub book: PacingBook,
@@ -116,6 +119,7 @@ pub struct Drained {
     pub trim: u64,
 }
 
+// Looks after the pool: notes, takes of doomed versions and trims.
 pub fn drain_round(
     pool: Pool,
     book: PacingBook,

@@ -25,13 +25,14 @@ use pool_records::RETIRING_STRIDE;
 use pool_records::SPARE_STRIDE;
 use pool_records::TEXTURE_STRIDE;
 
+// The pool, the book and the totals after a round.
 struct Round {
     pool: Pool,
     book: PacingBook,
     totals: Totals,
 }
 
-// Every second round has its pops timed one by one. Of the last kinds it makes 8 calls.
+// Runs a round. Every second one has its pops timed one by one. Of the last kinds it makes 8 calls.
 fn run_round(
     pool: Pool,
     book: PacingBook,
@@ -101,7 +102,7 @@ fn run_round(
     }
 }
 
-// The rounds on a pool just opened, if the memory is enough for one.
+// Runs the rounds on a pool just opened, if the memory is enough for one.
 fn run(
     textures: &mut [u64],
     retiring: &mut [u64],
@@ -155,7 +156,7 @@ fn run(
     );
 }
 
-// Of the memory given, the parts that the places asked for take are lent.
+// Lends, of the memory given, the parts that the places asked for take, and runs the rounds on them.
 pub fn run_part(
     textures: &mut [u64],
     retiring: &mut [u64],

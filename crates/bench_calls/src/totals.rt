@@ -19,6 +19,7 @@ pub struct Totals {
     pub copies: u64,
 }
 
+// Returns totals of no rounds.
 pub fn no_totals() -> Totals {
     Totals {
         take: 0,
@@ -35,7 +36,7 @@ pub fn no_totals() -> Totals {
     }
 }
 
-// The first rounds, in which the textures become tracked, do not count.
+// Returns the totals, set back to nothing in the first rounds, in which the textures become tracked.
 pub fn counted(t: Totals, seq: u64) -> Totals {
     if seq <= 8 {
         return no_totals();
@@ -43,6 +44,7 @@ pub fn counted(t: Totals, seq: u64) -> Totals {
     t
 }
 
+// Adds the first phases of a round.
 pub fn renamed_in(t: Totals, r: Renamed) -> Totals {
     let mut u = t;
     u.take = wrapping_add_u64(t.take, r.take);
@@ -53,6 +55,7 @@ pub fn renamed_in(t: Totals, r: Renamed) -> Totals {
     u
 }
 
+// Adds the pops and parks of a round.
 pub fn settled_in(t: Totals, s: Settled, timed: bool) -> Totals {
     let mut u = t;
     if timed {
@@ -64,6 +67,7 @@ pub fn settled_in(t: Totals, s: Settled, timed: bool) -> Totals {
     u
 }
 
+// Adds the last phases of a round.
 pub fn drained_in(t: Totals, d: Drained) -> Totals {
     let mut u = t;
     u.note = wrapping_add_u64(t.note, d.note);

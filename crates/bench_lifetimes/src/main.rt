@@ -8,7 +8,7 @@ mod totals;
 
 use bench_work::argument;
 
-// Memory for as many places as may be lent.
+// Runs the rounds on memory for as many places as may be lent.
 fn bench(t: usize, p: usize, levels: u64, rounds: u64) {
     if t > 4096 {
         return;
@@ -38,7 +38,7 @@ fn bench(t: usize, p: usize, levels: u64, rounds: u64) {
     );
 }
 
-// Four levels a texture where the pages are enough, else one.
+// Takes two arguments. A texture has four levels where the pages are enough, else one.
 fn main() {
     if os::arg_count() < 3 {
         return;

@@ -1,5 +1,5 @@
-// The phases that this program alone has: the textures' levels regenerated, the versions handed out, the textures forgotten. Each has the
-// time that it took.
+// The phases that this program alone has: the textures' levels regenerated, the versions handed back, the textures forgotten. Each
+// has the time that it took.
 ghost use mathlib.Core.Path.{_≡_};
 ghost use mathlib.Core.Bool.{true};
 ghost use Rattle.pool_memory.specs.Lent.{lentBy, atExit};
@@ -14,11 +14,13 @@ use pool_note_write::note_mip_regeneration;
 use pool_take_doomed::Handed;
 use pool_take_doomed::drain_versions;
 
+// The pool after a phase, and what it took.
 pub struct Phase {
     pub pool: Pool,
     pub time: u64,
 }
 
+// Notes a regeneration of every texture.
 pub fn regenerate_all(
     pool: Pool,
     book: PacingBook,
@@ -58,7 +60,7 @@ pub fn regenerate_all(
     }
 }
 
-// The pool after its versions were handed out, and how many they were.
+// The pool after its versions were handed back, and how many they were.
 pub struct Emptied {
     pub pool: Pool,
     pub book: PacingBook,
@@ -66,6 +68,7 @@ pub struct Emptied {
     pub time: u64,
 }
 
+// Returns how many views were handed back.
 fn handed_number(handed: Handed) -> u64 {
     match handed {
         Handed::Views(n) => n as u64,
@@ -73,6 +76,7 @@ fn handed_number(handed: Handed) -> u64 {
     }
 }
 
+// Drains the pool of its versions.
 pub fn hand_out(
     pool: Pool,
     book: PacingBook,
@@ -111,6 +115,7 @@ pub fn hand_out(
     }
 }
 
+// Forgets every texture.
 pub fn forget_all(
     pool: Pool,
     book: PacingBook,

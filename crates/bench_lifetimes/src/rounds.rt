@@ -1,4 +1,5 @@
-// A round: every texture is renamed and regenerated, and its versions are handed out. In the last of a lifetime every texture is forgotten.
+// A round: every texture is renamed and regenerated, and its versions are handed back. In the last of a lifetime every texture is
+// forgotten.
 ghost use mathlib.Core.Path.{_≡_};
 ghost use mathlib.Core.Bool.{true};
 ghost use Rattle.pool_memory.specs.Lent.{lentBy, atExit};
@@ -19,7 +20,7 @@ use bench_work::take_all;
 use pool_memory::PacingBook;
 use pool_memory::Pool;
 
-// Every texture tracked and a version of it retired, with the time that the takes took.
+// Takes every texture's spare, so that it becomes tracked, and retires a version of it. The takes are timed.
 fn rename_all(
     pool: Pool,
     book: PacingBook,
@@ -71,12 +72,14 @@ fn rename_all(
     }
 }
 
+// The pool, the book and the totals after a round.
 pub struct Round {
     pub pool: Pool,
     pub book: PacingBook,
     pub took: Totals,
 }
 
+// Runs a round.
 pub fn run_round(
     pool: Pool,
     book: PacingBook,

@@ -13,7 +13,7 @@ use pool_records::RETIRING_STRIDE;
 use pool_records::SPARE_STRIDE;
 use pool_records::TEXTURE_STRIDE;
 
-// Nothing is done where the memory is not enough for a pool.
+// Runs the rounds on a pool just opened. Nothing is done where the memory is not enough for one.
 fn run(
     textures: &mut [u64],
     retiring: &mut [u64],
@@ -58,7 +58,7 @@ fn run(
     report(totals, counts, n, rounds);
 }
 
-// Of the memory given, the parts that t textures and versions and p pages take are lent.
+// Lends, of the memory given, the parts that t textures and versions and p pages take, and runs the rounds on them.
 pub fn run_part(
     textures: &mut [u64],
     retiring: &mut [u64],

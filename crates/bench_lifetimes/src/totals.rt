@@ -1,7 +1,7 @@
 // What all rounds took, kind by kind, and what was done.
 use std::num::wrapping_add_u64;
 
-// `take` is of textures that were not tracked, `versions` counts those handed out, `pages` those in use when they were.
+// `take` is of textures that were not tracked, `versions` counts those handed back, `pages` those in use when they were.
 pub struct Totals {
     pub take: u64,
     pub regenerate: u64,
@@ -11,6 +11,7 @@ pub struct Totals {
     pub pages: u64,
 }
 
+// Returns totals of no rounds.
 pub fn no_totals() -> Totals {
     Totals {
         take: 0,
@@ -22,7 +23,7 @@ pub fn no_totals() -> Totals {
     }
 }
 
-// The first lifetime, in which the memory is touched for the first time, does not count.
+// Returns the totals, set back to nothing in the first lifetime, in which the memory is touched for the first time.
 pub fn counted(t: Totals, seq: u64) -> Totals {
     if seq <= 17 {
         return no_totals();
@@ -30,7 +31,7 @@ pub fn counted(t: Totals, seq: u64) -> Totals {
     t
 }
 
-// A lifetime is 16 rounds. Its first takes are of textures that are not tracked.
+// Returns the time if the round is the first of a lifetime, which is 16 rounds: its takes are of textures that are not tracked.
 pub fn if_first(seq: u64, time: u64) -> u64 {
     if seq % 16 == 1 {
         return time;
@@ -38,6 +39,7 @@ pub fn if_first(seq: u64, time: u64) -> u64 {
     0
 }
 
+// Returns the time if the round is the last of a lifetime.
 pub fn if_last(seq: u64, time: u64) -> u64 {
     if seq % 16 == 0 {
         return time;
@@ -45,7 +47,7 @@ pub fn if_last(seq: u64, time: u64) -> u64 {
     0
 }
 
-// How many of n textures are forgotten in a round: all in the last of a lifetime.
+// Returns how many of n textures are forgotten in a round: all in the last of a lifetime.
 pub fn forgotten_in(seq: u64, n: usize) -> usize {
     if seq % 16 == 0 {
         return n;
@@ -53,6 +55,7 @@ pub fn forgotten_in(seq: u64, n: usize) -> usize {
     0
 }
 
+// Returns both totals together.
 pub fn added(t: Totals, u: Totals) -> Totals {
     Totals {
         take: wrapping_add_u64(t.take, u.take),

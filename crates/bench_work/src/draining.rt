@@ -21,7 +21,7 @@ pub struct Pops {
     pub time: u64,
 }
 
-// n versions popped and parked, one after the other; with the clock read before and after every pop where that is asked.
+// Pops and parks n versions, one after the other; with the clock read before and after every pop where that is asked.
 pub fn settle_all(
     pool: Pool,
     book: PacingBook,
@@ -80,6 +80,7 @@ pub struct Settled {
     pub pops: u64,
 }
 
+// Pops and parks what a round retired.
 pub fn settle_round(
     pool: Pool,
     book: PacingBook,
@@ -119,12 +120,13 @@ pub fn settle_round(
     }
 }
 
+// The pool and the book after it.
 pub struct Noted {
     pub pool: Pool,
     pub book: PacingBook,
 }
 
-// Far below the pressure line.
+// Notes n times that bytes far below the pressure line are allocated.
 pub fn note_all(
     pool: Pool,
     book: PacingBook,
@@ -164,7 +166,7 @@ pub fn note_all(
     }
 }
 
-// Nothing is to be destroyed, so any buffer is enough for the views.
+// Takes doomed versions n times. Nothing is to be destroyed, so that any buffer is enough for the views.
 pub fn doomed_all(
     pool: Pool,
     book: PacingBook,
@@ -205,6 +207,7 @@ pub fn doomed_all(
     }
 }
 
+// Trims the pool n times.
 pub fn trim_all(
     pool: Pool,
     book: PacingBook,

@@ -6,7 +6,7 @@ ghost use Rattle.pool_memory.specs.IsPool.{isPool};
 use pool::OpenAnswer;
 use pool::open;
 
-// A working set of 16 GiB, so that nothing is pressed.
+// Opens a pool with a working set of 16 GiB, so that nothing is pressed.
 pub fn open_work(
     textures: &[u64],
     retiring: &[u64],

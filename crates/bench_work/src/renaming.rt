@@ -19,7 +19,7 @@ use pool_preserve_plan::preserve_plan;
 use pool_retire::retire;
 use pool_take_spare::take_spare;
 
-// Each texture's spare is taken, or its tracking begun. What the spare holds is kept for its plan.
+// Takes each texture's spare, or begins its tracking. What the spare holds is kept for its plan.
 pub fn take_all(
     pool: Pool,
     book: PacingBook,
@@ -64,7 +64,7 @@ pub fn take_all(
     counts
 }
 
-// The answer counts the copies: one a plan at most, for a texture has one level.
+// Plans each texture's copies and counts them: one a plan at most, since a texture has one level.
 pub fn plan_all(
     pool: Pool,
     book: PacingBook,
@@ -109,6 +109,7 @@ pub fn plan_all(
     sum
 }
 
+// Retires each texture's version.
 pub fn retire_all(
     pool: Pool,
     book: PacingBook,
@@ -147,6 +148,7 @@ pub fn retire_all(
     counts
 }
 
+// Notes a write to each texture.
 pub fn write_all(
     pool: Pool,
     book: PacingBook,

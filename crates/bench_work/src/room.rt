@@ -1,25 +1,31 @@
 // Memory for 4,096 places of each kind.
 
+// Returns places for textures.
 pub fn texture_places() -> [u64; 81920] {
     [0; 81920]
 }
 
+// Returns places for retiring versions.
 pub fn retiring_places() -> [u64; 28672] {
     [0; 28672]
 }
 
+// Returns places for versions to be destroyed.
 pub fn doomed_places() -> [u64; 8192] {
     [0; 8192]
 }
 
+// Returns places for spares.
 pub fn spare_places() -> [u64; 12288] {
     [0; 12288]
 }
 
+// Returns places for the stamps of all pages.
 pub fn stamp_places() -> [u64; 4194304] {
     [0; 4194304]
 }
 
+// Returns a number for each place: newest stamps, held writes or views.
 pub fn numbers() -> [u64; 4096] {
     [0; 4096]
 }
