@@ -13,3 +13,6 @@ pub mod Places
 pub mod Answers
 pub mod LentLists
 pub mod Sample
+pub mod Along
+pub mod Shown
+pub mod Refuted
