@@ -10,7 +10,7 @@ use Rattle.pool_rules.specs.Model.{Places}
 use Rattle.pool_memory.specs.Lent.{Lent, versionPlaces}
 use Rattle.pool_memory.specs.Reading.{modelOf}
 use Rattle.pool_memory.specs.IsPool.{sizesFit}
-use Rattle.pool_books.specs.Lists.{RenamesOf, State as Books, Renames, start}
+use Rattle.pool_books.specs.Lists.{State as Books, Renames, start}
 use Rattle.pool_books.specs.Demand3.{Reply, refusal, done, ThroughoutOf}
 use Rattle.pool_books.specs.LentLists.{LentCall, roomOf, lentCall, openedLent, Demand3Lent}
 use Rattle.pool_books.proofs.LentLists.{demand3-lent}
@@ -91,12 +91,12 @@ module _ (cs vs : ℕ) where
 
     -- they keep to renames
     add-renames : (b : Books) (m : Option LentCall) (calls : List LentCall) → MayCall b m → Renames (afterCall b m) (map roomOf calls) → Renames b (map roomOf (addCall m calls))
-    unfolding addCall RenamesOf
+    unfolding addCall Renames
     add-renames b none calls h r = r
     add-renames b (some c) calls h r = (h, r)
 
     calls-rename : (o : Opened) (es : List Event) → Renamed (some o) es → Renames (o .books) (map roomOf (callsOf o es))
-    unfolding InRenames callsOf RenamesOf
+    unfolding InRenames callsOf Renames
     calls-rename o [] h = h
     calls-rename o (e ∷ es) h =
         add-renames (o .books) (call cs vs fits places o e) (callsOf (behind o e) es) (h .0) (calls-rename (behind o e) es (h .1))

@@ -24,8 +24,8 @@ use Rattle.pool_memory.specs.Lent.{Lent, versionPlaces}
 use Rattle.pool_memory.specs.Reading.{modelOf}
 use Rattle.pool_memory.specs.IsPool.{sizesFit}
 use Rattle.pool_rules.specs.Open.{arePlaces}
-use Rattle.pool_books.specs.Lists.{stepOf, stepBetweenOf, afterTake, afterPlan, afterRetire, renameIn, marking, stepBetween, step, start}
-use Rattle.pool_books.specs.Demand3.{performOf, performBetweenOf, perform, performBetween}
+use Rattle.pool_books.specs.Lists.{afterTake, afterPlan, afterRetire, renameIn, marking, stepBetween, step, start}
+use Rattle.pool_books.specs.Demand3.{perform, performBetween}
 use Rattle.event_answers.specs.Printed.{row, optional, heldField, regionFields, copyRow, viewRow, replyRows, printed}
 use Rattle.event_sessions.specs.Parts.{freshSession}
 use Rattle.event_sessions.specs.Sessions.{stateOf}
@@ -44,11 +44,11 @@ unfolding sampleText sampleEvents allLines wholeLines inFirstLine lastLine inLas
 sample-events = refl
 
 sample-renames : InRenames 630 90 true places none sampleEvents
-unfolding InRenames sampleEvents takeSpare preservePlan retire noteWrite popRetired park guard find pagesOf change insert gridAt newHistory stampWrite boxCopy copyOf copies budgetOf isShape sameShape slicesOf levelExtent levelWidth levelHeight levelDepth levelBytes bytesOf blockEdge blockBytes wholeLevel tileEdge axisOf tilesOf cutEnd isCut touched oneTile widened spanAround spanStart spanSize tilingOf columnsOf rowsOf stampCount newGrid rowByRow stampOf touches isCutRect stampedBy dirtyTiles boxOf boxAround boxSince listed total keep tests after ceilDiv flatMap afterTake afterPlan afterRetire renameIn marking stepBetweenOf stepOf start callOf opening
+unfolding InRenames sampleEvents takeSpare preservePlan retire noteWrite popRetired park guard find pagesOf change insert gridAt newHistory stampWrite boxCopy copyOf copies budgetOf isShape sameShape slicesOf levelExtent levelWidth levelHeight levelDepth levelBytes bytesOf blockEdge blockBytes wholeLevel tileEdge axisOf tilesOf cutEnd isCut touched oneTile widened spanAround spanStart spanSize tilingOf columnsOf rowsOf stampCount newGrid rowByRow stampOf touches isCutRect stampedBy dirtyTiles boxOf boxAround boxSince listed total keep tests after ceilDiv flatMap afterTake afterPlan afterRetire renameIn marking stepBetween step start callOf opening
 sample-renames = (tt, (tt, ((refl, refl, refl), (refl, (tt, (tt, (tt, (tt, ((refl, refl, refl), tt)))))))))
 
 sample-replies : repliesText 0 (replies 630 90 true places none sampleEvents) ≡ sampleOutput
-unfolding replies repliesText openingReply sampleEvents sampleOutput performOf performBetweenOf printed row optional heldField regionFields copyRow viewRow replyRows digitsOf digits takeSpare preservePlan retire noteWrite popRetired park guard find pagesOf change insert gridAt newHistory stampWrite boxCopy copyOf copies budgetOf isShape sameShape slicesOf levelExtent levelWidth levelHeight levelDepth levelBytes bytesOf blockEdge blockBytes wholeLevel tileEdge axisOf tilesOf cutEnd isCut touched oneTile widened spanAround spanStart spanSize tilingOf columnsOf rowsOf stampCount newGrid rowByRow stampOf touches isCutRect stampedBy dirtyTiles boxOf boxAround boxSince listed total keep tests after ceilDiv flatMap afterTake afterPlan afterRetire renameIn marking stepBetweenOf stepOf start callOf opening
+unfolding replies repliesText openingReply sampleEvents sampleOutput perform performBetween printed row optional heldField regionFields copyRow viewRow replyRows digitsOf digits takeSpare preservePlan retire noteWrite popRetired park guard find pagesOf change insert gridAt newHistory stampWrite boxCopy copyOf copies budgetOf isShape sameShape slicesOf levelExtent levelWidth levelHeight levelDepth levelBytes bytesOf blockEdge blockBytes wholeLevel tileEdge axisOf tilesOf cutEnd isCut touched oneTile widened spanAround spanStart spanSize tilingOf columnsOf rowsOf stampCount newGrid rowByRow stampOf touches isCutRect stampedBy dirtyTiles boxOf boxAround boxSince listed total keep tests after ceilDiv flatMap afterTake afterPlan afterRetire renameIn marking stepBetween step start callOf opening
 sample-replies = refl
 
 module _ (textures retiring doomed spares newest stamps : List ℕ) (h : Lengths textures retiring doomed spares newest stamps) where

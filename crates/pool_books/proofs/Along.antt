@@ -23,7 +23,7 @@ use Rattle.pool_rules.specs.Trim.{trim}
 use Rattle.pool_rules.specs.ForgetTexture.{forgetTexture}
 use Rattle.pool_books.specs.VersionBook.{Retired, Book, Books, put, changeBook, newBook, startBook, writesWhole, bookWrite, bookRegeneration, notCopied, skipped, renamed, carriedBy}
 use Rattle.pool_books.specs.Lists.{Between, writeCall, regenCall, popCall, parkCall, noteCall, doomedCall, drainCall, trimCall, forgetCall, Call, takeCall, planCall, retireCall, between, Phase, idle, taken, planned}
-use Rattle.pool_books.specs.Lists.{stepOf, runOf, stepBetweenOf, State, afterTake, planIn, afterPlan, renameIn, afterRetire, justPool, marking, readyBetween, stepBetween, step, run, start}
+use Rattle.pool_books.specs.Lists.{State, afterTake, planIn, afterPlan, renameIn, afterRetire, justPool, marking, readyBetween, stepBetween, step, run, start}
 use Rattle.pool_books.specs.Shown.{CoversNot, NeverCovers, LeftOutByCoverOnly, nextIfAccepted, countAfter, GoesOn}
 use Rattle.pool_books.proofs.Marks.{change-some, change-none}
 
@@ -105,7 +105,7 @@ module _ (slice level : ℕ) where
   just-kept s (accepted a p) k = k
 
   between-kept : (s : State) (c : Between) → Nothing s → Nothing (stepBetween s c)
-  unfolding stepBetweenOf bookWrite bookRegeneration
+  unfolding stepBetween bookWrite bookRegeneration
   between-kept s (writeCall id a l r) k = marking-kept s (λ n. bookWrite n a l r) (λ n b e. and-no (not (writesWhole (b .shape) a l r slice level)) (b .left slice level) e) id (noteWrite (s .pool) id a l r) k
   between-kept s (regenCall id) k = marking-kept s bookRegeneration (λ n b e. e) id (noteMipRegeneration (s .pool) id) k
   between-kept s (popCall settled) k = just-kept s (popRetired (s .pool) settled) k
@@ -117,14 +117,14 @@ module _ (slice level : ℕ) where
   between-kept s (forgetCall id) k = just-kept s (forgetTexture (s .pool) id) k
 
   step-kept : (s : State) (c : Call) → CoversNot slice level c → Nothing s → Nothing (step s c)
-  unfolding stepOf
+  unfolding step
   step-kept s (takeCall id shape records seq) e k = take-kept s id shape (takeSpare (s .pool) id shape records seq) k
   step-kept s (planCall id shape held u buffer) e k = plan-kept s u (preservePlan (s .pool) id shape held u buffer) e k
   step-kept s (retireCall id view seq) e k = retire-kept s seq (retire (s .pool) id (carriedBy (s .books) id view) seq) k
   step-kept s (between c) e k = between-kept s c k
 
   run-kept : (s : State) (cs : List Call) → NeverCovers slice level cs → Nothing s → Nothing (run s cs)
-  unfolding runOf
+  unfolding run
   run-kept s [] e k = k
   run-kept s (c ∷ cs) e k = run-kept (step s c) cs (e .1) (step-kept s c (e .0) k)
 
@@ -160,7 +160,7 @@ module _ (s : State) where
   just-count (accepted a p) = refl
 
   step-count : (c : Call) → step s c .count ≡ countAfter s c
-  unfolding stepOf stepBetweenOf
+  unfolding step stepBetween
   step-count (takeCall id shape records seq) = take-count id shape (takeSpare (s .pool) id shape records seq)
   step-count (planCall id shape held u buffer) = plan-count u (preservePlan (s .pool) id shape held u buffer)
   step-count (retireCall id view seq) = retire-count seq (retire (s .pool) id (carriedBy (s .books) id view) seq)

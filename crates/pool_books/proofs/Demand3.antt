@@ -27,8 +27,8 @@ use Rattle.pool_rules.specs.Open.{opened}
 use Rattle.pool_books.specs.VersionBook.{Numbers, Retired, Book, liveOf, copied, skipped, carriedBy, lostHand}
 use Rattle.pool_books.specs.Carry.{mapRetiring, mapSpare, mapPool}
 use Rattle.pool_books.specs.Lists.{Between, writeCall, regenCall, popCall, parkCall, noteCall, doomedCall, drainCall, trimCall, forgetCall, Call, takeCall, planCall, retireCall, between, Phase, idle, taken, planned}
-use Rattle.pool_books.specs.Lists.{runOf, stepOf, RenamesOf, stepBetweenOf, Allowed, State, afterTake, afterPlan, afterRetire, renameIn, justPool, marking, stepBetween, step, run, Renames, start}
-use Rattle.pool_books.specs.Demand3.{performBetweenOf, Demand3By, performOf, Agrees, Reply, done, copiesPlanned, viewsHanded, answered, spareReply, poppedReply, viewsReply, performBetween, perform, call, viewOf, replied, Throughout, Demand3}
+use Rattle.pool_books.specs.Lists.{Allowed, State, afterTake, afterPlan, afterRetire, renameIn, justPool, marking, stepBetween, step, run, Renames, start}
+use Rattle.pool_books.specs.Demand3.{Agrees, Reply, done, copiesPlanned, viewsHanded, answered, spareReply, poppedReply, viewsReply, performBetween, perform, call, viewOf, replied, Throughout, Demand3}
 use Rattle.pool_books.proofs.Inv.{Inv, InvOf, OutOk, ok, just-pool, note-inv, doomed-inv, drain-inv, trim-inv, forget-inv, pop-inv}
 use Rattle.pool_books.proofs.Marks.{Marks, write-inv, regenerate-inv, park-inv}
 use Rattle.pool_books.proofs.Renames.{Takes, take-inv, plan-inv}
@@ -48,7 +48,7 @@ idle-inv : (s : State) → s .phase ≡ idle → InvOf s → Inv (s .pool) (s .b
 idle-inv s ph i = rw ph at i
 
 between-step : (s : State) (c : Between) → s .phase ≡ idle → InvOf s → InvOf (stepBetween s c)
-unfolding stepBetweenOf
+unfolding stepBetween
 between-step s (writeCall id slice level r) ph i = marks s _ id _ ph i (write-inv (s .pool) (s .books) (idle-inv s ph i) (suc (s .count)) id slice level r)
 between-step s (regenCall id) ph i = marks s _ id _ ph i (regenerate-inv (s .pool) (s .books) (idle-inv s ph i) (suc (s .count)) id)
 between-step s (popCall settled) ph i = just-pool s _ ph i (pop-inv (s .pool) (s .books) (idle-inv s ph i) settled)
@@ -82,7 +82,7 @@ retire-step s seq id u new (refused n) ph i k = stop s i
 retire-step s seq id u new (accepted a p) ph i (ok k) = rw ph k
 
 keeps : (s : State) (c : Call) → InvOf s → Allowed (s .phase) c → InvOf (step s c)
-unfolding stepOf
+unfolding step
 keeps s c i a = go (s .phase) refl c a
   where
     go : (ph : Phase) → s .phase ≡ ph → (c : Call) → Allowed ph c → InvOf (step s c)
@@ -163,7 +163,7 @@ module _ (s : State) where
   then {r = r} a b = a ∙ ap (λ (z : PoolModel Retired). (r, mapPool viewOf z)) b
 
   mirror-between : (c : Between) → Mirrors (between c)
-  unfolding stepOf performOf performBetweenOf stepBetweenOf
+  unfolding step perform performBetween stepBetween
   mirror-between (writeCall id slice level r) =
       then (same-answer _ _ _ (carriedBy (s .books)) (λ a. refl) (s .pool) (s .pool) (write-map viewOf (s .pool) id slice level r))
       (marking-same _ id (noteWrite (s .pool) id slice level r))
@@ -196,7 +196,7 @@ module _ (s : State) where
       (just-same {A = Unit {0}} (λ a. done) (forgetTexture (s .pool) id))
 
   mirror : (c : Call) → Mirrors c
-  unfolding stepOf performOf
+  unfolding step perform
   mirror (takeCall id sh records seq) =
       then (same-answer _ _ _ (carriedBy (s .books)) spare-same (s .pool) (s .pool) (take-map viewOf (s .pool) id sh records seq))
       (take-pool id sh (takeSpare (s .pool) id sh records seq))
@@ -211,22 +211,22 @@ module _ (s : State) where
 -- ---- along the list
 
 throughout : (s : State) (p : PoolModel ℕ) (cs : List Call) → p ≡ mapPool viewOf (s .pool) → InvOf s → Renames s cs → Throughout s p cs
-unfolding RenamesOf
+unfolding Renames
 throughout s p [] e i k = record { agrees = i .agrees; same = e }
 throughout s p (c ∷ cs) e i k =
     let m : call p c ≡ (replied s c, mapPool viewOf (step s c .pool)) = ap (λ (z : PoolModel ℕ). call z c) e ∙ mirror s c in
     (record { agrees = i .agrees; same = e }, ap (λ (z : Reply × PoolModel ℕ). z .0) m, throughout (step s c) (call p c .1) cs (ap (λ (z : Reply × PoolModel ℕ). z .1) m) (keeps s c i (k .0)) (k .1))
 
 pub demand3 : Demand3
-unfolding Demand3By start
+unfolding Demand3 start
 demand3 places working cs k = throughout (start places working) (opened places working) cs refl (start-inv places working) k
 
 -- so after any list the books of every id agree
 agree-run : (s : State) (p : PoolModel ℕ) (cs : List Call) → Throughout s p cs → (id : ℕ) → Agrees (run s cs .books id)
-unfolding runOf
+unfolding run
 agree-run s p [] t id = t .agrees id
 agree-run s p (c ∷ cs) t id = agree-run (step s c) (call p c .1) cs (t .2) id
 
 pub agree-after : (places : Places) (working : ℕ) (cs : List Call) → Renames (start places working) cs → (id : ℕ) → Agrees (run (start places working) cs .books id)
-unfolding Demand3By
+unfolding Demand3
 agree-after places working cs k id = agree-run (start places working) (opened places working) cs (demand3 places working cs k) id

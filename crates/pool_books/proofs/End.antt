@@ -10,7 +10,7 @@ use Rattle.pool_rules.specs.Closed.{OutFormed, formed}
 use Rattle.pool_rules.specs.Open.{arePlaces, opened}
 use Rattle.pool_rules.proofs.Closure.{closed, opened-formed}
 use Rattle.pool_books.specs.Lists.{Between, writeCall, regenCall, popCall, parkCall, noteCall, doomedCall, drainCall, trimCall, forgetCall, Call, takeCall, planCall, retireCall, between, State, step, Renames, start}
-use Rattle.pool_books.specs.Demand3.{performBetweenOf, Demand3By, performOf, Reply, answered, perform, performBetween, call, Throughout, ThroughoutOf, Demand3}
+use Rattle.pool_books.specs.Demand3.{Reply, answered, perform, performBetween, call, Throughout, ThroughoutOf, Demand3}
 use Rattle.pool_books.proofs.Demand3.{demand3}
 
 -- ---- a call, refused or not, leaves a formed pool
@@ -20,7 +20,7 @@ answer-formed f p k (refused n) o = k
 answer-formed f p k (accepted a q) (formed o) = o
 
 between-formed : (p : PoolModel ℕ) → Formed p → (c : Between) → Formed (performBetween (λ (n : ℕ). n) (λ (id n : ℕ). n) p c .1)
-unfolding performBetweenOf
+unfolding performBetween
 between-formed p k (writeCall id slice level r) = answer-formed _ p k _ (closed p k .note-write id slice level r)
 between-formed p k (regenCall id) = answer-formed _ p k _ (closed p k .note-mip-regeneration id)
 between-formed p k (popCall settled) = answer-formed _ p k _ (closed p k .pop-retired settled)
@@ -32,7 +32,7 @@ between-formed p k (trimCall now) = answer-formed _ p k _ (closed p k .trims now
 between-formed p k (forgetCall id) = answer-formed _ p k _ (closed p k .forget-texture id)
 
 pub call-formed : (p : PoolModel ℕ) → Formed p → (c : Call) → Formed (call p c .1)
-unfolding performOf
+unfolding perform
 call-formed p k (takeCall id sh records seq) = answer-formed _ p k _ (closed p k .take-spare id sh records seq)
 call-formed p k (planCall id sh held u buffer) = answer-formed _ p k _ (closed p k .preserve-plan id sh held u buffer)
 call-formed p k (retireCall id view seq) = answer-formed _ p k _ (closed p k .retires id view seq)
@@ -54,6 +54,6 @@ module _ {S C : Type 0} (standsFor : C → Call) (calls : S → C → Reply × S
 
   pub demand3-of : (places : Places) → arePlaces places ≡ true → (working : ℕ) (σ : S) → Represents σ (opened places working) → (cs : List C)
       → Renames (start places working) (map standsFor cs) → ThroughoutOf standsFor calls (start places working) σ cs
-  unfolding Demand3By
+  unfolding Demand3
   demand3-of places enough working σ r cs list =
       along (start places working) (opened places working) σ cs (opened-formed places enough working) r (demand3 places working (map standsFor cs) list)

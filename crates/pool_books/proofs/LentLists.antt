@@ -31,7 +31,7 @@ use Rattle.pool_memory.proofs.FromPool.{pool-fits, are-places}
 use Rattle.pool_memory.proofs.FitsOpened.{opened-model, opened-fits}
 use Rattle.pool_memory.proofs.ToPool.{fits-pool}
 use Rattle.pool_memory.proofs.ReadBack.{read-back, after-fits}
-use Rattle.pool_books.specs.Demand3.{performBetweenOf, performOf, Reply, answered, perform, performBetween, call, done, copiesPlanned, viewsHanded, spareReply, poppedReply as popReply, viewsReply as handedReply}
+use Rattle.pool_books.specs.Demand3.{Reply, answered, perform, performBetween, call, done, copiesPlanned, viewsHanded, spareReply, poppedReply as popReply, viewsReply as handedReply}
 use Rattle.pool_books.specs.LentLists.{LentCall, roomOf, takenReply, poppedVersionReply, copiesFilled, viewsFilled, said, filled, lentCall, openedLent, Demand3Lent, EveryCallKeepsPool, OpenedIsPool}
 use Rattle.pool_books.proofs.End.{demand3-of}
 use Rattle.pool_books.proofs.Places.{SamePlaces, take-spare-places, preserve-plan-places, retire-places, note-write-places, note-mip-regeneration-places, pop-retired-places, park-places, note-allocated-places, take-doomed-places, drain-versions-places, trim-places, forget-texture-places}
@@ -105,7 +105,7 @@ views-reply : (buffer vs : List ℕ) → viewsFilled (length vs) (over (flat vie
 views-reply buffer vs = ap viewsHanded (views-read vs buffer ∙ sym (map-id vs))
 
 simulates : (l : Lent) (p : PoolModel ℕ) (c : LentCall) → Formed p → Represents l p → Simulates (lentCall l c) (call p (roomOf c))
-unfolding lentCall performOf performBetweenOf takeSpareOn retireOn noteWriteOn noteMipRegenerationOn popRetiredOn parkOn noteAllocatedOn trimOn forgetTextureOn preservePlanOn takeDoomedOn drainVersionsOn
+unfolding lentCall perform performBetween takeSpareOn retireOn noteWriteOn noteMipRegenerationOn popRetiredOn parkOn noteAllocatedOn trimOn forgetTextureOn preservePlanOn takeDoomedOn drainVersionsOn
 simulates l p (takeCall id shape records seq) k r =
     says l p r (λ q. takeSpare q id shape records seq) (closed p k .take-spare id shape records seq) (take-spare-places p id shape records seq)
     takenOf takenReply _ taken-reply

@@ -15,4 +15,3 @@ pub mod LentLists
 pub mod Sample
 pub mod Along
 pub mod Shown
-pub mod Refuted

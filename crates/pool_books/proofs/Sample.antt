@@ -26,11 +26,11 @@ use Rattle.pool_rules.specs.Closed.{OutFormed, formed}
 use Rattle.pool_rules.specs.Open.{arePlaces, opened}
 use Rattle.pool_rules.proofs.Closure.{closed, opened-formed}
 use Rattle.pool_books.specs.Lists.{writeCall, regenCall, popCall, parkCall, noteCall, doomedCall, drainCall, trimCall, forgetCall, Call, takeCall, planCall, retireCall, between}
-use Rattle.pool_books.specs.Demand3.{performBetweenOf, performOf, Reply, answered, call, perform, performBetween}
+use Rattle.pool_books.specs.Demand3.{Reply, answered, call, perform, performBetween}
 use Rattle.pool_books.specs.Sample.{flatShape, sampleLent, repliesOf, reached, ReachedIsFormed, sample, sampleAnswers, parkedAt10, queued678, handedOut, bornIn5, Edges}
 
 pub sample-answers : repliesOf (opened sampleLent 0) sample ≡ sampleAnswers
-unfolding repliesOf sample flatShape performOf performBetweenOf takeSpare preservePlan retire noteWrite popRetired park guard find pagesOf change insert gridAt newHistory stampWrite boxCopy copyOf copies budgetOf isShape sameShape slicesOf levelExtent levelWidth levelHeight levelDepth levelBytes bytesOf blockEdge blockBytes wholeLevel tileEdge axisOf tilesOf cutEnd isCut touched oneTile widened spanAround spanStart spanSize tilingOf columnsOf rowsOf stampCount newGrid rowByRow stampOf touches isCutRect stampedBy dirtyTiles boxOf boxAround boxSince listed total keep tests after ceilDiv flatMap
+unfolding repliesOf sample flatShape perform performBetween takeSpare preservePlan retire noteWrite popRetired park guard find pagesOf change insert gridAt newHistory stampWrite boxCopy copyOf copies budgetOf isShape sameShape slicesOf levelExtent levelWidth levelHeight levelDepth levelBytes bytesOf blockEdge blockBytes wholeLevel tileEdge axisOf tilesOf cutEnd isCut touched oneTile widened spanAround spanStart spanSize tilingOf columnsOf rowsOf stampCount newGrid rowByRow stampOf touches isCutRect stampedBy dirtyTiles boxOf boxAround boxSince listed total keep tests after ceilDiv flatMap
 sample-answers = refl
 
 -- ---- the pools that calls reach are formed
@@ -40,7 +40,7 @@ formed-after f p (refused n) k q = k
 formed-after f p (accepted a r) k (formed q) = q
 
 call-formed : (p : PoolModel ℕ) → Formed p → (c : Call) → Formed (call p c .1)
-unfolding performOf performBetweenOf
+unfolding perform performBetween
 call-formed p k (takeCall id shape records seq) = formed-after _ p _ k (closed p k .take-spare id shape records seq)
 call-formed p k (planCall id shape held u buffer) = formed-after _ p _ k (closed p k .preserve-plan id shape held u buffer)
 call-formed p k (retireCall id view seq) = formed-after _ p _ k (closed p k .retires id view seq)
@@ -77,7 +77,7 @@ unfolding bornIn5 arePlaces tests
 born-formed = reached-formed sampleLent refl 0 _
 
 pub edges : Edges
-unfolding repliesOf sample flatShape performOf performBetweenOf takeSpare preservePlan retire noteWrite popRetired park guard find pagesOf change insert gridAt newHistory stampWrite boxCopy copyOf copies budgetOf isShape sameShape slicesOf levelExtent levelWidth levelHeight levelDepth levelBytes bytesOf blockEdge blockBytes wholeLevel tileEdge axisOf tilesOf cutEnd isCut touched oneTile widened spanAround spanStart spanSize tilingOf columnsOf rowsOf stampCount newGrid rowByRow stampOf touches isCutRect stampedBy dirtyTiles boxOf boxAround boxSince listed total keep tests after ceilDiv flatMap reached trim agedCount parkedAt10 queued678 bornIn5 handedOut takeDoomed coverMore forgetTexture
+unfolding repliesOf sample flatShape perform performBetween takeSpare preservePlan retire noteWrite popRetired park guard find pagesOf change insert gridAt newHistory stampWrite boxCopy copyOf copies budgetOf isShape sameShape slicesOf levelExtent levelWidth levelHeight levelDepth levelBytes bytesOf blockEdge blockBytes wholeLevel tileEdge axisOf tilesOf cutEnd isCut touched oneTile widened spanAround spanStart spanSize tilingOf columnsOf rowsOf stampCount newGrid rowByRow stampOf touches isCutRect stampedBy dirtyTiles boxOf boxAround boxSince listed total keep tests after ceilDiv flatMap reached trim agedCount parkedAt10 queued678 bornIn5 handedOut takeDoomed coverMore forgetTexture
 edges = record {
   edge-512 = refl;
   edge-512-blocks = refl;

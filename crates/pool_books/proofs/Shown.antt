@@ -31,8 +31,8 @@ use Rattle.pool_rules.specs.TakeDoomed.{coverMore, takeDoomed}
 use Rattle.pool_rules.specs.TakeSpare.{takeSpare}
 use Rattle.pool_rules.specs.Trim.{agedCount, trim}
 use Rattle.pool_rules.specs.Updates.{change, insert}
-use Rattle.pool_books.specs.Demand3.{performBetweenOf, performOf, performBetween, perform}
-use Rattle.pool_books.specs.Lists.{runOf, stepOf, RenamesOf, stepBetweenOf, afterTake, afterPlan, renameIn, afterRetire, marking, stepBetween, step, run, Renames, start}
+use Rattle.pool_books.specs.Demand3.{performBetween, perform}
+use Rattle.pool_books.specs.Lists.{afterTake, afterPlan, renameIn, afterRetire, marking, stepBetween, step, run, Renames, start}
 use Rattle.pool_books.specs.Sample.{flatShape, repliesOf, reached, sample, parkedAt10, queued678, handedOut, bornIn5}
 use Rattle.pool_books.specs.Texels.{inRect, inWrite, isWhole}
 use Rattle.pool_books.specs.VersionBook.{put, changeBook, startBook, bookWrite, bookRegeneration, inCopy, copied, notCopied, skipped}
@@ -43,7 +43,7 @@ use Rattle.pool_books.proofs.Demand3.{agree-after}
 use Rattle.pool_books.specs.Shown.{AsksNoMore, LeavesOutNoMore, Spelled, Corners, KeepToRenames, Computed}
 
 pub asks-no-more : AsksNoMore
-unfolding RenamesOf
+unfolding Renames
 asks-no-more = record {
   texels = λ s t slice level x y z. record { slice = slice; level = level; x = x; y = y; z = z };
   takes = λ id shape records seq. tt;
@@ -102,7 +102,7 @@ corners = record {
 }
 
 pub keep-to-renames : KeepToRenames
-unfolding atMost member largest ceilDiv listed over removed inserted all keep total ascending after tests blockEdge blockBytes isShape sameShape slicesOf levelExtent levelWidth levelHeight levelDepth levelBlocks levelBytes bytesOf recordsEveryWrite cutSize regionTexels wholeLevel sideOnGrid rectOnGrid writtenRect rectFields ofUpload tileEdge axisOf tilesOf cutEnd isCut touched touchedTiles oneTile widened spanAround spanStart spanSize tilingOf columnsOf rowsOf stampCount newGrid gridIn rowByRow stampOf touches isCutRect stampedBy dirtyTiles boxOf boxAround boxSince largestStamp nothingSeen joined visited allJoined dirtyRow rowsStamped tilesStamped budgetOf resumeBelow drainVersions forgetTexture gridAt newHistory stampWrite regenerateFrom stampRegeneration pagesOf guard find insertAged byAge picked countOf noteAllocated noteWrite noteMipRegeneration park popRetired boxCopy copyOf copies preservePlan retire coverMore takeDoomed takeSpare agedCount trim change insert performBetweenOf performOf afterTake afterPlan renameIn afterRetire marking stepBetweenOf stepOf runOf RenamesOf start flatShape repliesOf reached sample parkedAt10 queued678 handedOut bornIn5 inRect inWrite isWhole put changeBook startBook bookWrite bookRegeneration inCopy copied notCopied skipped flatMap
+unfolding atMost member largest ceilDiv listed over removed inserted all keep total ascending after tests blockEdge blockBytes isShape sameShape slicesOf levelExtent levelWidth levelHeight levelDepth levelBlocks levelBytes bytesOf recordsEveryWrite cutSize regionTexels wholeLevel sideOnGrid rectOnGrid writtenRect rectFields ofUpload tileEdge axisOf tilesOf cutEnd isCut touched touchedTiles oneTile widened spanAround spanStart spanSize tilingOf columnsOf rowsOf stampCount newGrid gridIn rowByRow stampOf touches isCutRect stampedBy dirtyTiles boxOf boxAround boxSince largestStamp nothingSeen joined visited allJoined dirtyRow rowsStamped tilesStamped budgetOf resumeBelow drainVersions forgetTexture gridAt newHistory stampWrite regenerateFrom stampRegeneration pagesOf guard find insertAged byAge picked countOf noteAllocated noteWrite noteMipRegeneration park popRetired boxCopy copyOf copies preservePlan retire coverMore takeDoomed takeSpare agedCount trim change insert performBetween perform afterTake afterPlan renameIn afterRetire marking stepBetween step run Renames start flatShape repliesOf reached sample parkedAt10 queued678 handedOut bornIn5 inRect inWrite isWhole put changeBook startBook bookWrite bookRegeneration inCopy copied notCopied skipped flatMap
 keep-to-renames = record {
   sample-keeps = (tt, ((refl, refl, refl), (refl, (tt, (tt, (tt, (tt, ((refl, refl, refl), tt))))))));
   sample-on-keeps = (tt, ((refl, refl, refl), (refl, (tt, (tt, (tt, (tt, ((refl, refl, refl), (refl, (tt, tt))))))))));
@@ -115,7 +115,7 @@ keep-to-renames = record {
 }
 
 pub computed : Computed
-unfolding atMost member largest ceilDiv listed over removed inserted all keep total ascending after tests blockEdge blockBytes isShape sameShape slicesOf levelExtent levelWidth levelHeight levelDepth levelBlocks levelBytes bytesOf recordsEveryWrite cutSize regionTexels wholeLevel sideOnGrid rectOnGrid writtenRect rectFields ofUpload tileEdge axisOf tilesOf cutEnd isCut touched touchedTiles oneTile widened spanAround spanStart spanSize tilingOf columnsOf rowsOf stampCount newGrid gridIn rowByRow stampOf touches isCutRect stampedBy dirtyTiles boxOf boxAround boxSince largestStamp nothingSeen joined visited allJoined dirtyRow rowsStamped tilesStamped budgetOf resumeBelow drainVersions forgetTexture gridAt newHistory stampWrite regenerateFrom stampRegeneration pagesOf guard find insertAged byAge picked countOf noteAllocated noteWrite noteMipRegeneration park popRetired boxCopy copyOf copies preservePlan retire coverMore takeDoomed takeSpare agedCount trim change insert performBetweenOf performOf afterTake afterPlan renameIn afterRetire marking stepBetweenOf stepOf runOf RenamesOf start flatShape repliesOf reached sample parkedAt10 queued678 handedOut bornIn5 inRect inWrite isWhole put changeBook startBook bookWrite bookRegeneration inCopy copied notCopied skipped flatMap
+unfolding atMost member largest ceilDiv listed over removed inserted all keep total ascending after tests blockEdge blockBytes isShape sameShape slicesOf levelExtent levelWidth levelHeight levelDepth levelBlocks levelBytes bytesOf recordsEveryWrite cutSize regionTexels wholeLevel sideOnGrid rectOnGrid writtenRect rectFields ofUpload tileEdge axisOf tilesOf cutEnd isCut touched touchedTiles oneTile widened spanAround spanStart spanSize tilingOf columnsOf rowsOf stampCount newGrid gridIn rowByRow stampOf touches isCutRect stampedBy dirtyTiles boxOf boxAround boxSince largestStamp nothingSeen joined visited allJoined dirtyRow rowsStamped tilesStamped budgetOf resumeBelow drainVersions forgetTexture gridAt newHistory stampWrite regenerateFrom stampRegeneration pagesOf guard find insertAged byAge picked countOf noteAllocated noteWrite noteMipRegeneration park popRetired boxCopy copyOf copies preservePlan retire coverMore takeDoomed takeSpare agedCount trim change insert performBetween perform afterTake afterPlan renameIn afterRetire marking stepBetween step run Renames start flatShape repliesOf reached sample parkedAt10 queued678 handedOut bornIn5 inRect inWrite isWhole put changeBook startBook bookWrite bookRegeneration inCopy copied notCopied skipped flatMap
 computed = record {
   no-book = refl;
   at-first = (refl, refl, refl);

@@ -22,7 +22,7 @@ use Rattle.pool_rules.specs.Open.{opened}
 use Rattle.pool_books.specs.Texels.{Texel, Inside}
 use Rattle.pool_books.specs.VersionBook.{Retired, Book, carriedBy}
 use Rattle.pool_books.specs.Carry.{mapPool}
-use Rattle.pool_books.specs.Lists.{Between, writeCall, regenCall, popCall, parkCall, noteCall, doomedCall, drainCall, trimCall, forgetCall, Call, takeCall, planCall, retireCall, between, State, readyBetween, Rules, ours, step, stepOf, Renames, RenamesOf, start}
+use Rattle.pool_books.specs.Lists.{Between, writeCall, regenCall, popCall, parkCall, noteCall, doomedCall, drainCall, trimCall, forgetCall, Call, takeCall, planCall, retireCall, between, State, readyBetween, step, Renames, start}
 
 -- the live numbers of an id equal the plain book, but for what is left out
 unfoldable pub Agrees : Option Book → Type 0
@@ -56,35 +56,26 @@ module _ {W : Type 0} (number : W → ℕ) (carried : ℕ → ℕ → W) where
   abbrev pub viewsReply : List W → Reply
   viewsReply vs = viewsHanded (map number vs)
 
-  unfoldable pub performBetweenOf : Rules → PoolModel W → Between → Reply × PoolModel W
-  performBetweenOf rules p (writeCall id slice level r) = answered (λ a. done) p (rules .noteWrite p id slice level r)
-  performBetweenOf rules p (regenCall id) = answered (λ a. done) p (rules .noteMipRegeneration p id)
-  performBetweenOf rules p (popCall settled) = answered poppedReply p (rules .popRetired p settled)
-  performBetweenOf rules p (parkCall failed now) = answered (λ a. done) p (rules .park p failed now)
-  performBetweenOf rules p (noteCall allocated) = answered (λ a. done) p (rules .noteAllocated p allocated)
-  performBetweenOf rules p (doomedCall buffer) = answered viewsReply p (rules .takeDoomed p buffer)
-  performBetweenOf rules p (drainCall buffer) = answered viewsReply p (rules .drainVersions p buffer)
-  performBetweenOf rules p (trimCall now) = answered (λ a. done) p (rules .trim p now)
-  performBetweenOf rules p (forgetCall id) = answered (λ a. done) p (rules .forgetTexture p id)
+  unfoldable pub performBetween : PoolModel W → Between → Reply × PoolModel W
+  performBetween p (writeCall id slice level r) = answered (λ a. done) p (noteWrite p id slice level r)
+  performBetween p (regenCall id) = answered (λ a. done) p (noteMipRegeneration p id)
+  performBetween p (popCall settled) = answered poppedReply p (popRetired p settled)
+  performBetween p (parkCall failed now) = answered (λ a. done) p (park p failed now)
+  performBetween p (noteCall allocated) = answered (λ a. done) p (noteAllocated p allocated)
+  performBetween p (doomedCall buffer) = answered viewsReply p (takeDoomed p buffer)
+  performBetween p (drainCall buffer) = answered viewsReply p (drainVersions p buffer)
+  performBetween p (trimCall now) = answered (λ a. done) p (trim p now)
+  performBetween p (forgetCall id) = answered (λ a. done) p (forgetTexture p id)
 
-  unfoldable pub performOf : Rules → PoolModel W → Call → Reply × PoolModel W
-  performOf rules p (takeCall id shape records seq) = answered spareReply p (rules .takeSpare p id shape records seq)
-  performOf rules p (planCall id shape held u buffer) = answered copiesPlanned p (rules .preservePlan p id shape held u buffer)
-  performOf rules p (retireCall id view seq) = answered (λ a. done) p (rules .retire p id (carried id view) seq)
-  performOf rules p (between c) = performBetweenOf rules p c
-
-  abbrev pub performBetween : PoolModel W → Between → Reply × PoolModel W
-  performBetween p c = performBetweenOf ours p c
-
-  abbrev pub perform : PoolModel W → Call → Reply × PoolModel W
-  perform p c = performOf ours p c
+  unfoldable pub perform : PoolModel W → Call → Reply × PoolModel W
+  perform p (takeCall id shape records seq) = answered spareReply p (takeSpare p id shape records seq)
+  perform p (planCall id shape held u buffer) = answered copiesPlanned p (preservePlan p id shape held u buffer)
+  perform p (retireCall id view seq) = answered (λ a. done) p (retire p id (carried id view) seq)
+  perform p (between c) = performBetween p c
 
 -- a call on the pool of plain view numbers
-abbrev pub callOf : Rules → PoolModel ℕ → Call → Reply × PoolModel ℕ
-callOf rules p c = performOf (λ (n : ℕ). n) (λ (id n : ℕ). n) rules p c
-
 abbrev pub call : PoolModel ℕ → Call → Reply × PoolModel ℕ
-call p c = callOf ours p c
+call p c = perform (λ (n : ℕ). n) (λ (id n : ℕ). n) p c
 
 -- what the version book's copy of the pool answers
 abbrev pub ready : PoolModel Retired → Call → PoolModel Retired
@@ -96,11 +87,8 @@ ready p (between c) = readyBetween p c
 abbrev pub viewOf : Retired → ℕ
 viewOf r = r .view
 
-abbrev pub repliedOf : Rules → State → Call → Reply
-repliedOf rules s c = performOf viewOf (carriedBy (s .books)) rules (ready (s .pool) c) c .0
-
 abbrev pub replied : State → Call → Reply
-replied s c = repliedOf ours s c
+replied s c = perform viewOf (carriedBy (s .books)) (ready (s .pool) c) c .0
 
 -- ---- the claim
 
@@ -110,20 +98,13 @@ pub record Here (s : State) (p : PoolModel ℕ) : Type 0 where
   pub same : p ≡ mapPool viewOf (s .pool)
 
 -- at every point, with each answer that of the pool
-abbrev pub ThroughoutBy : Rules → State → PoolModel ℕ → List Call → Type 0
-ThroughoutBy rules s p [] = Here s p
-ThroughoutBy rules s p (c ∷ cs) = Here s p × (callOf rules p c .0 ≡ repliedOf rules s c) × ThroughoutBy rules (stepOf rules s c) (callOf rules p c .1) cs
-
 abbrev pub Throughout : State → PoolModel ℕ → List Call → Type 0
-Throughout s p cs = ThroughoutBy ours s p cs
+Throughout s p [] = Here s p
+Throughout s p (c ∷ cs) = Here s p × (call p c .0 ≡ replied s c) × Throughout (step s c) (call p c .1) cs
 
 -- one claim about the list, whatever the calls, their arguments and their answers' buffers
-unfoldable pub Demand3By : Rules → Type 0
-Demand3By rules = (places : Places) (working : ℕ) (cs : List Call) → RenamesOf rules (start places working) cs
-    → ThroughoutBy rules (start places working) (opened places working) cs
-
-abbrev pub Demand3 : Type 0
-Demand3 = Demand3By ours
+unfoldable pub Demand3 : Type 0
+Demand3 = (places : Places) (working : ℕ) (cs : List Call) → Renames (start places working) cs → Throughout (start places working) (opened places working) cs
 
 -- the same of anything that takes calls, of whatever type, each of which stands for one of the model's: it answers each as the version book's copy
 -- does, and the books agree at every point

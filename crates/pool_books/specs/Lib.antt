@@ -6,5 +6,4 @@ pub mod Lists
 pub mod Demand3
 pub mod Sample
 pub mod Shown
-pub mod WrongRules
 pub mod LentLists

@@ -7,7 +7,7 @@ use mathlib.Core.List.{List, [], _∷_}
 use Rattle.grid_shapes.specs.declared.shape.VersionShape.{VersionShape}
 use Rattle.grid_rects.specs.declared.rect.TexelRect.{TexelRect}
 use Rattle.pool_rules.specs.declared.held.Held.{Held}
-use Rattle.pool_rules.specs.Model.{Spare, Retiring, PoolModel, Places, Out, refused, accepted, PreserveCopy, UploadFootprint}
+use Rattle.pool_rules.specs.Model.{Spare, PoolModel, Places, Out, refused, accepted, PreserveCopy, UploadFootprint}
 use Rattle.pool_rules.specs.Updates.{withRetiring}
 use Rattle.pool_rules.specs.TakeSpare.{takeSpare}
 use Rattle.pool_rules.specs.PreservePlan.{preservePlan}
@@ -137,76 +137,31 @@ readyBetween p (drainCall buffer) = p
 readyBetween p (trimCall now) = p
 readyBetween p (forgetCall id) = p
 
--- ---- the rules of the twelve calls, whatever they are: the claim is about ours, and has to be false of others
+unfoldable pub stepBetween : State → Between → State
+stepBetween s (writeCall id slice level r) = marking s (λ n. bookWrite n slice level r) id (noteWrite (s .pool) id slice level r)
+stepBetween s (regenCall id) = marking s bookRegeneration id (noteMipRegeneration (s .pool) id)
+stepBetween s (popCall settled) = justPool s (popRetired (s .pool) settled)
+stepBetween s (parkCall failed now) = justPool s (park (readyBetween (s .pool) (parkCall failed now)) failed now)
+stepBetween s (noteCall allocated) = justPool s (noteAllocated (s .pool) allocated)
+stepBetween s (doomedCall buffer) = justPool s (takeDoomed (s .pool) buffer)
+stepBetween s (drainCall buffer) = justPool s (drainVersions (s .pool) buffer)
+stepBetween s (trimCall now) = justPool s (trim (s .pool) now)
+stepBetween s (forgetCall id) = justPool s (forgetTexture (s .pool) id)
 
-pub record Rules : Type 1 where
-  pub takeSpare : {W : Type 0} → PoolModel W → ℕ → VersionShape → Bool → ℕ → Out W (Option (Spare W))
-  pub preservePlan : {W : Type 0} → PoolModel W → ℕ → VersionShape → Held → UploadFootprint → ℕ → Out W (List PreserveCopy)
-  pub retire : {W : Type 0} → PoolModel W → ℕ → W → ℕ → Out W (Unit {0})
-  pub noteWrite : {W : Type 0} → PoolModel W → ℕ → ℕ → ℕ → TexelRect → Out W (Unit {0})
-  pub noteMipRegeneration : {W : Type 0} → PoolModel W → ℕ → Out W (Unit {0})
-  pub popRetired : {W : Type 0} → PoolModel W → ℕ → Out W (Option (Retiring W))
-  pub park : {W : Type 0} → PoolModel W → ℕ → ℕ → Out W (Unit {0})
-  pub noteAllocated : {W : Type 0} → PoolModel W → ℕ → Out W (Unit {0})
-  pub takeDoomed : {W : Type 0} → PoolModel W → ℕ → Out W (List W)
-  pub drainVersions : {W : Type 0} → PoolModel W → ℕ → Out W (List W)
-  pub trim : {W : Type 0} → PoolModel W → ℕ → Out W (Unit {0})
-  pub forgetTexture : {W : Type 0} → PoolModel W → ℕ → Out W (Unit {0})
+unfoldable pub step : State → Call → State
+step s (takeCall id shape records seq) = afterTake s id shape (takeSpare (s .pool) id shape records seq)
+step s (planCall id shape held u buffer) = afterPlan s u (preservePlan (s .pool) id shape held u buffer)
+step s (retireCall id view seq) = afterRetire s seq (retire (s .pool) id (carriedBy (s .books) id view) seq)
+step s (between c) = stepBetween s c
 
-abbrev pub ours : Rules
-ours = record {
-  takeSpare = takeSpare;
-  preservePlan = preservePlan;
-  retire = retire;
-  noteWrite = noteWrite;
-  noteMipRegeneration = noteMipRegeneration;
-  popRetired = popRetired;
-  park = park;
-  noteAllocated = noteAllocated;
-  takeDoomed = takeDoomed;
-  drainVersions = drainVersions;
-  trim = trim;
-  forgetTexture = forgetTexture;
-}
+unfoldable pub run : State → List Call → State
+run s [] = s
+run s (c ∷ cs) = run (step s c) cs
 
-module _ (rules : Rules) where
-  unfoldable pub stepBetweenOf : State → Between → State
-  stepBetweenOf s (writeCall id slice level r) = marking s (λ n. bookWrite n slice level r) id (rules .noteWrite (s .pool) id slice level r)
-  stepBetweenOf s (regenCall id) = marking s bookRegeneration id (rules .noteMipRegeneration (s .pool) id)
-  stepBetweenOf s (popCall settled) = justPool s (rules .popRetired (s .pool) settled)
-  stepBetweenOf s (parkCall failed now) = justPool s (rules .park (readyBetween (s .pool) (parkCall failed now)) failed now)
-  stepBetweenOf s (noteCall allocated) = justPool s (rules .noteAllocated (s .pool) allocated)
-  stepBetweenOf s (doomedCall buffer) = justPool s (rules .takeDoomed (s .pool) buffer)
-  stepBetweenOf s (drainCall buffer) = justPool s (rules .drainVersions (s .pool) buffer)
-  stepBetweenOf s (trimCall now) = justPool s (rules .trim (s .pool) now)
-  stepBetweenOf s (forgetCall id) = justPool s (rules .forgetTexture (s .pool) id)
-
-  unfoldable pub stepOf : State → Call → State
-  stepOf s (takeCall id shape records seq) = afterTake s id shape (rules .takeSpare (s .pool) id shape records seq)
-  stepOf s (planCall id shape held u buffer) = afterPlan s u (rules .preservePlan (s .pool) id shape held u buffer)
-  stepOf s (retireCall id view seq) = afterRetire s seq (rules .retire (s .pool) id (carriedBy (s .books) id view) seq)
-  stepOf s (between c) = stepBetweenOf s c
-
-  unfoldable pub runOf : State → List Call → State
-  runOf s [] = s
-  runOf s (c ∷ cs) = runOf (stepOf s c) cs
-
-  -- the list keeps to renames; it may end inside one
-  unfoldable pub RenamesOf : State → List Call → Type 0
-  RenamesOf s [] = Unit {0}
-  RenamesOf s (c ∷ cs) = Allowed (s .phase) c × RenamesOf (stepOf s c) cs
-
-abbrev pub stepBetween : State → Between → State
-stepBetween s c = stepBetweenOf ours s c
-
-abbrev pub step : State → Call → State
-step s c = stepOf ours s c
-
-abbrev pub run : State → List Call → State
-run s cs = runOf ours s cs
-
-abbrev pub Renames : State → List Call → Type 0
-Renames s cs = RenamesOf ours s cs
+-- the list keeps to renames; it may end inside one
+unfoldable pub Renames : State → List Call → Type 0
+Renames s [] = Unit {0}
+Renames s (c ∷ cs) = Allowed (s .phase) c × Renames (step s c) cs
 
 -- "from any pool just opened"
 unfoldable pub start : Places → ℕ → State
