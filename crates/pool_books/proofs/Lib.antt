@@ -13,5 +13,5 @@ pub mod Places
 pub mod Answers
 pub mod LentLists
 pub mod Sample
-pub mod Along
-pub mod Shown
+pub mod NotVacuous
+pub mod ComputedBooks

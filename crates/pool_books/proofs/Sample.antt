@@ -79,10 +79,8 @@ born-formed = reached-formed sampleLent refl 0 _
 pub edges : Edges
 unfolding repliesOf sample flatShape perform performBetween takeSpare preservePlan retire noteWrite popRetired park guard find pagesOf change insert gridAt newHistory stampWrite boxCopy copyOf copies budgetOf isShape sameShape slicesOf levelExtent levelWidth levelHeight levelDepth levelBytes bytesOf blockEdge blockBytes wholeLevel tileEdge axisOf tilesOf cutEnd isCut touched oneTile widened spanAround spanStart spanSize tilingOf columnsOf rowsOf stampCount newGrid rowByRow stampOf touches isCutRect stampedBy dirtyTiles boxOf boxAround boxSince listed total keep tests after ceilDiv flatMap reached trim agedCount parkedAt10 queued678 bornIn5 handedOut takeDoomed coverMore forgetTexture
 edges = record {
-  edge-512 = refl;
-  edge-512-blocks = refl;
-  edge-513 = refl;
-  edge-513-blocks = refl;
+  edge = (refl, refl);
+  edge-blocks = (refl, refl);
   bytes = refl;
   bytes-cube = refl;
   working-0 = refl;
@@ -90,14 +88,12 @@ edges = record {
   parked-formed = parked-formed;
   parked = refl;
   parked-total = refl;
-  stays = refl;
-  goes = refl;
+  stays-then-goes = (refl, refl);
   queued-formed = queued-formed;
   queued = refl;
   queued-since = refl;
   batches = refl;
   born-formed = born-formed;
   born = refl;
-  failed-5 = refl;
-  failed-4 = refl;
+  known-then-unknown = (refl, refl);
 }

@@ -5,5 +5,6 @@ pub mod Carry
 pub mod Lists
 pub mod Demand3
 pub mod Sample
-pub mod Shown
+pub mod NotVacuous
+pub mod ComputedBooks
 pub mod LentLists

@@ -1,7 +1,7 @@
--- 01's sample of the event program as a list of calls, with its answers; and 01's starred edges ("Edges").
+-- Rule: 01's sample of the event program as a list of calls, with its answers; and 01's starred edges ("Edges").
 use Prim.Native.Nat.{ℕ, suc, _-_, _^_}
 use mathlib.Core.Path.{_≡_}
-use mathlib.Core.Bool.{Bool, true, false}
+use mathlib.Core.Bool.{true, false}
 use mathlib.Core.Option.{Option, none, some}
 use mathlib.Core.List.{List, [], _∷_, _++_, map, flatMap}
 use lib.ListN.{length, replicate}
@@ -48,15 +48,6 @@ unfoldable pub repliesOf : PoolModel ℕ → List Call → List Reply
 repliesOf p [] = []
 repliesOf p (c ∷ cs) = call p c .0 ∷ repliesOf (call p c .1) cs
 
--- the pool after those calls
-unfoldable pub reached : PoolModel ℕ → List Call → PoolModel ℕ
-reached p [] = p
-reached p (c ∷ cs) = reached (call p c .1) cs
-
--- whatever the calls, from any pool just opened it forms a pool
-abbrev pub ReachedIsFormed : Type 0
-ReachedIsFormed = (places : Places) → arePlaces places ≡ true → (working : ℕ) (cs : List Call) → Formed (reached (opened places working) cs)
-
 -- ---- the sample, from its second line on
 
 unfoldable pub sample : List Call
@@ -83,13 +74,39 @@ sampleAnswers =
     ∷ copiesPlanned (record { slice = 0; level = 0; region = Part (record { x = 16; y = 0; width = 16; height = 16 }) } ∷ [])
     ∷ []
 
--- ---- edges: each on a pool that calls reach from one just opened
+-- ---- lists of calls of texture 7
 
--- a rename of texture 1, whose version is fresh
-abbrev pub renameOf : VersionShape → Bool → ℕ → ℕ → List Call
-renameOf shape records view seq = takeCall 1 shape records seq ∷ planCall 1 shape Unknown noCover 90 ∷ retireCall 1 view seq ∷ []
+-- "A rename is, for one id, take_spare, preserve_plan .., retire, in a row"
+abbrev pub rename : VersionShape → Held → UploadFootprint → ℕ → ℕ → List Call
+rename shape held u view seq = takeCall 7 shape true seq ∷ planCall 7 shape held u 90 ∷ retireCall 7 view seq ∷ []
 
--- of each spare, in the order of textures and parking
+abbrev pub write : ℕ → ℕ → ℕ → ℕ → ℕ → ℕ → List Call
+write slice level x y width height = between (writeCall 7 slice level (record { x = x; y = y; width = width; height = height })) ∷ []
+
+-- a version popped and parked
+abbrev pub settle : ℕ → ℕ → ℕ → List Call
+settle settled failed now = between (popCall settled) ∷ between (parkCall failed now) ∷ []
+
+-- the same calls n times
+abbrev pub times : ℕ → List Call → List Call
+times n cs = flatMap (λ (calls : List Call). calls) (replicate n cs)
+
+-- ---- edges, each on a pool that calls reach from one just opened
+
+-- the pool after these calls
+unfoldable pub reached : PoolModel ℕ → List Call → PoolModel ℕ
+reached p [] = p
+reached p (c ∷ cs) = reached (call p c .1) cs
+
+-- whatever the calls are, it forms a pool
+abbrev pub ReachedIsFormed : Type 0
+ReachedIsFormed = (places : Places) → arePlaces places ≡ true → (working : ℕ) (cs : List Call) → Formed (reached (opened places working) cs)
+
+-- two neighbours: f answers a at n, and b at the number after n
+abbrev pub Neighbours : {A : Type 0} → (ℕ → A) → ℕ → A → A → Type 0
+Neighbours f n a b = (f n ≡ a) × (f (suc n) ≡ b)
+
+-- something of each spare, in the order of textures and parking
 abbrev pub inSpares : {A : Type 0} → (Spare ℕ → A) → PoolModel ℕ → List A
 inSpares f p = flatMap (λ (t : VersionState ℕ). map f (t .spares)) (p .textures)
 
@@ -98,30 +115,27 @@ abbrev pub inSparesAfter : {A : Type 0} → (Spare ℕ → A) → Out ℕ (Unit 
 inSparesAfter f (refused n) = none
 inSparesAfter f (accepted a p) = some (inSpares f p)
 
-abbrev pub parkings : Out ℕ (Unit {0}) → Option (List ℕ)
-parkings o = inSparesAfter (λ (s : Spare ℕ). s .parked) o
+-- the submission that a spare was parked in
+abbrev pub parkedIn : Spare ℕ → ℕ
+parkedIn s = s .parked
 
-abbrev pub heldWrites : Out ℕ (Unit {0}) → Option (List Held)
-heldWrites o = inSparesAfter (λ (s : Spare ℕ). s .held) o
+abbrev pub heldWrites : Spare ℕ → Held
+heldWrites s = s .held
 
 -- a texture with one spare, parked in submission 10
 unfoldable pub parkedAt10 : PoolModel ℕ
-parkedAt10 = reached (opened sampleLent 0) (renameOf (flatShape 2 64 64 1 1 0) false 900 10 ++ (between (popCall 10) ∷ between (parkCall 0 10) ∷ []))
+parkedAt10 = reached (opened sampleLent 0) (rename (flatShape 2 64 64 1 1 0) Unknown noCover 900 10 ++ settle 10 0 10)
 
--- the last submission that it stays in
-abbrev pub lastStay : ℕ
-lastStay = 18
-
--- a texel's texture, renamed with a version left over each time; its spares are queued for destruction at once
+-- 678 versions of a texture of one texel become its spares, which a forget then queues for destruction at once
 abbrev pub texelShape : VersionShape
 texelShape = flatShape 2 1 1 1 1 0
 
 unfoldable pub queued678 : PoolModel ℕ
 queued678 =
-    reached (opened (record { textures = 1; versions = 678; pages = 0 }) 0)
-    (flatMap (λ (v : ℕ). renameOf texelShape false v 10) (replicate 678 2)
-    ++ (flatMap (λ (v : ℕ). between (popCall 10) ∷ between (parkCall 0 10) ∷ []) (replicate 678 2) ++ (between (forgetCall 1) ∷ [])))
+    reached (opened (record { textures = 1; versions = 678; pages = 1 }) 0)
+    (times 678 (rename texelShape Unknown noCover 2 10) ++ times 678 (settle 10 0 10) ++ (between (forgetCall 7) ∷ []))
 
+-- how many views are handed out; none where that is not the answer
 unfoldable pub handedOut : Reply → Option ℕ
 handedOut (refusal n) = none
 handedOut done = none
@@ -130,25 +144,18 @@ handedOut (copiesPlanned cs) = none
 handedOut (versionPopped v) = none
 handedOut (viewsHanded vs) = some (length vs)
 
--- the submission of the retirement before
-abbrev pub birthEdge : ℕ
-birthEdge = 5
-
--- the hand has a version whose texture's retirement before its own was in that submission, retired in the next with 3 writes
+-- the hand has a version whose texture's retirement before its own was in submission 5, retired with 3 writes; the version retired in 5 is a spare
 unfoldable pub bornIn5 : PoolModel ℕ
 bornIn5 =
     reached (opened sampleLent 0)
-    (renameOf texelShape true 899 birthEdge
-    ++ (replicate 3 (between (writeCall 1 0 0 (record { x = 0; y = 0; width = 1; height = 1 })))
-    ++ (renameOf texelShape true 900 (suc birthEdge) ++ (between (popCall 6) ∷ between (parkCall 0 6) ∷ between (popCall 6) ∷ []))))
+    (rename texelShape Unknown noCover 899 5 ++ times 3 (write 0 0 0 0 1 1) ++ rename texelShape Unknown noCover 900 6 ++ settle 6 0 6
+    ++ (between (popCall 6) ∷ []))
 
--- the starred edges, in 01's order; of two neighbours the second is said as the first's
+-- the starred edges, in 01's order
 pub record Edges : Type 0 where
   -- "Extent 512: edge 16; 513: 17, or 20 with 4-texel blocks"
-  pub edge-512 : _≡_ {A = ℕ} (tileEdge 512 1) 16
-  pub edge-512-blocks : _≡_ {A = ℕ} (tileEdge 512 4) 16
-  pub edge-513 : _≡_ {A = ℕ} (tileEdge (suc 512) 1) 17
-  pub edge-513-blocks : _≡_ {A = ℕ} (tileEdge (suc 512) 4) 20
+  pub edge : Neighbours (λ (extent : ℕ). tileEdge extent 1) 512 16 17
+  pub edge-blocks : Neighbours (λ (extent : ℕ). tileEdge extent 4) 512 16 20
   -- "5 by 5, format 5, two levels: 40 bytes, cube 240"
   pub bytes : _≡_ {A = ℕ} (bytesOf (flatShape 5 5 5 1 2 0)) 40
   pub bytes-cube : _≡_ {A = ℕ} (bytesOf (flatShape 5 5 5 1 2 1)) 240
@@ -157,10 +164,9 @@ pub record Edges : Type 0 where
   pub working-7 : budgetOf 7 ≡ record { cap = 0; line = 3 }
   -- "Parked 10: stays at now 18, goes at 19"
   pub parked-formed : Formed parkedAt10
-  pub parked : inSpares (λ (s : Spare ℕ). s .parked) parkedAt10 ≡ 10 ∷ []
+  pub parked : inSpares parkedIn parkedAt10 ≡ 10 ∷ []
   pub parked-total : _≡_ {A = ℕ} (parkedAt10 .parked) 16384
-  pub stays : parkings (trim parkedAt10 lastStay) ≡ some (10 ∷ [])
-  pub goes : parkings (trim parkedAt10 (suc lastStay)) ≡ some []
+  pub stays-then-goes : Neighbours (λ (now : ℕ). inSparesAfter parkedIn (trim parkedAt10 now)) 18 (some (10 ∷ [])) (some [])
   -- "678 queued at once in an opened pool: 170, 149, 130, 114, 100, 15"
   pub queued-formed : Formed queued678
   pub queued : _≡_ {A = ℕ} (length (queued678 .doomed)) 678
@@ -169,6 +175,7 @@ pub record Edges : Type 0 where
       ≡ some 170 ∷ some 149 ∷ some 130 ∷ some 114 ∷ some 100 ∷ some 15 ∷ []
   -- "Birth 5: unknown with failed 5, known with 4"
   pub born-formed : Formed bornIn5
-  pub born : bornIn5 .hand ≡ some (record { id = 1; view = 900; seq = 6; epoch = 1; birth = birthEdge; held = 3; bytes = 4 })
-  pub failed-5 : heldWrites (park bornIn5 birthEdge 7) ≡ some (Known 0 ∷ Unknown ∷ [])
-  pub failed-4 : heldWrites (park bornIn5 (birthEdge - 1) 7) ≡ some (Known 0 ∷ Known 3 ∷ [])
+  pub born : bornIn5 .hand ≡ some (record { id = 7; view = 900; seq = 6; epoch = 1; birth = 5; held = 3; bytes = 4 })
+  pub known-then-unknown : Neighbours (λ (failed : ℕ). inSparesAfter heldWrites (park bornIn5 failed 7)) 4
+      (some (Known 0 ∷ Known 3 ∷ []))
+      (some (Known 0 ∷ Unknown ∷ []))

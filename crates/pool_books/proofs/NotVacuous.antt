@@ -1,5 +1,4 @@
--- Along any list, whether it keeps to renames or not: a level is left out only where some plan of the list names it as covered, and the count and the
--- books go on.
+-- What specs/NotVacuous.antt says of demand 3. What is left out and what is counted is proved along any list, whether it keeps to renames or not.
 use Prim.Native.Nat.{ℕ, suc}
 use mathlib.Core.Path.{_≡_, refl, sym, subst}
 use mathlib.Core.Bool.{Bool, true, false, not, _&&_}
@@ -23,9 +22,27 @@ use Rattle.pool_rules.specs.Trim.{trim}
 use Rattle.pool_rules.specs.ForgetTexture.{forgetTexture}
 use Rattle.pool_books.specs.VersionBook.{Retired, Book, Books, put, changeBook, newBook, startBook, writesWhole, bookWrite, bookRegeneration, notCopied, skipped, renamed, carriedBy}
 use Rattle.pool_books.specs.Lists.{Between, writeCall, regenCall, popCall, parkCall, noteCall, doomedCall, drainCall, trimCall, forgetCall, Call, takeCall, planCall, retireCall, between, Phase, idle, taken, planned}
-use Rattle.pool_books.specs.Lists.{State, afterTake, planIn, afterPlan, renameIn, afterRetire, justPool, marking, readyBetween, stepBetween, step, run, start}
-use Rattle.pool_books.specs.Shown.{CoversNot, NeverCovers, LeftOutByCoverOnly, nextIfAccepted, countAfter, GoesOn}
+use Rattle.pool_books.specs.Lists.{State, afterTake, planIn, afterPlan, renameIn, afterRetire, justPool, marking, readyBetween, stepBetween, step, run, Renames, start}
+use Rattle.pool_books.specs.Demand3.{Agrees}
+use Rattle.pool_books.specs.NotVacuous.{AsksNoMore, CoversNot, NeverCovers, LeftOutByCoverOnly, nextIfAccepted, countAfter, NumbersGoOn, Demand3WrittenOut}
 use Rattle.pool_books.proofs.Marks.{change-some, change-none}
+use Rattle.pool_books.proofs.Demand3.{agree-after}
+
+-- ---- what is asked
+
+pub asks-no-more : AsksNoMore
+unfolding Renames
+asks-no-more = record {
+  texels = λ s t slice level x y z. record { slice = slice; level = level; x = x; y = y; z = z };
+  takes = λ id shape records seq. tt;
+  betweens = λ c. tt;
+  plans = λ id shape held new u buffer. (refl, refl, refl);
+  retires = λ id skip new view seq. refl;
+  ends = λ s. tt;
+  goes-on = λ s c cs a k. (a, k);
+}
+
+-- ---- what is left out
 
 and-no : (a b : Bool) → b ≡ false → a && b ≡ false
 and-no true b e = e
@@ -132,7 +149,7 @@ pub left-out-by-cover-only : LeftOutByCoverOnly
 unfolding start
 left-out-by-cover-only slice level places working cs e id b q = subst (Kept slice level) q (run-kept slice level (start places working) cs e ((λ i. tt), tt) .0 id)
 
--- ---- the count and the books go on
+-- ---- how numbers go on
 
 module _ (s : State) where
   take-count : (id : ℕ) (shape : VersionShape) (o : Out Retired (Option (Spare Retired))) → afterTake s id shape o .count ≡ s .count
@@ -174,6 +191,16 @@ module _ (s : State) where
   step-count (between (trimCall now)) = just-count (trim (s .pool) now)
   step-count (between (forgetCall id)) = just-count (forgetTexture (s .pool) id)
 
-pub goes-on : GoesOn
+pub numbers-go-on : NumbersGoOn
 unfolding startBook
-goes-on = record { count = step-count; books = λ id shape b books e. rw e refl }
+numbers-go-on = record { count = step-count; books = λ id shape b books e. rw e refl }
+
+-- ---- the claim written out
+
+of-book : (o : Option Book) (b : Book) → o ≡ some b → Agrees o → Agrees (some b)
+of-book o b e k = subst Agrees e k
+
+pub demand3-written-out : Demand3WrittenOut
+unfolding Agrees
+demand3-written-out places working cs k id b e t slice level x y z left =
+    of-book _ b e (agree-after places working cs k id) t (record { slice = slice; level = level; x = x; y = y; z = z }) left
