@@ -1,11 +1,11 @@
 #!/usr/bin/env python3
-"""For each edit of a rule or of a book that demand 3 rests on: that the claim is false of the edited definitions, `Demand3 → ⊥`. So an edit does not
-merely break a proof's text, and the claim as it is written sees it. The proof is a list of calls, keeping to renames, after which the live number of
-a texel of the shape that is not left out differs from the plain book's; of several lists each refutes the claim for itself.
+"""Proves, for each edit of a rule or of a book that demand 3 rests on, that the claim is false of the edited definitions: `Demand3 → ⊥`. So an edit does
+not merely break a proof's text, and a claim that an edit has made true is seen. What refutes it is a list of calls that keeps to renames, after which the
+live number of a texel of the shape, in a level that is not left out, is not the plain book's. Where an edit has several lists, each refutes the claim.
 
-Each edit is applied to a copy of the definitions of the crates pool_rules and pool_books, below target/counterexamples, and the counterexample is a computed
-theorem there. Run from anywhere, after 'rt check pool_books'; 'run.py CRATE/EDIT ..' tries some of them. Exit status 0 if every edit is refuted.
-'run.py control' tries the same theorems over the definitions as they are, where each has to be refused."""
+Each edit is applied to a copy of the definitions of the crates pool_rules and pool_books, below target/counterexamples, and the refutation is a computed
+theorem there. Run from anywhere, after 'rt check pool_books'; 'run.py CRATE/EDIT ..' tries some of them. Exit status 0 if the claim is refuted for every edit.
+'run.py control' tries the same theorems over the definitions as they are, where each refutation has to be refused."""
 import os
 import re
 import shutil
@@ -16,9 +16,10 @@ root = os.path.dirname(os.path.dirname(os.path.abspath(__file__)))
 out = root + '/target/counterexamples'
 crates = ['base_blocks', 'grid_shapes', 'grid_rects', 'grid_axes', 'grid_stamps', 'pool_rules', 'pool_books']
 
-FLAT = '(shapeOf 2 64 64 1 1 0)'
-CUBE = '(shapeOf 2 8 8 1 3 1)'
-VOLUME = '(shapeOf 2 8 8 4 3 2)'
+# the sample's shape, and those of specs/ComputedBooks.antt
+FLAT = '(flatShape 2 64 64 1 1 0)'
+CUBE = 'cube'
+VOLUME = 'volume'
 
 
 def write(x, y, w=1, h=1, slice=0, level=0):
@@ -35,19 +36,20 @@ def settle(failed):
 
 forget = ['between (forgetCall 7)']
 regenerate = ['between (regenCall 7)']
-# calls that change no book; with a rename, a write, a regeneration, a pop, a park and a forget they are the twelve
+# calls that change no book; with a rename, a write, a regeneration, a pop and a park, and a forget, they are the twelve
 others = ['between (noteCall 0)', 'between (trimCall 12)', 'between (doomedCall 90)', 'between (drainCall 90)']
 first = rename('Unknown', 900, 10)
 first_cube = rename('Unknown', 900, 10, shape=CUBE)
 first_volume = rename('Unknown', 900, 10, shape=VOLUME)
-# edit: for each list (shape, calls, texel as slice, level, x, y, z, the live version's number there, the plain book's)
+twelve = first + write(0, 0) + regenerate + settle(0) + others + forget + first
+# edit: lists, each as shape, calls, texel (slice, level, x, y, z), the live version's number there, the plain book's
 cases = {
     'pool_rules/copies_no_box': [
         (FLAT, first + write(0, 0) + settle(0) + rename('(Known 0)', 901, 11), (0, 0, 0, 0, 0), 'some 0', 1),
         (CUBE, first_cube + write(1, 1, slice=5, level=2) + settle(0) + rename('(Known 0)', 901, 11, shape=CUBE), (5, 2, 1, 1, 0), 'some 0', 1),
-        (VOLUME, first_volume + write(3, 3, level=1) + settle(0) + rename('(Known 0)', 901, 11, shape=VOLUME), (0, 1, 3, 3, 1), 'some 0', 1),
-        # each of the twelve calls before it; the number is the next one although takes stand between
-        (FLAT, first + write(0, 0) + regenerate + settle(0) + others + forget + rename('Unknown', 900, 10) + write(40, 40) + settle(0) + rename('(Known 0)', 901, 11), (0, 0, 40, 40, 0), 'some 0', 3),
+        (VOLUME, first_volume + write(4, 2, level=1) + settle(0) + rename('(Known 0)', 901, 11, shape=VOLUME), (0, 1, 4, 2, 1), 'some 0', 1),
+        # After each of the twelve calls: the plain number is the next one, although a take stands between.
+        (FLAT, twelve + write(40, 40) + settle(0) + rename('(Known 0)', 901, 11), (0, 0, 40, 40, 0), 'some 0', 3),
     ],
     'pool_rules/stamps_first_write_only': [
         (FLAT, first + write(0, 0) + write(40, 40) + settle(0) + rename('(Known 0)', 901, 11), (0, 0, 40, 40, 0), 'some 0', 2),
@@ -61,7 +63,7 @@ cases = {
     ],
     'pool_rules/ignores_failed': [
         (FLAT, first + write(0, 0) + settle(5) + rename('(Known 0)', 901, 11), (0, 0, 50, 50, 0), 'none', 0),
-        (VOLUME, first_volume + write(0, 0) + settle(5) + rename('(Known 0)', 901, 11, shape=VOLUME), (0, 1, 3, 3, 1), 'none', 0),
+        (VOLUME, first_volume + write(0, 0) + settle(5) + rename('(Known 0)', 901, 11, shape=VOLUME), (0, 1, 4, 2, 1), 'none', 0),
     ],
     'pool_rules/birth_strict': [
         (FLAT, rename('Unknown', 900, 5) + rename('Unknown', 901, 6) + write(0, 0) + settle(0) + settle(5) + rename('(Known 0)', 902, 11), (0, 0, 50, 50, 0), 'none', 0),
@@ -114,33 +116,36 @@ def declare(folder, copied):
 
 
 def theorems(i, unfolding, shape, calls, texel, live, plain):
-    """One list's: it keeps to renames, the numbers differ at a texel that is not left out, the texel is one of the shape, and the claim is false."""
+    """One list's theorems, of which the last is that the claim is false."""
     return f'''
 abbrev there{i} : Texel
-there{i} = record {{ slice = {texel[0]}; level = {texel[1]}; x = {texel[2]}; y = {texel[3]}; z = {texel[4]} }}
+there{i} = texel {' '.join(map(str, texel))}
 
 abbrev list{i} : List Call
 list{i} = {' ∷ '.join(calls)} ∷ []
 
--- the list keeps to renames
-renames{i} : Renames (start roomy 0) list{i}
-{unfolding} flatMap
-renames{i} = {allowed(calls)}
+abbrev book{i} : Option Book
+book{i} = run (start cubeLent 0) list{i} .books 7
 
--- the live number differs from the plain book's, at a texel that is not left out
-differs{i} : (liveAt (run (start roomy 0) list{i} .books 7) there{i} ≡ {live}) × (plainAt (run (start roomy 0) list{i} .books 7) there{i} ≡ some {plain})
-{unfolding} flatMap
-differs{i} = (refl, refl)
+-- the list keeps to renames
+renames{i} : Renames (start cubeLent 0) list{i}
+{unfolding}
+renames{i} = {allowed(calls)}
 
 -- the texel is one of the shape
 inside{i} : Inside {shape} there{i}
-unfolding shapeOf slicesOf levelWidth levelHeight levelDepth levelExtent
+unfolding flatShape slicesOf levelWidth levelHeight levelDepth levelExtent
 inside{i} = record {{ slice = omega arith; level = omega arith; x = omega arith; y = omega arith; z = omega arith }}
+
+-- the live number there is not the plain book's, and the level is not left out
+differs{i} : (liveAt book{i} there{i} ≡ {live}) × (plainAt book{i} there{i} ≡ some {plain}) × (leftAt book{i} there{i} ≡ some false)
+{unfolding}
+differs{i} = (refl, refl, refl)
 
 -- so the claim is false
 refuted{i} : Demand3 → ⊥
-{unfolding} flatMap Demand3By Agrees
-refuted{i} d = subst (Not {plain}) (d roomy 0 list{i} renames{i} {'.2 ' * len(calls)}.agrees 7 there{i} inside{i} refl) tt
+{unfolding} Demand3 Agrees
+refuted{i} claim = subst (AnyBut {plain}) (claim cubeLent 0 list{i} renames{i} {'.2 ' * len(calls)}.agrees 7 there{i} inside{i} refl) tt
 '''
 
 
@@ -181,7 +186,7 @@ def refute(case, edited=True):
     names = [('%s.specs.%s' % ('Rattle·' + c, m), n) for c in lower for m, n in unfoldable(c, ('Outcomes',))]
     names += [(own + m, n) for c in copied for m, n in unfoldable(c, ('Formed', 'Closed', 'Demand3', 'LentLists'))]
     uses = ''.join('use %s.{%s}\n' % (m, ', '.join(n for k, n in names if k == m)) for m in dict.fromkeys(m for m, n in names))
-    unfolding = 'unfolding %s' % ' '.join(n for m, n in names)
+    unfolding = 'unfolding %s flatMap' % ' '.join(n for m, n in names)
     open(d + '/proofs/Lib.antt', 'w').write('pub mod Counterexample\n')
     open(d + '/proofs/Counterexample.antt', 'w').write(f'''use Prim.Native.Nat.{{ℕ}}
 use mathlib.Core.Path.{{_≡_, refl, subst}}
@@ -191,42 +196,31 @@ use mathlib.Core.List.{{List, [], _∷_, flatMap}}
 use lib.Dec.{{eqb}}
 use native.Mathlib.Omega.{{arith}}
 use {own}declared.held.Held.the-variants.{{Known, Unknown}}
-use {own}Model.{{Places, UploadFootprint}}
+use {own}Model.{{UploadFootprint}}
 use {own}Texels.{{Texel, Inside}}
-use {own}Demand3.{{Demand3, Demand3By, Agrees}}
 use {own}VersionBook.{{Book}}
-use {own}Lists.{{writeCall, regenCall, popCall, parkCall, noteCall, doomedCall, drainCall, trimCall, forgetCall, Call, takeCall, planCall, retireCall, between, run, Renames}}
+use {own}Lists.{{writeCall, regenCall, popCall, parkCall, noteCall, doomedCall, drainCall, trimCall, forgetCall, Call, takeCall, planCall, retireCall, between}}
+use {own}Demand3.{{Demand3, Agrees}}
 use {own}Sample.{{noCover}}
+use {own}ComputedBooks.{{texel, cube, volume, cubeLent, liveAt, plainAt, leftAt}}
 {uses}
-abbrev roomy : Places
-roomy = record {{ textures = 2; versions = 8; pages = 18 }}
-
 abbrev fullCover : UploadFootprint
 fullCover = record {{ slice = 0; level = 0; cover = true }}
 
-abbrev liveAt : Option Book → Texel → Option ℕ
-liveAt none t = none
-liveAt (some b) t = b .live t
-
--- none where the texel's level is left out
-abbrev plainAt : Option Book → Texel → Option ℕ
-plainAt none t = none
-plainAt (some b) t = cond (b .left (t .slice) (t .level)) none (some (b .plain t))
-
--- which of two numbers it is
-abbrev Not : ℕ → Option ℕ → Type 0
-Not k none = Unit {{0}}
-Not k (some n) = cond (eqb n k) ⊥ (Unit {{0}})
+-- holds of unknown and of each number but k
+abbrev AnyBut : ℕ → Option ℕ → Type 0
+AnyBut k none = Unit {{0}}
+AnyBut k (some n) = cond (eqb n k) ⊥ (Unit {{0}})
 ''' + ''.join(theorems(i, unfolding, *one) for i, one in enumerate(cases[case])))
     words = ['rt', 'check', d, '-L', 'dependency=%s/target/rlib' % root]
     for c in lower:
         words += ['--extern', '%s=%s/target/rlib/%s.rlib' % (c, root, c)]
     r = subprocess.run(words, capture_output=True, text=True, cwd=out)
     open('%s/%s.out' % (out, name), 'w').write(r.stdout + r.stderr)
-    # of the definitions as they are no list may refute the claim, of the edited ones each has to
-    if not edited:
-        return not all('error: `refuted%d`' % i in r.stdout + r.stderr for i in range(len(cases[case])))
-    return 'logic=proved' in r.stdout + r.stderr
+    # Over the edited definitions each list has to refute the claim, over those as they are none may.
+    if edited:
+        return 'logic=proved' in r.stdout + r.stderr
+    return not all('error: `refuted%d`' % i in r.stdout + r.stderr for i in range(len(cases[case])))
 
 
 if __name__ == '__main__':

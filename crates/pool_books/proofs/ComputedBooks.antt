@@ -1,10 +1,9 @@
 -- What specs/ComputedBooks.antt has with numbers, by computation.
-use Prim.Native.Nat.{ℕ, _<_}
+use Prim.Native.Nat.{ℕ}
 use mathlib.Core.Path.{_≡_, refl}
 use mathlib.Core.List.{List, [], _∷_, flatMap}
 use native.Mathlib.Omega.{arith}
 use Rattle.base_blocks.specs.Lists.{ceilDiv, listed, keep, total, after, tests}
-use Rattle.grid_shapes.specs.declared.shape.VersionShape.{VersionShape}
 use Rattle.grid_shapes.specs.Formats.{blockEdge, blockBytes}
 use Rattle.grid_shapes.specs.Shapes.{isShape, sameShape, slicesOf, levelExtent, levelWidth, levelHeight, levelDepth, levelBytes, bytesOf}
 use Rattle.grid_rects.specs.Rects.{wholeLevel}
@@ -30,31 +29,77 @@ use Rattle.pool_books.specs.Lists.{afterTake, afterPlan, renameIn, after
 use Rattle.pool_books.specs.Sample.{flatShape, repliesOf, sample}
 use Rattle.pool_books.specs.Texels.{inRect, inWrite, isWhole}
 use Rattle.pool_books.specs.VersionBook.{put, changeBook, startBook, bookWrite, bookRegeneration, inCopy, copied, notCopied, skipped}
-use Rattle.pool_books.specs.ComputedBooks.{CornersInside, Corners, KeepToRenames, ComputedBooks}
-
-corners-inside : (s : VersionShape) (slice level column row z : ℕ)
-    → slice < slicesOf s → level < s .levels → column < levelWidth s level → row < levelHeight s level → z < levelDepth s level → CornersInside s slice level column row z
-corners-inside s slice level column row z a b c d e = (
-  record { slice = a; level = b; x = omega arith; y = omega arith; z = e },
-  record { slice = a; level = b; x = c; y = omega arith; z = e },
-  record { slice = a; level = b; x = omega arith; y = d; z = e },
-  record { slice = a; level = b; x = c; y = d; z = e },
-)
+use Rattle.pool_books.specs.ComputedBooks.{Corners, KeepToRenames, ComputedBooks}
 
 pub corners : Corners
 unfolding flatShape slicesOf levelWidth levelHeight levelDepth levelExtent
 corners = record {
-  cube-0-first = corners-inside _ _ _ _ _ _ (omega arith) (omega arith) (omega arith) (omega arith) (omega arith);
-  cube-0-last = corners-inside _ _ _ _ _ _ (omega arith) (omega arith) (omega arith) (omega arith) (omega arith);
-  cube-1-first = corners-inside _ _ _ _ _ _ (omega arith) (omega arith) (omega arith) (omega arith) (omega arith);
-  cube-1-last = corners-inside _ _ _ _ _ _ (omega arith) (omega arith) (omega arith) (omega arith) (omega arith);
-  cube-2-first = corners-inside _ _ _ _ _ _ (omega arith) (omega arith) (omega arith) (omega arith) (omega arith);
-  cube-2-last = corners-inside _ _ _ _ _ _ (omega arith) (omega arith) (omega arith) (omega arith) (omega arith);
-  volume-0-first = corners-inside _ _ _ _ _ _ (omega arith) (omega arith) (omega arith) (omega arith) (omega arith);
-  volume-0-last = corners-inside _ _ _ _ _ _ (omega arith) (omega arith) (omega arith) (omega arith) (omega arith);
-  volume-1-first = corners-inside _ _ _ _ _ _ (omega arith) (omega arith) (omega arith) (omega arith) (omega arith);
-  volume-1-last = corners-inside _ _ _ _ _ _ (omega arith) (omega arith) (omega arith) (omega arith) (omega arith);
-  volume-2 = corners-inside _ _ _ _ _ _ (omega arith) (omega arith) (omega arith) (omega arith) (omega arith);
+  cube-0-first = (
+    record { slice = omega arith; level = omega arith; x = omega arith; y = omega arith; z = omega arith },
+    record { slice = omega arith; level = omega arith; x = omega arith; y = omega arith; z = omega arith },
+    record { slice = omega arith; level = omega arith; x = omega arith; y = omega arith; z = omega arith },
+    record { slice = omega arith; level = omega arith; x = omega arith; y = omega arith; z = omega arith },
+  );
+  cube-0-last = (
+    record { slice = omega arith; level = omega arith; x = omega arith; y = omega arith; z = omega arith },
+    record { slice = omega arith; level = omega arith; x = omega arith; y = omega arith; z = omega arith },
+    record { slice = omega arith; level = omega arith; x = omega arith; y = omega arith; z = omega arith },
+    record { slice = omega arith; level = omega arith; x = omega arith; y = omega arith; z = omega arith },
+  );
+  cube-1-first = (
+    record { slice = omega arith; level = omega arith; x = omega arith; y = omega arith; z = omega arith },
+    record { slice = omega arith; level = omega arith; x = omega arith; y = omega arith; z = omega arith },
+    record { slice = omega arith; level = omega arith; x = omega arith; y = omega arith; z = omega arith },
+    record { slice = omega arith; level = omega arith; x = omega arith; y = omega arith; z = omega arith },
+  );
+  cube-1-last = (
+    record { slice = omega arith; level = omega arith; x = omega arith; y = omega arith; z = omega arith },
+    record { slice = omega arith; level = omega arith; x = omega arith; y = omega arith; z = omega arith },
+    record { slice = omega arith; level = omega arith; x = omega arith; y = omega arith; z = omega arith },
+    record { slice = omega arith; level = omega arith; x = omega arith; y = omega arith; z = omega arith },
+  );
+  cube-2-first = (
+    record { slice = omega arith; level = omega arith; x = omega arith; y = omega arith; z = omega arith },
+    record { slice = omega arith; level = omega arith; x = omega arith; y = omega arith; z = omega arith },
+    record { slice = omega arith; level = omega arith; x = omega arith; y = omega arith; z = omega arith },
+    record { slice = omega arith; level = omega arith; x = omega arith; y = omega arith; z = omega arith },
+  );
+  cube-2-last = (
+    record { slice = omega arith; level = omega arith; x = omega arith; y = omega arith; z = omega arith },
+    record { slice = omega arith; level = omega arith; x = omega arith; y = omega arith; z = omega arith },
+    record { slice = omega arith; level = omega arith; x = omega arith; y = omega arith; z = omega arith },
+    record { slice = omega arith; level = omega arith; x = omega arith; y = omega arith; z = omega arith },
+  );
+  volume-0-first = (
+    record { slice = omega arith; level = omega arith; x = omega arith; y = omega arith; z = omega arith },
+    record { slice = omega arith; level = omega arith; x = omega arith; y = omega arith; z = omega arith },
+    record { slice = omega arith; level = omega arith; x = omega arith; y = omega arith; z = omega arith },
+    record { slice = omega arith; level = omega arith; x = omega arith; y = omega arith; z = omega arith },
+  );
+  volume-0-last = (
+    record { slice = omega arith; level = omega arith; x = omega arith; y = omega arith; z = omega arith },
+    record { slice = omega arith; level = omega arith; x = omega arith; y = omega arith; z = omega arith },
+    record { slice = omega arith; level = omega arith; x = omega arith; y = omega arith; z = omega arith },
+    record { slice = omega arith; level = omega arith; x = omega arith; y = omega arith; z = omega arith },
+  );
+  volume-1-first = (
+    record { slice = omega arith; level = omega arith; x = omega arith; y = omega arith; z = omega arith },
+    record { slice = omega arith; level = omega arith; x = omega arith; y = omega arith; z = omega arith },
+    record { slice = omega arith; level = omega arith; x = omega arith; y = omega arith; z = omega arith },
+    record { slice = omega arith; level = omega arith; x = omega arith; y = omega arith; z = omega arith },
+  );
+  volume-1-last = (
+    record { slice = omega arith; level = omega arith; x = omega arith; y = omega arith; z = omega arith },
+    record { slice = omega arith; level = omega arith; x = omega arith; y = omega arith; z = omega arith },
+    record { slice = omega arith; level = omega arith; x = omega arith; y = omega arith; z = omega arith },
+    record { slice = omega arith; level = omega arith; x = omega arith; y = omega arith; z = omega arith },
+  );
+  volume-2 = (
+    record { slice = omega arith; level = omega arith; x = omega arith; y = omega arith; z = omega arith },
+    record { slice = omega arith; level = omega arith; x = omega arith; y = omega arith; z = omega arith },
+    record { slice = omega arith; level = omega arith; x = omega arith; y = omega arith; z = omega arith },
+    record { slice = omega arith; level = omega arith; x = omega arith; y = omega arith; z = omega arith },
+  );
 }
 
 pub keep-to-renames : KeepToRenames
