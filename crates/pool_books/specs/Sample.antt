@@ -126,10 +126,10 @@ heldWrites s = s .held
 unfoldable pub parkedAt10 : PoolModel ℕ
 parkedAt10 = reached (opened sampleLent 0) (rename (flatShape 2 64 64 1 1 0) Unknown noCover 900 10 ++ settle 10 0 10)
 
--- 678 versions of a texture of one texel become its spares, which a forget then queues for destruction at once
 abbrev pub texelShape : VersionShape
 texelShape = flatShape 2 1 1 1 1 0
 
+-- 678 versions of a texture of one texel became its spares, which a forget then queued for destruction at once
 unfoldable pub queued678 : PoolModel ℕ
 queued678 =
     reached (opened (record { textures = 1; versions = 678; pages = 1 }) 0)
