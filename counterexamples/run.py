@@ -15,7 +15,7 @@ root = os.path.dirname(os.path.dirname(os.path.abspath(__file__)))
 out = root + '/target/counterexamples'
 crates = ['base_blocks', 'grid_shapes', 'grid_rects', 'grid_axes', 'grid_stamps', 'pool_rules', 'pool_books']
 
-SHAPE = '(shapeOf 2 64 64 1 1 0)'
+SHAPE = '(flatShape 2 64 64 1 1 0)'
 
 
 def write(x, y, w=1, h=1):
@@ -133,7 +133,7 @@ use {own}Model.{{UploadFootprint}}
 use {own}Texels.{{Texel}}
 use {own}VersionBook.{{Book}}
 use {own}Lists.{{writeCall, regenCall, popCall, parkCall, forgetCall, Call, takeCall, planCall, retireCall, between}}
-use {own}Sample.{{lent, noCover}}
+use {own}Sample.{{sampleLent, noCover}}
 {uses}
 abbrev fullCover : UploadFootprint
 fullCover = record {{ slice = 0; level = 0; cover = true }}
@@ -154,12 +154,12 @@ abbrev list : List Call
 list = {' ∷ '.join(calls)} ∷ []
 
 -- the list keeps to renames
-renames : Renames (start lent 0) list
+renames : Renames (start sampleLent 0) list
 {unfolding} flatMap
 renames = {allowed(calls)}
 
 -- and the live number differs from the plain book's, at a texel that is not left out
-differs : (liveAt (run (start lent 0) list .books 7) there ≡ {live}) × (plainAt (run (start lent 0) list .books 7) there ≡ some {plain})
+differs : (liveAt (run (start sampleLent 0) list .books 7) there ≡ {live}) × (plainAt (run (start sampleLent 0) list .books 7) there ≡ some {plain})
 {unfolding} flatMap
 differs = (refl, refl)
 ''')

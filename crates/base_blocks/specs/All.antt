@@ -1,4 +1,4 @@
--- A property of every element of a list.
+-- Rule: A property of every element of a list.
 use mathlib.Core.List.{List, [], _∷_}
 
 pub data All {ℓ} {A : Type ℓ} (P : A → Type 0) : List A → Type ℓ where

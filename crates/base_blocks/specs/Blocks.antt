@@ -1,4 +1,4 @@
--- Blocks of numbers within one list.
+-- Rule: The largest number of a list (`largest`), and blocks of numbers moved, turned and looked through within one list.
 use Prim.Native.Nat.{ℕ, _+_}
 use mathlib.Core.Bool.{Bool, false, _||_}
 use mathlib.Core.List.{List, [], _∷_, _++_, reverse}

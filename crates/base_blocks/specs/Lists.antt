@@ -1,4 +1,4 @@
--- Lists and numbers: what every layer's definitions are made of.
+-- Rule: Lists and numbers: what every layer's definitions are made of.
 use Prim.Native.Nat.{ℕ, zero, suc, _+_, _-_, _/_}
 use mathlib.Core.List.{List, [], _∷_, _++_}
 use mathlib.Core.Bool.{Bool, true, _&&_, cond}

@@ -1,4 +1,4 @@
--- A list of numbers as a table of records of w numbers each: rd reads a record from the front of a list, wr writes one out.
+-- Rule: A list of numbers as a table of records of w numbers each: rd reads a record from the front of a list, wr writes one out.
 use Prim.Native.Nat.{ℕ, _*_}
 use mathlib.Core.List.{List, [], _∷_, _++_}
 use lib.ListN.{drop}

@@ -1,4 +1,4 @@
--- A ring of records of w numbers each: cap places in one list of numbers, the first record at place head, wrapping at the end.
+-- Rule: A ring of records of w numbers each: cap places in one list of numbers, the first record at place head, wrapping at the end.
 use Prim.Native.Nat.{ℕ, _+_, _*_, _-_, suc}
 use mathlib.Core.Bool.{cond}
 use mathlib.Core.List.{List, [], _∷_}

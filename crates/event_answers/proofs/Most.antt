@@ -75,7 +75,7 @@ unfolding heldField
 held-most (Known n) = digits-room n
 held-most Unknown = omega arith
 
--- an acceptedText call's line of two fields at most, and of a count with rows behind it
+-- an accepted call's line of two fields at most, and of a count with rows behind it
 pair-most : (n : ℕ) (fs : List (List ℕ)) → Few 2 fs → length (acceptedRow n fs) ≤ 147
 unfolding Few
 pair-most n fs h = let g = row-most n 3 (acceptedText ∷ fs) (omega arith, h) in omega arith

@@ -60,7 +60,7 @@ pub put-field : {a b c : List ℕ} {i j k : ℕ} (f : List ℕ) (fs : List (List
 unfolding fieldsEnded
 put-field f fs p q = put-then p q
 
--- behind the outcome of an acceptedText call
+-- behind the outcome of an accepted call
 pub put-accepted : {a b c : List ℕ} {i j k : ℕ} (n : ℕ) (fs : List (List ℕ)) → Put a i (digitsOf n ++ (comma ∷ acceptedText)) j b → Put b j (fieldsEnded fs) k c
     → Put a i (acceptedRow n fs) k c
 unfolding fieldsEnded

@@ -1,4 +1,4 @@
--- What an answer says, with the answer buffers: the reply of a call, or none where no call was made.
+-- Helper: What an answer of the code says together with the answer buffers: the reply of a call, or none where no call was made.
 use Prim.Native.Nat.{ℕ, _*_, _≤_}
 use mathlib.Core.Option.{Option, none, some}
 use mathlib.Core.List.{List}

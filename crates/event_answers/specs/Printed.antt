@@ -1,4 +1,4 @@
--- The output of the event program (01, "Upload rectangle, event program"): line number, outcome and, if acceptedText, answer fields; "-" is none,
+-- Rule: The output of the event program (01, "Upload rectangle, event program"): line number, outcome and, if accepted, answer fields; "-" is none,
 -- unknown or whole. Views and copies stand on lines of their own, each after the line number.
 use Prim.Native.Nat.{ℕ, _+_, _*_}
 use mathlib.Core.Option.{Option, none, some}
@@ -49,7 +49,7 @@ copyRow n c = row n (digitsOf (c .slice) ∷ digitsOf (c .level) ∷ regionField
 unfoldable pub viewRow : ℕ → ℕ → List ℕ
 viewRow n view = row n (digitsOf view ∷ [])
 
--- an acceptedText call's line: outcome 0 and its fields
+-- an accepted call's line: outcome 0 and its fields
 abbrev pub acceptedRow : ℕ → List (List ℕ) → List ℕ
 acceptedRow n fields = row n (acceptedText ∷ fields)
 

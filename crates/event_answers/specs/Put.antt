@@ -1,4 +1,4 @@
--- Text put into a buffer, piece by piece.
+-- Helper: Text put into a buffer, piece by piece.
 use Prim.Native.Nat.{ℕ, _+_}
 use mathlib.Core.Path.{_≡_}
 use mathlib.Core.List.{List, [], _∷_, _++_}

@@ -1,4 +1,4 @@
--- What a call of the pool says as the answer of a line, and what it leaves.
+-- Helper: What a call of the pool says as the answer of a line, and what it leaves.
 use Prim.Native.Nat.{ℕ}
 use mathlib.Core.Path.{_≡_}
 use mathlib.Core.Option.{Option, none, some}

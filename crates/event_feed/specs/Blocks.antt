@@ -1,4 +1,4 @@
--- An input that comes in blocks: what is carried from one block to the next, what a block's output is, and that no cutting of an input shows.
+-- Rule: An input that comes in blocks: what is carried from block to block, what a block's output is, and that no cutting of an input shows.
 use Prim.Native.Nat.{ℕ, _+_}
 use mathlib.Core.Path.{_≡_}
 use mathlib.Core.List.{List, [], _∷_, _++_}

@@ -1,4 +1,4 @@
--- What is left in the buffer when bytes of it were run.
+-- Helper: What is left in the buffer when bytes of it were run.
 use Prim.Native.Nat.{ℕ, _+_, _-_, _≤_, _<_}
 use mathlib.Core.Path.{_≡_}
 use mathlib.Core.List.{List}

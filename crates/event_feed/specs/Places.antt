@@ -1,4 +1,4 @@
--- Where what is carried stands in the buffer that blocks are read into, and what feeding them answers.
+-- Rule: Where what is carried stands in the buffer that blocks are read into, and what feeding them answers: which bytes are put for output.
 use Prim.Native.Nat.{ℕ, _+_, _-_, _^_, _≤_, _<_}
 use mathlib.Core.Path.{_≡_}
 use mathlib.Core.List.{List, []}

@@ -1,4 +1,4 @@
--- The lines of the event program (01, "Upload rectangle, event program"): a word, and behind it fields of the kinds that the word asks for.
+-- Rule: The lines of the event program (01, "Upload rectangle, event program"): a word, and after it fields of the kinds that the word asks for.
 use Prim.Native.Nat.{ℕ, _^_}
 use mathlib.Core.Bool.{Bool, true, false, cond, _&&_, _||_}
 use mathlib.Core.List.{List, [], _∷_}

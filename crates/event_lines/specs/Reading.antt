@@ -1,4 +1,4 @@
--- What the functions that read a line's fields answer: the fields as numbers first, and then what each word asks of them.
+-- Helper: What the functions that read a line's fields answer: the fields as numbers first, then what each word asks of them.
 use Prim.Native.Nat.{ℕ, suc, _-_, _^_}
 use mathlib.Core.Bool.{Bool, true, false, cond, _&&_, _||_}
 use mathlib.Core.List.{List, [], _∷_}

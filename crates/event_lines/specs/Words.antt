@@ -1,4 +1,4 @@
--- The words that a line starts with, as bytes.
+-- Rule: The words that a line starts with, as bytes.
 use Prim.Native.Nat.{ℕ, _/_, _%_}
 use mathlib.Core.Path.{_≡_}
 use mathlib.Core.Bool.{cond}

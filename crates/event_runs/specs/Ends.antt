@@ -1,4 +1,4 @@
--- What the functions that look for a line's end answer.
+-- Helper: What the functions that look for a line's end answer.
 use Prim.Native.Nat.{ℕ, _+_}
 use mathlib.Core.Bool.{cond}
 use mathlib.Core.List.{List}

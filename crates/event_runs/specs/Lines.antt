@@ -1,4 +1,4 @@
--- The lines of an input, run one after the other (01, "Upload rectangle, event program").
+-- Rule: The lines of an input, run one after the other (01, "Upload rectangle, event program").
 use Prim.Native.Nat.{ℕ, _+_, _/_, _≤_, max}
 use mathlib.Core.Path.{_≡_}
 use mathlib.Core.Bool.{Bool, cond}

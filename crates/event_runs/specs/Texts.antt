@@ -1,4 +1,4 @@
--- The lines of an input to its end, and all of their output (01, "Upload rectangle, event program").
+-- Rule: The lines of an input to its end, and all of their output (01, "Upload rectangle, event program").
 use Prim.Native.Nat.{ℕ}
 use mathlib.Core.Bool.{cond}
 use mathlib.Core.List.{List, [], _∷_, _++_}

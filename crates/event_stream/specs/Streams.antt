@@ -1,4 +1,4 @@
--- What can be said of a run of standard input's lines: no contract says what a read brought, so it is some input; but every byte that came was fed, all
+-- Rule: What can be said of a run over standard input: no contract says what a read brought, so it is some input; but every byte that came was fed, all
 -- lines of it were run where it ended, and it is left before its end only where output could not be written or 2 ^ 64 - 131,072 bytes had come.
 use Prim.Native.Nat.{ℕ, _+_, _^_, _≤_, _<_}
 use mathlib.Core.Path.{_≡_}

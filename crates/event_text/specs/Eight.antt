@@ -1,4 +1,4 @@
--- The digits that eight bytes start with, and the numbers by which they are told at once.
+-- Helper: The digits that eight bytes start with, and the numbers by which the code tells them all at once.
 use Prim.Native.Nat.{ℕ, _+_, _*_, _/_, _^_}
 use mathlib.Core.List.{List, [], _∷_}
 use lib.Bits.{bitAnd, bitOr}

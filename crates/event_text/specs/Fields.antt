@@ -1,4 +1,4 @@
--- The fields of a line: its parts between commas (01, "Upload rectangle, event program").
+-- Rule: The fields of a line: its parts between commas (01, "Upload rectangle, event program").
 use Prim.Native.Nat.{ℕ, _+_}
 use mathlib.Core.Bool.{Bool, true, false, cond, _&&_}
 use mathlib.Core.List.{List, [], _∷_}

@@ -1,4 +1,4 @@
--- Numbers of a line: 1 to 20 digits, below 2^64. Leading zeros are digits.
+-- Rule: Numbers of a line: 1 to 20 digits, below 2^64. Leading zeros are digits.
 use mathlib.Core.Path.{_≡_}
 use Prim.Native.Nat.{ℕ, zero, suc, _+_, _*_, _-_, _/_, _%_, _^_, _≤_, _<_}
 use mathlib.Core.Bool.{Bool, cond, _&&_}

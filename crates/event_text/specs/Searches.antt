@@ -1,4 +1,4 @@
--- A byte looked for in a list of bytes.
+-- Helper: A byte looked for in a list of bytes.
 use Prim.Native.Nat.{ℕ, zero, suc}
 use mathlib.Core.Bool.{Bool, false, cond, _||_}
 use mathlib.Core.List.{List, [], _∷_}

@@ -1,4 +1,4 @@
--- One axis of a level: its tiles, and what a run of texels along it touches (01, "Levels, tiles, shapes" and "The stamp grid").
+-- Rule: One axis of a level: its tiles, and what a run of texels along it touches (01, "Levels, tiles, shapes" and "The stamp grid").
 -- A level's grid is made of two of these.
 use Prim.Native.Nat.{ℕ, suc, _+_, _-_, _*_, _/_, _≤_, _<_, min, max}
 use mathlib.Core.Bool.{Bool, cond}

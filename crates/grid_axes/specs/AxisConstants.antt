@@ -1,4 +1,4 @@
--- The numbers that have a name, each with its reason.
+-- Rule: The tile edge's least length and the most tiles along an axis, each with the Rust's reason.
 use Prim.Native.Nat.{ℕ}
 
 -- The smallest tile edge, in texels. The Rust: a write of a sprite's size covers a handful of tiles, so a copy is too large by

@@ -1,4 +1,4 @@
--- Bytes of a copy (01, "Added: bytes of a copy").
+-- Rule: Bytes of a copy (01, "Added: bytes of a copy").
 use Prim.Native.Nat.{ℕ, _+_, _-_, _*_, _/_, min}
 use mathlib.Core.Bool.{cond}
 use mathlib.Core.List.{[], _∷_}

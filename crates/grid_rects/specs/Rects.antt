@@ -1,4 +1,4 @@
--- Rectangles on a format's block grid, and what an upload writes (the source's rect_on_block_grid and upload_written_rect).
+-- Rule: Rectangles on a format's block grid, and what an upload writes (the Rust's `rect_on_block_grid` and `upload_written_rect`).
 use Prim.Native.Nat.{ℕ, _+_, _%_}
 use mathlib.Core.Bool.{Bool, cond, _&&_, _||_}
 use mathlib.Core.List.{List, [], _∷_}

@@ -1,4 +1,4 @@
--- Stand-in for the pixel formats and their block layouts (01, "Levels, tiles, shapes").
+-- Rule: Stand-in for the pixel formats and their block layouts (01, "Levels, tiles, shapes").
 use Prim.Native.Nat.{ℕ}
 use mathlib.Core.List.{List, [], _∷_}
 use lib.ListN.{getD}

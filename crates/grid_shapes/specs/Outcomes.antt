@@ -1,4 +1,4 @@
--- What a public function answers, in 01's numbers (01, "Outcomes"): 0 is acceptance, any other number a refusal.
+-- Rule: What a public function answers, in 01's numbers (01, "Outcomes"): 0 is acceptance, any other number a refusal.
 use Prim.Native.Nat.{ℕ}
 use mathlib.Core.Bool.{cond}
 use mathlib.Core.List.{List, [], _∷_}

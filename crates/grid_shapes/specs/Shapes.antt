@@ -1,4 +1,4 @@
--- Shapes, their levels and their bytes (01, "Levels, tiles, shapes", and refusal 2 of "Outcomes").
+-- Rule: Shapes, their levels and their bytes (01, "Levels, tiles, shapes", and refusal 2 of "Outcomes").
 use Prim.Native.Nat.{ℕ, _*_, _/_, _%_, _^_, max}
 use mathlib.Core.Bool.{Bool, cond, not}
 use mathlib.Core.List.{[], _∷_}

@@ -1,4 +1,4 @@
--- One subresource's stamp grid (01, "The stamp grid"): a stamp for each tile, row by row, and the newest of them.
+-- Rule: One subresource's stamp grid (01, "The stamp grid"): a stamp for each tile, row by row, and the newest of them.
 use Prim.Native.Nat.{ℕ, _+_, _*_, _<_, _≤_}
 use mathlib.Core.Bool.{Bool, _&&_, cond}
 use mathlib.Core.List.{List, [], _∷_, map, flatMap}

@@ -1,4 +1,4 @@
--- How the code goes over a page: what a scan has seen so far, and a block of tiles stamped row by row.
+-- Helper: How the code goes over a page: what a scan has seen so far, and a block of tiles stamped row by row.
 -- That these equal the definitions of Grids is a law; a reader of the contracts needs none of this.
 use Prim.Native.Nat.{ℕ, zero, suc, _+_, _-_, _*_, _≤_, _<_, min, max}
 use mathlib.Core.Bool.{true, false, cond}

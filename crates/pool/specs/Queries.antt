@@ -1,4 +1,4 @@
--- The queries, which alter nothing: stores that form no pool are refused with 1; nothing else is refused.
+-- Rule: The queries, which alter nothing: stores that form no pool are refused with 1; nothing else is refused.
 use Prim.Native.Nat.{ℕ}
 use mathlib.Core.Path.{_≡_}
 use mathlib.Core.Bool.{Bool, cond}

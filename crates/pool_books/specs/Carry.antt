@@ -1,4 +1,4 @@
--- Views are only carried: a pool with one kind of view read as a pool with another.
+-- Rule: Views are only carried: a pool with one kind of view read as a pool with another.
 use mathlib.Core.Option.{Option·map}
 use mathlib.Core.List.{map}
 use Rattle.pool_rules.specs.Model.{Spare, Retiring, Doomed, VersionState, PoolModel}

@@ -1,4 +1,4 @@
--- Demand 3 (01, "Two books"): "the live numbers of every id equal the plain book after each call", but for what is left out.
+-- Rule: Demand 3 (01, "Two books"): "the live numbers of every id equal the plain book after each call", but for what is left out.
 use Prim.Native.Nat.{ℕ}
 use mathlib.Core.Path.{_≡_}
 use mathlib.Core.Bool.{false}

@@ -1,4 +1,4 @@
--- Demand 3 about the lent stores (01, "Two books"): "for every list of take, plan, retire, write, regen, pop, park, note, doomed, drain, trim and
+-- Rule: Demand 3 about the lent stores (01, "Two books"): "for every list of take, plan, retire, write, regen, pop, park, note, doomed, drain, trim and
 -- forget calls, with any arguments and answer buffers, refused ones included, from any pool just opened, each answered as demands 1 and 2 have it,
 -- the live numbers of every id equal the plain book after each call"; "each call gets pool, stores and pacing book as the last left them; nobody
 -- else writes them".

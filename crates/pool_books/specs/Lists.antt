@@ -1,4 +1,4 @@
--- Lists of calls, renames in them, and both books along a list (01, "Two books").
+-- Rule: Lists of calls, renames in them, and both books along a list (01, "Two books").
 use Prim.Native.Nat.{ℕ, suc}
 use mathlib.Core.Path.{_≡_}
 use mathlib.Core.Bool.{Bool}

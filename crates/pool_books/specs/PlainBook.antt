@@ -1,4 +1,4 @@
--- The plain book (01, "Two books"): "for each id, a shape and, per texel of each slice and level, the number of its last reported write,
+-- Rule: The plain book (01, "Two books"): "for each id, a shape and, per texel of each slice and level, the number of its last reported write,
 -- 0 at first". It knows nothing of versions.
 use Prim.Native.Nat.{ℕ}
 use mathlib.Core.Bool.{cond}

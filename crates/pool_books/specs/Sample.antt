@@ -1,4 +1,4 @@
--- 01's sample of the event program as a list of calls, with its answers; and 01's starred edges ("Edges").
+-- Rule: 01's sample of the event program as a list of calls, with its answers; and 01's starred edges ("Edges").
 use Prim.Native.Nat.{ℕ, _-_, _^_}
 use mathlib.Core.Path.{_≡_}
 use mathlib.Core.Bool.{true, false}

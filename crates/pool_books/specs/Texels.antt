@@ -1,4 +1,4 @@
--- Texels of a shape, and those that a rectangle takes in (01, "Two books").
+-- Rule: Texels of a shape, and those that a rectangle takes in (01, "Two books").
 use Prim.Native.Nat.{ℕ, _+_, _<_}
 use mathlib.Core.Bool.{Bool, _&&_}
 use lib.Dec.{leb, ltb, eqb}

@@ -1,4 +1,4 @@
--- The version book (01, "Two books"): "gives the live version and each retired one such numbers. It is fed the calls, their outcomes and
+-- Rule: The version book (01, "Two books"): "gives the live version and each retired one such numbers. It is fed the calls, their outcomes and
 -- what take_spare and preserve_plan answer."
 --
 -- "A version is known by its retirement, not its view number; source and rules say which one a call moves": so the version book is a copy

@@ -1,4 +1,4 @@
--- What one texture owns, as its record and those before it say, and the pool's counts without it.
+-- Helper: What one texture owns, as its record and those before it say, and the pool's counts without it.
 use Prim.Native.Nat.{ℕ, _+_, _-_, _*_}
 use mathlib.Core.List.{List}
 use Rattle.base_blocks.specs.Lists.{total}

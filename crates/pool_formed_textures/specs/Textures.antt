@@ -1,4 +1,4 @@
--- The textures as the test goes over them: a condition a pass over the lent slices, where `isPool` reads the states that they stand for.
+-- Helper: The textures as the test goes over them: a condition a pass over the lent slices, where `isPool` reads the states that they stand for.
 -- That both say the same is a law; a reader of `is_pool` needs none of this.
 use Prim.Native.Nat.{ℕ, _+_, _*_, _%_}
 use mathlib.Core.Bool.{Bool, true, _&&_}

@@ -1,4 +1,4 @@
--- Grids on the pages of a history: read off their pages, and written back over them.
+-- Helper: Grids on the pages of a history: read off their pages, and written back over them.
 use Prim.Native.Nat.{ℕ, _+_, _*_, _%_}
 use mathlib.Core.Bool.{cond}
 use mathlib.Core.List.{List, map}

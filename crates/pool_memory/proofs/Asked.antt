@@ -9,7 +9,7 @@ use Rattle.pool_memory.specs.Writing.{after}
 use Rattle.pool_memory.specs.IsPool.{isPool}
 use Rattle.pool_memory.specs.Calls.{refusedWith, answer, writtenBack, asked}
 
--- a refusedWith that does not apply, and one that does
+-- a refusal that does not apply, and one that does
 pub guard-passed : {A : Type 0} (b : Bool) (n : ℕ) (out : Out ℕ A) → b ≡ false → guard b n out ≡ out
 unfolding guard
 guard-passed b n out e = rw e refl

@@ -1,4 +1,4 @@
--- What each call says and leaves, as 01 has it: stores that form no pool are refused with 1; otherwise it is the model's rule on the pool that the
+-- Rule: What each call says and leaves, as 01 has it: stores that form no pool are refused with 1; otherwise it is the model's rule on the pool that the
 -- stores stand for, written back. Every contract of a call cites one of these.
 use Prim.Native.Nat.{ℕ, _/_}
 use mathlib.Core.Bool.{Bool, cond}
@@ -65,7 +65,7 @@ openNumber l = cond (sizesFit l) 0 1
 
 -- ---- what a call says
 
--- 01's number of a refusedWith, or outcome 0 with the answer's values
+-- 01's number of a refusal, or outcome 0 with the answer's values
 pub data Told (A : Type 0) : Type 0 where
   refusedWith : ℕ → Told A
   answer : A → Told A
@@ -74,7 +74,7 @@ pub data Told (A : Type 0) : Type 0 where
 abbrev pub toldNumber : ℕ → Told (Unit {0})
 toldNumber n = cond (eqb n 0) (answer tt) (refusedWith n)
 
--- a refusedWith leaves everything as it was
+-- a refusal leaves everything as it was
 abbrev pub writtenBack : {A B : Type 0} → (A → B) → Lent → Out ℕ A → Told B × Lent
 writtenBack f l (refused n) = (refusedWith n, l)
 writtenBack f l (accepted a p) = (answer (f a), after p l)

@@ -1,4 +1,4 @@
--- Whether lent memory forms a pool (01, "Outcomes"): what the packing needs, then 01's conditions in 01's order.
+-- Rule: Whether lent memory forms a pool (01, "Outcomes"): what the packing needs, then 01's conditions in 01's order.
 use Prim.Native.Nat.{ℕ, _+_, _*_}
 use mathlib.Core.Bool.{Bool, true, _&&_}
 use mathlib.Core.Option.{Option, none, some}

@@ -1,4 +1,4 @@
--- What a caller lends a call: the counts, the pacing book and six slices.
+-- Rule: What a caller lends a call: the counts, the pacing book and six slices.
 --
 --   textures   a record of 20 numbers for each tracked texture, packed in ascending id
 --   retiring   a ring of records of 7: the popped version if there is one, then the queue, the oldest first

@@ -1,4 +1,4 @@
--- The numbers that have a name, each with its reason.
+-- Rule: The numbers of a copy in a plan's buffer.
 use Prim.Native.Nat.{ℕ}
 
 -- The numbers of a copy in a plan's buffer.

@@ -1,4 +1,4 @@
--- The pool of the model that lent memory stands for.
+-- Rule: The pool of the model that lent memory stands for.
 use Prim.Native.Nat.{ℕ, zero, suc, _+_, _*_, _/_, _%_}
 use mathlib.Core.Option.{Option, none, some}
 use mathlib.Core.List.{List, [], _∷_}

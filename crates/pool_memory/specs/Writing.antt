@@ -1,4 +1,4 @@
--- What a call leaves in the lent memory: the pool after it, written over what stood there. Numbers that are free stay as they were.
+-- Rule: What a call leaves in the lent memory: the pool after it, written over what stood there. Numbers that are free stay as they were.
 use Prim.Native.Nat.{ℕ, suc, _+_, _-_}
 use mathlib.Core.Bool.{Bool, true, false, cond, _&&_}
 use mathlib.Core.Option.{Option, none, some}

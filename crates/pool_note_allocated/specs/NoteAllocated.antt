@@ -1,4 +1,4 @@
--- The pool after relief of so many bytes.
+-- Helper: The pool after a relief of `excess` bytes, as the lent slices have it.
 use Prim.Native.Nat.{ℕ, _+_, _-_}
 use mathlib.Core.Path.{_≡_}
 use mathlib.Core.List.{List, flatMap}

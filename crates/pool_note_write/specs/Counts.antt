@@ -1,4 +1,4 @@
--- The pool's counts with other pages in use.
+-- Helper: The pool's counts with other pages in use.
 use Prim.Native.Nat.{ℕ}
 use Rattle.pool_memory.specs.declared.pool.Pool.{Pool as Counts}
 

@@ -1,4 +1,4 @@
--- What a texture's record says of its history, read off the slices at the record's place.
+-- Helper: What a texture's record says of its history, read off the slices at the record's place.
 use Prim.Native.Nat.{ℕ, _+_, _*_, _≤_}
 use mathlib.Core.Path.{_≡_}
 use mathlib.Core.Bool.{true, cond, _&&_}

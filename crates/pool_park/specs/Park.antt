@@ -1,4 +1,4 @@
--- What `park` decides and notes, on the records of the lent slices.
+-- Helper: What `park` decides and notes, on the records of the lent slices.
 use Prim.Native.Nat.{ℕ, _+_}
 use mathlib.Core.Bool.{Bool, cond, not, _&&_, _||_}
 use mathlib.Core.List.{List}

@@ -1,4 +1,4 @@
--- A plan's copies, read from the lent pages.
+-- Helper: A plan's copies, read from the lent pages.
 use Prim.Native.Nat.{ℕ, _+_, _*_, _≤_}
 use mathlib.Core.Bool.{cond}
 use mathlib.Core.List.{List, [], _∷_, flatMap}

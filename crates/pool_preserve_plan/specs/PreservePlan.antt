@@ -1,4 +1,4 @@
--- What a plan finds of its texture, what it refuses by, and what its answer says.
+-- Rule: What a plan's answer says (`plannedTold`, the last definition); before it, for proofs, what a plan finds of its texture and refuses by.
 use Prim.Native.Nat.{ℕ}
 use mathlib.Core.Bool.{Bool, true, false, cond, _&&_, not}
 use mathlib.Core.List.{List}

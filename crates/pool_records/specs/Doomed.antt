@@ -1,4 +1,4 @@
--- The record of a version to be destroyed: two numbers.
+-- Rule: The record of a version to be destroyed: two numbers.
 use Prim.Native.Nat.{ℕ}
 use mathlib.Core.List.{List, [], _∷_}
 use lib.ListN.{getD}

@@ -1,4 +1,4 @@
--- The place of an id among textures in ascending id.
+-- Helper: The place of an id among textures in ascending id.
 use Prim.Native.Nat.{ℕ, suc}
 use mathlib.Core.Bool.{cond}
 use mathlib.Core.List.{List, [], _∷_}

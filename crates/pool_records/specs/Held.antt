@@ -1,4 +1,4 @@
--- The writes that a spare holds as one number: 0 is unknown, c + 1 is known to be c.
+-- Rule: The writes that a spare holds as one number: 0 is unknown, c + 1 is known to be c.
 use Prim.Native.Nat.{ℕ, zero, suc, _<_, _^_}
 use Rattle.pool_rules.specs.declared.held.Held.{Held}
 use Rattle.pool_rules.specs.declared.held.Held.the-variants.{Known, Unknown}

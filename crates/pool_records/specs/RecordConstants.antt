@@ -1,4 +1,4 @@
--- The numbers that have a name, each with its reason.
+-- Rule: How many numbers each record has, and where in it the fields stand that the code reads by themselves.
 use Prim.Native.Nat.{ℕ}
 
 -- The numbers of a texture's record.

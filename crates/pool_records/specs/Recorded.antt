@@ -1,4 +1,4 @@
--- A texture's write history as one number: 0 is none, w + 1 is one with w writes.
+-- Rule: A texture's write history as one number: 0 is none, w + 1 is one with w writes.
 use Prim.Native.Nat.{ℕ, zero, suc, _<_, _^_}
 use Rattle.pool_records.specs.declared.recorded.Recorded.{Recorded}
 use Rattle.pool_records.specs.declared.recorded.Recorded.the-variants.{Writes, NoHistory}

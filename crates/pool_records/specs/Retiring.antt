@@ -1,4 +1,4 @@
--- A retiring version's record: seven numbers.
+-- Rule: A retiring version's record: seven numbers.
 use Prim.Native.Nat.{ℕ}
 use mathlib.Core.List.{List, [], _∷_}
 use lib.ListN.{getD}

@@ -1,4 +1,4 @@
--- A spare's record: three numbers.
+-- Rule: A spare's record: three numbers.
 use Prim.Native.Nat.{ℕ}
 use mathlib.Core.List.{List, [], _∷_}
 use lib.ListN.{getD}

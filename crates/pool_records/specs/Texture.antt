@@ -1,4 +1,4 @@
--- A texture's record: twenty numbers, of which the second to the thirteenth are the shape and the last is the bytes of one version of that shape.
+-- Rule: A texture's record: twenty numbers, of which the second to the thirteenth are the shape and the last is the bytes of one version of it.
 use Prim.Native.Nat.{ℕ}
 use mathlib.Core.List.{List, [], _∷_, _++_}
 use lib.ListN.{getD}

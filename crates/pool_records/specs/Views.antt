@@ -1,4 +1,4 @@
--- The records as the model's, where a version's views are one number.
+-- Rule: The records as the model's, where a version's views are one number.
 use Prim.Native.Nat.{ℕ}
 use Rattle.pool_rules.specs.Model.{Spare, Retiring, Doomed}
 use Rattle.pool_records.specs.declared.spare.SpareRecord.{SpareRecord}

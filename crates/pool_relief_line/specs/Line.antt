@@ -1,4 +1,4 @@
--- Relief without sorting. The spares in order of parking number, then id, are picked until the bytes cover the excess; so there is a parking number, the
+-- Helper: Relief without sorting. Spares in order of parking number, then id, are picked until the bytes cover the excess; so one parking number is the
 -- line, before which all are picked and after which none is. Of those parked at the line the textures give in ascending id.
 use Prim.Native.Nat.{ℕ, suc, _+_, _≤_, _<_}
 use mathlib.Core.Bool.{Bool, cond}

@@ -1,4 +1,4 @@
--- The parking numbers of spares as they stand in their slice, and what they sum up to.
+-- Helper: The parking numbers of spares as they stand in their slice, and what they sum up to.
 use Prim.Native.Nat.{ℕ, _+_, _*_, _≤_, _<_}
 use mathlib.Core.Path.{_≡_}
 use mathlib.Core.Bool.{true}

@@ -1,4 +1,4 @@
--- What the answer of a pop says: 01's number, and the values of an accepted one.
+-- Rule: What the answer of a pop says: 01's number, and the values of an accepted one.
 use mathlib.Core.Option.{Option, none, some}
 use Rattle.pool_memory.specs.Calls.{Told, refusedWith, answer, PoppedVersion}
 use Rattle.pool_retire.specs.declared.calls.pop_retired.Popped.{Popped}

@@ -1,4 +1,4 @@
--- The counts as a version goes through the pool. There is no update of a record's field, so each is written out.
+-- Helper: The counts as a version goes through the pool. There is no update of a record's field, so each is written out.
 use Prim.Native.Nat.{ℕ, _+_, _-_}
 use Rattle.pool_memory.specs.declared.pool.Pool.{Pool}
 

@@ -1,4 +1,4 @@
--- What `retire` notes, on the records of the lent slices.
+-- Helper: What `retire` notes, on the records of the lent slices.
 use Prim.Native.Nat.{ℕ, _+_, _-_}
 use mathlib.Core.Bool.{Bool, true, false, cond, _&&_}
 use mathlib.Core.List.{List}

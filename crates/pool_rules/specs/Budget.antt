@@ -1,4 +1,4 @@
--- The budget (the source's VersionBudget): the cap of the spares and the pressure line, from the recommended working set.
+-- Rule: The budget (the Rust's `VersionBudget`): the cap of the spares and the pressure line, from the recommended working set.
 use Prim.Native.Nat.{ℕ, _-_, _*_, _/_, _^_, min}
 use mathlib.Core.Bool.{cond}
 use lib.Dec.{eqb}

@@ -1,4 +1,4 @@
--- Every accepted call leaves a formed pool, and a pool just opened is formed (01, "Outcomes": so no call on a formed pool can find stores that
+-- Rule: Every accepted call leaves a formed pool, and a pool just opened is formed (01, "Outcomes": so no call on a formed pool can find stores that
 -- form none).
 use Prim.Native.Nat.{ℕ}
 use mathlib.Core.Path.{_≡_}
@@ -21,7 +21,7 @@ use Rattle.pool_rules.specs.DrainVersions.{drainVersions}
 use Rattle.pool_rules.specs.Trim.{trim}
 use Rattle.pool_rules.specs.ForgetTexture.{forgetTexture}
 
--- a refusalFormed leaves the pool as it was; of what is accepted the pool after it is formed
+-- a refusal leaves the pool as it was; of what is accepted the pool after it is formed
 pub data OutFormed {W A : Type 0} : Out W A → Type 0 where
   refusalFormed : {n : ℕ} → OutFormed (refused n)
   formed : {a : A} {p : PoolModel W} → Formed p → OutFormed (accepted a p)

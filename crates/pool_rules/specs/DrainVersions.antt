@@ -1,4 +1,4 @@
--- drain_versions: hand out the queue, then the destroy queue, then the spares; the hand stays as it is.
+-- Rule: drain_versions: hand out the queue, then the destroy queue, then the spares; the hand stays as it is.
 use Prim.Native.Nat.{ℕ}
 use mathlib.Core.List.{List, [], _++_, map, flatMap}
 use lib.Dec.{ltb}

@@ -1,4 +1,4 @@
--- forget_texture: stop tracking a released texture, queueing its spares for destruction.
+-- Rule: forget_texture: stop tracking a released texture, queueing its spares for destruction.
 use Prim.Native.Nat.{ℕ}
 use mathlib.Core.Bool.{cond, not}
 use mathlib.Core.List.{[], flatMap}

@@ -1,4 +1,4 @@
--- What it takes to form a pool (01, "Outcomes"), one line for each of 01's conditions.
+-- Rule: What it takes to form a pool (01, "Outcomes"), one line for each of 01's conditions.
 use Prim.Native.Nat.{ℕ, suc, _*_, _≤_, _<_}
 use mathlib.Core.Path.{_≡_}
 use mathlib.Core.Bool.{true}

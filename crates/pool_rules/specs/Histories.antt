@@ -1,4 +1,4 @@
--- A texture's write history: new, after a write, after a mip regeneration (01, "Tracking and plans" and "The stamp grid").
+-- Rule: A texture's write history: new, after a write, after a mip regeneration (01, "Tracking and plans" and "The stamp grid").
 use Prim.Native.Nat.{ℕ, suc, _+_, _*_, _%_}
 use mathlib.Core.Bool.{Bool, false, cond, _&&_}
 use mathlib.Core.Option.{Option, none, some}

@@ -1,4 +1,4 @@
--- The pool as the Rust has it, with lists for its maps and queues. W is the type of a version's views, which the pool only carries
+-- Rule: The pool as the Rust has it, with lists for its maps and queues. W is the type of a version's views, which the pool only carries
 -- (the source's TextureVersions<V>).
 use Prim.Native.Nat.{ℕ, _+_, _*_}
 use mathlib.Core.Bool.{Bool, true, false, cond}

@@ -1,4 +1,4 @@
--- note_allocated: the pressure mark, the excess, and relief.
+-- Rule: note_allocated: the pressure mark, the excess, and relief.
 use Prim.Native.Nat.{ℕ, suc, _+_, _-_}
 use mathlib.Core.Bool.{Bool, true, false, cond, _&&_, _||_}
 use mathlib.Core.List.{List, [], _∷_, map, flatMap}

@@ -1,4 +1,4 @@
--- note_write, note_mip_regeneration, records_writes, and the dirty-tile query.
+-- Rule: note_write, note_mip_regeneration, records_writes, and the dirty-tile query.
 use Prim.Native.Nat.{ℕ}
 use mathlib.Core.Path.{_≡_}
 use mathlib.Core.Bool.{Bool, false, cond, _&&_}

@@ -1,4 +1,4 @@
--- A pool just opened (the source's new): nothing tracked, nothing queued.
+-- Rule: A pool just opened (the Rust's `new`): nothing tracked, nothing queued.
 use Prim.Native.Nat.{ℕ}
 use mathlib.Core.Bool.{Bool, false}
 use mathlib.Core.Option.{none}

@@ -1,4 +1,4 @@
--- park: the version in the hand becomes its texture's newest spare, or is queued for destruction.
+-- Rule: park: the version in the hand becomes its texture's newest spare, or is queued for destruction.
 use Prim.Native.Nat.{ℕ, _+_}
 use mathlib.Core.Bool.{Bool, cond, _&&_, _||_, not}
 use mathlib.Core.Option.{Option, none, some}

@@ -1,4 +1,4 @@
--- pop_retired: put the queue's front in the hand if its submission is at most `settled`.
+-- Rule: pop_retired: put the queue's front in the hand if its submission is at most `settled`.
 use Prim.Native.Nat.{ℕ}
 use mathlib.Core.Bool.{Bool, true, false, cond}
 use mathlib.Core.Option.{Option, none, some}

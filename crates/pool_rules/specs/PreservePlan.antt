@@ -1,4 +1,4 @@
--- preserve_plan: the copies that bring a rename's new version up to the live one. A plan goes slice by slice, level by level.
+-- Rule: preserve_plan: the copies that bring a rename's new version up to the live one. A plan goes slice by slice, level by level.
 use Prim.Native.Nat.{ℕ}
 use mathlib.Core.Bool.{Bool, cond, _&&_, not}
 use mathlib.Core.Option.{Option, none, some}

@@ -1,4 +1,4 @@
--- retire: queue the version that a rename just replaced.
+-- Rule: retire: queue the version that a rename just replaced.
 use Prim.Native.Nat.{ℕ}
 use mathlib.Core.Option.{Option, none, some}
 use mathlib.Core.List.{List, [], _∷_, _++_}

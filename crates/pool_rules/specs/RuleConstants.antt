@@ -1,4 +1,4 @@
--- The numbers that have a name, each with its reason.
+-- Rule: The most places, and the Rust's bounds on ages and batches, each with the Rust's reason.
 use Prim.Native.Nat.{ℕ}
 
 -- The most textures, versions and pages that the lent stores may have places for.

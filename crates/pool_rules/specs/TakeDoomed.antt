@@ -1,4 +1,4 @@
--- take_doomed: hand back the next batch of versions to destroy.
+-- Rule: take_doomed: hand back the next batch of versions to destroy.
 use Prim.Native.Nat.{ℕ, suc, _+_, _-_, _%_, min, max}
 use mathlib.Core.Bool.{cond}
 use mathlib.Core.List.{List, [], _∷_, map}

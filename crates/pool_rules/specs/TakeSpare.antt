@@ -1,4 +1,4 @@
--- take_spare: start a rename, handing back the texture's newest spare if it has one.
+-- Rule: take_spare: start a rename, handing back the texture's newest spare if it has one.
 use Prim.Native.Nat.{ℕ, suc, _+_, _-_}
 use mathlib.Core.Bool.{Bool, cond, _&&_, not}
 use mathlib.Core.Option.{Option, none, some}

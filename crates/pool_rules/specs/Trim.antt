@@ -1,4 +1,4 @@
--- trim: queue for destruction every spare idle past the bound, and forget idle textures.
+-- Rule: trim: queue for destruction every spare idle past the bound, and forget idle textures.
 use Prim.Native.Nat.{ℕ, suc, _+_}
 use mathlib.Core.Bool.{Bool, true, false, cond, _&&_, not}
 use mathlib.Core.List.{List, [], _∷_, map, flatMap}

@@ -1,4 +1,4 @@
--- A pool or a state with some parts set anew: there is no update of a record's field.
+-- Rule: A pool or a state with some parts replaced: there is no update of a record's field, so each is written out.
 use Prim.Native.Nat.{ℕ, _+_, _-_}
 use mathlib.Core.Bool.{cond}
 use mathlib.Core.Option.{Option}

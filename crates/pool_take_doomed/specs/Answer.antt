@@ -1,4 +1,4 @@
--- What an answer of the calls that hand versions back says.
+-- Rule: What an answer of the calls that hand versions back says.
 use Prim.Native.Nat.{ℕ}
 use Rattle.pool_memory.specs.Calls.{Told, refusedWith, answer}
 use Rattle.pool_take_doomed.specs.declared.answer.Handed.{Handed}

@@ -1,4 +1,4 @@
--- What a drain hands out, and the counts, the pacing book and the textures' records after it.
+-- Helper: What a drain hands out, and the counts, the pacing book and the textures' records after it.
 use Prim.Native.Nat.{ℕ}
 use mathlib.Core.List.{List, _++_, map}
 use lib.ListN.{replicate}

@@ -1,4 +1,4 @@
--- Spares as entries of the destroy queue.
+-- Helper: Spares as entries of the destroy queue.
 use Prim.Native.Nat.{ℕ}
 use mathlib.Core.List.{List}
 use Rattle.base_blocks.specs.Lists.{listed}

@@ -1,4 +1,4 @@
--- The batch of a take, by the arrivals and the destroy ring.
+-- Helper: The batch of a take, by the arrivals and the destroy ring.
 use Prim.Native.Nat.{ℕ, _+_, _*_, min, max}
 use mathlib.Core.List.{List}
 use lib.ListN.{take, drop}

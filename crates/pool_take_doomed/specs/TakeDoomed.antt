@@ -1,4 +1,4 @@
--- The counts and the pacing book after a take.
+-- Helper: The counts and the pacing book after a take.
 use Prim.Native.Nat.{ℕ, suc, _-_, _%_}
 use mathlib.Core.List.{List}
 use Rattle.base_tables.specs.Rings.{placeOf}

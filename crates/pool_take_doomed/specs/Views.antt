@@ -1,4 +1,4 @@
--- The views of a ring of records, as numbers.
+-- Helper: The views of a ring of records, as numbers.
 use Prim.Native.Nat.{ℕ, _+_, _*_}
 use mathlib.Core.List.{List}
 use lib.ListN.{getD}

@@ -1,4 +1,4 @@
--- What an answer of take_spare says.
+-- Rule: What an answer of take_spare says.
 use mathlib.Core.Option.{Option, none, some}
 use Rattle.pool_memory.specs.Calls.{Told, refusedWith, answer, TakenVersion}
 use Rattle.pool_take_spare.specs.declared.answer.Taken.{Taken}

@@ -1,4 +1,4 @@
--- What take_spare looks up before anything changes.
+-- Helper: What take_spare looks up before anything changes.
 use Prim.Native.Nat.{ℕ}
 use mathlib.Core.Path.{_≡_}
 use mathlib.Core.Bool.{Bool, true}

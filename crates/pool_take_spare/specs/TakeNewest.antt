@@ -1,4 +1,4 @@
--- A texture that is renamed, as the lent slices have it: its record, and its newest spare taken if it has one.
+-- Helper: A texture that is renamed, as the lent slices have it: its record, and its newest spare taken if it has one.
 use Prim.Native.Nat.{ℕ, _+_, _*_, _-_, _≤_, _<_}
 use mathlib.Core.Bool.{cond}
 use mathlib.Core.Option.{Option, none, some}

@@ -1,4 +1,4 @@
--- The number that take_spare is refused by, as it is read off the textures' slice.
+-- Helper: The number that take_spare is refused by, as it is read off the textures' slice.
 use Prim.Native.Nat.{ℕ, _*_, _/_, _≤_, _<_}
 use mathlib.Core.Path.{_≡_}
 use mathlib.Core.Bool.{Bool, true, cond, _&&_, not}

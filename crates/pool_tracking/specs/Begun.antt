@@ -1,4 +1,4 @@
--- A tracking just begun, as the lent slices have it.
+-- Helper: A tracking just begun, as the lent slices have it.
 use Prim.Native.Nat.{ℕ, _+_, _*_, _-_}
 use mathlib.Core.Bool.{Bool, cond}
 use mathlib.Core.List.{List}

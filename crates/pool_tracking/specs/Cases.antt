@@ -1,4 +1,4 @@
--- The cases of take_spare on a pool: the id is not tracked, is tracked with the same shape, or with another one.
+-- Helper: The cases of take_spare on a pool: the id is not tracked, is tracked with the same shape, or with another one.
 use Prim.Native.Nat.{ℕ, _<_}
 use mathlib.Core.Path.{_≡_}
 use mathlib.Core.Bool.{Bool, true}

@@ -1,4 +1,4 @@
--- What a tracked texture holds in the lent slices, and the counts once its spares are given up.
+-- Helper: What a tracked texture holds in the lent slices, and the counts once its spares are given up.
 use Prim.Native.Nat.{ℕ, _+_, _*_, _-_}
 use mathlib.Core.List.{List}
 use Rattle.base_blocks.specs.Lists.{total}

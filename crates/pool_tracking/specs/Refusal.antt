@@ -1,4 +1,4 @@
--- The number that take_spare is refused by; 0 if it is accepted.
+-- Helper: The number that take_spare is refused by; 0 if it is accepted.
 use Prim.Native.Nat.{ℕ, _+_}
 use mathlib.Core.Bool.{Bool, cond, _&&_, not}
 use mathlib.Core.Option.{Option, none, some}

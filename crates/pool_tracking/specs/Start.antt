@@ -1,4 +1,4 @@
--- A texture tracked for the first time: what is asked of the slices that it takes a part in, and what they hold then.
+-- Helper: A texture tracked for the first time: what is asked of the slices that it takes a part in, and what they hold then.
 use Prim.Native.Nat.{ℕ, _+_, _*_, _-_, _≤_, _<_}
 use mathlib.Core.Path.{_≡_}
 use mathlib.Core.Bool.{Bool, true}

@@ -1,4 +1,4 @@
--- What a trim does with one texture, by its record and its spares.
+-- Helper: What a trim does with one texture, by its record and its spares.
 use Prim.Native.Nat.{ℕ, _-_, _*_}
 use mathlib.Core.Bool.{Bool, cond, _&&_}
 use mathlib.Core.List.{List}

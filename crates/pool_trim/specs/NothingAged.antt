@@ -1,4 +1,4 @@
--- Whether a trim leaves every texture as it is.
+-- Helper: Whether a trim leaves every texture as it is.
 use Prim.Native.Nat.{ℕ}
 use mathlib.Core.Bool.{Bool, _&&_, not}
 use mathlib.Core.List.{List}

@@ -1,4 +1,4 @@
--- A trim's pass over the textures: where it stands, and the pool that it leaves of the first of them.
+-- Helper: A trim's pass over the textures: where it stands, and the pool that it leaves of the first of them.
 use Prim.Native.Nat.{ℕ, _+_, _-_, _*_}
 use mathlib.Core.Bool.{cond}
 use mathlib.Core.List.{List, [], _∷_, flatMap}

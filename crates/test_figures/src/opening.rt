@@ -5,7 +5,7 @@ ghost use lib.ListN.{length};
 use crate::print::figure_of;
 use crate::print::outcome_1;
 use grid_stamps::PAGE_STAMPS;
-use pool_formed::sizes_fit;
+use pool_open::sizes_fit;
 use pool_records::DOOMED_STRIDE;
 use pool_records::RETIRING_STRIDE;
 use pool_records::SPARE_STRIDE;
