@@ -72,8 +72,11 @@ def help_is_printed(folder):
 
 
 def unknown_words(folder):
-    for words in (['--unknown'], ['-x'], ['-'], ['--'], ['-h1'], ['a', 'b'], [root + '/run', root + '/run']):
-        refused(words)
+    """Whether or not there is a file of that name."""
+    with open(folder + '/-x', 'wb') as events:
+        events.write(EVENTS)
+    for words in (['--unknown'], ['-x'], ['-'], ['--'], ['-h1'], ['./-x', './-x']):
+        refused(words, folder)
 
 
 def unreadable_files(folder):
@@ -115,14 +118,15 @@ def repository(folder, said, status):
 
 
 def progress(folder):
-    said = ("fn low::f: proved\nlogic=proved functions=1\nrt: low proved (12 s)\nrt: high proved (unchanged since it was last proved)\nlogic=proved functions=2\n"
-            "rt: event_program proved (3 s)\nrt: event_program ran as nobody, and wrote what its file 'stdout' has (0 s)\nrt: ok, 3 crates proved\n")
+    said = ("fn low::f: proved\nlogic=proved functions=1\nrt: low proved (12 s)\nrt: high proved (unchanged since it was last proved)\n"
+            "logic=proved functions=2\nrt: event_program proved (3 s)\n"
+            "rt: event_program ran as nobody, and wrote what its file 'stdout' has (0 s)\nrt: ok, 3 crates proved\n")
     expect(repository(folder, said, 0), (0, b'it runs\npop,1\n', b'run: 1 of 3 low proved (12 s)\nrun: 3 of 3 event_program proved (3 s)\n'))
 
 
 def failed_proof(folder):
-    said = ("rt: low proved (12 s)\n/x/crates/high/src/lib.rt:9:9: error: `returns`: no\nfn high::f: not proved\nlogic=not-proved\nrt: high NOT PROVED (exit 1, 4 s)\n"
-            "rt: event_program NOT PROVED: its dependency high is not proved\nrt: FAILED: high event_program\n")
+    said = ("rt: low proved (12 s)\n/x/crates/high/src/lib.rt:9:9: error: `returns`: no\nfn high::f: not proved\nlogic=not-proved\n"
+            "rt: high NOT PROVED (exit 1, 4 s)\nrt: event_program NOT PROVED: its dependency high is not proved\nrt: FAILED: high event_program\n")
     status, out, told = repository(folder, said, 1)
     lines = told.decode().splitlines()
     expect((status, out), (2, b''))

@@ -51,8 +51,8 @@ def output_of(program, given):
 
 
 def text_of(pairs):
-    """The input and the output of a list of lines, each with what its event answers: the outcome's line, then one for each copy or view number.
-    The last line has no line feed."""
+    """The input and the output of a list of lines, each with its answer: the outcome and its fields, then the lines of copies or view numbers, parted by
+    spaces. The last line has no line feed."""
     given = b'\n'.join(line.encode() for line, _ in pairs)
     return given, b''.join(answer_of(k, answer) for k, (_, answer) in enumerate(pairs, 1))
 
@@ -136,7 +136,8 @@ def long_lines(program, small):
     """A line that is no event, though its front or its end is one: no part of it opens the pool, and the lines after it are as they are."""
     after = b'\npop,5\nopen,0\npop,5\n'
     for length in (KEPT - 1, KEPT, KEPT + 1, 1000, 70000, BLOCK - 1, BLOCK, BLOCK + 1, BLOCK + 5, BLOCK + 6, BLOCK + 7, 3 * BLOCK):
-        for line in (b'open,0'.ljust(length, b'x'), b'open,0'.ljust(length), b'open,'.ljust(length, b'0'), b'open,0'.rjust(length, b'x'), b'open,0'.rjust(length, b',')):
+        fronts = b'open,0'.ljust(length, b'x'), b'open,0'.ljust(length), b'open,'.ljust(length, b'0')
+        for line in (*fronts, b'open,0'.rjust(length, b'x'), b'open,0'.rjust(length, b',')):
             same(output_of(program, line), b'1,?\n')
             same(output_of(program, line + after), b'1,?\n2,?\n3,0\n4,0,-,-\n')
             same(output_of(program, b'open,0\n' + line), b'1,0\n2,?\n')
@@ -144,43 +145,34 @@ def long_lines(program, small):
 
 # ---- input in parts
 
-def feeds(program, parts):
-    """What a program prints whose input is read in just these parts: a pipe in packet mode hands out one write a read."""
+def output_in_parts(program, given, size):
+    """What a program prints that reads its input in parts of one size: dd makes a write of each, and a pipe in packet mode hands out one write a read."""
     source, sink = os.pipe2(os.O_DIRECT)
+    with tempfile.TemporaryFile() as text:
+        text.write(given)
+        text.seek(0)
+        giving = subprocess.Popen(['dd', 'bs=%d' % size, 'status=none'], stdin=text, stdout=sink)
     running = subprocess.Popen([program], stdin=source, stdout=subprocess.PIPE)
     os.close(source)
-
-    def give():
-        try:
-            for part in parts:
-                os.write(sink, part)
-        except BrokenPipeError:
-            pass
-        os.close(sink)
-
-    giver = threading.Thread(target=give)
-    giver.start()
+    os.close(sink)
     try:
-        got = running.communicate(timeout=3 * LIMIT)[0]
-    except subprocess.TimeoutExpired:
-        running.kill()
-        raise
+        return running.communicate(timeout=6 * LIMIT)[0]
     finally:
-        running.wait()
-        giver.join()
-    return got
+        for process in (running, giving):
+            process.kill()
+            process.wait()
 
 
 def parts_of_every_size(program, small):
     given, expected = text_of(ALL_WORDS)
     for size in range(1, 201):
-        same(feeds(program, [given[i:i + size] for i in range(0, len(given), size)]), expected)
+        same(output_in_parts(program, given, size), expected)
 
 
 def many_reads(program, small):
     """More than 1,000,000 reads, of a byte each."""
-    lines = 350000
-    same(feeds(program, (b'x' if k % 3 else b'\n' for k in range(3 * lines))), b''.join(b'%d,?\n' % k for k in range(1, lines + 2)))
+    lines = 500001
+    same(output_in_parts(program, b'x\n' * lines, 1), b''.join(b'%d,?\n' % k for k in range(1, lines + 1)))
 
 
 def waiting_bytes(pipe):
@@ -301,13 +293,20 @@ def check(program, pairs):
 
 
 def places(program, small):
-    """Textures, versions and pages: so many are accepted, one more is refused."""
-    textures, versions, levels = (8, 64, 3) if small else (64, 2000, 128 // 16)
-    histories = 6 // levels if small else 256 // levels
-    take = 'take,%d,2,64,64,1,%d,0,%d,1'
-    check(program, [('open,0', '0')] + [(take % (k, 1, 0), '0,-,-') for k in range(textures)] + [(take % (textures, 1, 0), '5'), (take % (0, 1, 0), '0,-,-')])
-    check(program, [('open,0', '0')] + [('retire,1,%d,5' % k, '0') for k in range(versions)] + [('retire,1,0,5', '7')])
-    check(program, [('open,0', '0')] + [(take % (k, levels, 1), '0,-,-') for k in range(histories)] + [(take % (histories, 1, 1), '6'), (take % (histories, 1, 0), '0,-,-')])
+    """Textures, versions and pages: as many as 01 or the large program's own comment has are accepted, one more is refused. The history of a flat
+    texture has a page for each level."""
+    textures, versions, pages, levels = (8, 64, 6, 3) if small else (64, 2000, 256, 8)
+
+    def take(id, levels, records):
+        return 'take,%d,2,64,64,1,%d,0,%d,1' % (id, levels, records)
+
+    some = [(take(id, 1, 0), '0,-,-') for id in range(textures)]
+    check(program, [('open,0', '0')] + some + [(take(textures, 1, 0), '5'), some[0]])
+    some = [('retire,1,%d,5' % view, '0') for view in range(versions)]
+    check(program, [('open,0', '0')] + some + [('retire,1,0,5', '7')])
+    histories = pages // levels
+    some = [(take(id, levels, 1), '0,-,-') for id in range(histories)]
+    check(program, [('open,0', '0')] + some + [(take(histories, 1, 1), '6'), (take(histories, 1, 0), '0,-,-')])
 
 
 def longest_plan(program, small):
@@ -353,7 +352,10 @@ def longest_batch(program, small):
     check(program, queued(1201) + [('doomed', '11'), ('doomed', '11')])
 
 
-TESTS = (many_reads, many_lines, parts_of_every_size, conversation, whole_text, empty_input, last_line_without_its_feed, long_lines, output_closes, output_fills, no_input, places, longest_plan, longest_drain, longest_batch)
+TESTS = (
+    whole_text, empty_input, last_line_without_its_feed, long_lines, parts_of_every_size, many_reads, conversation, many_lines,
+    output_closes, output_fills, no_input, places, longest_plan, longest_drain, longest_batch,
+)
 
 
 def main():
