@@ -6,6 +6,7 @@ ghost use Rattle.event_text.specs.Fields.{comma};
 ghost use Rattle.event_lines.specs.Words.{wordOf, laterWord, fourOf, Starts};
 use crate::event::Word;
 use event_text::first_end;
+use event_text::four_bytes;
 use event_text::is_word;
 
 // The first four bytes of texts, the first as the lowest: "take", "plan", "park", "trim", "note", "pop,", "reti", "doom", "rege" and "writ".
@@ -33,12 +34,6 @@ const WRITE: u64 = 1953067639;
 pub struct Start {
     pub word: Word,
     pub end: usize,
-}
-
-fn wide(byte: u8) -> u64
-    ensures { λ r. ⌜ r ≡ byte ⌝ }
-{
-    byte as u64
 }
 
 // The words of the calls that a program makes most come first.
@@ -91,14 +86,6 @@ fn later_word(field: &[u8]) -> Word
         return Word::Open;
     }
     Word::Other
-}
-
-// The first four bytes as one number, which the compiler can load at once.
-fn four_bytes(text: &[u8]) -> u64
-    requires { ⌜ 4 ≤ length (now text) ⌝ }
-    ensures { λ r. ⌜ now (text .entry) ≡ fourOf r (drop 4 (now (text .entry))) ⌝ }
-{
-    wide(text[0]) + wide(text[1]) * 256 + wide(text[2]) * 65536 + wide(text[3]) * 16777216
 }
 
 fn any_start(text: &[u8]) -> Start
@@ -203,7 +190,7 @@ pub fn start_of(text: &[u8]) -> Start
     if text.len() < 5 {
         return any_start(text);
     }
-    let code = four_bytes(text);
+    let code = four_bytes(text, 0);
     if text[4] == b',' {
         return four_start(text, code);
     }

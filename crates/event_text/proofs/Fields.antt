@@ -23,6 +23,15 @@ fields-first (b ∷ bs) = go (eqb b comma) (fields-first bs)
     go true e = refl
     go false e = ap (inFirst b) e
 
+pub first-within : (s : List ℕ) → length (firstField s) ≤ length s
+unfolding firstField
+first-within [] = omega arith
+first-within (b ∷ bs) = go (eqb b comma) (first-within bs)
+  where
+    go : (t : Bool) → length (firstField bs) ≤ length bs → length (cond t [] (b ∷ firstField bs)) ≤ suc (length bs)
+    go true h = omega arith
+    go false h = omega arith
+
 -- ---- words
 
 pub same-length : (xs ys : List ℕ) → (length xs ≡ length ys → ⊥) → same xs ys ≡ false

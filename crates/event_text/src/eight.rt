@@ -28,14 +28,15 @@ pub struct EightDigits {
     pub value: u64,
 }
 
-fn wide(byte: u8) -> u64
+// Returns a byte as a number of 64 bits.
+pub fn wide(byte: u8) -> u64
     ensures { λ r. ⌜ r ≡ byte ⌝ }
 {
     byte as u64
 }
 
-// The four bytes from `at` on as one number, the first as the lowest.
-fn four_bytes(text: &[u8], at: usize) -> u64
+// Returns the four bytes from `at` on as one number, the first as the lowest. The compiler can load them at once.
+pub fn four_bytes(text: &[u8], at: usize) -> u64
     requires { ⌜ at + 4 ≤ length (now text) ⌝ }
     ensures { λ r. ⌜ r ≡ packed 8 (take 4 (drop at (now (text .entry)))) ⌝ }
 {

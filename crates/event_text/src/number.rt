@@ -5,6 +5,7 @@ ghost use Prim.Native.Nat.{_+_, _-_, _^_, _≤_, _<_};
 ghost use lib.ListN.{length, drop};
 ghost use Rattle.event_text.specs.Numbers.{readOn, leadingDigits, digitsAt, numberOf, numberAt, StartsDigits};
 use crate::eight::eight_digits;
+use crate::eight::wide;
 
 // The bytes of the first digit and the last.
 const ZERO: u64 = 48;
@@ -29,12 +30,6 @@ pub enum NumberAt {
 struct Start {
     value: u64,
     end: usize,
-}
-
-fn wide(byte: u8) -> u64
-    ensures { λ r. ⌜ r ≡ byte ⌝ }
-{
-    byte as u64
 }
 
 // Digits that stand from `at` to `end` and are this number, if there is one.

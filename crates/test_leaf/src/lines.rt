@@ -5,10 +5,11 @@
 // difference from the Rust's program: that takes lines of any length.
 ghost use Prim.Native.Nat.{_+_, _≤_, _<_};
 ghost use lib.ListN.{length};
+use crate::answer::put_line;
+use crate::fields::part_end;
 use crate::question::answer_of;
 use libc::STDIN_FILENO;
 use libc::STDOUT_FILENO;
-use test_leaf_text::put_line;
 
 // What answering a block of input left: the line that starts at `from` is not whole yet, and `filled` bytes of answers
 // are not written yet. Nothing more can be written if it is not open.
@@ -23,7 +24,7 @@ fn line_end(input: &[u8], from: usize) -> usize
     requires { ⌜ from ≤ length (now input) ⌝ }
     ensures { λ r. ⌜ (from ≤ r) × (r ≤ length (now (input .entry))) ⌝ }
 {
-    bytes::scan::find(input, from, input.len(), b'\n')
+    part_end(input, from, b'\n')
 }
 
 // Where the next answer goes: behind those that are there, or at the front once they are written. It has no room there
