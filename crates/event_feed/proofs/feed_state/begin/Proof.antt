@@ -2,11 +2,11 @@
 use borrow.Author.Needs.{needs}
 use mathlib.Core.Path.{ap}
 use Rattle.event_sessions.specs.declared.session.Session.{Session}
-use Rattle.event_feed.specs.declared.feed.Feed.{Feed}
-use Rattle.event_feed.proofs.feed.begin.Statement.{statement}
-use Rattle.event_feed.proofs.feed.begin.Tie as tie
+use Rattle.event_feed.specs.declared.feed_state.FeedState.{FeedState}
+use Rattle.event_feed.proofs.feed_state.begin.Statement.{statement}
+use Rattle.event_feed.proofs.feed_state.begin.Tie as tie
 
-abbrev at-first : Session → Feed
+abbrev at-first : Session → FeedState
 at-first s = record { session = s; number = 0; from = 0; held = 0; end = 0; filled = 0 }
 
 fresh-requires : tie.Need-fresh-requires

@@ -4,8 +4,8 @@ use mathlib.Core.Path.{_≡_}
 use Prim.Native.Nat.{_-_, _≤_}
 use native.Mathlib.Omega.{arith}
 use Rattle.event_feed.proofs.Moves.{Moved, moved-none, moved-more, line-kept}
-use Rattle.event_feed.proofs.keeping.keep.Statement.{statement}
-use Rattle.event_feed.proofs.keeping.keep.Tie as tie
+use Rattle.event_feed.proofs.keep.keep.Statement.{statement}
+use Rattle.event_feed.proofs.keep.keep.Tie as tie
 
 abbrev Inv-loop : tie.InvT-loop
 Inv-loop buf₀ from end kept i₀ buf i = (i ≤ kept) × Moved from i buf₀ buf
