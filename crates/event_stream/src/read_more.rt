@@ -1,13 +1,15 @@
 // Standard input, read in blocks.
 ghost use mathlib.Core.Path.{_≡_};
-ghost use Prim.Native.Nat.{_+_, _-_, _≤_, _<_};
+ghost use Prim.Native.Nat.{_≤_, _<_};
 ghost use lib.ListN.{length, take};
+ghost use Rattle.event_feed.specs.FeedConstants.{keptBytes};
 ghost use Rattle.event_feed.specs.Places.{Placed};
-use event_feed::Feed;
+use event_feed::FeedState;
 use libc::STDIN_FILENO;
 
-// Reads once, behind the `end` bytes that are there. There is room, so nothing comes only where the input has ended or cannot be read.
-fn read_behind(buf: &mut [u8], end: usize) -> usize
+// Reads once, to the place after the `end` bytes that are there, and returns where the bytes now end. There is room, so nothing comes only
+// where the input has ended or cannot be read.
+fn read_after(buf: &mut [u8], end: usize) -> usize
     requires { ⌜ end < length (now buf) ⌝ }
     ensures { λ r. ⌜ (end ≤ r) × (r ≤ length (now (buf .entry))) × (take end (now (buf .exit)) ≡ take end (now (buf .entry))) ⌝ }
 {
@@ -15,14 +17,14 @@ fn read_behind(buf: &mut [u8], end: usize) -> usize
     end + io::count(got, &buf[end..])
 }
 
-// Where the bytes to be fed end: more are read where none wait.
-pub fn read_more(buf: &mut [u8], at: Feed) -> usize
-    requires { ⌜ Placed at (length (now buf)) × (196 < length (now buf)) ⌝ }
+// Returns where the bytes to be fed end. Reads more only where none wait, so that a caller may ask line by line and wait for the answers.
+pub fn read_more(buf: &mut [u8], at: FeedState) -> usize
+    requires { ⌜ Placed at (length (now buf)) × (keptBytes < length (now buf)) ⌝ }
     ensures { λ r. ⌜ (at .end ≤ r) × (r ≤ length (now (buf .entry))) × (take (at .end) (now (buf .exit)) ≡ take (at .end) (now (buf .entry))) ⌝ }
 {
     let end = at.end;
     if at.from + at.held < end {
         return end;
     }
-    read_behind(buf, end)
+    read_after(buf, end)
 }

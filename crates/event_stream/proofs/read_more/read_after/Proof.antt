@@ -1,9 +1,9 @@
--- `read_behind` meets its contract: what stands before the part that is read into stays. Assumes nothing.
+-- `read_after` meets its contract: what stands before the part that is read into stays. Assumes nothing.
 use borrow.Author.Needs.{needs}
 use native.Mathlib.Omega.{arith}
 use lib.Seq.{take-at, length-take-le}
-use Rattle.event_stream.proofs.input.read_behind.Statement.{statement}
-use Rattle.event_stream.proofs.input.read_behind.Tie as tie
+use Rattle.event_stream.proofs.read_more.read_after.Statement.{statement}
+use Rattle.event_stream.proofs.read_more.read_after.Tie as tie
 
 sub-read : tie.Need-sub-read
 sub-read c = search needs
@@ -41,8 +41,8 @@ returns c =
     let a = s .args in
     (search needs, search needs, take-at _ _ (a .end) (length-take-le (a .end) (a .buf .now) (omega (arith, s .pre))))
 
-pub read-behind-spec : {M : Type 1} → statement M
-read-behind-spec =
+pub read-after-spec : {M : Type 1} → statement M
+read-after-spec =
     tie.close
     (tie.spec
     sub-read
