@@ -1,20 +1,61 @@
 // The event program with larger stores, so that lists of events show how destruction is paced, regenerations over several slices, and batches and
 // drains that are too long for their answer.
+ghost use Rattle.event_stream.specs.Lends.{Lends};
+use grid_stamps::PAGE_STAMPS;
+use pool_memory::COPY_STRIDE;
+use pool_records::DOOMED_STRIDE;
+use pool_records::RETIRING_STRIDE;
+use pool_records::SPARE_STRIDE;
+use pool_records::TEXTURE_STRIDE;
 
-// 64 textures, 2,000 versions, 256 pages, and answers of 300 entries. The numbers of a place are those of crates/pool_memory/specs/Lent.antt.
-fn main() {
-    let mut textures = [0; 1280];
-    let mut retiring = [0; 14000];
-    let mut doomed = [0; 4000];
-    let mut spares = [0; 6000];
-    let mut newest = [0; 256];
-    let mut stamps = [0; 262144];
-    let mut copies = [0; 2100];
-    let mut views = [0; 300];
+// What it lends.
+const TEXTURES: usize = 64;
+
+const VERSIONS: usize = 2000;
+
+const PAGES: usize = 256;
+
+const ENTRIES: usize = 300;
+
+// Runs the lines of standard input on what is lent.
+fn run_on(
+    textures: &mut [u64],
+    retiring: &mut [u64],
+    doomed: &mut [u64],
+    spares: &mut [u64],
+    newest: &mut [u64],
+    stamps: &mut [u64],
+    copies: &mut [u64],
+    views: &mut [u64],
+)
+    requires { ⌜ Lends 64 2000 256 300 textures retiring doomed spares newest stamps copies views ⌝ }
+{
     let mut buf = io::large_buffer();
     let mut out = io::large_buffer();
     event_stream::run_all(
         &mut buf,
+        textures,
+        retiring,
+        doomed,
+        spares,
+        newest,
+        stamps,
+        copies,
+        views,
+        &mut out,
+    );
+}
+
+fn main() {
+    let mut textures = [0; TEXTURES * TEXTURE_STRIDE];
+    let mut retiring = [0; VERSIONS * RETIRING_STRIDE];
+    let mut doomed = [0; VERSIONS * DOOMED_STRIDE];
+    let mut spares = [0; VERSIONS * SPARE_STRIDE];
+    let mut newest = [0; PAGES];
+    let mut stamps = [0; PAGES * PAGE_STAMPS];
+    let mut copies = [0; ENTRIES * COPY_STRIDE];
+    let mut views = [0; ENTRIES];
+    run_on(
         &mut textures,
         &mut retiring,
         &mut doomed,
@@ -23,6 +64,5 @@ fn main() {
         &mut stamps,
         &mut copies,
         &mut views,
-        &mut out,
     );
 }
