@@ -7,7 +7,6 @@ use pool_records::RETIRING_STRIDE;
 use pool_records::SPARE_STRIDE;
 use pool_records::TEXTURE_STRIDE;
 
-// "The event program lends 8 textures, 64 versions, 6 pages, answers of 90 entries" (document 01).
 const TEXTURES: usize = 8;
 
 const VERSIONS: usize = 64;
@@ -16,34 +15,20 @@ const PAGES: usize = 6;
 
 const ENTRIES: usize = 90;
 
-// Runs the lines of standard input on what is lent.
-fn run_on(
-    textures: &mut [u64],
-    retiring: &mut [u64],
-    doomed: &mut [u64],
-    spares: &mut [u64],
-    newest: &mut [u64],
-    stamps: &mut [u64],
-    copies: &mut [u64],
-    views: &mut [u64],
+// Asks for what document 01 has the event program lend: "8 textures, 64 versions, 6 pages, answers of 90 entries". Nothing is done: that
+// `main` may call it is what counts.
+fn lends(
+    textures: &[u64],
+    retiring: &[u64],
+    doomed: &[u64],
+    spares: &[u64],
+    newest: &[u64],
+    stamps: &[u64],
+    copies: &[u64],
+    views: &[u64],
 )
     requires { ⌜ Lends 8 64 6 90 textures retiring doomed spares newest stamps copies views ⌝ }
-{
-    let mut buf = io::large_buffer();
-    let mut out = io::large_buffer();
-    event_stream::run_all(
-        &mut buf,
-        textures,
-        retiring,
-        doomed,
-        spares,
-        newest,
-        stamps,
-        copies,
-        views,
-        &mut out,
-    );
-}
+{}
 
 fn main() {
     let mut textures = [0; TEXTURES * TEXTURE_STRIDE];
@@ -54,7 +39,20 @@ fn main() {
     let mut stamps = [0; PAGES * PAGE_STAMPS];
     let mut copies = [0; ENTRIES * COPY_STRIDE];
     let mut views = [0; ENTRIES];
-    run_on(
+    lends(
+        &textures,
+        &retiring,
+        &doomed,
+        &spares,
+        &newest,
+        &stamps,
+        &copies,
+        &views,
+    );
+    let mut buf = io::large_buffer();
+    let mut out = io::large_buffer();
+    event_stream::run_all(
+        &mut buf,
         &mut textures,
         &mut retiring,
         &mut doomed,
@@ -63,5 +61,6 @@ fn main() {
         &mut stamps,
         &mut copies,
         &mut views,
+        &mut out,
     );
 }

@@ -8,7 +8,6 @@ use pool_records::RETIRING_STRIDE;
 use pool_records::SPARE_STRIDE;
 use pool_records::TEXTURE_STRIDE;
 
-// What it lends.
 const TEXTURES: usize = 64;
 
 const VERSIONS: usize = 2000;
@@ -17,34 +16,19 @@ const PAGES: usize = 256;
 
 const ENTRIES: usize = 300;
 
-// Runs the lines of standard input on what is lent.
-fn run_on(
-    textures: &mut [u64],
-    retiring: &mut [u64],
-    doomed: &mut [u64],
-    spares: &mut [u64],
-    newest: &mut [u64],
-    stamps: &mut [u64],
-    copies: &mut [u64],
-    views: &mut [u64],
+// Asks for what the large event program lends. Nothing is done: that `main` may call it is what counts.
+fn lends(
+    textures: &[u64],
+    retiring: &[u64],
+    doomed: &[u64],
+    spares: &[u64],
+    newest: &[u64],
+    stamps: &[u64],
+    copies: &[u64],
+    views: &[u64],
 )
     requires { ⌜ Lends 64 2000 256 300 textures retiring doomed spares newest stamps copies views ⌝ }
-{
-    let mut buf = io::large_buffer();
-    let mut out = io::large_buffer();
-    event_stream::run_all(
-        &mut buf,
-        textures,
-        retiring,
-        doomed,
-        spares,
-        newest,
-        stamps,
-        copies,
-        views,
-        &mut out,
-    );
-}
+{}
 
 fn main() {
     let mut textures = [0; TEXTURES * TEXTURE_STRIDE];
@@ -55,7 +39,20 @@ fn main() {
     let mut stamps = [0; PAGES * PAGE_STAMPS];
     let mut copies = [0; ENTRIES * COPY_STRIDE];
     let mut views = [0; ENTRIES];
-    run_on(
+    lends(
+        &textures,
+        &retiring,
+        &doomed,
+        &spares,
+        &newest,
+        &stamps,
+        &copies,
+        &views,
+    );
+    let mut buf = io::large_buffer();
+    let mut out = io::large_buffer();
+    event_stream::run_all(
+        &mut buf,
         &mut textures,
         &mut retiring,
         &mut doomed,
@@ -64,5 +61,6 @@ fn main() {
         &mut stamps,
         &mut copies,
         &mut views,
+        &mut out,
     );
 }
