@@ -1,6 +1,6 @@
 -- Demand 3 of a text that comes in blocks. Assumes nothing.
 use mathlib.Core.Path.{_∙_}
-use Rattle.event_feed.specs.Blocks.{joinedBlocks}
+use Rattle.event_feed.specs.Feed.{joinedBlocks}
 use Rattle.event_feed.proofs.Cutting.{every-cutting}
 use Rattle.event_books.specs.EventLists.{fresh, Demand3Text}
 use Rattle.event_books.specs.Cuttings.{Demand3Blocks}

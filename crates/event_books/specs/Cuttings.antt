@@ -4,7 +4,7 @@ use Prim.Native.Nat.{ℕ}
 use mathlib.Core.Path.{_≡_}
 use mathlib.Core.Option.{none}
 use mathlib.Core.List.{List, _++_}
-use Rattle.event_feed.specs.Blocks.{first, joinedBlocks, finishOutput, fedAll, outputs}
+use Rattle.event_feed.specs.Feed.{first, joinedBlocks, finishOutput, fedAll, outputs}
 use Rattle.event_books.specs.EventLists.{events, fresh, freshRoom, InRenames, replies, repliesText}
 
 module _ (copies views : ℕ) (textures retiring doomed spares newest stamps : List ℕ) (blocks : List (List ℕ)) where
