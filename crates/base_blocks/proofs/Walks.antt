@@ -30,7 +30,7 @@ use denote.Triple.Walked.{Stay, Stays, fitsOf, hasOf, walkOf, Walks, ends-at, Al
 -- ---- a local that is freed, and a call
 
 module _ {M : Type 1} {𝓤 : URA M} {H : Heap 𝓤} {A : Atoms 𝓤} {K : Type 0} {W : Given 𝓤 H A} {Γ : List (Item 𝓤)} where
-  -- a local is freed, whatever it holds: entry n is its cell, and the entry behind that lets it die
+  -- a local is freed, whatever it holds: entry n is its cell, and the entry after it lets it die
   pub gone : K → (n : ℕ) {τ : Ty} {b : ℕ} {v : Val} {E : Env 𝓤 H} {G : Goal 𝓤 H} → nth 𝓤 H A n Γ ≡ ‵ (fat fullShare τ b zero v) → nth 𝓤 H A n (del 𝓤 H A n Γ) ≡ ‵ (fdies τ b)
       → Step K W (del 𝓤 H A n (del 𝓤 H A n Γ)) (frees E G) Γ (frees ((τ, b) ∷ E) G)
   gone t n {τ} {b} {v} {E} {G} e d =

@@ -1,4 +1,4 @@
--- The lines of the event program (01, "Upload rectangle, event program"): a word, and behind it fields of the kinds that the word asks for.
+-- The lines of the event program (01, "Upload rectangle, event program"): a word, and after it fields of the kinds that the word asks for.
 use Prim.Native.Nat.{ℕ, _^_}
 use mathlib.Core.Bool.{Bool, true, false, cond, _&&_, _||_}
 use mathlib.Core.List.{List, [], _∷_}
@@ -65,7 +65,7 @@ kindsOf Word.Trim = number ∷ []
 kindsOf Word.Forget = number ∷ []
 kindsOf Word.Other = []
 
--- the shape fields of a take line, which stand behind its id; the rest is 0
+-- the shape fields of a take line, which stand after its id; the rest is 0
 unfoldable pub shapeOf : (ℕ → ℕ) → VersionShape
 shapeOf n = record {
   format = n 1;
