@@ -120,7 +120,7 @@ stored-at s a x y t e h =
     (ap (λ (k : ℕ). drop (length a + k) s) h ∙ ap (drop (length a + length y)) e ∙ drop-append-add a (y ++ t) (length y) ∙ drop-append-seam y t)
     ∙ append-assoc a x t
 
--- a list with some of its elements written anew, read before them, among them and past them
+-- a list with some of its elements overwritten, read before them, among them and past them
 module _ {ℓ} {A : Type ℓ} (s : List A) (at : ℕ) (vs : List A) (fits : at + length vs ≤ length s) where
   pub getD-sets-before : (i : ℕ) (d : A) → i < at → getD (sets s at vs) i d ≡ getD s i d
   getD-sets-before i d h =

@@ -30,7 +30,7 @@ use denote.Triple.Walked.{Stay, Stays, fitsOf, hasOf, walkOf, Walks, ends-at, Al
 -- ---- a local that is freed, and a call
 
 module _ {M : Type 1} {𝓤 : URA M} {H : Heap 𝓤} {A : Atoms 𝓤} {K : Type 0} {W : Given 𝓤 H A} {Γ : List (Item 𝓤)} where
-  -- a local is freed, whatever it holds: entry n is its cell, and the entry behind that lets it die
+  -- a local is freed, whatever it holds: entry n is its cell, and the entry after it lets it die
   pub gone : K → (n : ℕ) {τ : Ty} {b : ℕ} {v : Val} {E : Env 𝓤 H} {G : Goal 𝓤 H} → nth 𝓤 H A n Γ ≡ ‵ (fat fullShare τ b zero v) → nth 𝓤 H A n (del 𝓤 H A n Γ) ≡ ‵ (fdies τ b)
       → Step K W (del 𝓤 H A n (del 𝓤 H A n Γ)) (frees E G) Γ (frees ((τ, b) ∷ E) G)
   gone t n {τ} {b} {v} {E} {G} e d =
@@ -66,9 +66,11 @@ module _ {M : Type 1} {𝓤 : URA M} {H : Heap 𝓤} {A : Atoms 𝓤} {K : Type 
 
 -- ---- how a walk ends: of each parameter it has what the contract says of its last value
 
+-- of one parameter
 abbrev stay-told : {n : ℕ} (s : Slot n) (k : Kept) → Stay s k
 stay-told s k = record { fit = λ κs x f. Unit {0}; has = λ κs x f vs. left (s .row κs .exit k) x f }
 
+-- of a list of them
 abbrev pub told : {n : ℕ} (ss : List (Slot n)) (ks : Kepts ss) → Stays ss ks
 told [] ks = tt
 told (s ∷ ss) ks = (stay-told s (ks .0), told ss (ks .1))
@@ -78,6 +80,7 @@ fits κs [] ks a ws = tt
 fits κs (s ∷ ss) ks a ws = (tt, fits κs ss (ks .1) (a .1) (ws .1))
 
 module _ {M : Type 1} (𝓤 : URA M) (H : Heap 𝓤) (A : Atoms 𝓤) (W : Given 𝓤 H A) where
+  -- so nothing is left to show of any of them
   all-go : {n : ℕ} (ss : List (Slot n)) (ks : Kepts ss) → AllGo 𝓤 H A W n ss ks (told ss ks)
   all-go [] ks = tt
   all-go (s ∷ ss) ks = (λ κs x f vs ok. W .laws .⇛-intro _, all-go ss (ks .1))
@@ -87,7 +90,7 @@ module _ {M : Type 1} (𝓤 : URA M) (H : Heap 𝓤) (A : Atoms 𝓤) (W : Given
   has κs [] ks a ws vss = id⊢ 𝓤 _
   has κs (s ∷ ss) ks a ws vss = monoR 𝓤 (sem 𝓤 H A (left (s .row κs .exit (ks .0)) (a .0) (ws .0))) (has κs ss (ks .1) (a .1) (ws .1) (vss .1))
 
-  -- nothing is said of a parameter, and so on
+  -- nothing is said of a parameter: what is said of it and of those after it is had for nothing if what is said of those is
   pub none : {Q : SProp 𝓤} → ent 𝓤 (emp 𝓤) Q → ent 𝓤 (emp 𝓤) (sep 𝓤 (emp 𝓤) Q)
   none e = via 𝓤 (sep 𝓤 (emp 𝓤) (emp 𝓤)) (emp∗ 𝓤 (emp 𝓤)) (monoR 𝓤 (emp 𝓤) e)
 
@@ -95,7 +98,7 @@ module _ {M : Type 1} (𝓤 : URA M) (H : Heap 𝓤) (A : Atoms 𝓤) (W : Given
     abbrev pub Told : Stays (T .signature .params) (T .kept)
     Told = told (T .signature .params) (T .kept)
 
-    -- with the result, the tokens, what says the last values, and the contract's clause
+    -- a walk ends with the result, the tokens, what says the last values, and the contract's clause
     pub ends : (y : walkOf 𝓤 H A T Told c .Ghost) (v : Val) (r : Res (T .signature) (y .0 .0)) (ws : Lasts T (y .0 .0) (y .0 .3))
         → ent 𝓤 (⋆ 𝓤 H A (‵ (typeAt (T .signature .result) (y .0 .0) .own r (v ∷ [])) ∷ raw (alive 𝓤 H A (T .signature) (y .0 .0) (y .0 .1)) ∷ ‵ (lasts T (y .0 .0) (y .0 .3) ws) ∷ raw (c (y .0 .0) (y .0 .3) .ensures (y .1) r (atExit T (y .0 .0) (y .0 .3) ws)) ∷ []))
         (walkOf 𝓤 H A T Told c .post y v)
@@ -105,7 +108,7 @@ module _ {M : Type 1} (𝓤 : URA M) (H : Heap 𝓤) (A : Atoms 𝓤) (W : Given
         move ! (2 ∷ []) $ use1 W (‵ (hasOf (y .0 .0) (T .signature .params) (T .kept) Told (y .0 .3) ws (y .0 .4))) (has (y .0 .0) (T .signature .params) (T .kept) (y .0 .3) ws (y .0 .4)) $
         move ! (0 ∷ 1 ∷ []) $ join ! $ move ! (1 ∷ 0 ∷ []) $ join ! $ frame ! $ done !
 
-    -- where nothing is said of any last value, and the clause is a fact
+    -- it ends with the result and the tokens where nothing is said of any last value and the clause holds
     pub leaves : (y : walkOf 𝓤 H A T Told c .Ghost) (v : Val) (r : Res (T .signature) (y .0 .0)) (ws : Lasts T (y .0 .0) (y .0 .3)) → ent 𝓤 (emp 𝓤) (sem 𝓤 H A (lasts T (y .0 .0) (y .0 .3) ws))
         → ent 𝓤 (emp 𝓤) (c (y .0 .0) (y .0 .3) .ensures (y .1) r (atExit T (y .0 .0) (y .0 .3) ws))
         → ent 𝓤 (⋆ 𝓤 H A (‵ (typeAt (T .signature .result) (y .0 .0) .own r (v ∷ [])) ∷ raw (alive 𝓤 H A (T .signature) (y .0 .0) (y .0 .1)) ∷ [])) (walkOf 𝓤 H A T Told c .post y v)
@@ -114,6 +117,6 @@ module _ {M : Type 1} (𝓤 : URA M) (H : Heap 𝓤) (A : Atoms 𝓤) (W : Given
         use0 W (raw (c (y .0 .0) (y .0 .3) .ensures (y .1) r (atExit T (y .0 .0) (y .0 .3) ws))) e $ use0 W (‵ (lasts T (y .0 .0) (y .0 .3) ws)) l $
         move ! (2 ∷ 3 ∷ []) $ by ! (ends y v r ws)
 
-    -- then the contract is met
+    -- a function whose walk ends so meets its contract
     pub meets : (f : Fn) (𝓣 : Tables 𝓤 H) → Walks 𝓤 H A T Told (WpFn 𝓤 H (𝓣 .C) (𝓣 .Λ) f) c → Meets 𝓤 H A (T .signature) (WpFn 𝓤 H (𝓣 .C) (𝓣 .Λ) f) (closing 𝓤 H A T c)
     meets f 𝓣 w = walk-meets 𝓤 H A T Told W (all-go (T .signature .params) (T .kept)) c (WpFn 𝓤 H (𝓣 .C) (𝓣 .Λ) f) (WpFn-mono 𝓤 H (W .laws) 𝓣 f) w

@@ -88,7 +88,7 @@ module _ (line : List ℕ) (code : ℕ) (read : line ≡ fourOf code (drop 4 lin
   pop-starts e = started line (fourOf 745566064 (drop 4 line)) 3 Word.Pop (known 745566064 e) (refl, refl)
 
   module _ (room : 7 ≤ length line) where
-    -- the four bytes and the two behind them are known
+    -- the four bytes and the two after them are known
     two-more : (k a b : ℕ) → eqb code k && eqb (getD line 4 0) a && eqb (getD line 5 0) b ≡ true → line ≡ fourOf k (a ∷ b ∷ drop 6 line)
     two-more k a b t =
         let p = and-both (eqb code k && eqb (getD line 4 0) a) (eqb (getD line 5 0) b) t in

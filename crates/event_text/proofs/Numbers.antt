@@ -130,7 +130,7 @@ module _ (text : List ℕ) (v at i b : ℕ) (inside : i < length text) (here : b
   pub read-stop : ltb b 48 || ltb 57 b ≡ true → readOn v at i (leadingDigits (from i text)) ≡ readOn v at i []
   read-stop e = ap (readOn v at i) (step ∙ ap (λ (t : Bool). cond t (b ∷ leadingDigits (from (i + 1) text)) []) (digit-not b e))
 
-  -- behind twenty
+  -- after twenty
   pub read-past : at + 20 ≤ i → ltb b 48 || ltb 57 b ≡ false → readOn v at i (leadingDigits (from i text)) ≡ Malformed
   read-past h e =
       ap (readOn v at i) (step ∙ ap (λ (t : Bool). cond t (b ∷ leadingDigits (from (i + 1) text)) []) (digit-is b e))

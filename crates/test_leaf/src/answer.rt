@@ -39,6 +39,7 @@ fn put_field(out: &mut [u8], at: usize, value: u64) -> usize
     put_digits(out, next, value)
 }
 
+// Puts two fields, and returns where they end.
 fn put_pair(out: &mut [u8], at: usize, first: u64, second: u64) -> usize
     requires { ⌜ at + 42 ≤ length (now out) ⌝ }
     ensures { λ r. ⌜ r ≤ at + 42 ⌝ }
@@ -47,6 +48,7 @@ fn put_pair(out: &mut [u8], at: usize, first: u64, second: u64) -> usize
     put_field(out, next, second)
 }
 
+// Puts the four fields of a rectangle, and returns where they end.
 fn put_rect(out: &mut [u8], at: usize, rect: TexelRect) -> usize
     requires { ⌜ at + 84 ≤ length (now out) ⌝ }
     ensures { λ r. ⌜ r ≤ at + 84 ⌝ }
@@ -57,6 +59,7 @@ fn put_rect(out: &mut [u8], at: usize, rect: TexelRect) -> usize
     put_field(out, height, rect.height)
 }
 
+// Puts what follows an answer's first number, and returns where it ends.
 fn put_rest(out: &mut [u8], at: usize, rest: Rest) -> usize
     requires { ⌜ at + 84 ≤ length (now out) ⌝ }
     ensures { λ r. ⌜ r ≤ at + 84 ⌝ }
@@ -70,6 +73,7 @@ fn put_rest(out: &mut [u8], at: usize, rest: Rest) -> usize
     }
 }
 
+// Puts an answer without its line feed, and returns where it ends.
 fn put_answer(out: &mut [u8], at: usize, answer: Answer) -> usize
     requires { ⌜ at + 104 ≤ length (now out) ⌝ }
     ensures { λ r. ⌜ r ≤ at + 104 ⌝ }

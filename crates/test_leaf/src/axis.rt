@@ -10,7 +10,7 @@ use crate::fields::read_all;
 use grid_axes::MAX_TILES_PER_AXIS;
 use grid_axes::MIN_TILE_TEXELS;
 
-// The side of a tile, as `grid_axes::tile_edge` has it.
+// Returns the side of a tile, as `grid_axes::tile_edge` has it.
 fn long_edge(extent: u64, block: u64) -> u64
     requires { ⌜ (extent ≤ 4294967295) × (0 < block) × (block ≤ 16) ⌝ }
     ensures { λ r. ⌜ r ≡ tileEdge extent block ⌝ }
@@ -19,6 +19,7 @@ fn long_edge(extent: u64, block: u64) -> u64
     (least + (block - 1)) / block * block
 }
 
+// Returns the side of a tile along any axis.
 fn edge_of(extent: u64, block: u64) -> u64
     requires { ⌜ (extent ≤ 4294967295) × (0 < block) × (block ≤ 16) ⌝ }
     ensures { λ r. ⌜ r ≡ tileEdge extent block ⌝ }
@@ -30,6 +31,7 @@ fn edge_of(extent: u64, block: u64) -> u64
     }
 }
 
+// Returns the tiles along any axis.
 fn tiles_of(extent: u64, block: u64) -> u64
     requires { ⌜ (extent ≤ 4294967295) × (0 < block) × (block ≤ 16) ⌝ }
     ensures { λ r. ⌜ r ≡ tilesOf (axisOf extent block) ⌝ }
@@ -41,7 +43,7 @@ fn tiles_of(extent: u64, block: u64) -> u64
     (extent + (edge - 1)) / edge
 }
 
-// EXTENT,BLOCK
+// Answers EXTENT,BLOCK with the side of a tile.
 pub fn edge_along(fields: &[u8]) -> Answer
     requires { ⌜ length (now fields) ≤ 65536 ⌝ }
 {
@@ -61,7 +63,7 @@ pub fn edge_along(fields: &[u8]) -> Answer
     }
 }
 
-// EXTENT,BLOCK
+// Answers EXTENT,BLOCK with the number of tiles.
 pub fn tiles_along(fields: &[u8]) -> Answer
     requires { ⌜ length (now fields) ≤ 65536 ⌝ }
 {

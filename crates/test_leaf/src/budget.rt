@@ -5,7 +5,7 @@ use event_text::Number;
 use event_text::number_of;
 use pool_rules::VersionBudget;
 
-// WORKING_SET. A second field is malformed too, since a comma is no digit.
+// Answers WORKING_SET with the cap, the line and where parking resumes. A second field is malformed too, since a comma is no digit.
 pub fn budget_of(fields: &[u8]) -> Answer {
     let Number::Is(working) = number_of(fields) else {
         return Answer::Malformed;

@@ -44,7 +44,7 @@ fn stamp_all(page: &mut [u64], across: Axis, down: Axis, fields: &[u8], at: usiz
     Stamped::Newest(newest)
 }
 
-// What the rectangles write since `held`, in an empty grid.
+// Answers what the rectangles write since `held`, in an empty grid.
 fn since(across: Axis, down: Axis, held: u64, fields: &[u8], at: usize) -> Answer
     requires { ⌜ AxisOk across × AxisOk down ⌝ }
     requires { ⌜ (length (now fields) ≤ 65536) × (at ≤ length (now fields) + 1) ⌝ }
@@ -59,7 +59,7 @@ fn since(across: Axis, down: Axis, held: u64, fields: &[u8], at: usize) -> Answe
     }
 }
 
-// The same in a level of that format and those extents.
+// Answers the same in a level of that format and those extents.
 fn since_in(format: u64, width: u64, height: u64, held: u64, fields: &[u8], at: usize) -> Answer
     requires { ⌜ (width ≤ 16384) × (height ≤ 16384) ⌝ }
     requires { ⌜ (length (now fields) ≤ 65536) × (at ≤ length (now fields) + 1) ⌝ }
@@ -74,7 +74,7 @@ fn since_in(format: u64, width: u64, height: u64, held: u64, fields: &[u8], at: 
     )
 }
 
-// FORMAT,WIDTH,HEIGHT,HELD,X,Y,W,H[,X,Y,W,H ..]
+// Answers FORMAT,WIDTH,HEIGHT,HELD,X,Y,W,H[,X,Y,W,H ..] with the newest stamp and the box since.
 pub fn grid_since(fields: &[u8]) -> Answer
     requires { ⌜ length (now fields) ≤ 65536 ⌝ }
 {

@@ -23,7 +23,7 @@ enum Source {
     Unreadable,
 }
 
-// A format's number, or a dash for an upload by texel.
+// Returns the source of an upload: a format's number, or a dash for an upload by texel.
 fn source_of(field: &[u8]) -> Source {
     if is_word(field, b"-") {
         return Source::Known(Compressed::ByTexel);
@@ -34,7 +34,7 @@ fn source_of(field: &[u8]) -> Source {
     }
 }
 
-// FORMAT,X,Y,WIDTH,HEIGHT,EXTENT_W,EXTENT_H
+// Answers FORMAT,X,Y,WIDTH,HEIGHT,EXTENT_W,EXTENT_H with the rectangle that an upload writes.
 pub fn upload(fields: &[u8]) -> Answer
     requires { ⌜ length (now fields) ≤ 65536 ⌝ }
 {
@@ -53,11 +53,12 @@ pub fn upload(fields: &[u8]) -> Answer
     }
 }
 
+// Returns whether a rectangle lies on the format's block grid.
 fn is_on_grid(format: u64, rect: TexelRect, width: u64, height: u64) -> bool {
     grid_rects::rect_on_block_grid(grid_shapes::block_edge(format), rect, width, height)
 }
 
-// FORMAT,X,Y,WIDTH,HEIGHT,EXTENT_W,EXTENT_H
+// Answers FORMAT,X,Y,WIDTH,HEIGHT,EXTENT_W,EXTENT_H with whether the rectangle lies on the block grid.
 pub fn on_grid(fields: &[u8]) -> Answer
     requires { ⌜ length (now fields) ≤ 65536 ⌝ }
 {

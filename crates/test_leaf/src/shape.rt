@@ -13,7 +13,7 @@ use grid_shapes::VersionShape;
 // Document 01's number for the refusal of a bad shape or format.
 pub const REFUSED: u64 = 2;
 
-// Format, width, height, depth, levels and kind; all else is 0.
+// Returns the shape of format, width, height, depth, levels and kind; all else is 0.
 fn shape_of(n: [u64; 8]) -> VersionShape {
     VersionShape {
         format: n[0],
@@ -31,7 +31,7 @@ fn shape_of(n: [u64; 8]) -> VersionShape {
     }
 }
 
-// Width, height, depth and levels, and the usage that may follow the kind.
+// Returns whether width, height, depth and levels, and the usage that may follow the kind, are 32-bit numbers.
 fn are_shape_fields(n: [u64; 8]) -> bool {
     (n[1] <= 4294967295)
         & (n[2] <= 4294967295)
@@ -40,12 +40,12 @@ fn are_shape_fields(n: [u64; 8]) -> bool {
         & (n[6] <= 4294967295)
 }
 
-// 1 for yes, 0 for no.
+// Answers 1 for yes, 0 for no.
 pub fn yes_or_no(yes: bool) -> Answer {
     Answer::Numbers(0, Rest::Number(if yes { 1 } else { 0 }))
 }
 
-// BASE,LEVEL
+// Answers BASE,LEVEL with the level's extent.
 pub fn level_extent(fields: &[u8]) -> Answer
     requires { ⌜ length (now fields) ≤ 65536 ⌝ }
 {
@@ -58,7 +58,7 @@ pub fn level_extent(fields: &[u8]) -> Answer
     }
 }
 
-// FORMAT,WIDTH,HEIGHT,DEPTH,LEVELS,KIND
+// Answers FORMAT,WIDTH,HEIGHT,DEPTH,LEVELS,KIND with the bytes of a version.
 pub fn shape_bytes(fields: &[u8]) -> Answer
     requires { ⌜ length (now fields) ≤ 65536 ⌝ }
 {
@@ -73,7 +73,7 @@ pub fn shape_bytes(fields: &[u8]) -> Answer
     }
 }
 
-// FORMAT,WIDTH,HEIGHT,DEPTH,LEVELS,KIND
+// Answers FORMAT,WIDTH,HEIGHT,DEPTH,LEVELS,KIND with the slices.
 pub fn shape_slices(fields: &[u8]) -> Answer
     requires { ⌜ length (now fields) ≤ 65536 ⌝ }
 {
@@ -90,7 +90,7 @@ pub fn shape_slices(fields: &[u8]) -> Answer
     }
 }
 
-// FORMAT,WIDTH,HEIGHT,DEPTH,LEVELS,KIND,USAGE
+// Answers FORMAT,WIDTH,HEIGHT,DEPTH,LEVELS,KIND,USAGE with whether every write is reported.
 pub fn shape_records(fields: &[u8]) -> Answer
     requires { ⌜ length (now fields) ≤ 65536 ⌝ }
 {
