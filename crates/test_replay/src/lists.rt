@@ -41,15 +41,21 @@ fn line_after(input: &[u8], from: usize, to: usize) -> usize
 }
 
 // Returns where the list from `from` to `to` ends: before its last line feed if it has an odd number of bytes. So the last line of some
-// lists lacks its line feed, which does not show in their output; no list ends with an empty line.
+// lists lacks its line feed, which does not show in their output. An empty last line keeps it, for without it that is no line.
 fn list_end(input: &[u8], from: usize, to: usize) -> usize
     requires { ⌜ (from ≤ to) × (to ≤ length (now input)) ⌝ }
     ensures { λ r. ⌜ (from ≤ r) × (r ≤ to) ⌝ }
 {
+    if to - from < 2 {
+        return to;
+    }
     if (to - from) % 2 == 0 {
         return to;
     }
-    if input[to - 1] == b'\n' { to - 1 } else { to }
+    if (input[to - 1] == b'\n') & (input[to - 2] != b'\n') {
+        return to - 1;
+    }
+    to
 }
 
 // Prints the line that a list begins with, and runs the list on as much of the stores as the line asks for.
