@@ -131,6 +131,7 @@ pub fn shape(f: &mut Fields) -> Option<RawShape> {
         depth: f.next_u32()?,
         levels: f.next_u32()?,
         kind: f.next_u64()?,
+        compared: [0; 6],
     })
 }
 

@@ -4,10 +4,10 @@
 
 use super::{
     DESTROY_SPREAD_DRAINS, MIN_DESTROYS_PER_DRAIN, Retiring, StampGrid, TexelRect, TextureVersions,
-    UploadFootprint, VersionShape, WriteHistory,
+    UploadFootprint, VersionShape, VersionState, WriteHistory,
 };
 use crate::standins::TextureId;
-use crate::standins::mtl::PixelFormat;
+use crate::standins::mtl::{PixelFormat, TextureCreateFlags};
 
 pub fn level_extent(base: u32, level: u32) -> u32 {
     super::level_extent(base, level)
@@ -145,6 +145,126 @@ pub fn next_batch<V>(pool: &TextureVersions<V>) -> usize {
         batch += 1;
     }
     batch
+}
+
+/// A grid: its newest stamp and its stamps.
+pub type GridRow = (u64, Vec<u64>);
+
+/// A spare: its view number, its held writes if known, its parking number.
+pub type SpareRow = (u64, Option<u64>, u64);
+
+/// What the pool knows of one texture, as numbers.
+pub struct TextureRow {
+    pub id: u64,
+    /// Format, width, height, depth, levels, kind, storage, usage, swizzle.
+    pub shape: [u64; 12],
+    pub tracking: u64,
+    /// The write count and the grids, slice by slice and level by level.
+    pub history: Option<(u64, Vec<GridRow>)>,
+    pub birth: u64,
+    pub rename: u64,
+    pub due: u64,
+    pub bytes: u64,
+    /// The oldest first.
+    pub spares: Vec<SpareRow>,
+}
+
+/// The textures in ascending id.
+pub fn textures(pool: &TextureVersions<u64>) -> Vec<TextureRow> {
+    let row = |(id, state): (&TextureId, &VersionState<u64>)| TextureRow {
+        id: id.raw(),
+        shape: shape_numbers(&state.shape),
+        tracking: state.epoch,
+        history: (state.history.as_ref()).map(|history| {
+            let grids = history.grids.iter();
+            let rows = grids.map(|grid| (grid.newest, grid.stamps.to_vec()));
+            (history.writes, rows.collect())
+        }),
+        birth: state.live_birth_seq,
+        rename: state.last_rename_seq,
+        due: due(pool, id.raw(), state.epoch),
+        bytes: state.bytes,
+        spares: (state.spares.iter())
+            .map(|spare| (spare.views, spare.held_writes, spare.parked_seq))
+            .collect(),
+    };
+    pool.textures.iter().map(row).collect()
+}
+
+fn due(pool: &TextureVersions<u64>, id: u64, epoch: u64) -> u64 {
+    let mut dues = pool.idle.iter();
+    let found = dues.find(|due| (due.1, due.2) == (id, epoch));
+    found.expect("a tracked texture has a due number").0
+}
+
+fn shape_numbers(shape: &VersionShape) -> [u64; 12] {
+    let kind = if shape.flags.contains(TextureCreateFlags::TYPE_CUBE) {
+        1
+    } else {
+        u64::from(shape.flags.contains(TextureCreateFlags::TYPE_3D)) * 2
+    };
+    let swizzle = shape.swizzle.map(|channel| u64::from(channel.0));
+    [
+        shape.pixel_format as u64,
+        shape.width.into(),
+        shape.height.into(),
+        shape.depth.into(),
+        shape.levels.into(),
+        kind,
+        shape.storage_mode.0.into(),
+        shape.usage.bits().into(),
+        swizzle[0],
+        swizzle[1],
+        swizzle[2],
+        swizzle[3],
+    ]
+}
+
+/// A retired version: id, view number, submission, tracking number, birth, held writes, bytes.
+pub fn retired(entry: &Retiring<u64>) -> [u64; 7] {
+    [
+        entry.id.raw(),
+        entry.views,
+        entry.seq,
+        entry.epoch,
+        entry.birth_seq,
+        entry.held_writes,
+        entry.bytes,
+    ]
+}
+
+/// The queue, from its front on.
+pub fn queue(pool: &TextureVersions<u64>) -> Vec<[u64; 7]> {
+    pool.retiring.iter().map(retired).collect()
+}
+
+/// The destroy queue, from its front on: view numbers and bytes.
+pub fn doomed(pool: &TextureVersions<u64>) -> Vec<[u64; 2]> {
+    (pool.doomed.iter()).map(|(view, bytes)| [*view, *bytes]).collect()
+}
+
+/// Versions that arrived in the destroy queue since the last take, parked bytes, bytes to be destroyed, cap and line.
+pub fn totals<V>(pool: &TextureVersions<V>) -> [u64; 5] {
+    let budget = &pool.budget;
+    [
+        pool.doomed_since_take as u64,
+        pool.parked_bytes,
+        pool.doomed_bytes,
+        budget.spare_cap,
+        budget.pressure_above,
+    ]
+}
+
+/// The pacing book: the eight arrivals, the slot, the mark, the excess.
+pub fn book<V>(pool: &TextureVersions<V>) -> [u64; 11] {
+    let mut numbers = [0; 11];
+    for (number, arrivals) in numbers.iter_mut().zip(pool.doomed_arrivals) {
+        *number = arrivals as u64;
+    }
+    numbers[8] = pool.arrival_slot as u64;
+    numbers[9] = pool.pressed.into();
+    numbers[10] = pool.relieve_bytes;
+    numbers
 }
 
 /// Sets a history's write count, which no test could reach by writing. For tests of the refusal 12.

@@ -21,6 +21,7 @@ pub mod replies;
 pub mod shape;
 pub mod shrink;
 pub mod standins;
+pub mod stores;
 pub mod text;
 
 include!(concat!(env!("OUT_DIR"), "/published.rs"));

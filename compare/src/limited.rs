@@ -6,6 +6,8 @@
 use crate::refusal::Refusal;
 use crate::shape::RawShape;
 use crate::standins::TextureId;
+use crate::stores::export::write_pool;
+use crate::stores::memory::Memory;
 use crate::texture_versions::inspect::{self, Tracking};
 use crate::texture_versions::laws;
 use crate::texture_versions::{
@@ -181,6 +183,28 @@ impl LimitedPool {
 
     pub fn forget_texture(&mut self, id: u64) {
         self.pool.forget_texture(TextureId::from_raw(id));
+    }
+
+    pub fn records_writes(&self, id: u64) -> bool {
+        self.pool.records_writes(TextureId::from_raw(id))
+    }
+
+    /// The Rust has this and the next method for its own tests alone; they are two of its fields.
+    pub fn parked_bytes(&self) -> u64 {
+        inspect::totals(&self.pool)[1]
+    }
+
+    pub fn pending_destroy_bytes(&self) -> u64 {
+        inspect::totals(&self.pool)[2]
+    }
+
+    /// The pool as memory in our layout, both rings begun at the places given.
+    pub fn memory(&self, head: usize, first: usize) -> Memory {
+        let limits = &self.limits;
+        let mut memory = Memory::lent(limits.textures, limits.versions, limits.pages);
+        let hand = self.hand.as_ref().map(inspect::retired);
+        write_pool(&mut memory, &self.pool, hand, head, first);
+        memory
     }
 
     /// The first of document 01's conditions on a pool that does not hold, the limits included.

@@ -4,6 +4,7 @@ use crate::event::{self, Call, Event, Plan, Take};
 use crate::limited::{LimitedPool, Limits};
 use crate::refusal::Refusal;
 use crate::shape::RawShape;
+use crate::stores::lines::{self as lent, Line};
 use crate::text::{push_field, push_number, push_optional};
 use crate::texture_versions::{PreserveCopy, UploadFootprint};
 
@@ -12,6 +13,9 @@ pub struct Program {
     limits: Limits,
     /// Whether document 01's conditions on a pool are tested after every call.
     checks: bool,
+    /// Whether the lines are those of our program over lent memory: queries and shapes of twelve numbers too, and a line
+    /// `same` after each refusal and query.
+    lent: bool,
     /// Lines read so far.
     line: u64,
     /// None before `open`.
@@ -24,9 +28,12 @@ pub struct Program {
 enum Answer {
     /// No call was made.
     Question,
+    /// Nothing is printed.
+    Silent,
     Refused(Refusal),
     Done,
     Pair(Option<u64>, Option<u64>),
+    Number(u64),
     Views(Vec<u64>),
     Copies(Vec<PreserveCopy>),
 }
@@ -36,10 +43,18 @@ impl Program {
         Self {
             limits,
             checks,
+            lent: false,
             line: 0,
             pool: None,
             latest: None,
         }
+    }
+
+    /// The same for the lines of our program over lent memory.
+    pub const fn lent(limits: Limits) -> Self {
+        let mut program = Self::new(limits, false);
+        program.lent = true;
+        program
     }
 
     /// The pool, once opened; for tests.
@@ -52,9 +67,14 @@ impl Program {
         self.line += 1;
         let answer = match event::parse(line) {
             Some(event) => self.call(event),
+            None if self.lent => self.call_lent(line),
             None => Answer::Question,
         };
         answer.print(self.line, out);
+        if self.lent && matches!(answer, Answer::Refused(_) | Answer::Number(_)) {
+            push_number(out, self.line);
+            out.extend_from_slice(b",same\n");
+        }
         if self.checks
             && let Some(fault) = self.pool.as_ref().and_then(LimitedPool::fault)
         {
@@ -78,6 +98,29 @@ impl Program {
                 Some(shape) => call_plan(pool, shape, &plan),
             },
             (Event::Other(call), Some(pool)) => call_other(pool, call),
+        };
+        answer.unwrap_or_else(Answer::Refused)
+    }
+}
+
+impl Program {
+    /// A line of our program over lent memory that is no event.
+    fn call_lent(&mut self, line: &[u8]) -> Answer {
+        let answer = match (lent::parse(line), &mut self.pool) {
+            (Some(Line::Take(take)), Some(pool)) => {
+                self.latest = Some(take.shape);
+                call_take(pool, &take)
+            }
+            (Some(Line::Shape(shape)), _) => {
+                self.latest = Some(shape);
+                Ok(Answer::Silent)
+            }
+            (Some(Line::Records { id }), Some(pool)) => {
+                Ok(Answer::Number(pool.records_writes(id).into()))
+            }
+            (Some(Line::Parked), Some(pool)) => Ok(Answer::Number(pool.parked_bytes())),
+            (Some(Line::Pending), Some(pool)) => Ok(Answer::Number(pool.pending_destroy_bytes())),
+            (_, None) | (None, _) => Ok(Answer::Question),
         };
         answer.unwrap_or_else(Answer::Refused)
     }
@@ -140,6 +183,9 @@ fn done((): ()) -> Answer {
 
 impl Answer {
     fn print(&self, line: u64, out: &mut Vec<u8>) {
+        if matches!(self, Self::Silent) {
+            return;
+        }
         push_number(out, line);
         match self {
             Self::Question => out.extend_from_slice(b",?"),
@@ -147,7 +193,8 @@ impl Answer {
             _ => push_field(out, 0),
         }
         match self {
-            Self::Question | Self::Refused(_) | Self::Done => {}
+            Self::Question | Self::Silent | Self::Refused(_) | Self::Done => {}
+            Self::Number(number) => push_field(out, *number),
             Self::Pair(first, second) => {
                 push_optional(out, *first);
                 push_optional(out, *second);

@@ -1,7 +1,9 @@
 //! Lists of events from standard input, each run by a program of its own over the published pool.
 //!
 //! A line `=,TEXTURES,VERSIONS,PAGES,ANSWERS,NAME` begins a list for a program of these sizes, and is printed as it is.
+//! With `--lent` the lists may have the lines of our program over lent memory, and are answered as by it.
 
+use std::env;
 use std::process::ExitCode;
 
 use compare::limited::Limits;
@@ -9,10 +11,18 @@ use compare::lines;
 use compare::program::Program;
 
 fn main() -> ExitCode {
-    let mut program = Program::new(Limits::default(), false);
+    let lent = env::args().nth(1).is_some_and(|word| word == "--lent");
+    let begin = |limits| {
+        if lent {
+            Program::lent(limits)
+        } else {
+            Program::new(limits, false)
+        }
+    };
+    let mut program = begin(Limits::default());
     lines::answer_stdin(|line, out| match sizes(line) {
         Some(limits) => {
-            program = Program::new(limits, false);
+            program = begin(limits);
             out.extend_from_slice(line);
             out.push(b'\n');
         }

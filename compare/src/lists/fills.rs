@@ -19,6 +19,7 @@ fn needing(pages: u64) -> RawShape {
             pages
         } as u32,
         kind: u64::from(cube),
+        compared: [0; 6],
     }
 }
 

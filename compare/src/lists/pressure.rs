@@ -15,6 +15,7 @@ const fn square(id: u64, edge: u32) -> Texture {
         depth: 1,
         levels: 1,
         kind: 0,
+        compared: [0; 6],
     };
     Texture {
         id,

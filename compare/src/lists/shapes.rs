@@ -98,6 +98,7 @@ fn any_take(driver: &mut Driver, at: usize) {
         depth: any(random, &[0, 1, 2_048, 2_049, 0xffff_ffff], 2_049) as u32,
         levels: any(random, &[0, 1, 15, 16, 0xffff_ffff], 16) as u32,
         kind: any(random, &[0, 1, 2, 3, 1 << 32], 3),
+        compared: [0; 6],
     };
     let records = random.below(2);
     let id = driver.textures[at].id;

@@ -76,6 +76,7 @@ pub fn shape(random: &mut Random, most: u32, pages: u64) -> RawShape {
         },
         levels: levels as u32,
         kind,
+        compared: [0; 6],
     }
 }
 

@@ -1,0 +1,163 @@
+//! What is asked of lent memory, and what document 01 has answered: 1 and nothing altered where it forms no pool.
+
+use super::judge::{Condition, faults};
+use super::memory::*;
+use crate::random::Random;
+
+/// 2^48.
+const MOST: u64 = 1 << 48;
+
+/// Entries of the answer buffers that are lent.
+const ANSWERS: usize = 8;
+
+/// A list for our program, and what it is to answer.
+pub struct Asked {
+    pub list: Vec<u8>,
+    pub answers: Vec<u8>,
+}
+
+/// Asks whether the memory forms a pool, and one call of the checked face. `unasked` is a condition that the judge leaves out.
+pub fn ask(memory: &Memory, seed: u64, unasked: Option<Condition>) -> Asked {
+    let header = memory.header(ANSWERS, &format!("s{seed}"));
+    let mut list = header.clone().into_bytes();
+    let mut answers = header.into_bytes();
+    let mut line = memory.push_puts(&mut list);
+    let broken = faults(memory);
+    let forms = broken.iter().all(|fault| Some(*fault) == unasked);
+    let mut random = Random::new(seed ^ 0x5bd1_e995);
+    let mut say = |text: &str, answer: &str| {
+        line += 1;
+        list.extend_from_slice(text.as_bytes());
+        list.push(b'\n');
+        for said in answer.lines() {
+            answers.extend_from_slice(format!("{line},{said}\n").as_bytes());
+        }
+    };
+    say("formed", if forms { "0\nsame" } else { "1\nsame" });
+    let id = some_id(memory, &mut random);
+    if broken.is_empty() {
+        let (call, answer) = settled_call(memory, id, &mut random);
+        if call.starts_with("plan") {
+            say("shape,2,16385,1,1,1,0,0,0,0,0,0,0", "");
+        }
+        say(&call, &answer);
+    } else {
+        let call = any_call(id, &mut random);
+        if call.starts_with("plan") {
+            say(&format!("shape,{},0,0,0,0,0,0", any_shape(&mut random)), "");
+        }
+        say(&call, if forms { "0" } else { "1\nsame" });
+    }
+    Asked { list, answers }
+}
+
+/// The id of a record, or another.
+fn some_id(memory: &Memory, random: &mut Random) -> u64 {
+    let places = memory.places(TEXTURES) as u64;
+    if places == 0 || random.once_in(3) {
+        return random.below(20);
+    }
+    memory.record(TEXTURES, random.below(places) as usize)[0]
+}
+
+/// The six fields of a shape: mostly a good one.
+fn any_shape(random: &mut Random) -> String {
+    let levels = random.below(6);
+    let (width, height) = (random.below(80), random.below(80));
+    format!(
+        "{},{width},{height},1,{levels},{}",
+        random.below(10),
+        random.below(3)
+    )
+}
+
+/// A submission: small, or at the end of those that are taken.
+fn submission(random: &mut Random) -> u64 {
+    match random.below(3) {
+        0 => random.below(30),
+        1 => MOST + random.below(2),
+        _ => random.below(300),
+    }
+}
+
+/// A call with any numbers: on memory that forms no pool none of them matters.
+fn any_call(id: u64, random: &mut Random) -> String {
+    let seq = submission(random);
+    match random.below(18) {
+        0 => format!("take,{id},{},1,{seq}", any_shape(random)),
+        1 => format!("take,{id},{},0,0,1,2,3,4,1,{seq}", any_shape(random)),
+        2 => format!("plan,{id},-,0,0,1"),
+        3 => format!("plan,{id},{},0,0,0", random.below(9)),
+        4 => format!("retire,{id},{},{seq}", random.below(99)),
+        5 => format!("write,{id},0,0,0,0,16,16"),
+        6 => format!("write,{id},{},{},3,3,1,1", random.below(7), random.below(4)),
+        7 => format!("regen,{id}"),
+        8 => format!("pop,{seq}"),
+        9 => format!("park,{},{seq}", submission(random)),
+        10 => format!("note,{}", random.next() >> random.below(64)),
+        11 => "doomed".into(),
+        12 => "drain".into(),
+        13 => format!("trim,{seq}"),
+        14 => format!("forget,{id}"),
+        15 => format!("records,{id}"),
+        16 => {
+            if random.once_in(2) {
+                "parked".into()
+            } else {
+                "pending".into()
+            }
+        }
+        _ => format!("dirty,{id},0,0,{}", random.below(4)),
+    }
+}
+
+/// A call whose answer follows from 01's text and a look at the memory, which forms a pool.
+fn settled_call(memory: &Memory, id: u64, random: &mut Random) -> (String, String) {
+    let late = MOST + 1 + random.below(9);
+    let refused = |outcome: u64| format!("{outcome}\nsame");
+    match random.below(13) {
+        0 => (format!("take,{id},2,16385,1,1,1,0,1,{late}"), refused(2)),
+        1 => (format!("take,{id},2,1,1,1,1,0,1,{late}"), refused(3)),
+        2 => (format!("plan,{id},-,0,0,1"), refused(2)),
+        3 => (format!("retire,{id},5,{late}"), refused(3)),
+        4 => (format!("pop,{late}"), refused(3)),
+        5 => (format!("park,{late},0"), refused(3)),
+        6 => (format!("park,0,{late}"), refused(3)),
+        7 => (format!("trim,{late}"), refused(3)),
+        8 => (
+            "parked".into(),
+            format!("0,{}\nsame", memory.counts[PARKED]),
+        ),
+        9 => (
+            "pending".into(),
+            format!("0,{}\nsame", memory.counts[DOOMING]),
+        ),
+        10 => (
+            format!("records,{id}"),
+            format!("0,{}\nsame", u64::from(records(memory, id))),
+        ),
+        11 => (format!("note,{}", memory.counts[LINE]), "0".into()),
+        _ => ("drain".into(), drained(memory)),
+    }
+}
+
+/// Whether the texture is tracked with a history.
+fn records(memory: &Memory, id: u64) -> bool {
+    (0..memory.counts[TRACKED] as usize)
+        .map(|place| memory.record(TEXTURES, place))
+        .any(|record| record[0] == id && record[HISTORY] != 0)
+}
+
+/// "`drain_versions` hands out the queue, then the destroy queue, then the spares, and leaves the hand as it is."
+fn drained(memory: &Memory) -> String {
+    let counts = &memory.counts;
+    let queue = memory.ring(RETIRING, counts[HEAD] + counts[POPPED], counts[QUEUED]);
+    let mut views: Vec<u64> = queue
+        .map(|place| memory.record(RETIRING, place)[1])
+        .collect();
+    let waiting = memory.ring(DOOMED, counts[FIRST], counts[WAITING]);
+    views.extend(waiting.map(|place| memory.record(DOOMED, place)[0]));
+    views.extend((0..counts[KEPT] as usize).map(|place| memory.record(SPARES, place)[0]));
+    let lines = views.iter().map(|view| format!("\n{view}"));
+    format!("0,{}{}", views.len(), lines.collect::<String>())
+}
