@@ -1,10 +1,11 @@
 #!/usr/bin/env python3
-"""For each edit of a rule or of a book that demand 3 rests on: a list of calls, keeping to renames, after which the live number of a texel that
-is not left out differs from the plain book's. So the edited definitions do not merely break a proof's text: the claim is false of them.
+"""Proves, for each edit of a rule or of a book that demand 3 rests on, that the claim is false of the edited definitions: `Demand3 → ⊥`. So an edit does
+not merely break a proof's text, and a claim that an edit has made true is seen. What refutes it is a list of calls that keeps to renames, after which the
+live number of a texel of the shape, in a level that is not left out, is not the plain book's. Where an edit has several lists, each refutes the claim.
 
-Each edit is applied to a copy of the definitions of the crates pool_rules and pool_books, below target/counterexamples, and the counterexample is a computed
-theorem there. Run from anywhere, after 'rt check pool_books'; 'run.py CRATE/EDIT ..' tries some of them. Exit status 0 if every edit is refuted.
-'run.py control' tries the same theorems over the definitions as they are, where each has to be refused."""
+Each edit is applied to a copy of the definitions of the crates pool_rules and pool_books, below target/counterexamples, and the refutation is a computed
+theorem there. Run from anywhere, after 'rt check pool_books'; 'run.py CRATE/EDIT ..' tries some of them. Exit status 0 if the claim is refuted for every edit.
+'run.py control' tries the same theorems over the definitions as they are, where each refutation has to be refused."""
 import os
 import re
 import shutil
@@ -15,15 +16,18 @@ root = os.path.dirname(os.path.dirname(os.path.abspath(__file__)))
 out = root + '/target/counterexamples'
 crates = ['base_blocks', 'grid_shapes', 'grid_rects', 'grid_axes', 'grid_stamps', 'pool_rules', 'pool_books']
 
-SHAPE = '(flatShape 2 64 64 1 1 0)'
+# the sample's shape, and those of specs/ComputedBooks.antt
+FLAT = '(flatShape 2 64 64 1 1 0)'
+CUBE = 'cube'
+VOLUME = 'volume'
 
 
-def write(x, y, w=1, h=1):
-    return ['between (writeCall 7 0 0 (record { x = %d; y = %d; width = %d; height = %d }))' % (x, y, w, h)]
+def write(x, y, w=1, h=1, slice=0, level=0):
+    return ['between (writeCall 7 %d %d (record { x = %d; y = %d; width = %d; height = %d }))' % (slice, level, x, y, w, h)]
 
 
-def rename(held, view, seq, cover='noCover'):
-    return ['takeCall 7 %s true %d' % (SHAPE, seq), 'planCall 7 %s %s %s 90' % (SHAPE, held, cover), 'retireCall 7 %d %d' % (view, seq)]
+def rename(held, view, seq, cover='noCover', shape=FLAT):
+    return ['takeCall 7 %s true %d' % (shape, seq), 'planCall 7 %s %s %s 90' % (shape, held, cover), 'retireCall 7 %d %d' % (view, seq)]
 
 
 def settle(failed):
@@ -31,21 +35,49 @@ def settle(failed):
 
 
 forget = ['between (forgetCall 7)']
+regenerate = ['between (regenCall 7)']
+# calls that change no book; with a rename, a write, a regeneration, a pop and a park, and a forget, they are the twelve
+others = ['between (noteCall 0)', 'between (trimCall 12)', 'between (doomedCall 90)', 'between (drainCall 90)']
 first = rename('Unknown', 900, 10)
-# edit: (calls, texel, the live version's number there, the plain book's)
+first_cube = rename('Unknown', 900, 10, shape=CUBE)
+first_volume = rename('Unknown', 900, 10, shape=VOLUME)
+twelve = first + write(0, 0) + regenerate + settle(0) + others + forget + first
+# edit: lists, each as shape, calls, texel (slice, level, x, y, z), the live version's number there, the plain book's
 cases = {
-    'pool_rules/copies_no_box': (first + write(0, 0) + settle(0) + rename('(Known 0)', 901, 11), (0, 0), 'some 0', 1),
-    'pool_rules/stamps_first_write_only': (first + write(0, 0) + write(40, 40) + settle(0) + rename('(Known 0)', 901, 11), (40, 40), 'some 0', 2),
-    'pool_rules/retires_one_write_ahead': (first + write(0, 0) + settle(0) + rename('(Known 1)', 901, 11), (0, 0), 'some 0', 1),
-    'pool_rules/older_tracking_parks': (first + write(0, 0) + forget + rename('Unknown', 901, 10) + settle(0) + rename('(Known 0)', 902, 11), (0, 0), 'some 0', 1),
-    'pool_rules/ignores_failed': (first + write(0, 0) + settle(5) + rename('(Known 0)', 901, 11), (50, 50), 'none', 0),
-    'pool_rules/birth_strict': (rename('Unknown', 900, 5) + rename('Unknown', 901, 6) + write(0, 0) + settle(0) + settle(5) + rename('(Known 0)', 902, 11), (50, 50), 'none', 0),
-    'pool_rules/box_left_out_without_full_cover': (first, (0, 0), 'none', 0),
-    'grid_axes/box_misses_last_column': (first + write(20, 5, 10, 10) + settle(0) + rename('(Known 0)', 901, 11), (20, 5), 'some 0', 1),
-    'pool_books/regeneration_covers_level_0': (first + ['between (regenCall 7)'] + settle(0) + rename('(Known 0)', 901, 11), (0, 0), 'some 0', 1),
-    'pool_books/copies_bring_nothing': (first, (0, 0), 'none', 0),
-    'pool_books/covered_level_not_left_out': (rename('Unknown', 900, 10, 'fullCover'), (0, 0), 'none', 0),
-    'pool_books/partial_write_ends_it': (rename('Unknown', 900, 10, 'fullCover') + write(0, 0), (50, 50), 'none', 0),
+    'pool_rules/copies_no_box': [
+        (FLAT, first + write(0, 0) + settle(0) + rename('(Known 0)', 901, 11), (0, 0, 0, 0, 0), 'some 0', 1),
+        (CUBE, first_cube + write(1, 1, slice=5, level=2) + settle(0) + rename('(Known 0)', 901, 11, shape=CUBE), (5, 2, 1, 1, 0), 'some 0', 1),
+        (VOLUME, first_volume + write(4, 2, level=1) + settle(0) + rename('(Known 0)', 901, 11, shape=VOLUME), (0, 1, 4, 2, 1), 'some 0', 1),
+        # After each of the twelve calls: the plain number is the next one, although a take stands between.
+        (FLAT, twelve + write(40, 40) + settle(0) + rename('(Known 0)', 901, 11), (0, 0, 40, 40, 0), 'some 0', 3),
+    ],
+    'pool_rules/stamps_first_write_only': [
+        (FLAT, first + write(0, 0) + write(40, 40) + settle(0) + rename('(Known 0)', 901, 11), (0, 0, 40, 40, 0), 'some 0', 2),
+    ],
+    'pool_rules/retires_one_write_ahead': [
+        (FLAT, first + write(0, 0) + settle(0) + rename('(Known 1)', 901, 11), (0, 0, 0, 0, 0), 'some 0', 1),
+        (CUBE, first_cube + write(7, 7, slice=5) + settle(0) + rename('(Known 1)', 901, 11, shape=CUBE), (5, 0, 7, 7, 0), 'some 0', 1),
+    ],
+    'pool_rules/older_tracking_parks': [
+        (FLAT, first + write(0, 0) + forget + rename('Unknown', 901, 10) + settle(0) + rename('(Known 0)', 902, 11), (0, 0, 0, 0, 0), 'some 0', 1),
+    ],
+    'pool_rules/ignores_failed': [
+        (FLAT, first + write(0, 0) + settle(5) + rename('(Known 0)', 901, 11), (0, 0, 50, 50, 0), 'none', 0),
+        (VOLUME, first_volume + write(0, 0) + settle(5) + rename('(Known 0)', 901, 11, shape=VOLUME), (0, 1, 4, 2, 1), 'none', 0),
+    ],
+    'pool_rules/birth_strict': [
+        (FLAT, rename('Unknown', 900, 5) + rename('Unknown', 901, 6) + write(0, 0) + settle(0) + settle(5) + rename('(Known 0)', 902, 11), (0, 0, 50, 50, 0), 'none', 0),
+    ],
+    'pool_rules/box_left_out_without_full_cover': [(FLAT, first, (0, 0, 0, 0, 0), 'none', 0)],
+    'grid_axes/box_misses_last_column': [
+        (FLAT, first + write(20, 5, 10, 10) + settle(0) + rename('(Known 0)', 901, 11), (0, 0, 20, 5, 0), 'some 0', 1),
+    ],
+    'pool_books/regeneration_covers_level_0': [
+        (FLAT, first + regenerate + settle(0) + rename('(Known 0)', 901, 11), (0, 0, 0, 0, 0), 'some 0', 1),
+    ],
+    'pool_books/copies_bring_nothing': [(FLAT, first, (0, 0, 0, 0, 0), 'none', 0), (CUBE, first_cube, (5, 2, 1, 1, 0), 'none', 0)],
+    'pool_books/covered_level_not_left_out': [(FLAT, rename('Unknown', 900, 10, 'fullCover'), (0, 0, 0, 0, 0), 'none', 0)],
+    'pool_books/partial_write_ends_it': [(FLAT, rename('Unknown', 900, 10, 'fullCover') + write(0, 0), (0, 0, 50, 50, 0), 'none', 0)],
 }
 
 
@@ -83,9 +115,42 @@ def declare(folder, copied):
     open(folder + '/lib.rt', 'w').write(mods)
 
 
+def theorems(i, unfolding, shape, calls, texel, live, plain):
+    """One list's theorems, of which the last is that the claim is false."""
+    return f'''
+abbrev there{i} : Texel
+there{i} = texel {' '.join(map(str, texel))}
+
+abbrev list{i} : List Call
+list{i} = {' ∷ '.join(calls)} ∷ []
+
+abbrev book{i} : Option Book
+book{i} = run (start cubeLent 0) list{i} .books 7
+
+-- the list keeps to renames
+renames{i} : Renames (start cubeLent 0) list{i}
+{unfolding}
+renames{i} = {allowed(calls)}
+
+-- the texel is one of the shape
+inside{i} : Inside {shape} there{i}
+unfolding flatShape slicesOf levelWidth levelHeight levelDepth levelExtent
+inside{i} = record {{ slice = omega arith; level = omega arith; x = omega arith; y = omega arith; z = omega arith }}
+
+-- the live number there is not the plain book's, and the level is not left out
+differs{i} : (liveAt book{i} there{i} ≡ {live}) × (plainAt book{i} there{i} ≡ some {plain}) × (leftAt book{i} there{i} ≡ some false)
+{unfolding}
+differs{i} = (refl, refl, refl)
+
+-- so the claim is false
+refuted{i} : Demand3 → ⊥
+{unfolding} Demand3 Agrees
+refuted{i} claim = subst (AnyBut {plain}) (claim cubeLent 0 list{i} renames{i} {'.2 ' * len(calls)}.agrees 7 there{i} inside{i} refl) tt
+'''
+
+
 def refute(case, edited=True):
     crate, edit = case.split('/')
-    calls, (x, y), live, plain = cases[case]
     name = 'edited_' + edit
     d = '%s/%s' % (out, name)
     shutil.rmtree(d, ignore_errors=True)
@@ -121,54 +186,41 @@ def refute(case, edited=True):
     names = [('%s.specs.%s' % ('Rattle·' + c, m), n) for c in lower for m, n in unfoldable(c, ('Outcomes',))]
     names += [(own + m, n) for c in copied for m, n in unfoldable(c, ('Formed', 'Closed', 'Demand3', 'LentLists'))]
     uses = ''.join('use %s.{%s}\n' % (m, ', '.join(n for k, n in names if k == m)) for m in dict.fromkeys(m for m, n in names))
-    unfolding = 'unfolding %s' % ' '.join(n for m, n in names)
+    unfolding = 'unfolding %s flatMap' % ' '.join(n for m, n in names)
     open(d + '/proofs/Lib.antt', 'w').write('pub mod Counterexample\n')
     open(d + '/proofs/Counterexample.antt', 'w').write(f'''use Prim.Native.Nat.{{ℕ}}
-use mathlib.Core.Path.{{_≡_, refl}}
+use mathlib.Core.Path.{{_≡_, refl, subst}}
 use mathlib.Core.Bool.{{true, false, cond}}
 use mathlib.Core.Option.{{Option, none, some}}
 use mathlib.Core.List.{{List, [], _∷_, flatMap}}
+use lib.Dec.{{eqb}}
+use native.Mathlib.Omega.{{arith}}
 use {own}declared.held.Held.the-variants.{{Known, Unknown}}
 use {own}Model.{{UploadFootprint}}
-use {own}Texels.{{Texel}}
+use {own}Texels.{{Texel, Inside}}
 use {own}VersionBook.{{Book}}
-use {own}Lists.{{writeCall, regenCall, popCall, parkCall, forgetCall, Call, takeCall, planCall, retireCall, between}}
-use {own}Sample.{{sampleLent, noCover}}
+use {own}Lists.{{writeCall, regenCall, popCall, parkCall, noteCall, doomedCall, drainCall, trimCall, forgetCall, Call, takeCall, planCall, retireCall, between}}
+use {own}Demand3.{{Demand3, Agrees}}
+use {own}Sample.{{noCover}}
+use {own}ComputedBooks.{{texel, cube, volume, cubeLent, liveAt, plainAt, leftAt}}
 {uses}
 abbrev fullCover : UploadFootprint
 fullCover = record {{ slice = 0; level = 0; cover = true }}
 
-abbrev liveAt : Option Book → Texel → Option ℕ
-liveAt none t = none
-liveAt (some b) t = b .live t
-
--- none where the texel's level is left out
-abbrev plainAt : Option Book → Texel → Option ℕ
-plainAt none t = none
-plainAt (some b) t = cond (b .left (t .slice) (t .level)) none (some (b .plain t))
-
-abbrev there : Texel
-there = record {{ slice = 0; level = 0; x = {x}; y = {y}; z = 0 }}
-
-abbrev list : List Call
-list = {' ∷ '.join(calls)} ∷ []
-
--- the list keeps to renames
-renames : Renames (start sampleLent 0) list
-{unfolding} flatMap
-renames = {allowed(calls)}
-
--- and the live number differs from the plain book's, at a texel that is not left out
-differs : (liveAt (run (start sampleLent 0) list .books 7) there ≡ {live}) × (plainAt (run (start sampleLent 0) list .books 7) there ≡ some {plain})
-{unfolding} flatMap
-differs = (refl, refl)
-''')
+-- holds of unknown and of each number but k
+abbrev AnyBut : ℕ → Option ℕ → Type 0
+AnyBut k none = Unit {{0}}
+AnyBut k (some n) = cond (eqb n k) ⊥ (Unit {{0}})
+''' + ''.join(theorems(i, unfolding, *one) for i, one in enumerate(cases[case])))
     words = ['rt', 'check', d, '-L', 'dependency=%s/target/rlib' % root]
     for c in lower:
         words += ['--extern', '%s=%s/target/rlib/%s.rlib' % (c, root, c)]
     r = subprocess.run(words, capture_output=True, text=True, cwd=out)
     open('%s/%s.out' % (out, name), 'w').write(r.stdout + r.stderr)
-    return 'logic=proved' in r.stdout + r.stderr
+    # Over the edited definitions each list has to refute the claim, over those as they are none may.
+    if edited:
+        return 'logic=proved' in r.stdout + r.stderr
+    return not all('error: `refuted%d`' % i in r.stdout + r.stderr for i in range(len(cases[case])))
 
 
 if __name__ == '__main__':

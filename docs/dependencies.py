@@ -28,6 +28,10 @@ LAYERS = {
 # A crate that may list more, and why.
 MORE = {
     'event_books': ['grid_axes', 'grid_stamps'],  # its proofs compute 01's sample, and so unfold the grids' definitions
+    # The programs lend as many stamps a page as the pool's contracts ask for (`pageStamps` in `sizesFit`).
+    'event_stream': ['grid_stamps'],
+    'event_program': ['grid_stamps'],
+    'event_program_large': ['grid_stamps'],
 }
 
 

@@ -16,6 +16,11 @@ module _ {ℓ} {A : Type ℓ} {P : A → Type 0} where
   pub all-tail : {x : A} {xs : List A} → All P (x ∷ xs) → All P xs
   all-tail (cons p ps) = ps
 
+  -- a property of each is one of all
+  pub all-each : ((x : A) → P x) → (xs : List A) → All P xs
+  all-each f [] = nil
+  all-each f (x ∷ xs) = cons (f x) (all-each f xs)
+
   pub all-both : {xs ys : List A} → All P xs → All P ys → All P (xs ++ ys)
   all-both nil q = q
   all-both (cons p ps) q = cons p (all-both ps q)

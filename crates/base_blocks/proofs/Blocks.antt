@@ -9,6 +9,7 @@ use lib.ListN.{length, take, drop, getD, set, replicate, length-append, length-d
 use lib.Seq.{paste, paste-zero, paste-suc, drop-paste, getD-drop, getD-append-add, drop-cons, take-suc-set, set-append-left, take-set-lt, append-snoc, length-take-le, getD-take, sets, sets-eq, take-all, take-append-seam, drop-append-seam, drop-append-add, take-append-le, take-take, drop-at, drop-drop, set-at, take-at}
 use Rattle.base_blocks.specs.Lists.{over}
 use Rattle.base_blocks.specs.Blocks.{moved, turned, rotated}
+use Rattle.base_blocks.proofs.Lists.{drop-over}
 
 -- ---- moved down and up
 
@@ -69,40 +70,43 @@ module _ (s₀ : List ℕ) (at k n : ℕ) (fits : at + k + n ≤ length s₀) wh
       ∙ sym (append-assoc (take m s₀) (v ∷ rest) tail)
       ∙ ap₂ (λ (b : List ℕ) (i : ℕ). take m s₀ ++ b ++ drop i s₀) (sym block) seam
 
--- a block taken out: the later ones close up, and past them the list stays
-pub moved-out : (s a x b t : List ℕ) → s ≡ a ++ (x ++ (b ++ t)) → moved s (length a) (length a + length x) (length b) ≡ over (a ++ b) s
+-- what stands between a and b replaced by y, and the r numbers from b on moved to just after it: past them the list stays
+pub repacked : (s y : List ℕ) (a b r : ℕ) → a ≤ b → b + r ≤ length s → a + length y + r ≤ length s
+    → sets (moved s (a + length y) b r) a y ≡ over (take a s ++ (y ++ take r (drop b s))) s
 unfolding moved over
-moved-out s a x b t e =
-    let ta : take (length a) s ≡ a = ap (take (length a)) e ∙ take-append-seam a (x ++ (b ++ t)) in
-    let db : drop (length a + length x) s ≡ b ++ t =
-    ap (drop (length a + length x)) e ∙ drop-append-add a (x ++ (b ++ t)) (length x) ∙ drop-append-seam x (b ++ t) in
-    ap₂ (λ (l r : List ℕ). l ++ take (length b) r ++ drop (length a + length b) s) ta db
-    ∙ ap₂ (λ (l : List ℕ) (m : ℕ). a ++ l ++ drop m s) (take-append-seam b t) (sym (length-append a b))
+repacked s y a b r h k room =
+    let n = length y in
+    let z = drop (a + n + r) s in
+    let m = take r (drop b s) in
+    let front = take (a + n) s in
+    let lf : length front ≡ a + n = length-take-le (a + n) s (omega arith) in
+    let lm : length m ≡ r = length-take-le r (drop b s) (omega (arith, length-drop b s)) in
+    let la : length (take a s) ≡ a = length-take-le a s (omega arith) in
+    let form : front ++ m ++ z ≡ front ++ (m ++ z) = append-assoc front m z in
+    let long : length (front ++ (m ++ z)) ≡ length s =
+    length-append front (m ++ z) ∙ ap (λ (i : ℕ). length front + i) (length-append m z)
+    ∙ (let e : length front + (length m + length z) ≡ length s = omega (arith, length-drop (a + n + r) s) in e) in
+    let whole : length (take a s ++ (y ++ m)) ≡ a + n + r =
+    length-append (take a s) (y ++ m) ∙ ap (λ (i : ℕ). length (take a s) + i) (length-append y m)
+    ∙ (let e : length (take a s) + (length y + length m) ≡ a + n + r = omega arith in e) in
+    ap (λ (l : List ℕ). sets l a y) form
+    ∙ sets-eq y (front ++ (m ++ z)) a (omega arith)
+    ∙ ap₂ (λ (l q : List ℕ). l ++ y ++ q)
+    (take-append-le a front (m ++ z) (omega arith) ∙ take-take a (a + n) s (omega arith))
+    (drop-at front (m ++ z) (a + n) lf)
+    ∙ (let e : (take a s ++ y) ++ (m ++ z) ≡ (take a s ++ (y ++ m)) ++ z = simp append-assoc in e)
+    ∙ ap (λ (i : ℕ). (take a s ++ (y ++ m)) ++ drop i s) (sym whole)
 
--- a block put in: the later ones make room, and past them the list stays
-pub moved-in : (s a x b t : List ℕ) → s ≡ a ++ (b ++ t) → length x ≤ length t
-    → sets (moved s (length a + length x) (length a) (length b)) (length a) x ≡ over (a ++ x ++ b) s
+-- xs laid over the front, and the m numbers from r on, which lie past it, moved to just after it
+pub over-moved : (xs s : List ℕ) (r m : ℕ) → length xs ≤ r → r + m ≤ length s → moved (over xs s) (length xs) r m ≡ over (xs ++ take m (drop r s)) s
 unfolding moved over
-moved-in s a x b t e h =
-    let la = length a in
-    let lx = length x in
-    let lb = length b in
-    let ls : length s ≡ la + (lb + length t) = ap length e ∙ simp length-append in
-    let f = take (la + lx) s in
-    let z = drop (la + lx + lb) s in
-    let lf : length f ≡ la + lx = length-take-le (la + lx) s (omega arith) in
-    let ta : take la s ≡ a = ap (take la) e ∙ take-append-seam a (b ++ t) in
-    let tb : take lb (drop la s) ≡ b = ap (λ (l : List ℕ). take lb (drop la l)) e ∙ ap (take lb) (drop-append-seam a (b ++ t)) ∙ take-append-seam b t in
-    let m : moved s (la + lx) la lb ≡ f ++ (b ++ z) = ap (λ (l : List ℕ). f ++ l ++ z) tb ∙ append-assoc f b z in
-    let lm : length (f ++ (b ++ z)) ≡ length s = simp (length-append, length-drop, lf) (omega arith) in
-    let front : take la (f ++ (b ++ z)) ≡ a = take-append-le la f (b ++ z) (omega arith) ∙ take-take la (la + lx) s (omega arith) ∙ ta in
-    let back : drop (la + lx) (f ++ (b ++ z)) ≡ b ++ z = drop-at f (b ++ z) (la + lx) lf in
-    let whole : la + lx + lb ≡ length (a ++ x ++ b) = sym (simp length-append) in
-    ap (λ (l : List ℕ). sets l la x) m
-    ∙ sets-eq x (f ++ (b ++ z)) la (omega arith)
-    ∙ ap₂ (λ (l r : List ℕ). l ++ x ++ r) front back
-    ∙ sym (append-assoc (a ++ x) b z)
-    ∙ ap (λ (k : ℕ). a ++ x ++ b ++ drop k s) whole
+over-moved xs s r m h k =
+    let b = take m (drop r s) in
+    let lb : length b ≡ m = length-take-le m (drop r s) (omega (arith, length-drop r s)) in
+    ap₂ (λ (p q : List ℕ). p ++ take m q ++ drop (length xs + m) (xs ++ drop (length xs) s)) (take-append-seam xs (drop (length xs) s))
+    (drop-over xs s r h)
+    ∙ ap (λ (q : List ℕ). (xs ++ b) ++ q) (drop-over xs s (length xs + m) (omega arith))
+    ∙ ap (λ (n : ℕ). (xs ++ b) ++ drop n s) (sym (length-append xs b ∙ ap (λ (n : ℕ). length xs + n) lb))
 
 -- ---- copied and filled
 
@@ -116,7 +120,7 @@ stored-at s a x y t e h =
     (ap (λ (k : ℕ). drop (length a + k) s) h ∙ ap (drop (length a + length y)) e ∙ drop-append-add a (y ++ t) (length y) ∙ drop-append-seam y t)
     ∙ append-assoc a x t
 
--- a list with some of its elements written anew, read before them, among them and past them
+-- a list with some of its elements overwritten, read before them, among them and past them
 module _ {ℓ} {A : Type ℓ} (s : List A) (at : ℕ) (vs : List A) (fits : at + length vs ≤ length s) where
   pub getD-sets-before : (i : ℕ) (d : A) → i < at → getD (sets s at vs) i d ≡ getD s i d
   getD-sets-before i d h =

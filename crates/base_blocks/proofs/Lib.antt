@@ -5,3 +5,4 @@ pub mod Listed
 pub mod All
 pub mod Blocks
 pub mod Scans
+pub mod Walks

@@ -5,7 +5,7 @@ use native.Mathlib.Nat.{suc-mul, div-mul-le-self, lt-div-mul-add, le-div-iff-mul
 use native.Mathlib.Omega.{arith}
 use Rattle.base_blocks.specs.Lists.{ceilDiv}
 
--- so many parts of b cover a
+-- ceilDiv a b parts of b cover a
 pub ceil-covers : (a b : ℕ) → 0 < b → a ≤ ceilDiv a b * b
 unfolding ceilDiv
 ceil-covers a b h = let k = lt-div-mul-add {a = a + (b - 1)} {b = b} h in omega arith

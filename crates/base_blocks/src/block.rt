@@ -1,11 +1,11 @@
-// Blocks of numbers moved, copied, filled and turned inside one lent slice.
+// Moves, copies, fills and turns blocks of numbers inside one lent slice. There is no heap, so every store of the pool is such a slice.
 ghost use mathlib.Core.Path.{_≡_};
 ghost use Prim.Native.Nat.{_+_, _≤_};
 ghost use lib.ListN.{length, replicate};
 ghost use lib.Seq.{sets};
 ghost use Rattle.base_blocks.specs.Blocks.{moved, turned, rotated};
 
-// The n numbers from at + k on move down to at; what stands past them stays.
+// Moves the n numbers from at + k on down to at, which closes a gap of k; what stands past them stays.
 pub fn shift_down(s: &mut [u64], at: usize, k: usize, n: usize)
     requires { ⌜ at + k + n ≤ length (now s) ⌝ }
     ensures { λ _. ⌜ now (s .exit) ≡ moved (now (s .entry)) at (at + k) n ⌝ }
@@ -17,7 +17,7 @@ pub fn shift_down(s: &mut [u64], at: usize, k: usize, n: usize)
     }
 }
 
-// The n numbers from at on move up to at + k. The last goes first, since the blocks may overlap.
+// Moves the n numbers from at on up to at + k, which opens a gap of k. The last goes first, since the blocks may overlap.
 pub fn shift_up(s: &mut [u64], at: usize, k: usize, n: usize)
     requires { ⌜ at + k + n ≤ length (now s) ⌝ }
     ensures { λ _. ⌜ now (s .exit) ≡ moved (now (s .entry)) (at + k) at n ⌝ }
@@ -29,7 +29,7 @@ pub fn shift_up(s: &mut [u64], at: usize, k: usize, n: usize)
     }
 }
 
-// The numbers of src stored from index at on.
+// Stores the numbers of src from index at on.
 pub fn copy_in(s: &mut [u64], at: usize, src: &[u64])
     requires { ⌜ at + length (now src) ≤ length (now s) ⌝ }
     ensures { λ _. ⌜ now (s .exit) ≡ sets (now (s .entry)) at (now (src .entry)) ⌝ }
@@ -41,7 +41,7 @@ pub fn copy_in(s: &mut [u64], at: usize, src: &[u64])
     }
 }
 
-// x stored n times from index at on.
+// Stores x n times from index at on.
 pub fn fill(s: &mut [u64], at: usize, n: usize, x: u64)
     requires { ⌜ at + n ≤ length (now s) ⌝ }
     ensures { λ _. ⌜ now (s .exit) ≡ sets (now (s .entry)) at (replicate n x) ⌝ }
@@ -53,7 +53,7 @@ pub fn fill(s: &mut [u64], at: usize, n: usize, x: u64)
     }
 }
 
-// The n numbers from at on in reverse order: the outermost two change places, then those inside them.
+// Reverses the n numbers from at on: the outermost two change places, then those inside them.
 pub fn reverse(s: &mut [u64], at: usize, n: usize)
     requires { ⌜ at + n ≤ length (now s) ⌝ }
     ensures { λ _. ⌜ now (s .exit) ≡ turned at n (now (s .entry)) ⌝ }
@@ -69,7 +69,7 @@ pub fn reverse(s: &mut [u64], at: usize, n: usize)
     }
 }
 
-// The k numbers from at + n on change places with the n numbers before them: each block is reversed, then both together.
+// Puts the k numbers from at + n on before the n numbers from at on. Each block is reversed, then both together, which needs no second store.
 pub fn rotate(s: &mut [u64], at: usize, n: usize, k: usize)
     requires { ⌜ at + n + k ≤ length (now s) ⌝ }
     ensures { λ _. ⌜ now (s .exit) ≡ rotated at n k (now (s .entry)) ⌝ }

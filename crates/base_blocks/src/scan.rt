@@ -1,4 +1,5 @@
-// Scans of a list of numbers, four a turn where the list is long: a number past the bound, a number looked for, the largest.
+// Looks through a list of numbers for one past a bound, for a given one, and for the largest. The tests of a pool read whole stores, so a turn takes
+// several numbers where the list is long.
 ghost use mathlib.Core.Path.{_≡_};
 ghost use Prim.Native.Nat.{_+_, _^_, _≤_, _<_};
 ghost use lib.Dec.{ltb};
@@ -10,7 +11,7 @@ use crate::number::larger;
 // The highest bit.
 const TOP: u64 = 9223372036854775808;
 
-// The four numbers from i on are at most b.
+// Returns whether the four numbers from i on are at most b.
 fn four_within(s: &[u64], i: usize, b: u64) -> bool
     requires { ⌜ i + 4 ≤ length (now s) ⌝ }
     ensures { λ r. ⌜ r ≡ all (atMost b) (take 4 (drop i (now (s .entry)))) ⌝ }
@@ -18,7 +19,7 @@ fn four_within(s: &[u64], i: usize, b: u64) -> bool
     (s[i] <= b) & (s[i + 1] <= b) & (s[i + 2] <= b) & (s[i + 3] <= b)
 }
 
-// At least TOP if x passes b: then x, or b less x, has the highest bit.
+// Returns a number of at least TOP if x passes b: then x, or b less x, has the highest bit.
 fn past(x: u64, b: u64) -> u64
     requires { ⌜ b < 2 ^ 63 ⌝ }
     ensures { λ r. ⌜ ltb r (2 ^ 63) ≡ atMost b x ⌝ }
@@ -26,7 +27,7 @@ fn past(x: u64, b: u64) -> u64
     x | std::num::wrapping_sub_u64(b, x)
 }
 
-// At least TOP if one of the n numbers from `from` on passes b. There is no branch for each, so that the compiler can test several at once.
+// Returns a number of at least TOP if one of the n numbers from `from` on passes b. There is no branch for each, so that the compiler can test several at once.
 fn some_past(s: &[u64], from: usize, n: usize, b: u64) -> u64
     requires { ⌜ (from + n ≤ length (now s)) × (b < 2 ^ 63) ⌝ }
     ensures { λ r. ⌜ ltb r (2 ^ 63) ≡ all (atMost b) (take n (drop from (now (s .entry)))) ⌝ }
@@ -40,7 +41,7 @@ fn some_past(s: &[u64], from: usize, n: usize, b: u64) -> u64
     bits
 }
 
-// How far blocks of 64 numbers from the front on do not pass b.
+// Returns how far blocks of 64 numbers, from the front on, do not pass b.
 fn blocks_within(s: &[u64], b: u64) -> usize
     ensures { λ r. ⌜ (r ≤ length (now (s .entry))) × (all (atMost b) (drop r (now (s .entry))) ≡ all (atMost b) (now (s .entry))) ⌝ }
 {
@@ -58,7 +59,7 @@ fn blocks_within(s: &[u64], b: u64) -> usize
     i
 }
 
-// No number of s passes b.
+// Returns whether no number of s passes b.
 pub fn within(s: &[u64], b: u64) -> bool
     ensures { λ r. ⌜ r ≡ all (atMost b) (now (s .entry)) ⌝ }
 {
@@ -79,7 +80,7 @@ pub fn within(s: &[u64], b: u64) -> bool
     true
 }
 
-// One of the four numbers from i on is b.
+// Returns whether one of the four numbers from i on is b.
 fn four_contain(s: &[u64], i: usize, b: u64) -> bool
     requires { ⌜ i + 4 ≤ length (now s) ⌝ }
     ensures { λ r. ⌜ r ≡ member b (take 4 (drop i (now (s .entry)))) ⌝ }
@@ -87,7 +88,7 @@ fn four_contain(s: &[u64], i: usize, b: u64) -> bool
     (s[i] == b) | (s[i + 1] == b) | (s[i + 2] == b) | (s[i + 3] == b)
 }
 
-// b is one of the numbers of s.
+// Returns whether b is one of the numbers of s.
 pub fn contains(s: &[u64], b: u64) -> bool
     ensures { λ r. ⌜ r ≡ member b (now (s .entry)) ⌝ }
 {
@@ -108,7 +109,7 @@ pub fn contains(s: &[u64], b: u64) -> bool
     false
 }
 
-// The largest number of s; 0 where s is empty. To test that a known number is the largest, `within` and `contains` are quicker.
+// Returns the largest number of s; 0 where s is empty. To test that a known number is the largest, `within` and `contains` are quicker.
 pub fn largest_of(s: &[u64]) -> u64
     ensures { λ r. ⌜ r ≡ largest (now (s .entry)) ⌝ }
 {

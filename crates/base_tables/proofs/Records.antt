@@ -1,18 +1,23 @@
 -- Laws of tables of records. Assumes nothing.
 use mathlib.Core.Path.{_≡_, refl, sym, ap, ap₂, _∙_}
-use mathlib.Core.List.{List, [], _∷_, _++_, append-assoc}
+use mathlib.Core.List.{List, [], _∷_, _++_, map, append-nil}
 use Prim.Native.Nat.{ℕ, zero, suc, _+_, _*_, _-_, _≤_, _<_}
-use native.Mathlib.Numerals.{add-one}
-use native.Mathlib.Nat.{mul-suc, mul-zero, mul-one, add-comm, mul-add, zero-add}
+use native.Mathlib.Nat.{mul-suc, mul-zero, add-comm, mul-add, zero-add}
 use native.Mathlib.Omega.{arith}
-use lib.ListN.{length, take, drop, getD, set, length-append, length-drop, length-set, take-append-drop}
-use lib.Seq.{sets, drop-at, drop-drop, drop-cons, set-split, set-getD, length-take-le, getD-set-same, getD-set-other}
-use Rattle.base_blocks.specs.Lists.{listed, over, removed, inserted}
+use lib.ListN.{length, take, drop, getD, set, replicate, length-set, length-replicate}
+use lib.Seq.{sets, drop-drop, drop-cons, take-all, set-getD, getD-set-same, getD-set-other}
+use Rattle.base_blocks.specs.Lists.{listed, over, total, removed, inserted}
 use Rattle.base_blocks.specs.Blocks.{moved}
+use Rattle.base_unequal.specs.Unequal.{sizeBy, startOf, blocks}
 use Rattle.base_tables.specs.Records.{recordAt, table, flat}
 use Rattle.base_blocks.proofs.Lists.{over-self}
 use Rattle.base_blocks.proofs.Listed.{length-listed, getD-listed, take-listed, drop-listed, listed-same, left, left-all}
-use Rattle.base_blocks.proofs.Blocks.{moved-out, moved-in, stored-at}
+use Rattle.base_blocks.proofs.All.{all-each}
+use Rattle.base_blocks.proofs.Numbers.{rows-split}
+use Rattle.base_unequal.proofs.Starts.{total-equal, start-equal}
+use Rattle.base_unequal.proofs.Unequal.{length-flat as length-blocks, removed-blocks, inserted-blocks, replaced-block}
+use Rattle.base_unequal.proofs.Readings.{blocks-flat, flat-blocks}
+pub use Rattle.base_unequal.proofs.Unequal.{flat-append}
 
 -- What a type of record says of its reading and writing, once: all the laws below follow.
 pub record Codec {ℓ} {A : Type ℓ} (w : ℕ) (rd : List ℕ → A) (wr : A → List ℕ) : Type ℓ where
@@ -81,11 +86,6 @@ module _ {ℓ} {A : Type ℓ} (w : ℕ) (rd : List ℕ → A) where
       (λ j q. ap (λ (k : ℕ). rd (drop k s)) (ap (λ (k : ℕ). w * k) (let e : 1 + j ≡ suc (0 + j) = omega arith in e) ∙ mul-suc w (0 + j) ∙ add-comm (w * (0 + j)) w)
       ∙ sym (ap rd (drop-drop (w * (0 + j)) w s))))
 
-pub flat-append {ℓ} : {A : Type ℓ} (wr : A → List ℕ) (xs ys : List A) → flat wr (xs ++ ys) ≡ flat wr xs ++ flat wr ys
-unfolding flat
-flat-append wr [] ys = refl
-flat-append wr (x ∷ xs) ys = ap (λ (l : List ℕ). wr x ++ l) (flat-append wr xs ys) ∙ sym (append-assoc (wr x) (flat wr xs) (flat wr ys))
-
 -- ---- a table written
 
 module _ {ℓ} {A : Type ℓ} {w : ℕ} {rd : List ℕ → A} {wr : A → List ℕ} (C : Codec w rd wr) where
@@ -95,23 +95,24 @@ module _ {ℓ} {A : Type ℓ} {w : ℕ} {rd : List ℕ → A} {wr : A → List �
   record-part s i = C .front (drop (w * i) s)
 
   pub length-flat : (xs : List A) → length (flat wr xs) ≡ w * length xs
-  unfolding flat
-  length-flat [] = sym (mul-zero w)
-  length-flat (x ∷ xs) =
-      length-append (wr x) (flat wr xs) ∙ ap₂ (λ (a b : ℕ). a + b) (C .long x) (length-flat xs)
-      ∙ add-comm w (w * length xs) ∙ sym (mul-suc w (length xs))
+  length-flat xs = length-blocks wr xs ∙ total-equal (sizeBy wr) w (C .long) xs
+
+  -- a table is blocks of one size, and no record needs a head
+  pub table-blocks : (n : ℕ) (s : List ℕ) → table w rd n s ≡ blocks (λ (u : Unit {0}). w) (λ (u : Unit {0}). rd) (replicate n tt) s
+  unfolding blocks
+  table-blocks zero s = table-none w rd s
+  table-blocks (suc n) s = table-cons w rd n s ∙ ap₂ (λ (x : A) (l : List A). x ∷ l) (sym (C .front s)) (table-blocks n (drop w s))
 
   -- what was written is what is read
   pub table-flat : (xs : List A) (t : List ℕ) → table w rd (length xs) (flat wr xs ++ t) ≡ xs
-  unfolding flat
-  table-flat [] t = table-none w rd t
-  table-flat (x ∷ xs) t =
-      let e : (wr x ++ flat wr xs) ++ t ≡ wr x ++ (flat wr xs ++ t) = append-assoc (wr x) (flat wr xs) t in
-      table-cons w rd (length xs) ((wr x ++ flat wr xs) ++ t)
-      ∙ ap₂ (λ (a : A) (l : List ℕ). a ∷ table w rd (length xs) l)
-      (ap rd e ∙ C .read x (flat wr xs ++ t))
-      (ap (drop w) e ∙ drop-at (wr x) (flat wr xs ++ t) w (C .long x))
-      ∙ ap (λ (l : List A). x ∷ l) (table-flat xs t)
+  table-flat xs t =
+      table-blocks (length xs) (flat wr xs ++ t)
+      ∙ ap (λ (us : List (Unit {0})). blocks (λ u. w) (λ u. rd) us (flat wr xs ++ t)) (sym (heads xs))
+      ∙ blocks-flat (λ u. w) (λ u. rd) wr (λ a. tt) xs t (all-each (C .long) xs) (λ a. ap rd (sym (append-nil (wr a))) ∙ C .read a [])
+    where
+      heads : (ys : List A) → map (λ (a : A). tt {0}) ys ≡ replicate (length ys) tt
+      heads [] = refl
+      heads (y ∷ ys) = ap (λ (us : List (Unit {0})). tt ∷ us) (heads ys)
 
   -- what is read after a write-back is what was written
   pub reread : (xs : List A) (n : ℕ) (s : List ℕ) → length xs ≡ n → table w rd n (over (flat wr xs) s) ≡ xs
@@ -120,18 +121,10 @@ module _ {ℓ} {A : Type ℓ} {w : ℕ} {rd : List ℕ → A} {wr : A → List �
 
   -- what is read is what stands there
   pub flat-table : (n : ℕ) (s : List ℕ) → w * n ≤ length s → s ≡ flat wr (table w rd n s) ++ drop (w * n) s
-  unfolding flat
-  flat-table zero s k = sym (ap₂ (λ (l : List A) (m : ℕ). flat wr l ++ drop m s) (table-none w rd s) (mul-zero w))
-  flat-table (suc n) s k =
-      let e : w * suc n ≡ w * n + w = mul-suc w n in
-      let f : w + w * n ≡ w * suc n = add-comm w (w * n) ∙ sym e in
-      let hd : w * n ≤ length (drop w s) = rw length-drop (omega arith) in
-      let r = flat wr (table w rd n (drop w s)) in
-      sym (take-append-drop w s)
-      ∙ ap₂ (λ (a b : List ℕ). a ++ b) (sym (C .back s (omega arith)))
-      (flat-table n (drop w s) hd ∙ ap (λ (l : List ℕ). r ++ l) (drop-drop (w * n) w s ∙ ap (λ (m : ℕ). drop m s) f))
-      ∙ sym (append-assoc (wr (rd s)) r (drop (w * suc n) s))
-      ∙ ap (λ (l : List A). flat wr l ++ drop (w * suc n) s) (sym (table-cons w rd n s))
+  flat-table n s k =
+      let used : total (λ (u : Unit {0}). w) (replicate n tt) ≡ w * n = total-equal (λ u. w) w (λ u. refl) (replicate n tt) ∙ ap (λ (m : ℕ). w * m) (length-replicate n tt) in
+      flat-blocks (λ (u : Unit {0}). w) (λ u. rd) wr (λ u l e. C .back l (omega arith) ∙ take-all w l (omega arith)) (replicate n tt) s (omega arith)
+      ∙ ap₂ (λ (l : List A) (m : ℕ). flat wr l ++ drop m s) (sym (table-blocks n s)) used
 
   -- a write-back of what was read changes nothing
   pub over-table : (n : ℕ) (s : List ℕ) → w * n ≤ length s → over (flat wr (table w rd n s)) s ≡ s
@@ -143,79 +136,41 @@ module _ {ℓ} {A : Type ℓ} {w : ℕ} {rd : List ℕ → A} {wr : A → List �
   abbrev xs : List A
   xs = table w rd n s
 
-  -- the numbers of c records from record i on
-  length-run : (i c : ℕ) → i + c ≤ n → length (flat wr (take c (drop i xs))) ≡ w * c
-  length-run i c h =
-      let lx : length xs ≡ n = length-table w rd n s in
-      length-flat C (take c (drop i xs)) ∙ ap (λ (k : ℕ). w * k) (length-take-le c (drop i xs) (omega (arith, length-drop i xs)))
+  -- where record i begins, and what the records take
+  begins : (i : ℕ) → i ≤ n → startOf (sizeBy wr) i xs ≡ w * i
+  begins i h = start-equal (sizeBy wr) w (C .long) xs i (omega (arith, length-table w rd n s))
 
-  length-front : (i : ℕ) → i ≤ n → length (flat wr (take i xs)) ≡ w * i
-  length-front i h = length-flat C (take i xs) ∙ ap (λ (k : ℕ). w * k) (length-take-le i xs (omega (arith, length-table w rd n s)))
+  takes : total (sizeBy wr) xs ≡ w * n
+  takes = total-equal (sizeBy wr) w (C .long) xs ∙ ap (λ (k : ℕ). w * k) (length-table w rd n s)
 
-  length-rest : (i : ℕ) → length (flat wr (drop i xs)) ≡ w * (n - i)
-  length-rest i = length-flat C (drop i xs) ∙ ap (λ (k : ℕ). w * k) (length-drop i xs ∙ ap (λ (k : ℕ). k - i) (length-table w rd n s))
-
-  -- the records before i, and those from i on
-  parted : (i : ℕ) → s ≡ flat wr (take i xs) ++ (flat wr (drop i xs) ++ drop (w * n) s)
-  parted i =
-      flat-table C n s fits
-      ∙ ap (λ (l : List A). flat wr l ++ drop (w * n) s) (sym (take-append-drop i xs))
-      ∙ ap (λ (l : List ℕ). l ++ drop (w * n) s) (flat-append wr (take i xs) (drop i xs))
-      ∙ append-assoc (flat wr (take i xs)) (flat wr (drop i xs)) (drop (w * n) s)
-
-  -- c records from i on, and those past them
-  run-parted : (i c : ℕ) → flat wr (drop i xs) ≡ flat wr (take c (drop i xs)) ++ flat wr (drop (i + c) xs)
-  run-parted i c =
-      ap (flat wr) (sym (take-append-drop c (drop i xs)) ∙ ap (λ (l : List A). take c (drop i xs) ++ l) (drop-drop c i xs))
-      ∙ flat-append wr (take c (drop i xs)) (drop (i + c) xs)
+  -- what the records from i on take
+  later : (i : ℕ) → i ≤ n → total (sizeBy wr) xs - startOf (sizeBy wr) i xs ≡ w * (n - i)
+  later i h = omega (arith, takes, begins i h, rows-split w i n h)
 
   -- the k records from i on taken out
   pub removed-records : (i k : ℕ) → i + k ≤ n → moved s (w * i) (w * i + w * k) (w * (n - (i + k))) ≡ over (flat wr (removed i k xs)) s
-  unfolding removed
   removed-records i k h =
-      let a = flat wr (take i xs) in
-      let x = flat wr (take k (drop i xs)) in
-      let b = flat wr (drop (i + k) xs) in
-      let t = drop (w * n) s in
-      let cut : s ≡ a ++ (x ++ (b ++ t)) = parted i ∙ ap (λ (l : List ℕ). a ++ (l ++ t)) (run-parted i k) ∙ ap (λ (l : List ℕ). a ++ l) (append-assoc x b t) in
-      ap₂ (λ (j m : ℕ). moved s j (j + w * k) m) (sym (length-front i (omega arith))) (sym (length-rest (i + k)))
-      ∙ ap (λ (m : ℕ). moved s (length a) (length a + m) (length b)) (sym (length-run i k h))
-      ∙ moved-out s a x b t cut
-      ∙ ap (λ (l : List ℕ). over l s) (sym (flat-append wr (take i xs) (drop (i + k) xs)))
+      (λ j. moved s (sym (begins i (omega arith)) j) (sym (begins (i + k) h ∙ mul-add w i k) j) (sym (later (i + k) h) j))
+      ∙ removed-blocks wr xs s (drop (w * n) s) (flat-table C n s fits) i k (omega (arith, length-table w rd n s))
 
   -- one record put in before record i
   pub inserted-records : (i : ℕ) (x : A) → w * n + w ≤ length s → i ≤ n
       → sets (moved s (w * i + w) (w * i) (w * (n - i))) (w * i) (wr x) ≡ over (flat wr (inserted i (x ∷ []) xs)) s
-  unfolding inserted flat
+  unfolding flat total
   inserted-records i x room h =
-      let a = flat wr (take i xs) in
-      let b = flat wr (drop i xs) in
-      let lx = C .long x in
-      let free : length (wr x) ≤ length (drop (w * n) s) = simp (length-drop, lx) (omega arith) in
-      ap₂ (λ (j m : ℕ). sets (moved s (j + w) j m) j (wr x)) (sym (length-front i h)) (sym (length-rest i))
-      ∙ ap (λ (m : ℕ). sets (moved s (length a + m) (length a) (length b)) (length a) (wr x)) (sym lx)
-      ∙ moved-in s a (wr x) b (drop (w * n) s) (parted i) free
-      ∙ ap (λ (l : List ℕ). over l s) (append-assoc a (wr x) b ∙ sym (flat-append wr (take i xs) (x ∷ drop i xs)))
+      let one : flat wr (x ∷ []) ≡ wr x = append-nil (wr x) in
+      let at = begins i h in
+      (λ j. sets (moved s (sym at j + sym (ap length one ∙ C .long x) j) (sym at j) (sym (later i h) j)) (sym at j) (sym one j))
+      ∙ inserted-blocks wr xs s (drop (w * n) s) (flat-table C n s fits) i (x ∷ []) (omega (arith, length-table w rd n s)) (omega (arith, takes, C .long x))
 
-  -- record i written anew
+  -- record i written over
   pub replaced-record : (i : ℕ) (x : A) → i < n → sets s (w * i) (wr x) ≡ over (flat wr (set xs i x)) s
-  unfolding flat over
+  unfolding over
   replaced-record i x h =
-      let y = flat wr (take 1 (drop i xs)) in
-      let a = flat wr (take i xs) in
-      let b = flat wr (drop (i + 1) xs) in
-      let t = drop (w * n) s in
-      let ly : length (wr x) ≡ length y = C .long x ∙ sym (mul-one w) ∙ sym (length-run i 1 (omega arith)) in
-      let cut : s ≡ a ++ (y ++ (b ++ t)) = parted i ∙ ap (λ (l : List ℕ). a ++ (l ++ t)) (run-parted i 1) ∙ ap (λ (l : List ℕ). a ++ l) (append-assoc y b t) in
-      let new : flat wr (set xs i x) ≡ a ++ (wr x ++ b) =
-      ap (flat wr) (set-split xs i x (omega (arith, length-table w rd n s)) ∙ ap (λ (k : ℕ). take i xs ++ (x ∷ drop k xs)) (sym (add-one i)))
-      ∙ flat-append wr (take i xs) (x ∷ drop (i + 1) xs) in
-      let ln : length (flat wr (set xs i x)) ≡ w * n = length-flat C (set xs i x) ∙ ap (λ (k : ℕ). w * k) (length-set xs i x ∙ length-table w rd n s) in
-      ap (λ (k : ℕ). sets s k (wr x)) (sym (length-front i (omega arith)))
-      ∙ stored-at s a (wr x) y (b ++ t) cut ly
-      ∙ ap (λ (l : List ℕ). a ++ l) (sym (append-assoc (wr x) b t))
-      ∙ sym (append-assoc a (wr x ++ b) t)
-      ∙ ap₂ (λ (l : List ℕ) (k : ℕ). l ++ drop k s) (sym new) (sym ln)
+      let long : length (flat wr (set xs i x)) ≡ w * n = length-flat C (set xs i x) ∙ ap (λ (k : ℕ). w * k) (length-set xs i x ∙ length-table w rd n s) in
+      ap (λ (k : ℕ). sets s k (wr x)) (sym (begins i (omega arith)))
+      ∙ replaced-block wr xs s (drop (w * n) s) (flat-table C n s fits) i x (rd []) (omega (arith, length-table w rd n s)) (C .long x ∙ sym (C .long (getD xs i (rd []))))
+      ∙ ap (λ (k : ℕ). flat wr (set xs i x) ++ drop k s) (sym long)
 
   -- ---- the table after such a change
 

@@ -9,7 +9,7 @@ use base_blocks::copy_in;
 use base_blocks::shift_down;
 use base_blocks::shift_up;
 
-// Record i. Its length stands in the contract too, for the indexes of those who read it.
+// Returns record i. Its length stands in the contract too, for the indexes of those who read it.
 pub fn record_at(s: &[u64], w: usize, i: usize) -> &[u64]
     requires { ⌜ w * i + w ≤ length (now s) ⌝ }
     ensures { λ r. ⌜ (length (now r) ≡ w) × (now r ≡ take w (drop (w * i) (now (s .entry)))) ⌝ }
@@ -19,7 +19,7 @@ pub fn record_at(s: &[u64], w: usize, i: usize) -> &[u64]
     &s[at..end]
 }
 
-// Record i written.
+// Writes record i.
 pub fn put_record(s: &mut [u64], w: usize, i: usize, r: &[u64])
     requires { ⌜ w * i + length (now r) ≤ length (now s) ⌝ }
     ensures { λ _. ⌜ now (s .exit) ≡ sets (now (s .entry)) (w * i) (now (r .entry)) ⌝ }
@@ -27,7 +27,7 @@ pub fn put_record(s: &mut [u64], w: usize, i: usize, r: &[u64])
     copy_in(s, w * i, r);
 }
 
-// Of n records, one more put in before record i: the later ones move up by one.
+// Puts one more record before record i of n: the later ones move up by one, so that the order stays.
 pub fn insert_record(s: &mut [u64], w: usize, n: usize, i: usize, r: &[u64])
     requires { ⌜ (w * n + w ≤ length (now s)) × (i ≤ n) × (length (now r) ≡ w) ⌝ }
     ensures { λ _. ⌜ now (s .exit) ≡ sets (moved (now (s .entry)) (w * i + w) (w * i) (w * (n - i))) (w * i) (now (r .entry)) ⌝ }
@@ -38,7 +38,7 @@ pub fn insert_record(s: &mut [u64], w: usize, n: usize, i: usize, r: &[u64])
     copy_in(s, at, r);
 }
 
-// Of n records, the k from record i on taken out: the later ones move down.
+// Takes out the k records from record i on, of n: the later ones move down, so that no gap is left.
 pub fn remove_records(s: &mut [u64], w: usize, n: usize, i: usize, k: usize)
     requires { ⌜ (w * n ≤ length (now s)) × (i + k ≤ n) ⌝ }
     ensures { λ _. ⌜ now (s .exit) ≡ moved (now (s .entry)) (w * i) (w * i + w * k) (w * (n - (i + k))) ⌝ }

@@ -7,7 +7,7 @@ use mathlib.Core.List.{List}
 use Rattle.pool_memory.specs.Lent.{lent}
 use Rattle.pool_memory.specs.IsPool.{isPool}
 use Rattle.pool_memory.specs.Calls.{openedPool, openedBook, openNumber}
-use Rattle.pool.specs.declared.calls.open.OpenAnswer.{OpenAnswer}
+use Rattle.pool_open.specs.declared.calls.open.OpenAnswer.{OpenAnswer}
 use Rattle.pool_books.specs.LentLists.{OpenedIsPool}
 use Rattle.pool_books.proofs.LentLists.{opened-is-pool}
 

@@ -6,7 +6,7 @@ use pool_take_doomed::Handed;
 use pool_take_spare::Taken;
 use std::num::wrapping_add_u64;
 
-// The writes that a spare holds: one more than a known count, or 0.
+// Returns the writes that a spare holds as a number: one more than a known count, or 0.
 pub fn held_number(taken: Taken) -> u64 {
     match taken {
         Taken::Spare { held, .. } => known_number(held),
@@ -15,6 +15,7 @@ pub fn held_number(taken: Taken) -> u64 {
     }
 }
 
+// Returns one more than a known count, or 0.
 fn known_number(held: Held) -> u64 {
     match held {
         Held::Known(n) => wrapping_add_u64(n, 1),
@@ -22,6 +23,7 @@ fn known_number(held: Held) -> u64 {
     }
 }
 
+// Returns the held writes that a number stands for.
 pub fn held_from(number: u64) -> Held {
     if number == 0 {
         return Held::Unknown;
@@ -29,6 +31,7 @@ pub fn held_from(number: u64) -> Held {
     Held::Known(number - 1)
 }
 
+// Returns the number of copies of a plan.
 pub fn copies_number(planned: PlanAnswer) -> u64 {
     match planned {
         PlanAnswer::Copies(n) => n as u64,
@@ -36,7 +39,7 @@ pub fn copies_number(planned: PlanAnswer) -> u64 {
     }
 }
 
-// The version popped, by its view.
+// Returns the view of the version popped, or 0.
 pub fn popped_number(popped: Popped) -> u64 {
     match popped {
         Popped::Version { view, .. } => view,
@@ -45,6 +48,7 @@ pub fn popped_number(popped: Popped) -> u64 {
     }
 }
 
+// Returns how many views were handed out.
 pub fn handed_number(handed: Handed) -> u64 {
     match handed {
         Handed::Views(n) => n as u64,

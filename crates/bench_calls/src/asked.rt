@@ -2,6 +2,7 @@
 use grid_rects::TexelRect;
 use grid_shapes::VersionShape;
 
+// Returns the shape of a flat square texture.
 fn square(format: u64, extent: u64, levels: u64) -> VersionShape {
     VersionShape {
         format,
@@ -19,7 +20,8 @@ fn square(format: u64, extent: u64, levels: u64) -> VersionShape {
     }
 }
 
-// 64 by 64 texels of four bytes, sixteen tiles; where the number of textures is odd, 512 by 512 of one byte, whose tiles fill a page.
+// Returns the shape of n textures: 64 by 64 texels of four bytes, sixteen tiles; where n is odd, 512 by 512 of one byte, whose
+// tiles fill a page.
 pub fn bench_shape(n: usize, levels: u64) -> VersionShape {
     if n % 2 == 1 {
         return square(0, 512, levels);
@@ -27,7 +29,7 @@ pub fn bench_shape(n: usize, levels: u64) -> VersionShape {
     square(2, 64, levels)
 }
 
-// Ten by ten texels, at another place for each texture and in each round.
+// Returns ten by ten texels, at another place for each texture and in each round.
 pub fn rect_of(i: usize, seq: u64) -> TexelRect {
     let a = (i % 65536) as u64;
     let b = seq % 65536;

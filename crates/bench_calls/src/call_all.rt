@@ -13,7 +13,7 @@ use crate::phases::texture_at;
 use pool_memory::PacingBook;
 use pool_memory::Pool;
 
-// Answers the sum of what the calls answered.
+// Makes the calls of a phase, and answers the sum of what they answered.
 pub fn call_all(
     pool: Pool,
     book: PacingBook,

@@ -28,6 +28,7 @@ use pool_take_doomed::take_doomed;
 use pool_take_spare::take_spare;
 use pool_trim::trim;
 
+// The pool after a call or a phase, and what was answered, as a number.
 pub struct Called {
     pub pool: Pool,
     pub book: PacingBook,

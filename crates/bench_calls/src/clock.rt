@@ -1,6 +1,6 @@
 // The processor time of the process, in microseconds.
 
-// The clock answers a negative number where it has no time.
+// Returns the time as a number that is not negative: the clock answers a negative one where it has no time.
 fn unsigned(x: i64) -> u64 {
     if x < 0 {
         return 0;
@@ -8,15 +8,17 @@ fn unsigned(x: i64) -> u64 {
     x as u64
 }
 
+// Reads the clock.
 pub fn reading() -> u64 {
     unsigned(libc::clock())
 }
 
+// Returns the time since a reading.
 pub fn elapsed(start: u64) -> u64 {
     std::num::wrapping_sub_u64(reading(), start)
 }
 
-// k readings of the clock, one right after the other: what reading it costs.
+// Reads the clock k times, one right after the other: what reading it costs.
 pub fn idle_time(k: u64) -> u64 {
     let mut sum = 0;
     let mut i = 0;

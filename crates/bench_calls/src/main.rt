@@ -18,7 +18,7 @@ mod totals;
 use arguments::argument;
 use phases::Task;
 
-// Memory for as many places as may be lent.
+// Runs the rounds on memory for as many places as may be lent.
 fn bench(t: usize, v: usize, p: usize, task: Task) {
     if t > 4096 {
         return;
@@ -51,7 +51,7 @@ fn bench(t: usize, v: usize, p: usize, task: Task) {
     );
 }
 
-// Four levels a texture in lifetimes where the pages are enough, else one.
+// Returns the levels of a texture: four in lifetimes where the pages are enough, else one.
 fn levels_of(workload: u64, t: usize) -> u64 {
     if workload != 2 {
         return 1;
@@ -62,7 +62,7 @@ fn levels_of(workload: u64, t: usize) -> u64 {
     4
 }
 
-// As many pages as all levels need.
+// Returns as many pages as all levels need.
 fn pages_of(levels: u64, t: usize) -> usize {
     if levels == 1 {
         return t;
@@ -70,7 +70,7 @@ fn pages_of(levels: u64, t: usize) -> usize {
     4 * (t % 65536)
 }
 
-// Four arguments, for as many versions as textures and the pages that they need, or six.
+// Takes four arguments, for as many versions as textures and the pages that they need, or six.
 fn main() {
     let n = os::arg_count();
     if n < 5 {

@@ -3,10 +3,10 @@ ghost use mathlib.Core.Path.{_≡_};
 ghost use mathlib.Core.Bool.{true};
 ghost use Rattle.pool_memory.specs.Lent.{atExit};
 ghost use Rattle.pool_memory.specs.IsPool.{isPool};
-use pool::OpenAnswer;
-use pool::open;
+use pool_open::OpenAnswer;
+use pool_open::open;
 
-// A working set of 16 GiB, so that nothing is pressed.
+// Opens a pool with a working set of 16 GiB, so that nothing is pressed.
 pub fn open_work(
     textures: &[u64],
     retiring: &[u64],

@@ -12,6 +12,7 @@ pub struct Task {
     pub rounds: u64,
 }
 
+// Returns a phase of the workload 0.
 fn steady_phase(step: u64) -> usize {
     match step {
         0 => 0,
@@ -25,6 +26,7 @@ fn steady_phase(step: u64) -> usize {
     }
 }
 
+// Returns a phase of the workload 1.
 fn row_phase(step: u64) -> usize {
     match step {
         0 => 12,
@@ -36,6 +38,7 @@ fn row_phase(step: u64) -> usize {
     }
 }
 
+// Returns a phase of the workload 3.
 fn rename_phase(step: u64) -> usize {
     match step {
         0 => 12,
@@ -44,6 +47,7 @@ fn rename_phase(step: u64) -> usize {
     }
 }
 
+// Returns a phase of the workload 2.
 fn lifetime_phase(step: u64) -> usize {
     match step {
         0 => 0,
@@ -56,6 +60,7 @@ fn lifetime_phase(step: u64) -> usize {
     }
 }
 
+// Returns the phase that a workload has as its step in a round.
 pub fn phase_at(workload: u64, step: u64) -> usize {
     if workload == 0 {
         return steady_phase(step);
@@ -69,17 +74,17 @@ pub fn phase_at(workload: u64, step: u64) -> usize {
     rename_phase(step)
 }
 
-// The phases of all rounds, eight of each.
+// Returns the number of phases of all rounds, eight of each.
 pub fn phases_of(rounds: u64) -> u64 {
     8 * (rounds % 1000000000)
 }
 
-// The round of a phase, from 1 on.
+// Returns the round of phase k, from 1 on.
 pub fn round_of(k: u64) -> u64 {
     k / 8 + 1
 }
 
-// How many calls a phase makes on n textures. A lifetime is 16 rounds: in the last of them all textures are forgotten.
+// Returns how many calls a phase makes on n textures. A lifetime is 16 rounds: in the last of them all textures are forgotten.
 pub fn calls_of(phase: usize, n: usize, seq: u64) -> usize {
     let textures = n % 65536;
     match phase {
@@ -98,7 +103,7 @@ pub fn calls_of(phase: usize, n: usize, seq: u64) -> usize {
     }
 }
 
-// The call that a phase makes as its j-th.
+// Returns the call that a phase makes as its j-th.
 pub fn call_at(phase: usize, j: usize) -> usize {
     if phase < 12 {
         return phase;
@@ -109,7 +114,7 @@ pub fn call_at(phase: usize, j: usize) -> usize {
     4 + j % 2
 }
 
-// The texture that it is for.
+// Returns the texture that the j-th call of a phase is for.
 pub fn texture_at(phase: usize, j: usize) -> usize {
     if phase == 12 {
         return j / 4;
@@ -117,7 +122,7 @@ pub fn texture_at(phase: usize, j: usize) -> usize {
     j
 }
 
-// How many ids change places before a phase: all before the first of a round, unless the order stays.
+// Returns how many ids change places before a phase: all before the first of a round, unless the order stays.
 pub fn shuffled_in(order: u64, n: usize, step: u64) -> usize {
     if order == 0 {
         return 0;
@@ -128,7 +133,7 @@ pub fn shuffled_in(order: u64, n: usize, step: u64) -> usize {
     0
 }
 
-// Whether the time counts. The first rounds do not, nor the first lifetime; of a lifetime's takes only those of textures that are not tracked.
+// Returns whether the time counts. The first rounds do not, nor the first lifetime; of a lifetime's takes only those of textures that are not tracked.
 fn is_counted(workload: u64, phase: usize, seq: u64) -> bool {
     if workload != 2 {
         return 8 <= seq;
@@ -145,6 +150,7 @@ fn is_counted(workload: u64, phase: usize, seq: u64) -> bool {
     true
 }
 
+// Returns the time where it counts, else 0.
 pub fn counted(workload: u64, phase: usize, seq: u64, time: u64) -> u64 {
     if is_counted(workload, phase, seq) {
         return time;

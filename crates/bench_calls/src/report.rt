@@ -5,7 +5,7 @@ use crate::totals::Totals;
 use crate::totals::total_lines;
 use pool_memory::Pool;
 
-// Microseconds of every phase, and numbers that the Rust must have too: `id` is the first of the last round.
+// Prints the microseconds of every phase, and numbers that the Rust must have too: `id` is the first of the last round.
 pub fn report(t: Totals, pool: Pool, id: u64) {
     line(b"clock ", idle_time(100000));
     total_lines(t);

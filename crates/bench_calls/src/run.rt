@@ -24,7 +24,7 @@ use pool_records::RETIRING_STRIDE;
 use pool_records::SPARE_STRIDE;
 use pool_records::TEXTURE_STRIDE;
 
-// Nothing is done where the memory is not enough for a pool.
+// Runs the rounds, phase after phase. Nothing is done where the memory is not enough for a pool.
 fn run(
     textures: &mut [u64],
     retiring: &mut [u64],
@@ -85,7 +85,7 @@ fn run(
     );
 }
 
-// Of the memory given, the parts that t textures, v versions and p pages take are lent.
+// Lends the parts of the memory that t textures, v versions and p pages take.
 pub fn run_part(
     textures: &mut [u64],
     retiring: &mut [u64],

@@ -13,7 +13,7 @@ struct Timed {
     sum: u64,
 }
 
-// How many of k tests passed.
+// Tests k times that the memory forms a pool, and counts the tests that passed.
 fn test_all(
     pool: Pool,
     book: PacingBook,
@@ -49,6 +49,7 @@ fn test_all(
     }
 }
 
+// Adds up a slice.
 fn sum_of(s: &[u64], from: u64) -> u64 {
     let mut sum = from;
     let mut i = 0;
@@ -59,7 +60,7 @@ fn sum_of(s: &[u64], from: u64) -> u64 {
     sum
 }
 
-// The same memory added up k times.
+// Adds up the same memory k times.
 fn read_all(textures: &[u64], spares: &[u64], newest: &[u64], stamps: &[u64], k: u64) -> Timed {
     let start = reading();
     let mut sum = 0;
@@ -77,7 +78,7 @@ fn read_all(textures: &[u64], spares: &[u64], newest: &[u64], stamps: &[u64], k:
     }
 }
 
-// k tests and k sums, and what they took.
+// Prints what k tests and k sums took.
 pub fn test_lines(
     pool: Pool,
     book: PacingBook,

@@ -2,11 +2,13 @@
 use crate::printing::phase_line;
 use std::num::wrapping_add_u64;
 
+// By the phases' numbers.
 pub struct Totals {
     pub times: [u64; 16],
     pub sums: [u64; 16],
 }
 
+// Returns the totals of no phase.
 pub fn no_totals() -> Totals {
     Totals {
         times: [0; 16],
@@ -14,6 +16,7 @@ pub fn no_totals() -> Totals {
     }
 }
 
+// Adds what a phase took and answered.
 pub fn added(t: Totals, phase: usize, time: u64, sum: u64) -> Totals {
     let mut u = t;
     if phase < 16 {
@@ -23,6 +26,7 @@ pub fn added(t: Totals, phase: usize, time: u64, sum: u64) -> Totals {
     u
 }
 
+// Prints the totals, a line for each phase.
 pub fn total_lines(t: Totals) {
     let mut phase = 0;
     while phase < 14 {

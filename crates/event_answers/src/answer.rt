@@ -1,7 +1,7 @@
 // What a line is answered with.
 use pool_rules::Held;
 
-// Views and copies stand in the answer buffers: so many view numbers, and so many copies of seven numbers each.
+// The answer of a line. Views and copies stand in the answer buffers, and the answer says how many: a view is one number, a copy seven.
 pub enum Answer {
     // No call was made.
     Question,

@@ -1,4 +1,4 @@
-// Lines of the entries of an answer buffer.
+// Lines of the entries of an answer buffer. Each function puts them from `at` on and returns where they end.
 ghost use Prim.Native.Nat.{_+_, _*_, _≤_};
 ghost use mathlib.Core.List.{[], _∷_, flatMap};
 ghost use lib.ListN.{length, take};
@@ -15,7 +15,7 @@ use event_text::put_number;
 use event_text::put_text;
 use pool_memory::COPY_STRIDE;
 
-// The lines of the first n view numbers.
+// Puts a line for each of the first n view numbers.
 pub fn put_views(out: &mut [u8], at: usize, number: u64, views: &[u64], n: usize) -> usize
     requires { ⌜ (at + mostRow * n ≤ length (now out)) × (n ≤ length (now views)) ⌝ }
     ensures { λ r. ⌜ Put (now (out .entry)) at (flatMap (viewRow number) (take n (now (views .entry)))) r (now (out .exit)) ⌝ }
@@ -29,7 +29,7 @@ pub fn put_views(out: &mut [u8], at: usize, number: u64, views: &[u64], n: usize
     end
 }
 
-// The box of a copy, and the end of its line.
+// Puts the box of a copy, and the end of its line.
 fn put_box(out: &mut [u8], at: usize, left: u64, top: u64, width: u64, height: u64) -> usize
     requires { ⌜ at + 85 ≤ length (now out) ⌝ }
     ensures { λ r. ⌜ (r ≤ at + 85)
@@ -41,7 +41,7 @@ fn put_box(out: &mut [u8], at: usize, left: u64, top: u64, width: u64, height: u
     put_last(out, fourth, height)
 }
 
-// The line of the copy that stands in the first seven numbers.
+// Puts the line of the copy that stands in the first seven numbers.
 fn put_copy(out: &mut [u8], at: usize, number: u64, copy: &[u64]) -> usize
     requires { ⌜ (at + mostRow ≤ length (now out)) × (copyStride ≤ length (now copy)) ⌝ }
     ensures { λ r. ⌜ (r ≤ at + mostRow) × Put (now (out .entry)) at (copyRow number (readCopy (now (copy .entry)))) r (now (out .exit)) ⌝ }
@@ -55,7 +55,7 @@ fn put_copy(out: &mut [u8], at: usize, number: u64, copy: &[u64]) -> usize
     put_box(out, region, copy[3], copy[4], copy[5], copy[6])
 }
 
-// The lines of the first n copies.
+// Puts a line for each of the first n copies.
 pub fn put_copies(out: &mut [u8], at: usize, number: u64, copies: &[u64], n: usize) -> usize
     requires { ⌜ (at + mostRow * n ≤ length (now out)) × (copyStride * n ≤ length (now copies)) ⌝ }
     ensures { λ r. ⌜ Put (now (out .entry)) at (flatMap (copyRow number) (table copyStride readCopy n (now (copies .entry)))) r (now (out .exit)) ⌝ }

@@ -20,7 +20,7 @@ use crate::row::put_words;
 use event_text::put_text;
 use pool_rules::Held;
 
-// The line of a spare.
+// Puts the line of a spare from `at` on, and returns where it ends.
 fn put_spare(out: &mut [u8], at: usize, number: u64, view: u64, held: Held) -> usize
     requires { ⌜ at + 65 ≤ length (now out) ⌝ }
     ensures { λ r. ⌜ Put (now (out .entry)) at (acceptedRow number (digitsOf view ∷ heldField held ∷ [])) r (now (out .exit)) ⌝ }
@@ -33,7 +33,7 @@ fn put_spare(out: &mut [u8], at: usize, number: u64, view: u64, held: Held) -> u
     put_text(out, second, b",-\n")
 }
 
-// Puts the lines from `at` on, and answers where they end.
+// Puts the lines of an answer from `at` on, and returns where they end.
 pub fn put_answer(
     out: &mut [u8],
     at: usize,

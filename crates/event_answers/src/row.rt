@@ -1,4 +1,4 @@
-// Lines of output, put byte by byte where they are to stand. Each function answers where its bytes end.
+// Lines of output, put byte by byte where they are to stand. Each function puts its bytes from `at` on and returns where they end.
 ghost use Prim.Native.Nat.{_+_, _≤_};
 ghost use mathlib.Core.List.{[], _∷_, _++_};
 ghost use lib.ListN.{length};
@@ -9,7 +9,7 @@ ghost use Rattle.event_answers.specs.Put.{Put, fieldsEnded};
 use event_text::put_number;
 use event_text::put_text;
 
-// A field that is a number.
+// Puts a field that is a number.
 pub fn put_field(out: &mut [u8], at: usize, n: u64) -> usize
     requires { ⌜ at + 21 ≤ length (now out) ⌝ }
     ensures { λ r. ⌜ (r ≤ at + 21) × Put (now (out .entry)) at (comma ∷ digitsOf n) r (now (out .exit)) ⌝ }
@@ -18,7 +18,7 @@ pub fn put_field(out: &mut [u8], at: usize, n: u64) -> usize
     put_number(out, at + 1, n)
 }
 
-// The last field of a line.
+// Puts the last field of a line.
 pub fn put_last(out: &mut [u8], at: usize, n: u64) -> usize
     requires { ⌜ at + 22 ≤ length (now out) ⌝ }
     ensures { λ r. ⌜ (r ≤ at + 22) × Put (now (out .entry)) at (fieldsEnded (digitsOf n ∷ [])) r (now (out .exit)) ⌝ }
@@ -28,7 +28,7 @@ pub fn put_last(out: &mut [u8], at: usize, n: u64) -> usize
     end + 1
 }
 
-// A line of one number.
+// Puts a line of one number.
 pub fn put_row(out: &mut [u8], at: usize, number: u64, n: u64) -> usize
     requires { ⌜ at + 42 ≤ length (now out) ⌝ }
     ensures { λ r. ⌜ (r ≤ at + 42) × Put (now (out .entry)) at (row number (digitsOf n ∷ [])) r (now (out .exit)) ⌝ }
@@ -37,7 +37,7 @@ pub fn put_row(out: &mut [u8], at: usize, number: u64, n: u64) -> usize
     put_last(out, start, n)
 }
 
-// A line of this text behind its number.
+// Puts a line of this text after its number.
 pub fn put_words(out: &mut [u8], at: usize, number: u64, words: &[u8]) -> usize
     requires { ⌜ at + 20 + length (now words) ≤ length (now out) ⌝ }
     ensures { λ r. ⌜ Put (now (out .entry)) at (digitsOf number ++ now (words .entry)) r (now (out .exit)) ⌝ }
@@ -46,7 +46,7 @@ pub fn put_words(out: &mut [u8], at: usize, number: u64, words: &[u8]) -> usize
     put_text(out, start, words)
 }
 
-// The number and the outcome of an accepted call's line.
+// Puts the number and the outcome of an accepted call's line.
 pub fn put_accepted(out: &mut [u8], at: usize, number: u64) -> usize
     requires { ⌜ at + 22 ≤ length (now out) ⌝ }
     ensures { λ r. ⌜ (r ≤ at + 22) × Put (now (out .entry)) at (digitsOf number ++ (comma ∷ acceptedText)) r (now (out .exit)) ⌝ }
@@ -57,7 +57,7 @@ pub fn put_accepted(out: &mut [u8], at: usize, number: u64) -> usize
     start + 2
 }
 
-// An accepted call's line of one number.
+// Puts an accepted call's line of one number.
 pub fn put_count(out: &mut [u8], at: usize, number: u64, n: u64) -> usize
     requires { ⌜ at + 44 ≤ length (now out) ⌝ }
     ensures { λ r. ⌜ (r ≤ at + 44) × Put (now (out .entry)) at (acceptedRow number (digitsOf n ∷ [])) r (now (out .exit)) ⌝ }
@@ -66,7 +66,7 @@ pub fn put_count(out: &mut [u8], at: usize, number: u64, n: u64) -> usize
     put_last(out, start, n)
 }
 
-// An accepted call's line of two numbers.
+// Puts an accepted call's line of two numbers.
 pub fn put_pair(out: &mut [u8], at: usize, number: u64, a: u64, b: u64) -> usize
     requires { ⌜ at + 65 ≤ length (now out) ⌝ }
     ensures { λ r. ⌜ Put (now (out .entry)) at (acceptedRow number (digitsOf a ∷ digitsOf b ∷ [])) r (now (out .exit)) ⌝ }

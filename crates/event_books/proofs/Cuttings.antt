@@ -1,18 +1,13 @@
 -- Demand 3 of a text that comes in blocks. Assumes nothing.
 use mathlib.Core.Path.{_∙_}
-use Rattle.event_sessions.specs.Sessions.{stateOf}
-use Rattle.event_sessions.specs.Parts.{freshSession}
-use Rattle.event_feed.specs.Blocks.{joinedBlocks}
+use Rattle.event_feed.specs.Feed.{joinedBlocks}
 use Rattle.event_feed.proofs.Cutting.{every-cutting}
-use Rattle.event_books.specs.EventLists.{Demand3Text}
+use Rattle.event_books.specs.EventLists.{fresh, Demand3Text}
 use Rattle.event_books.specs.Cuttings.{Demand3Blocks}
 use Rattle.event_books.proofs.Demand3Text.{demand3-text}
 
 pub demand3-blocks : Demand3Blocks
 unfolding Demand3Blocks Demand3Text
 demand3-blocks copies views textures retiring doomed spares newest stamps blocks h =
-    let t = demand3-text copies views textures retiring doomed spares newest stamps (joinedBlocks blocks) h in
-    record {
-      agree = t .agree;
-      prints = every-cutting copies views .output-is (stateOf freshSession textures retiring doomed spares newest stamps) blocks ∙ t .prints;
-    }
+    every-cutting copies views .output-is (fresh textures retiring doomed spares newest stamps) blocks
+    ∙ demand3-text copies views textures retiring doomed spares newest stamps (joinedBlocks blocks) h .prints

@@ -1,3 +1,7 @@
+pub mod Agreeing
 pub mod Demand3Text
-pub mod Sample
 pub mod Cuttings
+pub mod Bytes
+pub mod Witnesses
+pub mod Sample
+pub mod AllCalls

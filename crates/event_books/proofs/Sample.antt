@@ -1,10 +1,9 @@
--- 01's sample as a text: its lines' events, that they stand in renames, and what is printed, by computation; demand 3 of it. Assumes nothing.
-use mathlib.Core.Path.{_≡_, refl, _∙_}
-use mathlib.Core.Bool.{true}
+-- 01's sample as a text: its lines' events, that they stand in renames, what is printed and the numbers after its write, by computation. Assumes nothing.
+use mathlib.Core.Path.{_≡_, refl}
 use mathlib.Core.Option.{none}
-use mathlib.Core.List.{List, flatMap}
-use Prim.Native.Nat.{ℕ, _/_}
-use Rattle.base_blocks.specs.Lists.{all, tests, listed, total, keep, after, ceilDiv}
+use lib.Dec.{lit<}
+use Rattle.base_blocks.specs.Lists.{all, tests, listed, total, keep, after as afterIf, ceilDiv}
+use mathlib.Core.List.{flatMap}
 use Rattle.grid_shapes.specs.Formats.{blockEdge, blockBytes}
 use Rattle.grid_shapes.specs.Shapes.{isShape, sameShape, slicesOf, levelExtent, levelWidth, levelHeight, levelDepth, levelBytes, bytesOf}
 use Rattle.grid_rects.specs.Rects.{wholeLevel}
@@ -20,57 +19,43 @@ use Rattle.pool_rules.specs.Retire.{retire}
 use Rattle.pool_rules.specs.NoteWrite.{noteWrite}
 use Rattle.pool_rules.specs.PopRetired.{popRetired}
 use Rattle.pool_rules.specs.Park.{park}
-use Rattle.pool_memory.specs.Lent.{Lent, versionPlaces}
-use Rattle.pool_memory.specs.Reading.{modelOf}
-use Rattle.pool_memory.specs.IsPool.{sizesFit}
-use Rattle.pool_rules.specs.Open.{arePlaces}
 use Rattle.pool_books.specs.Lists.{afterTake, afterPlan, afterRetire, renameIn, marking, stepBetween, step, start}
 use Rattle.pool_books.specs.Demand3.{perform, performBetween}
 use Rattle.event_answers.specs.Printed.{row, optional, heldField, regionFields, copyRow, viewRow, replyRows, printed}
-use Rattle.event_sessions.specs.Parts.{freshSession}
-use Rattle.event_sessions.specs.Sessions.{stateOf}
 use Rattle.event_text.specs.Fields.{inFirst, fieldsOf, same}
 use Rattle.event_text.specs.Numbers.{isDigit, value, decimal, isNumber, digits, digitsOf}
 use Rattle.event_lines.specs.Words.{wordOf, laterWord}
 use Rattle.event_lines.specs.Grammar.{isKind, areKinds, kindsOf, shapeOf, rectOf, takeEvent, planEvent, retireEvent, writeEvent, made, heldBy, num, eventBy, event, eventOf}
 use Rattle.event_runs.specs.Lines.{inFirstLine, wholeLines}
 use Rattle.event_runs.specs.Texts.{inLastLine, lastLine, ifAny, allLines}
-use Rattle.event_books.specs.EventLists.{events, callOf, opening, openingReply, InRenames, replies, repliesText, Demand3Text}
-use Rattle.event_books.proofs.Demand3Text.{demand3-text}
-use Rattle.event_books.specs.Sample.{sampleText, sampleOutput, sampleEvents, places, Lengths, SampleHolds}
+use Rattle.pool_books.specs.Texels.{inRect, inWrite, isWhole}
+use Rattle.pool_books.specs.VersionBook.{put, changeBook, startBook, bookWrite, bookRegeneration, copied, inCopy, skipped, notCopied}
+use Rattle.pool_books.specs.Sample.{flatShape}
+use Rattle.event_books.specs.EventLists.{after, events, workingOf, callOf, opening, openingReply, InRenames, replies, repliesText}
+use Rattle.event_books.specs.Bytes.{bytes}
+use Rattle.event_books.specs.Witnesses.{programRoom, textOf, eventsOf, outputOf, texel}
+use Rattle.event_books.specs.Sample.{sampleLines, SampleHolds, SampleNumbers}
+use Rattle.event_books.proofs.Witnesses.{witness, number-is}
 
-sample-events : events sampleText ≡ sampleEvents
-unfolding sampleText sampleEvents allLines wholeLines inFirstLine lastLine inLastLine ifAny eventOf event eventBy wordOf laterWord fieldsOf inFirst same areKinds kindsOf isKind isNumber decimal value isDigit num heldBy made takeEvent planEvent retireEvent writeEvent shapeOf rectOf all tests
+sample-events : events (textOf sampleLines) ≡ eventsOf sampleLines
+unfolding sampleLines flatShape bytes flatMap allLines wholeLines inFirstLine lastLine inLastLine ifAny eventOf event eventBy wordOf laterWord fieldsOf inFirst same areKinds kindsOf isKind isNumber decimal value isDigit num heldBy made takeEvent planEvent retireEvent writeEvent shapeOf rectOf all tests
 sample-events = refl
 
-sample-renames : InRenames 630 90 true places none sampleEvents
-unfolding InRenames sampleEvents takeSpare preservePlan retire noteWrite popRetired park guard find pagesOf change insert gridAt newHistory stampWrite boxCopy copyOf copies budgetOf isShape sameShape slicesOf levelExtent levelWidth levelHeight levelDepth levelBytes bytesOf blockEdge blockBytes wholeLevel tileEdge axisOf tilesOf cutEnd isCut touched oneTile widened spanAround spanStart spanSize tilingOf columnsOf rowsOf stampCount newGrid rowByRow stampOf touches isCutRect stampedBy dirtyTiles boxOf boxAround boxSince listed total keep tests after ceilDiv flatMap afterTake afterPlan afterRetire renameIn marking stepBetween step start callOf opening
+sample-renames : InRenames programRoom none (eventsOf sampleLines)
+unfolding InRenames sampleLines takeSpare preservePlan retire noteWrite popRetired park guard find pagesOf change insert gridAt newHistory stampWrite boxCopy copyOf copies budgetOf isShape sameShape slicesOf levelExtent levelWidth levelHeight levelDepth levelBytes bytesOf blockEdge blockBytes wholeLevel tileEdge axisOf tilesOf cutEnd isCut touched oneTile widened spanAround spanStart spanSize tilingOf columnsOf rowsOf stampCount newGrid rowByRow stampOf touches isCutRect stampedBy dirtyTiles boxOf boxAround boxSince listed total keep tests afterIf ceilDiv flatMap afterTake afterPlan afterRetire renameIn marking stepBetween step start callOf workingOf opening flatShape
 sample-renames = (tt, (tt, ((refl, refl, refl), (refl, (tt, (tt, (tt, (tt, ((refl, refl, refl), tt)))))))))
 
-sample-replies : repliesText 0 (replies 630 90 true places none sampleEvents) ≡ sampleOutput
-unfolding replies repliesText openingReply sampleEvents sampleOutput perform performBetween printed row optional heldField regionFields copyRow viewRow replyRows digitsOf digits takeSpare preservePlan retire noteWrite popRetired park guard find pagesOf change insert gridAt newHistory stampWrite boxCopy copyOf copies budgetOf isShape sameShape slicesOf levelExtent levelWidth levelHeight levelDepth levelBytes bytesOf blockEdge blockBytes wholeLevel tileEdge axisOf tilesOf cutEnd isCut touched oneTile widened spanAround spanStart spanSize tilingOf columnsOf rowsOf stampCount newGrid rowByRow stampOf touches isCutRect stampedBy dirtyTiles boxOf boxAround boxSince listed total keep tests after ceilDiv flatMap afterTake afterPlan afterRetire renameIn marking stepBetween step start callOf opening
+sample-replies : repliesText 0 (replies programRoom none (eventsOf sampleLines)) ≡ outputOf sampleLines
+unfolding replies repliesText openingReply sampleLines bytes perform performBetween printed row optional heldField regionFields copyRow viewRow replyRows digitsOf digits takeSpare preservePlan retire noteWrite popRetired park guard find pagesOf change insert gridAt newHistory stampWrite boxCopy copyOf copies budgetOf isShape sameShape slicesOf levelExtent levelWidth levelHeight levelDepth levelBytes bytesOf blockEdge blockBytes wholeLevel tileEdge axisOf tilesOf cutEnd isCut touched oneTile widened spanAround spanStart spanSize tilingOf columnsOf rowsOf stampCount newGrid rowByRow stampOf touches isCutRect stampedBy dirtyTiles boxOf boxAround boxSince listed total keep tests afterIf ceilDiv flatMap afterTake afterPlan afterRetire renameIn marking stepBetween step start callOf workingOf opening flatShape
 sample-replies = refl
 
-module _ (textures retiring doomed spares newest stamps : List ℕ) (h : Lengths textures retiring doomed spares newest stamps) where
-  abbrev memory : Lent
-  memory = stateOf freshSession textures retiring doomed spares newest stamps .lent
-
-  places-are : modelOf memory .places ≡ places
-  unfolding modelOf versionPlaces
-  places-are = λ i. record { textures = h .textures-are i / 20; versions = h .retiring-are i / 7; pages = h .newest-are i }
-
-  fits : sizesFit memory ≡ true
-  unfolding sizesFit modelOf versionPlaces arePlaces tests
-  fits = rw (h .textures-are, h .retiring-are, h .doomed-are, h .spares-are, h .newest-are, h .stamps-are)
-
-  renames : InRenames 630 90 (sizesFit memory) (modelOf memory .places) none (events sampleText)
-  renames = rw (fits, places-are, sample-events) sample-renames
-
-  prints : repliesText 0 (replies 630 90 (sizesFit memory) (modelOf memory .places) none (events sampleText)) ≡ sampleOutput
-  prints = rw (fits, places-are, sample-events) sample-replies
-
 pub sample-holds : SampleHolds
-unfolding SampleHolds Demand3Text
-sample-holds textures retiring doomed spares newest stamps h =
-    let c = demand3-text 630 90 textures retiring doomed spares newest stamps sampleText (renames textures retiring doomed spares newest stamps h) in
-    record { claim = c; prints = c .prints ∙ prints textures retiring doomed spares newest stamps h }
+sample-holds = witness sampleLines sample-events sample-renames sample-replies
+
+pub sample-numbers : SampleNumbers
+unfolding after sampleLines put changeBook startBook bookWrite bookRegeneration copied inCopy skipped notCopied inRect inWrite isWhole takeSpare preservePlan retire noteWrite popRetired park guard find pagesOf change insert gridAt newHistory stampWrite boxCopy copyOf copies budgetOf isShape sameShape slicesOf levelExtent levelWidth levelHeight levelDepth levelBytes bytesOf blockEdge blockBytes wholeLevel tileEdge axisOf tilesOf cutEnd isCut touched oneTile widened spanAround spanStart spanSize tilingOf columnsOf rowsOf stampCount newGrid rowByRow stampOf touches isCutRect stampedBy dirtyTiles boxOf boxAround boxSince listed total keep tests afterIf ceilDiv flatMap afterTake afterPlan afterRetire renameIn marking stepBetween step start callOf workingOf opening flatShape
+sample-numbers = record {
+  inside = number-is sampleLines 5 7 (texel 0 20 5) 1 (record { slice = lit< tt; level = lit< tt; x = lit< tt; y = lit< tt; z = lit< tt }, refl) refl;
+  beside = number-is sampleLines 5 7 (texel 0 19 5) 0 (record { slice = lit< tt; level = lit< tt; x = lit< tt; y = lit< tt; z = lit< tt }, refl) refl;
+  before = number-is sampleLines 4 7 (texel 0 20 5) 0 (record { slice = lit< tt; level = lit< tt; x = lit< tt; y = lit< tt; z = lit< tt }, refl) refl;
+}

@@ -1,3 +1,6 @@
 pub mod EventLists
-pub mod Sample
 pub mod Cuttings
+pub mod Bytes
+pub mod Witnesses
+pub mod Sample
+pub mod AllCalls

@@ -12,6 +12,7 @@ use pool_retire::Popped;
 use pool_take_doomed::Handed;
 use pool_take_spare::Taken;
 
+// Returns the answer of a call that says its outcome alone.
 pub fn answer_done(outcome: u64) -> Answer
     ensures { λ r. ⌜ r ≡ doneAnswer (toldNumber outcome) ⌝ }
 {
@@ -21,6 +22,7 @@ pub fn answer_done(outcome: u64) -> Answer
     Answer::Refused(outcome)
 }
 
+// Returns the answer of take_spare.
 pub fn answer_taken(taken: Taken) -> Answer
     ensures { λ r. ⌜ r ≡ takenAnswer (takenTold taken) ⌝ }
 {
@@ -31,6 +33,7 @@ pub fn answer_taken(taken: Taken) -> Answer
     }
 }
 
+// Returns the answer of preserve_plan.
 pub fn answer_planned(planned: PlanAnswer) -> Answer
     ensures { λ r. ⌜ r ≡ copiesAnswer (plannedTold planned) ⌝ }
 {
@@ -40,6 +43,7 @@ pub fn answer_planned(planned: PlanAnswer) -> Answer
     }
 }
 
+// Returns the answer of pop_retired.
 pub fn answer_popped(popped: Popped) -> Answer
     ensures { λ r. ⌜ r ≡ poppedAnswer (poppedTold popped) ⌝ }
 {
@@ -50,6 +54,7 @@ pub fn answer_popped(popped: Popped) -> Answer
     }
 }
 
+// Returns the answer of take_doomed and of drain_versions.
 pub fn answer_handed(handed: Handed) -> Answer
     ensures { λ r. ⌜ r ≡ viewsAnswer (handedTold handed) ⌝ }
 {

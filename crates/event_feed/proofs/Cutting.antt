@@ -1,21 +1,21 @@
--- No cutting of an input into blocks shows. After any blocks, what is carried is what their lines leave, and the first 196 bytes behind the last line
--- feed; a block more is then the same as the input with the block behind it, since a line's event is that of its first 196 bytes with the same rest.
--- Assumes nothing.
+-- No cutting of an input into blocks shows. After any blocks, what is carried is what their lines leave, and the bytes that are kept of what stands after
+-- the last line feed; a block more is then the same as the input with the block after it, since a line's event is that of the kept bytes with the same
+-- rest. Assumes nothing.
 use mathlib.Core.Path.{_≡_, refl, sym, ap, ap₂, _∙_}
 use mathlib.Core.List.{List, [], _∷_, _++_, append-nil, append-assoc}
 use Prim.Native.Nat.{ℕ, zero, suc, _+_, _<_}
 use native.Mathlib.Omega.{arith}
-use lib.ListN.{length, take, drop, take-append-drop, length-append}
+use lib.ListN.{length, take, length-append}
 use Rattle.event_sessions.specs.Sessions.{SessionState, HoldsPool}
 use Rattle.event_runs.specs.Lines.{wholeLines, output}
 use Rattle.event_runs.specs.Texts.{lastLine, ifAny, allLines, afterLines, textOutput}
 use Rattle.event_runs.proofs.Cuts.{Unfinished, inFront, lines-append, last-append, front-lines, front-last, last-unfinished, take-unfinished, line-more}
 use Rattle.event_runs.proofs.Texts.{after-append, output-append, after-holds, cut-output, cut-after, cut-count, cut-last, cut-any, cut-any-after}
-use Rattle.event_feed.specs.Places.{Turn}
-use Rattle.event_feed.specs.Blocks.{Carried, first, joinedBlocks, ending, fed, fedOutput, finished, finishOutput, fedAll, outputs, EveryCutting}
+use Rattle.event_feed.specs.FeedConstants.{keptBytes}
+use Rattle.event_feed.specs.Feed.{Carried, first, joinedBlocks, ending, fed, fedOutput, finished, finishOutput, fedAll, outputs, EveryCutting}
 
 -- more bytes than any event has
-long : 195 < 196
+long : 195 < keptBytes
 long = omega arith
 
 -- ---- the end of an input
@@ -35,24 +35,24 @@ any-count (suc k) (b ∷ x) h = refl
 -- ---- what is cut off a line does not show
 
 module _ (x ys : List ℕ) (h : Unfinished x) where
-  cut : Unfinished (take 196 x)
-  cut = take-unfinished 196 x h
+  cut : Unfinished (take keptBytes x)
+  cut = take-unfinished keptBytes x h
 
-  cut-lines : wholeLines (take 196 x ++ ys) ≡ inFront (take 196 x) (wholeLines ys)
-  cut-lines = front-lines (take 196 x) ys cut
+  cut-lines : wholeLines (take keptBytes x ++ ys) ≡ inFront (take keptBytes x) (wholeLines ys)
+  cut-lines = front-lines (take keptBytes x) ys cut
 
-  same-count : length (wholeLines (take 196 x ++ ys)) ≡ length (wholeLines (x ++ ys))
-  same-count = ap length cut-lines ∙ cut-count 196 x (wholeLines ys) ∙ ap length (sym (front-lines x ys h))
+  same-count : length (wholeLines (take keptBytes x ++ ys)) ≡ length (wholeLines (x ++ ys))
+  same-count = ap length cut-lines ∙ cut-count keptBytes x (wholeLines ys) ∙ ap length (sym (front-lines x ys h))
 
-  same-last : take 196 (lastLine (take 196 x ++ ys)) ≡ take 196 (lastLine (x ++ ys))
-  same-last = ap (take 196) (front-last (take 196 x) ys cut) ∙ cut-last 196 x (wholeLines ys) (lastLine ys) ∙ ap (take 196) (sym (front-last x ys h))
+  same-last : take keptBytes (lastLine (take keptBytes x ++ ys)) ≡ take keptBytes (lastLine (x ++ ys))
+  same-last = ap (take keptBytes) (front-last (take keptBytes x) ys cut) ∙ cut-last keptBytes x (wholeLines ys) (lastLine ys) ∙ ap (take keptBytes) (sym (front-last x ys h))
 
   module _ (cs vs : ℕ) (s : SessionState) where
-    same-after : afterLines cs vs s (wholeLines (take 196 x ++ ys)) ≡ afterLines cs vs s (wholeLines (x ++ ys))
-    same-after = ap (afterLines cs vs s) cut-lines ∙ cut-after cs vs 196 long s x (wholeLines ys) ∙ ap (afterLines cs vs s) (sym (front-lines x ys h))
+    same-after : afterLines cs vs s (wholeLines (take keptBytes x ++ ys)) ≡ afterLines cs vs s (wholeLines (x ++ ys))
+    same-after = ap (afterLines cs vs s) cut-lines ∙ cut-after cs vs keptBytes long s x (wholeLines ys) ∙ ap (afterLines cs vs s) (sym (front-lines x ys h))
 
-    same-output : (n : ℕ) → output cs vs n s (wholeLines (take 196 x ++ ys)) ≡ output cs vs n s (wholeLines (x ++ ys))
-    same-output n = ap (output cs vs n s) cut-lines ∙ cut-output cs vs 196 long n s x (wholeLines ys) ∙ ap (output cs vs n s) (sym (front-lines x ys h))
+    same-output : (n : ℕ) → output cs vs n s (wholeLines (take keptBytes x ++ ys)) ≡ output cs vs n s (wholeLines (x ++ ys))
+    same-output n = ap (output cs vs n s) cut-lines ∙ cut-output cs vs keptBytes long n s x (wholeLines ys) ∙ ap (output cs vs n s) (sym (front-lines x ys h))
 
 module _ (cs vs : ℕ) where
   -- what is carried after the bytes xs, from line n in state s
@@ -60,7 +60,7 @@ module _ (cs vs : ℕ) where
   reached n s xs = record {
     state = afterLines cs vs s (wholeLines xs);
     number = n + length (wholeLines xs);
-    line = take 196 (lastLine xs);
+    line = take keptBytes (lastLine xs);
   }
 
   module _ (n : ℕ) (s : SessionState) (xs ys : List ℕ) where
@@ -75,7 +75,7 @@ module _ (cs vs : ℕ) where
     reached-more = λ i. record {
       state = state-is i;
       number = number-is i;
-      line = (same-last (lastLine xs) ys last-plain ∙ ap (take 196) (sym (last-append xs ys))) i;
+      line = (same-last (lastLine xs) ys last-plain ∙ ap (take keptBytes) (sym (last-append xs ys))) i;
     }
       where
         state-is : afterLines cs vs (here .state) (wholeLines (here .line ++ ys)) ≡ afterLines cs vs s (wholeLines (xs ++ ys))
@@ -109,21 +109,10 @@ module _ (cs vs : ℕ) where
       ap (λ (l : List ℕ). output cs vs (c .number) (c .state) (wholeLines l)) (sym (append-assoc (c .line) xs ys))
       ∙ reached-output (c .number) (c .state) (c .line ++ xs) ys
 
-  -- a turn that left bytes: what is carried and what is put, with the rest fed behind it, are those of the whole block
-  pub turn-rest : (c after : Carried) (block left : List ℕ) (filled : ℕ) (out exit : List ℕ) (t : Turn cs vs c after block left filled out exit)
-      → (fed cs vs after left ≡ fed cs vs c block) × (fedOutput cs vs c (take (t .used) block) ++ fedOutput cs vs after left ≡ fedOutput cs vs c block)
-  turn-rest c after block left filled out exit t =
-      let x = take (t .used) block in
-      let y = drop (t .used) block in
-      let whole = take-append-drop (t .used) block in (
-        ap₂ (fed cs vs) (t .carried) (t .rest) ∙ fed-append c x y ∙ ap (fed cs vs c) whole,
-        ap (λ (l : List ℕ). fedOutput cs vs c x ++ l) (ap₂ (fedOutput cs vs) (t .carried) (t .rest)) ∙ sym (fed-output-append c x y) ∙ ap (fedOutput cs vs c) whole,
-      )
-
   -- what a block leaves can be carried
   pub fed-plain : (c : Carried) (block : List ℕ) → Unfinished (fed cs vs c block .line)
   unfolding fed
-  fed-plain c block = take-unfinished 196 (lastLine (c .line ++ block)) (last-unfinished (c .line ++ block))
+  fed-plain c block = take-unfinished keptBytes (lastLine (c .line ++ block)) (last-unfinished (c .line ++ block))
 
   pub fed-holds : (c : Carried) (block : List ℕ) → HoldsPool (c .state) → HoldsPool (fed cs vs c block .state)
   unfolding fed
@@ -158,14 +147,14 @@ module _ (cs vs : ℕ) where
   finished-state : (s : SessionState) (xs : List ℕ) → finished cs vs (reached 0 s xs) .state ≡ afterLines cs vs s (allLines xs)
   unfolding finished fed allLines
   finished-state s xs =
-      ap (afterLines cs vs (afterLines cs vs s (wholeLines xs))) (ending-line (take 196 (lastLine xs)) (take-unfinished 196 (lastLine xs) (last-unfinished xs)))
-      ∙ cut-any-after cs vs 196 long (afterLines cs vs s (wholeLines xs)) (lastLine xs) ∙ sym (after-append cs vs s (wholeLines xs) (ifAny (lastLine xs)))
+      ap (afterLines cs vs (afterLines cs vs s (wholeLines xs))) (ending-line (take keptBytes (lastLine xs)) (take-unfinished keptBytes (lastLine xs) (last-unfinished xs)))
+      ∙ cut-any-after cs vs keptBytes long (afterLines cs vs s (wholeLines xs)) (lastLine xs) ∙ sym (after-append cs vs s (wholeLines xs) (ifAny (lastLine xs)))
 
   finished-number : (s : SessionState) (xs : List ℕ) → finished cs vs (reached 0 s xs) .number ≡ length (allLines xs)
   unfolding finished fed allLines
   finished-number s xs =
-      let a = ap length (ending-line (take 196 (lastLine xs)) (take-unfinished 196 (lastLine xs) (last-unfinished xs))) in
-      let b = any-count 196 (lastLine xs) (omega arith) in
+      let a = ap length (ending-line (take keptBytes (lastLine xs)) (take-unfinished keptBytes (lastLine xs) (last-unfinished xs))) in
+      let b = any-count keptBytes (lastLine xs) (omega arith) in
       let d = length-append (wholeLines xs) (ifAny (lastLine xs)) in
       omega arith
 
@@ -175,7 +164,7 @@ module _ (cs vs : ℕ) where
       let n = 0 + length (wholeLines xs) in
       let t = afterLines cs vs s (wholeLines xs) in
       ap (λ (l : List ℕ). output cs vs 0 s (wholeLines xs) ++ l)
-      (ap (output cs vs n t) (ending-line (take 196 (lastLine xs)) (take-unfinished 196 (lastLine xs) (last-unfinished xs))) ∙ cut-any cs vs 196 long n t (lastLine xs))
+      (ap (output cs vs n t) (ending-line (take keptBytes (lastLine xs)) (take-unfinished keptBytes (lastLine xs) (last-unfinished xs))) ∙ cut-any cs vs keptBytes long n t (lastLine xs))
       ∙ sym (output-append cs vs 0 s (wholeLines xs) (ifAny (lastLine xs)))
 
   pub every-cutting : EveryCutting cs vs

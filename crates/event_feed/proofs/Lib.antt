@@ -1,4 +1,5 @@
-pub mod Cutting
+pub mod Parts
 pub mod Moves
-pub mod Turns
 pub mod Ends
+pub mod Turns
+pub mod Cutting

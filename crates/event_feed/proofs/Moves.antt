@@ -1,15 +1,16 @@
 -- Laws of a line moved to the front of its buffer. Assumes nothing.
 use mathlib.Core.Path.{_≡_, refl, sym, ap, ap₂, _∙_}
 use mathlib.Core.List.{List, [], _∷_, _++_}
-use Prim.Native.Nat.{ℕ, _+_, _-_, _≤_, _<_, min}
+use Prim.Native.Nat.{ℕ, _+_, _<_, min}
 use native.Mathlib.Nat.{min-eq-left, min-eq-right}
 use native.Mathlib.Numerals.{add-one}
 use native.Mathlib.Decide.{decLt}
 use native.Mathlib.Omega.{arith}
 use lib.ListN.{length, take, drop, getD, set, length-take, length-drop, length-set}
 use lib.Seq.{take-all, take-take, take-suc, take-suc-set, getD-drop, drop-drop, drop-set-lt}
+use Rattle.event_feed.specs.FeedConstants.{keptBytes}
 
--- i bytes from `from` on were moved, and what stands behind them is as it was
+-- i bytes from `from` on were moved, and what stands after them is as it was
 pub record Moved (from i : ℕ) (buf now : List ℕ) : Type 0 where
   pub front : take i now ≡ take i (drop from buf)
   pub back : drop i now ≡ drop i buf
@@ -34,15 +35,15 @@ moved-more from i buf now h m =
       size = length-set now i (getD now (from + i) 0) ∙ n;
     }
 
--- the first 196 bytes of a line, or all of it
-first-bytes : (l : List ℕ) (n : ℕ) → take (min n 196) l ≡ take 196 (take n l)
-first-bytes l n = go (decLt n 196)
+-- the bytes that are kept of a line of n bytes
+first-bytes : (l : List ℕ) (n : ℕ) → take (min n keptBytes) l ≡ take keptBytes (take n l)
+first-bytes l n = go (decLt n keptBytes)
   where
-    go : Dec (n < 196) → take (min n 196) l ≡ take 196 (take n l)
-    go (yes p) = ap (λ (k : ℕ). take k l) (min-eq-left {n = n} {m = 196} (omega arith)) ∙ sym (take-all 196 (take n l) (omega (arith, length-take n l)))
-    go (no p) = ap (λ (k : ℕ). take k l) (min-eq-right {n = 196} {m = n} (omega arith)) ∙ sym (take-take 196 n l (omega arith))
+    go : Dec (n < keptBytes) → take (min n keptBytes) l ≡ take keptBytes (take n l)
+    go (yes p) = ap (λ (k : ℕ). take k l) (min-eq-left {n = n} {m = keptBytes} (omega arith)) ∙ sym (take-all keptBytes (take n l) (omega (arith, length-take n l)))
+    go (no p) = ap (λ (k : ℕ). take k l) (min-eq-right {n = keptBytes} {m = n} (omega arith)) ∙ sym (take-take keptBytes n l (omega arith))
 
-pub line-kept : (from bytes kept i : ℕ) (buf now : List ℕ) → kept ≡ min bytes 196 → i ≡ kept → Moved from i buf now
-    → take kept now ≡ take 196 (take bytes (drop from buf))
+pub line-kept : (from bytes kept i : ℕ) (buf now : List ℕ) → kept ≡ min bytes keptBytes → i ≡ kept → Moved from i buf now
+    → take kept now ≡ take keptBytes (take bytes (drop from buf))
 line-kept from bytes kept i buf now e q m =
     ap (λ (k : ℕ). take k now) (sym q) ∙ m .front ∙ ap (λ (k : ℕ). take k (drop from buf)) (q ∙ e) ∙ first-bytes (drop from buf) bytes

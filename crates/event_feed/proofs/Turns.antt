@@ -1,35 +1,24 @@
 -- What running the lines of a buffer does to the block that waits in it. Assumes nothing.
-use mathlib.Core.Path.{_≡_, refl, sym, ap, ap₂, _∙_}
-use mathlib.Core.List.{List, [], _∷_, _++_}
-use Prim.Native.Nat.{ℕ, zero, suc, _+_, _-_, _≤_, _<_}
+use mathlib.Core.Path.{_≡_, refl, sym, ap, ap₂, subst, _∙_}
+use mathlib.Core.List.{List, [], _++_}
+use Prim.Native.Nat.{ℕ, _+_, _-_, _≤_, _<_}
 use native.Mathlib.Nat.{zero-add}
 use native.Mathlib.Decide.{decLt}
 use native.Mathlib.Omega.{arith}
-use lib.ListN.{length, take, drop, length-take, length-drop}
+use lib.ListN.{length, take, drop}
 use lib.Seq.{sets, take-add, drop-drop, take-append-le, take-append-add, length-take-le, drop-length, take-length}
-use Rattle.event_sessions.specs.Sessions.{SessionState, HoldsPool}
+use Rattle.event_sessions.specs.Sessions.{SessionState}
 use Rattle.event_runs.specs.Lines.{wholeLines, output, longestAnswer, Progress, progressStart, ranAll}
 use Rattle.event_runs.specs.Texts.{lastLine, afterLines}
 use Rattle.event_runs.proofs.Cuts.{Unfinished, take-unfinished, unfinished-last}
-use Rattle.event_runs.proofs.Texts.{Ran, ran-front}
-use Rattle.event_runs.proofs.Outputs.{ran-none}
-use Rattle.event_feed.specs.Blocks.{Carried, fed, fedOutput}
+use Rattle.event_runs.proofs.Texts.{Ran, ran-front, ran-none}
+use Rattle.event_feed.specs.FeedConstants.{keptBytes}
+use Rattle.event_feed.specs.Feed.{Carried, turnBytes, fed, fedOutput}
 use Rattle.event_feed.specs.Places.{part, Turn}
-use Rattle.event_feed.specs.Keeping.{Kept}
-use Rattle.event_feed.specs.declared.feeding.Place.{Place}
-
-pub drop-part : (m n : ℕ) (l : List ℕ) → drop m (take n l) ≡ take (n - m) (drop m l)
-drop-part zero n l = ap (λ (k : ℕ). take k l) (let e : n ≡ n - 0 = omega arith in e)
-drop-part (suc m) zero l = ap (λ (k : ℕ). take k (drop (suc m) l)) (let e : 0 ≡ 0 - suc m = omega arith in e)
-drop-part (suc m) (suc n) [] = go (suc n - suc m)
-  where
-    go : (k : ℕ) → [] ≡ take {A = ℕ} k []
-    go zero = refl
-    go (suc k) = refl
-drop-part (suc m) (suc n) (b ∷ l) = drop-part m n l ∙ ap (λ (k : ℕ). take k (drop m l)) (let e : n - m ≡ suc n - suc m = omega arith in e)
-
-pub part-short : (from size : ℕ) (l : List ℕ) → length (part from size l) ≤ length l
-part-short from size l = omega (arith, length-take size (drop from l), length-drop from l)
+use Rattle.event_feed.specs.Finish.{Filled}
+use Rattle.event_feed.specs.RestOf.{RestOf}
+use Rattle.event_feed.specs.declared.rest_of.Place.{Place}
+use Rattle.event_feed.proofs.Parts.{drop-part, part-length}
 
 no-bytes : (l : List ℕ) → l ≡ [] → length l ≡ 0
 no-bytes l e = ap length e
@@ -48,10 +37,10 @@ module _ (cs vs : ℕ) (s : SessionState) (n from held end : ℕ) (buf exit out 
   before = record { state = s; number = n; line = line }
 
   line-length : length line ≡ held
-  line-length = length-take-le held (drop from buf) (omega (arith, length-drop from buf))
+  line-length = part-length from held buf (omega arith)
 
   block-length : length block ≡ end - (from + held)
-  block-length = length-take-le (end - (from + held)) (drop (from + held) buf) (omega (arith, length-drop (from + held) buf))
+  block-length = part-length (from + held) (end - (from + held)) buf (omega arith)
 
   bytes-are : bytes ≡ line ++ block
   bytes-are =
@@ -60,7 +49,7 @@ module _ (cs vs : ℕ) (s : SessionState) (n from held end : ℕ) (buf exit out 
       ∙ ap (λ (l : List ℕ). line ++ take (end - (from + held)) l) (drop-drop held from buf)
 
   bytes-length : length bytes ≡ end - from
-  bytes-length = length-take-le (end - from) (drop from buf) (omega (arith, length-drop from buf))
+  bytes-length = part-length from (end - from) buf (omega arith)
 
   run-of : (q : Progress) → q ≡ ranAll cs vs (progressStart s n out) (wholeLines bytes) → Ran cs vs (progressStart s n out) q bytes
   run-of q e = rw e (ran-front cs vs bytes (wholeLines bytes) (progressStart s n out) refl)
@@ -69,8 +58,8 @@ module _ (cs vs : ℕ) (s : SessionState) (n from held end : ℕ) (buf exit out 
   pub ran-within : (q : Progress) → q ≡ ranAll cs vs (progressStart s n out) (wholeLines bytes) → from + q .from ≤ end
   ran-within q e = omega (arith, run-of q e .from, run-of q e .fits, bytes-length)
 
-  module _ (plain : Unfinished line) (pool : HoldsPool s) (room : longestAnswer cs vs ≤ length out) (q : Progress)
-      (is-run : q ≡ ranAll cs vs (progressStart s n out) (wholeLines bytes)) (filling : q .filled ≤ length out) (place : Place) (kept : Kept from end (q .from) place buf exit) where
+  module _ (plain : Unfinished line) (room : longestAnswer cs vs ≤ length out) (q : Progress)
+      (is-run : q ≡ ranAll cs vs (progressStart s n out) (wholeLines bytes)) (filling : q .filled ≤ length out) (place : Place) (kept : RestOf from end (q .from) place buf exit) where
     abbrev after : Carried
     after = record { state = q .state; number = q .number; line = part (place .from) (place .held) exit }
 
@@ -84,7 +73,7 @@ module _ (cs vs : ℕ) (s : SessionState) (n from held end : ℕ) (buf exit out 
 
     module _ (z : q .from ≡ 0) where
       none-whole : wholeLines bytes ≡ []
-      none-whole = ran-none cs vs bytes (progressStart s n out) q is-run pool (omega arith) z
+      none-whole = ran-none cs vs bytes (progressStart s n out) q is-run (omega arith) z
 
       block-none : wholeLines (line ++ take (length block) block) ≡ []
       block-none = ap (λ (l : List ℕ). wholeLines (line ++ l)) (take-length block) ∙ ap wholeLines (sym bytes-are) ∙ none-whole
@@ -111,7 +100,7 @@ module _ (cs vs : ℕ) (s : SessionState) (n from held end : ℕ) (buf exit out 
             carried = λ i. record {
               state = (was-run .state ∙ ap (afterLines cs vs s) (front-none ∙ sym block-none)) i;
               number = (was-run .number ∙ ap (λ (l : List (List ℕ)). n + length l) (front-none ∙ sym block-none)) i;
-              line = (ap (λ (j : ℕ). part j (place .held) exit) f ∙ k .2 ∙ ap (take 196) (sym block-last)) i;
+              line = (ap (λ (j : ℕ). part j (place .held) exit) f ∙ k .2 ∙ ap (take keptBytes) (sym block-last)) i;
             };
             length-is = was-run .filled ∙ zero-add _ ∙ ap length text;
             put = was-run .out ∙ ap (sets out 0) text;
@@ -124,9 +113,9 @@ module _ (cs vs : ℕ) (s : SessionState) (n from held end : ℕ) (buf exit out 
       ran-is : q .from ≡ was-run .used
       ran-is = was-run .from ∙ zero-add (was-run .used)
 
-      -- the first of them ended behind what was kept
-      behind : held < q .from
-      behind = go (decLt held (q .from))
+      -- the first of them ended after what was held
+      ended-after : held < q .from
+      ended-after = go (decLt held (q .from))
         where
           go : Dec (held < q .from) → held < q .from
           go (yes h) = h
@@ -144,16 +133,16 @@ module _ (cs vs : ℕ) (s : SessionState) (n from held end : ℕ) (buf exit out 
       front : line ++ take used block ≡ take (was-run .used) bytes
       front =
           sym (take-append-add line block used) ∙ ap (λ (l : List ℕ). take (length line + used) l) (sym bytes-are)
-          ∙ ap (λ (j : ℕ). take j bytes) (let b = behind in let l = line-length in let r = ran-is in let e : length line + used ≡ was-run .used = omega arith in e)
+          ∙ ap (λ (j : ℕ). take j bytes) (let b = ended-after in let l = line-length in let r = ran-is in let e : length line + used ≡ was-run .used = omega arith in e)
 
       lines : wholeLines (take (was-run .used) bytes) ≡ wholeLines (line ++ take used block)
       lines = ap wholeLines (sym front)
 
-      -- so much for any place that leaves the right bytes
+      -- for any place that leaves the right bytes
       turn-lines : left ≡ drop used block → part (place .from) (place .held) exit ≡ [] → Turn cs vs before after block left (q .filled) out (q .out)
       unfolding fed fedOutput
       turn-lines rest none =
-          let b = behind in
+          let b = ended-after in
           let r = ran-is in
           record {
             used = used;
@@ -163,7 +152,7 @@ module _ (cs vs : ℕ) (s : SessionState) (n from held end : ℕ) (buf exit out 
             carried = λ i. record {
               state = (was-run .state ∙ ap (afterLines cs vs s) lines) i;
               number = (was-run .number ∙ ap (λ (l : List (List ℕ)). n + length l) lines) i;
-              line = (none ∙ ap (take 196) (sym (was-run .none-left) ∙ ap lastLine (sym front))) i;
+              line = (none ∙ ap (take keptBytes) (sym (was-run .none-left) ∙ ap lastLine (sym front))) i;
             };
             length-is = was-run .filled ∙ zero-add _ ∙ ap (λ (l : List (List ℕ)). length (output cs vs n s l)) lines;
             put = was-run .out ∙ ap (λ (l : List (List ℕ)). sets out 0 (output cs vs n s l)) lines;
@@ -172,11 +161,11 @@ module _ (cs vs : ℕ) (s : SessionState) (n from held end : ℕ) (buf exit out 
 
       turn-some : from + q .from < end → Turn cs vs before after block left (q .filled) out (q .out)
       turn-some h =
-          let k = kept .lines z h in
+          let k = kept .some z h in
           let f = k .0 in
           let g = k .1 in
           let e = k .2 in
-          let b = behind in
+          let b = ended-after in
           turn-lines
           (ap₂ (λ (i j : ℕ). part i j exit)
           (let x : place .from + place .held ≡ from + held + used = omega arith in x)
@@ -192,7 +181,7 @@ module _ (cs vs : ℕ) (s : SessionState) (n from held end : ℕ) (buf exit out 
           let f = k .0 in
           let g = k .1 in
           let e = k .2 in
-          let b = behind in
+          let b = ended-after in
           let d = ran-is in
           let m : used ≡ length block = omega (arith, block-length, was-run .fits, bytes-length) in
           turn-lines
@@ -210,3 +199,14 @@ module _ (cs vs : ℕ) (s : SessionState) (n from held end : ℕ) (buf exit out 
             by (yes g) = turn-some h g
             by (no g) = turn-all h (omega arith)
         go (no h) = turn-none (omega arith)
+
+-- A turn on the buffer that `finish` leaves is one on what it was given.
+pub turn-from : (cs vs : ℕ) (s : SessionState) (n from held end to : ℕ) (buf filling : List ℕ) → Filled from held end to buf filling
+    → (after : Carried) (left : List ℕ) (filled : ℕ) (out exit : List ℕ)
+    → Turn cs vs (record { state = s; number = n; line = part from held filling }) after (part (from + held) (to - (from + held)) filling) left filled out exit
+    → Turn cs vs (record { state = s; number = n; line = part from held buf }) after
+    (turnBytes (part from held buf) (part (from + held) (end - (from + held)) buf)) left filled out exit
+turn-from cs vs s n from held end to buf filling f after left filled out exit t =
+    let block : List ℕ = turnBytes (part from held buf) (part (from + held) (end - (from + held)) buf) in
+    subst (λ (l : List ℕ). Turn cs vs (record { state = s; number = n; line = l }) after block left filled out exit) (f .line)
+    (subst (λ (b : List ℕ). Turn cs vs (record { state = s; number = n; line = part from held filling }) after b left filled out exit) (f .feeds) t)

@@ -1,3 +1,5 @@
-pub mod Blocks
+pub mod FeedConstants
+pub mod Feed
 pub mod Places
-pub mod Keeping
+pub mod Finish
+pub mod RestOf

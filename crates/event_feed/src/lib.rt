@@ -1,11 +1,13 @@
-// An input that comes in blocks of any size: each is fed to the lines that are run, and the end runs a last line that lacks its line feed. No system
-// call is made here.
-mod feed;
-mod feeding;
-mod finishing;
-mod keeping;
+// An input that comes in blocks of any size: each turn feeds a block to the lines that are run, and the turn in which no byte came runs a
+// last line that lacks its line feed. No system call is made here.
+mod calls;
+mod constants;
+mod feed_state;
+mod finish;
+mod keep;
+mod rest_of;
 
-pub use feed::Feed;
-pub use feed::begin;
-pub use feeding::feed_block;
-pub use finishing::finish;
+pub use calls::feed::feed;
+pub use constants::KEPT_BYTES;
+pub use feed_state::FeedState;
+pub use feed_state::begin;

@@ -12,7 +12,7 @@ use lib.ListN.{length, getD, drop, set, replicate, List·getD-eq-default}
 use lib.Seq.{sets, sets-eq}
 use Rattle.base_blocks.specs.Lists.{over, all, tests, after}
 use Rattle.base_blocks.proofs.Lists.{and-both, getD-over-in, getD-over-past, not-passed}
-use Rattle.event_text.specs.Fields.{same, behind, firstField, firstLine}
+use Rattle.event_text.specs.Fields.{same, fieldsAfter, firstField, firstLine}
 use Rattle.event_text.specs.Numbers.{isNumber, decimal, value}
 use Rattle.event_text.specs.Searches.{indexOf}
 use Rattle.event_text.proofs.Fields.{fields-first, same-true, same-self}
@@ -330,9 +330,9 @@ module _ (text : List ℕ) (end : ℕ) (w : Word) (s : Starts text end w) where
   first-event r e =
       ap (checked w)
       (e ∙ ap (λ (k : ℕ). scan 0 (replicate 9 0) false (drop k text)) ends ∙ scan-behind 0 (replicate 9 0) false text
-      ∙ ap (λ (f : List ℕ). scanFields 0 (replicate 9 0) false (behind (drop (length f) (firstLine text)))) (sym (line-until text)))
-      ∙ checked-event w (behind (drop (length (firstField (firstLine text))) (firstLine text)))
-      ∙ ap (λ (v : Word). eventBy v (behind (drop (length (firstField (firstLine text))) (firstLine text)))) (s .1)
+      ∙ ap (λ (f : List ℕ). scanFields 0 (replicate 9 0) false (fieldsAfter (drop (length f) (firstLine text)))) (sym (line-until text)))
+      ∙ checked-event w (fieldsAfter (drop (length (firstField (firstLine text))) (firstLine text)))
+      ∙ ap (λ (v : Word). eventBy v (fieldsAfter (drop (length (firstField (firstLine text))) (firstLine text)))) (s .1)
       ∙ sym (ap event (fields-first (firstLine text)))
 
   pub first-end : (k : ℕ) → k ≡ end + indexOf 10 (drop end text) → k ≡ indexOf 10 text

@@ -13,7 +13,7 @@ use lib.ListN.{length, drop, getD, set, List·getD-eq-default}
 use lib.Seq.{drop-cons, drop-drop, getD-drop}
 use Rattle.base_blocks.specs.Lists.{all, tests, after}
 use Rattle.base_blocks.proofs.Lists.{not-passed, default-free}
-use Rattle.event_text.specs.Fields.{firstLine, behind, same, fieldsOf}
+use Rattle.event_text.specs.Fields.{firstLine, fieldsAfter, same, fieldsOf}
 use Rattle.event_text.specs.Numbers.{isDigit, isNumber, value, decimal, leadingDigits}
 use Rattle.event_text.specs.Searches.{indexOf}
 use Rattle.event_text.proofs.Fields.{fields-first, same-true}
@@ -52,22 +52,22 @@ dash-no-digit : isDigit 45 ≡ false
 unfolding isDigit
 dash-no-digit = refl
 
--- ---- what stands behind a field
+-- ---- what stands after a field
 
 -- all of the line
 abbrev pub formed : ℕ → List ℕ → Bool → Scanned
 formed i vs d = record { formed = true; count = i; values = vs; dash = d }
 
 pub scan-behind : (i : ℕ) (vs : List ℕ) (d : Bool) (s : List ℕ)
-    → scan i vs d (drop (length (until stops s)) s) ≡ scanFields i vs d (behind (drop (length (until stops s)) (firstLine s)))
-unfolding until scan scanFields firstLine behind
+    → scan i vs d (drop (length (until stops s)) s) ≡ scanFields i vs d (fieldsAfter (drop (length (until stops s)) (firstLine s)))
+unfolding until scan scanFields firstLine fieldsAfter
 scan-behind i vs d [] = refl
 scan-behind i vs d (b ∷ bs) = go (eqb b 44) (eqb b 10) refl refl (scan-behind i vs d bs)
   where
     go : (t u : Bool) → eqb b 44 ≡ t → eqb b 10 ≡ u
-        → scan i vs d (drop (length (until stops bs)) bs) ≡ scanFields i vs d (behind (drop (length (until stops bs)) (firstLine bs)))
+        → scan i vs d (drop (length (until stops bs)) bs) ≡ scanFields i vs d (fieldsAfter (drop (length (until stops bs)) (firstLine bs)))
         → scan i vs d (drop (length (cond (t || u) [] (b ∷ until stops bs))) (b ∷ bs))
-        ≡ scanFields i vs d (behind (drop (length (cond (t || u) [] (b ∷ until stops bs))) (cond u [] (b ∷ firstLine bs))))
+        ≡ scanFields i vs d (fieldsAfter (drop (length (cond (t || u) [] (b ∷ until stops bs))) (cond u [] (b ∷ firstLine bs))))
     go true true p q r = absurd (let x = eqb-true b 44 p in let y = eqb-true b 10 q in let z : ⊥ = omega arith in z)
     go true false p q r = rw (q, p)
     go false true p q r = rw q
@@ -79,7 +79,7 @@ scan-comma : (i : ℕ) (vs : List ℕ) (d : Bool) (s : List ℕ) → scan i vs d
 unfolding scan scanFields
 scan-comma i vs d s =
     ap (scanFields i vs d) (fields-first (firstLine s))
-    ∙ ap (λ (f : List ℕ). scanFields i vs d (f ∷ behind (drop (length f) (firstLine s)))) (line-until s)
+    ∙ ap (λ (f : List ℕ). scanFields i vs d (f ∷ fieldsAfter (drop (length f) (firstLine s)))) (line-until s)
     ∙ ap (λ (r : Scanned). cond (mayBe i (until stops s)) r unreadFields)
     (sym (scan-behind (suc i) (set vs i (decimal (until stops s))) (d || same (until stops s) dash) s))
 
@@ -100,7 +100,7 @@ unfolding scan
 scan-ended i vs d [] e = refl
 scan-ended i vs d (b ∷ bs) e = rw e
 
--- ---- the field behind a comma
+-- ---- the field after a comma
 
 -- it starts with a digit
 digit-no-dash : (s : List ℕ) → isNumber (leadingDigits s) ≡ true → same (until stops s) dash ≡ false

@@ -9,7 +9,9 @@ use lib.Dec.{eqb}
 use lib.ListN.{length, getD, take, drop}
 use lib.Seq.{drop-cons}
 use Rattle.base_blocks.proofs.Lists.{and-both}
+use Rattle.event_text.specs.Eight.{packed}
 use Rattle.event_text.specs.Fields.{comma, firstField, firstLine, same}
+use Rattle.event_text.proofs.EightRead.{four-packed}
 use Rattle.event_text.proofs.FirstLines.{stops, line-until, take-until, until-length}
 use Rattle.event_lines.specs.declared.event.Word.{Word}
 use Rattle.event_lines.specs.Words.{wordOf, laterWord, fourOf, Starts}
@@ -22,7 +24,7 @@ byte-low x m h = omega arith
 byte-rest : (x m : ℕ) → x < 256 → (x + m * 256) / 256 ≡ m
 byte-rest x m h = omega arith
 
-pub four-read : (line : List ℕ) → 4 ≤ length line → (getD line 0 0 < 256) → (getD line 1 0 < 256) → (getD line 2 0 < 256) → (getD line 3 0 < 256)
+four-read : (line : List ℕ) → 4 ≤ length line → (getD line 0 0 < 256) → (getD line 1 0 < 256) → (getD line 2 0 < 256) → (getD line 3 0 < 256)
     → (n : ℕ) → n ≡ getD line 0 0 + getD line 1 0 * 256 + getD line 2 0 * 65536 + getD line 3 0 * 16777216 → line ≡ fourOf n (drop 4 line)
 unfolding fourOf
 four-read line h p q r s n e =
@@ -42,6 +44,10 @@ four-read line h p q r s n e =
     ∙ ap (λ (l : List ℕ). getD line 0 0 ∷ getD line 1 0 ∷ l) (drop-cons line 2 0 (omega arith))
     ∙ ap (λ (l : List ℕ). getD line 0 0 ∷ getD line 1 0 ∷ getD line 2 0 ∷ l) (drop-cons line 3 0 (omega arith))
     ∙ (λ i. a i ∷ b i ∷ c i ∷ d i ∷ drop 4 line)
+
+-- the four bytes as they are loaded
+pub four-loaded : (line : List ℕ) → 4 ≤ length line → ((i : ℕ) → getD line i 0 < 256) → (n : ℕ) → n ≡ packed 8 (take 4 (drop 0 line)) → line ≡ fourOf n (drop 4 line)
+four-loaded line h bytes n e = four-read line h (bytes 0) (bytes 1) (bytes 2) (bytes 3) n (e ∙ sym (four-packed line 0 _ _ _ _ h refl refl refl refl))
 
 -- ---- the words
 
@@ -82,7 +88,7 @@ module _ (line : List ℕ) (code : ℕ) (read : line ≡ fourOf code (drop 4 lin
   pop-starts e = started line (fourOf 745566064 (drop 4 line)) 3 Word.Pop (known 745566064 e) (refl, refl)
 
   module _ (room : 7 ≤ length line) where
-    -- the four bytes and the two behind them are known
+    -- the four bytes and the two after them are known
     two-more : (k a b : ℕ) → eqb code k && eqb (getD line 4 0) a && eqb (getD line 5 0) b ≡ true → line ≡ fourOf k (a ∷ b ∷ drop 6 line)
     two-more k a b t =
         let p = and-both (eqb code k && eqb (getD line 4 0) a) (eqb (getD line 5 0) b) t in

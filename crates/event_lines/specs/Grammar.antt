@@ -65,7 +65,7 @@ kindsOf Word.Trim = number ∷ []
 kindsOf Word.Forget = number ∷ []
 kindsOf Word.Other = []
 
--- the shape fields of a take line, which stand behind its id; the rest is 0
+-- the shape fields of a take line, which stand after its id; the rest is 0
 unfoldable pub shapeOf : (ℕ → ℕ) → VersionShape
 shapeOf n = record {
   format = n 1;

@@ -38,7 +38,7 @@ unfoldable pub scanFields : ℕ → List ℕ → Bool → List (List ℕ) → Sc
 scanFields i vs d [] = record { formed = true; count = i; values = vs; dash = d }
 scanFields i vs d (f ∷ fs) = cond (mayBe i f) (scanFields (suc i) (set vs i (decimal f)) (d || same f dash) fs) unreadFields
 
--- the same of what stands behind a field: nothing more of the line, a comma and more fields, or what ends no field
+-- the same of what stands after a field: nothing more of the line, a comma and more fields, or what ends no field
 unfoldable pub scan : ℕ → List ℕ → Bool → List ℕ → Scanned
 scan i vs d [] = record { formed = true; count = i; values = vs; dash = d }
 scan i vs d (b ∷ bs) =

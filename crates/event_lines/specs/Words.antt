@@ -68,7 +68,7 @@ wordOf s =
     (cond (same s regenWord) Word.Regen
     (laterWord s)))))))
 
--- four bytes that are one number, the first as the lowest, and what is behind them
+-- four bytes that are one number, the first as the lowest, and what is after them
 unfoldable pub fourOf : ℕ → List ℕ → List ℕ
 fourOf n rest = n % 256 ∷ n / 256 % 256 ∷ n / 256 / 256 % 256 ∷ n / 256 / 256 / 256 ∷ rest
 

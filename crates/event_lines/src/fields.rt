@@ -1,4 +1,4 @@
-// The fields behind a line's word, read as numbers in one pass. What a word asks of them is tested afterwards.
+// Reads the fields after a line's word as numbers, in one pass. What a word asks of them is tested afterwards.
 ghost use mathlib.Core.Path.{_≡_};
 ghost use mathlib.Core.Bool.{true, false};
 ghost use Prim.Native.Nat.{_+_, _≤_};
@@ -18,7 +18,7 @@ pub struct Fields {
     pub end: usize,
 }
 
-// A line with another field, or with more.
+// Returns what is read of a line with another field, or with more: nothing.
 fn unread() -> Fields
     ensures { λ r. ⌜ (r .formed ≡ false) × (scannedOf r ≡ unreadFields) ⌝ }
 {
@@ -31,7 +31,7 @@ fn unread() -> Fields
     }
 }
 
-// A comma stands at `at`.
+// Returns whether a comma stands at `at`.
 fn is_comma(text: &[u8], at: usize) -> bool
     ensures { λ r. ⌜ r ≡ eqb (getD (now (text .entry)) at 0) 44 ⌝ }
 {
@@ -41,7 +41,7 @@ fn is_comma(text: &[u8], at: usize) -> bool
     false
 }
 
-// The line ends at `at`: with its line feed, or with the text.
+// Returns whether the line ends at `at`: with its line feed, or with the text.
 fn is_end(text: &[u8], at: usize) -> bool
     ensures { λ r. ⌜ r ≡ eqb (getD (now (text .entry)) at 10) 10 ⌝ }
 {
@@ -51,6 +51,7 @@ fn is_end(text: &[u8], at: usize) -> bool
     true
 }
 
+// Returns whether "-" stands at `at`.
 fn is_dash(text: &[u8], at: usize) -> bool
     ensures { λ r. ⌜ r ≡ eqb (getD (now (text .entry)) at 0) 45 ⌝ }
 {
@@ -60,7 +61,7 @@ fn is_dash(text: &[u8], at: usize) -> bool
     false
 }
 
-// Reads the fields behind the one that ends at `at`: at most nine.
+// Reads the fields after the one that ends at `at`: at most nine, since no word has more.
 pub fn read_fields(text: &[u8], at: usize) -> Fields
     requires { ⌜ at ≤ length (now text) ⌝ }
     ensures { λ r. ⌜ (scannedOf r ≡ scan 0 (replicate 9 0) false (drop at (now (text .entry))))

@@ -1,4 +1,4 @@
-// One line to its event: the word, the numbers behind it, and the event made of them if they are what the word asks for.
+// Turns one line into its event: the word, the numbers after it, and the event made of them if they are what the word asks for.
 ghost use mathlib.Core.Path.{_≡_};
 ghost use mathlib.Core.Bool.{cond};
 ghost use lib.Dec.{eqb};
@@ -29,7 +29,7 @@ pub struct Parsed {
     pub end: usize,
 }
 
-// Format, width, height, depth, levels and kind are the fields behind the id; the rest of the shape is 0.
+// Returns the shape of a take line. Format, width, height, depth, levels and kind are the fields after the id; the rest of the shape is 0.
 fn shape_of(n: &[u64]) -> VersionShape
     requires { ⌜ length (now n) ≡ 9 ⌝ }
     ensures { λ r. ⌜ r ≡ shapeOf (λ k. getD (now (n .entry)) k 0) ⌝ }
@@ -50,7 +50,7 @@ fn shape_of(n: &[u64]) -> VersionShape
     }
 }
 
-// Left, top, width and height are the last fields of a write line.
+// Returns the rectangle of a write line: left, top, width and height are its last fields.
 fn rect_of(n: &[u64]) -> TexelRect
     requires { ⌜ length (now n) ≡ 9 ⌝ }
     ensures { λ r. ⌜ r ≡ rectOf (λ k. getD (now (n .entry)) k 0) ⌝ }
@@ -63,6 +63,7 @@ fn rect_of(n: &[u64]) -> TexelRect
     }
 }
 
+// Returns the event of a take line. Fields that are 32-bit numbers in the Rust are tested here, since the call takes larger ones.
 fn take_event(n: &[u64], count: usize) -> Event
     requires { ⌜ length (now n) ≡ 9 ⌝ }
     ensures { λ r. ⌜ r ≡ cond (fits WORD.Take count (λ k. getD (now (n .entry)) k 0)) (takeEvent (λ k. getD (now (n .entry)) k 0)) EVENT.Unread ⌝ }
@@ -84,6 +85,7 @@ fn take_event(n: &[u64], count: usize) -> Event
     Event::Unread
 }
 
+// Returns the event of a plan line.
 fn plan_event(n: &[u64], count: usize, held: Held) -> Event
     requires { ⌜ length (now n) ≡ 9 ⌝ }
     ensures { λ r. ⌜ r ≡ cond (fits WORD.Plan count (λ k. getD (now (n .entry)) k 0)) (planEvent (λ k. getD (now (n .entry)) k 0) held) EVENT.Unread ⌝ }
@@ -100,6 +102,7 @@ fn plan_event(n: &[u64], count: usize, held: Held) -> Event
     Event::Unread
 }
 
+// Returns the event of a retire line.
 fn retire_event(n: &[u64], count: usize) -> Event
     requires { ⌜ length (now n) ≡ 9 ⌝ }
     ensures { λ r. ⌜ r ≡ cond (eqb count 3) (retireEvent (λ k. getD (now (n .entry)) k 0)) EVENT.Unread ⌝ }
@@ -114,6 +117,7 @@ fn retire_event(n: &[u64], count: usize) -> Event
     Event::Unread
 }
 
+// Returns the event of a write line.
 fn write_event(n: &[u64], count: usize) -> Event
     requires { ⌜ length (now n) ≡ 9 ⌝ }
     ensures { λ r. ⌜ r ≡ cond (fits WORD.Write count (λ k. getD (now (n .entry)) k 0)) (writeEvent (λ k. getD (now (n .entry)) k 0)) EVENT.Unread ⌝ }
@@ -136,7 +140,7 @@ fn write_event(n: &[u64], count: usize) -> Event
     Event::Unread
 }
 
-// An event that has so many fields, all of them numbers.
+// Returns the event if its line has `wanted` fields, all of them numbers.
 fn of_count(event: Event, count: usize, wanted: usize) -> Event
     ensures { λ r. ⌜ r ≡ cond (eqb count wanted) event EVENT.Unread ⌝ }
 {
@@ -146,7 +150,7 @@ fn of_count(event: Event, count: usize, wanted: usize) -> Event
     Event::Unread
 }
 
-// The event of a word whose fields are these numbers.
+// Returns the event of a word whose fields are these numbers.
 fn numbers_event(word: Word, n: &[u64], count: usize) -> Event
     requires { ⌜ length (now n) ≡ 9 ⌝ }
     ensures { λ r. ⌜ r ≡ numbersMade word count (λ k. getD (now (n .entry)) k 0) ⌝ }
@@ -178,7 +182,7 @@ fn numbers_event(word: Word, n: &[u64], count: usize) -> Event
     }
 }
 
-// The same where the second field is "-", which only a plan's may be.
+// Returns the event of a word whose second field is "-", which only a plan's may be.
 fn dash_event(word: Word, n: &[u64], count: usize) -> Event
     requires { ⌜ length (now n) ≡ 9 ⌝ }
     ensures { λ r. ⌜ r ≡ dashMade word count (λ k. getD (now (n .entry)) k 0) ⌝ }
@@ -201,7 +205,7 @@ fn dash_event(word: Word, n: &[u64], count: usize) -> Event
     }
 }
 
-// The event of a text's first line. The word comes first, because it says what the fields behind it are.
+// Returns the event of a text's first line. The word comes first, because it says what the fields after it are.
 pub fn parse_first(text: &[u8]) -> Parsed
     ensures { λ r. ⌜ (r .event ≡ eventOf (firstLine (now (text .entry)))) × (r .end ≡ indexOf 10 (now (text .entry))) ⌝ }
 {

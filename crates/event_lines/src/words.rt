@@ -6,6 +6,7 @@ ghost use Rattle.event_text.specs.Fields.{comma};
 ghost use Rattle.event_lines.specs.Words.{wordOf, laterWord, fourOf, Starts};
 use crate::event::Word;
 use event_text::first_end;
+use event_text::four_bytes;
 use event_text::is_word;
 
 // The first four bytes of texts, the first as the lowest: "take", "plan", "park", "trim", "note", "pop,", "reti", "doom", "rege" and "writ".
@@ -35,13 +36,7 @@ pub struct Start {
     pub end: usize,
 }
 
-fn wide(byte: u8) -> u64
-    ensures { λ r. ⌜ r ≡ byte ⌝ }
-{
-    byte as u64
-}
-
-// The words of the calls that a program makes most come first.
+// Returns the word that a field is. The words of the calls that a program makes most come first.
 fn word_of(field: &[u8]) -> Word
     ensures { λ r. ⌜ r ≡ wordOf (now (field .entry)) ⌝ }
 {
@@ -69,6 +64,7 @@ fn word_of(field: &[u8]) -> Word
     later_word(field)
 }
 
+// Returns the word that a field is, of the words that a program has less often.
 fn later_word(field: &[u8]) -> Word
     ensures { λ r. ⌜ r ≡ laterWord (now (field .entry)) ⌝ }
 {
@@ -93,14 +89,7 @@ fn later_word(field: &[u8]) -> Word
     Word::Other
 }
 
-// The first four bytes as one number, which the compiler can load at once.
-fn four_bytes(text: &[u8]) -> u64
-    requires { ⌜ 4 ≤ length (now text) ⌝ }
-    ensures { λ r. ⌜ now (text .entry) ≡ fourOf r (drop 4 (now (text .entry))) ⌝ }
-{
-    wide(text[0]) + wide(text[1]) * 256 + wide(text[2]) * 65536 + wide(text[3]) * 16777216
-}
-
+// Returns the word that a text starts with, whatever it is, and where it ends.
 fn any_start(text: &[u8]) -> Start
     ensures { λ r. ⌜ Starts (now (text .entry)) (r .end) (r .word) ⌝ }
 {
@@ -109,7 +98,7 @@ fn any_start(text: &[u8]) -> Start
     Start { word, end }
 }
 
-// The words of four letters and a comma that a program has most.
+// Returns the word, if it is one of those of four letters and a comma that a program has most, by one comparison each.
 fn four_start(text: &[u8], code: u64) -> Start
     requires { ⌜ (5 ≤ length (now text)) × (now text ≡ fourOf code (drop 4 (now text))) × (getD (now text) 4 0 ≡ comma) ⌝ }
     ensures { λ r. ⌜ Starts (now (text .entry)) (r .end) (r .word) ⌝ }
@@ -147,7 +136,7 @@ fn four_start(text: &[u8], code: u64) -> Start
     any_start(text)
 }
 
-// The words of five or six letters that a program has most. No field stands behind `doomed`, so that a line feed ends it.
+// Returns the word, if it is one of those of five or six letters that a program has most. No field stands after `doomed`, so that a line feed ends it.
 fn long_start(text: &[u8], code: u64) -> Start
     requires { ⌜ (7 ≤ length (now text)) × (now text ≡ fourOf code (drop 4 (now text))) ⌝ }
     ensures { λ r. ⌜ Starts (now (text .entry)) (r .end) (r .word) ⌝ }
@@ -179,7 +168,7 @@ fn long_start(text: &[u8], code: u64) -> Start
     any_start(text)
 }
 
-// The others that a program has most.
+// Returns the word where the fifth byte is no comma.
 fn other_start(text: &[u8], code: u64) -> Start
     requires { ⌜ (5 ≤ length (now text)) × (now text ≡ fourOf code (drop 4 (now text))) ⌝ }
     ensures { λ r. ⌜ Starts (now (text .entry)) (r .end) (r .word) ⌝ }
@@ -196,14 +185,14 @@ fn other_start(text: &[u8], code: u64) -> Start
     long_start(text, code)
 }
 
-// The word that a line starts with. The ones that a program has most are told by four bytes at once.
+// Returns the word that a line starts with. The ones that a program has most are told by four bytes at once.
 pub fn start_of(text: &[u8]) -> Start
     ensures { λ r. ⌜ Starts (now (text .entry)) (r .end) (r .word) ⌝ }
 {
     if text.len() < 5 {
         return any_start(text);
     }
-    let code = four_bytes(text);
+    let code = four_bytes(text, 0);
     if text[4] == b',' {
         return four_start(text, code);
     }

@@ -1,15 +1,54 @@
 // Document 01's event program: an event a line on standard input, its outcome and answer on standard output.
+ghost use Rattle.event_stream.specs.Lends.{Lends};
+use grid_stamps::PAGE_STAMPS;
+use pool_memory::COPY_STRIDE;
+use pool_records::DOOMED_STRIDE;
+use pool_records::RETIRING_STRIDE;
+use pool_records::SPARE_STRIDE;
+use pool_records::TEXTURE_STRIDE;
 
-// 8 textures, 64 versions, 6 pages, and answers of 90 entries. The numbers of a place are those of crates/pool_memory/specs/Lent.antt.
+const TEXTURES: usize = 8;
+
+const VERSIONS: usize = 64;
+
+const PAGES: usize = 6;
+
+const ENTRIES: usize = 90;
+
+// Asks for what document 01 has the event program lend: "8 textures, 64 versions, 6 pages, answers of 90 entries". Nothing is done: that
+// `main` may call it is what counts.
+fn lends(
+    textures: &[u64],
+    retiring: &[u64],
+    doomed: &[u64],
+    spares: &[u64],
+    newest: &[u64],
+    stamps: &[u64],
+    copies: &[u64],
+    views: &[u64],
+)
+    requires { ⌜ Lends 8 64 6 90 textures retiring doomed spares newest stamps copies views ⌝ }
+{}
+
 fn main() {
-    let mut textures = [0; 160];
-    let mut retiring = [0; 448];
-    let mut doomed = [0; 128];
-    let mut spares = [0; 192];
-    let mut newest = [0; 6];
-    let mut stamps = [0; 6144];
-    let mut copies = [0; 630];
-    let mut views = [0; 90];
+    let mut textures = [0; TEXTURES * TEXTURE_STRIDE];
+    let mut retiring = [0; VERSIONS * RETIRING_STRIDE];
+    let mut doomed = [0; VERSIONS * DOOMED_STRIDE];
+    let mut spares = [0; VERSIONS * SPARE_STRIDE];
+    let mut newest = [0; PAGES];
+    let mut stamps = [0; PAGES * PAGE_STAMPS];
+    let mut copies = [0; ENTRIES * COPY_STRIDE];
+    let mut views = [0; ENTRIES];
+    lends(
+        &textures,
+        &retiring,
+        &doomed,
+        &spares,
+        &newest,
+        &stamps,
+        &copies,
+        &views,
+    );
     let mut buf = io::large_buffer();
     let mut out = io::large_buffer();
     event_stream::run_all(

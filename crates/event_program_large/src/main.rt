@@ -1,16 +1,54 @@
 // The event program with larger stores, so that lists of events show how destruction is paced, regenerations over several slices, and batches and
 // drains that are too long for their answer.
+ghost use Rattle.event_stream.specs.Lends.{Lends};
+use grid_stamps::PAGE_STAMPS;
+use pool_memory::COPY_STRIDE;
+use pool_records::DOOMED_STRIDE;
+use pool_records::RETIRING_STRIDE;
+use pool_records::SPARE_STRIDE;
+use pool_records::TEXTURE_STRIDE;
 
-// 64 textures, 2,000 versions, 256 pages, and answers of 300 entries. The numbers of a place are those of crates/pool_memory/specs/Lent.antt.
+const TEXTURES: usize = 64;
+
+const VERSIONS: usize = 2000;
+
+const PAGES: usize = 256;
+
+const ENTRIES: usize = 300;
+
+// Asks for what the large event program lends. Nothing is done: that `main` may call it is what counts.
+fn lends(
+    textures: &[u64],
+    retiring: &[u64],
+    doomed: &[u64],
+    spares: &[u64],
+    newest: &[u64],
+    stamps: &[u64],
+    copies: &[u64],
+    views: &[u64],
+)
+    requires { ⌜ Lends 64 2000 256 300 textures retiring doomed spares newest stamps copies views ⌝ }
+{}
+
 fn main() {
-    let mut textures = [0; 1280];
-    let mut retiring = [0; 14000];
-    let mut doomed = [0; 4000];
-    let mut spares = [0; 6000];
-    let mut newest = [0; 256];
-    let mut stamps = [0; 262144];
-    let mut copies = [0; 2100];
-    let mut views = [0; 300];
+    let mut textures = [0; TEXTURES * TEXTURE_STRIDE];
+    let mut retiring = [0; VERSIONS * RETIRING_STRIDE];
+    let mut doomed = [0; VERSIONS * DOOMED_STRIDE];
+    let mut spares = [0; VERSIONS * SPARE_STRIDE];
+    let mut newest = [0; PAGES];
+    let mut stamps = [0; PAGES * PAGE_STAMPS];
+    let mut copies = [0; ENTRIES * COPY_STRIDE];
+    let mut views = [0; ENTRIES];
+    lends(
+        &textures,
+        &retiring,
+        &doomed,
+        &spares,
+        &newest,
+        &stamps,
+        &copies,
+        &views,
+    );
     let mut buf = io::large_buffer();
     let mut out = io::large_buffer();
     event_stream::run_all(

@@ -13,7 +13,7 @@ use Rattle.event_runs.specs.Texts.{inLastLine, lastLine}
 
 -- ---- an input in two parts
 
--- the lines of two parts are those of the first, and those of what it leaves with the second behind it
+-- the lines of two parts are those of the first, and those of what it leaves with the second after it
 pub lines-append : (xs ys : List ℕ) → wholeLines (xs ++ ys) ≡ wholeLines xs ++ wholeLines (lastLine xs ++ ys)
 unfolding wholeLines lastLine inFirstLine inLastLine
 lines-append [] ys = refl
@@ -53,14 +53,15 @@ last-append (b ∷ bs) ys = go (eqb b lineFeed) refl (lines-append bs ys) (last-
 abbrev pub Unfinished : List ℕ → Type 0
 Unfinished x = wholeLines x ≡ []
 
--- they stand in front of the first line behind them
+-- they are the front of the first line after them, if there is one
 unfoldable pub inFront : List ℕ → List (List ℕ) → List (List ℕ)
 inFront x [] = []
 inFront x (line ∷ lines) = (x ++ line) ∷ lines
 
-unfoldable pub lastBehind : List ℕ → List (List ℕ) → List ℕ → List ℕ
-lastBehind x [] last = x ++ last
-lastBehind x (line ∷ lines) last = last
+-- or of the last line, if there is none
+unfoldable pub lastAfter : List ℕ → List (List ℕ) → List ℕ → List ℕ
+lastAfter x [] last = x ++ last
+lastAfter x (line ∷ lines) last = last
 
 none-first : (b : ℕ) (ls : List (List ℕ)) → inFirstLine b ls ≡ [] → ls ≡ []
 unfolding inFirstLine
@@ -90,11 +91,11 @@ front-lines (b ∷ x) ys h =
     go [] = refl
     go (l ∷ ls) = refl
 
-pub front-last : (x ys : List ℕ) → Unfinished x → lastLine (x ++ ys) ≡ lastBehind x (wholeLines ys) (lastLine ys)
-unfolding lastLine inLastLine lastBehind inFront
+pub front-last : (x ys : List ℕ) → Unfinished x → lastLine (x ++ ys) ≡ lastAfter x (wholeLines ys) (lastLine ys)
+unfolding lastLine inLastLine lastAfter inFront
 front-last [] ys h = go (wholeLines ys)
   where
-    go : (ls : List (List ℕ)) → lastLine ys ≡ lastBehind [] ls (lastLine ys)
+    go : (ls : List (List ℕ)) → lastLine ys ≡ lastAfter [] ls (lastLine ys)
     go [] = refl
     go (l ∷ ls) = refl
 front-last (b ∷ x) ys h =
@@ -102,11 +103,11 @@ front-last (b ∷ x) ys h =
     ap (λ (t : Bool). cond t (lastLine (x ++ ys)) (inLastLine b (wholeLines (x ++ ys)) (lastLine (x ++ ys)))) (u .0)
     ∙ ap₂ (inLastLine b) (front-lines x ys (u .1)) (front-last x ys (u .1)) ∙ go (wholeLines ys)
   where
-    go : (ls : List (List ℕ)) → inLastLine b (inFront x ls) (lastBehind x ls (lastLine ys)) ≡ lastBehind (b ∷ x) ls (lastLine ys)
+    go : (ls : List (List ℕ)) → inLastLine b (inFront x ls) (lastAfter x ls (lastLine ys)) ≡ lastAfter (b ∷ x) ls (lastLine ys)
     go [] = refl
     go (l ∷ ls) = refl
 
--- what stands behind the last line feed has none
+-- what stands after the last line feed has none
 pub last-unfinished : (xs : List ℕ) → Unfinished (lastLine xs)
 unfolding wholeLines lastLine inFirstLine inLastLine
 last-unfinished [] = refl
@@ -141,12 +142,12 @@ unfinished-last (b ∷ x) h =
 -- ---- the first line of an input
 
 pub record First (input line : List ℕ) (lines : List (List ℕ)) : Type 0 where
-  pub behind : List ℕ
-  pub bytes : input ≡ line ++ (lineFeed ∷ behind)
-  pub others : wholeLines behind ≡ lines
+  pub rest : List ℕ
+  pub bytes : input ≡ line ++ (lineFeed ∷ rest)
+  pub others : wholeLines rest ≡ lines
   pub plain : Unfinished line
 
--- a first line is that of an input
+-- where an input's lines have a first, the input begins with it
 pub first-of : (input line : List ℕ) (lines : List (List ℕ)) → wholeLines input ≡ line ∷ lines → First input line lines
 unfolding wholeLines inFirstLine
 first-of [] line lines e = absurd (let z : _≡_ {A = ℕ} 0 1 = cc in let y : ⊥ = omega arith in y)
@@ -160,8 +161,8 @@ first-of (b ∷ bs) line lines e = go (eqb b lineFeed) refl e (first-of bs)
         let a : b ∷ l ≡ line = cc in
         let d : ks ≡ lines = cc in
         record {
-          behind = f .behind;
-          bytes = ap (λ (x : List ℕ). b ∷ x) (f .bytes) ∙ ap (λ (x : List ℕ). x ++ (lineFeed ∷ f .behind)) a;
+          rest = f .rest;
+          bytes = ap (λ (x : List ℕ). b ∷ x) (f .bytes) ∙ ap (λ (x : List ℕ). x ++ (lineFeed ∷ f .rest)) a;
           others = f .others ∙ d;
           plain = ap wholeLines (sym a) ∙ ap (λ (t : Bool). cond t ([] ∷ wholeLines l) (inFirstLine b (wholeLines l))) q ∙ ap (inFirstLine b) (f .plain);
         }
@@ -171,7 +172,7 @@ first-of (b ∷ bs) line lines e = go (eqb b lineFeed) refl e (first-of bs)
     go true q e r =
         let a : [] ≡ line = cc in
         record {
-          behind = bs;
+          rest = bs;
           bytes = ap (λ (x : ℕ). x ∷ bs) (eqb-true b lineFeed q) ∙ ap (λ (x : List ℕ). x ++ (lineFeed ∷ bs)) a;
           others = let d : wholeLines bs ≡ lines = cc in d;
           plain = ap wholeLines (sym a);
@@ -184,5 +185,5 @@ unfolding wholeLines inFront
 line-more line rest h = front-lines line (lineFeed ∷ rest) h ∙ ap (λ (l : List ℕ). l ∷ wholeLines rest) (append-nil line)
 
 pub line-last : (line rest : List ℕ) → Unfinished line → lastLine (line ++ (lineFeed ∷ rest)) ≡ lastLine rest
-unfolding wholeLines lastLine lastBehind
+unfolding wholeLines lastLine lastAfter
 line-last line rest h = front-last line (lineFeed ∷ rest) h

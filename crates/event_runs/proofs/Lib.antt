@@ -2,6 +2,5 @@ pub mod Splits
 pub mod Rooms
 pub mod Runs
 pub mod LongLines
-pub mod Outputs
 pub mod Cuts
 pub mod Texts

@@ -18,7 +18,7 @@ use Rattle.event_lines.specs.declared.event.Event.{Event}
 use Rattle.event_lines.specs.Words.{wordOf, laterWord, openWord, takeWord, planWord, retireWord, writeWord, regenWord, popWord, parkWord, noteWord, doomedWord, drainWord, trimWord, forgetWord}
 use Rattle.event_lines.specs.Grammar.{Kind, below, held, dash, isKind, areKinds, kindsOf, made, heldBy, num, eventBy, event, eventOf}
 
--- ---- the bytes of fields, each with the comma behind it
+-- ---- the bytes of fields, each with the comma after it
 
 unfoldable bytes : List (List ℕ) → ℕ
 bytes [] = 0
@@ -114,7 +114,7 @@ module _ (s : List ℕ) (h : 6 < length s) where
 
 -- ---- a line
 
--- whatever stands behind it, another word is no event
+-- whatever stands after it, another word is no event
 other-unread : (fs : List (List ℕ)) → eventBy Word.Other fs ≡ Event.Unread
 unfolding eventBy made
 other-unread fs = go (areKinds (kindsOf Word.Other) fs)
@@ -146,7 +146,7 @@ pub long-unread : (line : List ℕ) → 195 < length line → eventOf line ≡ E
 unfolding eventOf
 long-unread line h = event-unread (fieldsOf line) (omega (arith, fields-bytes line))
 
--- so a line may be cut behind its first 196 bytes: whatever comes behind, its event is the same
+-- so a line may be cut after its first 196 bytes: whatever comes after, its event is the same
 pub cut-unread : (k : ℕ) → 195 < k → (line rest : List ℕ) → eventOf (take k line ++ rest) ≡ eventOf (line ++ rest)
 cut-unread k h line rest = go (decLt k (length line))
   where

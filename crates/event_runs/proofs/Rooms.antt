@@ -6,7 +6,7 @@ use Prim.Native.Nat.{ℕ, suc, _+_, _-_, _/_, _≤_, _<_, min, max}
 use native.Mathlib.Nat.{le-max-left, le-max-right}
 use native.Mathlib.Omega.{arith}
 use borrow.Author.Tests.{le-leb, lt-leb}
-use lib.Dec.{eqb}
+use lib.Dec.{eqb, leb}
 use lib.ListN.{length, drop, length-drop}
 use Rattle.event_text.specs.Searches.{indexOf}
 use Rattle.event_answers.specs.declared.answer.Answer.{Answer}
@@ -15,7 +15,6 @@ use Rattle.event_answers.specs.Answers.{replyTold, entries, InBuffers}
 use Rattle.event_answers.specs.Printed.{lineFeed, printed, mostBytes}
 use Rattle.event_answers.proofs.Most.{printed-most}
 use Rattle.event_runs.specs.Lines.{longestAnswer}
-use Rattle.event_runs.specs.Ends.{lineEnd, nextEnd}
 use Rattle.pool_memory.specs.MemoryConstants.{copyStride}
 
 -- an answer has no more entries than its buffers have room for
@@ -34,14 +33,12 @@ entries-most (Copies n) copies views h = omega (arith, le-max-left (length copie
 -- ---- whether the buffer has it
 
 -- `room` is the longest answer, or one byte more than the buffer has if the answer is longer: a test of either decides the same
-module _ (input : List ℕ) (from longest room filled size : ℕ) (fits : filled ≤ size) (is-room : room ≡ min longest (size + 1)) where
-  pub next-full : size - filled < room → nextEnd input from longest filled size ≡ length input
-  unfolding nextEnd
-  next-full h = rw (lt-leb (filled + longest) size (omega arith))
+module _ (longest room filled size : ℕ) (fits : filled ≤ size) (is-room : room ≡ min longest (size + 1)) where
+  pub room-none : size - filled < room → leb (filled + longest) size ≡ false
+  room-none h = lt-leb (filled + longest) size (omega arith)
 
-  pub next-line : room ≤ size - filled → nextEnd input from longest filled size ≡ lineEnd input from
-  unfolding nextEnd
-  next-line h = rw (le-leb (filled + longest) size (omega arith))
+  pub room-some : room ≤ size - filled → leb (filled + longest) size ≡ true
+  room-some h = le-leb (filled + longest) size (omega arith)
 
 -- the longest answer's room is enough for each
 pub answer-fits : (a : Answer) (copies views : List ℕ) (m n filled size : ℕ) → InBuffers a copies views → length copies ≡ m → length views ≡ n
@@ -60,11 +57,7 @@ index-within b (x ∷ xs) = go (eqb x b) (index-within b xs)
     go true h = omega arith
     go false h = omega arith
 
-pub find-end : (input : List ℕ) (from r : ℕ) → r ≡ from + indexOf lineFeed (drop from input) → r ≡ lineEnd input from
-unfolding lineEnd
-find-end input from r e = e
-
--- it stands behind `from`, and in the input
+-- it stands after `from`, and in the input
 pub find-within : (input : List ℕ) (from r : ℕ) → from ≤ length input → r ≡ from + indexOf lineFeed (drop from input) → (from ≤ r) × (r ≤ length input)
 find-within input from r h e =
     let w : indexOf lineFeed (drop from input) ≤ length input - from = rw (sym (length-drop from input)) (index-within lineFeed (drop from input)) in

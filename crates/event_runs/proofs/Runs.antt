@@ -21,9 +21,8 @@ use Rattle.event_answers.specs.Printed.{lineFeed, printed}
 use Rattle.event_sessions.specs.Sessions.{SessionState, HoldsPool, lineStep}
 use Rattle.event_sessions.proofs.Keeps.{step-keeps}
 use Rattle.event_runs.specs.Lines.{wholeLines, lineOutput, lineState, EventRan, longestAnswer, Progress, hasRoom, ran, ranAll}
-use Rattle.event_runs.specs.Ends.{lineEnd, nextEnd}
-use Rattle.event_runs.proofs.Splits.{line-next, line-none}
-use Rattle.event_runs.proofs.Rooms.{next-full, next-line, find-end, find-within}
+use Rattle.event_runs.proofs.Splits.{lineEnd, line-end, line-next, line-none}
+use Rattle.event_runs.proofs.Rooms.{room-none, room-some, find-within}
 
 -- ---- one line
 
@@ -52,39 +51,21 @@ module _ (cs vs : ℕ) (p : Progress) where
   unfolding ran
   ran-is q line a b c d e = λ i. record { state = a i; number = b i; from = c i; filled = d i; out = e i }
 
-module _ (cs vs : ℕ) (input : List ℕ) (p : Progress) (end size : ℕ) (is-size : length (p .out) ≡ size)
-    (next : end ≡ nextEnd input (p .from) (longestAnswer cs vs) (p .filled) size) where
-  room-is : hasRoom cs vs p ≡ leb (p .filled + longestAnswer cs vs) size
+  room-is : (size : ℕ) → length (p .out) ≡ size → hasRoom cs vs p ≡ leb (p .filled + longestAnswer cs vs) size
   unfolding hasRoom
-  room-is = rw is-size
+  room-is size e = rw e
 
-  -- one test decides whether the next line is run
-  next-by : (t : Bool) → leb (p .filled + longestAnswer cs vs) size ≡ t → end ≡ cond t (lineEnd input (p .from)) (length input)
-  unfolding nextEnd
-  next-by t e = next ∙ ap (λ (b : Bool). cond b (lineEnd input (p .from)) (length input)) e
-
-  room-when : end < length input → (t : Bool) → leb (p .filled + longestAnswer cs vs) size ≡ t → t ≡ true
-  room-when h true e = refl
-  room-when h false e = absurd (let q = next-by false e in let y : ⊥ = omega arith in y)
-
-  pub run-room : end < length input → leb (p .filled + longestAnswer cs vs) size ≡ true
-  run-room h = room-when h (leb (p .filled + longestAnswer cs vs) size) refl
-
-  pub run-more : end < length input → ranAll cs vs p (wholeLines (drop (p .from) input))
+-- the line from `from` on ends at `end`
+module _ (cs vs : ℕ) (input : List ℕ) (p : Progress) (end : ℕ) (is-end : end ≡ lineEnd input (p .from)) where
+  pub run-more : hasRoom cs vs p ≡ true → end < length input → ranAll cs vs p (wholeLines (drop (p .from) input))
       ≡ ranAll cs vs (ran cs vs p (take (end - p .from) (drop (p .from) input))) (wholeLines (drop (end + 1) input))
-  run-more h =
-      let r = run-room h in
-      let e : end ≡ lineEnd input (p .from) = next-by true r in
-      ap (ranAll cs vs p) (line-next input (p .from) (omega arith) ∙ ap (λ (k : ℕ). take (k - p .from) (drop (p .from) input) ∷ wholeLines (drop (k + 1) input)) (sym e))
-      ∙ ran-more cs vs p (take (end - p .from) (drop (p .from) input)) (wholeLines (drop (end + 1) input)) (room-is ∙ r)
+  run-more r h =
+      ap (ranAll cs vs p) (line-next input (p .from) (omega arith) ∙ ap (λ (k : ℕ). take (k - p .from) (drop (p .from) input) ∷ wholeLines (drop (k + 1) input)) (sym is-end))
+      ∙ ran-more cs vs p (take (end - p .from) (drop (p .from) input)) (wholeLines (drop (end + 1) input)) r
 
   pub run-done : length input ≤ end → ranAll cs vs p (wholeLines (drop (p .from) input)) ≡ p
   unfolding ranAll
-  run-done h = go (leb (p .filled + longestAnswer cs vs) size) refl
-    where
-      go : (t : Bool) → leb (p .filled + longestAnswer cs vs) size ≡ t → ranAll cs vs p (wholeLines (drop (p .from) input)) ≡ p
-      go false e = ran-full cs vs p (wholeLines (drop (p .from) input)) (room-is ∙ e)
-      go true e = let q = next-by true e in ap (ranAll cs vs p) (line-none input (p .from) (omega arith))
+  run-done h = ap (ranAll cs vs p) (line-none input (p .from) (omega arith))
 
 -- ---- the loop over the lines
 
@@ -124,23 +105,31 @@ going-first cs vs input p size f l o h = record {
 pub going-full : (cs vs : ℕ) (input : List ℕ) (p₀ p : Progress) (room size : ℕ) → Going cs vs input p₀ p size → room ≡ min (longestAnswer cs vs) (size + 1)
     → size - p .filled < room → p ≡ ranAll cs vs p₀ (wholeLines input)
 going-full cs vs input p₀ p room size g e h =
-    sym (run-done cs vs input p (length input) size (g .sized) (sym (next-full input (p .from) (longestAnswer cs vs) room (p .filled) size (g .filling) e h)) (omega arith)) ∙ g .left
+    sym
+    (ran-full cs vs p (wholeLines (drop (p .from) input)) (room-is cs vs p size (g .sized) ∙ room-none (longestAnswer cs vs) room (p .filled) size (g .filling) e h))
+    ∙ g .left
 
 -- a turn; the answer buffers have as many numbers as they had at first
 module _ (cs vs a b : ℕ) (ea : a ≡ cs) (eb : b ≡ vs) (input : List ℕ) (p₀ p : Progress) (room k end size : ℕ)
     (g : Going cs vs input p₀ p size) (is-room : room ≡ min (longestAnswer cs vs) (size + 1)) (has-room : room ≤ size - p .filled)
-    (line-end : k ≡ indexOf lineFeed (drop (p .from) input)) (is-end : end ≡ p .from + k) where
-  next : end ≡ nextEnd input (p .from) (longestAnswer cs vs) (p .filled) size
-  next =
-      is-end ∙ find-end input (p .from) (p .from + k) (ap (λ (i : ℕ). p .from + i) line-end)
-      ∙ sym (next-line input (p .from) (longestAnswer cs vs) room (p .filled) size (g .filling) is-room has-room)
+    (line-at : k ≡ indexOf lineFeed (drop (p .from) input)) (is-end : end ≡ p .from + k) where
+  next : end ≡ lineEnd input (p .from)
+  next = line-end input (p .from) k end line-at is-end
+
+  fits : leb (p .filled + longestAnswer cs vs) size ≡ true
+  fits = room-some (longestAnswer cs vs) room (p .filled) size (g .filling) is-room has-room
 
   pub going-end : end ≤ length input
-  going-end = find-within input (p .from) end (g .inside) (is-end ∙ ap (λ (i : ℕ). p .from + i) line-end) .1
+  going-end = find-within input (p .from) end (g .inside) (is-end ∙ ap (λ (i : ℕ). p .from + i) line-at) .1
+
+  -- the line's answer has room
+  pub going-room : p .filled + longestAnswer a b ≤ length (p .out)
+  going-room =
+      rw (ea, eb, g .sized) (leb-true (p .filled + longestAnswer cs vs) size fits)
 
   -- no whole line is left
   pub going-done : length input ≤ end → p ≡ ranAll cs vs p₀ (wholeLines input)
-  going-done h = sym (run-done cs vs input p end size (g .sized) next h) ∙ g .left
+  going-done h = sym (run-done cs vs input p end next h) ∙ g .left
 
   module _ (h : end < length input) where
     abbrev line : List ℕ
@@ -151,12 +140,7 @@ module _ (cs vs a b : ℕ) (ea : a ≡ cs) (eb : b ≡ vs) (input : List ℕ) (p
 
     -- the line is the first of what is left
     line-is : firstLine (drop (p .from) input) ≡ line
-    line-is = first-index (drop (p .from) input) ∙ ap (λ (i : ℕ). take i (drop (p .from) input)) (sym line-end ∙ (let q : k ≡ end - p .from = omega arith in q))
-
-    -- the line has room
-    pub going-room : p .filled + longestAnswer a b ≤ length (p .out)
-    going-room =
-        rw (ea, eb, g .sized) (leb-true (p .filled + longestAnswer cs vs) size (run-room cs vs input p end size (g .sized) next h))
+    line-is = first-index (drop (p .from) input) ∙ ap (λ (i : ℕ). take i (drop (p .from) input)) (sym line-at ∙ (let q : k ≡ end - p .from = omega arith in q))
 
     module _ (event : Event) (parsed : event ≡ eventOf (firstLine (drop (p .from) input))) (q : Progress) (n : q .number ≡ p .number + 1) (f : q .from ≡ end + 1)
         (r : EventRan a b (p .number + 1) (p .state) (q .state) event (p .filled) (q .filled) (p .out) (q .out)) where
@@ -186,5 +170,5 @@ module _ (cs vs a b : ℕ) (ea : a ≡ cs) (eb : b ≡ vs) (input : List ℕ) (p
         pool = kept;
         left = ap (λ (i : ℕ). ranAll cs vs q (wholeLines (drop i input))) f
             ∙ ap (λ (x : Progress). ranAll cs vs x (wholeLines (drop (end + 1) input))) was-run
-            ∙ sym (run-more cs vs input p end size (g .sized) next h) ∙ g .left;
+            ∙ sym (run-more cs vs input p end next (room-is cs vs p size (g .sized) ∙ fits) h) ∙ g .left;
       }

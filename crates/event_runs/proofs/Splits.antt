@@ -1,4 +1,4 @@
--- Laws of the first line of an input and those behind it. Assumes nothing.
+-- Laws of the first line of an input and those after it. Assumes nothing.
 use mathlib.Core.Path.{_≡_, refl, ap, _∙_}
 use mathlib.Core.Bool.{Bool, true, false, cond}
 use mathlib.Core.List.{List, [], _∷_}
@@ -10,7 +10,6 @@ use lib.Seq.{drop-drop}
 use Rattle.event_text.specs.Searches.{indexOf}
 use Rattle.event_answers.specs.Printed.{lineFeed}
 use Rattle.event_runs.specs.Lines.{inFirstLine, wholeLines}
-use Rattle.event_runs.specs.Ends.{lineEnd}
 
 pub first-line : (s : List ℕ) → indexOf lineFeed s < length s
     → wholeLines s ≡ take (indexOf lineFeed s) s ∷ wholeLines (drop (suc (indexOf lineFeed s)) s)
@@ -40,7 +39,15 @@ no-line (b ∷ bs) h = go (eqb b lineFeed) (no-line bs) h
 
 -- ---- the line that starts at `from`
 
+-- where it ends: at its line feed, or at the end of the input
+unfoldable pub lineEnd : List ℕ → ℕ → ℕ
+lineEnd input from = from + indexOf lineFeed (drop from input)
+
 module _ (input : List ℕ) (from : ℕ) where
+  pub line-end : (k end : ℕ) → k ≡ indexOf lineFeed (drop from input) → end ≡ from + k → end ≡ lineEnd input from
+  unfolding lineEnd
+  line-end k end e f = f ∙ ap (λ (i : ℕ). from + i) e
+
   pub line-next : lineEnd input from < length input
       → wholeLines (drop from input) ≡ take (lineEnd input from - from) (drop from input) ∷ wholeLines (drop (lineEnd input from + 1) input)
   unfolding lineEnd

@@ -5,6 +5,7 @@ use mathlib.Core.List.{List, [], _∷_, _++_, append-nil, append-assoc}
 use Prim.Native.Nat.{ℕ, zero, suc, _+_, _≤_, _<_}
 use native.Mathlib.Nat.{add-zero}
 use native.Mathlib.Omega.{arith}
+use borrow.Author.Tests.{le-leb}
 use lib.ListN.{length, take, length-append}
 use lib.Seq.{sets, take-append-add}
 use Rattle.pool_memory.proofs.Rewritten.{sets-append}
@@ -13,19 +14,19 @@ use Rattle.event_lines.specs.Grammar.{eventOf}
 use Rattle.event_answers.specs.Printed.{lineFeed, printed}
 use Rattle.event_sessions.specs.Sessions.{SessionState, HoldsPool, lineStep}
 use Rattle.event_sessions.proofs.Keeps.{step-keeps}
-use Rattle.event_runs.specs.Lines.{wholeLines, lineOutput, lineState, output, Progress, hasRoom, ran, ranAll}
+use Rattle.event_runs.specs.Lines.{wholeLines, lineOutput, lineState, output, longestAnswer, Progress, hasRoom, ran, ranAll}
 use Rattle.event_runs.specs.Texts.{lastLine, ifAny, afterLines}
 use Rattle.event_runs.proofs.LongLines.{cut-unread}
-use Rattle.event_runs.proofs.Cuts.{Unfinished, inFront, lastBehind, First, first-of, line-more, line-last}
+use Rattle.event_runs.proofs.Cuts.{Unfinished, inFront, lastAfter, First, first-of, line-more, line-last}
 
--- the front of a front with more behind it
+-- the front of a front with more after it
 pub take-cut : (k : ℕ) (x y : List ℕ) → take k (take k x ++ y) ≡ take k (x ++ y)
 take-cut zero x y = refl
 take-cut (suc k) [] y = refl
 take-cut (suc k) (b ∷ x) y = ap (λ (l : List ℕ). b ∷ l) (take-cut k x y)
 
-pub cut-last : (k : ℕ) (x : List ℕ) (ls : List (List ℕ)) (last : List ℕ) → take k (lastBehind (take k x) ls last) ≡ take k (lastBehind x ls last)
-unfolding lastBehind
+pub cut-last : (k : ℕ) (x : List ℕ) (ls : List (List ℕ)) (last : List ℕ) → take k (lastAfter (take k x) ls last) ≡ take k (lastAfter x ls last)
+unfolding lastAfter
 cut-last k x [] last = take-cut k x last
 cut-last k x (l ∷ ls) last = refl
 
@@ -35,7 +36,7 @@ cut-count k x [] = refl
 cut-count k x (l ∷ ls) = refl
 
 module _ (cs vs : ℕ) where
-  -- ---- some lines, and more behind them
+  -- ---- some lines, and more after them
 
   pub after-append : (s : SessionState) (xs ys : List (List ℕ)) → afterLines cs vs s (xs ++ ys) ≡ afterLines cs vs (afterLines cs vs s xs) ys
   unfolding afterLines
@@ -74,7 +75,7 @@ module _ (cs vs : ℕ) where
     cut-after s x [] = refl
     cut-after s x (l ∷ ls) = ap (λ (e : Event). afterLines cs vs (lineStep cs vs s e .1) ls) (same-event x l)
 
-    -- nor does the last line's rest
+    -- the same of the last line
     pub cut-any : (n : ℕ) (s : SessionState) (x : List ℕ) → output cs vs n s (ifAny (take k x)) ≡ output cs vs n s (ifAny x)
     unfolding output lineOutput lineState ifAny
     cut-any n s [] = go k
@@ -130,28 +131,28 @@ module _ (cs vs : ℕ) where
     out = refl;
   }
 
-  -- a line, and what was run behind it
-  module _ (p q : Progress) (line behind : List ℕ) (plain : Unfinished line) (r : Ran (ran cs vs p line) q behind) where
+  -- a line, and what was run after it
+  module _ (p q : Progress) (line rest : List ℕ) (plain : Unfinished line) (r : Ran (ran cs vs p line) q rest) where
     abbrev input : List ℕ
-    input = line ++ (lineFeed ∷ behind)
+    input = line ++ (lineFeed ∷ rest)
 
     abbrev used : ℕ
     used = length line + suc (r .used)
 
     abbrev front : List ℕ
-    front = line ++ (lineFeed ∷ take (r .used) behind)
+    front = line ++ (lineFeed ∷ take (r .used) rest)
 
     taken : take used input ≡ front
-    taken = take-append-add line (lineFeed ∷ behind) (suc (r .used))
+    taken = take-append-add line (lineFeed ∷ rest) (suc (r .used))
 
-    lines : wholeLines (take used input) ≡ line ∷ wholeLines (take (r .used) behind)
-    lines = ap wholeLines taken ∙ line-more line (take (r .used) behind) plain
+    lines : wholeLines (take used input) ≡ line ∷ wholeLines (take (r .used) rest)
+    lines = ap wholeLines taken ∙ line-more line (take (r .used) rest) plain
 
     ran-more : Ran p q input
     unfolding ran output afterLines
     ran-more =
         let text : List ℕ = lineOutput cs vs (p .number + 1) (p .state) line in
-        let more : List ℕ = output cs vs (p .number + 1) (lineState cs vs (p .state) line) (wholeLines (take (r .used) behind)) in
+        let more : List ℕ = output cs vs (p .number + 1) (lineState cs vs (p .state) line) (wholeLines (take (r .used) rest)) in
         let all : output cs vs (p .number) (p .state) (wholeLines (take used input)) ≡ text ++ more = ap (output cs vs (p .number) (p .state)) lines in
         let a = r .fits in
         let f = r .from in
@@ -159,8 +160,8 @@ module _ (cs vs : ℕ) where
         let g = r .filled in
         record {
           used = used;
-          fits = omega (arith, length-append line (lineFeed ∷ behind));
-          none-left = ap lastLine taken ∙ line-last line (take (r .used) behind) plain ∙ r .none-left;
+          fits = omega (arith, length-append line (lineFeed ∷ rest));
+          none-left = ap lastLine taken ∙ line-last line (take (r .used) rest) plain ∙ r .none-left;
           from = omega arith;
           state = r .state ∙ ap (afterLines cs vs (p .state)) (sym lines);
           number = omega (arith, ap length lines);
@@ -173,9 +174,23 @@ module _ (cs vs : ℕ) where
   ran-front input [] p e = ran-nothing p input
   ran-front input (line ∷ lines) p e =
       let f = first-of input line lines e in
-      go (hasRoom cs vs p) f (ran-front (f .behind) lines (ran cs vs p line) (f .others))
+      go (hasRoom cs vs p) f (ran-front (f .rest) lines (ran cs vs p line) (f .others))
     where
-      go : (t : Bool) (f : First input line lines) → Ran (ran cs vs p line) (ranAll cs vs (ran cs vs p line) lines) (f .behind)
+      go : (t : Bool) (f : First input line lines) → Ran (ran cs vs p line) (ranAll cs vs (ran cs vs p line) lines) (f .rest)
           → Ran p (cond t (ranAll cs vs (ran cs vs p line) lines) p) input
       go false f r = ran-nothing p input
-      go true f r = rw (f .bytes) (ran-more p (ranAll cs vs (ran cs vs p line) lines) line (f .behind) (f .plain) r)
+      go true f r = rw (f .bytes) (ran-more p (ranAll cs vs (ran cs vs p line) lines) line (f .rest) (f .plain) r)
+
+  -- where there was room and nothing was run, there is no whole line
+  pub ran-none : (input : List ℕ) (p q : Progress) → q ≡ ranAll cs vs p (wholeLines input) → p .filled + longestAnswer cs vs ≤ length (p .out)
+      → q .from ≡ p .from → wholeLines input ≡ []
+  unfolding ranAll ran hasRoom
+  ran-none input p q e room f = go (wholeLines input) refl (ap (λ (x : Progress). x .from) (sym e) ∙ f)
+    where
+      go : (lines : List (List ℕ)) → wholeLines input ≡ lines → ranAll cs vs p lines .from ≡ p .from → lines ≡ []
+      go [] h k = refl
+      go (line ∷ lines) h k =
+          let r = first-of input line lines h in
+          let l = ran-front (r .rest) lines (ran cs vs p line) (r .others) .from in
+          let m : ranAll cs vs (ran cs vs p line) lines .from ≡ p .from = rw (le-leb (p .filled + longestAnswer cs vs) (length (p .out)) room) at k in
+          absurd (let y : ⊥ = omega arith in y)

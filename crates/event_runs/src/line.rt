@@ -8,13 +8,13 @@ use event_lines::Event;
 use event_sessions::Session;
 use event_sessions::answer_event;
 
-// What a line left: its output ends at `filled`.
+// What a line leaves: the session, and where its output ends.
 pub struct RanLine {
     pub session: Session,
     pub filled: usize,
 }
 
-// Line `number`, which is this event. Its output is put behind the `filled` bytes of `out`.
+// Runs line `number`, which is this event. Puts its output after the `filled` bytes of `out`.
 pub fn run_line(
     event: Event,
     number: u64,

@@ -11,10 +11,10 @@ use event_lines::parse_first;
 use event_sessions::Session;
 use pool_memory::COPY_STRIDE;
 
-// The most bytes of a line of output.
-const ROW: usize = 147;
+// The most bytes of a row of output, as `mostRow` of crates/event_answers/specs/Printed.antt.
+const MOST_ROW: usize = 147;
 
-// The most entries of an answer in buffers of so many numbers.
+// Returns the most entries of an answer in buffers of `copies` and `views` numbers.
 fn most_entries(copies: usize, views: usize) -> usize
     ensures { λ r. ⌜ r ≡ max (copies / copyStride) views ⌝ }
 {
@@ -24,20 +24,21 @@ fn most_entries(copies: usize, views: usize) -> usize
     copies / COPY_STRIDE
 }
 
-// The bytes of the longest answer in buffers of so many numbers. Where an output of `size` bytes has no room for them it is `size` + 1 instead, since
-// the product could overflow.
+// Returns the bytes of the longest answer in buffers of `copies` and `views` numbers. Where an output of `size` bytes has no room for
+// them it is `size` + 1 instead, since the product could overflow.
 fn longest_answer(copies: usize, views: usize, size: usize) -> usize
     requires { ⌜ size < 2 ^ 63 ⌝ }
     ensures { λ r. ⌜ r ≡ min (longestAnswer copies views) (size + 1) ⌝ }
 {
     let most = most_entries(copies, views);
-    if size / ROW <= most {
+    if size / MOST_ROW <= most {
         return size + 1;
     }
-    (most + 1) * ROW
+    (most + 1) * MOST_ROW
 }
 
-// Runs whole lines from the front of `input` on, `number` lines having been run before. Their output is put at the front of `out`.
+// Runs the whole lines of `input`, `number` lines having been run before, and puts their output at the front of `out`. Stops where
+// `out` has no room for the longest answer, so that no line is run whose output does not fit.
 pub fn run_lines(
     input: &[u8],
     number: u64,

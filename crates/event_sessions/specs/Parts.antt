@@ -80,7 +80,7 @@ unfoldable pub sessionAfter : ℕ → VersionShape → Pool → PacingBook → E
 sessionAfter taken latest pool book e =
     record { opened = 1; taken = takenAfter 1 taken e; pool = pool; book = book; shape = shapeAfter latest e }
 
--- the answer of an event with buffers of so many numbers, and the stores at exit, are those of its step
+-- the answer of an event with buffers of `copies` and `views` numbers, and the stores at exit, are those of its step
 unfoldable pub Stepped : ℕ → ℕ → SessionState → Event → Answer → List ℕ → List ℕ → Lent → Type 0
 Stepped copies views s e a copiesExit viewsExit exit =
     InBuffers a copiesExit viewsExit × (replyTold a copiesExit viewsExit ≡ lineStep copies views s e .0) × (exit ≡ lineStep copies views s e .1 .lent)

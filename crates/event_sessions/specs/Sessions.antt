@@ -72,7 +72,7 @@ opens s working = cond (sizesFit (s .lent)) (some done, openedState s working) (
 abbrev pub ifOpened : SessionState → Option Reply × SessionState → Option Reply × SessionState
 ifOpened s r = cond (s .opened) r (notCalled s)
 
--- Answer buffers of so many numbers for copies and for views. What they hold before a call does not show in its reply (law `any-buffer`),
+-- `copies` and `views` are the lengths of the two answer buffers. What they hold before a call does not show in its reply (law `any-buffer`),
 -- so they are all 0 here.
 unfoldable pub lineStep : ℕ → ℕ → SessionState → Event → Option Reply × SessionState
 lineStep copies views s (Event.Open working) = cond (s .opened) (notCalled s) (opens s working)

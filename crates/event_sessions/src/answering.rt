@@ -10,7 +10,7 @@ use crate::session::Session;
 use crate::session::session_after;
 use event_lines::Event;
 
-// The session after the event comes with the answer; everything else is in the slices.
+// Answers a line's event. The session after it comes with the answer; everything else is in the slices.
 pub fn answer_event(
     session: Session,
     textures: &mut [u64],

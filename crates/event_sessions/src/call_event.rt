@@ -24,7 +24,7 @@ use grid_shapes::VersionShape;
 use pool_memory::PacingBook;
 use pool_memory::Pool;
 
-// A plan goes by the shape of the latest take line: without one it is no call. Nor is a second `open`.
+// Makes the event's call. A plan goes by the shape of the latest take line: without one it is no call. Nor is a second `open`.
 pub fn call_event(
     pool: Pool,
     book: PacingBook,

@@ -9,7 +9,7 @@ use crate::session::Session;
 use event_answers::Answer;
 use event_lines::Event;
 
-// Lent memory that is too small or too large for a pool is refused with 1.
+// Opens the pool. Lent memory that is too small or too large for one is refused with 1.
 fn open_session(
     session: Session,
     textures: &[u64],
@@ -26,7 +26,7 @@ fn open_session(
         (opens (stateOf session (now (textures .entry)) (now (retiring .entry)) (now (doomed .entry)) (now (spares .entry)) (now (newest .entry))
         (now (stamps .entry))) working) ⌝ }
 {
-    let said = pool::open(working, textures, retiring, doomed, spares, newest, stamps);
+    let said = pool_open::open(working, textures, retiring, doomed, spares, newest, stamps);
     if said.outcome != 0 {
         return Answered {
             session,
@@ -48,7 +48,7 @@ fn open_session(
     }
 }
 
-// No call is made before the pool is opened.
+// Answers an event before the pool is opened: `open` opens it, and no other makes a call.
 pub fn answer_unopened(
     session: Session,
     textures: &[u64],

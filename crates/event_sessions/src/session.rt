@@ -6,7 +6,7 @@ use grid_shapes::VersionShape;
 use pool_memory::PacingBook;
 use pool_memory::Pool;
 
-// The pool and its pacing book count once it is opened; everything else of the pool is in the lent slices. The shape is that of the
+// Holds what a line needs of those before it. The pool and its pacing book count once it is opened; everything else of the pool is in the lent slices. The shape is that of the
 // latest take line, if one was taken since. `opened` and `taken` are 1 or 0: a bool leaves padding that slows copies.
 pub struct Session {
     pub opened: u64,
@@ -16,7 +16,7 @@ pub struct Session {
     pub shape: VersionShape,
 }
 
-// An opened session after an event, with the pool and the book that its call left. A take line's shape is noted, whatever the call
+// Returns the opened session after an event, with the pool and the book that its call left. A take line's shape is noted, whatever the call
 // says.
 pub fn session_after(
     taken: u64,

@@ -1,1 +1,4 @@
+pub mod Reasons
 pub mod Sofar
+pub mod Loop
+pub mod Lengths

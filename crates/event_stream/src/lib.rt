@@ -1,7 +1,11 @@
 // The lines of standard input run on the pool, to standard output, on stores of any size: what the event programs do.
-mod input;
-mod stopped;
-mod stream;
+mod calls;
+mod read_more;
 
-pub use stopped::Stopped;
-pub use stream::run_all;
+pub use calls::reason::GOING;
+pub use calls::reason::is_full;
+pub use calls::reason::reason;
+pub use calls::run_all::Stopped;
+pub use calls::run_all::run_all;
+pub use calls::write_out::Wrote;
+pub use calls::write_out::write_out;

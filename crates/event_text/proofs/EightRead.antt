@@ -55,7 +55,7 @@ eight-packed s at h =
 
 -- ---- the digits in front
 
--- what stands behind them
+-- what stands after them
 unfoldable behindDigits : List ℕ → List ℕ
 behindDigits [] = []
 behindDigits (b ∷ bs) = cond (isDigit b) (behindDigits bs) (b ∷ bs)

@@ -59,7 +59,7 @@ eight-is a b ha hb =
     let s : w * 10000 + w / 2 ^ 32 ≡ b * 10000 * 2 ^ 32 + (a * 10000 + b) = omega (arith, e, q) in
     and-mask (w * 10000 + w / 2 ^ 32) 32 ∙ ap (λ (x : ℕ). x % 2 ^ 32) s ∙ low (b * 10000) 32 (omega arith)
 
--- what twos and fours make is what digit behind digit makes
+-- what twos and fours make is what digit after digit makes
 digit-by-digit : (a b c d e f g h : ℕ)
     → ((a * 10 + b) * 100 + (c * 10 + d)) * 10000 + ((e * 10 + f) * 100 + (g * 10 + h))
     ≡ (((((((0 * 10 + a) * 10 + b) * 10 + c) * 10 + d) * 10 + e) * 10 + f) * 10 + g) * 10 + h
@@ -102,7 +102,7 @@ eight-are l e =
     ∙ step 0 1 refl (omega arith) (step 1 2 refl (omega arith) (step 2 3 refl (omega arith) (step 3 4 refl (omega arith)
     (step 4 5 refl (omega arith) (step 5 6 refl (omega arith) (step 6 7 refl (omega arith) (step 7 8 refl (omega arith) (from-none 8 l (omega arith)))))))))
   where
-    -- the one at i, and those behind it
+    -- the one at i, and those after it
     step : (i j : ℕ) {t : List ℕ} → i + 1 ≡ j → i < 8 → from j l ≡ t → from i l ≡ getD l i 0 ∷ t
     step i j p h q = from-step i j l p (omega arith) ∙ ap (λ (s : List ℕ). getD l i 0 ∷ s) q
 

@@ -9,19 +9,28 @@ use lib.Dec.{eqb}
 use lib.ListN.{length, drop, getD}
 use Rattle.base_blocks.proofs.Lists.{and-both}
 use Rattle.base_blocks.proofs.Scans.{from, from-step, from-none}
-use Rattle.event_text.specs.Fields.{comma, inFirst, fieldsOf, firstField, behind, same}
+use Rattle.event_text.specs.Fields.{comma, inFirst, fieldsOf, firstField, fieldsAfter, same}
 
--- ---- the first field and those behind it
+-- ---- the first field and those after it
 
-pub fields-first : (s : List ℕ) → fieldsOf s ≡ firstField s ∷ behind (drop (length (firstField s)) s)
-unfolding fieldsOf firstField behind inFirst
+pub fields-first : (s : List ℕ) → fieldsOf s ≡ firstField s ∷ fieldsAfter (drop (length (firstField s)) s)
+unfolding fieldsOf firstField fieldsAfter inFirst
 fields-first [] = refl
 fields-first (b ∷ bs) = go (eqb b comma) (fields-first bs)
   where
-    go : (t : Bool) → fieldsOf bs ≡ firstField bs ∷ behind (drop (length (firstField bs)) bs)
-        → cond t ([] ∷ fieldsOf bs) (inFirst b (fieldsOf bs)) ≡ cond t [] (b ∷ firstField bs) ∷ behind (drop (length (cond t [] (b ∷ firstField bs))) (b ∷ bs))
+    go : (t : Bool) → fieldsOf bs ≡ firstField bs ∷ fieldsAfter (drop (length (firstField bs)) bs)
+        → cond t ([] ∷ fieldsOf bs) (inFirst b (fieldsOf bs)) ≡ cond t [] (b ∷ firstField bs) ∷ fieldsAfter (drop (length (cond t [] (b ∷ firstField bs))) (b ∷ bs))
     go true e = refl
     go false e = ap (inFirst b) e
+
+pub first-within : (s : List ℕ) → length (firstField s) ≤ length s
+unfolding firstField
+first-within [] = omega arith
+first-within (b ∷ bs) = go (eqb b comma) (first-within bs)
+  where
+    go : (t : Bool) → length (firstField bs) ≤ length bs → length (cond t [] (b ∷ firstField bs)) ≤ suc (length bs)
+    go true h = omega arith
+    go false h = omega arith
 
 -- ---- words
 

@@ -33,7 +33,7 @@ packed-below k f [] p = pow-pos (0 * k)
 packed-below k f (x ∷ xs) p =
     subst (λ (m : ℕ). packed k (map f xs) * 2 ^ k + f x < m) (higher (length xs) k) (digits-lt (packed-below k f xs (p .1)) (p .0))
 
--- those behind xs stand above them
+-- those after xs stand above them
 pub packed-append : (k : ℕ) (xs ys : List ℕ) → packed k (xs ++ ys) ≡ packed k ys * 2 ^ (length xs * k) + packed k xs
 unfolding packed
 packed-append k [] ys = rw (zero-mul k, mul-one (packed k ys), add-zero (packed k ys))

@@ -21,7 +21,7 @@ unfoldable pub until : (ℕ → Bool) → List ℕ → List ℕ
 until p [] = []
 until p (b ∷ bs) = cond (p b) [] (b ∷ until p bs)
 
--- what stands behind the digits that s starts with: a comma where nothing does
+-- what stands after the digits that s starts with: a comma where nothing does
 abbrev pub next : List ℕ → ℕ
 next s = getD s (length (leadingDigits s)) 44
 
@@ -93,7 +93,7 @@ module _ (text : List ℕ) (at : ℕ) where
       go true r = absurd (let z : _≡_ {A = ℕ} 0 1 = cc in let y : ⊥ = omega arith in y)
       go false r = refl
 
--- what stands behind them
+-- what stands after them
 pub next-at : (text : List ℕ) (at v end : ℕ) → AreDigits text at v end → next (drop at text) ≡ getD text end 44
 next-at text at v end d =
     getD-drop at text (length (leadingDigits (drop at text))) 44 ∙ ap (λ (k : ℕ). getD text k 44) (d .ends)

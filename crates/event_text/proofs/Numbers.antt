@@ -7,10 +7,11 @@ use native.Mathlib.Nat.{add-zero, pow-suc, one-le-pow, pow-le-pow-right}
 use native.Mathlib.Omega.{arith}
 use borrow.Author.Tests.{eq-eqb, ne-eqb, eqb-true, eqb-false, le-leb, lt-leb, leb-true, lt-ltb, ltb-true, ltb-false}
 use lib.Dec.{eqb, leb, ltb}
-use lib.ListN.{length, drop, getD}
+use lib.ListN.{length, drop, getD, length-drop}
 use Rattle.base_blocks.specs.Lists.{all, tests, after}
 use Rattle.base_blocks.proofs.Lists.{passed, not-passed}
 use Rattle.base_blocks.proofs.Scans.{from, from-step, from-none}
+use Rattle.event_text.proofs.Fields.{first-within}
 use Rattle.event_text.specs.declared.number.Number.{Number}
 use Rattle.event_text.specs.declared.number.Number.the-variants.{Is, NoNumber}
 use Rattle.event_text.specs.declared.number.NumberAt.{NumberAt}
@@ -129,7 +130,7 @@ module _ (text : List ℕ) (v at i b : ℕ) (inside : i < length text) (here : b
   pub read-stop : ltb b 48 || ltb 57 b ≡ true → readOn v at i (leadingDigits (from i text)) ≡ readOn v at i []
   read-stop e = ap (readOn v at i) (step ∙ ap (λ (t : Bool). cond t (b ∷ leadingDigits (from (i + 1) text)) []) (digit-not b e))
 
-  -- behind twenty
+  -- after twenty
   pub read-past : at + 20 ≤ i → ltb b 48 || ltb 57 b ≡ false → readOn v at i (leadingDigits (from i text)) ≡ Malformed
   read-past h e =
       ap (readOn v at i) (step ∙ ap (λ (t : Bool). cond t (b ∷ leadingDigits (from (i + 1) text)) []) (digit-is b e))
@@ -236,3 +237,14 @@ number-whole s = go (eqb (length (firstField s)) (length s)) refl
     go false q =
         let h = eqb-false (length (firstField s)) (length s) q in
         whole-not s h ∙ sym (parted-none s (parted s h))
+
+-- a field that is a number ends within the line
+pub number-within : (line : List ℕ) (at v e : ℕ) → at ≤ length line → Ends v e ≡ numberAt line at → (at ≤ e) × (e ≤ length line)
+unfolding numberAt fieldEnd
+number-within line at v e h q = go (isNumber (firstField (drop at line))) q
+  where
+    go : (t : Bool) → Ends v e ≡ cond t (Ends (decimal (firstField (drop at line))) (at + length (firstField (drop at line)))) Malformed → (at ≤ e) × (e ≤ length line)
+    go true p =
+        let k : e ≡ at + length (firstField (drop at line)) = cc in
+        (omega arith, omega (arith, first-within (drop at line), length-drop at line))
+    go false p = absurd (let z : _≡_ {A = ℕ} 0 1 = cc in let y : ⊥ = omega arith in y)

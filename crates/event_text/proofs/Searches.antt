@@ -41,6 +41,19 @@ module _ (b i : ℕ) (s : List ℕ) where
   unfolding foundFrom
   found-after = omega arith
 
+-- it lies within the list
+index-within : (b : ℕ) (s : List ℕ) → indexOf b s ≤ length s
+unfolding indexOf
+index-within b [] = omega arith
+index-within b (x ∷ xs) = go (eqb x b) (index-within b xs)
+  where
+    go : (t : Bool) → indexOf b xs ≤ length xs → cond t 0 (suc (indexOf b xs)) ≤ suc (length xs)
+    go true h = omega arith
+    go false h = omega arith
+
+pub found-within : (b : ℕ) (s : List ℕ) (from r : ℕ) → from ≤ length s → r ≡ from + indexOf b (drop from s) → (from ≤ r) × (r ≤ length s)
+found-within b s from r h e = let w = index-within b (drop from s) in (omega arith, omega (arith, length-drop from s))
+
 -- ---- eight at once
 
 -- none of the first k

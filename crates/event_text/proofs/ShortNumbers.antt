@@ -22,7 +22,7 @@ digits-more : (k n : ℕ) → 10 ≤ n → digits (suc k) n ≡ digits k (n / 10
 unfolding digits
 digits-more k n h = rw (le-ltb n 10 h)
 
--- d behind some digits
+-- d after some digits
 abbrev then : ℕ → List ℕ → List ℕ
 then d l = l ++ (d ∷ [])
 
@@ -40,7 +40,7 @@ of-three n h k =
     digits-more 19 n (omega arith)
     ∙ ap (then (48 + n % 10)) (digits-more 18 (n / 10) (omega arith) ∙ ap (then (48 + n / 10 % 10)) (digits-one 17 (n / 10 / 10) (omega arith)))
 
--- the last four, behind those of what is left
+-- the last four, after those of what is left
 last-four : (k n : ℕ) → 1000 ≤ n
     → digits (suc (suc (suc k))) n ≡ digits k (n / 10 / 10 / 10) ++ ((48 + n / 10 / 10 % 10) ∷ (48 + n / 10 % 10) ∷ (48 + n % 10) ∷ [])
 last-four k n h =
@@ -71,7 +71,7 @@ enough (suc k) (suc j) n h q =
     go true e = refl
     go false e = ap (then (48 + n % 10)) e
 
--- ---- the last digits, behind those of what is left
+-- ---- the last digits, after those of what is left
 
 unfoldable more : ℕ → ℕ → ℕ
 more zero k = k
@@ -183,7 +183,7 @@ module _ (l : List ℕ) (at : ℕ) where
       let e : at + 3 ≡ suc (suc (suc at)) = omega arith in
       ap₂ (λ (s : List ℕ) (i : ℕ). set s i d) (stored-three a b c) e
 
-  -- a store behind another
+  -- a store after another
   pub sets-append : (xs ys : List ℕ) → sets (sets l at xs) (at + length xs) ys ≡ sets l at (xs ++ ys)
   sets-append xs ys = behind-sets xs ys l at
     where

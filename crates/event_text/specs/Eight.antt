@@ -21,7 +21,7 @@ packed k (b ∷ bs) = packed k bs * 2 ^ k + b
 unfoldable pub marksOf : ℕ → ℕ
 marksOf w = bitAnd (bitOr (bitAnd w 9187201950435737471 + 8536140394893047414) w) 9259542123273814144
 
--- every second byte behind ten times the one before it; of the sums, every second, behind a hundred times the one before; and once more
+-- every second byte: ten times itself, and the byte after it; of these, every second: a hundred times itself, and the one after it; and once more
 unfoldable pub twosOf : ℕ → ℕ
 twosOf w = bitAnd (w * 10 + w / 2 ^ 8) 71777214294589695
 

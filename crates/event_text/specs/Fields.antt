@@ -14,7 +14,7 @@ unfoldable pub inFirst : ℕ → List (List ℕ) → List (List ℕ)
 inFirst b [] = (b ∷ []) ∷ []
 inFirst b (f ∷ fs) = (b ∷ f) ∷ fs
 
--- the parts between commas: one where there is no comma, and an empty last one behind a comma that ends the line
+-- the parts between commas: one where there is no comma, and an empty last one after a comma that ends the line
 unfoldable pub fieldsOf : List ℕ → List (List ℕ)
 unfolding inFirst
 fieldsOf [] = [] ∷ []
@@ -34,10 +34,10 @@ firstLine (b ∷ bs) = cond (eqb b 10) [] (b ∷ firstLine bs)
 unfoldable pub fieldEnd : List ℕ → ℕ → ℕ
 fieldEnd line at = at + length (firstField (drop at line))
 
--- the fields behind one that ended: none at the end of the line, otherwise those behind its comma
-unfoldable pub behind : List ℕ → List (List ℕ)
-behind [] = []
-behind (b ∷ bs) = fieldsOf bs
+-- the fields after one that ended: none at the end of the line, otherwise those after its comma
+unfoldable pub fieldsAfter : List ℕ → List (List ℕ)
+fieldsAfter [] = []
+fieldsAfter (b ∷ bs) = fieldsOf bs
 
 -- the same bytes
 unfoldable pub same : List ℕ → List ℕ → Bool

@@ -53,13 +53,13 @@ readTests v n f = all isDigit f ∷ leb 1 (n + length f) ∷ leb (n + length f) 
 unfoldable pub readOn : ℕ → ℕ → ℕ → List ℕ → NumberAt
 readOn v at i f = cond (tests (readTests v (i - at) f)) (Ends (value v f) (i + length f)) Malformed
 
--- the digits from `at` to `end` are v: what is read from `end` on, as digits behind them, is what is read from `at` on
+-- the digits from `at` to `end` are v: what is read from `end` on, as digits after them, is what is read from `at` on
 unfoldable pub StartsDigits : List ℕ → ℕ → ℕ → ℕ → Type 0
 StartsDigits text at v end =
     (at ≤ end) × (end ≤ length text) × (end ≤ at + 19) × (v < 10 ^ (end - at))
     × (readOn v at end (leadingDigits (drop end text)) ≡ digitsAt text at)
 
--- the digits of a number, at most k: its last digit behind those of what is left without it
+-- the digits of a number, at most k: its last digit after those of what is left without it
 unfoldable pub digits : ℕ → ℕ → List ℕ
 digits zero n = []
 digits (suc k) n = cond (ltb n 10) ((48 + n) ∷ []) (digits k (n / 10) ++ ((48 + n % 10) ∷ []))

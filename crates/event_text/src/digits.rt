@@ -12,7 +12,7 @@ const LOW_OF_PAIRS: u64 = 983055;
 // "0" in each of four bytes.
 const ZEROS: u64 = 808464432;
 
-// The byte of a digit.
+// Returns the byte of a digit.
 fn digit(n: u64) -> u8
     requires { ⌜ n < 10 ⌝ }
     ensures { λ r. ⌜ r ≡ 48 + n ⌝ }
@@ -20,7 +20,8 @@ fn digit(n: u64) -> u8
     b'0' + n as u8
 }
 
-// Four digits, a byte each, the first as the lowest. Both hundreds are cut into digits at once: 103 / 1024 is a tenth, near enough below 100.
+// Returns the four digits of a number below 10,000 as one number, a byte each, the first as the lowest. Both
+// hundreds are cut into digits at once: 103 / 1024 is a tenth, near enough below 100.
 fn four_digits(n: u64) -> u64
     requires { ⌜ n < 10000 ⌝ }
     ensures { λ r. ⌜ r ≡ packed 8 (lastDigits 4 n) ⌝ }
@@ -31,7 +32,7 @@ fn four_digits(n: u64) -> u64
     tens + (pairs - tens * 10) * 256 + ZEROS
 }
 
-// The four digits of a number below 10,000, which the compiler can store at once.
+// Puts the four digits of a number below 10,000, which the compiler can store at once.
 fn put_four(out: &mut [u8], at: usize, n: u64)
     requires { ⌜ (n < 10000) × (at + 4 ≤ length (now out)) ⌝ }
     ensures { λ _. ⌜ now (out .exit) ≡ sets (now (out .entry)) at (lastDigits 4 n) ⌝ }
@@ -43,7 +44,7 @@ fn put_four(out: &mut [u8], at: usize, n: u64)
     out[at + 3] = (word / 16777216 % 256) as u8;
 }
 
-// The digits of a number below 10,000. Answers where they end.
+// Puts the digits of a number below 10,000, and returns where they end. Most numbers of an answer are this short, so each length has its own stores.
 fn put_small(out: &mut [u8], at: usize, n: u64) -> usize
     requires { ⌜ (n < 10000) × (at + 4 ≤ length (now out)) ⌝ }
     ensures { λ r. ⌜ (r ≡ at + length (digitsOf n)) × (now (out .exit) ≡ sets (now (out .entry)) at (digitsOf n)) ⌝ }
@@ -68,7 +69,7 @@ fn put_small(out: &mut [u8], at: usize, n: u64) -> usize
     at + 4
 }
 
-// The eight digits of a number below 100,000,000.
+// Puts the eight digits of a number below 100,000,000, zeros in front where there are fewer.
 fn put_eight(out: &mut [u8], at: usize, n: u64)
     requires { ⌜ (n < 100000000) × (at + 8 ≤ length (now out)) ⌝ }
     ensures { λ _. ⌜ now (out .exit) ≡ sets (now (out .entry)) at (lastDigits 8 n) ⌝ }
@@ -77,7 +78,7 @@ fn put_eight(out: &mut [u8], at: usize, n: u64)
     put_four(out, at + 4, n % 10000);
 }
 
-// The digits of a number below 100,000,000. Answers where they end.
+// Puts the digits of a number below 100,000,000, and returns where they end.
 fn put_short(out: &mut [u8], at: usize, n: u64) -> usize
     requires { ⌜ (n < 100000000) × (at + 8 ≤ length (now out)) ⌝ }
     ensures { λ r. ⌜ (r ≡ at + length (digitsOf n)) × (now (out .exit) ≡ sets (now (out .entry)) at (digitsOf n)) ⌝ }
@@ -90,7 +91,7 @@ fn put_short(out: &mut [u8], at: usize, n: u64) -> usize
     end + 4
 }
 
-// The digits of a number from 100,000,000 on, eight at a time. Answers where they end.
+// Puts the digits of a number from 100,000,000 on, eight at a time, and returns where they end.
 fn put_large(out: &mut [u8], at: usize, n: u64) -> usize
     requires { ⌜ (100000000 ≤ n) × (at + 20 ≤ length (now out)) ⌝ }
     ensures { λ r. ⌜ (r ≡ at + length (digitsOf n)) × (now (out .exit) ≡ sets (now (out .entry)) at (digitsOf n)) ⌝ }
@@ -107,7 +108,7 @@ fn put_large(out: &mut [u8], at: usize, n: u64) -> usize
     end + 16
 }
 
-// A number's digits put from `at` on. Answers where they end.
+// Puts a number's digits from `at` on, and returns where they end.
 pub fn put_number(out: &mut [u8], at: usize, n: u64) -> usize
     requires { ⌜ at + 20 ≤ length (now out) ⌝ }
     ensures { λ r. ⌜ (r ≡ at + length (digitsOf n)) × (now (out .exit) ≡ sets (now (out .entry)) at (digitsOf n)) ⌝ }
@@ -123,7 +124,7 @@ pub fn put_number(out: &mut [u8], at: usize, n: u64) -> usize
     put_large(out, at, n)
 }
 
-// Text put from `at` on. Answers where it ends.
+// Puts text from `at` on, and returns where it ends.
 pub fn put_text(out: &mut [u8], at: usize, text: &[u8]) -> usize
     requires { ⌜ at + length (now text) ≤ length (now out) ⌝ }
     ensures { λ r. ⌜ (r ≡ at + length (now (text .entry))) × (now (out .exit) ≡ sets (now (out .entry)) at (now (text .entry))) ⌝ }

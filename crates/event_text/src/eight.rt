@@ -28,14 +28,15 @@ pub struct EightDigits {
     pub value: u64,
 }
 
-fn wide(byte: u8) -> u64
+// Returns a byte as a number of 64 bits.
+pub fn wide(byte: u8) -> u64
     ensures { λ r. ⌜ r ≡ byte ⌝ }
 {
     byte as u64
 }
 
-// The four bytes from `at` on as one number, the first as the lowest.
-fn four_bytes(text: &[u8], at: usize) -> u64
+// Returns the four bytes from `at` on as one number, the first as the lowest. The compiler can load them at once.
+pub fn four_bytes(text: &[u8], at: usize) -> u64
     requires { ⌜ at + 4 ≤ length (now text) ⌝ }
     ensures { λ r. ⌜ r ≡ packed 8 (take 4 (drop at (now (text .entry)))) ⌝ }
 {
@@ -45,7 +46,7 @@ fn four_bytes(text: &[u8], at: usize) -> u64
         + wide(text[at + 3]) * 16777216
 }
 
-// The eight bytes from `at` on as one number, which the compiler can load at once.
+// Returns the eight bytes from `at` on as one number, which the compiler can load at once.
 fn eight_bytes(text: &[u8], at: usize) -> u64
     requires { ⌜ at + 8 ≤ length (now text) ⌝ }
     ensures { λ r. ⌜ r ≡ packed 8 (take 8 (drop at (now (text .entry)))) ⌝ }
@@ -53,14 +54,14 @@ fn eight_bytes(text: &[u8], at: usize) -> u64
     four_bytes(text, at) + four_bytes(text, at + 4) * 4294967296
 }
 
-// 128 in each byte that is above 9, and 0 in the others.
+// Returns 128 in each byte that is above 9, and 0 in the others.
 fn marks(word: u64) -> u64
     ensures { λ r. ⌜ r ≡ marksOf word ⌝ }
 {
     (((word & LOW) + PAST_NINE) | word) & TOP
 }
 
-// The number of eight digits, one in each byte: first of every two, then of every four, then of all.
+// Returns the number of eight digits, one in each byte: first of every two, then of every four, then of all.
 fn eight_value(word: u64) -> u64
     requires { ⌜ word ≤ 651061555542690057 ⌝ }
     ensures { λ r. ⌜ r ≡ valueOf word ⌝ }
@@ -70,7 +71,7 @@ fn eight_value(word: u64) -> u64
     (fours * 10000 + (fours >> 32)) & FIRST_OF_EIGHT
 }
 
-// The digits that the eight bytes from `at` on start with.
+// Returns the digits that the eight bytes from `at` on start with.
 pub fn eight_digits(text: &[u8], at: usize) -> EightDigits
     requires { ⌜ at + 8 ≤ length (now text) ⌝ }
     ensures { λ r. ⌜ r ≡ eightDigits (now (text .entry)) at ⌝ }

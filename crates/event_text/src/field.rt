@@ -3,7 +3,7 @@ ghost use mathlib.Core.Path.{_≡_};
 ghost use lib.ListN.{length};
 ghost use Rattle.event_text.specs.Fields.{firstField, firstLine, same};
 
-// Where the first field of a text's first line ends: at a comma, a line feed, or the end of the text.
+// Returns where the first field of a text's first line ends: at a comma, a line feed, or the end of the text.
 pub fn first_end(text: &[u8]) -> usize
     ensures { λ r. ⌜ r ≡ length (firstField (firstLine (now (text .entry)))) ⌝ }
 {
@@ -18,7 +18,7 @@ pub fn first_end(text: &[u8]) -> usize
     i
 }
 
-// Whether a field is this word.
+// Returns whether a field is this word.
 pub fn is_word(field: &[u8], word: &[u8]) -> bool
     ensures { λ r. ⌜ r ≡ same (now (field .entry)) (now (word .entry)) ⌝ }
 {

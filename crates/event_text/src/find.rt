@@ -1,10 +1,10 @@
-// A byte looked for, eight bytes a turn: no branch for each of them, so that the compiler can compare all at once.
+// Looks for a byte, eight bytes a turn: there is no branch for each of them, so that the compiler can compare all at once.
 ghost use mathlib.Core.Path.{_≡_};
 ghost use Prim.Native.Nat.{_+_, _≤_, _<_};
 ghost use lib.ListN.{length, drop};
 ghost use Rattle.event_text.specs.Searches.{among, indexOf};
 
-// One of the eight bytes from i on is b.
+// Returns whether one of the eight bytes from i on is b.
 fn eight_have(s: &[u8], i: usize, b: u8) -> bool
     requires { ⌜ i + 8 ≤ length (now s) ⌝ }
     ensures { λ r. ⌜ r ≡ among 8 b (drop i (now (s .entry))) ⌝ }
@@ -19,7 +19,7 @@ fn eight_have(s: &[u8], i: usize, b: u8) -> bool
         | (s[i + 7] == b)
 }
 
-// Where the first b from `from` on is, where there is one.
+// Returns where the first b from `from` on is, where there is one.
 fn find_known(s: &[u8], from: usize, b: u8) -> usize
     requires { ⌜ from + indexOf b (drop from (now s)) < length (now s) ⌝ }
     ensures { λ r. ⌜ r ≡ from + indexOf b (drop from (now (s .entry))) ⌝ }
@@ -31,7 +31,7 @@ fn find_known(s: &[u8], from: usize, b: u8) -> usize
     i
 }
 
-// Where the first b from `from` on is, or the length where there is none.
+// Returns where the first b from `from` on is, or the length where there is none.
 pub fn find_byte(s: &[u8], from: usize, b: u8) -> usize
     requires { ⌜ from ≤ length (now s) ⌝ }
     ensures { λ r. ⌜ r ≡ from + indexOf b (drop from (now (s .entry))) ⌝ }

@@ -7,6 +7,7 @@ mod number;
 
 pub use digits::put_number;
 pub use digits::put_text;
+pub use eight::four_bytes;
 pub use field::first_end;
 pub use field::is_word;
 pub use find::find_byte;

@@ -5,6 +5,7 @@ ghost use Prim.Native.Nat.{_+_, _-_, _^_, _≤_, _<_};
 ghost use lib.ListN.{length, drop};
 ghost use Rattle.event_text.specs.Numbers.{readOn, leadingDigits, digitsAt, numberOf, numberAt, StartsDigits};
 use crate::eight::eight_digits;
+use crate::eight::wide;
 
 // The bytes of the first digit and the last.
 const ZERO: u64 = 48;
@@ -31,13 +32,7 @@ struct Start {
     end: usize,
 }
 
-fn wide(byte: u8) -> u64
-    ensures { λ r. ⌜ r ≡ byte ⌝ }
-{
-    byte as u64
-}
-
-// Digits that stand from `at` to `end` and are this number, if there is one.
+// Returns the number `value` of the digits from `at` to `end`; with no digit there is no number.
 fn ended(value: u64, at: usize, end: usize) -> NumberAt
     requires { ⌜ (at ≤ end) × (end ≤ at + 19) × (value < 2 ^ 64) ⌝ }
     ensures { λ r. ⌜ r ≡ readOn value at end [] ⌝ }
@@ -48,7 +43,7 @@ fn ended(value: u64, at: usize, end: usize) -> NumberAt
     NumberAt::Malformed
 }
 
-// Behind nineteen digits there may be a twentieth, with which the number may be too large.
+// Reads on after nineteen digits: there may be a twentieth, with which the number may be too large.
 fn last_digit(text: &[u8], value: u64, i: usize) -> NumberAt
     requires { ⌜ (19 ≤ i) × (i < length (now text)) × (value < 2 ^ 64) ⌝ }
     ensures { λ r. ⌜ r ≡ readOn value (i - 19) i (leadingDigits (drop i (now (text .entry)))) ⌝ }
@@ -76,7 +71,7 @@ fn last_digit(text: &[u8], value: u64, i: usize) -> NumberAt
     NumberAt::Malformed
 }
 
-// Where the first nineteen bytes from `at` on end, or the text.
+// Returns where the first nineteen bytes from `at` on end, or the text.
 fn nineteen(size: usize, at: usize) -> usize
     requires { ⌜ at ≤ size ⌝ }
     ensures { λ r. ⌜ (at ≤ r) × (r ≤ size) × (r ≤ at + 19) × (r < size → r ≡ at + 19) ⌝ }
@@ -87,7 +82,8 @@ fn nineteen(size: usize, at: usize) -> usize
     size
 }
 
-// The number that the digits from `at` on are, of which those before `from` are `start`. Nineteen of them are never too large, so they need no other test.
+// Returns the number that the digits from `at` on are, of which those before `from` are `start`. Nineteen of
+// them are never too large, so they need no other test.
 fn rest_digits(text: &[u8], at: usize, from: usize, start: u64) -> NumberAt
     requires { ⌜ (at ≤ from) × (from ≤ length (now text)) × (from ≤ at + 19) × (start < 10 ^ (from - at)) ⌝ }
     ensures { λ r. ⌜ r ≡ readOn start at from (leadingDigits (drop from (now (text .entry)))) ⌝ }
@@ -109,7 +105,7 @@ fn rest_digits(text: &[u8], at: usize, from: usize, start: u64) -> NumberAt
     last_digit(text, value, i)
 }
 
-// The number that the first sixteen digits from `at` on are, and where they end; 0 and `at` where there are fewer.
+// Returns the number that the first sixteen digits from `at` on are, and where they end; 0 and `at` where there are fewer.
 fn sixteen_digits(text: &[u8], at: usize) -> Start
     requires { ⌜ at ≤ length (now text) ⌝ }
     ensures { λ r. ⌜ StartsDigits (now (text .entry)) at (r .value) (r .end) ⌝ }
@@ -127,7 +123,7 @@ fn sixteen_digits(text: &[u8], at: usize) -> Start
     Start { value: 0, end: at }
 }
 
-// The number that the digits from `at` on are. The first sixteen of many are read at once.
+// Returns the number that the digits from `at` on are. The first sixteen of many are read at once.
 fn many_digits(text: &[u8], at: usize) -> NumberAt
     requires { ⌜ at ≤ length (now text) ⌝ }
     ensures { λ r. ⌜ r ≡ digitsAt (now (text .entry)) at ⌝ }
@@ -136,7 +132,7 @@ fn many_digits(text: &[u8], at: usize) -> NumberAt
     rest_digits(text, at, start.end, start.value)
 }
 
-// The same. Most numbers have one digit, so a second one is looked for first; up to seven are read at once.
+// Returns the number that the digits from `at` on are. Most numbers have one digit, so a second one is looked for first; up to seven are read at once.
 pub fn digits_at(text: &[u8], at: usize) -> NumberAt
     requires { ⌜ at ≤ length (now text) ⌝ }
     ensures { λ r. ⌜ r ≡ digitsAt (now (text .entry)) at ⌝ }
@@ -160,7 +156,7 @@ pub fn digits_at(text: &[u8], at: usize) -> NumberAt
     many_digits(text, at)
 }
 
-// The number that the field from `at` on is.
+// Returns the number that the field from `at` on is.
 pub fn number_at(line: &[u8], at: usize) -> NumberAt
     requires { ⌜ at ≤ length (now line) ⌝ }
     ensures { λ r. ⌜ r ≡ numberAt (now (line .entry)) at ⌝ }
@@ -177,7 +173,7 @@ pub fn number_at(line: &[u8], at: usize) -> NumberAt
     NumberAt::Malformed
 }
 
-// The number that all of s is.
+// Returns the number that all of s is.
 pub fn number_of(s: &[u8]) -> Number
     ensures { λ r. ⌜ r ≡ numberOf (now (s .entry)) ⌝ }
 {

@@ -26,7 +26,7 @@ pub enum Touched {
     NoTiles,
 }
 
-// Side of a tile along an axis of `extent` texels, in a format of `block`-texel blocks.
+// Returns the side of a tile along an axis of `extent` texels, in a format of `block`-texel blocks.
 pub fn tile_edge(extent: u64, block: u64) -> u64
     requires { ⌜ (extent ≤ 16384) × (0 < block) × (block ≤ 16) ⌝ }
     ensures { λ r. ⌜ r ≡ tileEdge extent block ⌝ }
@@ -35,6 +35,7 @@ pub fn tile_edge(extent: u64, block: u64) -> u64
     (least + (block - 1)) / block * block
 }
 
+// Returns the axis of a level of `extent` texels, in a format of `block`-texel blocks.
 pub fn axis_of(extent: u64, block: u64) -> Axis
     requires { ⌜ (extent ≤ 16384) × (0 < block) × (block ≤ 16) ⌝ }
     ensures { λ r. ⌜ r ≡ axisOf extent block ⌝ }
@@ -45,7 +46,7 @@ pub fn axis_of(extent: u64, block: u64) -> Axis
     }
 }
 
-// The tile that a texel lies in. An axis of up to 512 texels has tiles of 16, which need no division.
+// Returns the tile that a texel lies in. An axis of up to 512 texels has tiles of 16, which need no division.
 fn tile_of(texel: u64, edge: u64) -> u64
     requires { ⌜ 0 < edge ⌝ }
     ensures { λ r. ⌜ r ≡ texel / edge ⌝ }
@@ -56,7 +57,7 @@ fn tile_of(texel: u64, edge: u64) -> u64
     texel / edge
 }
 
-// Tiles along the axis.
+// Returns the tiles along the axis.
 pub fn tiles(a: Axis) -> u64
     requires { ⌜ AxisOk a ⌝ }
     ensures { λ r. ⌜ r ≡ tilesOf a ⌝ }
@@ -64,7 +65,7 @@ pub fn tiles(a: Axis) -> u64
     tile_of(a.extent + (a.edge - 1), a.edge)
 }
 
-// The tiles that `size` texels from `start` on touch, cut to the level.
+// Returns the tiles that `size` texels from `start` on touch, cut to the level.
 pub fn touched_tiles(a: Axis, start: u64, size: u64) -> Touched
     requires { ⌜ AxisOk a ⌝ }
     ensures { λ r. ⌜ r ≡ touchedTiles a start size ⌝ }
@@ -87,7 +88,7 @@ pub fn touched_tiles(a: Axis, start: u64, size: u64) -> Touched
     })
 }
 
-// The first texel of whole tiles.
+// Returns the first texel of whole tiles.
 pub fn span_start(a: Axis, s: Span) -> u64
     requires { ⌜ AxisOk a × SpanIn a s ⌝ }
     ensures { λ r. ⌜ r ≡ spanStart a s ⌝ }
@@ -95,7 +96,7 @@ pub fn span_start(a: Axis, s: Span) -> u64
     s.first * a.edge
 }
 
-// How many texels whole tiles have in the level.
+// Returns how many texels whole tiles have in the level.
 pub fn span_size(a: Axis, s: Span) -> u64
     requires { ⌜ AxisOk a × SpanIn a s ⌝ }
     ensures { λ r. ⌜ r ≡ spanSize a s ⌝ }

@@ -14,7 +14,7 @@ use grid_shapes::is_shape;
 use grid_shapes::level_depth;
 use grid_shapes::level_extent;
 
-// How many of `size` texels from `start` on lie within `extent`.
+// Returns how many of `size` texels from `start` on lie within `extent`.
 pub fn cut_size(extent: u64, start: u64, size: u64) -> u64
     ensures { λ r. ⌜ r ≡ cutSize extent start size ⌝ }
 {
@@ -25,7 +25,7 @@ pub fn cut_size(extent: u64, start: u64, size: u64) -> u64
     if size < room { size } else { room }
 }
 
-// Texels of the region in a level of `width` by `height`, at one depth.
+// Returns the texels of the region in a level of `width` by `height`, at one depth.
 fn region_texels(width: u64, height: u64, region: Region) -> u64
     requires { ⌜ (width ≤ 16384) × (height ≤ 16384) ⌝ }
     ensures { λ r. ⌜ r ≡ regionTexels width height region ⌝ }
@@ -36,7 +36,7 @@ fn region_texels(width: u64, height: u64, region: Region) -> u64
     }
 }
 
-// Bytes of a copy of the region, in a level that the shape has.
+// Returns the bytes of a copy of the region, in a level that the shape has.
 fn level_copy_bytes(s: VersionShape, level: u64, region: Region) -> u64
     requires { ⌜ isShape s ≡ true ⌝ }
     ensures { λ r. ⌜ r ≡ copyBytes s level region ⌝ }
@@ -50,6 +50,7 @@ fn level_copy_bytes(s: VersionShape, level: u64, region: Region) -> u64
     texels * level_depth(s, level) * block_bytes(s.format) / (edge * edge)
 }
 
+// Returns the bytes of a copy of the region: 0 in a level that the shape lacks, a refusal for what is no shape.
 pub fn copy_bytes(s: VersionShape, level: u64, region: Region) -> BytesAnswer
     ensures { λ r. ⌜ ofBytes r ≡ copyOutcome s level region ⌝ }
 {

@@ -16,7 +16,7 @@ pub enum Region {
     Part(TexelRect),
 }
 
-// The whole of a level of `width` by `height` texels.
+// Returns the whole of a level of `width` by `height` texels.
 pub fn level_rect(width: u64, height: u64) -> TexelRect
     ensures { λ r. ⌜ r ≡ wholeLevel width height ⌝ }
 {
@@ -28,7 +28,8 @@ pub fn level_rect(width: u64, height: u64) -> TexelRect
     }
 }
 
-// One side of a rectangle: `size` texels from `start` on, along an axis of `extent` texels.
+// Returns whether one side of a rectangle, `size` texels from `start` on along an axis of `extent`, starts and ends on the block grid. The last block
+// of a level may be cut off, so a side that ends with the level passes.
 pub fn side_on_grid(block: u64, start: u64, size: u64, extent: u64) -> bool
     requires { ⌜ 0 < block ⌝ }
     ensures { λ r. ⌜ r ≡ sideOnGrid block start size extent ⌝ }
@@ -46,7 +47,7 @@ pub fn side_on_grid(block: u64, start: u64, size: u64, extent: u64) -> bool
     size == extent - start
 }
 
-// Whether a rectangle of a level of `width` by `height` texels lies on the grid of `block`-texel blocks.
+// Returns whether a rectangle of a level of `width` by `height` texels lies on the grid of `block`-texel blocks.
 pub fn rect_on_block_grid(block: u64, rect: TexelRect, width: u64, height: u64) -> bool
     requires { ⌜ 0 < block ⌝ }
     ensures { λ r. ⌜ r ≡ rectOnGrid block rect width height ⌝ }

@@ -18,7 +18,7 @@ pub enum UploadAnswer {
     NoFormat,
 }
 
-// What an upload of `rect` writes into a level of `width` by `height` texels. A compressed rectangle off the block
+// Returns what an upload of `rect` writes into a level of `width` by `height` texels. A compressed rectangle off the block
 // grid has no copy of its own, so the whole level is written instead.
 pub fn upload_written_rect(
     rect: TexelRect,

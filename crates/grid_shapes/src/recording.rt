@@ -10,7 +10,10 @@ pub enum RecordsAnswer {
     Shapeless,
 }
 
-// `usage` is the application's: bit 0 is render target, bit 1 depth-stencil.
+// Returns whether every write of a texture of this shape is reported to the pool, so that the copies into its reused versions can be bounded.
+// `usage` is the application's: bit 0 is render target, bit 1 depth-stencil. D3D9 lets only uploads, mip regeneration and an extended
+// device's whole-surface StretchRect write a flat or cube colour texture that is neither, and the caller reports each. A volume, a depth texture and
+// a render target take copies of whole levels.
 pub fn records_every_write(s: VersionShape, usage: u64) -> RecordsAnswer
     ensures { λ r. ⌜ ofRecords r ≡ recordsOutcome s usage ⌝ }
 {

@@ -9,8 +9,8 @@ ghost use Rattle.grid_shapes.specs.Shapes.{isShape, sameShape, slicesOf,
 use crate::format::block_bytes;
 use crate::format::block_edge;
 
-// Every field of the Rust's creation descriptor but the id. Storage mode, usage and the four swizzle bytes (red to
-// alpha) are compared only.
+// Every field of the Rust's creation descriptor but the id, which only labels the texture: spares made for one shape cannot serve
+// another. Storage mode, usage and the four swizzle bytes (red to alpha) are compared only.
 pub struct VersionShape {
     pub format: u64,
     pub width: u64,
@@ -31,7 +31,7 @@ pub enum BytesAnswer {
     NoShape,
 }
 
-// Whether the shape passes refusal 2.
+// Returns whether the shape passes refusal 2: its extents, levels, kind and format are ones that the pool takes.
 pub fn is_shape(s: VersionShape) -> bool
     ensures { λ r. ⌜ r ≡ isShape s ⌝ }
 {
@@ -44,7 +44,7 @@ pub fn is_shape(s: VersionShape) -> bool
         & (s.format <= 8)
 }
 
-// Whether two shapes agree in every field.
+// Returns whether two shapes agree in every field, so that a version of one can serve the other.
 pub fn same_shape(a: VersionShape, b: VersionShape) -> bool
     ensures { λ r. ⌜ r ≡ sameShape a b ⌝ }
 {
@@ -62,21 +62,21 @@ pub fn same_shape(a: VersionShape, b: VersionShape) -> bool
         & (a.alpha == b.alpha)
 }
 
-// Array slices: six faces for a cube, one otherwise.
+// Returns the array slices: six faces for a cube, one otherwise.
 pub fn slices(s: VersionShape) -> u64
     ensures { λ r. ⌜ r ≡ slicesOf s ⌝ }
 {
     if s.kind == 1 { 6 } else { 1 }
 }
 
-// No axis and no level has fewer texels than one.
+// Returns the texels, at least one: no axis and no level has fewer.
 fn at_least_one(texels: u64) -> u64
     ensures { λ r. ⌜ r ≡ max 1 texels ⌝ }
 {
     if texels == 0 { 1 } else { texels }
 }
 
-// Extent of mip `level` along an axis whose level 0 has `base` texels.
+// Returns the extent of mip `level` along an axis whose level 0 has `base` texels.
 pub fn level_extent(base: u64, level: u64) -> u64
     ensures { λ r. ⌜ r ≡ levelExtent base level ⌝ }
 {
@@ -87,7 +87,7 @@ pub fn level_extent(base: u64, level: u64) -> u64
     at_least_one(at_least_one(base) >> level)
 }
 
-// Depth of a level: of a volume; 1 otherwise.
+// Returns the depth of a level of a volume; 1 otherwise.
 pub fn level_depth(s: VersionShape, level: u64) -> u64
     ensures { λ r. ⌜ r ≡ levelDepth s level ⌝ }
 {
@@ -98,7 +98,8 @@ pub fn level_depth(s: VersionShape, level: u64) -> u64
     }
 }
 
-// Blocks along an axis; the edges that formats have first, which need no division.
+// Returns the blocks along an axis, rounded up: a level narrower than a block still takes one. The edges that formats have come first, since they need
+// no division.
 fn blocks(extent: u64, edge: u64) -> u64
     requires { ⌜ (extent ≤ 16384) × (0 < edge) × (edge ≤ 16) ⌝ }
     ensures { λ r. ⌜ r ≡ ceilDiv extent edge ⌝ }
@@ -112,7 +113,7 @@ fn blocks(extent: u64, edge: u64) -> u64
     (extent + (edge - 1)) / edge
 }
 
-// Blocks of a level of those extents, in one slice.
+// Returns the blocks of a level of those extents, in one slice.
 fn level_blocks(across: u64, down: u64, deep: u64, edge: u64) -> u64
     requires { ⌜ (across ≤ 16384) × (down ≤ 16384) × (deep ≤ 2048) × (0 < edge) × (edge ≤ 16) ⌝ }
     ensures { λ r. ⌜ r ≡ ceilDiv across edge * ceilDiv down edge * deep ⌝ }
@@ -120,7 +121,7 @@ fn level_blocks(across: u64, down: u64, deep: u64, edge: u64) -> u64
     blocks(across, edge) * blocks(down, edge) * deep
 }
 
-// Blocks of every level, in one slice. A level's extents are the last one's halved.
+// Returns the blocks of every level, in one slice. A level's extents are the last one's halved.
 fn shape_blocks(s: VersionShape, edge: u64) -> u64
     requires { ⌜ (isShape s ≡ true) × (edge ≡ blockEdge (s .format)) ⌝ }
     ensures { λ r. ⌜ r ≡ total (levelBlocks s) (listed (λ (level : ℕ). level) 0 (s .levels)) ⌝ }
@@ -140,7 +141,7 @@ fn shape_blocks(s: VersionShape, edge: u64) -> u64
     sum
 }
 
-// Storage of one version, every slice and level counted, of a shape that passes refusal 2. The edge's loop is chosen before it runs.
+// Returns the bytes of one version, every slice and level counted, of a shape that passes refusal 2. The edge's loop is chosen before it runs.
 pub fn shape_bytes(s: VersionShape) -> u64
     requires { ⌜ isShape s ≡ true ⌝ }
     ensures { λ r. ⌜ r ≡ bytesOf s ⌝ }
@@ -153,7 +154,7 @@ pub fn shape_bytes(s: VersionShape) -> u64
     shape_blocks(s, edge) * bytes
 }
 
-// Storage of one version, of any shape.
+// Returns the bytes of one version, or refuses what is no shape.
 pub fn bytes(s: VersionShape) -> BytesAnswer
     ensures { λ r. ⌜ ofBytes r ≡ bytesOutcome s ⌝ }
 {

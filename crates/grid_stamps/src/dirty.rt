@@ -11,7 +11,7 @@ pub enum DirtyTile {
     NoTile,
 }
 
-// Some tile stamped above `held`, or none if there is none. Which one is left open.
+// Returns some tile stamped above `held`, or none if there is none. Which one is left open.
 pub fn dirty_tile(page: &[u64], across: Axis, down: Axis, held: u64) -> DirtyTile
     requires { ⌜ AxisOk across × AxisOk down × (stampCount (tiled across down) ≤ length (now page)) ⌝ }
     ensures { λ r. ⌜ IsDirtyTile (tiled across down) held (now (page .entry)) r ⌝ }

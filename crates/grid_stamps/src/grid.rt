@@ -11,7 +11,7 @@ use grid_shapes::VersionShape;
 use grid_shapes::block_edge;
 use grid_shapes::level_extent;
 
-// A level's columns.
+// Returns a level's columns.
 pub fn across_axis(s: VersionShape, level: u64) -> Axis
     requires { ⌜ isShape s ≡ true ⌝ }
     ensures { λ r. ⌜ r ≡ tilingOf s level .across ⌝ }
@@ -19,7 +19,7 @@ pub fn across_axis(s: VersionShape, level: u64) -> Axis
     axis_of(level_extent(s.width, level), block_edge(s.format))
 }
 
-// A level's rows.
+// Returns a level's rows.
 pub fn down_axis(s: VersionShape, level: u64) -> Axis
     requires { ⌜ isShape s ≡ true ⌝ }
     ensures { λ r. ⌜ r ≡ tilingOf s level .down ⌝ }
@@ -27,7 +27,7 @@ pub fn down_axis(s: VersionShape, level: u64) -> Axis
     axis_of(level_extent(s.height, level), block_edge(s.format))
 }
 
-// How many stamps a grid has.
+// Returns how many stamps a grid has.
 pub fn stamp_count(across: Axis, down: Axis) -> u64
     requires { ⌜ AxisOk across × AxisOk down ⌝ }
     ensures { λ r. ⌜ r ≡ stampCount (tiled across down) ⌝ }

@@ -8,7 +8,7 @@ ghost use Rattle.grid_stamps.specs.Grids.{tiled, stampCount, largestStam
 use crate::grid::stamp_count;
 use grid_axes::Axis;
 
-// The largest stamp of the grid.
+// Returns the largest stamp of the grid.
 pub fn largest_stamp(page: &[u64], across: Axis, down: Axis) -> u64
     requires { ⌜ AxisOk across × AxisOk down × (stampCount (tiled across down) ≤ length (now page)) ⌝ }
     ensures { λ r. ⌜ r ≡ largestStamp (tiled across down) (now (page .entry)) ⌝ }
@@ -17,7 +17,7 @@ pub fn largest_stamp(page: &[u64], across: Axis, down: Axis) -> u64
     base_blocks::largest_of(&page[..count])
 }
 
-// Whether `newest` is the largest stamp: none passes it, and one equals it, which is quicker to see than a maximum.
+// Returns whether `newest` is the largest stamp: none passes it, and one equals it, which is quicker to see than a maximum.
 pub fn is_largest_stamp(page: &[u64], across: Axis, down: Axis, newest: u64) -> bool
     requires { ⌜ AxisOk across × AxisOk down × (stampCount (tiled across down) ≤ length (now page)) × (0 < stampCount (tiled across down)) ⌝ }
     ensures { λ r. ⌜ r ≡ eqb (largestStamp (tiled across down) (now (page .entry))) newest ⌝ }

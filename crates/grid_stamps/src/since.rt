@@ -28,7 +28,7 @@ pub struct Seen {
     pub bottom: u64,
 }
 
-// One tile more, if its stamp is above `held`.
+// Adds one tile to what was seen, if its stamp is above `held`.
 fn visit(seen: Seen, stamp: u64, held: u64, column: u64, row: u64) -> Seen
     ensures { λ r. ⌜ r ≡ visited seen stamp held column row ⌝ }
 {
@@ -53,7 +53,7 @@ fn visit(seen: Seen, stamp: u64, held: u64, column: u64, row: u64) -> Seen
     }
 }
 
-// One row of stamps more.
+// Adds one row of stamps to what was seen.
 fn visit_row(seen: Seen, line: &[u64], held: u64, row: u64) -> Seen
     ensures { λ r. ⌜ r ≡ allJoined seen (dirtyRow (length (now (line .entry))) row held (now (line .entry))) ⌝ }
 {
@@ -70,7 +70,7 @@ fn visit_row(seen: Seen, line: &[u64], held: u64, row: u64) -> Seen
     all
 }
 
-// Every row of a page.
+// Returns what is seen on every row of a page.
 fn visit_page(page: &[u64], columns: usize, rows: usize, held: u64) -> Seen
     requires { ⌜ (columns * rows ≤ length (now page)) × (columns ≤ maxTilesPerAxis) × (rows ≤ maxTilesPerAxis) ⌝ }
     ensures { λ r. ⌜ r ≡ allJoined nothingSeen (dirtyTiles columns rows held (now (page .entry))) ⌝ }
@@ -92,7 +92,7 @@ fn visit_page(page: &[u64], columns: usize, rows: usize, held: u64) -> Seen
     seen
 }
 
-// Whole tiles in texels, cut to the level.
+// Returns whole tiles in texels, cut to the level.
 fn box_of(across: Axis, down: Axis, columns: Span, rows: Span) -> TexelRect
     requires { ⌜ AxisOk across × AxisOk down × SpanIn across columns × SpanIn down rows ⌝ }
     ensures { λ r. ⌜ r ≡ boxOf (tiled across down) columns rows ⌝ }
@@ -105,7 +105,8 @@ fn box_of(across: Axis, down: Axis, columns: Span, rows: Span) -> TexelRect
     }
 }
 
-// The smallest box of whole tiles around those stamped above `held`, cut to the level.
+// Returns the smallest box of whole tiles around those stamped above `held`, cut to the level. A version that holds `held` writes lacks no texel
+// outside it. `newest` spares the scan where nothing was written since.
 pub fn written_since(page: &[u64], across: Axis, down: Axis, newest: u64, held: u64) -> Dirty
     requires { ⌜ AxisOk across × AxisOk down × (stampCount (tiled across down) ≤ length (now page)) ⌝ }
     ensures { λ r. ⌜ r ≡ boxSince (tiled across down) held (gridIn (tiled across down) newest (now (page .entry))) ⌝ }

@@ -14,7 +14,7 @@ use grid_axes::tiles;
 use grid_axes::touched_tiles;
 use grid_rects::TexelRect;
 
-// `width` stamps from column `left` on set to `n`, in the rows from `top` up to `bottom`.
+// Sets `width` stamps from column `left` on to `n`, in the rows from `top` up to `bottom`.
 fn stamp_rows(
     page: &mut [u64],
     columns: usize,
@@ -35,7 +35,7 @@ fn stamp_rows(
     }
 }
 
-// The tiles of both spans, in a grid of that many columns, set to `n`.
+// Sets the tiles of both spans to `n`, in a grid of `columns` columns.
 fn stamp_tiles(page: &mut [u64], columns: usize, across: Span, down: Span, n: u64)
     requires { ⌜ StampRoom columns across down (length (now page)) ⌝ }
     ensures { λ _. ⌜ now (page .exit) ≡ tilesStamped columns across down n (now (page .entry)) ⌝ }
@@ -51,7 +51,7 @@ fn stamp_tiles(page: &mut [u64], columns: usize, across: Span, down: Span, n: u6
     );
 }
 
-// Stamps every tile that the rectangle, cut to the level, touches. The answer is the grid's newest stamp.
+// Stamps every tile that the rectangle, cut to the level, touches, and returns the grid's newest stamp: `n`, unless the cut is empty.
 pub fn stamp(
     page: &mut [u64],
     across: Axis,

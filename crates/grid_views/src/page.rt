@@ -9,7 +9,7 @@ use grid_axes::Axis;
 use grid_stamps::Dirty;
 use grid_stamps::DirtyTile;
 
-// The smallest box of whole tiles around those stamped above `held`, cut to the level.
+// Returns the smallest box of whole tiles around those stamped above `held`, cut to the level.
 pub fn written_since(page: &[u64], across: Axis, down: Axis, newest: u64, held: u64) -> Dirty
     requires { ⌜ AxisOk across × AxisOk down × (stampCount (tiled across down) ≤ length (now page)) ⌝ }
     ensures { λ r. ⌜ r ≡ boxSince (tiled across down) held (gridIn (tiled across down) newest (now (page .entry))) ⌝ }
@@ -17,7 +17,7 @@ pub fn written_since(page: &[u64], across: Axis, down: Axis, newest: u64, held: 
     view_of(page, across, down).written_since(newest, held)
 }
 
-// Some tile stamped above `held`, or none if there is none. Which one is left open.
+// Returns some tile stamped above `held`, or none if there is none. Which one is left open.
 pub fn dirty_tile(page: &[u64], across: Axis, down: Axis, held: u64) -> DirtyTile
     requires { ⌜ AxisOk across × AxisOk down × (stampCount (tiled across down) ≤ length (now page)) ⌝ }
     ensures { λ r. ⌜ IsDirtyTile (tiled across down) held (now (page .entry)) r ⌝ }

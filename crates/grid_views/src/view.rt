@@ -15,6 +15,7 @@ pub struct GridView<'a> {
     pub rows: Axis,
 }
 
+// Makes a view of the page and its two axes.
 pub fn view_of<'a>(page: &'a [u64], columns: Axis, rows: Axis) -> GridView<'a>
     ensures { λ r. ⌜ (r .page ≡ page .entry) × (r .columns ≡ columns) × (r .rows ≡ rows) ⌝ }
 {
@@ -26,7 +27,7 @@ pub fn view_of<'a>(page: &'a [u64], columns: Axis, rows: Axis) -> GridView<'a>
 }
 
 impl<'a> GridView<'a> {
-    // The smallest box of whole tiles around those stamped above `held`, cut to the level.
+    // Returns the smallest box of whole tiles around those stamped above `held`, cut to the level.
     pub fn written_since(self, newest: u64, held: u64) -> Dirty
         requires { ⌜ AxisOk (self .columns) × AxisOk (self .rows) × (stampCount (tiled (self .columns) (self .rows)) ≤ length (now (self .page))) ⌝ }
         ensures { λ r.
@@ -36,7 +37,7 @@ impl<'a> GridView<'a> {
         grid_stamps::written_since(self.page, self.columns, self.rows, newest, held)
     }
 
-    // Some tile stamped above `held`, or none if there is none. Which one is left open.
+    // Returns some tile stamped above `held`, or none if there is none. Which one is left open.
     pub fn dirty_tile(self, held: u64) -> DirtyTile
         requires { ⌜ AxisOk (self .columns) × AxisOk (self .rows) × (stampCount (tiled (self .columns) (self .rows)) ≤ length (now (self .page))) ⌝ }
         ensures { λ r. ⌜ IsDirtyTile (tiled (self .entry .columns) (self .entry .rows)) held (now (self .entry .page)) r ⌝ }

@@ -1,4 +1,4 @@
--- The queries and opening, case by case. Assumes nothing.
+-- The queries, case by case. Assumes nothing.
 use mathlib.Core.Path.{_≡_, refl, sym, ap, _∙_}
 use mathlib.Core.Bool.{Bool, true, false, cond}
 use Prim.Native.Nat.{ℕ}
@@ -6,19 +6,11 @@ use Rattle.grid_stamps.specs.declared.dirty.DirtyTile.{DirtyTile}
 use Rattle.pool_rules.specs.NoteWrite.{recordsWrites, IsDirtyTileOf}
 use Rattle.pool_memory.specs.Lent.{Lent}
 use Rattle.pool_memory.specs.Reading.{modelOf}
-use Rattle.pool_memory.specs.IsPool.{isPool, sizesFit}
-use Rattle.pool_memory.specs.Calls.{refusedWith, answer, openNumber}
+use Rattle.pool_memory.specs.IsPool.{isPool}
+use Rattle.pool_memory.specs.Calls.{refusedWith, answer}
 use Rattle.pool.specs.Queries.{recordsWritesOn, parkedBytesOn, pendingDestroyBytesOn, DirtyTileOn}
 
 module _ (l : Lent) where
-  pub opened : sizesFit l ≡ true → 0 ≡ openNumber l
-  unfolding openNumber
-  opened e = sym (ap (λ (b : Bool). cond b 0 1) e)
-
-  pub not-opened : sizesFit l ≡ false → 1 ≡ openNumber l
-  unfolding openNumber
-  not-opened e = sym (ap (λ (b : Bool). cond b 0 1) e)
-
   module _ (e : isPool l ≡ false) where
     pub no-records : (id : ℕ) → refusedWith 1 ≡ recordsWritesOn l id
     unfolding recordsWritesOn

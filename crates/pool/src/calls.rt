@@ -5,7 +5,6 @@ pub mod forget_texture;
 pub mod note_allocated;
 pub mod note_mip_regeneration;
 pub mod note_write;
-pub mod open;
 pub mod park;
 pub mod parked_bytes;
 pub mod pending_destroy_bytes;

@@ -1,4 +1,4 @@
-// The lent slices read and written, one record or one run at a time. Every call of the pool is made of these.
+// Access to the lent slices, one record or one run of them at a time. Every call of the pool is made of these.
 mod doomed;
 mod pages;
 mod retiring;

@@ -1,4 +1,4 @@
-// The pages that a texture's history takes, and where they begin: behind those of the textures before it.
+// The pages that a texture's history takes, and where they begin: after those of the textures before it.
 ghost use mathlib.Core.Path.{_≡_};
 ghost use Prim.Native.Nat.{_+_, _*_, _≤_};
 ghost use lib.ListN.{length};
@@ -16,7 +16,7 @@ use pool_records::TEXTURE_LEVELS_AT;
 use pool_records::TEXTURE_STRIDE;
 use pool_records::TextureRecord;
 
-// The pages of a history of that shape: one a slice and level.
+// Returns how many pages a history of the shape takes: one for each slice and level, since each has a grid of its own.
 pub fn shape_pages(shape: VersionShape) -> usize
     requires { ⌜ pagesOf shape ≤ mostPlaces ⌝ }
     ensures { λ r. ⌜ r ≡ pagesOf shape ⌝ }
@@ -24,7 +24,7 @@ pub fn shape_pages(shape: VersionShape) -> usize
     (slices(shape) * shape.levels) as usize
 }
 
-// The pages that a texture's record claims.
+// Returns how many pages a texture's record claims: those of its shape, or none if it keeps no history.
 pub fn history_pages(t: TextureRecord) -> usize
     requires { ⌜ recordPages t ≤ mostPlaces ⌝ }
     ensures { λ r. ⌜ r ≡ recordPages t ⌝ }
@@ -36,7 +36,7 @@ pub fn history_pages(t: TextureRecord) -> usize
     }
 }
 
-// The pages that record i of the textures' slice claims, by three of its numbers: history, kind and levels.
+// Returns how many pages record i of the textures' slice claims. Three of its numbers tell: history, kind and levels.
 pub fn pages_at(textures: &[u64], i: usize) -> usize
     requires { ⌜ (textureStride * i + textureStride ≤ length (now textures)) × (recordPages (textureIn (now textures) i) ≤ mostPlaces) ⌝ }
     ensures { λ r. ⌜ r ≡ recordPages (textureIn (now (textures .entry)) i) ⌝ }
@@ -51,7 +51,7 @@ pub fn pages_at(textures: &[u64], i: usize) -> usize
     levels as usize
 }
 
-// How many pages the first i textures claim, which is where those of texture i begin.
+// Counts the pages that the first i textures claim, which is where those of texture i begin.
 pub fn pages_before(textures: &[u64], i: usize) -> usize
     requires { ⌜ (textureStride * i ≤ length (now textures)) × (total recordPages (texturesIn i (now textures)) ≤ mostPlaces) ⌝ }
     ensures { λ r. ⌜ r ≡ total recordPages (texturesIn i (now (textures .entry))) ⌝ }

@@ -1,4 +1,4 @@
-// The retiring ring: cap places of seven numbers each, the oldest record at place head.
+// The retiring ring: `cap` places of seven numbers each, the oldest record at place `head`.
 ghost use mathlib.Core.Path.{_≡_};
 ghost use Prim.Native.Nat.{_*_, _≤_, _<_};
 ghost use lib.ListN.{length};
@@ -13,7 +13,7 @@ use pool_records::RetiringRecord;
 use pool_records::read_retiring;
 use pool_records::retiring_numbers;
 
-// The k-th record from the oldest.
+// Returns the k-th record from the oldest.
 pub fn retiring_at(s: &[u64], cap: usize, head: usize, k: usize) -> RetiringRecord
     requires { ⌜ (retiringStride * cap ≤ length (now s)) × (head < cap) × (k < cap) ⌝ }
     ensures { λ r. ⌜ r ≡ along retiringStride readRetiring cap head (now (s .entry)) k ⌝ }
@@ -22,7 +22,7 @@ pub fn retiring_at(s: &[u64], cap: usize, head: usize, k: usize) -> RetiringReco
     read_retiring(part)
 }
 
-// A record put behind the n of the ring.
+// Puts a record after the `n` that the ring has.
 pub fn push_retiring(s: &mut [u64], cap: usize, head: usize, n: usize, x: RetiringRecord)
     requires { ⌜ (retiringStride * cap ≤ length (now s)) × (head < cap) × (n < cap) ⌝ }
     ensures { λ _. ⌜ now (s .exit) ≡ sets (now (s .entry)) (retiringStride * placeOf cap head n) (writeRetiring x) ⌝ }

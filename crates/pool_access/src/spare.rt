@@ -1,4 +1,4 @@
-// The spares' records: three numbers each, packed texture by texture from the front of their slice, so that a texture's begin behind
+// The spares' records: three numbers each, packed texture by texture from the front of their slice, so that a texture's begin after
 // those of the textures before it.
 ghost use mathlib.Core.Path.{_≡_};
 ghost use mathlib.Core.Logic.{_⊎_};
@@ -22,7 +22,7 @@ use pool_records::TEXTURE_STRIDE;
 use pool_records::read_spare;
 use pool_records::spare_numbers;
 
-// Record k.
+// Returns record k.
 pub fn spare_at(s: &[u64], k: usize) -> SpareRecord
     requires { ⌜ spareStride * k + spareStride ≤ length (now s) ⌝ }
     ensures { λ r. ⌜ r ≡ recordAt spareStride readSpare (now (s .entry)) k ⌝ }
@@ -31,7 +31,7 @@ pub fn spare_at(s: &[u64], k: usize) -> SpareRecord
     read_spare(part)
 }
 
-// Of n records, one more put in before record k.
+// Puts a record in before record k of the `n` that there are. Those from k on move up.
 pub fn insert_spare(s: &mut [u64], n: usize, k: usize, x: SpareRecord)
     requires { ⌜ (spareStride * n + spareStride ≤ length (now s)) × (k ≤ n) × HeldFits (x .held) ⌝ }
     ensures { λ _. ⌜ now (s .exit)
@@ -41,8 +41,7 @@ pub fn insert_spare(s: &mut [u64], n: usize, k: usize, x: SpareRecord)
     insert_record(s, SPARE_STRIDE, n, k, &numbers);
 }
 
-// How many spares the first i textures have, which is where those of texture i begin. `textures` is the textures' slice, of which
-// the sum reads one number a record.
+// Counts the spares of the first i textures, which is where those of texture i begin. It reads one number of each record.
 pub fn spares_before(textures: &[u64], i: usize) -> usize
     requires { ⌜ (textureStride * i ≤ length (now textures)) × (total (λ t. t .spares) (texturesIn i (now textures)) ≤ mostPlaces) ⌝ }
     ensures { λ r. ⌜ r ≡ total (λ t. t .spares) (texturesIn i (now (textures .entry))) ⌝ }
@@ -56,7 +55,7 @@ pub fn spares_before(textures: &[u64], i: usize) -> usize
     sum
 }
 
-// How many spares the textures from `from` to `to` have.
+// Counts the spares of the textures from `from` on, up to `to`.
 fn spares_between(textures: &[u64], from: usize, to: usize) -> usize
     requires { ⌜ (textureStride * to ≤ length (now textures)) × (from ≤ to) × (total (λ t. t .spares) (texturesIn to (now textures)) ≤ mostPlaces) ⌝ }
     ensures { λ r. ⌜ total (λ t. t .spares) (texturesIn from (now (textures .entry))) + r ≡ total (λ t. t .spares) (texturesIn to (now (textures .entry))) ⌝ }
@@ -70,13 +69,13 @@ fn spares_between(textures: &[u64], from: usize, to: usize) -> usize
     sum
 }
 
-// Places from one on to another.
+// The places from one on, up to another.
 struct Stretch {
     from: usize,
     to: usize,
 }
 
-// Of n places those before i, or those from i on, whichever are fewer.
+// Returns those of n places that are before i, or those from i on: whichever are fewer.
 fn fewer(n: usize, i: usize) -> Stretch
     requires { ⌜ i ≤ n ⌝ }
     ensures { λ r. ⌜ ((r .from ≡ 0) × (r .to ≡ i)) ⊎ ((r .from ≡ i) × (r .to ≡ n) × (0 < i)) ⌝ }
@@ -87,7 +86,8 @@ fn fewer(n: usize, i: usize) -> Stretch
     Stretch { from: i, to: n }
 }
 
-// Where the spares of texture i begin, of n textures that have `kept` in all: summed up from the nearer end.
+// Returns where the spares of texture i begin, of n textures that have `kept` in all. It counts from the nearer end, so that at
+// most half of the records are read.
 pub fn first_spare(textures: &[u64], n: usize, kept: usize, i: usize) -> usize
     requires { ⌜ (textureStride * n ≤ length (now textures)) × (i ≤ n) × (total (λ t. t .spares) (texturesIn n (now textures)) ≡ kept)
         × (kept ≤ mostPlaces) ⌝ }

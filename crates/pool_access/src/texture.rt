@@ -1,4 +1,4 @@
-// The textures' records: twenty numbers each, packed from the front of their slice.
+// The textures' records: twenty numbers each, packed in ascending id from the front of their slice.
 ghost use mathlib.Core.Path.{_≡_};
 ghost use mathlib.Core.Bool.{_&&_};
 ghost use Prim.Native.Nat.{_+_, _*_, _-_, _≤_, _<_};
@@ -19,7 +19,7 @@ use pool_records::TextureRecord;
 use pool_records::read_texture;
 use pool_records::texture_numbers;
 
-// Record i.
+// Returns record i.
 pub fn texture_at(s: &[u64], i: usize) -> TextureRecord
     requires { ⌜ textureStride * i + textureStride ≤ length (now s) ⌝ }
     ensures { λ r. ⌜ r ≡ textureIn (now (s .entry)) i ⌝ }
@@ -28,7 +28,7 @@ pub fn texture_at(s: &[u64], i: usize) -> TextureRecord
     read_texture(part)
 }
 
-// Whether record i, where a search among n ended, is there and has the id.
+// Tells whether record i, where a search among n ended, is there and has the id.
 pub fn has_id(s: &[u64], n: usize, i: usize, id: u64) -> bool
     requires { ⌜ textureStride * n ≤ length (now s) ⌝ }
     ensures { λ r. ⌜ r ≡ (ltb i n && eqb (idOf (textureIn (now (s .entry)) i)) id) ⌝ }
@@ -39,7 +39,7 @@ pub fn has_id(s: &[u64], n: usize, i: usize, id: u64) -> bool
     s[TEXTURE_STRIDE * i] == id
 }
 
-// Record i written anew.
+// Writes record i over.
 pub fn put_texture(s: &mut [u64], i: usize, t: TextureRecord)
     requires { ⌜ (textureStride * i + textureStride ≤ length (now s)) × RecordedFits (t .history) ⌝ }
     ensures { λ _. ⌜ now (s .exit) ≡ sets (now (s .entry)) (textureStride * i) (writeTexture t) ⌝ }
@@ -48,7 +48,7 @@ pub fn put_texture(s: &mut [u64], i: usize, t: TextureRecord)
     put_record(s, TEXTURE_STRIDE, i, &numbers);
 }
 
-// Of n records, one more put in before record i.
+// Puts a record in before record i of the n that there are. Those from i on move up.
 pub fn insert_texture(s: &mut [u64], n: usize, i: usize, t: TextureRecord)
     requires { ⌜ (textureStride * n + textureStride ≤ length (now s)) × (i ≤ n) × RecordedFits (t .history) ⌝ }
     ensures { λ _. ⌜ now (s .exit)
@@ -59,7 +59,7 @@ pub fn insert_texture(s: &mut [u64], n: usize, i: usize, t: TextureRecord)
     insert_record(s, TEXTURE_STRIDE, n, i, &numbers);
 }
 
-// Of n records, record i taken out.
+// Takes record i out of the n that there are. The later ones move down.
 pub fn remove_texture(s: &mut [u64], n: usize, i: usize)
     requires { ⌜ (textureStride * n ≤ length (now s)) × (i < n) ⌝ }
     ensures { λ _. ⌜ now (s .exit) ≡ moved (now (s .entry)) (textureStride * i) (textureStride * i + textureStride * 1) (textureStride * (n - (i + 1))) ⌝ }

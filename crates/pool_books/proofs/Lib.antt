@@ -13,3 +13,5 @@ pub mod Places
 pub mod Answers
 pub mod LentLists
 pub mod Sample
+pub mod NotVacuous
+pub mod ComputedBooks

@@ -5,4 +5,6 @@ pub mod Carry
 pub mod Lists
 pub mod Demand3
 pub mod Sample
+pub mod NotVacuous
+pub mod ComputedBooks
 pub mod LentLists

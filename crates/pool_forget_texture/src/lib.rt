@@ -1,4 +1,5 @@
-// forget_texture, and what it takes to leave a texture out of the lent stores: what it owns, and the pages behind its own moved down.
+// The call `forget_texture`, and what it takes to leave a texture out of the lent slices: what it owns, and the pages after its own
+// moved down.
 mod calls;
 mod owned;
 mod pages;

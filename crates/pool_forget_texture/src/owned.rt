@@ -22,6 +22,7 @@ pub struct Owned {
     pub bytes: u64,
 }
 
+// Returns what texture i owns.
 pub fn owned_at(textures: &[u64], i: usize) -> Owned
     requires { ⌜ (textureStride * i + textureStride ≤ length (now textures))
         × (total (λ t. t .spares) (texturesIn (i + 1) (now textures)) ≤ mostPlaces)
@@ -41,7 +42,7 @@ pub fn owned_at(textures: &[u64], i: usize) -> Owned
     }
 }
 
-// The counts without the texture. Its spares wait to be destroyed.
+// Returns the counts without the texture. Its spares wait to be destroyed.
 pub fn counts_without(pool: Pool, own: Owned) -> Pool
     requires { ⌜ (1 ≤ pool .tracked) × (own .spares ≤ pool .kept) × (own .pages ≤ pool .pages) × (pool .doomed + own .spares ≤ mostPlaces)
         × (pool .since ≤ mostPlaces) × (own .bytes * own .spares ≤ pool .parked) × (pool .dooming + own .bytes * own .spares < 2 ^ 64) ⌝ }

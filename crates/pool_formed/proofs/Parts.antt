@@ -18,7 +18,7 @@ use Rattle.pool_records.specs.declared.texture.TextureRecord.{TextureRecord}
 use Rattle.pool_memory.specs.Lent.{Lent, versionPlaces}
 use Rattle.pool_memory.specs.Reading.{trackedRecords, statesRead, retiringRead, handRead, doomedRead, modelOf}
 use Rattle.pool_memory.specs.IsPool.{sizesFit, countsFit, runsFit, bytesHold, bytesFit, markFits, stateId, isSpare, isState, isRetiring, isHand, isDoomed, isArrival, isFormed, isPool}
-use Rattle.pool_formed.specs.Parts.{lengthsFit, placesHold, retiringAt, retiringFit, doomedAt, doomedFit, ringsFit, numbersFit}
+use Rattle.pool_formed.specs.Parts.{placesHold, retiringAt, retiringFit, doomedAt, doomedFit, ringsFit, numbersFit}
 use Rattle.pool_formed_textures.specs.Textures.{isRecord, recordSpares, claim, spareAt, historiesFit, texturesFit}
 use Rattle.pool_formed_textures.proofs.Tests.{same-test}
 use Rattle.pool_formed_textures.proofs.States.{states-ids, states-bytes, states-test}
@@ -27,11 +27,6 @@ use Rattle.grid_stamps.specs.StampConstants.{pageStamps}
 use Rattle.pool_records.specs.RecordConstants.{doomedStride, retiringStride, spareStride, textureStride}
 use Rattle.pool_rules.specs.RuleConstants.{destroySpreadDrains, mostPlaces}
 use Rattle.pool_records.specs.Texture.{recordPages}
-
-pub sizes-lengths : (l : Lent) → sizesFit l
-    ≡ lengthsFit (length (l .textures)) (length (l .retiring)) (length (l .doomed)) (length (l .spares)) (length (l .newest)) (length (l .stamps))
-unfolding sizesFit lengthsFit arePlaces modelOf versionPlaces tests after
-sizes-lengths l = refl
 
 pub counts-places : (l : Lent) → countsFit l ≡ placesHold (l .pool) (length (l .textures) / textureStride) (length (l .retiring) / retiringStride) (length (l .newest))
 unfolding countsFit placesHold modelOf versionPlaces

@@ -1,6 +1,6 @@
 -- Helper: The parts that the test goes by. They read the lent slices directly, where `isPool` reads the pool that they stand for.
 -- That both say the same is a law; a reader of `is_pool` needs none of this.
-use Prim.Native.Nat.{ℕ, _+_, _*_, _/_}
+use Prim.Native.Nat.{ℕ, _+_}
 use mathlib.Core.Bool.{Bool}
 use mathlib.Core.List.{List, [], _∷_}
 use lib.Dec.{leb, ltb, eqb}
@@ -13,27 +13,12 @@ use Rattle.pool_records.specs.Views.{retiringOf, doomedOf}
 use Rattle.pool_memory.specs.declared.pool.Pool.{Pool}
 use Rattle.pool_memory.specs.declared.book.PacingBook.{PacingBook}
 use Rattle.pool_memory.specs.IsPool.{isRetiring, isDoomed, isArrival}
-use Rattle.grid_stamps.specs.StampConstants.{pageStamps}
-use Rattle.pool_records.specs.RecordConstants.{doomedStride, retiringStride, spareStride, textureStride}
-use Rattle.pool_rules.specs.RuleConstants.{destroySpreadDrains, mostPlaces}
+use Rattle.pool_records.specs.RecordConstants.{doomedStride, retiringStride}
+use Rattle.pool_rules.specs.RuleConstants.{destroySpreadDrains}
 
--- ---- sizes and counts
+-- ---- counts
 
--- the six lengths fit together
-unfoldable pub lengthsFit : ℕ → ℕ → ℕ → ℕ → ℕ → ℕ → Bool
-lengthsFit textures retiring doomed spares newest stamps = tests (
-    leb 1 (textures / textureStride)
-    ∷ leb (textures / textureStride) mostPlaces
-    ∷ leb 1 (retiring / retiringStride)
-    ∷ leb (retiring / retiringStride) mostPlaces
-    ∷ leb newest mostPlaces
-    ∷ eqb textures (textureStride * (textures / textureStride))
-    ∷ eqb retiring (retiringStride * (retiring / retiringStride))
-    ∷ eqb doomed (doomedStride * (retiring / retiringStride))
-    ∷ eqb spares (spareStride * (retiring / retiringStride))
-    ∷ eqb stamps (pageStamps * newest) ∷ [])
-
--- the counts fit so many places
+-- the counts fit the places
 unfoldable pub placesHold : Pool → ℕ → ℕ → ℕ → Bool
 placesHold pool places versions pages = tests (
     leb (pool .tracked) places

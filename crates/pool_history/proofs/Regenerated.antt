@@ -49,7 +49,7 @@ regenerate-listed s n f k zero = refl
 regenerate-listed s n f k (suc m) =
     ap (λ (gs : List StampGrid). remadeGrid s n (k % s .levels) (f k) ∷ gs) (regenerate-listed s n f (suc k) m)
 
--- ---- the level behind a level
+-- ---- the level after a level
 
 pub level-first : (s : VersionShape) → isShape s ≡ true → (0 < s .levels) × (0 ≡ 0 % s .levels)
 level-first s shaped = let h = shape-bounds s shaped .levels-pos in (h, sym (mod-eq-of-lt h))
@@ -80,7 +80,7 @@ module _ (s : VersionShape) (shaped : isShape s ≡ true) (n : ℕ) (newest stam
   unfolding remadeGrids
   length-remade k = length-listed remadeAt 0 k
 
-  -- a grid that is made anew fits its page
+  -- a grid that is made again fits its page
   small-at : (j : ℕ) → pageStamps * (page + j) + pageStamps ≤ length stamps → length (remadeAt j .stamps) ≤ pageStamps
   unfolding remadeGrid
   small-at j room =
@@ -108,7 +108,7 @@ module _ (s : VersionShape) (shaped : isShape s ≡ true) (n : ℕ) (newest stam
 
     module _ (newest₁ stamps₁ : List ℕ) (level : ℕ) (e : newest₁ ≡ newestWritten newest page (remadeGrids s n newest stamps page k))
         (f : stamps₁ ≡ pagesWritten stamps page (remadeGrids s n newest stamps page k)) (at : level ≡ k % s .levels) where
-      -- the page behind those made anew is as it stood
+      -- the page after those made again is as it stood
       same-grid : remadeGrid s n level (gridOn s level newest₁ stamps₁ (page + k)) ≡ remadeAt k
       unfolding gridOn
       same-grid =

@@ -134,9 +134,9 @@ module _ (s : VersionShape) (shaped : isShape s ≡ true) where
               (omega (arith, count-bound (tilingOf s level) ok, length-page stamps p room))),
         )
 
--- ---- grids behind grids
+-- ---- grids after grids
 
--- what stands on the page behind those written is as it was
+-- what stands on the page after those written is as it was
 pub newest-past : (newest : List ℕ) (p k : ℕ) (gs : List StampGrid) → length gs ≡ k → p + k ≤ length newest
     → getD (newestWritten newest p gs) (p + k) 0 ≡ getD newest (p + k) 0
 unfolding newestWritten

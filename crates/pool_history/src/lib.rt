@@ -1,4 +1,4 @@
-// The pages of a texture's write history: stamped by a write, made anew by a mip regeneration, and taken out.
+// The pages of a texture's write history: stamped by a write, stamped again by a mip regeneration, and taken out.
 mod pages;
 
 pub use pages::regenerate_pages;

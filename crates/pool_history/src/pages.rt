@@ -21,7 +21,7 @@ use grid_stamps::across_axis;
 use grid_stamps::down_axis;
 use grid_stamps::stamp;
 
-// Page p, which holds a grid of that level, stamped with n where the rectangle touches a tile. The other pages stay.
+// Stamps page p, which holds the grid of a level, with n where the rectangle touches a tile. The other pages stay.
 pub fn stamp_page(
     newest: &mut [u64],
     stamps: &mut [u64],
@@ -48,7 +48,7 @@ pub fn stamp_page(
     newest[p] = latest;
 }
 
-// A regeneration makes every level anew but the first, which it reads.
+// Stamps a page whole, unless it is the first level's: a regeneration reads that one and makes all others from it.
 fn regenerate_page(
     newest: &mut [u64],
     stamps: &mut [u64],
@@ -80,15 +80,15 @@ fn regenerate_page(
     );
 }
 
-// The level of the page behind one of this level: the first again behind the last.
+// Returns the level of the page after one of this level: after the last comes the next slice's first.
 fn next_level(level: u64, levels: u64) -> u64
-    requires { ⌜ (level < levels) × (levels ≤ 15) ⌝ }
+    requires { ⌜ level < levels ⌝ }
     ensures { λ r. ⌜ r ≡ (level + 1) % levels ⌝ }
 {
     if level + 1 < levels { level + 1 } else { 0 }
 }
 
-// The pages of a history from `page` on, every level but the first stamped whole.
+// Stamps the `pages` pages of a history from `page` on, every level but the first whole.
 pub fn regenerate_pages(
     newest: &mut [u64],
     stamps: &mut [u64],
@@ -111,7 +111,7 @@ pub fn regenerate_pages(
     }
 }
 
-// Of the `used` pages, the n from `page` on taken out: the later ones move down.
+// Takes the n pages from `page` on out of the `used` ones. The later ones move down.
 pub fn remove_pages(newest: &mut [u64], stamps: &mut [u64], used: usize, page: usize, n: usize)
     requires { ⌜ (page + n ≤ used) × (used ≤ length (now newest)) × (pageStamps * used ≤ length (now stamps)) ⌝ }
     ensures { λ _. ⌜

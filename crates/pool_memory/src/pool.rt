@@ -22,7 +22,7 @@ pub struct Pool {
     pub line: u64,
 }
 
-// The same counts, put one by one. Copied as a block at several exits of a call, they would be kept in memory by the compiler.
+// Returns the same counts, put one by one: copied as a block at several exits of a call, they would be kept in memory by the compiler.
 pub fn same_counts(pool: Pool) -> Pool
     ensures { λ r. ⌜ r ≡ pool ⌝ }
 {

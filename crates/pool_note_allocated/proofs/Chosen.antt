@@ -30,7 +30,7 @@ use Rattle.pool_memory.proofs.Same.{doomed-model}
 use Rattle.pool_memory.proofs.Stays.{textures-fit, spares-fit, doomed-bound}
 use Rattle.pool_memory.proofs.Tracked.{shape-at, shape-passes}
 use Rattle.pool_relief_line.specs.Line.{bytesOfAged, isBefore, isAt, bytesBefore, IsLine, freedWith, parkedOf, countBefore, takenAt, gives}
-use Rattle.pool_relief_line.specs.Parked.{parkedAt, parkings, bytesFrom, recordSpares, recordBytes, Countable}
+use Rattle.pool_relief_line.specs.Parked.{parkedAt, parkings, bytesFrom, recordSpares, recordBytes, mostVersionBytes, Countable}
 use Rattle.pool_relief_line.proofs.Picked.{all-picked, freed-append}
 use Rattle.pool_relief_line.proofs.ByLine.{agedAll, aged-append, before-run, at-run, gives-among, aged-bytes}
 use Rattle.pool_relief_line.proofs.Parked.{length-parkings, gives-most, gives-sum, before-most}
@@ -119,11 +119,12 @@ module _ (l : Lent) where
       fits = textures-fit l f;
       runs = spares-fit l f;
       shapes = λ i h. shape-passes l i h f;
+      few = omega (arith, f .kept, f .versions, f .most);
       bytes = omega (arith, bytes-most records-shaped, f .kept, f .versions, f .most);
     }
 
     -- the destroy queue's bytes
-    pub dooming-most : l .pool .dooming ≤ 72057594037927936
+    pub dooming-most : l .pool .dooming ≤ mostVersionBytes
     unfolding modelOf
     dooming-most = omega (arith, f .formed .dooming, doomed-bound (f .formed .doomed), doomed-model l, f .versions, f .most)
 

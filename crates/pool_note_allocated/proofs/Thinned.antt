@@ -63,7 +63,7 @@ module _ (l : Lent) where
   unfolding modelOf firstSpare
   first-count i = ap (total spareCount) (take-states l i 0 0 (trackedRecords l)) ∙ kept-states l 0 0 (take i (trackedRecords l))
 
-  -- texture i behind the first i
+  -- texture i after the first i
   pub take-next : (i : ℕ) → i < l .pool .tracked → take (suc i) (modelOf l .textures) ≡ take i (modelOf l .textures) ++ (stateOf l i ∷ [])
   take-next i h =
       take-suc (modelOf l .textures) i (stateOf l i) (omega (arith, tracked-model l))
@@ -149,7 +149,7 @@ module _ (l : Lent) where
         ≡ total spareCount (map (lessened k) (first i)) + (recordOf i .spares - gave i) =
         omega (arith, length-drop (gave i) (stateOf l i .spares), count-at l i h) in e)
 
-    -- the spares that texture i keeps are those behind the ones that it gave
+    -- the spares that texture i keeps are those after the ones that it gave
     kept-run : (i : ℕ) → i < l .pool .tracked → gave i ≤ recordOf i .spares
         → map spareRecord (drop (gave i) (stateOf l i .spares))
         ≡ listed (recordAt spareStride readSpare (l .spares)) (firstSpare l i + gave i) (recordOf i .spares - gave i)

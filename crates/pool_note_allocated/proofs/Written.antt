@@ -39,7 +39,7 @@ module _ {ℓ} {A : Type ℓ} {w : ℕ} {rd : List ℕ → A} {wr : A → List �
   unfolding recordAt
   record-over xs s j h = ap rd (drop-over (flat wr xs) s (w * j) (omega (arith, length-flat C xs, mul-le-mul-left {m = length xs} {n = j} w h)))
 
-  -- the run of n records from `from` on moved down behind the records xs that were written
+  -- the run of n records from `from` on moved down after the records xs that were written
   pub moved-run : (xs : List A) (s : List ℕ) (to from n : ℕ) → length xs ≡ to → to ≤ from → w * (from + n) ≤ length s
       → moved (over (flat wr xs) s) (w * to) (w * from) (w * n) ≡ over (flat wr (xs ++ listed (recordAt w rd s) from n)) s
   unfolding moved over
@@ -72,7 +72,7 @@ count-front : (q : List ℕ) (v : ℕ) → textureStride ≤ length q → set q 
 unfolding writeTexture over flat
 count-front q v h = ap (λ (l : List ℕ). set l textureSparesAt v) (sym (take-append-drop textureStride q) ∙ ap (λ (l : List ℕ). l ++ drop textureStride q) (sym (texture-codec .back q h)))
 
--- the number of spares of the record behind those written
+-- the number of spares of the record after those written
 pub count-set : (xs : List TextureRecord) (s : List ℕ) (i v : ℕ) → length xs ≡ i → textureStride * i + textureStride ≤ length s
     → set (over (flat writeTexture xs) s) (textureStride * i + textureSparesAt) v ≡ over (flat writeTexture (xs ++ (withCount v (textureIn s i) ∷ []))) s
 unfolding over recordAt

@@ -22,7 +22,7 @@ abbrev pub sparesGiven : ℕ → Lent → List (Doomed ℕ)
 sparesGiven excess l =
     flatMap (λ (t : VersionState ℕ). asDoomed (bytesOf (t .shape)) (take (countOf (t .id) (pickedIn excess (modelOf l))) (t .spares))) (modelOf l .textures)
 
--- what relief leaves: that many spares in the slices as they are then, bytes of so many given up
+-- what relief leaves: `kept` spares, the slices as they are then, and the bytes of the spares given up
 pub record Relieves (l : Lent) (excess kept bytes : ℕ) (textures doomed spares : List ℕ) : Type 0 where
   pub count : kept ≡ poolAfter (relievedPool excess l) l .kept
   pub sum : bytes ≡ doomedBytes (sparesGiven excess l)
@@ -30,7 +30,7 @@ pub record Relieves (l : Lent) (excess kept bytes : ℕ) (textures doomed spares
   pub ring : doomed ≡ doomedAfter (relievedPool excess l) l
   pub runs : spares ≡ sparesAfter (relievedPool excess l) l
 
--- the counts when so many spares are kept, and bytes of so many went to the destroy queue
+-- the counts when `kept` spares are left, and `bytes` bytes went to the destroy queue
 abbrev pub countsAfter : Counts → ℕ → ℕ → Counts
 countsAfter c kept bytes = record {
   tracked = c .tracked;
@@ -49,7 +49,7 @@ countsAfter c kept bytes = record {
   line = c .line;
 }
 
--- the book with the mark and the excess of that many allocated bytes
+-- the book with the mark and the excess of `allocated` bytes
 abbrev pub notedBook : Counts → PacingBook → ℕ → PacingBook
 notedBook c b allocated = record {
   arrivals = b .arrivals;

@@ -1,4 +1,4 @@
-// One texture gives up its oldest spares: they go to the back of the destroy ring, the others move down behind the spares of the
+// One texture gives up its oldest spares: they go to the end of the destroy ring, the others move down after the spares of the
 // textures before, and the texture's record counts those that are left.
 ghost use mathlib.Core.Path.{_≡_};
 ghost use Prim.Native.Nat.{_+_, _-_, _*_, _≤_, _<_};
@@ -14,8 +14,8 @@ use pool_records::TEXTURE_SPARES_AT;
 use pool_records::TEXTURE_STRIDE;
 use pool_take_doomed::push_spares;
 
-// Texture i has n spares from place `from` on and gives `count` of them, each of so many bytes; the others move down to place
-// `to`. The destroy ring has `queued` versions.
+// Gives up the oldest `count`, of `bytes` bytes each, of the n spares that texture i has from place `from` on. The others move down
+// to place `to`. The destroy ring has `queued` versions.
 pub fn give_spares(
     textures: &mut [u64],
     i: usize,

@@ -1,4 +1,5 @@
-// note_allocated: under pressure the oldest spares of all textures go to the destroy queue, until their bytes cover the excess.
+// The call `note_allocated`: under pressure the oldest spares of all textures go to the destroy queue, until their bytes cover the
+// excess.
 mod calls;
 mod give;
 mod relieve;

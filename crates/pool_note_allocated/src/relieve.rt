@@ -32,7 +32,7 @@ pub struct Step {
     pub freed: u64,
 }
 
-// Texture i gives what was picked of it. Its spares begin at place `from`; those that it keeps move down to place `to`.
+// Lets texture i give what was picked of it. Its spares begin at place `from`; those that it keeps move down to place `to`.
 fn relieve_texture(
     textures: &mut [u64],
     i: usize,
@@ -93,7 +93,8 @@ pub struct Relief {
     pub bytes: u64,
 }
 
-// Every texture gives what was picked of it, by the line. `freed` are the bytes queued already and those parked before the line.
+// Lets every texture give what was picked of it, by the line. `freed` are the bytes queued already and those parked before the
+// line.
 pub fn relieve(
     pool: Pool,
     book: PacingBook,

@@ -1,4 +1,4 @@
--- What is left in the lent memory of a texture whose history changes: dropped, stamped by a write, made anew by a regeneration. Assumes nothing.
+-- What is left in the lent memory of a texture whose history changes: dropped, stamped by a write, made again by a regeneration. Assumes nothing.
 use mathlib.Core.Path.{_≡_, refl, sym, ap, ap₂, _∙_, subst}
 use mathlib.Core.Bool.{true}
 use mathlib.Core.Option.{Option, none, some}
@@ -207,7 +207,7 @@ module _ (l : Lent) (f : Fits l) (i : ℕ) (h : i < l .pool .tracked) where
       abbrev afterRegeneration : Option WriteHistory
       afterRegeneration = some (stampRegeneration shape old)
 
-      -- the grids that the rule makes are those that the pages hold, made anew
+      -- the grids that the rule makes are those that the pages hold, made again
       made-grids : remadeGrids (textureIn (l .textures) i .shape) (suc (old .writes)) (l .newest) (l .stamps) (pagesUpTo (l .textures) i) (pagesHere (l .textures) i) ≡ gridsOf afterRegeneration
       unfolding stampRegeneration remadeGrids gridRead gridOn
       made-grids =

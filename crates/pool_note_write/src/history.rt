@@ -28,7 +28,7 @@ use pool_history::stamp_page;
 use pool_records::Recorded;
 use pool_records::TextureRecord;
 
-// What record i, where the search for the id ended, says of its history. A texture that is not tracked has none.
+// Returns what record i, where the search for the id ended, says of its history. A texture that is not tracked has none.
 pub fn history_at(textures: &[u64], tracked: usize, i: usize, id: u64) -> Recorded
     requires { ⌜ textureStride * tracked ≤ length (now textures) ⌝ }
     ensures { λ r. ⌜ r ≡ recordedAt (now (textures .entry)) tracked i id ⌝ }
@@ -40,14 +40,14 @@ pub fn history_at(textures: &[u64], tracked: usize, i: usize, id: u64) -> Record
     t.history
 }
 
-// Whether the shape has the subresource.
+// Tells whether the shape has the subresource.
 pub fn in_shape(s: VersionShape, slice: u64, level: u64) -> bool
     ensures { λ r. ⌜ r ≡ inShape s slice level ⌝ }
 {
     (slice < slices(s)) & (level < s.levels)
 }
 
-// Record i with another history.
+// Writes record i over with another history.
 pub fn set_history(textures: &mut [u64], i: usize, history: Recorded)
     requires { ⌜ (textureStride * i + textureStride ≤ length (now textures)) × RecordedFits history ⌝ }
     ensures { λ _. ⌜ now (textures .exit)
@@ -69,7 +69,7 @@ pub fn set_history(textures: &mut [u64], i: usize, history: Recorded)
     put_texture(textures, i, u);
 }
 
-// The page of a subresource of texture i, which has that many levels: its pages stand slice by slice, level by level.
+// Returns the page of a subresource of texture i, which has `levels` levels: its pages stand slice by slice, level by level.
 pub fn page_of(textures: &[u64], i: usize, levels: u64, slice: u64, level: u64) -> usize
     requires { ⌜ (textureStride * i ≤ length (now textures)) × (pagesUpTo (now textures) i + (slice * levels + level) ≤ mostPlaces) ⌝ }
     ensures { λ r. ⌜ r ≡ pagesUpTo (now (textures .entry)) i + (slice * levels + level) ⌝ }
@@ -78,7 +78,7 @@ pub fn page_of(textures: &[u64], i: usize, levels: u64, slice: u64, level: u64) 
     page + (slice * levels + level) as usize
 }
 
-// The page of a subresource of texture i stamped with n.
+// Stamps the page of a subresource of texture i with n, where the rectangle touches a tile.
 pub fn stamp_subresource(
     textures: &[u64],
     newest: &mut [u64],
@@ -105,7 +105,7 @@ pub fn stamp_subresource(
     stamp_page(newest, stamps, p, shape, level, rect, n);
 }
 
-// The pages of texture i, every level but the first stamped whole.
+// Stamps the pages of texture i with n, every level but the first whole.
 pub fn regenerate_history(
     textures: &[u64],
     newest: &mut [u64],
@@ -130,7 +130,7 @@ pub fn regenerate_history(
     regenerate_pages(newest, stamps, page, pages, t.shape, n);
 }
 
-// The pages of texture i taken out of the `used` ones. The answer is how many are left.
+// Takes the pages of texture i out of the `used` ones. Returns how many are left.
 pub fn drop_history(
     textures: &[u64],
     newest: &mut [u64],

@@ -127,7 +127,7 @@ held-fits failed v h = go (not (eqb failed 0) && leb (v .birth) failed)
     go true = omega arith
     go false = omega (arith, h)
 
--- a texture's record with one more spare, and the spare behind those that it has; u is the record that was read, m the spares before the texture's
+-- a texture's record with one more spare, and the spare after those that it has; u is the record that was read, m the spares before the texture's
 module _ (a : List ℕ) (i : ℕ) (u : TextureRecord) (read : u ≡ textureIn a i) where
   pub keep-history : (w : TextureRecord) → w ≡ oneMore u → RecordedFits (textureIn a i .history) → RecordedFits (w .history)
   keep-history w more h = subst (λ (t : TextureRecord). RecordedFits (t .history)) (sym (more ∙ ap oneMore read)) h

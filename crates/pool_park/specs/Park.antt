@@ -48,6 +48,6 @@ oneMore t = record {
   bytes = t .bytes;
 }
 
--- the place behind the spares of texture i
+-- the place after the spares of texture i
 abbrev pub sparesEnd : List ℕ → ℕ → ℕ
 sparesEnd textures i = total (λ (t : TextureRecord). t .spares) (texturesIn i textures) + textureIn textures i .spares

@@ -1,11 +1,11 @@
-// The pool's counts after parking.
+// The pool's counts after parking. The ring begins at `head` then, without the hand.
 ghost use mathlib.Core.Path.{_≡_};
 ghost use Prim.Native.Nat.{_+_, _≤_, _<_, _^_};
 ghost use Rattle.pool_park.specs.Counts.{handKept, handDoomed};
 ghost use Rattle.pool_rules.specs.RuleConstants.{mostPlaces};
 use pool_memory::Pool;
 
-// The hand's version parked. The ring begins at `head` without it.
+// Returns the counts with the hand's version kept as a spare.
 pub fn hand_kept(pool: Pool, head: usize, bytes: u64) -> Pool
     requires { ⌜ (pool .kept ≤ mostPlaces) × (pool .parked + bytes ≤ pool .cap) ⌝ }
     ensures { λ r. ⌜ r ≡ handKept head bytes pool ⌝ }
@@ -18,7 +18,7 @@ pub fn hand_kept(pool: Pool, head: usize, bytes: u64) -> Pool
     after
 }
 
-// The hand's version queued for destruction.
+// Returns the counts with the hand's version queued for destruction.
 pub fn hand_doomed(pool: Pool, head: usize, bytes: u64) -> Pool
     requires { ⌜ (pool .doomed ≤ mostPlaces) × (pool .since ≤ mostPlaces) × (pool .dooming + bytes < 2 ^ 64) ⌝ }
     ensures { λ r. ⌜ r ≡ handDoomed head bytes pool ⌝ }

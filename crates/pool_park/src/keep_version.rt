@@ -21,7 +21,8 @@ use pool_records::SpareRecord;
 use pool_records::TextureRecord;
 use pool_rules::Held;
 
-// Unknown if a submission that the version was live through failed.
+// Returns the writes that the version holds, or unknown if it was live through a submission that failed: it may lack a copy or an
+// upload that the submission carried.
 fn held_parked(v: RetiringRecord, failed: u64) -> Held
     ensures { λ r. ⌜ r ≡ heldParked failed v ⌝ }
 {
@@ -31,6 +32,8 @@ fn held_parked(v: RetiringRecord, failed: u64) -> Held
     Held::Known(v.held)
 }
 
+// Returns the spare that the version becomes. Its idle time counts from `current`, the submission that it is parked in: a version
+// that the GPU retired late is no older for it.
 pub fn spare_parked(v: RetiringRecord, failed: u64, current: u64) -> SpareRecord
     ensures { λ r. ⌜ r ≡ spareParked failed current v ⌝ }
 {
@@ -42,7 +45,7 @@ pub fn spare_parked(v: RetiringRecord, failed: u64, current: u64) -> SpareRecord
     }
 }
 
-// A texture with one more spare.
+// Returns a texture's record with one more spare.
 fn one_more(t: TextureRecord) -> TextureRecord
     requires { ⌜ t .spares ≤ mostPlaces ⌝ }
     ensures { λ r. ⌜ r ≡ oneMore t ⌝ }
@@ -52,7 +55,7 @@ fn one_more(t: TextureRecord) -> TextureRecord
     u
 }
 
-// The version is the newest spare of texture i, behind those that it has. All `tracked` textures have `kept`.
+// Puts the version in as the newest spare of texture i, after those that it has. All `tracked` textures have `kept`.
 pub fn keep_version(
     textures: &mut [u64],
     spares: &mut [u64],

@@ -1,4 +1,4 @@
-// park, on stores that form a pool: the version in the hand is kept as its texture's newest spare, or queued for destruction.
+// The call `park`: the version in the hand is kept as its texture's newest spare, or queued for destruction.
 mod calls;
 mod counts;
 mod keep_version;

@@ -18,7 +18,7 @@ pub enum Parking {
     Kept(u64),
 }
 
-// The number of the first refusal, or 0.
+// Returns the number of the first refusal, or 0.
 pub fn park_refusal(pool: Pool, failed: u64, current: u64) -> u64
     ensures { λ r. ⌜ r ≡ parkRefusal pool failed current ⌝ }
 {
@@ -31,8 +31,9 @@ pub fn park_refusal(pool: Pool, failed: u64, current: u64) -> u64
     0
 }
 
-// Decided by the texture's record, which the search for the version's id ended at. The cap is compared by what is left of it, so
-// that no sum can wrap.
+// Decides by the texture's record, at which the search for the version's id ended. A version is destroyed if its texture is gone or
+// was tracked again since it retired, under memory pressure, or if it would take the spares past the cap. The cap is compared by
+// what is left of it, so that no sum can wrap.
 pub fn park_or_destroy(
     pool: Pool,
     pressed: bool,

@@ -1,4 +1,4 @@
--- Laws of the two passes over a plan: those that are left, and copies written one behind the other. Assumes nothing.
+-- Laws of the two passes over a plan: those that are left, and copies written one after the other. Assumes nothing.
 use mathlib.Core.Path.{_≡_, refl, sym, ap, _∙_}
 use mathlib.Core.List.{List, [], _∷_, _++_, append-nil, flatMap}
 use Prim.Native.Nat.{ℕ, _+_, _*_, _≤_, _<_}
@@ -118,7 +118,7 @@ with-front cs b h =
     sets-eq (flat copyNumbers cs) b 0 (omega (arith, length-copies cs))
     ∙ ap (λ (k : ℕ). flat copyNumbers cs ++ drop k b) (zero-add (length (flat copyNumbers cs)))
 
--- the rest is to be written behind those that are
+-- the rest is to be written after those that are
 module _ (f : ℕ → List PreserveCopy) (n : ℕ) where
   pub put-more : (i count : ℕ) (b goal : List ℕ) → i < n → withCopies count (rest f n i) b ≡ goal
       → withCopies (count + length (f i)) (rest f n (i + 1)) (withCopies count (f i) b) ≡ goal

@@ -78,6 +78,6 @@ lentCopies newest stamps s since u = inOrder (sliceCopies newest stamps s since 
 
 -- ---- the buffer
 
--- copies written behind the first `at` of a buffer, seven numbers each
+-- copies written after the first `at` of a buffer, seven numbers each
 unfoldable pub withCopies : ℕ → List PreserveCopy → List ℕ → List ℕ
 withCopies at cs buffer = sets buffer (copyStride * at) (flat copyNumbers cs)

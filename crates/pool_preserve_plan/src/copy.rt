@@ -30,13 +30,14 @@ pub enum Planned {
     Copied(Region),
 }
 
+// Tells whether two rectangles are equal.
 fn same_rect(a: TexelRect, b: TexelRect) -> bool
     ensures { λ r. ⌜ r ≡ sameRect a b ⌝ }
 {
     (a.x == b.x) & (a.y == b.y) & (a.width == b.width) & (a.height == b.height)
 }
 
-// A box equal to the level is reported as whole.
+// Plans the copy of a box. One that is the whole level is reported as whole.
 fn box_planned(shape: VersionShape, level: u64, dirty: Dirty) -> Planned
     ensures { λ r. ⌜ r ≡ boxPlanned shape level dirty ⌝ }
 {
@@ -51,7 +52,7 @@ fn box_planned(shape: VersionShape, level: u64, dirty: Dirty) -> Planned
     Planned::Copied(Region::Part(part))
 }
 
-// The box since `held`, from the grid on page k.
+// Returns the box of the tiles stamped after `held`, from the grid on page k.
 fn page_since(
     newest: &[u64],
     stamps: &[u64],
@@ -70,8 +71,9 @@ fn page_since(
     written_since(&stamps[a..e], across, down, newest[k], held)
 }
 
-// The copy of a slice's level: none where the upload rewrites it entirely, whole where nothing is known, otherwise the box since
-// the held writes.
+// Plans the copy of a slice's level: none where the upload rewrites it entirely, whole where nothing is known, otherwise the box of
+// what was written after the new version retired. A box that the upload's rectangle covers is copied still: the upload can decline
+// after the rename, and the version must be whole without it.
 pub fn copy_at(
     newest: &[u64],
     stamps: &[u64],
@@ -96,7 +98,7 @@ pub fn copy_at(
     box_planned(shape, level, dirty)
 }
 
-// Seven numbers a copy: slice, level, whole or not, left, top, width, height.
+// Returns the seven numbers of a copy: slice, level, whole or not, left, top, width, height.
 pub fn copy_numbers(slice: u64, level: u64, region: Region) -> [u64; COPY_STRIDE]
     ensures { λ r. ⌜ r ≡ copyNumbersOf slice level region ⌝ }
 {

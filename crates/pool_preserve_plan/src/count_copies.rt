@@ -13,6 +13,7 @@ use crate::since::Upload;
 use grid_shapes::VersionShape;
 use grid_shapes::slices;
 
+// Counts a subresource's copy: 1, or 0 if it is left out.
 fn copy_count(planned: Planned) -> usize
     ensures { λ r. ⌜ (r ≤ 1) × (r ≡ length (copyList planned 0 0)) ⌝ }
 {
@@ -22,7 +23,7 @@ fn copy_count(planned: Planned) -> usize
     }
 }
 
-// The copies of one slice.
+// Counts the copies of one slice.
 fn count_slice(
     newest: &[u64],
     stamps: &[u64],
@@ -44,7 +45,7 @@ fn count_slice(
     count
 }
 
-// The copies of every slice.
+// Counts the copies of every slice.
 pub fn count_copies(
     newest: &[u64],
     stamps: &[u64],

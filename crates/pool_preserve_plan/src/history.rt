@@ -20,13 +20,14 @@ use pool_records::find_texture;
 use pool_rules::Held;
 use pool_rules::LIMIT;
 
-// A texture tracked with another shape; one with no history, tracked or not; the first page and the write count of a history.
+// A texture tracked with another shape; one with no history, tracked or not; or the first page and the write count of a history.
 pub enum Found {
     OtherShape,
     NothingRecorded,
     History { page: usize, writes: u64 },
 }
 
+// Looks up the history of a texture that the plan takes to have this shape.
 pub fn find_history(textures: &[u64], tracked: usize, id: u64, shape: VersionShape) -> Found
     requires { ⌜ (textureStride * tracked ≤ length (now textures)) × (ascending idOf (texturesIn tracked (now textures)) ≡ true)
         × (total recordPages (texturesIn tracked (now textures)) ≤ mostPlaces) ⌝ }
@@ -48,7 +49,8 @@ pub fn find_history(textures: &[u64], tracked: usize, id: u64, shape: VersionSha
     Found::History { page, writes }
 }
 
-// The copies are bounded from that page on, where the held writes are known.
+// Returns what bounds the copies from that page on, where the held writes are known: a spare of unknown contents gets every level
+// whole.
 fn since_held(page: usize, held: Held) -> Since
     ensures { λ r. ⌜ r ≡ sinceHeld page held ⌝ }
 {
@@ -58,7 +60,7 @@ fn since_held(page: usize, held: Held) -> Since
     }
 }
 
-// What bounds the copies.
+// Returns what bounds the copies: a history and held writes that are known, or nothing.
 pub fn since_of(found: Found, held: Held) -> Since
     ensures { λ r. ⌜ r ≡ sinceOf found held ⌝ }
 {
@@ -69,6 +71,7 @@ pub fn since_of(found: Found, held: Held) -> Since
     }
 }
 
+// Tells whether the texture is tracked with another shape.
 pub fn is_other(found: Found) -> bool
     ensures { λ r. ⌜ r ≡ isOther found ⌝ }
 {
@@ -79,7 +82,7 @@ pub fn is_other(found: Found) -> bool
     }
 }
 
-// Whether the history's write count is spent.
+// Tells whether the history's write count is spent.
 pub fn is_spent(found: Found) -> bool
     ensures { λ r. ⌜ r ≡ isSpent found ⌝ }
 {

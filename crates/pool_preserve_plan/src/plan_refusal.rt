@@ -17,7 +17,8 @@ use grid_shapes::VersionShape;
 use grid_shapes::is_shape;
 use grid_shapes::slices;
 
-// More copies than the buffer has room for. They are counted only where that could be: a plan has at most one a slice and level.
+// Tells whether there are more copies than the buffer has room for. They are counted only where that could be: a plan has at most
+// one for each slice and level.
 fn is_short(
     newest: &[u64],
     stamps: &[u64],
@@ -36,7 +37,8 @@ fn is_short(
     room < count_copies(newest, stamps, shape, since, upload)
 }
 
-// The plan would skip a covered level of a history whose write count is spent: its covering write could not be taken.
+// Tells whether the plan would leave out a covered level of a history whose write count is spent: the write that covers it could
+// not be counted, so that the version would lack its texels.
 fn skips_spent(shape: VersionShape, found: Found, upload: Upload) -> bool
     ensures { λ r. ⌜ r ≡ skipsSpent shape found (footprint upload) ⌝ }
 {
@@ -44,7 +46,7 @@ fn skips_spent(shape: VersionShape, found: Found, upload: Upload) -> bool
     upload.cover & inside & is_spent(found)
 }
 
-// 01's number, the lowest that applies; 0 if none does.
+// Returns 01's number of the first refusal, or 0.
 pub fn plan_refusal(
     newest: &[u64],
     stamps: &[u64],

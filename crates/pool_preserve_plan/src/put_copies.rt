@@ -17,7 +17,7 @@ use grid_shapes::VersionShape;
 use grid_shapes::slices;
 use pool_memory::COPY_STRIDE;
 
-// A subresource's copy, if there is one, behind the `at` copies of the buffer. The answer is how many there are then.
+// Stores a subresource's copy, if there is one, after the `at` copies of the buffer. Returns how many there are then.
 fn put_copy(buffer: &mut [u64], at: usize, planned: Planned, slice: u64, level: u64) -> usize
     requires { ⌜ copyStride * (at + length (copyList planned slice level)) ≤ length (now buffer) ⌝ }
     ensures { λ r. ⌜ (r ≡ at + length (copyList planned slice level))
@@ -31,7 +31,7 @@ fn put_copy(buffer: &mut [u64], at: usize, planned: Planned, slice: u64, level: 
     at + 1
 }
 
-// The copies of one slice.
+// Stores the copies of one slice after the `at` copies of the buffer. Returns how many there are then.
 fn put_slice(
     buffer: &mut [u64],
     at: usize,
@@ -58,7 +58,7 @@ fn put_slice(
     count
 }
 
-// The copies of every slice, from the front of the buffer on.
+// Stores the copies of every slice from the front of the buffer on. Returns how many there are.
 pub fn put_copies(
     buffer: &mut [u64],
     newest: &[u64],

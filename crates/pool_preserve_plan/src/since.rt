@@ -1,7 +1,6 @@
 // What a plan goes by.
 
-// The copies are bounded where both are known: the first page of the texture's history, and the writes that the new version
-// holds.
+// What bounds the copies, where both are known: the first page of the texture's history, and the writes that the new version holds.
 pub enum Since {
     After { page: usize, held: u64 },
     Nothing,

@@ -12,6 +12,7 @@ pub struct DoomedRecord {
     pub bytes: u64,
 }
 
+// Reads a record from the front of the numbers.
 pub fn read_doomed(p: &[u64]) -> DoomedRecord
     requires { ⌜ doomedStride ≤ length (now p) ⌝ }
     ensures { λ r. ⌜ r ≡ readDoomed (now (p .entry)) ⌝ }
@@ -22,6 +23,7 @@ pub fn read_doomed(p: &[u64]) -> DoomedRecord
     }
 }
 
+// Returns a record's numbers.
 pub fn doomed_numbers(x: DoomedRecord) -> [u64; DOOMED_STRIDE]
     ensures { λ r. ⌜ r ≡ writeDoomed x ⌝ }
 {

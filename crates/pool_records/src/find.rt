@@ -1,5 +1,5 @@
-// The place of an id among the textures' records, by halves and then by a count of the last few: a call finds its texture in a few reads however
-// many are tracked.
+// The place of an id among the textures' records, by halving and then by a count of the last few: a call finds its texture in a few
+// reads however many are tracked.
 ghost use mathlib.Core.Path.{_≡_};
 ghost use mathlib.Core.Bool.{true};
 ghost use Prim.Native.Nat.{_*_, _≤_};
@@ -9,7 +9,7 @@ ghost use Rattle.pool_records.specs.Find.{textures, idOf, below};
 ghost use Rattle.pool_records.specs.RecordConstants.{textureStride};
 use crate::constants::TEXTURE_STRIDE;
 
-// How many of the first n records have an id below this one. Its texture is at that place, or nowhere.
+// Counts, of the first n records, those that have an id below this one. The id's texture is at that place, or nowhere.
 pub fn find_texture(s: &[u64], n: usize, id: u64) -> usize
     requires { ⌜ (textureStride * n ≤ length (now s)) × (ascending idOf (textures n (now s)) ≡ true) ⌝ }
     ensures { λ r. ⌜ r ≡ below id (textures n (now (s .entry))) ⌝ }
@@ -24,7 +24,7 @@ pub fn find_texture(s: &[u64], n: usize, id: u64) -> usize
             hi = mid;
         }
     }
-    // Among so few, a count without branches is quicker than more halves.
+    // Among eight at most, a count without branches is quicker than more halving.
     let mut place = lo;
     while lo < hi {
         place += (s[TEXTURE_STRIDE * lo] < id) as usize;

@@ -4,6 +4,7 @@ ghost use mathlib.Core.Path.{_≡_};
 ghost use Rattle.pool_records.specs.Held.{heldOf, heldNumber, HeldFits};
 use pool_rules::Held;
 
+// Returns what the number stands for.
 pub fn read_held(n: u64) -> Held
     ensures { λ r. ⌜ r ≡ heldOf n ⌝ }
 {
@@ -14,6 +15,7 @@ pub fn read_held(n: u64) -> Held
     }
 }
 
+// Returns the number that stands for the held writes.
 pub fn held_number(h: Held) -> u64
     requires { ⌜ HeldFits h ⌝ }
     ensures { λ r. ⌜ r ≡ heldNumber h ⌝ }

@@ -8,6 +8,7 @@ pub enum Recorded {
     NoHistory,
 }
 
+// Returns what the number stands for.
 pub fn read_recorded(n: u64) -> Recorded
     ensures { λ r. ⌜ r ≡ recordedOf n ⌝ }
 {
@@ -18,6 +19,7 @@ pub fn read_recorded(n: u64) -> Recorded
     }
 }
 
+// Returns the number that stands for the history.
 pub fn recorded_number(h: Recorded) -> u64
     requires { ⌜ RecordedFits h ⌝ }
     ensures { λ r. ⌜ r ≡ recordedNumber h ⌝ }

@@ -1,4 +1,4 @@
-// A version that a rename replaced, until it is parked or handed over. Seven numbers.
+// A version that a rename replaced, until it is parked or handed back. Seven numbers.
 ghost use mathlib.Core.Path.{_≡_};
 ghost use Prim.Native.Nat.{_≤_};
 ghost use lib.ListN.{length};
@@ -16,6 +16,7 @@ pub struct RetiringRecord {
     pub bytes: u64,
 }
 
+// Reads a record from the front of the numbers.
 pub fn read_retiring(p: &[u64]) -> RetiringRecord
     requires { ⌜ retiringStride ≤ length (now p) ⌝ }
     ensures { λ r. ⌜ r ≡ readRetiring (now (p .entry)) ⌝ }
@@ -31,6 +32,7 @@ pub fn read_retiring(p: &[u64]) -> RetiringRecord
     }
 }
 
+// Returns a record's numbers.
 pub fn retiring_numbers(x: RetiringRecord) -> [u64; RETIRING_STRIDE]
     ensures { λ r. ⌜ r ≡ writeRetiring x ⌝ }
 {

@@ -18,6 +18,7 @@ pub struct SpareRecord {
     pub parked: u64,
 }
 
+// Reads a record from the front of the numbers.
 pub fn read_spare(p: &[u64]) -> SpareRecord
     requires { ⌜ spareStride ≤ length (now p) ⌝ }
     ensures { λ r. ⌜ r ≡ readSpare (now (p .entry)) ⌝ }
@@ -30,6 +31,7 @@ pub fn read_spare(p: &[u64]) -> SpareRecord
     }
 }
 
+// Returns a record's numbers.
 pub fn spare_numbers(x: SpareRecord) -> [u64; SPARE_STRIDE]
     requires { ⌜ HeldFits (x .held) ⌝ }
     ensures { λ r. ⌜ r ≡ writeSpare x ⌝ }

@@ -1,5 +1,5 @@
-// A tracked texture. Twenty numbers: the id first, so that a search reads one number a record, then the shape's twelve; the bytes of one version of
-// that shape last, so that no call works them out anew.
+// A tracked texture. Twenty numbers: the id first, so that a search reads one number a record, then the shape's twelve; the bytes
+// of one version of that shape last, so that no call works them out again.
 ghost use mathlib.Core.Path.{_≡_};
 ghost use Prim.Native.Nat.{_≤_};
 ghost use lib.ListN.{length};
@@ -31,6 +31,7 @@ pub struct TextureRecord {
     pub bytes: u64,
 }
 
+// Reads a record from the front of the numbers.
 pub fn read_texture(p: &[u64]) -> TextureRecord
     requires { ⌜ textureStride ≤ length (now p) ⌝ }
     ensures { λ r. ⌜ r ≡ readTexture (now (p .entry)) ⌝ }
@@ -63,6 +64,7 @@ pub fn read_texture(p: &[u64]) -> TextureRecord
     }
 }
 
+// Returns a record's numbers.
 pub fn texture_numbers(x: TextureRecord) -> [u64; TEXTURE_STRIDE]
     requires { ⌜ RecordedFits (x .history) ⌝ }
     ensures { λ r. ⌜ r ≡ writeTexture x ⌝ }

@@ -142,7 +142,7 @@ module _ {W : Type 0} where
       rising-both (t .id) (rising-same (t .id) (aged-id t)) (all-mono (λ a e. omega (arith, e)) (aged-id t)) (aged-rising asc)
       (all-mono (λ a e. omega (arith, e)) (aged-above asc))
 
-  -- one texture among the others: the ids before it are below its own, those behind it above
+  -- one texture among the others: the ids before it are below its own, those after it above
   ascending-parts : (us : List (VersionState W)) (t : VersionState W) (vs : List (VersionState W)) {lo : ℕ} → Ascending lo (us ++ (t ∷ vs))
       → (lo ≤ t .id) × (All (λ (u : VersionState W). u .id < t .id) us × Ascending (suc (t .id)) vs)
   ascending-parts [] t vs (more h asc) = (h, (nil, asc))

@@ -20,6 +20,7 @@ use Rattle.pool_records.specs.declared.texture.TextureRecord.{TextureRecord}
 use Rattle.pool_records.specs.Texture.{readTexture, textureIn}
 use Rattle.pool_records.specs.Spare.{readSpare}
 use Rattle.pool_access.proofs.Fields.{spares-number}
+use Rattle.pool_rules.specs.Model.{limit}
 use Rattle.pool_relief_line.specs.Line.{countBefore, takenAt, gives, IsLine}
 use Rattle.pool_relief_line.specs.Parked.{parkedAt, parkings, bytesFrom, recordSpares, recordBytes}
 use Rattle.pool_records.specs.RecordConstants.{spareParkedAt, spareStride, textureSparesAt, textureStride}
@@ -173,7 +174,7 @@ before-most spares line from (t ∷ ts) =
 -- ---- the line, found by halves: the two ends have met
 
 pub ends-meet : (dooming excess : ℕ) (below : ℕ → ℕ) (lo hi : ℕ) → lo < hi → hi ≤ lo + 1 → dooming + below lo < excess
-    → (excess ≤ dooming + below hi) ⊎ (hi ≡ 281474976710658) → IsLine dooming excess below lo
+    → (excess ≤ dooming + below hi) ⊎ (hi ≡ limit + 2) → IsLine dooming excess below lo
 ends-meet dooming excess below lo hi h k short last = record {
   short = short;
   last =

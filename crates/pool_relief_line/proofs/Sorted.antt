@@ -29,7 +29,7 @@ module _ (a : Aged) where
       go true e = refl
       go false e = ap (λ (l : List Aged). x ∷ l) e
 
-  -- behind those that it comes after
+  -- past those that it comes after
   insert-right : (xs ys : List Aged) → All (λ (b : Aged). notAfter a b ≡ false) xs → insertAged a (xs ++ ys) ≡ xs ++ insertAged a ys
   unfolding insertAged
   insert-right [] ys h = refl
@@ -167,7 +167,7 @@ bytes-next line (x ∷ xs) = go (decLt (x .parked) line) (bytes-next line xs)
 
 -- ---- those parked at one line stand as they stood, where the ids rise
 
--- each id is at most those behind it
+-- each id is at most those after it
 pub data Rising : List Aged → Type 0 where
   level : Rising []
   rise : {a : Aged} {xs : List Aged} → All (λ (b : Aged). a .id ≤ b .id) xs → Rising xs → Rising (a ∷ xs)

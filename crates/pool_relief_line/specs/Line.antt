@@ -40,7 +40,7 @@ parkedOf s = s .parked
 unfoldable pub countBefore : ℕ → List ℕ → ℕ
 countBefore line ps = total (λ (p : ℕ). cond (ltb p line) 1 0) ps
 
--- how many of those at the line it takes to cover the excess, if so many are there
+-- how many of those at the line it takes to cover the excess, if as many are there
 unfoldable pub takenAt : ℕ → ℕ → ℕ → ℕ → List ℕ → ℕ
 takenAt freed excess bytes line [] = 0
 takenAt freed excess bytes line (p ∷ ps) =

@@ -12,6 +12,8 @@ use Rattle.pool_records.specs.Texture.{textureIn, texturesIn}
 use Rattle.pool_records.specs.Spare.{readSpare}
 use Rattle.pool_relief_line.specs.Line.{countBefore}
 use Rattle.pool_records.specs.RecordConstants.{spareStride, textureStride}
+use Rattle.grid_shapes.specs.ShapeConstants.{mostShapeBytes}
+use Rattle.pool_rules.specs.RuleConstants.{mostPlaces}
 
 unfoldable pub parkedAt : List ℕ → ℕ → ℕ
 parkedAt spares k = recordAt spareStride readSpare spares k .parked
@@ -33,9 +35,14 @@ recordSpares t = t .spares
 abbrev pub recordBytes : TextureRecord → ℕ
 recordBytes t = bytesOf (t .shape) * t .spares
 
--- n textures and their spares, as far as they are counted: they are there, and their bytes sum up to 2^56 at most
+-- the most bytes that all versions together can have: 2^56
+abbrev pub mostVersionBytes : ℕ
+mostVersionBytes = mostShapeBytes * mostPlaces
+
+-- n textures and their spares, as far as they are counted: they are there, and as few as there may be places for
 pub record Countable (textures : List ℕ) (n : ℕ) (spares : List ℕ) : Type 0 where
   pub fits : textureStride * n ≤ length textures
   pub runs : spareStride * total recordSpares (texturesIn n textures) ≤ length spares
   pub shapes : (i : ℕ) → i < n → isShape (textureIn textures i .shape) ≡ true
-  pub bytes : total recordBytes (texturesIn n textures) ≤ 72057594037927936
+  pub few : total recordSpares (texturesIn n textures) ≤ mostPlaces
+  pub bytes : total recordBytes (texturesIn n textures) ≤ mostVersionBytes

@@ -15,7 +15,7 @@ pub struct Given {
     pub freed: u64,
 }
 
-// Of the n spares from place `from` on, those parked before the line.
+// Counts, of the n spares from place `from` on, those parked before the line.
 pub fn count_before(spares: &[u64], from: usize, n: usize, line: u64) -> usize
     requires { ⌜ spareStride * (from + n) ≤ length (now spares) ⌝ }
     ensures { λ r. ⌜ (r ≤ n) × (r ≡ countBefore line (parkings (now (spares .entry)) from n)) ⌝ }
@@ -33,7 +33,7 @@ pub fn count_before(spares: &[u64], from: usize, n: usize, line: u64) -> usize
     k
 }
 
-// Of the n spares from place `from` on, those parked at the line, until the bytes cover the excess.
+// Picks, of the n spares from place `from` on, those parked at the line, until the bytes cover the excess.
 fn take_at(
     spares: &[u64],
     from: usize,
@@ -64,7 +64,7 @@ fn take_at(
     Given { count, freed: sum }
 }
 
-// What a texture gives of its n spares from place `from` on.
+// Picks what a texture gives of its n spares from place `from` on.
 pub fn texture_gives(
     spares: &[u64],
     from: usize,

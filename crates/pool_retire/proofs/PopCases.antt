@@ -98,7 +98,7 @@ module _ (l : Lent) (e : isPool l ≡ true) (settled : ℕ) where
       unfolding listed
       pop-none k = nothing (free ∙ ap (popFront (modelOf l) settled) (queue 0 k))
 
-      -- the front, and those behind it
+      -- the front, and those after it
       module _ (some-queued : 0 < l .pool .queued) where
         front : modelOf l .retiring ≡ retiringRead l 0 ∷ listed (retiringRead l) 1 (l .pool .queued - 1)
         unfolding listed

@@ -1,4 +1,4 @@
--- `retire` on a pool: refused as the model's rule refuses, or the version queued behind the others. Assumes nothing.
+-- `retire` on a pool: refused as the model's rule refuses, or the version queued after the others. Assumes nothing.
 use mathlib.Core.Path.{_≡_, refl, sym, ap, ap₂, _∙_}
 use mathlib.Core.Bool.{Bool, true, false, cond}
 use mathlib.Core.Option.{Option}
@@ -106,7 +106,7 @@ module _ (l : Lent) (e : isPool l ≡ true) (id view seq : ℕ) where
         rule ∙ guards-passed (accepted tt queued) (ltb limit seq) (leb (places l) (ringCount (l .pool) + l .pool .kept + l .pool .doomed))
         (ltb seq (lastQueued (l .pool) (l .retiring) (places l))) passed
 
-    -- there is a place behind the ring's last
+    -- there is a place after the ring's last
     pub push-fits : (retiringStride * places l ≤ length (l .retiring)) × (l .pool .head < places l) × (ringCount (l .pool) < places l)
     push-fits =
         let b = refusal-fits l fits in

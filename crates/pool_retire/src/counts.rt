@@ -5,7 +5,7 @@ ghost use Rattle.pool_retire.specs.Counts.{ringCount, oneQueued, frontPo
 ghost use Rattle.pool_rules.specs.RuleConstants.{mostPlaces};
 use pool_memory::Pool;
 
-// The versions in the ring: the hand and the queue.
+// Counts the versions in the ring: the hand and the queue.
 pub fn ring_count(pool: Pool) -> usize
     requires { ⌜ ringCount pool ≤ mostPlaces ⌝ }
     ensures { λ r. ⌜ r ≡ ringCount pool ⌝ }
@@ -13,7 +13,7 @@ pub fn ring_count(pool: Pool) -> usize
     pool.popped + pool.queued
 }
 
-// One more queued.
+// Returns the counts with one more queued.
 pub fn one_queued(pool: Pool) -> Pool
     requires { ⌜ pool .queued ≤ mostPlaces ⌝ }
     ensures { λ r. ⌜ r ≡ oneQueued pool ⌝ }
@@ -23,7 +23,7 @@ pub fn one_queued(pool: Pool) -> Pool
     after
 }
 
-// The queue's front in the hand.
+// Returns the counts with the queue's front in the hand.
 pub fn front_popped(pool: Pool) -> Pool
     requires { ⌜ 0 < pool .queued ⌝ }
     ensures { λ r. ⌜ r ≡ frontPopped pool ⌝ }

@@ -1,5 +1,4 @@
-// A replaced version's way into the pool's hand, on stores that form a pool: queued by `retire`, and taken by `pop_retired` once
-// the graphics chip is done with it.
+// The way of a replaced version into the pool's hand: queued by `retire`, and taken by `pop_retired` once the GPU is done with it.
 mod calls;
 mod counts;
 

@@ -3,7 +3,9 @@ ghost use mathlib.Core.Path.{_≡_};
 ghost use Rattle.pool_rules.specs.Budget.{budgetOf, resumeBelow};
 
 // Most bytes of spares on any device. The Rust: not the bound that normally acts, which is SPARE_MAX_IDLE_SUBMITS, but that bound's
-// worst case in the busiest measured scene: eight submissions of 134 MiB of retired versions.
+// worst case in the busiest measured scene: eight submissions of 134 MiB of retired versions. Versions queued for destruction do
+// not count: they leave within a few drains, and counting them would keep the pool turning versions away for as long as that queue
+// fed itself.
 const VERSION_POOL_CEILING_BYTES: u64 = 1 << 30;
 
 // The working set's divisor that gives the cap below the ceiling. The Rust: an eighth keeps the pool's share of a small machine's
@@ -22,7 +24,8 @@ pub struct VersionBudget {
 }
 
 impl VersionBudget {
-    // The budget for a device whose recommended working set is that many bytes.
+    // Returns the budget for a device whose recommended working set is `working` bytes. A working set of 0, which Metal does not report
+    // for a real device, leaves the ceiling as the cap and no pressure line.
     pub fn from_working_set(working: u64) -> VersionBudget
         ensures { λ r. ⌜ r ≡ budgetOf working ⌝ }
     {
@@ -39,21 +42,21 @@ impl VersionBudget {
         }
     }
 
-    // Most bytes of spares that the pool parks.
+    // Returns the most bytes of spares that the pool parks.
     pub fn spare_cap(self) -> u64
         ensures { λ r. ⌜ r ≡ self .cap ⌝ }
     {
         self.cap
     }
 
-    // Allocated bytes above which the pool gives its spares back.
+    // Returns the allocated bytes above which the pool gives its spares back.
     pub fn pressure_above(self) -> u64
         ensures { λ r. ⌜ r ≡ self .line ⌝ }
     {
         self.line
     }
 
-    // Allocated bytes that the process has to fall below before parking resumes.
+    // Returns the allocated bytes that the process has to fall below before parking resumes.
     pub fn resume_below(self) -> u64
         ensures { λ r. ⌜ r ≡ resumeBelow self ⌝ }
     {

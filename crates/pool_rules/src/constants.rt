@@ -4,7 +4,7 @@
 // wraps.
 pub const LIMIT: u64 = 1 << 48;
 
-// The most textures, versions and pages that the lent stores may have places for.
+// The most textures, versions and pages that the lent slices may have places for.
 pub const MOST_PLACES: usize = 4096;
 
 // Submissions that a spare may wait for a rename, counted from its parking. The Rust: this bound sizes the pool to the demand,
@@ -14,7 +14,8 @@ pub const MOST_PLACES: usize = 4096;
 pub const SPARE_MAX_IDLE_SUBMITS: u64 = 8;
 
 // Submissions that a texture's state is kept without a rename and without spares. The Rust: a state is far smaller than a
-// spare, so it is kept longer, about two seconds at 60 frames a second, which spares a texture renamed in bursts the rebuild.
+// spare, so that it is kept longer, about two seconds at 60 frames a second, which spares a texture renamed in bursts the rebuild;
+// dropping it costs the next rename a whole copy into a fresh allocation, which it would take anyway with no spare left.
 pub const STATE_MAX_IDLE_SUBMITS: u64 = 120;
 
 // The fewest versions handed back by a take, where that many wait. The Rust: 1,357 handles destroyed at once took 6.1 ms, about

@@ -15,7 +15,7 @@ use Rattle.pool_take_doomed.specs.Views.{columnNumber, column}
 use Rattle.pool_take_doomed.specs.DrainVersions.{drainedViews}
 use Rattle.pool_records.specs.RecordConstants.{doomedStride, retiringStride, spareStride}
 
--- one number more stored behind the others
+-- one number more stored after the others
 sets-more : (vs : List ℕ) (x : ℕ) (l : List ℕ) (i : ℕ) → sets l i (vs ++ (x ∷ [])) ≡ set (sets l i vs) (i + length vs) x
 sets-more [] x l i = ap (λ (k : ℕ). set l k x) (sym (add-zero i))
 sets-more (v ∷ vs) x l i =
@@ -42,7 +42,7 @@ module _ (w k cap head : ℕ) (s : List ℕ) (i : ℕ) where
         ∙ sets-more (listed f i j) (f (i + j)) o at
         ∙ ap (λ (n : ℕ). set (sets o at (listed f i j)) (at + n) (f (i + j))) (length-listed f i j))
 
--- numbers stored behind those laid over the front
+-- numbers stored after those laid over the front
 pub over-sets : (xs ys o : List ℕ) → length xs + length ys ≤ length o → sets (over xs o) (length xs) ys ≡ over (xs ++ ys) o
 unfolding over
 over-sets xs ys o h =
@@ -55,7 +55,7 @@ pub front-sets : (xs o : List ℕ) → length xs ≤ length o → sets o 0 xs �
 unfolding over
 front-sets xs o h = sets-eq xs o 0 (omega arith) ∙ ap (λ (n : ℕ). xs ++ drop n o) (zero-add (length xs))
 
--- three blocks stored one behind the other
+-- three blocks stored one after the other
 three-sets : (xs ys zs o : List ℕ) → length xs + length ys + length zs ≤ length o
     → sets (sets (sets o 0 xs) (length xs) ys) (length xs + length ys) zs ≡ over (xs ++ (ys ++ zs)) o
 three-sets xs ys zs o h =

@@ -1,4 +1,4 @@
--- Laws of spares given up: one more pushed behind the others, and the records of all of them. Assumes nothing.
+-- Laws of spares given up: one more pushed after the others, and the records of all of them. Assumes nothing.
 use mathlib.Core.Path.{_≡_, refl, sym, ap, ap₂, _∙_}
 use mathlib.Core.List.{List, [], _∷_, map}
 use Prim.Native.Nat.{ℕ, _+_, _*_}

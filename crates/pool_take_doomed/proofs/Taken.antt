@@ -31,7 +31,7 @@ use Rattle.pool_memory.proofs.Rings.{head-stays, hand-model, first-taken, doome
 use Rattle.pool_memory.proofs.Same.{mark-same, queued-model, doomed-model}
 use Rattle.pool_memory.proofs.Stays.{put-together, doomed-fit, textures-stay, retiring-stay, spares-stay, newest-stay, stamps-stay}
 use Rattle.pool_take_doomed.specs.Views.{columnNumber, column}
-use Rattle.pool_take_doomed.specs.NextBatch.{doomedEntry, doomedEntries, pacedOf, batchOf}
+use Rattle.pool_take_doomed.specs.NextBatch.{doomedEntry, doomedEntries, mostArrivals, pacedOf, batchOf}
 use Rattle.pool_take_doomed.specs.TakeDoomed.{takenCounts, takenBook}
 use Rattle.pool_take_doomed.proofs.Columns.{length-column, front-sets}
 use Rattle.pool_take_doomed.proofs.Batches.{bytes-part}
@@ -90,7 +90,7 @@ module _ (l : Lent) where
       ap₂ (λ (n : ℕ) (ds : List (Doomed ℕ)). batchOf (pacedOf noted n) (l .book .excess) ds) (sym (doomed-model l)) entries-model
 
   module _ (f : Fits l) where
-    noted-bound : total (λ (n : ℕ). n) noted ≤ 32768
+    noted-bound : total (λ (n : ℕ). n) noted ≤ mostArrivals
     unfolding modelOf
     noted-bound =
         let h : l .pool .since ≤ mostPlaces = omega (arith, f .formed .since, doomed-model l, f .versions, f .most) in
@@ -108,7 +108,7 @@ module _ (l : Lent) where
     -- what the batch is worked out from
     pub batch-fits : (arrivals : List ℕ) → arrivals ≡ noted → l .pool .dooming < 2 ^ 64
         → (doomedStride * versionPlaces l ≤ length (l .doomed)) × (l .pool .first < versionPlaces l) × (l .pool .doomed ≤ versionPlaces l)
-        × (versionPlaces l ≤ mostPlaces) × (total (λ (n : ℕ). n) arrivals ≤ 32768) × (doomedBytes (entries (l .pool .doomed)) < 2 ^ 64)
+        × (versionPlaces l ≤ mostPlaces) × (total (λ (n : ℕ). n) arrivals ≤ mostArrivals) × (doomedBytes (entries (l .pool .doomed)) < 2 ^ 64)
     batch-fits arrivals e h = (
       omega (arith, f .doomed),
       f .first,

@@ -1,5 +1,5 @@
 -- Helper: The batch of a take, by the arrivals and the destroy ring.
-use Prim.Native.Nat.{ℕ, _+_, min, max}
+use Prim.Native.Nat.{ℕ, _+_, _*_, min, max}
 use mathlib.Core.List.{List}
 use lib.ListN.{take, drop}
 use Rattle.base_blocks.specs.Lists.{listed, total, ceilDiv}
@@ -9,7 +9,7 @@ use Rattle.pool_records.specs.Views.{doomedOf}
 use Rattle.pool_rules.specs.Model.{Doomed, doomedBytes}
 use Rattle.pool_rules.specs.TakeDoomed.{coverMore}
 use Rattle.pool_records.specs.RecordConstants.{doomedStride}
-use Rattle.pool_rules.specs.RuleConstants.{destroySpreadDrains, minDestroysPerDrain}
+use Rattle.pool_rules.specs.RuleConstants.{destroySpreadDrains, minDestroysPerDrain, mostPlaces}
 
 -- version j of the destroy ring
 unfoldable pub doomedEntry : ℕ → ℕ → List ℕ → ℕ → Doomed ℕ
@@ -19,10 +19,14 @@ doomedEntry cap first s j = doomedOf (along doomedStride readDoomed cap first s 
 abbrev pub doomedEntries : ℕ → ℕ → List ℕ → ℕ → List (Doomed ℕ)
 doomedEntries cap first s n = listed (doomedEntry cap first s) 0 n
 
+-- the most versions that the noted takes can have queued: each as many as there may be places
+abbrev pub mostArrivals : ℕ
+mostArrivals = destroySpreadDrains * mostPlaces
+
 -- the average number queued per take plus an eighth of the n queued, both rounded up, at least 64
 unfoldable pub pacedOf : List ℕ → ℕ → ℕ
 pacedOf arrivals n = min (max minDestroysPerDrain (ceilDiv (total (λ (n : ℕ). n) arrivals) destroySpreadDrains + ceilDiv n destroySpreadDrains)) n
 
--- so many, and more until the excess is covered
+-- `least`, and more until the excess is covered
 unfoldable pub batchOf : ℕ → ℕ → List (Doomed ℕ) → ℕ
 batchOf least excess ds = least + coverMore (doomedBytes (take least ds)) excess (drop least ds)

@@ -1,4 +1,4 @@
-// What the calls that hand versions back answer.
+// What the two calls that hand versions back answer.
 use pool_memory::PacingBook;
 use pool_memory::Pool;
 

@@ -1,5 +1,5 @@
-// Views copied to an answer. In every record of a version the view is one number, so one function serves the retiring ring, the
-// destroy ring and the spares, which are packed: a ring that begins at place 0.
+// Views copied to an answer. In every record of a version the view is one number, so that one function serves the retiring ring,
+// the destroy ring and the spares, which are packed: a ring that begins at place 0.
 ghost use mathlib.Core.Path.{_≡_};
 ghost use Prim.Native.Nat.{_+_, _*_, _≤_, _<_};
 ghost use lib.ListN.{length};
@@ -7,7 +7,8 @@ ghost use lib.Seq.{sets};
 ghost use Rattle.pool_take_doomed.specs.Views.{column};
 use base_tables::place;
 
-// Number k of the n records from the i-th on, stored in `out` from index at on. A record has w numbers; the ring has cap places.
+// Stores number k of each of the n records from the i-th on in `out`, from index `at` on. A record has w numbers; the ring has
+// `cap` places and begins at place `head`.
 pub fn copy_column(
     out: &mut [u64],
     at: usize,

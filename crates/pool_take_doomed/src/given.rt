@@ -1,4 +1,4 @@
-// Spares given up: their views go to the back of the destroy ring, each with its texture's bytes.
+// Spares given up: their views go to the end of the destroy ring, each with its texture's bytes.
 ghost use mathlib.Core.Path.{_≡_};
 ghost use Prim.Native.Nat.{_+_, _*_, _≤_, _<_};
 ghost use lib.ListN.{length};
@@ -10,7 +10,8 @@ use base_tables::ring_push;
 use pool_records::DOOMED_STRIDE;
 use pool_records::SPARE_STRIDE;
 
-// The k spares from place `from` on, behind the n versions of the ring.
+// Queues the k spares from place `from` on for destruction, after the n versions of the ring. The destroys are spread over several
+// drains, so that no drain destroys a burst at once.
 pub fn push_spares(
     doomed: &mut [u64],
     cap: usize,

@@ -1,45 +1,54 @@
--- What take_spare looks up: an id that is tracked and one that is not. Assumes nothing.
-use mathlib.Core.Path.{_≡_, refl, sym, _∙_}
+-- What take_spare looks up, as the code has it and as the cases of the rule go by it. Assumes nothing.
+use mathlib.Core.Path.{_≡_, sym, ap, _∙_}
 use mathlib.Core.Bool.{Bool, true, false, not, true≢false}
+use mathlib.Core.List.{List}
 use Prim.Native.Nat.{ℕ}
+use borrow.Author.Tests.{not-true, not-false}
+use lib.ListN.{length}
 use Rattle.grid_shapes.specs.declared.shape.VersionShape.{VersionShape}
 use Rattle.grid_shapes.specs.Shapes.{sameShape}
 use Rattle.pool_records.specs.declared.texture.TextureRecord.{TextureRecord}
+use Rattle.pool_records.specs.Texture.{textureIn, texturesIn}
 use Rattle.pool_records.specs.Find.{below}
+use Rattle.pool_memory.specs.declared.pool.Pool.{Pool as Counts}
 use Rattle.pool_memory.specs.Lent.{Lent}
-use Rattle.pool_memory.specs.Reading.{trackedRecords, modelOf}
 use Rattle.pool_memory.specs.IsPool.{isPool}
-use Rattle.pool_access.proofs.Ids.{hasId}
-use Rattle.pool_tracking.specs.Refusal.{takeRefusal}
-use Rattle.pool_tracking.specs.Cases.{Accepted, recordOf}
+use Rattle.pool_access.proofs.Ids.{found}
+use Rattle.pool_tracking.specs.Cases.{Accepted, TrackedAt}
 use Rattle.pool_take_spare.specs.declared.look_up.Look.{Look}
+use Rattle.pool_take_spare.specs.TakeRefusal.{hasId, refusalAt}
 use Rattle.pool_take_spare.specs.LookUp.{Looked}
-use Rattle.pool_take_spare.proofs.Said.{tracked-at, untracked-at, shape-as}
+use Rattle.pool_take_spare.proofs.Said.{refusal-read, none-at}
 
-module _ (l : Lent) (id : ℕ) (shape : VersionShape) (records : Bool) (seq : ℕ) (pool : isPool l ≡ true) (i n : ℕ) (at : i ≡ below id (trackedRecords l))
-    (said : n ≡ takeRefusal (modelOf l) id shape records seq) (b : Bool) (has : b ≡ hasId (l .textures) (l .pool .tracked) i id) where
-  pub looked-out : not b ≡ true → Looked l id shape records seq (record { place = i; outcome = n; tracked = false; same = false })
+module _ (pool : Counts) (textures : List ℕ) (pages id : ℕ) (shape : VersionShape) (records : Bool) (seq i n : ℕ)
+    (at : i ≡ below id (texturesIn (pool .tracked) textures)) (said : n ≡ refusalAt pool textures pages i id shape records seq)
+    (b : Bool) (has : b ≡ hasId textures (pool .tracked) i id) where
+  pub looked-out : not b ≡ true → Looked pool textures pages id shape records seq (record { place = i; outcome = n; tracked = false; same = false })
   looked-out out = record {
     place = at;
     outcome = said;
-    tracked = λ e. absurd (true≢false (sym e));
-    untracked = λ e. untracked-at l i id pool at b has out;
+    tracked = sym (not-true b out) ∙ has;
     same = λ e. absurd (true≢false (sym e));
   }
 
-  pub looked-in : not b ≡ false → (t : TextureRecord) → t ≡ recordOf l i → (q : Bool) → q ≡ sameShape (t .shape) shape
-      → Looked l id shape records seq (record { place = i; outcome = n; tracked = true; same = q })
+  pub looked-in : not b ≡ false → (t : TextureRecord) → t ≡ textureIn textures i → (q : Bool) → q ≡ sameShape (t .shape) shape
+      → Looked pool textures pages id shape records seq (record { place = i; outcome = n; tracked = true; same = q })
   looked-in into t is-record q e = record {
     place = at;
     outcome = said;
-    tracked = λ y. tracked-at (l .textures) (l .pool .tracked) i id b has into;
-    untracked = λ y. absurd (true≢false y);
-    same = λ y. sym (shape-as shape (recordOf l i) t q q is-record e refl);
+    tracked = sym (not-false b into) ∙ has;
+    same = λ y. e ∙ ap (λ (u : TextureRecord). sameShape (u .shape) shape) is-record;
   }
 
--- ---- a look that refuses nothing
+-- ---- on a pool
 
-module _ (l : Lent) (id : ℕ) (shape : VersionShape) (records : Bool) (seq : ℕ) (r : Look) (pool : isPool l ≡ true) (look : Looked l id shape records seq r)
-    (accepted : r .outcome ≡ 0) where
-  pub look-accepted : Accepted l (r .place) id shape records seq
-  look-accepted = (pool, (look .place, sym (look .outcome) ∙ accepted))
+module _ (l : Lent) (id : ℕ) (shape : VersionShape) (records : Bool) (seq : ℕ) (r : Look) (pool : isPool l ≡ true)
+    (look : Looked (l .pool) (l .textures) (length (l .newest)) id shape records seq r) where
+  pub look-accepted : r .outcome ≡ 0 → Accepted l (r .place) id shape records seq
+  look-accepted e = (pool, (look .place, sym (look .outcome ∙ refusal-read l (r .place) id shape records seq pool (look .place)) ∙ e))
+
+  pub look-tracked : r .tracked ≡ true → TrackedAt l (r .place) id
+  look-tracked y = found (l .textures) (l .pool .tracked) (r .place) id (sym (look .tracked) ∙ y)
+
+  pub look-untracked : r .tracked ≡ false → TrackedAt l (r .place) id → ⊥
+  look-untracked y = none-at l (r .place) id shape records seq pool (look .place) (sym (look .tracked) ∙ y)

@@ -1,7 +1,6 @@
--- The number that the code says, test by test, is the one that refuses the rule. Assumes nothing.
-use mathlib.Core.Path.{_≡_, sym, ap, _∙_}
+-- The number that the code says, test by test, and that it is the one that refuses the rule. Assumes nothing.
+use mathlib.Core.Path.{_≡_, refl, sym, ap, ap₂, _∙_}
 use mathlib.Core.Bool.{Bool, true, false, cond, not, _&&_}
-use mathlib.Core.Option.{Option, none, some}
 use mathlib.Core.List.{List}
 use Prim.Native.Nat.{ℕ, _+_, _*_, _/_, _≤_, _<_}
 use native.Mathlib.Omega.{arith}
@@ -10,30 +9,32 @@ use lib.Dec.{ltb, leb}
 use lib.ListN.{length}
 use Rattle.grid_shapes.specs.declared.shape.VersionShape.{VersionShape}
 use Rattle.grid_shapes.specs.Shapes.{isShape, sameShape}
-use Rattle.pool_rules.specs.Model.{VersionState, PoolModel, find, limit, pagesOf, pagesUsed}
+use Rattle.pool_rules.specs.Model.{PoolModel, find, limit, pagesOf}
 use Rattle.pool_rules.specs.TakeSpare.{takeSpare}
+use Rattle.pool_rules.specs.RuleConstants.{mostPlaces}
 use Rattle.pool_records.specs.declared.texture.TextureRecord.{TextureRecord}
+use Rattle.pool_records.specs.RecordConstants.{textureStride}
 use Rattle.pool_records.specs.Texture.{textureIn, recordPages}
 use Rattle.pool_records.specs.Find.{below}
+use Rattle.pool_memory.specs.declared.pool.Pool.{Pool as Counts}
 use Rattle.pool_memory.specs.Lent.{Lent}
 use Rattle.pool_memory.specs.Reading.{trackedRecords, modelOf}
 use Rattle.pool_memory.specs.IsPool.{isPool}
+use Rattle.pool_memory.specs.Calls.{refusedWith, takenOf, takeSpareOn}
 use Rattle.pool_memory.proofs.Fits.{Fits}
 use Rattle.pool_memory.proofs.FromPool.{pool-fits}
-use Rattle.pool_memory.proofs.Runs.{stateOf, tracked-model, pages-model}
-use Rattle.pool_memory.proofs.Stays.{ids-ascend}
+use Rattle.pool_memory.proofs.Runs.{tracked-model, pages-model}
+use Rattle.pool_memory.proofs.Stays.{textures-fit, ids-ascend}
 use Rattle.pool_memory.proofs.Places.{not-found}
-use Rattle.pool_access.proofs.Ids as ids
-use Rattle.pool_access.proofs.Fields.{pages-bound, claims-bound}
-use Rattle.pool_memory.specs.Calls.{refusedWith, takenOf, takeSpareOn}
 use Rattle.pool_memory.proofs.Asked.{asked-refused}
 use Rattle.pool_memory.proofs.Tracked.{shape-at, pages-at, shape-passes}
+use Rattle.pool_access.proofs.Ids as ids
+use Rattle.pool_access.proofs.Fields.{pages-bound, claims-bound}
 use Rattle.pool_tracking.specs.Refusal.{trackingRefusal, begunRefusal, foundRefusal, takeRefusal}
 use Rattle.pool_tracking.specs.Cases.{recordOf, TrackedAt}
 use Rattle.pool_tracking.proofs.Refusals.{take-refused}
-use Rattle.pool_tracking.proofs.Tracked.{record-fits, found-there, not-there}
-use Rattle.pool_records.specs.RecordConstants.{textureStride}
-use Rattle.pool_rules.specs.RuleConstants.{mostPlaces}
+use Rattle.pool_tracking.proofs.Tracked.{found-there, not-there}
+use Rattle.pool_take_spare.specs.TakeRefusal.{Readable, hasId, refusalAt}
 
 -- ---- a tracking begun
 
@@ -56,110 +57,116 @@ module _ (places own used trackings : ℕ) (shape : VersionShape) (records : Boo
     pub said-nothing : trackings < limit → 0 ≡ trackingRefusal places own used trackings shape records
     said-nothing h = sym (ap (λ (b : Bool). cond b 12 0) (lt-leb limit trackings h)) ∙ rest
 
--- ---- the tests by what they say
+-- ---- the call, test by test
 
 pub few-pages : (shape : VersionShape) (r : Bool) → r ≡ isShape shape → not r ≡ false → pagesOf shape ≤ mostPlaces
 few-pages shape r is shaped = omega (arith, pages-bound shape (sym is ∙ not-false r shaped))
 
-pub tracked-at : (s : List ℕ) (n i id : ℕ) (b : Bool) → b ≡ ids.hasId s n i id → not b ≡ false → (i < n) × (textureIn s i .id ≡ id)
-tracked-at s n i id b has into = ids.found s n i id (sym has ∙ not-false b into)
+module _ (pool : Counts) (textures : List ℕ) (pages i id : ℕ) (shape : VersionShape) (records : Bool) (seq : ℕ) where
+  abbrev said : ℕ
+  said = refusalAt pool textures pages i id shape records seq
 
-module _ (l : Lent) (i id : ℕ) where
-  pub untracked-at : isPool l ≡ true → i ≡ below id (trackedRecords l) → (b : Bool) → b ≡ ids.hasId (l .textures) (l .pool .tracked) i id → not b ≡ true → TrackedAt l i id → ⊥
-  untracked-at pool at b has out w =
-      ids.not-found (l .textures) (l .pool .tracked) i id (ids-ascend l (pool-fits l pool)) at (sym has ∙ not-true b out) i (w .0) (w .1)
+  abbrev begun : ℕ → ℕ
+  begun own = trackingRefusal pages own (pool .pages) (pool .trackings) shape records
 
-  pub tracked-fits : isPool l ≡ true → (b : Bool) → b ≡ ids.hasId (l .textures) (l .pool .tracked) i id → not b ≡ false → textureStride * i + textureStride ≤ length (l .textures)
-  tracked-fits pool b has into = record-fits l (pool-fits l pool) i (tracked-at (l .textures) (l .pool .tracked) i id b has into .0)
+  abbrev said-tracked : ℕ
+  said-tracked = cond (sameShape (textureIn textures i .shape) shape) 0 (begun (recordPages (textureIn textures i)))
 
-pub shape-as : (shape : VersionShape) (u t : TextureRecord) (q v : Bool) → t ≡ u → q ≡ sameShape (t .shape) shape → q ≡ v → sameShape (u .shape) shape ≡ v
-shape-as shape u t q v is-record e y = ap (λ (w : TextureRecord). sameShape (w .shape) shape) (sym is-record) ∙ sym e ∙ y
+  abbrev said-untracked : ℕ
+  said-untracked = cond (leb (length textures / textureStride) (pool .tracked)) 5 (begun 0)
 
--- ---- the call
+  by-tests : (a b c : Bool) → isShape shape ≡ a → ltb limit seq ≡ b → hasId textures (pool .tracked) i id ≡ c
+      → cond (not a) 2 (cond b 3 (cond c said-tracked said-untracked)) ≡ said
+  unfolding refusalAt
+  by-tests a b c e1 e2 e3 = λ j. cond (not (sym e1 j)) 2 (cond (sym e2 j) 3 (cond (sym e3 j) said-tracked said-untracked))
+
+  module _ (r : Bool) (is : r ≡ isShape shape) where
+    pub said-two : not r ≡ true → 2 ≡ said
+    said-two q = by-tests false (ltb limit seq) (hasId textures (pool .tracked) i id) (sym is ∙ not-true r q) refl refl
+
+    module _ (shaped : not r ≡ false) where
+      pub said-three : limit < seq → 3 ≡ said
+      said-three h = by-tests true true (hasId textures (pool .tracked) i id) (sym is ∙ not-false r shaped) (lt-ltb limit seq h) refl
+
+      module _ (early : seq ≤ limit) (b : Bool) (has : b ≡ hasId textures (pool .tracked) i id) where
+        by-found : (c : Bool) → b ≡ c → cond c said-tracked said-untracked ≡ said
+        by-found c e = by-tests true false c (sym is ∙ not-false r shaped) (le-ltb limit seq early) (sym has ∙ e)
+
+        pub said-five : not b ≡ true → length textures / textureStride ≤ pool .tracked → 5 ≡ said
+        said-five out h = sym (ap (λ (c : Bool). cond c 5 (begun 0)) (le-leb (length textures / textureStride) (pool .tracked) h)) ∙ by-found false (not-true b out)
+
+        pub said-new : not b ≡ true → pool .tracked < length textures / textureStride → (n : ℕ) → n ≡ begun 0 → n ≡ said
+        said-new out h n e = e ∙ sym (ap (λ (c : Bool). cond c 5 (begun 0)) (lt-leb (length textures / textureStride) (pool .tracked) h)) ∙ by-found false (not-true b out)
+
+        module _ (into : not b ≡ false) (t : TextureRecord) (is-record : t ≡ textureIn textures i) (q : Bool) (e : q ≡ sameShape (t .shape) shape) where
+          by-shape : (c : Bool) → q ≡ c → cond c 0 (begun (recordPages (textureIn textures i))) ≡ said
+          by-shape c y =
+              sym (ap (λ (d : Bool). cond d 0 (begun (recordPages (textureIn textures i)))) (ap (λ (u : TextureRecord). sameShape (u .shape) shape) (sym is-record) ∙ sym e ∙ y))
+              ∙ by-found true (not-false b into)
+
+          pub said-same : q ≡ true → 0 ≡ said
+          said-same y = by-shape true y
+
+          pub said-other : q ≡ false → (own n : ℕ) → own ≡ recordPages t → n ≡ begun own → n ≡ said
+          said-other y own n eo en = en ∙ ap begun (eo ∙ ap recordPages is-record) ∙ by-shape false y
+
+-- what it reads of a tracked texture
+module _ (pool : Counts) (textures : List ℕ) (pages i id : ℕ) (k : Readable pool textures pages) (b : Bool) (has : b ≡ hasId textures (pool .tracked) i id)
+    (into : not b ≡ false) where
+  here : i < pool .tracked
+  here = ids.found textures (pool .tracked) i id (sym has ∙ not-false b into) .0
+
+  pub tracked-fits : textureStride * i + textureStride ≤ length textures
+  tracked-fits = omega (arith, k .there, here)
+
+  pub own-pages : (t : TextureRecord) → t ≡ textureIn textures i → recordPages t ≤ mostPlaces
+  own-pages t e = omega (arith, ap recordPages e, claims-bound (textureIn textures i) (k .shapes i here))
+
+-- ---- the rule
+
+pub readable : (l : Lent) → isPool l ≡ true → Readable (l .pool) (l .textures) (length (l .newest))
+readable l pool =
+    let f = pool-fits l pool in
+    record {
+      there = textures-fit l f;
+      ids = ids-ascend l f;
+      shapes = λ i h. shape-passes l i h f;
+      most = f .newest;
+      used = omega (arith, f .pages, f .newest);
+    }
 
 module _ (l : Lent) (i id : ℕ) (shape : VersionShape) (records : Bool) (seq : ℕ) (pool : isPool l ≡ true) (at : i ≡ below id (trackedRecords l)) where
   abbrev f : Fits l
   f = pool-fits l pool
 
-  abbrev said : ℕ
-  said = takeRefusal (modelOf l) id shape records seq
-
   begun-said : (own : ℕ) → trackingRefusal (length (l .newest)) own (l .pool .pages) (l .pool .trackings) shape records ≡ begunRefusal (modelOf l) shape records own
   unfolding modelOf
   begun-said own = ap (λ (n : ℕ). trackingRefusal (length (l .newest)) own n (l .pool .trackings) shape records) (sym (pages-model l ∙ f .claimed))
 
-  module _ (r : Bool) (is : r ≡ isShape shape) where
-    pub said-two : not r ≡ true → 2 ≡ said
-    unfolding takeRefusal
-    said-two q =
-        sym (ap (λ (b : Bool). cond (not b) 2 (cond (ltb limit seq) 3 (foundRefusal (modelOf l) shape records (find id (modelOf l .textures))))) (sym is ∙ not-true r q))
+  pub none-at : hasId (l .textures) (l .pool .tracked) i id ≡ false → TrackedAt l i id → ⊥
+  none-at e w = ids.not-found (l .textures) (l .pool .tracked) i id (ids-ascend l f) at e i (w .0) (w .1)
 
-    module _ (shaped : not r ≡ false) where
-      after-two : cond (ltb limit seq) 3 (foundRefusal (modelOf l) shape records (find id (modelOf l .textures))) ≡ said
-      unfolding takeRefusal
-      after-two =
-          sym (ap (λ (b : Bool). cond (not b) 2 (cond (ltb limit seq) 3 (foundRefusal (modelOf l) shape records (find id (modelOf l .textures))))) (sym is ∙ not-false r shaped))
+  found-said : (b : Bool) → hasId (l .textures) (l .pool .tracked) i id ≡ b
+      → cond b (said-tracked (l .pool) (l .textures) (length (l .newest)) i id shape records seq) (said-untracked (l .pool) (l .textures) (length (l .newest)) i id shape records seq)
+      ≡ foundRefusal (modelOf l) shape records (find id (modelOf l .textures))
+  unfolding modelOf
+  found-said true e =
+      let h = ids.found (l .textures) (l .pool .tracked) i id e in
+      ap₂ (λ (s : VersionShape) (n : ℕ). cond (sameShape s shape) 0 n) (sym (shape-at l i (h .0)))
+      (begun-said (recordPages (recordOf l i)) ∙ ap (begunRefusal (modelOf l) shape records) (sym (pages-at l i (h .0))))
+      ∙ ap (foundRefusal (modelOf l) shape records) (sym (found-there l f i (h .0) id at (h .1)))
+  found-said false e =
+      ap₂ (λ (n k : ℕ). cond (leb (length (l .textures) / textureStride) n) 5 k) (sym (tracked-model l)) (begun-said 0)
+      ∙ ap (foundRefusal (modelOf l) shape records) (sym (not-found l id (ids-ascend l f) (not-there l f i id at (none-at e))))
 
-      pub said-three : limit < seq → 3 ≡ said
-      said-three h = sym (ap (λ (b : Bool). cond b 3 (foundRefusal (modelOf l) shape records (find id (modelOf l .textures)))) (lt-ltb limit seq h)) ∙ after-two
-
-      module _ (early : seq ≤ limit) where
-        by-found : (o : Option (VersionState ℕ)) → find id (modelOf l .textures) ≡ o → foundRefusal (modelOf l) shape records o ≡ said
-        by-found o e =
-            ap (foundRefusal (modelOf l) shape records) (sym e)
-            ∙ sym (ap (λ (b : Bool). cond b 3 (foundRefusal (modelOf l) shape records (find id (modelOf l .textures)))) (le-ltb limit seq early)) ∙ after-two
-
-        module _ (b : Bool) (has : b ≡ ids.hasId (l .textures) (l .pool .tracked) i id) where
-          -- not tracked
-          module _ (out : not b ≡ true) where
-            none-there : find id (modelOf l .textures) ≡ none
-            none-there =
-                not-found l id (ids-ascend l f) (not-there l f i id at (untracked-at l i id pool at b has out))
-
-            pub said-five : length (l .textures) / textureStride ≤ l .pool .tracked → 5 ≡ said
-            unfolding modelOf
-            said-five h =
-                sym (ap (λ (c : Bool). cond c 5 (begunRefusal (modelOf l) shape records 0)) (le-leb (length (l .textures) / textureStride) (length (modelOf l .textures)) (omega (arith, tracked-model l))))
-                ∙ by-found none none-there
-
-            pub said-new : l .pool .tracked < length (l .textures) / textureStride → (n : ℕ) → n ≡ trackingRefusal (length (l .newest)) 0 (l .pool .pages) (l .pool .trackings) shape records
-                → n ≡ said
-            unfolding modelOf
-            said-new h n e =
-                e ∙ begun-said 0
-                ∙ sym (ap (λ (c : Bool). cond c 5 (begunRefusal (modelOf l) shape records 0)) (lt-leb (length (l .textures) / textureStride) (length (modelOf l .textures)) (omega (arith, tracked-model l))))
-                ∙ by-found none none-there
-
-          -- tracked
-          module _ (into : not b ≡ false) where
-            abbrev here : TrackedAt l i id
-            here = tracked-at (l .textures) (l .pool .tracked) i id b has into
-
-            there : find id (modelOf l .textures) ≡ some (stateOf l i)
-            there = found-there l f i (here .0) id at (here .1)
-
-            module _ (t : TextureRecord) (is-record : t ≡ recordOf l i) where
-              pub own-pages : recordPages t ≤ mostPlaces
-              own-pages = omega (arith, ap recordPages is-record, claims-bound (recordOf l i) (shape-passes l i (here .0) f))
-
-              by-shape : (q : Bool) → q ≡ sameShape (t .shape) shape → cond q 0 (begunRefusal (modelOf l) shape records (pagesUsed (stateOf l i))) ≡ said
-              by-shape q e =
-                  ap (λ (c : Bool). cond c 0 (begunRefusal (modelOf l) shape records (pagesUsed (stateOf l i))))
-                  (e ∙ ap (λ (s : VersionShape). sameShape s shape) (ap (λ (v : TextureRecord). v .shape) is-record ∙ sym (shape-at l i (here .0))))
-                  ∙ by-found (some (stateOf l i)) there
-
-              pub said-same : (q : Bool) → q ≡ sameShape (t .shape) shape → q ≡ true → 0 ≡ said
-              said-same q e y = sym (ap (λ (c : Bool). cond c 0 (begunRefusal (modelOf l) shape records (pagesUsed (stateOf l i)))) y) ∙ by-shape q e
-
-              pub said-other : (q : Bool) → q ≡ sameShape (t .shape) shape → q ≡ false → (own n : ℕ) → own ≡ recordPages t
-                  → n ≡ trackingRefusal (length (l .newest)) own (l .pool .pages) (l .pool .trackings) shape records → n ≡ said
-              said-other q e y own n eo en =
-                  en ∙ begun-said own
-                  ∙ ap (begunRefusal (modelOf l) shape records) (eo ∙ ap recordPages is-record ∙ sym (pages-at l i (here .0)))
-                  ∙ sym (ap (λ (c : Bool). cond c 0 (begunRefusal (modelOf l) shape records (pagesUsed (stateOf l i)))) y) ∙ by-shape q e
+  -- what is read off the slice is what the rule goes by
+  pub refusal-read : refusalAt (l .pool) (l .textures) (length (l .newest)) i id shape records seq ≡ takeRefusal (modelOf l) id shape records seq
+  unfolding refusalAt takeRefusal
+  refusal-read = ap (λ (n : ℕ). cond (not (isShape shape)) 2 (cond (ltb limit seq) 3 n)) (found-said (hasId (l .textures) (l .pool .tracked) i id) refl)
 
   -- a refusal is what the call says, and nothing changes
-  pub refused-call : (n : ℕ) → n ≡ said → (n ≡ 0 → ⊥) → (refusedWith n, l) ≡ takeSpareOn l id shape records seq
+  pub refused-call : (n : ℕ) → n ≡ refusalAt (l .pool) (l .textures) (length (l .newest)) i id shape records seq → (n ≡ 0 → ⊥)
+      → (refusedWith n, l) ≡ takeSpareOn l id shape records seq
   unfolding takeSpareOn
   refused-call n e other =
-      sym (asked-refused takenOf l (λ (p : PoolModel ℕ). takeSpare p id shape records seq) pool n (take-refused (modelOf l) id shape records seq n other (sym e)))
+      sym (asked-refused takenOf l (λ (p : PoolModel ℕ). takeSpare p id shape records seq) pool n (take-refused (modelOf l) id shape records seq n other (sym (e ∙ refusal-read))))

@@ -1,10 +1,11 @@
 -- take_spare for a texture tracked with the same shape: what the rule leaves, slice by slice. Assumes nothing.
 use mathlib.Core.Path.{_≡_, refl, sym, ap, ap₂, _∙_}
-use mathlib.Core.Bool.{Bool, true}
+use mathlib.Core.Bool.{Bool, true, false, cond}
 use mathlib.Core.Option.{Option, none, some}
 use mathlib.Core.List.{List, [], _∷_, map}
 use Prim.Native.Nat.{ℕ, suc, _+_, _*_, _-_, _<_}
 use native.Mathlib.Omega.{arith}
+use borrow.Author.Tests.{eqb-true, eqb-false, eq-eqb, ne-eqb}
 use lib.Dec.{eqb}
 use lib.ListN.{length, take, getD, set}
 use lib.Seq.{sets}
@@ -21,9 +22,8 @@ use Rattle.pool_rules.specs.TakeSpare.{newest, others, takenBytes, takeSpare}
 use Rattle.pool_rules.proofs.States.{length-change, total-change, total-unchanged}
 use Rattle.pool_records.specs.declared.texture.TextureRecord.{TextureRecord}
 use Rattle.pool_records.specs.declared.spare.SpareRecord.{SpareRecord}
-use Rattle.pool_records.specs.Texture.{writeTexture, texturesIn}
+use Rattle.pool_records.specs.Texture.{writeTexture, textureIn}
 use Rattle.pool_records.specs.Recorded.{RecordedFits}
-use Rattle.pool_records.specs.Spare.{readSpare}
 use Rattle.pool_memory.specs.declared.pool.Pool.{Pool as Counts}
 use Rattle.pool_memory.specs.Lent.{Lent, lent}
 use Rattle.pool_memory.specs.Reading.{spareRead, stateRead, modelOf}
@@ -40,10 +40,10 @@ use Rattle.pool_memory.proofs.Changes.{textures-set, sparesBefore, sparesAt, ev
 use Rattle.pool_memory.proofs.Asked.{asked-accepted}
 use Rattle.pool_memory.proofs.Tracked.{record-read, spares-to, bytes-at, record-at, shape-at, count-at}
 use Rattle.pool_tracking.specs.Cases.{Accepted, recordOf, TrackedAt}
-use Rattle.pool_take_spare.specs.TakeNewest.{renamedRecord}
+use Rattle.pool_take_spare.specs.TakeNewest.{renamedRecord, sparesTo, NewestFits, oneTaken, renamedAt, newestAt, spareAt, noneTaken, spareTaken, newestTaken}
 use Rattle.pool_tracking.proofs.Refusals.{take-tracked}
 use Rattle.pool_tracking.proofs.Counts.{counted, counts-after}
-use Rattle.pool_tracking.proofs.Tracked.{spares-within, kept-fits, is-there, found-there}
+use Rattle.pool_tracking.proofs.Tracked.{spares-within, kept-fits, is-there, found-there, here}
 use Rattle.pool_records.specs.RecordConstants.{spareStride, textureStride}
 
 -- ---- lists
@@ -76,6 +76,52 @@ renamed-record seq u = ap (λ (n : ℕ). renamedRecord seq n (textureRecord u)) 
 -- a renamed record has its history still
 pub renamed-fits : (x t u : TextureRecord) (seq left : ℕ) → RecordedFits (u .history) → x ≡ renamedRecord seq left t → t ≡ u → RecordedFits (x .history)
 renamed-fits x t u seq left fits e q = rw (sym (ap (λ (r : TextureRecord). r .history) e ∙ ap (λ (r : TextureRecord). r .history) q)) at fits
+
+-- what is answered, the counts, the textures and the spares
+abbrev Left : Type 0
+Left = Told (Option TakenVersion) × (Counts × (List ℕ × List ℕ))
+
+-- ---- as the code has it
+
+module _ (pool : Counts) (textures spares : List ℕ) (i seq : ℕ) (t x : TextureRecord) (textures′ : List ℕ) (is-record : t ≡ textureIn textures i) where
+  renamed-as : (left : ℕ) → left ≡ t .spares - 1 → x ≡ renamedRecord seq left t → textures′ ≡ sets textures (textureStride * i) (writeTexture x) → textures′ ≡ renamedAt textures i seq
+  renamed-as left n r w =
+      w ∙ ap (λ (y : TextureRecord). sets textures (textureStride * i) (writeTexture y))
+      (r ∙ ap (λ (m : ℕ). renamedRecord seq m t) n ∙ ap (λ (y : TextureRecord). renamedRecord seq (y .spares - 1) y) is-record)
+
+  pub none-left : t .spares ≡ 0 → x ≡ renamedRecord seq 0 t → textures′ ≡ sets textures (textureStride * i) (writeTexture x)
+      → (answer none, (pool, (textures′, spares))) ≡ newestTaken pool textures spares i seq
+  unfolding newestTaken
+  none-left e r w =
+      ap (λ (s : List ℕ). (answer none, (pool, (s, spares)))) (renamed-as 0 (omega (arith, e)) r w)
+      ∙ sym (ap (λ (b : Bool). cond b (noneTaken pool textures spares i seq) (spareTaken pool textures spares i seq)) (eq-eqb (textureIn textures i .spares) 0 (sym (ap sparesOf is-record) ∙ e)))
+
+  pub spare-left : (first k : ℕ) (s : SpareRecord) (spares′ : List ℕ) → (t .spares ≡ 0 → ⊥) → first ≡ sparesTo textures i → k ≡ first + (t .spares - 1)
+      → s ≡ spareAt spares k → x ≡ renamedRecord seq (t .spares - 1) t → textures′ ≡ sets textures (textureStride * i) (writeTexture x)
+      → spares′ ≡ moved spares (spareStride * k) (spareStride * k + spareStride * 1) (spareStride * (pool .kept - (k + 1)))
+      → (answer (some (record { view = s .view; held = s .held })), (oneTaken pool (t .bytes), (textures′, spares′))) ≡ newestTaken pool textures spares i seq
+  unfolding newestTaken
+  spare-left first k s spares′ other e1 e2 e3 r w e4 =
+      let at : k ≡ newestAt textures i = e2 ∙ ap₂ (λ (a b : ℕ). a + (b - 1)) e1 (ap sparesOf is-record) in
+      let out = renamed-as (t .spares - 1) refl r w in
+      let here = e3 ∙ ap (spareAt spares) at in
+      let rest = e4 ∙ ap (λ (j : ℕ). moved spares (spareStride * j) (spareStride * j + spareStride * 1) (spareStride * (pool .kept - (j + 1)))) at in
+      (λ j. (answer (some (record { view = here j .view; held = here j .held })), (oneTaken pool (is-record j .bytes), (out j, rest j))))
+      ∙ sym (ap (λ (b : Bool). cond b (noneTaken pool textures spares i seq) (spareTaken pool textures spares i seq)) (ne-eqb (textureIn textures i .spares) 0 (λ e. other (ap sparesOf is-record ∙ e))))
+
+-- what it asks, of a tracked texture of a pool
+pub newest-fits : (l : Lent) (i id : ℕ) (shape : VersionShape) (records : Bool) (seq : ℕ) → Accepted l i id shape records seq → TrackedAt l i id
+    → NewestFits (l .pool) (l .textures) (l .spares) i
+newest-fits l i id shape records seq ok h =
+    let k = here l i id shape records seq ok h in
+    record {
+      place = k .textures;
+      history = k .history;
+      within = omega (arith, k .first, k .within);
+      most = k .kept;
+      room = k .spares;
+      one = λ q. omega (arith, k .bytes, k .one q);
+    }
 
 -- ---- the rule
 
@@ -122,12 +168,14 @@ module _ (l : Lent) (i id : ℕ) (shape : VersionShape) (records : Bool) (seq : 
       ∙ ap₂ (λ (n : ℕ) (r : TextureRecord). renamedRecord seq (n - 1) r) spares-counted
       (record-at l i (h .0) f)
 
-  -- the rename and the spare left, whatever the counts and the spares are
-  left-as : (c : Counts) (spares : List ℕ) → c ≡ poolAfter after-take l → spares ≡ sparesAfter after-take l
-      → lent c (l .book) (sets (l .textures) (textureStride * i) (writeTexture (renamedRecord seq (count - 1) t))) (l .retiring) (l .doomed) spares (l .newest) (l .stamps) ≡ after after-take l
+  -- the memory with the record renamed, whatever the counts and the spares are
+  abbrev left-with : Counts → List ℕ → Lent
+  left-with c spares = lent c (l .book) (renamedAt (l .textures) i seq) (l .retiring) (l .doomed) spares (l .newest) (l .stamps)
+
+  left-as : (c : Counts) (spares : List ℕ) → c ≡ poolAfter after-take l → spares ≡ sparesAfter after-take l → left-with c spares ≡ after after-take l
   left-as c spares e1 e2 =
       let kept = map-unchanged pagedOf id (renamedState seq) (λ (v : VersionState ℕ). refl) (modelOf l .textures) in
-      put-together after-take l c (l .book) (sets (l .textures) (textureStride * i) (writeTexture (renamedRecord seq (count - 1) t))) (l .retiring) (l .doomed) spares (l .newest) (l .stamps)
+      put-together after-take l c (l .book) (renamedAt (l .textures) i seq) (l .retiring) (l .doomed) spares (l .newest) (l .stamps)
       e1 (book-stays l f after-take refl)
       (ap (λ (r : TextureRecord). sets (l .textures) (textureStride * i) (writeTexture r)) (sym record-left) ∙ textures-set l after-take f i (renamedState seq u) (h .0) changed-there)
       (retiring-stay l f after-take refl refl) (doomed-stay l f after-take refl) e2 (newest-stay l f after-take kept) (stamps-stay l f after-take kept)
@@ -158,15 +206,11 @@ module _ (l : Lent) (i id : ℕ) (shape : VersionShape) (records : Bool) (seq : 
 
   -- ---- no spare
 
-  pub no-spare : count ≡ 0
-      → (answer none, lent (l .pool) (l .book) (sets (l .textures) (textureStride * i) (writeTexture (renamedRecord seq 0 t))) (l .retiring) (l .doomed) (l .spares) (l .newest) (l .stamps))
-      ≡ takeSpareOn l id shape records seq
+  no-spare : count ≡ 0 → (answer none, left-with (l .pool) (l .spares)) ≡ takeSpareOn l id shape records seq
   no-spare e =
       let none-there : u .spares ≡ [] = empty (u .spares) (spares-counted ∙ e) in
       ap₂ (λ (a : Told (Option TakenVersion)) (m : Lent). (a, m)) (ap (λ (ss : List (Spare ℕ)). answer (takenOf (newest ss))) (sym none-there))
-      (ap (λ (n : ℕ). lent (l .pool) (l .book) (sets (l .textures) (textureStride * i) (writeTexture (renamedRecord seq n t))) (l .retiring) (l .doomed) (l .spares) (l .newest) (l .stamps))
-      (let q : 0 ≡ count - 1 = omega arith in q)
-      ∙ left-as (l .pool) (l .spares)
+      (left-as (l .pool) (l .spares)
       (counts-left (l .pool .kept) (l .pool .parked) (omega arith)
       ((let q : l .pool .parked ≡ l .pool .parked - 0 = omega arith in q) ∙ parked-left none (ap newest none-there) 0 refl))
       (spares-stay l f after-take (ap everySpare changed-there ∙ every-kept l i (h .0) (renamedState seq u) (ap others none-there ∙ sym none-there))))
@@ -191,54 +235,33 @@ module _ (l : Lent) (i id : ℕ) (shape : VersionShape) (records : Bool) (seq : 
         (others-taken (u .spares) ∙ ap (λ (n : ℕ). take (n - 1) (u .spares)) spares-counted)
         ∙ ap₂ (λ (a b : ℕ). removed a b (sparesBefore l)) (sym at) (let q : sparesAt l i - (count - 1) ≡ 1 = omega (arith, ap sparesOf (record-read l i (h .0))) in q)
 
-    pub spare-taken : (
-      answer (some (record { view = recordAt spareStride readSpare (l .spares) k .view; held = recordAt spareStride readSpare (l .spares) k .held })),
-      lent
-          (counted (l .pool) (l .pool .tracked) (l .pool .kept - 1) (l .pool .pages) (l .pool .doomed) (l .pool .since) (l .pool .trackings) (l .pool .parked - bytesOf (t .shape)) (l .pool .dooming))
-          (l .book) (sets (l .textures) (textureStride * i) (writeTexture (renamedRecord seq (count - 1) t))) (l .retiring) (l .doomed)
-          (moved (l .spares) (spareStride * k) (spareStride * k + spareStride * 1) (spareStride * (l .pool .kept - (k + 1)))) (l .newest) (l .stamps),
+    spare-taken : (
+      answer (some (record { view = spareAt (l .spares) k .view; held = spareAt (l .spares) k .held })),
+      left-with (oneTaken (l .pool) (t .bytes)) (moved (l .spares) (spareStride * k) (spareStride * k + spareStride * 1) (spareStride * (l .pool .kept - (k + 1)))),
     )
         ≡ takeSpareOn l id shape records seq
     unfolding recordAt spareRead
     spare-taken =
         ap₂ (λ (a : Told (Option TakenVersion)) (m : Lent). (a, m)) (ap (λ (o : Option (Spare ℕ)). answer (takenOf o)) (sym last-spare))
         (left-as _ _
-        (counts-left (l .pool .kept - 1) (l .pool .parked - bytesOf (t .shape)) (omega (arith, spares-within l f i (h .0)))
-        (parked-left (some (spareRead l k)) last-spare (bytesOf (t .shape)) (ap bytesOf (sym (shape-at l i (h .0))))))
+        (counts-left (l .pool .kept - 1) (l .pool .parked - t .bytes) (omega (arith, spares-within l f i (h .0)))
+        (parked-left (some (spareRead l k)) last-spare (t .bytes) (bytes-at l i (h .0) f ∙ ap bytesOf (sym (shape-at l i (h .0))))))
         (spares-removed l after-take (f .kept) (kept-fits l f i (h .0)) k 1 (omega (arith, spares-within l f i (h .0))) all-but-last))
         ∙ sym ruled
 
-  -- ---- as the code has them: its record, its slices and its numbers by their equations
+  -- ---- both
 
-  module _ (t′ x : TextureRecord) (textures : List ℕ) (is-record : t′ ≡ t) where
-    pub left-without : t′ .spares ≡ 0 → x ≡ renamedRecord seq 0 t′ → textures ≡ sets (l .textures) (textureStride * i) (writeTexture x)
-        → (answer none, lent (l .pool) (l .book) textures (l .retiring) (l .doomed) (l .spares) (l .newest) (l .stamps)) ≡ takeSpareOn l id shape records seq
-    left-without e r w =
-        ap (λ (ts : List ℕ). (answer none, lent (l .pool) (l .book) ts (l .retiring) (l .doomed) (l .spares) (l .newest) (l .stamps)))
-        (w ∙ ap (λ (y : TextureRecord). sets (l .textures) (textureStride * i) (writeTexture y)) (r ∙ ap (renamedRecord seq 0) is-record))
-        ∙ no-spare (sym (ap sparesOf is-record) ∙ e)
+  -- the memory with what changes of it
+  abbrev around : Left → Told (Option TakenVersion) × Lent
+  around q = (q .0, lent (q .1 .0) (l .book) (q .1 .1 .0) (l .retiring) (l .doomed) (q .1 .1 .1) (l .newest) (l .stamps))
 
-    module _ (first k : ℕ) (s : SpareRecord) (spares : List ℕ) where
-      pub left-with : 0 < t′ .spares → first ≡ total sparesOf (texturesIn i (l .textures)) → k ≡ first + (t′ .spares - 1)
-          → s ≡ recordAt spareStride readSpare (l .spares) k → x ≡ renamedRecord seq (t′ .spares - 1) t′
-          → textures ≡ sets (l .textures) (textureStride * i) (writeTexture x) → spares ≡ moved (l .spares) (spareStride * k) (spareStride * k + spareStride * 1) (spareStride * (l .pool .kept - (k + 1)))
-          → (
-            answer (some (record { view = s .view; held = s .held })),
-            lent
-                (counted (l .pool) (l .pool .tracked) (l .pool .kept - 1) (l .pool .pages) (l .pool .doomed) (l .pool .since) (l .pool .trackings) (l .pool .parked - t′ .bytes) (l .pool .dooming))
-                (l .book) textures (l .retiring) (l .doomed) spares (l .newest) (l .stamps),
-          )
-          ≡ takeSpareOn l id shape records seq
-      left-with some-spare e1 e2 e3 e4 e5 e6 =
-          let n : t′ .spares ≡ count = ap sparesOf is-record in
-          let at : k ≡ firstSpare l i + (count - 1) = omega (arith, e1, e2, n, spares-to l i (h .0)) in
-          let tex : textures ≡ sets (l .textures) (textureStride * i) (writeTexture (renamedRecord seq (count - 1) t)) =
-          e5 ∙ ap (λ (y : TextureRecord). sets (l .textures) (textureStride * i) (writeTexture y)) (e4 ∙ ap₂ (λ (m : ℕ) (r : TextureRecord). renamedRecord seq (m - 1) r) n is-record) in
-          let by : t′ .bytes ≡ bytesOf (t .shape) = ap (λ (r : TextureRecord). r .bytes) is-record ∙ bytes-at l i (h .0) f in
-          (λ j. (
-            answer (some (record { view = e3 j .view; held = e3 j .held })),
-            lent
-                (counted (l .pool) (l .pool .tracked) (l .pool .kept - 1) (l .pool .pages) (l .pool .doomed) (l .pool .since) (l .pool .trackings) (l .pool .parked - by j) (l .pool .dooming))
-                (l .book) (tex j) (l .retiring) (l .doomed) (e6 j) (l .newest) (l .stamps),
-          ))
-          ∙ spare-taken (omega (arith, n)) k at
+  either-way : (b : Bool) → eqb count 0 ≡ b
+      → around (cond b (noneTaken (l .pool) (l .textures) (l .spares) i seq) (spareTaken (l .pool) (l .textures) (l .spares) i seq)) ≡ takeSpareOn l id shape records seq
+  either-way true e = no-spare (eqb-true count 0 e)
+  either-way false e = spare-taken (omega (arith, eqb-false count 0 e)) (newestAt (l .textures) i) (omega (arith, spares-to l i (h .0)))
+
+  pub left-taken : (a : Told (Option TakenVersion)) (c : Counts) (textures spares : List ℕ)
+      → (a, (c, (textures, spares))) ≡ newestTaken (l .pool) (l .textures) (l .spares) i seq
+      → (a, lent c (l .book) textures (l .retiring) (l .doomed) spares (l .newest) (l .stamps)) ≡ takeSpareOn l id shape records seq
+  unfolding newestTaken
+  left-taken a c textures spares e = ap around e ∙ either-way (eqb count 0) refl

@@ -1,3 +1,4 @@
 pub mod Answer
 pub mod TakeNewest
+pub mod TakeRefusal
 pub mod LookUp

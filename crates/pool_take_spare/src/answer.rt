@@ -9,7 +9,7 @@ pub enum Taken {
     Refused(u64),
 }
 
-// The pool after the call comes with it. After a refusal it is as it was.
+// The pool after the call, with what it answers. After a refusal the pool is as it was.
 pub struct TakeAnswer {
     pub pool: Pool,
     pub taken: Taken,

@@ -1,4 +1,4 @@
-// The call that starts a rename: `take_spare`.
+// The call `take_spare`, which starts a rename.
 mod answer;
 mod calls;
 mod look_up;

@@ -1,26 +1,19 @@
-// The newest spare of a texture that is tracked with the same shape.
+// The rename of a texture that is tracked with the same shape: it takes the newest spare.
 ghost use mathlib.Core.Path.{_≡_};
-ghost use mathlib.Core.Bool.{true};
-ghost use Rattle.grid_shapes.specs.Shapes.{sameShape};
-ghost use Rattle.pool_memory.specs.Lent.{lentBy, atEntry, atExit};
-ghost use Rattle.pool_memory.specs.Calls.{takeSpareOn};
 ghost use Rattle.pool_take_spare.specs.Answer.{takenTold};
-ghost use Rattle.pool_tracking.specs.Cases.{Accepted, recordOf, TrackedAt};
-ghost use Rattle.pool_take_spare.specs.TakeNewest.{renamedRecord};
+ghost use Rattle.pool_take_spare.specs.TakeNewest.{renamedRecord, NewestFits, newestTaken};
 use crate::answer::TakeAnswer;
 use crate::answer::Taken;
 use base_tables::remove_records;
-use grid_shapes::VersionShape;
 use pool_access::put_texture;
 use pool_access::spare_at;
 use pool_access::spares_before;
 use pool_access::texture_at;
-use pool_memory::PacingBook;
 use pool_memory::Pool;
 use pool_records::SPARE_STRIDE;
 use pool_records::TextureRecord;
 
-// The texture's record after the rename.
+// Returns the texture's record after the rename, which keeps it tracked for another STATE_MAX_IDLE_SUBMITS submissions.
 fn renamed(t: TextureRecord, seq: u64, left: u64) -> TextureRecord
     ensures { λ r. ⌜ r ≡ renamedRecord seq left t ⌝ }
 {
@@ -30,26 +23,18 @@ fn renamed(t: TextureRecord, seq: u64, left: u64) -> TextureRecord
     u
 }
 
+// Renames texture i and takes its newest spare, if it has one. The newest goes first, so that the oldest are left to age out when
+// the texture is renamed less.
 pub fn take_newest(
     pool: Pool,
-    book: PacingBook,
     textures: &mut [u64],
-    retiring: &[u64],
-    doomed: &[u64],
     spares: &mut [u64],
-    newest: &[u64],
-    stamps: &[u64],
     i: usize,
-    id: u64,
-    shape: VersionShape,
-    records: bool,
     seq: u64,
 ) -> TakeAnswer
-    requires { ⌜ Accepted (lentBy pool book textures retiring doomed spares newest stamps) i id shape records seq
-        × TrackedAt (lentBy pool book textures retiring doomed spares newest stamps) i id
-        × (sameShape (recordOf (lentBy pool book textures retiring doomed spares newest stamps) i .shape) shape ≡ true) ⌝ }
-    ensures { λ r. ⌜ (takenTold (r .taken), atExit (r .pool) book textures retiring doomed spares newest stamps)
-        ≡ takeSpareOn (atEntry pool book textures retiring doomed spares newest stamps) id shape records seq ⌝ }
+    requires { ⌜ NewestFits pool (now textures) (now spares) i ⌝ }
+    ensures { λ r. ⌜ (takenTold (r .taken), (r .pool, (now (textures .exit), now (spares .exit))))
+        ≡ newestTaken pool (now (textures .entry)) (now (spares .entry)) i seq ⌝ }
 {
     let t = texture_at(textures, i);
     if t.spares == 0 {

@@ -14,7 +14,7 @@ use Rattle.pool_memory.proofs.Runs.{spareCount}
 use Rattle.pool_memory.proofs.Same.{queued-model}
 use Rattle.pool_memory.proofs.Rings.{head-stays, hand-model, first-stays}
 
--- the other counts set anew
+-- the other counts set again
 abbrev pub counted : Counts → (tracked kept pages doomed since trackings parked dooming : ℕ) → Counts
 counted c tracked kept pages doomed since trackings parked dooming = record {
   tracked = tracked;

@@ -7,7 +7,7 @@ use Prim.Native.Nat.{ℕ, suc, _+_, _*_, _-_, _^_, _/_, _≤_, _<_}
 use native.Mathlib.Nat.{mul-le-mul}
 use native.Mathlib.Numerals.{add-one}
 use native.Mathlib.Omega.{arith}
-use lib.ListN.{length, set, replicate, length-append}
+use lib.ListN.{length, set, length-append}
 use lib.Seq.{sets}
 use Rattle.base_blocks.specs.Lists.{listed, total, removed}
 use Rattle.base_blocks.specs.Blocks.{moved}
@@ -45,7 +45,7 @@ use Rattle.pool_access.proofs.Fields.{pages-bound, claims-bound}
 use Rattle.pool_take_doomed.specs.Given.{givenRecords}
 use Rattle.pool_take_doomed.proofs.Pushed.{given-spares}
 use Rattle.pool_tracking.specs.declared.holding.Holding.{Holding}
-use Rattle.pool_tracking.specs.Begun.{freshPages, newRecord}
+use Rattle.pool_tracking.specs.Begun.{freshPages, newRecord, newestRenewed, stampsRenewed}
 use Rattle.pool_tracking.specs.Cases.{Accepted, recordOf, TrackedAt}
 use Rattle.pool_tracking.specs.Holdings.{holdingAt, givenUp}
 use Rattle.pool_tracking.proofs.Refusals.{shape-passed, counter-left, pages-left, renewed-begun, take-renewed}
@@ -303,8 +303,8 @@ module _ (l : Lent) (i id : ℕ) (shape : VersionShape) (records : Bool) (seq : 
         → doomed ≡ laid doomedStride writeDoomed places (l .pool .first) (l .pool .doomed) (givenRecords (l .spares) (hold .bytes) (hold .first) (hold .spares)) (l .doomed)
         → spares ≡ moved (l .spares) (spareStride * hold .first) (spareStride * hold .first + spareStride * hold .spares) (spareStride * (l .pool .kept - (hold .first + hold .spares)))
         → x ≡ newRecord id shape records (l .pool .trackings + 1) seq → textures ≡ sets (l .textures) (textureStride * i) (writeTexture x)
-        → newest ≡ sets (moved (l .newest) (hold .page + fresh) (hold .page + hold .pages) (l .pool .pages - (hold .page + hold .pages))) (hold .page) (replicate fresh 0)
-        → stamps ≡ sets (moved (l .stamps) (pageStamps * hold .page + pageStamps * fresh) (pageStamps * hold .page + pageStamps * hold .pages) (pageStamps * (l .pool .pages - (hold .page + hold .pages)))) (pageStamps * hold .page) (replicate (pageStamps * fresh) 0)
+        → newest ≡ newestRenewed (l .newest) (l .pool .pages) (hold .page) (hold .pages) fresh
+        → stamps ≡ stampsRenewed (l .stamps) (l .pool .pages) (hold .page) (hold .pages) fresh
         → (answer none, lent (begunCounts g (l .pool .pages - hold .pages + fresh) (l .pool .trackings + 1)) (l .book) textures (l .retiring) doomed spares newest stamps)
         ≡ takeSpareOn l id shape records seq
     left-renewed places fresh g x textures doomed spares newest stamps e1 e2 e3 e4 e5 e6 e7 e8 e9 =
@@ -316,8 +316,8 @@ module _ (l : Lent) (i id : ℕ) (shape : VersionShape) (records : Bool) (seq : 
         (e6 ∙ ap (λ (k : ℕ). newRecord id shape records k seq) epoch-is ∙ sym (begun-record id shape records epoch seq))
         ∙ textures-set l renewed f i new (h .0) changed-there)
         (retiring-stay l f renewed refl refl) (doomed-left places e1 doomed e4) (spares-left spares e5)
-        (e8 ∙ (λ j. sets (moved (l .newest) (page-is j + e2 j) (page-is j + pages-is j) (l .pool .pages - (page-is j + pages-is j))) (page-is j) (replicate (e2 j) 0))
+        (e8 ∙ (λ j. newestRenewed (l .newest) (l .pool .pages) (page-is j) (pages-is j) (e2 j))
         ∙ newest-begun id shape records epoch seq l f renewed i (suc i) (recordPages t) (omega arith) parts next shaped page-room)
-        (e9 ∙ (λ j. sets (moved (l .stamps) (pageStamps * page-is j + pageStamps * e2 j) (pageStamps * page-is j + pageStamps * pages-is j) (pageStamps * (l .pool .pages - (page-is j + pages-is j)))) (pageStamps * page-is j) (replicate (pageStamps * e2 j) 0))
+        (e9 ∙ (λ j. stampsRenewed (l .stamps) (l .pool .pages) (page-is j) (pages-is j) (e2 j))
         ∙ stamps-begun id shape records epoch seq l f renewed i (suc i) (recordPages t) (omega arith) parts next shaped page-room no-page))
         ∙ sym ruled

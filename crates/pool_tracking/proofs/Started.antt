@@ -7,20 +7,21 @@ use Prim.Native.Nat.{ℕ, suc, _+_, _*_, _-_, _≤_, _<_}
 use native.Mathlib.Nat.{add-zero}
 use native.Mathlib.Numerals.{add-one}
 use native.Mathlib.Omega.{arith}
-use lib.ListN.{length, take, drop, replicate}
+use lib.ListN.{length, take, drop}
 use lib.Seq.{sets}
 use Rattle.base_blocks.specs.Lists.{total, inserted}
 use Rattle.base_blocks.specs.Blocks.{moved}
 use Rattle.base_tables.proofs.Records.{take-table}
 use Rattle.grid_shapes.specs.declared.shape.VersionShape.{VersionShape}
 use Rattle.grid_shapes.specs.Shapes.{isShape}
-use Rattle.pool_rules.specs.Model.{VersionState, PoolModel, find, limit, pagesOf, pagesUsed}
+use Rattle.pool_rules.specs.Model.{VersionState, PoolModel, find, limit, pagesUsed}
 use Rattle.pool_rules.specs.Updates.{withTextures, withTrackings, insert}
 use Rattle.pool_rules.specs.TakeSpare.{takeSpare}
 use Rattle.pool_rules.proofs.States.{length-insert, total-insert}
 use Rattle.pool_records.specs.declared.texture.TextureRecord.{TextureRecord}
 use Rattle.pool_records.specs.Texture.{readTexture, writeTexture, texturesIn, recordPages}
 use Rattle.pool_records.proofs.Places.{below-length}
+use Rattle.pool_memory.specs.declared.pool.Pool.{Pool as Counts}
 use Rattle.pool_memory.specs.Lent.{Lent, lent}
 use Rattle.pool_memory.specs.Reading.{trackedRecords, modelOf}
 use Rattle.pool_memory.specs.Writing.{everySpare, poolAfter, after}
@@ -35,29 +36,35 @@ use Rattle.pool_memory.proofs.Changes.{textures-inserted, every-inserted}
 use Rattle.pool_memory.proofs.Pages.{page-bound}
 use Rattle.pool_memory.proofs.Fresh.{no-page-new}
 use Rattle.pool_memory.proofs.Asked.{asked-accepted}
-use Rattle.pool_access.proofs.Fields.{pages-bound}
-use Rattle.pool_tracking.specs.Begun.{freshPages, newRecord}
+use Rattle.pool_tracking.specs.Begun.{freshPages, newRecord, newestRenewed, stampsRenewed}
 use Rattle.pool_tracking.specs.Cases.{Accepted, TrackedAt}
+use Rattle.pool_tracking.specs.Start.{StartFits, oneTracked, trackingStarted}
 use Rattle.pool_tracking.proofs.Refusals.{shape-passed, counter-left, pages-left, new-room, new-begun, take-new}
 use Rattle.pool_tracking.proofs.Counts.{counted, counts-after}
 use Rattle.pool_tracking.proofs.Tracked.{not-there}
 use Rattle.pool_tracking.proofs.Trackings.{begun, begun-record, begun-pages, newest-begun, stamps-begun}
-use Rattle.grid_stamps.specs.StampConstants.{pageStamps}
 use Rattle.pool_records.specs.RecordConstants.{textureStride}
-use Rattle.pool_rules.specs.RuleConstants.{mostPlaces}
 
--- what the code asks of a pool that has room for a texture more
-pub record Startable (l : Lent) (i : ℕ) (shape : VersionShape) (records : Bool) : Type 0 where
-  pub place : i ≤ l .pool .tracked
-  pub textures : textureStride * l .pool .tracked + textureStride ≤ length (l .textures)
-  pub tracked : l .pool .tracked < mostPlaces
-  pub counter : l .pool .trackings < limit
-  pub few : pagesOf shape ≤ mostPlaces
-  pub page : total recordPages (texturesIn i (l .textures)) ≤ l .pool .pages
-  pub used : l .pool .pages ≤ length (l .newest)
-  pub room : l .pool .pages + freshPages shape records ≤ length (l .newest) + 0
-  pub newest : length (l .newest) ≤ mostPlaces
-  pub stamps : pageStamps * length (l .newest) ≡ length (l .stamps)
+-- the counts and the three slices that change
+abbrev Left : Type 0
+Left = Counts × (List ℕ × (List ℕ × List ℕ))
+
+-- ---- as the code has it
+
+module _ (pool : Counts) (textures newest stamps : List ℕ) (i id : ℕ) (shape : VersionShape) (records : Bool) (seq : ℕ) where
+  pub started-as : (x : TextureRecord) (textures′ newest′ stamps′ : List ℕ) (page fresh : ℕ) → x ≡ newRecord id shape records (pool .trackings + 1) seq
+      → page ≡ total recordPages (texturesIn i textures) → fresh ≡ freshPages shape records
+      → textures′ ≡ sets (moved textures (textureStride * i + textureStride) (textureStride * i) (textureStride * (pool .tracked - i))) (textureStride * i) (writeTexture x)
+      → newest′ ≡ newestRenewed newest (pool .pages) page 0 fresh → stamps′ ≡ stampsRenewed stamps (pool .pages) page 0 fresh
+      → (oneTracked pool fresh, (textures′, (newest′, stamps′))) ≡ trackingStarted pool textures newest stamps i id shape records seq
+  unfolding trackingStarted
+  started-as x textures′ newest′ stamps′ page fresh e1 e2 e3 e4 e5 e6 =
+      let tex = e4 ∙ ap (λ (y : TextureRecord). sets (moved textures (textureStride * i + textureStride) (textureStride * i) (textureStride * (pool .tracked - i))) (textureStride * i) (writeTexture y)) e1 in
+      let new = e5 ∙ ap₂ (λ (a b : ℕ). newestRenewed newest (pool .pages) a 0 b) e2 e3 in
+      let sta = e6 ∙ ap₂ (λ (a b : ℕ). stampsRenewed stamps (pool .pages) a 0 b) e2 e3 in
+      λ j. (oneTracked pool (e3 j), (tex j, (new j, sta j)))
+
+-- ---- the rule
 
 module _ (l : Lent) (i id : ℕ) (shape : VersionShape) (records : Bool) (seq : ℕ) (ok : Accepted l i id shape records seq) (untracked : TrackedAt l i id → ⊥) where
   abbrev f : Fits l
@@ -109,10 +116,7 @@ module _ (l : Lent) (i id : ℕ) (shape : VersionShape) (records : Bool) (seq : 
   shaped : isShape shape ≡ true
   shaped = shape-passed (modelOf l) id shape records seq (ok .1 .1)
 
-  few-pages : pagesOf shape ≤ mostPlaces
-  few-pages = omega (arith, pages-bound shape shaped)
-
-  page-room : l .pool .pages + freshPages shape records ≤ length (l .newest) + 0
+  page-room : l .pool .pages + freshPages shape records ≤ length (l .newest)
   page-room =
       omega (
         arith,
@@ -129,18 +133,18 @@ module _ (l : Lent) (i id : ℕ) (shape : VersionShape) (records : Bool) (seq : 
   page-in : firstPageOf l i ≤ l .pool .pages
   page-in = page-bound l (f .claimed) i
 
-  pub startable : Startable l i shape records
-  startable = record {
+  pub start-fits : StartFits (l .pool) (l .textures) (l .newest) (l .stamps) i shape records
+  start-fits = record {
+    shaped = shaped;
     place = place-bound;
-    textures = record-room;
+    room = record-room;
     tracked = omega (arith, place-left, enough (modelOf l .places) (f .places) .textures);
     counter = counter;
-    few = few-pages;
     page = omega (arith, pages-there, page-in);
     used = f .pages;
-    room = page-room;
-    newest = f .newest;
-    stamps = f .stamps;
+    pages = page-room;
+    most = f .newest;
+    paged = f .stamps;
   }
 
   -- ---- what it leaves
@@ -158,40 +162,33 @@ module _ (l : Lent) (i id : ℕ) (shape : VersionShape) (records : Bool) (seq : 
   pages-then : l .pool .pages + freshPages shape records ≡ total pagesUsed (insert new (modelOf l .textures))
   pages-then = omega (arith, total-insert pagesUsed new (modelOf l .textures), pages-model l, f .claimed, begun-pages id shape records epoch seq)
 
-  counts-started : counted (l .pool) (l .pool .tracked + 1) (l .pool .kept) (l .pool .pages + freshPages shape records) (l .pool .doomed) (l .pool .since) epoch (l .pool .parked) (l .pool .dooming) ≡ poolAfter started l
+  counts-started : oneTracked (l .pool) (freshPages shape records) ≡ poolAfter started l
   unfolding modelOf
   counts-started =
-      counts-after l f started refl refl refl refl (l .pool .tracked + 1) (l .pool .kept) (l .pool .pages + freshPages shape records) (l .pool .doomed)
+      ap (λ (k : ℕ). counted (l .pool) (l .pool .tracked + 1) (l .pool .kept) (l .pool .pages + freshPages shape records) (l .pool .doomed) (l .pool .since) k (l .pool .parked) (l .pool .dooming)) epoch-is
+      ∙ counts-after l f started refl refl refl refl (l .pool .tracked + 1) (l .pool .kept) (l .pool .pages + freshPages shape records) (l .pool .doomed)
       tracked-then kept-then pages-then (sym (doomed-model l)) (omega arith)
 
-  pub left-started : (x : TextureRecord) (textures newest stamps : List ℕ) (page fresh : ℕ) → x ≡ newRecord id shape records (l .pool .trackings + 1) seq
-      → page ≡ total recordPages (texturesIn i (l .textures)) → fresh ≡ freshPages shape records
-      → textures ≡ sets (moved (l .textures) (textureStride * i + textureStride) (textureStride * i) (textureStride * (l .pool .tracked - i))) (textureStride * i) (writeTexture x)
-      → newest ≡ sets (moved (l .newest) (page + fresh) (page + 0) (l .pool .pages - (page + 0))) page (replicate fresh 0)
-      → stamps ≡ sets (moved (l .stamps) (pageStamps * page + pageStamps * fresh) (pageStamps * page + pageStamps * 0) (pageStamps * (l .pool .pages - (page + 0)))) (pageStamps * page) (replicate (pageStamps * fresh) 0)
-      → (
-        answer none,
-        lent
-            (counted (l .pool) (l .pool .tracked + 1) (l .pool .kept) (l .pool .pages + fresh) (l .pool .doomed) (l .pool .since) (l .pool .trackings + 1) (l .pool .parked) (l .pool .dooming))
-            (l .book) textures (l .retiring) (l .doomed) (l .spares) newest stamps,
-      ) ≡ takeSpareOn l id shape records seq
-  left-started x textures newest stamps page fresh e1 e2 e3 e4 e5 e6 =
-      let at : page ≡ firstPageOf l i = e2 ∙ pages-there in
+  pub left-started : (c : Counts) (textures newest stamps : List ℕ)
+      → (c, (textures, (newest, stamps))) ≡ trackingStarted (l .pool) (l .textures) (l .newest) (l .stamps) i id shape records seq
+      → (answer none, lent c (l .book) textures (l .retiring) (l .doomed) (l .spares) newest stamps) ≡ takeSpareOn l id shape records seq
+  unfolding trackingStarted
+  left-started c textures newest stamps e =
       let n = freshPages shape records in
       let same : firstPageOf l i ≡ firstPageOf l i + 0 = sym (add-zero (firstPageOf l i)) in
+      let room : l .pool .pages + n ≤ length (l .newest) + 0 = omega (arith, page-room) in
       ap (λ (m : Lent). (answer none, m))
-      (put-together started l
-      (counted (l .pool) (l .pool .tracked + 1) (l .pool .kept) (l .pool .pages + fresh) (l .pool .doomed) (l .pool .since) (l .pool .trackings + 1) (l .pool .parked) (l .pool .dooming))
-      (l .book) textures (l .retiring) (l .doomed) (l .spares) newest stamps
-      (ap₂ (λ (a b : ℕ). counted (l .pool) (l .pool .tracked + 1) (l .pool .kept) (l .pool .pages + a) (l .pool .doomed) (l .pool .since) b (l .pool .parked) (l .pool .dooming)) e3 epoch-is ∙ counts-started)
+      (put-together started l c (l .book) textures (l .retiring) (l .doomed) (l .spares) newest stamps
+      (ap (λ (q : Left). q .0) e ∙ counts-started)
       (book-stays l f started refl)
-      (e4 ∙ ap (λ (y : TextureRecord). sets (moved (l .textures) (textureStride * i + textureStride) (textureStride * i) (textureStride * (l .pool .tracked - i))) (textureStride * i) (writeTexture y))
-      (e1 ∙ ap (λ (k : ℕ). newRecord id shape records k seq) epoch-is ∙ sym (begun-record id shape records epoch seq))
+      (ap (λ (q : Left). q .1 .0) e
+      ∙ ap (λ (y : TextureRecord). sets (moved (l .textures) (textureStride * i + textureStride) (textureStride * i) (textureStride * (l .pool .tracked - i))) (textureStride * i) (writeTexture y))
+      (ap (λ (k : ℕ). newRecord id shape records k seq) epoch-is ∙ sym (begun-record id shape records epoch seq))
       ∙ textures-inserted l started f i new record-room place-bound put-there)
       (retiring-stay l f started refl refl) (doomed-stay l f started refl)
       (spares-stay l f started (ap everySpare put-there ∙ every-inserted l i new refl))
-      (e5 ∙ ap₂ (λ (a b : ℕ). sets (moved (l .newest) (a + b) (a + 0) (l .pool .pages - (a + 0))) a (replicate b 0)) at e3
-      ∙ newest-begun id shape records epoch seq l f started i i 0 (omega arith) parts same shaped page-room)
-      (e6 ∙ ap₂ (λ (a b : ℕ). sets (moved (l .stamps) (pageStamps * a + pageStamps * b) (pageStamps * a + pageStamps * 0) (pageStamps * (l .pool .pages - (a + 0)))) (pageStamps * a) (replicate (pageStamps * b) 0)) at e3
-      ∙ stamps-begun id shape records epoch seq l f started i i 0 (omega arith) parts same shaped page-room (no-page-new l (ids-ascend l f) id shape nowhere)))
+      (ap (λ (q : Left). q .1 .1 .0) e ∙ ap (λ (a : ℕ). newestRenewed (l .newest) (l .pool .pages) a 0 n) pages-there
+      ∙ newest-begun id shape records epoch seq l f started i i 0 (omega arith) parts same shaped room)
+      (ap (λ (q : Left). q .1 .1 .1) e ∙ ap (λ (a : ℕ). stampsRenewed (l .stamps) (l .pool .pages) a 0 n) pages-there
+      ∙ stamps-begun id shape records epoch seq l f started i i 0 (omega arith) parts same shaped room (no-page-new l (ids-ascend l f) id shape nowhere)))
       ∙ sym ruled

@@ -25,7 +25,7 @@ use Rattle.pool_memory.proofs.Runs.{firstPageOf}
 use Rattle.pool_memory.proofs.Stays.{ids-ascend}
 use Rattle.pool_memory.proofs.Pages.{page-bound, newest-repacked, stamps-repacked}
 use Rattle.pool_memory.proofs.Fresh.{fresh-newest, fresh-stamps}
-use Rattle.pool_tracking.specs.Begun.{freshHistory, freshPages, newRecord}
+use Rattle.pool_tracking.specs.Begun.{freshHistory, freshPages, newRecord, newestRenewed, stampsRenewed}
 use Rattle.grid_stamps.specs.StampConstants.{pageStamps}
 
 module _ (id : ℕ) (shape : VersionShape) (records : Bool) (epoch seq : ℕ) where
@@ -91,14 +91,14 @@ module _ (id : ℕ) (shape : VersionShape) (records : Bool) (epoch seq : ℕ) wh
     abbrev zeros : ℕ → List ℕ
     zeros k = replicate k 0
 
-    pub newest-begun : sets (moved (l .newest) (page + n) (page + old) (l .pool .pages - (page + old))) page (replicate n 0) ≡ newestAfter p l
+    pub newest-begun : newestRenewed (l .newest) (l .pool .pages) page old n ≡ newestAfter p l
     newest-begun =
         let b = page-bound l (f .claimed) j in
         ap₂ (λ (k m : ℕ). sets (moved (l .newest) (page + k) m (l .pool .pages - m)) page (zeros n)) (sym (length-zeros n)) (sym next)
         ∙ newest-repacked l p (f .claimed) i j (begun ∷ []) h e (zeros n) (begun-newest shaped) (f .pages) (omega (arith, length-zeros n))
 
     pub stamps-begun : firstPage id shape 0 (modelOf l .textures) ≡ none
-        → sets (moved (l .stamps) (pageStamps * page + pageStamps * n) (pageStamps * page + pageStamps * old) (pageStamps * (l .pool .pages - (page + old)))) (pageStamps * page) (replicate (pageStamps * n) 0) ≡ stampsAfter p l
+        → stampsRenewed (l .stamps) (l .pool .pages) page old n ≡ stampsAfter p l
     stamps-begun none-before =
         let b = page-bound l (f .claimed) j in
         let m : pageStamps * page + pageStamps * old ≡ pageStamps * firstPageOf l j = omega arith in

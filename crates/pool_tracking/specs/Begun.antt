@@ -1,8 +1,13 @@
 -- Helper: A tracking just begun, as the lent slices have it.
-use Prim.Native.Nat.{ℕ}
+use Prim.Native.Nat.{ℕ, _+_, _*_, _-_}
 use mathlib.Core.Bool.{Bool, cond}
+use mathlib.Core.List.{List}
+use lib.ListN.{replicate}
+use lib.Seq.{sets}
+use Rattle.base_blocks.specs.Blocks.{moved}
 use Rattle.grid_shapes.specs.declared.shape.VersionShape.{VersionShape}
 use Rattle.grid_shapes.specs.Shapes.{bytesOf}
+use Rattle.grid_stamps.specs.StampConstants.{pageStamps}
 use Rattle.pool_rules.specs.Model.{pagesOf}
 use Rattle.pool_records.specs.declared.recorded.Recorded.{Recorded}
 use Rattle.pool_records.specs.declared.recorded.Recorded.the-variants.{Writes, NoHistory}
@@ -29,3 +34,13 @@ newRecord id shape records epoch seq = record {
   spares = 0;
   bytes = bytesOf shape;
 }
+
+-- ---- the slices of pages: of the `used` pages, the `old` from `page` on make way for n that are all 0
+
+abbrev pub newestRenewed : List ℕ → (used page old n : ℕ) → List ℕ
+newestRenewed newest used page old n = sets (moved newest (page + n) (page + old) (used - (page + old))) page (replicate n 0)
+
+abbrev pub stampsRenewed : List ℕ → (used page old n : ℕ) → List ℕ
+stampsRenewed stamps used page old n =
+    sets (moved stamps (pageStamps * page + pageStamps * n) (pageStamps * page + pageStamps * old) (pageStamps * (used - (page + old))))
+    (pageStamps * page) (replicate (pageStamps * n) 0)

@@ -1,4 +1,4 @@
-// A tracking just begun.
+// A tracking just begun: its history, its pages and its record.
 ghost use mathlib.Core.Path.{_≡_};
 ghost use mathlib.Core.Bool.{true};
 ghost use Prim.Native.Nat.{_≤_};
@@ -12,7 +12,8 @@ use pool_access::shape_pages;
 use pool_records::Recorded;
 use pool_records::TextureRecord;
 
-// Its write history, if writes are recorded.
+// Returns an empty write history, or none where writes are not recorded. It starts empty, since every version from here on holds
+// whatever was written before: only later writes are stamped.
 fn fresh_history(records: bool) -> Recorded
     ensures { λ r. ⌜ r ≡ freshHistory records ⌝ }
 {
@@ -23,7 +24,7 @@ fn fresh_history(records: bool) -> Recorded
     }
 }
 
-// The pages of that history.
+// Returns how many pages that history takes.
 pub fn fresh_pages(shape: VersionShape, records: bool) -> usize
     requires { ⌜ pagesOf shape ≤ mostPlaces ⌝ }
     ensures { λ r. ⌜ r ≡ freshPages shape records ⌝ }
@@ -31,7 +32,7 @@ pub fn fresh_pages(shape: VersionShape, records: bool) -> usize
     if records { shape_pages(shape) } else { 0 }
 }
 
-// The texture's record.
+// Returns the texture's record.
 pub fn new_record(
     id: u64,
     shape: VersionShape,

@@ -21,6 +21,7 @@ pub struct Holding {
     pub pages: usize,
 }
 
+// Returns what texture i holds.
 pub fn holding_at(textures: &[u64], i: usize) -> Holding
     requires { ⌜ (textureStride * i + textureStride ≤ length (now textures))
         × (total (λ t. t .spares) (texturesIn i (now textures)) ≤ mostPlaces)

@@ -1,5 +1,5 @@
-// A tracking begun: for a texture that was not tracked, and anew for one that was tracked with another shape. Both are cases of
-// the call that starts a rename, and their contracts are the call's own where the case applies.
+// A tracking that begins: for a texture that was not tracked, and again for one that was tracked with another shape. Both are cases
+// of the call that starts a rename.
 mod begun;
 mod holding;
 mod pages;

@@ -1,4 +1,4 @@
-// The pages of a tracking's history, made anew.
+// The pages of a tracking's history, renewed.
 ghost use mathlib.Core.Path.{_≡_};
 ghost use Prim.Native.Nat.{_+_, _*_, _-_, _≤_};
 ghost use lib.ListN.{length, replicate};
@@ -6,12 +6,13 @@ ghost use lib.Seq.{sets};
 ghost use Rattle.base_blocks.specs.Blocks.{moved};
 ghost use Rattle.grid_stamps.specs.StampConstants.{pageStamps};
 ghost use Rattle.pool_rules.specs.RuleConstants.{mostPlaces};
+ghost use Rattle.pool_tracking.specs.Begun.{newestRenewed, stampsRenewed};
 use base_blocks::fill;
 use base_blocks::shift_down;
 use base_blocks::shift_up;
 use grid_stamps::PAGE_STAMPS;
 
-// The n numbers from index `from` on move to index `to`.
+// Moves the n numbers from index `from` on to index `to`.
 fn move_block(s: &mut [u64], to: usize, from: usize, n: usize)
     requires { ⌜ (to + n ≤ length (now s)) × (from + n ≤ length (now s)) ⌝ }
     ensures { λ _. ⌜ now (s .exit) ≡ moved (now (s .entry)) to from n ⌝ }
@@ -25,7 +26,7 @@ fn move_block(s: &mut [u64], to: usize, from: usize, n: usize)
     }
 }
 
-// The `old` numbers from index `at` on make way for n times 0, and the `later` numbers behind them move.
+// Makes way for n times 0 in place of the `old` numbers from index `at` on: the `later` numbers after them move.
 fn renew_block(s: &mut [u64], at: usize, old: usize, n: usize, later: usize)
     requires { ⌜ (at + old + later ≤ length (now s)) × (at + n + later ≤ length (now s)) ⌝ }
     ensures { λ _. ⌜ now (s .exit) ≡ sets (moved (now (s .entry)) (at + n) (at + old) later) at (replicate n 0) ⌝ }
@@ -34,7 +35,7 @@ fn renew_block(s: &mut [u64], at: usize, old: usize, n: usize, later: usize)
     fill(s, at, n, 0);
 }
 
-// Of the `used` pages, the `old` from `page` on make way for n fresh ones, all 0.
+// Makes way for n fresh pages, all 0, in place of the `old` from `page` on of the `used` ones.
 pub fn renew_pages(
     newest: &mut [u64],
     stamps: &mut [u64],
@@ -45,11 +46,8 @@ pub fn renew_pages(
 )
     requires { ⌜ (page + old ≤ used) × (used ≤ length (now newest)) × (used + n ≤ length (now newest) + old) × (length (now newest) ≤ mostPlaces)
         × (pageStamps * length (now newest) ≡ length (now stamps)) ⌝ }
-    ensures { λ _. ⌜
-        (now (newest .exit) ≡ sets (moved (now (newest .entry)) (page + n) (page + old) (used - (page + old))) page (replicate n 0))
-        × (now (stamps .exit)
-        ≡ sets (moved (now (stamps .entry)) (pageStamps * page + pageStamps * n) (pageStamps * page + pageStamps * old)
-        (pageStamps * (used - (page + old)))) (pageStamps * page) (replicate (pageStamps * n) 0)) ⌝ }
+    ensures { λ _. ⌜ (now (newest .exit) ≡ newestRenewed (now (newest .entry)) used page old n)
+        × (now (stamps .exit) ≡ stampsRenewed (now (stamps .entry)) used page old n) ⌝ }
 {
     let later = used - (page + old);
     renew_block(newest, page, old, n, later);

@@ -1,4 +1,5 @@
-// A texture that is tracked with another shape: its spares are queued for destruction and its tracking is renewed.
+// A texture that is tracked with another shape: the spares made for the old shape cannot serve it, so that they are queued for
+// destruction and its tracking is renewed.
 ghost use mathlib.Core.Path.{_≡_};
 ghost use mathlib.Core.Bool.{false};
 ghost use mathlib.Core.Option.{none};
@@ -27,7 +28,8 @@ use pool_records::RETIRING_STRIDE;
 use pool_records::SPARE_STRIDE;
 use pool_take_doomed::push_spares;
 
-// The k spares from place `from` on leave their slice for the destroy ring, which has that many places.
+// Queues the k spares from place `from` on for destruction and takes them out of their slice. The destroy ring has `places` places.
+// Returns the counts after it.
 fn give_up(
     pool: Pool,
     doomed: &mut [u64],
@@ -67,6 +69,8 @@ fn give_up(
     after
 }
 
+// Renews the tracking of texture i under the new shape. Versions of the old one that are still retiring are destroyed when they are
+// parked, since the tracking's number differs. Returns the counts after it.
 pub fn renew_tracking(
     pool: Pool,
     book: PacingBook,

@@ -1,25 +1,19 @@
-// A texture that is not tracked yet.
+// A texture that is not tracked yet: its tracking begins with no spares and, where its writes are recorded, an empty history.
 ghost use mathlib.Core.Path.{_≡_};
-ghost use mathlib.Core.Option.{none};
-ghost use Rattle.pool_memory.specs.Lent.{lentBy, atEntry, atExit};
-ghost use Rattle.pool_memory.specs.Calls.{answer, takeSpareOn};
-ghost use Rattle.pool_tracking.specs.Cases.{Accepted, TrackedAt};
+ghost use Rattle.pool_tracking.specs.Start.{StartFits, trackingStarted};
 use crate::begun::fresh_pages;
 use crate::begun::new_record;
 use crate::pages::renew_pages;
 use grid_shapes::VersionShape;
 use pool_access::insert_texture;
 use pool_access::pages_before;
-use pool_memory::PacingBook;
 use pool_memory::Pool;
 
+// Puts a record of the texture in at its place i, and pages for its history among those of the textures around it, since both are
+// packed in ascending id. Returns the counts after it.
 pub fn start_tracking(
     pool: Pool,
-    book: PacingBook,
     textures: &mut [u64],
-    retiring: &[u64],
-    doomed: &[u64],
-    spares: &[u64],
     newest: &mut [u64],
     stamps: &mut [u64],
     i: usize,
@@ -28,10 +22,9 @@ pub fn start_tracking(
     records: bool,
     seq: u64,
 ) -> Pool
-    requires { ⌜ Accepted (lentBy pool book textures retiring doomed spares newest stamps) i id shape records seq
-        × (TrackedAt (lentBy pool book textures retiring doomed spares newest stamps) i id → ⊥) ⌝ }
-    ensures { λ r. ⌜ (answer none, atExit r book textures retiring doomed spares newest stamps)
-        ≡ takeSpareOn (atEntry pool book textures retiring doomed spares newest stamps) id shape records seq ⌝ }
+    requires { ⌜ StartFits pool (now textures) (now newest) (now stamps) i shape records ⌝ }
+    ensures { λ r. ⌜ (r, (now (textures .exit), (now (newest .exit), now (stamps .exit))))
+        ≡ trackingStarted pool (now (textures .entry)) (now (newest .entry)) (now (stamps .entry)) i id shape records seq ⌝ }
 {
     let epoch = pool.trackings + 1;
     let fresh = fresh_pages(shape, records);

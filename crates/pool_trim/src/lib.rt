@@ -1,4 +1,4 @@
-// trim: the spares idle past the bound are given up, and idle textures are tracked no longer.
+// The call `trim`: the spares idle past the bound are given up, and idle textures are tracked no longer.
 mod calls;
 mod look_at;
 mod nothing_aged;

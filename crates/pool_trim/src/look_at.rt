@@ -31,7 +31,7 @@ pub struct Look {
     pub bytes: u64,
 }
 
-// The submission k before this one, or 0. An age is tested against it, so that no sum can pass a word.
+// Returns the submission k before this one, or 0. An age is tested against it, so that no sum can pass a word.
 pub fn before(current: u64, k: u64) -> u64
     ensures { λ r. ⌜ r ≡ current - k ⌝ }
 {
@@ -41,7 +41,7 @@ pub fn before(current: u64, k: u64) -> u64
     current - k
 }
 
-// Of the n spares from place `first` on, how many are idle past the bound, from the oldest on up to the first that is not.
+// Counts, of the n spares from place `first` on, those idle past the bound, from the oldest on up to the first that is not.
 pub fn aged_count(spares: &[u64], first: usize, n: usize, current: u64) -> usize
     requires { ⌜ spareStride * (first + n) ≤ length (now spares) ⌝ }
     ensures { λ r. ⌜ (r ≤ n) × (r ≡ agedCount current (listed (spareIn (now (spares .entry))) first n)) ⌝ }
@@ -57,7 +57,7 @@ pub fn aged_count(spares: &[u64], first: usize, n: usize, current: u64) -> usize
     k
 }
 
-// Whether texture i, with `left` spares, is dropped.
+// Tells whether texture i, with `left` spares, is dropped. Its state is far smaller than a spare, so that it is kept longer.
 fn is_idle(textures: &[u64], i: usize, left: usize, current: u64) -> bool
     requires { ⌜ textureStride * i + textureStride ≤ length (now textures) ⌝ }
     ensures { λ r. ⌜ r ≡ isIdle current (textureIn (now (textures .entry)) i) left ⌝ }
@@ -67,7 +67,7 @@ fn is_idle(textures: &[u64], i: usize, left: usize, current: u64) -> bool
         & ((textures[TEXTURE_STRIDE * i + TEXTURE_RENAME_AT] < oldest) & (left == 0))
 }
 
-// The number by which the next trims look at texture i.
+// Returns the number by which the next trims look at texture i.
 fn due_after(textures: &[u64], i: usize, current: u64) -> u64
     requires { ⌜ textureStride * i + textureStride ≤ length (now textures) ⌝ }
     ensures { λ r. ⌜ r ≡ dueAfter current (textureIn (now (textures .entry)) i) ⌝ }
@@ -84,7 +84,7 @@ fn due_after(textures: &[u64], i: usize, current: u64) -> u64
     current
 }
 
-// Texture i, whose spares begin at place `first`.
+// Looks at texture i, whose spares begin at place `first`.
 pub fn look_at(textures: &[u64], spares: &[u64], i: usize, first: usize, current: u64) -> Look
     requires { ⌜ (textureStride * i + textureStride ≤ length (now textures))
         × (spareStride * (first + textureIn (now textures) i .spares) ≤ length (now spares))

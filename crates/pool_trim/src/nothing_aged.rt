@@ -14,8 +14,8 @@ use pool_records::TEXTURE_STRIDE;
 use pool_rules::SPARE_MAX_IDLE_SUBMITS;
 use pool_rules::STATE_MAX_IDLE_SUBMITS;
 
-// Whether no texture's due number has aged and no spare is idle past the bound. A texture's first spare is its oldest, so that one
-// answers for them all.
+// Tells whether no texture's due number has aged and no spare is idle past the bound. A texture's first spare is its oldest, so
+// that one answers for them all.
 pub fn nothing_aged(textures: &[u64], spares: &[u64], tracked: usize, current: u64) -> bool
     requires { ⌜ (textureStride * tracked ≤ length (now textures)) × (spareStride * sparesTo (now textures) tracked ≤ length (now spares)) ⌝ }
     ensures { λ r. ⌜ r ≡ allYoung current (now (textures .entry)) (now (spares .entry)) tracked ⌝ }

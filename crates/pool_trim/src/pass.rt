@@ -18,6 +18,7 @@ pub struct Pass {
     pub freed: u64,
 }
 
+// Returns where the pass stands before the first texture.
 pub fn no_pass() -> Pass
     ensures { λ r. ⌜ r ≡ noPass ⌝ }
 {
@@ -32,7 +33,7 @@ pub fn no_pass() -> Pass
     }
 }
 
-// One texture more.
+// Returns where the pass stands after one texture more.
 pub fn pass_on(pass: Pass, look: Look) -> Pass
     requires { ⌜ (look .aged ≤ look .own) × (pass .first + look .own ≤ mostPlaces) × (pass .page + look .claimed ≤ mostPlaces)
         × (pass .tracked + look .staying ≤ mostPlaces)
@@ -52,7 +53,7 @@ pub fn pass_on(pass: Pass, look: Look) -> Pass
     }
 }
 
-// The counts after the pass. The spares given up wait to be destroyed.
+// Returns the counts after the pass. The spares given up wait to be destroyed.
 pub fn counts_after(pool: Pool, pass: Pass) -> Pool
     requires { ⌜ (pool .doomed + pass .count ≤ mostPlaces) × (pool .since ≤ mostPlaces) × (pass .freed ≤ pool .parked)
         × (pool .dooming + pass .freed < 2 ^ 64) ⌝ }

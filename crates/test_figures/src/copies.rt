@@ -9,7 +9,7 @@ use grid_rects::TexelRect;
 use grid_rects::copy_bytes;
 use grid_shapes::BytesAnswer;
 
-// The outcome, and the bytes if it is 0.
+// Prints the outcome of a copy, and its bytes if that is 0.
 fn print_copy(name: &[u8], format: u64, kind: u64, level: u64, region: Region)
     requires { ⌜ length (now name) ≤ 64 ⌝ }
 {
@@ -19,7 +19,7 @@ fn print_copy(name: &[u8], format: u64, kind: u64, level: u64, region: Region)
     }
 }
 
-// A square of so many texels both ways, from that one on both ways.
+// Returns a square of `size` texels both ways, from texel `start` on both ways.
 fn square(start: u64, size: u64) -> Region {
     Region::Part(TexelRect {
         x: start,
@@ -29,6 +29,7 @@ fn square(start: u64, size: u64) -> Region {
     })
 }
 
+// Prints the bytes of copies.
 pub fn print_copies() {
     // Half a byte a texel.
     print_copy(b"copy_25_texels", 5, 0, 0, Region::Whole);

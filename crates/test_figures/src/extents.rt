@@ -16,6 +16,7 @@ struct Seen {
     tiles: u64,
 }
 
+// Prints the extent of a level.
 fn print_extent(base: u64, level: u64) {
     figure_of_two(
         b"level_extent",
@@ -25,7 +26,7 @@ fn print_extent(base: u64, level: u64) {
     );
 }
 
-// By how much an edge exceeds; an edge that is too short shows as a number that is too large.
+// Returns by how much an edge exceeds the least one. An edge that is too short shows as a number that is too large.
 fn excess(edge: u64, least: u64) -> u64 {
     if edge < least {
         return u64::MAX;
@@ -33,14 +34,14 @@ fn excess(edge: u64, least: u64) -> u64 {
     edge - least
 }
 
-// How many tiles lie along an axis.
+// Counts the tiles along an axis.
 fn tile_count(extent: u64, block: u64) -> u64
     requires { ⌜ (extent ≤ 16384) × (0 < block) × (block ≤ 16) ⌝ }
 {
     grid_axes::tiles(grid_axes::axis_of(extent, block))
 }
 
-// One extent more.
+// Looks at one extent more.
 fn look(seen: Seen, extent: u64, block: u64) -> Seen
     requires { ⌜ (extent ≤ 16384) × (0 < block) × (block ≤ 16) ⌝ }
 {
@@ -55,7 +56,7 @@ fn look(seen: Seen, extent: u64, block: u64) -> Seen
     }
 }
 
-// Every extent from 1 to 16,384.
+// Looks at every extent from 1 to 16,384.
 fn look_at_all(block: u64) -> Seen
     requires { ⌜ (0 < block) × (block ≤ 16) ⌝ }
 {
@@ -74,6 +75,7 @@ fn look_at_all(block: u64) -> Seen
     seen
 }
 
+// Prints what was seen of the tiles.
 fn print_tiles(block: u64)
     requires { ⌜ (0 < block) × (block ≤ 16) ⌝ }
 {
@@ -85,7 +87,7 @@ fn print_tiles(block: u64)
     figure_of(b"most_tiles", block, seen.tiles);
 }
 
-// The stamps of a square level.
+// Returns how many stamps a square level has.
 fn stamps(extent: u64, block: u64) -> u64
     requires { ⌜ (extent ≤ 16384) × (0 < block) × (block ≤ 16) ⌝ }
 {
@@ -93,6 +95,7 @@ fn stamps(extent: u64, block: u64) -> u64
     grid_stamps::stamp_count(axis, axis)
 }
 
+// Prints extents of levels and what was seen of their tiles.
 pub fn print_extents() {
     print_extent(0, 0);
     print_extent(0, 14);

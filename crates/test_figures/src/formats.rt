@@ -5,6 +5,7 @@ use crate::print::yes_or_no;
 use grid_shapes::RecordsAnswer;
 use grid_shapes::VersionShape;
 
+// Prints every format's block.
 fn print_blocks() {
     let mut format = 0;
     while format < 9 {
@@ -14,6 +15,7 @@ fn print_blocks() {
     }
 }
 
+// Prints how many slices a kind has.
 fn print_slices(kind: u64) {
     figure_of(
         b"slices",
@@ -22,7 +24,7 @@ fn print_slices(kind: u64) {
     );
 }
 
-// Whether every write is recorded, or the outcome of a shape that is refused.
+// Tells whether every write is recorded, or returns the outcome of a shape that is refused.
 fn records(s: VersionShape, usage: u64) -> u64 {
     match grid_shapes::records_every_write(s, usage) {
         RecordsAnswer::Records(records) => yes_or_no(records),
@@ -30,6 +32,7 @@ fn records(s: VersionShape, usage: u64) -> u64 {
     }
 }
 
+// Prints it for usage bits.
 fn print_usage(usage: u64) {
     figure_of(
         b"records_with_usage",
@@ -38,6 +41,7 @@ fn print_usage(usage: u64) {
     );
 }
 
+// Prints it for a format.
 fn print_format(format: u64) {
     figure_of(
         b"records_with_format",
@@ -46,6 +50,7 @@ fn print_format(format: u64) {
     );
 }
 
+// Prints it for a kind.
 fn print_kind(kind: u64) {
     figure_of(
         b"records_with_kind",
@@ -54,6 +59,7 @@ fn print_kind(kind: u64) {
     );
 }
 
+// Prints the figures of formats, kinds and usage bits.
 pub fn print_formats() {
     print_blocks();
     print_slices(0);

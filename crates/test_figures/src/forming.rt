@@ -11,7 +11,8 @@ use pool_records::SPARE_STRIDE;
 use pool_records::TEXTURE_STRIDE;
 use pool_rules::LIMIT;
 
-// A pool of one texture place, one version place and one page. Nothing is tracked, and one version of so many bytes is in the destroy queue.
+// Returns a pool of one texture place, one version place and one page. Nothing is tracked, and one version of `bytes` bytes is in
+// the destroy queue.
 fn pool_with(bytes: u64, since: u64, trackings: u64) -> Pool {
     Pool {
         tracked: 0,
@@ -31,6 +32,7 @@ fn pool_with(bytes: u64, since: u64, trackings: u64) -> Pool {
     }
 }
 
+// Returns a pacing book.
 fn book_with(arrivals: u64, slot: usize) -> PacingBook {
     PacingBook {
         arrivals: [arrivals; 8],
@@ -40,7 +42,7 @@ fn book_with(arrivals: u64, slot: usize) -> PacingBook {
     }
 }
 
-// The outcome of every call on memory that forms no pool is 1.
+// Returns the outcome of every call on the memory: 1 if it forms no pool.
 fn outcome(pool: Pool, book: PacingBook) -> u64 {
     let textures = [0u64; TEXTURE_STRIDE];
     let retiring = [0u64; RETIRING_STRIDE];
@@ -61,6 +63,7 @@ fn outcome(pool: Pool, book: PacingBook) -> u64 {
     outcome_1(formed)
 }
 
+// Prints it for a count of trackings.
 fn print_trackings(trackings: u64) {
     let pool = pool_with(0, 0, trackings);
     figure_of(
@@ -70,6 +73,7 @@ fn print_trackings(trackings: u64) {
     );
 }
 
+// Prints it for a version's bytes.
 fn print_bytes(bytes: u64) {
     let pool = pool_with(bytes, 0, 0);
     figure_of(
@@ -79,6 +83,7 @@ fn print_bytes(bytes: u64) {
     );
 }
 
+// Prints it for a slot of the book.
 fn print_slot(slot: usize) {
     let pool = pool_with(0, 0, 0);
     figure_of(
@@ -88,6 +93,7 @@ fn print_slot(slot: usize) {
     );
 }
 
+// Prints it for arrivals in the book.
 fn print_arrivals(arrivals: u64) {
     let pool = pool_with(0, 0, 0);
     figure_of(
@@ -97,6 +103,7 @@ fn print_arrivals(arrivals: u64) {
     );
 }
 
+// Prints it for arrivals since the last take.
 fn print_since(since: u64) {
     let pool = pool_with(0, since, 0);
     figure_of(
@@ -106,6 +113,7 @@ fn print_since(since: u64) {
     );
 }
 
+// Prints the outcomes on both sides of each limit.
 pub fn print_numbers() {
     print_trackings(LIMIT);
     print_trackings(281474976710657);

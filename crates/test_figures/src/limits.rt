@@ -6,7 +6,7 @@ use grid_shapes::BytesAnswer;
 use grid_shapes::MOST_SHAPE_BYTES;
 use grid_shapes::VersionShape;
 
-// The six fields of an event line, the rest 0.
+// Returns the shape of the six fields of an event line, the rest 0.
 pub fn shape(
     format: u64,
     width: u64,
@@ -31,7 +31,7 @@ pub fn shape(
     }
 }
 
-// 0, or the outcome of a shape that is refused.
+// Returns 0, or the outcome of a shape that is refused.
 fn outcome(s: VersionShape) -> u64 {
     match grid_shapes::bytes(s) {
         BytesAnswer::Bytes(_) => 0,
@@ -39,6 +39,7 @@ fn outcome(s: VersionShape) -> u64 {
     }
 }
 
+// Prints it for a width.
 fn print_width(width: u64) {
     figure_of(
         b"outcome_of_width",
@@ -47,6 +48,7 @@ fn print_width(width: u64) {
     );
 }
 
+// Prints it for a height.
 fn print_height(height: u64) {
     figure_of(
         b"outcome_of_height",
@@ -55,6 +57,7 @@ fn print_height(height: u64) {
     );
 }
 
+// Prints it for a depth.
 fn print_depth(depth: u64) {
     figure_of(
         b"outcome_of_depth",
@@ -63,6 +66,7 @@ fn print_depth(depth: u64) {
     );
 }
 
+// Prints it for a number of levels.
 fn print_levels(levels: u64) {
     figure_of(
         b"outcome_of_levels",
@@ -71,6 +75,7 @@ fn print_levels(levels: u64) {
     );
 }
 
+// Prints it for a kind.
 fn print_kind(kind: u64) {
     figure_of(
         b"outcome_of_kind",
@@ -79,6 +84,7 @@ fn print_kind(kind: u64) {
     );
 }
 
+// Prints it for a format.
 fn print_format(format: u64) {
     figure_of(
         b"outcome_of_format",
@@ -87,7 +93,7 @@ fn print_format(format: u64) {
     );
 }
 
-// The bytes of a shape that no limit lets grow, 0 if it is refused.
+// Returns the bytes of a shape that no limit lets grow, 0 if it is refused.
 fn largest_of(format: u64, kind: u64) -> u64 {
     match grid_shapes::bytes(shape(format, 16384, 16384, 2048, 15, kind)) {
         BytesAnswer::Bytes(bytes) => bytes,
@@ -95,7 +101,7 @@ fn largest_of(format: u64, kind: u64) -> u64 {
     }
 }
 
-// The most bytes of a version, and whether that passes 2^44. A cube has more slices than a volume, and less bytes.
+// Prints the most bytes of a version, and whether that passes 2^44. A cube has more slices than a volume, and fewer bytes.
 fn print_largest() {
     figure(b"largest_cube", largest_of(4, 1));
     let largest = largest_of(4, 2);
@@ -106,6 +112,7 @@ fn print_largest() {
     );
 }
 
+// Prints the outcomes on both sides of each limit.
 pub fn print_limits() {
     print_width(16384);
     print_width(16385);

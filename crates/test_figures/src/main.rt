@@ -10,6 +10,7 @@ mod print;
 mod texts;
 mod uploads;
 
+// Prints every figure.
 fn main() {
     limits::print_limits();
     opening::print_sizes();

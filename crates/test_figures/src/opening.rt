@@ -5,13 +5,14 @@ ghost use lib.ListN.{length};
 use crate::print::figure_of;
 use crate::print::outcome_1;
 use grid_stamps::PAGE_STAMPS;
-use pool_formed::sizes_fit;
+use pool_open::sizes_fit;
 use pool_records::DOOMED_STRIDE;
 use pool_records::RETIRING_STRIDE;
 use pool_records::SPARE_STRIDE;
 use pool_records::TEXTURE_STRIDE;
 
-// The outcome of opening with so many places, and stamps for the pages: `pool::open` goes by this test. One store serves for all.
+// Returns the outcome of opening with as many places as given, and stamps for the pages: `pool::open` goes by this test. One store
+// serves for all.
 fn opening(store: &[u64], textures: usize, versions: usize, pages: usize, stamps: usize) -> u64
     requires { ⌜ (81940 ≤ length (now store)) × (textures ≤ 4097) × (versions ≤ 4097) × (pages ≤ 64) × (stamps ≤ 65536) ⌝ }
 {
@@ -30,6 +31,7 @@ fn opening(store: &[u64], textures: usize, versions: usize, pages: usize, stamps
     outcome_1(fits)
 }
 
+// Prints it for a number of texture places.
 fn print_textures(store: &[u64], textures: usize)
     requires { ⌜ (81940 ≤ length (now store)) × (textures ≤ 4097) ⌝ }
 {
@@ -40,6 +42,7 @@ fn print_textures(store: &[u64], textures: usize)
     );
 }
 
+// Prints it for a number of version places.
 fn print_versions(store: &[u64], versions: usize)
     requires { ⌜ (81940 ≤ length (now store)) × (versions ≤ 4097) ⌝ }
 {
@@ -50,7 +53,7 @@ fn print_versions(store: &[u64], versions: usize)
     );
 }
 
-// One page of so many stamps.
+// Prints it for one page of `stamps` stamps.
 fn print_page(store: &[u64], stamps: usize)
     requires { ⌜ (81940 ≤ length (now store)) × (stamps ≤ 65536) ⌝ }
 {
@@ -61,6 +64,7 @@ fn print_page(store: &[u64], stamps: usize)
     );
 }
 
+// Prints the outcomes on both sides of each limit.
 pub fn print_sizes() {
     let store = [0u64; 81940];
     print_textures(&store, 0);

@@ -5,7 +5,7 @@ use event_text::put_number;
 use event_text::put_text;
 use libc::STDOUT_FILENO;
 
-// A blank and a number. Answers where it ends.
+// Puts a blank and a number, and returns where they end.
 fn put_value(out: &mut [u8], at: usize, value: u64) -> usize
     requires { ⌜ at + 21 ≤ length (now out) ⌝ }
     ensures { λ r. ⌜ r ≤ at + 21 ⌝ }
@@ -14,7 +14,7 @@ fn put_value(out: &mut [u8], at: usize, value: u64) -> usize
     put_number(out, next, value)
 }
 
-// A name and its numbers.
+// Prints a name and its numbers.
 fn print_line(name: &[u8], values: &[u64])
     requires { ⌜ (length (now name) ≤ 64) × (length (now values) ≤ 5) ⌝ }
 {
@@ -29,6 +29,7 @@ fn print_line(name: &[u8], values: &[u64])
     io::write_all(STDOUT_FILENO, &out[0..end]);
 }
 
+// Prints a figure.
 pub fn figure(name: &[u8], value: u64)
     requires { ⌜ length (now name) ≤ 64 ⌝ }
 {
@@ -36,7 +37,7 @@ pub fn figure(name: &[u8], value: u64)
     print_line(name, &values);
 }
 
-// The figure of an argument.
+// Prints the figure of an argument.
 pub fn figure_of(name: &[u8], argument: u64, value: u64)
     requires { ⌜ length (now name) ≤ 64 ⌝ }
 {
@@ -44,7 +45,7 @@ pub fn figure_of(name: &[u8], argument: u64, value: u64)
     print_line(name, &values);
 }
 
-// The figure of two arguments.
+// Prints the figure of two arguments.
 pub fn figure_of_two(name: &[u8], first: u64, second: u64, value: u64)
     requires { ⌜ length (now name) ≤ 64 ⌝ }
 {
@@ -52,7 +53,7 @@ pub fn figure_of_two(name: &[u8], first: u64, second: u64, value: u64)
     print_line(name, &values);
 }
 
-// A rectangle, behind the outcome that it comes with.
+// Prints a rectangle, after the outcome that it comes with.
 pub fn figure_rect(name: &[u8], outcome: u64, rect: grid_rects::TexelRect)
     requires { ⌜ length (now name) ≤ 64 ⌝ }
 {
@@ -60,12 +61,12 @@ pub fn figure_rect(name: &[u8], outcome: u64, rect: grid_rects::TexelRect)
     print_line(name, &values);
 }
 
-// 1 for yes, 0 for no.
+// Returns 1 for yes, 0 for no.
 pub fn yes_or_no(yes: bool) -> u64 {
     if yes { 1 } else { 0 }
 }
 
-// The outcome of a test that refuses with 1.
+// Returns the outcome of a test that refuses with 1.
 pub fn outcome_1(passed: bool) -> u64 {
     if passed { 0 } else { 1 }
 }

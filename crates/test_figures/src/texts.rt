@@ -8,7 +8,7 @@ use event_lines::parse_first;
 use event_text::Number;
 use event_text::number_of;
 
-// 1 and the number that a text is, or 0.
+// Prints 1 and the number that a text is, or 0.
 fn print_number(name: &[u8], text: &[u8])
     requires { ⌜ length (now name) ≤ 64 ⌝ }
 {
@@ -18,7 +18,7 @@ fn print_number(name: &[u8], text: &[u8])
     }
 }
 
-// Whether a line is an event, or one with outcome "?".
+// Prints whether a line is an event, or one with outcome "?".
 fn print_read(name: &[u8], line: &[u8])
     requires { ⌜ length (now name) ≤ 64 ⌝ }
 {
@@ -30,6 +30,7 @@ fn print_read(name: &[u8], line: &[u8])
     }
 }
 
+// Prints what texts are read as.
 pub fn print_texts() {
     print_number(b"number_of_0_digits", b"");
     print_number(b"number_of_1_digit", b"7");

@@ -8,7 +8,7 @@ use grid_rects::TexelRect;
 use grid_rects::UploadAnswer;
 use grid_rects::upload_written_rect;
 
-// A square of `size` texels from `start` on both ways, in a level of `extent` both ways.
+// Prints what an upload writes: a square of `size` texels from `start` on both ways, in a level of `extent` both ways.
 fn print_upload(name: &[u8], start: u64, size: u64, extent: u64, compressed: Compressed)
     requires { ⌜ length (now name) ≤ 64 ⌝ }
 {
@@ -24,6 +24,7 @@ fn print_upload(name: &[u8], start: u64, size: u64, extent: u64, compressed: Com
     }
 }
 
+// Prints what uploads write.
 pub fn print_uploads() {
     print_upload(b"upload_on_grid", 4, 8, 16, Compressed::Format(5));
     print_upload(b"upload_start_off_grid", 2, 8, 16, Compressed::Format(5));

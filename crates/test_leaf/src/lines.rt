@@ -1,14 +1,15 @@
-// Standard input to standard output, line by line. Answers go out after each block that was read, so a program may ask
+// Answers standard input on standard output, line by line. Answers go out after each block that was read, so a program may ask
 // line by line and wait. A read or a write that fails ends it.
 //
 // The buffer of input holds lines of up to 65,535 bytes. A longer one is answered as a malformed one, which is the one
 // difference from the Rust's program: that takes lines of any length.
 ghost use Prim.Native.Nat.{_+_, _≤_, _<_};
 ghost use lib.ListN.{length};
+use crate::answer::put_line;
+use crate::fields::part_end;
 use crate::question::answer_of;
 use libc::STDIN_FILENO;
 use libc::STDOUT_FILENO;
-use test_leaf_text::put_line;
 
 // What answering a block of input left: the line that starts at `from` is not whole yet, and `filled` bytes of answers
 // are not written yet. Nothing more can be written if it is not open.
@@ -18,15 +19,15 @@ struct Left {
     open: bool,
 }
 
-// Where the line that starts at `from` ends: at its line feed, or at the end of all.
+// Returns where the line that starts at `from` ends: at its line feed, or at the end of all.
 fn line_end(input: &[u8], from: usize) -> usize
     requires { ⌜ from ≤ length (now input) ⌝ }
     ensures { λ r. ⌜ (from ≤ r) × (r ≤ length (now (input .entry))) ⌝ }
 {
-    bytes::scan::find(input, from, input.len(), b'\n')
+    part_end(input, from, b'\n')
 }
 
-// Where the next answer goes: behind those that are there, or at the front once they are written. It has no room there
+// Returns where the next answer goes: after those that are there, or at the front once they are written. It has no room there
 // if they could not be written.
 fn room(out: &[u8], filled: usize) -> usize
     requires { ⌜ filled ≤ length (now out) ⌝ }
@@ -70,7 +71,7 @@ fn answer_lines(input: &[u8], out: &mut [u8]) -> Left
     }
 }
 
-// The same, with every answer written.
+// Answers every whole line of `input`, and writes every answer.
 fn answer_block(input: &[u8], out: &mut [u8]) -> Left
     requires { ⌜ length (now input) ≤ 65536 ⌝ }
     ensures { λ r. ⌜ r .from ≤ length (now (input .entry)) ⌝ }
@@ -84,7 +85,7 @@ fn answer_block(input: &[u8], out: &mut [u8]) -> Left
     }
 }
 
-// The last line, which may lack its line feed.
+// Answers the last line, which may lack its line feed.
 fn answer_last(line: &[u8], out: &mut [u8])
     requires { ⌜ (length (now line) ≤ 65536) × (105 ≤ length (now out)) ⌝ }
 {
@@ -95,7 +96,7 @@ fn answer_last(line: &[u8], out: &mut [u8])
     io::write_all(STDOUT_FILENO, &out[0..filled]);
 }
 
-// Reads once, behind the `held` bytes that are there. Nothing more comes if that does not make them more.
+// Reads once, after the `held` bytes that are there. Nothing more comes if that does not make them more.
 fn read_more(buf: &mut [u8], held: usize) -> usize
     requires { ⌜ held ≤ length (now buf) ⌝ }
     ensures { λ r. ⌜ (held ≤ r) × (r ≤ length (now (buf .entry))) ⌝ }
@@ -122,6 +123,7 @@ fn keep(buf: &mut [u8], from: usize, to: usize) -> usize
     i
 }
 
+// Answers all of standard input.
 pub fn answer_all(buf: &mut [u8], out: &mut [u8])
     requires { ⌜ (1 < length (now buf)) × (length (now buf) ≤ 65536) × (105 ≤ length (now out)) ⌝ }
 {

@@ -1,17 +1,43 @@
-// Which question a line asks.
+// Which question a line asks. `fields` are those after a question's word; compare/README.md has the questions.
 ghost use Prim.Native.Nat.{_≤_};
 ghost use lib.ListN.{length};
-use test_leaf_budget::budget_of;
-use test_leaf_grids::edge_along;
-use test_leaf_grids::grid_since;
-use test_leaf_grids::tiles_along;
-use test_leaf_shapes::level_extent;
-use test_leaf_shapes::shape_answer;
-use test_leaf_text::Answer;
-use test_leaf_text::field_end;
-use test_leaf_text::is_word;
+use crate::answer::Answer;
+use crate::axis::edge_along;
+use crate::axis::tiles_along;
+use crate::budget::budget_of;
+use crate::fields::field_end;
+use crate::grid::grid_since;
+use crate::rect::on_grid;
+use crate::rect::upload;
+use crate::shape::level_extent;
+use crate::shape::shape_bytes;
+use crate::shape::shape_records;
+use crate::shape::shape_slices;
+use event_text::is_word;
 
-// Questions on levels, grids and budgets, and the others.
+// Answers questions on shapes and on single rectangles. Every other word is no question.
+fn shape_answer(word: &[u8], fields: &[u8]) -> Answer
+    requires { ⌜ length (now fields) ≤ 65536 ⌝ }
+{
+    if is_word(word, b"bytes") {
+        return shape_bytes(fields);
+    }
+    if is_word(word, b"slices") {
+        return shape_slices(fields);
+    }
+    if is_word(word, b"records") {
+        return shape_records(fields);
+    }
+    if is_word(word, b"upload") {
+        return upload(fields);
+    }
+    if is_word(word, b"ongrid") {
+        return on_grid(fields);
+    }
+    Answer::Malformed
+}
+
+// Answers questions on levels, grids and budgets, and hands on the others.
 fn field_answer(word: &[u8], fields: &[u8]) -> Answer
     requires { ⌜ length (now fields) ≤ 65536 ⌝ }
 {
@@ -33,7 +59,7 @@ fn field_answer(word: &[u8], fields: &[u8]) -> Answer
     shape_answer(word, fields)
 }
 
-// The answer to a line without its line feed: a word and fields, all parted by commas.
+// Answers a line without its line feed: a word and fields, all parted by commas.
 pub fn answer_of(line: &[u8]) -> Answer
     requires { ⌜ length (now line) ≤ 65536 ⌝ }
 {

@@ -1,28 +1,28 @@
 // One list, run on a pool of its own.
 ghost use Prim.Native.Nat.{_≤_, _<_};
+ghost use mathlib.Core.Path.{_≡_};
 ghost use lib.ListN.{length};
-use event_runs::run_lines;
-use event_sessions::fresh;
-use libc::STDOUT_FILENO;
+ghost use Rattle.event_runs.specs.Lines.{longestAnswer};
+ghost use Rattle.event_feed.specs.FeedConstants.{keptBytes};
+use crate::parts::next_part;
+use event_feed::begin;
+use event_feed::feed;
+use event_stream::GOING;
+use event_stream::is_full;
+use event_stream::reason;
+use event_stream::write_out;
 
-// The turns that are left: none where nothing more is to be done.
-fn turns_left(turns: usize, going: bool) -> usize
-    requires { ⌜ 0 < turns ⌝ }
-    ensures { λ r. ⌜ r < turns ⌝ }
+fn wide(bytes: usize) -> u64
+    ensures { λ r. ⌜ r ≡ bytes ⌝ }
 {
-    if going { turns - 1 } else { 0 }
+    bytes as u64
 }
 
-// Writes the output that is in the buffer.
-fn write_out(out: &[u8], filled: usize) -> bool
-    requires { ⌜ filled ≤ length (now out) ⌝ }
-{
-    io::write_all(STDOUT_FILENO, &out[0..filled])
-}
-
-// Runs the whole lines of a list from a fresh session on, and writes their output as often as its buffer is full.
+// Runs the lines of a list from a fresh session on, in turns as `run_all` of crates/event_stream does with standard input, and writes
+// their output.
 pub fn run_list(
     list: &[u8],
+    buf: &mut [u8],
     textures: &mut [u64],
     retiring: &mut [u64],
     doomed: &mut [u64],
@@ -32,17 +32,21 @@ pub fn run_list(
     copies: &mut [u64],
     views: &mut [u64],
     out: &mut [u8],
-) {
-    let mut session = fresh();
-    let mut number = 0;
-    let mut from = 0;
-    // Each turn runs a line or is the last, so there are no more turns than bytes.
-    let mut turns = list.len();
-    while 0 < turns {
-        let run = run_lines(
-            &list[from..],
-            number,
-            session,
+)
+    requires { ⌜ (keptBytes < length (now buf)) × (longestAnswer (length (now copies)) (length (now views)) ≤ length (now out)) ⌝ }
+{
+    let mut at = begin();
+    let mut given = 0;
+    let mut written = 0;
+    let mut why = GOING;
+    while why == GOING {
+        let end = next_part(list, given, buf, at);
+        let came = end - (at.from + at.held);
+        given += end - at.end;
+        at = feed(
+            at,
+            end,
+            buf,
             textures,
             retiring,
             doomed,
@@ -53,10 +57,10 @@ pub fn run_list(
             views,
             out,
         );
-        let written = write_out(out, run.filled);
-        session = run.session;
-        number = run.number;
-        from += run.from;
-        turns = turns_left(turns, written & (0 < run.from));
+        let filled = at.filled;
+        let wrote = write_out(&out[0..filled]);
+        written += wide(wrote.bytes);
+        let full = is_full(wide(given), buf.len(), written, out.len());
+        why = reason(came, wrote.all, full);
     }
 }

@@ -1,6 +1,10 @@
 // The lists of standard input, one after the other.
 ghost use Prim.Native.Nat.{_≤_, _<_};
 ghost use lib.ListN.{length};
+ghost use Rattle.event_answers.specs.Printed.{mostBytes};
+ghost use Rattle.event_feed.specs.FeedConstants.{keptBytes};
+ghost use Rattle.event_stream.specs.Lends.{Lends};
+ghost use Rattle.test_replay.specs.ReplayConstants.{mostEntries, mostPages, mostTextures, mostVersions};
 use crate::list::run_list;
 use crate::sizes::sizes_of;
 use grid_stamps::PAGE_STAMPS;
@@ -12,7 +16,7 @@ use pool_records::RETIRING_STRIDE;
 use pool_records::SPARE_STRIDE;
 use pool_records::TEXTURE_STRIDE;
 
-// Where the next list begins behind `from`: at a line that begins with "=,", or at `to`.
+// Returns where the next list begins after `from`: at a line that begins with "=,", or at `to`.
 fn next_list(input: &[u8], from: usize, to: usize) -> usize
     requires { ⌜ (from ≤ to) × (to ≤ length (now input)) ⌝ }
     ensures { λ r. ⌜ (from ≤ r) × (r ≤ to) ⌝ }
@@ -27,8 +31,8 @@ fn next_list(input: &[u8], from: usize, to: usize) -> usize
     to
 }
 
-// Behind the line that begins at `from`.
-fn line_behind(input: &[u8], from: usize, to: usize) -> usize
+// Returns where the line after the one at `from` begins.
+fn line_after(input: &[u8], from: usize, to: usize) -> usize
     requires { ⌜ (from < to) × (to ≤ length (now input)) ⌝ }
     ensures { λ r. ⌜ (from < r) × (r ≤ to) ⌝ }
 {
@@ -36,10 +40,29 @@ fn line_behind(input: &[u8], from: usize, to: usize) -> usize
     if end < to { end + 1 } else { end }
 }
 
+// Returns where the list from `from` to `to` ends: before its last line feed if it has an odd number of bytes. So the last line of some
+// lists lacks its line feed, which does not show in their output. An empty last line keeps it, for without it that is no line.
+fn list_end(input: &[u8], from: usize, to: usize) -> usize
+    requires { ⌜ (from ≤ to) × (to ≤ length (now input)) ⌝ }
+    ensures { λ r. ⌜ (from ≤ r) × (r ≤ to) ⌝ }
+{
+    if to - from < 2 {
+        return to;
+    }
+    if (to - from) % 2 == 0 {
+        return to;
+    }
+    if (input[to - 1] == b'\n') & (input[to - 2] != b'\n') {
+        return to - 1;
+    }
+    to
+}
+
 // Prints the line that a list begins with, and runs the list on as much of the stores as the line asks for.
 fn run_next(
     line: &[u8],
     list: &[u8],
+    buf: &mut [u8],
     textures: &mut [u64],
     retiring: &mut [u64],
     doomed: &mut [u64],
@@ -50,9 +73,8 @@ fn run_next(
     views: &mut [u64],
     out: &mut [u8],
 )
-    requires { ⌜ (1280 ≤ length (now textures)) × (14000 ≤ length (now retiring)) × (4000 ≤ length (now doomed))
-        × (6000 ≤ length (now spares)) × (256 ≤ length (now newest)) × (262144 ≤ length (now stamps)) × (28672 ≤ length (now copies))
-        × (4096 ≤ length (now views)) ⌝ }
+    requires { ⌜ Lends mostTextures mostVersions mostPages mostEntries textures retiring doomed spares newest stamps copies views
+        × (keptBytes < length (now buf)) × (mostBytes mostEntries ≤ length (now out)) ⌝ }
 {
     io::write_all(STDOUT_FILENO, line);
     let sizes = sizes_of(line);
@@ -67,6 +89,7 @@ fn run_next(
     let c = COPY_STRIDE * answers;
     run_list(
         list,
+        buf,
         &mut textures[0..t],
         &mut retiring[0..r],
         &mut doomed[0..d],
@@ -79,8 +102,10 @@ fn run_next(
     );
 }
 
+// Runs all lists of standard input.
 pub fn run_lists(
     input: &mut [u8],
+    buf: &mut [u8],
     textures: &mut [u64],
     retiring: &mut [u64],
     doomed: &mut [u64],
@@ -91,18 +116,19 @@ pub fn run_lists(
     views: &mut [u64],
     out: &mut [u8],
 )
-    requires { ⌜ (1280 ≤ length (now textures)) × (14000 ≤ length (now retiring)) × (4000 ≤ length (now doomed))
-        × (6000 ≤ length (now spares)) × (256 ≤ length (now newest)) × (262144 ≤ length (now stamps)) × (28672 ≤ length (now copies))
-        × (4096 ≤ length (now views)) ⌝ }
+    requires { ⌜ Lends mostTextures mostVersions mostPages mostEntries textures retiring doomed spares newest stamps copies views
+        × (keptBytes < length (now buf)) × (mostBytes mostEntries ≤ length (now out)) ⌝ }
 {
     let to = io::read_full(STDIN_FILENO, input);
     let mut from = 0;
     while from < to {
-        let behind = line_behind(input, from, to);
-        let next = next_list(input, behind, to);
+        let first = line_after(input, from, to);
+        let next = next_list(input, first, to);
+        let end = list_end(input, first, next);
         run_next(
-            &input[from..behind],
-            &input[behind..next],
+            &input[from..first],
+            &input[first..end],
+            buf,
             textures,
             retiring,
             doomed,

@@ -1,23 +1,37 @@
 // Stored lists of events, each run on a pool of its own: standard input has the lists, and standard output is held to the answers of the
 // published Rust. compare/store.sh wrote both.
+mod constants;
 mod list;
 mod lists;
+mod parts;
 mod sizes;
 
-// Room for 64 textures, 2,000 versions, 256 pages and answers of 4,096 entries; a list is lent as much as it asks for.
+use constants::MOST_ENTRIES;
+use constants::MOST_PAGES;
+use constants::MOST_TEXTURES;
+use constants::MOST_VERSIONS;
+use grid_stamps::PAGE_STAMPS;
+use pool_memory::COPY_STRIDE;
+use pool_records::DOOMED_STRIDE;
+use pool_records::RETIRING_STRIDE;
+use pool_records::SPARE_STRIDE;
+use pool_records::TEXTURE_STRIDE;
+
 fn main() {
-    let mut textures = [0; 1280];
-    let mut retiring = [0; 14000];
-    let mut doomed = [0; 4000];
-    let mut spares = [0; 6000];
-    let mut newest = [0; 256];
-    let mut stamps = [0; 262144];
-    let mut copies = [0; 28672];
-    let mut views = [0; 4096];
+    let mut textures = [0; MOST_TEXTURES * TEXTURE_STRIDE];
+    let mut retiring = [0; MOST_VERSIONS * RETIRING_STRIDE];
+    let mut doomed = [0; MOST_VERSIONS * DOOMED_STRIDE];
+    let mut spares = [0; MOST_VERSIONS * SPARE_STRIDE];
+    let mut newest = [0; MOST_PAGES];
+    let mut stamps = [0; MOST_PAGES * PAGE_STAMPS];
+    let mut copies = [0; MOST_ENTRIES * COPY_STRIDE];
+    let mut views = [0; MOST_ENTRIES];
     let mut input = [0; 524288];
+    let mut buf = [0; 512];
     let mut out = [0; 1048576];
     lists::run_lists(
         &mut input,
+        &mut buf,
         &mut textures,
         &mut retiring,
         &mut doomed,

@@ -1,4 +1,4 @@
-// The call of a drain line.
+// drain_versions, the call of a `drain` line.
 ghost use mathlib.Core.Path.{_≡_};
 ghost use mathlib.Core.Bool.{true};
 ghost use Rattle.pool_memory.specs.Lent.{lentBy, atEntry, atExit};

@@ -1,4 +1,4 @@
-// The call of a regen line.
+// note_mip_regeneration, the call of a `regen` line.
 ghost use mathlib.Core.Path.{_≡_};
 ghost use mathlib.Core.Bool.{true};
 ghost use Rattle.pool_memory.specs.Lent.{lentBy, atEntry, atExit};
@@ -10,7 +10,7 @@ use crate::called::Called;
 use pool_memory::PacingBook;
 use pool_memory::Pool;
 
-// Notes that every level but the first was made anew.
+// Notes that every level but the first was made again.
 pub fn call_note_mip_regeneration(
     pool: Pool,
     book: PacingBook,

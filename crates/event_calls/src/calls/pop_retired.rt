@@ -1,4 +1,4 @@
-// The call of a pop line.
+// pop_retired, the call of a `pop` line.
 ghost use mathlib.Core.Path.{_≡_};
 ghost use mathlib.Core.Bool.{true};
 ghost use Rattle.pool_memory.specs.Lent.{lentBy, atEntry, atExit};

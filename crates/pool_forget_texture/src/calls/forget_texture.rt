@@ -1,4 +1,4 @@
-// forget_texture: stop tracking a released texture, queueing its spares for destruction.
+// forget_texture: a released texture is tracked no longer, and its spares are queued for destruction.
 ghost use mathlib.Core.Path.{_≡_};
 ghost use mathlib.Core.Bool.{true};
 ghost use Rattle.pool_memory.specs.Lent.{lent, lentBy};
@@ -18,7 +18,8 @@ use pool_records::SPARE_STRIDE;
 use pool_records::find_texture;
 use pool_take_doomed::push_spares;
 
-// An untracked id changes nothing.
+// Stops tracking the texture. Its versions that are still retiring stay queued and are destroyed when they are parked: a texture
+// that comes back under the same id begins another tracking, which they do not match. An untracked id changes nothing.
 pub fn forget_texture(
     pool: Pool,
     book: PacingBook,

@@ -2,13 +2,13 @@
 ghost use mathlib.Core.Path.{_≡_};
 ghost use Rattle.pool_memory.specs.Lent.{atEntry};
 ghost use Rattle.pool_memory.specs.IsPool.{isPool};
+use crate::counts_fit::counts_fit;
 use crate::numbers_fit::numbers_fit;
 use crate::rings_fit::rings_fit;
-use crate::sizes::counts_fit;
-use crate::sizes::sizes_fit;
 use pool_formed_textures::textures_fit;
 use pool_memory::PacingBook;
 use pool_memory::Pool;
+use pool_open::sizes_fit;
 use pool_records::RETIRING_STRIDE;
 use pool_records::TEXTURE_STRIDE;
 

@@ -23,7 +23,8 @@ pub struct NotedAnswer {
     pub outcome: u64,
 }
 
-// The mark: set above the line, released below `resume_below`, and otherwise as it was.
+// Tells whether the mark is set then: it is set above the line, released below `resume_below`, and otherwise as it was, so that a
+// process hovering at the line does not park and destroy in turn.
 fn pressed_after(budget: VersionBudget, allocated: u64, pressed: bool) -> bool
     ensures { λ r. ⌜ r ≡ pressedAfter budget allocated pressed ⌝ }
 {
@@ -33,7 +34,7 @@ fn pressed_after(budget: VersionBudget, allocated: u64, pressed: bool) -> bool
     budget.line < allocated
 }
 
-// Allocated bytes above the line.
+// Returns the allocated bytes above the line.
 fn excess_over(line: u64, allocated: u64) -> u64
     ensures { λ r. ⌜ r ≡ allocated - line ⌝ }
 {
@@ -43,7 +44,7 @@ fn excess_over(line: u64, allocated: u64) -> u64
     allocated - line
 }
 
-// The book with the mark and the excess of that many allocated bytes.
+// Returns the book with the mark and the excess of `allocated` bytes.
 fn noted(pool: Pool, book: PacingBook, allocated: u64) -> PacingBook
     ensures { λ r. ⌜ r ≡ notedBook pool book allocated ⌝ }
 {
@@ -57,7 +58,7 @@ fn noted(pool: Pool, book: PacingBook, allocated: u64) -> PacingBook
     after
 }
 
-// The counts when so many spares are kept, and bytes of so many went to the destroy queue.
+// Returns the counts when `kept` spares are left and `bytes` bytes went to the destroy queue.
 fn counts_after(pool: Pool, kept: usize, bytes: u64) -> Pool
     requires { ⌜ (kept ≤ pool .kept) × (pool .doomed + pool .kept ≤ mostPlaces) × (pool .since ≤ mostPlaces) × (bytes ≤ pool .parked)
         × (pool .dooming + bytes < 2 ^ 64) ⌝ }
@@ -73,7 +74,8 @@ fn counts_after(pool: Pool, kept: usize, bytes: u64) -> Pool
     after
 }
 
-// Takes note of how many bytes are allocated. If what is queued for destruction does not cover the excess, spares are given up.
+// Notes how many bytes the process has allocated. If what is queued for destruction does not cover the excess, spares are given up,
+// the oldest first: nothing names them, and losing one costs the next rename no more than an allocation and a whole copy.
 pub fn note_allocated(
     pool: Pool,
     book: PacingBook,

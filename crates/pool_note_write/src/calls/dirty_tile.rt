@@ -25,7 +25,7 @@ use pool_memory::Pool;
 use pool_records::Recorded;
 use pool_records::find_texture;
 
-// Some tile of a subresource of texture i, on its page.
+// Finds some tile of a subresource of texture i that is stamped above `held`, on its page.
 fn dirty_subresource(
     textures: &[u64],
     stamps: &[u64],
@@ -48,8 +48,8 @@ fn dirty_subresource(
     grid_views::dirty_tile(&stamps[a..e], across, down, held)
 }
 
-// Some tile of a subresource stamped above `held`, or none if there is none. Which one is left open.
-// None where the texture is not tracked, has no history or lacks the subresource.
+// Finds some tile of a subresource stamped above `held`, or none if there is none; which one is left open. There is none where the
+// texture is not tracked, has no history or lacks the subresource.
 pub fn dirty_tile(
     pool: Pool,
     book: PacingBook,

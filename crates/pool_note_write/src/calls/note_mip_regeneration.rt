@@ -1,4 +1,4 @@
-// A reported mip regeneration: one more write, which stamps every level but the first whole.
+// note_mip_regeneration: one more write, which stamps every level but the first whole.
 ghost use mathlib.Core.Path.{_≡_};
 ghost use mathlib.Core.Bool.{true};
 ghost use Rattle.pool_memory.specs.Lent.{lentBy, atEntry, atExit};
@@ -15,6 +15,7 @@ use pool_records::Recorded;
 use pool_records::find_texture;
 use pool_rules::LIMIT;
 
+// Notes that every level but the first was made again from it, on every slice. A texture without a history needs no note.
 pub fn note_mip_regeneration(
     pool: Pool,
     book: PacingBook,

@@ -1,4 +1,4 @@
-// A reported write: it is counted, and the tiles that it touches are stamped.
+// note_write: a reported write is counted, and the tiles that it touches are stamped.
 ghost use mathlib.Core.Path.{_≡_};
 ghost use mathlib.Core.Bool.{true};
 ghost use Rattle.pool_memory.specs.Lent.{lentBy, atEntry, atExit};
@@ -19,7 +19,8 @@ use pool_records::Recorded;
 use pool_records::find_texture;
 use pool_rules::LIMIT;
 
-// A write outside the texture's slices or levels drops its history, even where the count is spent.
+// Notes a write of the rectangle to a slice's level. A write outside the texture's slices or levels means that the history no
+// longer describes the texture: it is dropped, even where the count is spent, so that every later copy is whole.
 pub fn note_write(
     pool: Pool,
     book: PacingBook,

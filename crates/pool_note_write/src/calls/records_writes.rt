@@ -11,7 +11,7 @@ use pool_memory::Pool;
 use pool_records::Recorded;
 use pool_records::find_texture;
 
-// Whether the texture keeps a write history, so that its writes are to be reported.
+// Tells whether the texture keeps a write history, so that its writes are to be reported.
 pub fn records_writes(
     pool: Pool,
     book: PacingBook,

@@ -20,7 +20,8 @@ use pool_memory::Pool;
 use pool_records::RETIRING_STRIDE;
 use pool_records::find_texture;
 
-// `failed` is the latest submission that failed, 0 if none did; `current` is the submission that the version is parked in.
+// Parks the version in the hand. `failed` is the latest submission that failed, 0 if none did; `current` is the submission that the
+// version is parked in.
 pub fn park(
     pool: Pool,
     book: PacingBook,

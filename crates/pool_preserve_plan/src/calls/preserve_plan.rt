@@ -1,4 +1,4 @@
-// The call.
+// preserve_plan: the copies that bring a rename's new version up to the live one.
 ghost use mathlib.Core.Path.{_≡_};
 ghost use mathlib.Core.Bool.{true};
 ghost use Rattle.pool_memory.specs.Lent.{lentBy, atEntry};
@@ -23,8 +23,8 @@ pub enum PlanAnswer {
     Refused(u64),
 }
 
-// The copies that bring a version with these held writes up to the live one, when the upload to a slice's level, covering it or
-// not, follows. It alters nothing but the buffer.
+// Plans the copies that bring a version with these held writes up to the live one, before an upload to a slice's level that covers
+// it or not. A fresh allocation holds nothing known, so that every level is copied whole. It alters nothing but the buffer.
 pub fn preserve_plan(
     pool: Pool,
     book: PacingBook,

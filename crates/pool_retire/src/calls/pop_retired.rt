@@ -1,4 +1,4 @@
-// pop_retired: the queue's front goes to the hand if its submission is settled. Nothing moves: the hand is the ring's front.
+// pop_retired: the queue's front goes to the hand if its submission is settled.
 ghost use mathlib.Core.Path.{_≡_};
 ghost use mathlib.Core.Bool.{true};
 ghost use Rattle.pool_memory.specs.Lent.{lentBy, atEntry, atExit};
@@ -12,17 +12,21 @@ use pool_memory::Pool;
 use pool_records::RETIRING_STRIDE;
 use pool_rules::LIMIT;
 
+// The version that is in the hand then; none, since no queued submission is settled; or 01's number of a refusal.
 pub enum Popped {
     Version { id: u64, view: u64 },
     NothingSettled,
     Refused(u64),
 }
 
+// The pool after the call, with what it answers.
 pub struct PopAnswer {
     pub pool: Pool,
     pub popped: Popped,
 }
 
+// Takes the queue's front into the hand if `settled` has passed its submission, so that no command that named the version still
+// runs. Nothing moves: the hand is the ring's front.
 pub fn pop_retired(
     pool: Pool,
     book: PacingBook,

@@ -31,7 +31,8 @@ use pool_records::TextureRecord;
 use pool_records::find_texture;
 use pool_rules::LIMIT;
 
-// The number of the first refusal, or 0.
+// Returns the number of the first refusal, or 0. Submissions must not go backwards, since pop_retired looks at the queue's front
+// alone.
 fn retire_refusal(pool: Pool, retiring: &[u64], places: usize, seq: u64) -> u64
     requires { ⌜ (retiringStride * places ≤ length (now retiring)) × (pool .head < places) × (ringCount pool + pool .kept + pool .doomed ≤ places)
         × (places ≤ mostPlaces) ⌝ }
@@ -55,7 +56,7 @@ fn retire_refusal(pool: Pool, retiring: &[u64], places: usize, seq: u64) -> u64
     0
 }
 
-// The writes of a history; 0 without one.
+// Returns the writes that a history has counted; 0 without one.
 fn writes_counted(history: Recorded) -> u64
     ensures { λ r. ⌜ r ≡ writesCounted history ⌝ }
 {
@@ -65,7 +66,8 @@ fn writes_counted(history: Recorded) -> u64
     }
 }
 
-// What is noted of the version. Of an untracked texture the tracking and all else are 0.
+// Returns what is noted of the version: it holds every write that the texture's history has counted so far. Of an untracked texture
+// the tracking and all else are 0; its version is destroyed when it is parked.
 fn retired_version(
     textures: &[u64],
     tracked: usize,
@@ -101,7 +103,7 @@ fn retired_version(
     }
 }
 
-// A record whose live version became live in this submission.
+// Returns the record of a texture whose live version became live in this submission.
 fn born_at(t: TextureRecord, seq: u64) -> TextureRecord
     ensures { λ r. ⌜ r ≡ bornAt seq t ⌝ }
 {
@@ -110,7 +112,7 @@ fn born_at(t: TextureRecord, seq: u64) -> TextureRecord
     u
 }
 
-// A tracked texture's live version became live in this submission.
+// Notes, of a tracked texture, that its live version became live in this submission: it replaces the one that retires.
 fn note_birth(textures: &mut [u64], tracked: usize, i: usize, id: u64, seq: u64)
     requires { ⌜ (textureStride * tracked ≤ length (now textures))
         × (hasId (now textures) tracked i id ≡ true → RecordedFits (textureIn (now textures) i .history)) ⌝ }
@@ -125,6 +127,8 @@ fn note_birth(textures: &mut [u64], tracked: usize, i: usize, id: u64, seq: u64)
     put_texture(textures, i, born_at(t, seq));
 }
 
+// Queues the version that a rename of the texture just replaced. `seq` is the submission that is being built, which holds every
+// command that named the version.
 pub fn retire(
     pool: Pool,
     book: PacingBook,

@@ -1,4 +1,4 @@
-// drain_versions: hand out the queue, then the destroy queue, then the spares; the hand stays as it is.
+// drain_versions: every retiring version, queued destroy and spare is handed back; the textures stay tracked.
 ghost use mathlib.Core.Path.{_≡_};
 ghost use mathlib.Core.Bool.{true};
 ghost use Prim.Native.Nat.{_+_, _*_, _≤_, _<_};
@@ -23,7 +23,7 @@ use pool_records::TEXTURE_SPARES_AT;
 use pool_records::TEXTURE_STRIDE;
 use pool_rules::DESTROY_SPREAD_DRAINS;
 
-// The views of all that is handed out, stored at the buffer's front.
+// Stores the views of all that is handed back at the buffer's front.
 fn copy_views(
     pool: Pool,
     places: usize,
@@ -77,7 +77,7 @@ fn copy_views(
     );
 }
 
-// The first n textures have no spares any more.
+// Takes the spares from the records of the first n textures.
 fn clear_spares(textures: &mut [u64], n: usize)
     requires { ⌜ textureStride * n ≤ length (now textures) ⌝ }
     ensures { λ _. ⌜ now (textures .exit) ≡ cleared n (now (textures .entry)) ⌝ }
@@ -89,7 +89,7 @@ fn clear_spares(textures: &mut [u64], n: usize)
     }
 }
 
-// The counts once nothing is left but the hand.
+// Returns the counts once nothing is left but the version in the hand.
 fn drained_counts(pool: Pool, places: usize) -> Pool
     requires { ⌜ (pool .first < places) × (pool .doomed ≤ places) ⌝ }
     ensures { λ r. ⌜ r ≡ drainedCounts pool places ⌝ }
@@ -113,7 +113,8 @@ fn drained_counts(pool: Pool, places: usize) -> Pool
     }
 }
 
-// The pacing book with its arrivals cleared; slot, mark and excess stay.
+// Returns the pacing book with its arrivals cleared: what is handed back here is no arrival of a later take. Slot, mark and excess
+// stay.
 fn drained_book(book: PacingBook) -> PacingBook
     ensures { λ r. ⌜ r ≡ drainedBook book ⌝ }
 {
@@ -125,6 +126,8 @@ fn drained_book(book: PacingBook) -> PacingBook
     }
 }
 
+// Hands back the versions of the queue, then of the destroy queue, then the spares: for a reset and the shutdown, whose caller
+// waits for the GPU to go idle before it destroys them. The version in the hand stays, since its caller has it.
 pub fn drain_versions(
     pool: Pool,
     book: PacingBook,

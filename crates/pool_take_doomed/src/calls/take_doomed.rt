@@ -1,4 +1,4 @@
-// take_doomed: hand back the next batch of versions to destroy.
+// take_doomed: the next batch of versions to destroy.
 ghost use mathlib.Core.Path.{_≡_};
 ghost use mathlib.Core.Bool.{true};
 ghost use Prim.Native.Nat.{_≤_, _<_};
@@ -21,7 +21,7 @@ use pool_records::DOOMED_STRIDE;
 use pool_records::RETIRING_STRIDE;
 use pool_rules::DESTROY_SPREAD_DRAINS;
 
-// The counts once the batch has left the destroy ring's front.
+// Returns the counts once the batch has left the front of the destroy ring.
 fn taken_counts(pool: Pool, places: usize, batch: Batch) -> Pool
     requires { ⌜ (pool .first < places) × (batch .count ≤ places) × (batch .count ≤ pool .doomed) × (batch .bytes ≤ pool .dooming) ⌝ }
     ensures { λ r. ⌜ r ≡ takenCounts pool places (batch .count) (batch .bytes) ⌝ }
@@ -35,7 +35,7 @@ fn taken_counts(pool: Pool, places: usize, batch: Batch) -> Pool
     left
 }
 
-// The pacing book once these arrivals are noted: the next slot, and no excess.
+// Returns the pacing book once these arrivals are noted: the next slot, and no excess, since the batch has covered it.
 fn taken_book(book: PacingBook, arrivals: [u64; DESTROY_SPREAD_DRAINS]) -> PacingBook
     requires { ⌜ book .slot < destroySpreadDrains ⌝ }
     ensures { λ r. ⌜ r ≡ takenBook book arrivals ⌝ }
@@ -48,6 +48,9 @@ fn taken_book(book: PacingBook, arrivals: [u64; DESTROY_SPREAD_DRAINS]) -> Pacin
     }
 }
 
+// Hands back the next batch of versions to destroy, the oldest first; the rest wait for the next call. Every queued version was
+// popped after its submission settled and no rename takes it again, so that a version may be destroyed a few drains late without
+// harm.
 pub fn take_doomed(
     pool: Pool,
     book: PacingBook,

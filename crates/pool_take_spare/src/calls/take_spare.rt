@@ -1,4 +1,4 @@
-// take_spare: start a rename, handing back the texture's newest spare if it has one.
+// take_spare: a rename starts, with the texture's newest spare if it has one.
 ghost use mathlib.Core.Path.{_≡_};
 ghost use mathlib.Core.Bool.{true};
 ghost use Rattle.pool_memory.specs.Lent.{lentBy, atEntry, atExit};
@@ -16,7 +16,8 @@ use pool_memory::same_counts;
 use pool_tracking::renew_tracking;
 use pool_tracking::start_tracking;
 
-// The lent stores form a pool. A texture that is not tracked, or tracked with another shape, has a tracking begun and no spare.
+// Starts a rename of the texture and hands back its newest spare, if it has one. For a texture that is not tracked, or is tracked
+// with another shape, a tracking begins: it has no spare yet. `seq` is the submission that the rename belongs to.
 pub fn take_spare(
     pool: Pool,
     book: PacingBook,
@@ -35,20 +36,7 @@ pub fn take_spare(
     ensures { λ r. ⌜ (takenTold (r .taken), atExit (r .pool) book textures retiring doomed spares newest stamps)
         ≡ takeSpareOn (atEntry pool book textures retiring doomed spares newest stamps) id shape records seq ⌝ }
 {
-    let look = look_up(
-        pool,
-        book,
-        textures,
-        retiring,
-        doomed,
-        spares,
-        newest,
-        stamps,
-        id,
-        shape,
-        records,
-        seq,
-    );
+    let look = look_up(pool, textures, newest.len(), id, shape, records, seq);
     if look.outcome != 0 {
         return TakeAnswer {
             pool: same_counts(pool),
@@ -57,42 +45,14 @@ pub fn take_spare(
     }
     let i = look.place;
     if !look.tracked {
-        let after = start_tracking(
-            pool,
-            book,
-            textures,
-            retiring,
-            doomed,
-            spares,
-            newest,
-            stamps,
-            i,
-            id,
-            shape,
-            records,
-            seq,
-        );
+        let after = start_tracking(pool, textures, newest, stamps, i, id, shape, records, seq);
         return TakeAnswer {
             pool: after,
             taken: Taken::NoSpare,
         };
     }
     if look.same {
-        return take_newest(
-            pool,
-            book,
-            textures,
-            retiring,
-            doomed,
-            spares,
-            newest,
-            stamps,
-            i,
-            id,
-            shape,
-            records,
-            seq,
-        );
+        return take_newest(pool, textures, spares, i, seq);
     }
     let after = renew_tracking(
         pool,

@@ -1,4 +1,4 @@
-// trim: queue for destruction every spare idle past the bound, and forget idle textures.
+// trim: every spare idle past the bound is queued for destruction, and idle textures are tracked no longer.
 ghost use mathlib.Core.Path.{_≡_};
 ghost use mathlib.Core.Bool.{true};
 ghost use Prim.Native.Nat.{_+_, _*_, _≤_};
@@ -33,8 +33,8 @@ use pool_records::TEXTURE_STRIDE;
 use pool_rules::LIMIT;
 use pool_take_doomed::push_spares;
 
-// Record i written at place `to` as it is after the look. Nothing is written where the texture is dropped, nor where the record stands
-// there already.
+// Writes record i at place `to` as it is after the look. Nothing is written where the texture is dropped, nor where the record
+// stands there already.
 fn put_looked(textures: &mut [u64], to: usize, i: usize, look: Look)
     requires { ⌜ (textureStride * i + textureStride ≤ length (now textures)) × (textureStride * to + textureStride ≤ length (now textures))
         × RecordedFits (textureIn (now textures) i .history) × (look .aged ≤ look .own) ⌝ }
@@ -56,7 +56,8 @@ fn put_looked(textures: &mut [u64], to: usize, i: usize, look: Look)
     put_texture(textures, to, t);
 }
 
-// The textures in ascending id. What stays moves down to what stays before it, so that no number is written before it is read.
+// Looks at the textures in ascending id. What stays moves down to what stays before it, so that no number is written before it is
+// read. Returns the counts after it.
 fn trim_textures(
     pool: Pool,
     book: PacingBook,
@@ -114,7 +115,8 @@ fn trim_textures(
     counts_after(pool, pass)
 }
 
-// `current` is 01's now, the submission that is being built.
+// Gives up what was idle too long. `current` is 01's now, the submission that is being built. Spares park in submission order and
+// renames take the newest, so that each texture's oldest spares come first.
 pub fn trim(
     pool: Pool,
     book: PacingBook,

@@ -1,4 +1,4 @@
--- `within` meets its contract. What is left is within b where the whole is: behind blocks of 64, four a turn, then one a turn. Assumes nothing.
+-- `within` meets its contract. What is left is within b where the whole is: after blocks of 64, four a turn, then one a turn. Assumes nothing.
 use borrow.Author.Needs.{needs}
 use mathlib.Core.Path.{_≡_, sym, _∙_}
 use Prim.Native.Nat.{_-_, _≤_}

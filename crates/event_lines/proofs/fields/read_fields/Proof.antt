@@ -1,4 +1,4 @@
--- `read_fields` meets its contract: what is read from `end` on, behind the fields read so far, is what is read from `at` on. Assumes nothing.
+-- `read_fields` meets its contract: what is read from `end` on, after the fields read so far, is what is read from `at` on. Assumes nothing.
 use borrow.Author.Needs.{needs}
 use mathlib.Core.Path.{_≡_, refl, sym, ap, _∙_}
 use mathlib.Core.Bool.{false, not, _||_}

@@ -91,7 +91,7 @@ add-next c = omega (arith, c .before .before .if2 .left, c .before .before .befo
 run-line-requires : tie.Need-run-line-requires Inv-loop μ-loop
 run-line-requires c κs =
     let i = c .before .before .before .before .before .before .before .before .before .before .before .before .before .before .before .before .before .loop .inv in
-    (i .0 .pool, going-room _ _ _ _ (i .7) (i .8) (c .before .before .before .before .before .before .before .before .before .before .before .before .before .before .before .before .before .before .before .before .before .before .before .before .before .before .before .before .before .args .input .now) _ _ _ _ _ _ (i .0) (c .before .before .before .before .before .before .before .before .before .before .before .before .before .before .before .before .before .before .longest-answer .ensures) (c .before .before .before .before .before .before .before .before .before .before .before .before .before .before .before .if1 .taken) (end-of (c .before .before .before .before .before .before .before .before .before .before .before .before .before .before .before .before .before .before .before .before .before .before .before .before .before .before .before .before .before .args .input .now) _ _ (i .0 .inside) (c .before .before .before .before .before .before .before .before .before .before .before .before .before .parse-first .ensures .1)) refl (c .before .before .before .before .before .before .before .before .before .before .before .if2 .left))
+    (i .0 .pool, going-room _ _ _ _ (i .7) (i .8) (c .before .before .before .before .before .before .before .before .before .before .before .before .before .before .before .before .before .before .before .before .before .before .before .before .before .before .before .before .before .args .input .now) _ _ _ _ _ _ (i .0) (c .before .before .before .before .before .before .before .before .before .before .before .before .before .before .before .before .before .before .longest-answer .ensures) (c .before .before .before .before .before .before .before .before .before .before .before .before .before .before .before .if1 .taken) (end-of (c .before .before .before .before .before .before .before .before .before .before .before .before .before .before .before .before .before .before .before .before .before .before .before .before .before .before .before .before .before .args .input .now) _ _ (i .0 .inside) (c .before .before .before .before .before .before .before .before .before .before .before .before .before .parse-first .ensures .1)) refl)
 
 loop-less : tie.Need-loop-less Inv-loop μ-loop
 loop-less c = omega (arith, c .before .before .before .before .before .before .before .before .before .before .before .before .before .before .before .before .before .before .before .before .before .before .before .before .before .before .before .before .before .before .before .if2 .left)

@@ -1,7 +1,7 @@
 -- `open_session` meets its contract: the sizes of the slices decide. Assumes nothing.
 use borrow.Author.Needs.{needs}
 use mathlib.Core.Path.{ap}
-use Rattle.pool.specs.declared.calls.open.OpenAnswer.{OpenAnswer}
+use Rattle.pool_open.specs.declared.calls.open.OpenAnswer.{OpenAnswer}
 use Rattle.event_sessions.proofs.Opened.{open-refused, open-done}
 use Rattle.event_sessions.proofs.opening.open_session.Statement.{statement}
 use Rattle.event_sessions.proofs.opening.open_session.Tie as tie

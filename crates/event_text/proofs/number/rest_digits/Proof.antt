@@ -1,4 +1,4 @@
--- `rest_digits` meets its contract: what is read from i on, as digits behind those of the value, is what is read from `from` on. Assumes nothing.
+-- `rest_digits` meets its contract: what is read from i on, as digits after those of the value, is what is read from `from` on. Assumes nothing.
 use borrow.Author.Needs.{needs}
 use mathlib.Core.Path.{_≡_, sym, ap, ap₂, _∙_}
 use mathlib.Core.List.{List}

@@ -5,21 +5,17 @@ use Rattle.pool_history.proofs.Regenerated.{level-next, level-wraps}
 use Rattle.pool_history.proofs.pages.next_level.Statement.{statement}
 use Rattle.pool_history.proofs.pages.next_level.Tie as tie
 
--- src/pages.rt:72:8
 add-if1 : tie.Need-add-if1
 add-if1 c = search needs
 
--- src/pages.rt:72:29
 add-result : tie.Need-add-result
 add-result c = search needs
 
--- src/pages.rt:68:1
 returns : tie.Need-returns
 returns c = level-next (c .before .args .level) (c .before .args .levels) (omega (arith, c .if1 .taken))
 
--- src/pages.rt:68:1
 returns-2 : tie.Need-returns-2
-returns-2 c = level-wraps (c .before .args .level) (c .before .args .levels) (c .before .pre .0) (omega (arith, c .if1 .left))
+returns-2 c = level-wraps (c .before .args .level) (c .before .args .levels) (c .before .pre) (omega (arith, c .if1 .left))
 
 pub next-level-spec : {M : Type 1} → statement M
 next-level-spec = tie.close (tie.spec add-if1 add-result returns returns-2)

@@ -11,7 +11,6 @@ use Rattle.pool_history.proofs.pages.regenerate_page.Statement.{stateme
 use Rattle.pool_history.proofs.pages.regenerate_page.Tie as tie
 use Rattle.pool_memory.specs.Reading.{gridOn}
 
--- src/pages.rt:60:9
 returns : tie.Need-returns
 returns c =
     let s = c .before .before .before in
@@ -23,31 +22,24 @@ returns c =
           ∙ ap (λ (x : StampGrid). pagesWritten (a .stamps .now) (a .p) (x ∷ [])) e,
     )
 
--- src/pages.rt:62:9
 level-extent-requires : tie.Need-level-extent-requires
 level-extent-requires c κs = search needs
 
--- src/pages.rt:63:9
 level-extent-requires-2 : tie.Need-level-extent-requires-2
 level-extent-requires-2 c κs = search needs
 
--- src/pages.rt:64:49
 level-rect-requires : tie.Need-level-rect-requires
 level-rect-requires c κs = search needs
 
--- src/pages.rt:64:5
 stamp-page-requires : tie.Need-stamp-page-requires
 stamp-page-requires c κs = search needs
 
--- src/pages.rt:46:1
 same-length : tie.Need-same-length
 same-length c = search needs
 
--- src/pages.rt:46:1
 same-length-2 : tie.Need-same-length-2
 same-length-2 c = search needs
 
--- src/pages.rt:46:1
 returns-2 : tie.Need-returns-2
 returns-2 c =
     let b = c .before .before .before .before in

@@ -4,7 +4,6 @@ use Prim.Native.Nat.{_+_, _*_, _-_, _%_, _≤_, _<_}
 use native.Mathlib.Omega.{arith}
 use lib.ListN.{length}
 use borrow.Author.Needs.{needs}
-use Rattle.grid_shapes.proofs.Shapes.{shape-bounds}
 use Rattle.pool_history.specs.Written.{newestWritten, pagesWritten, remadeGrids}
 use Rattle.pool_history.proofs.Regenerated.{level-first, level-after, next-below, remade-none, newest-remade, pages-remade}
 use Rattle.pool_history.proofs.pages.regenerate_pages.Statement.{statement}
@@ -22,7 +21,6 @@ Inv-loop newest₀ stamps₀ page pages shape n level₀ k₀ newest stamps leve
 abbrev μ-loop : tie.MeasureT-loop
 μ-loop newest₀ stamps₀ page pages shape n level₀ k₀ newest stamps level k = pages - k
 
--- src/pages.rt:91:5
 loop-holds : tie.Need-loop-holds Inv-loop μ-loop
 loop-holds c =
     let s = c .before .before in
@@ -31,11 +29,9 @@ loop-holds c =
     let f = level-first (a .shape) (s .pre .0) in
     (search needs, f .0, f .1, refl, refl, e .0, e .1)
 
--- src/pages.rt:92:41
 add-regenerate-page : tie.Need-add-regenerate-page Inv-loop μ-loop
 add-regenerate-page c = search needs
 
--- src/pages.rt:92:9
 regenerate-page-requires : tie.Need-regenerate-page-requires Inv-loop μ-loop
 regenerate-page-requires c κs =
     let b = c .before .before .before in
@@ -45,22 +41,15 @@ regenerate-page-requires c κs =
       omega (arith, s .pre .2, b .loop .inv .3, b .loop .inv .4),
     )
 
--- src/pages.rt:93:9
 next-level-requires : tie.Need-next-level-requires Inv-loop μ-loop
-next-level-requires c κs =
-    let b = c .before .before .before .before .before .before .before .before in
-    let s = b .before .before .before in
-    (b .loop .inv .1, shape-bounds (s .args .shape) (s .pre .0) .levels-bound)
+next-level-requires c κs = c .before .before .before .before .before .before .before .before .loop .inv .1
 
--- src/pages.rt:94:9
 add-k : tie.Need-add-k Inv-loop μ-loop
 add-k c = search needs
 
--- src/pages.rt:91:5
 loop-less : tie.Need-loop-less Inv-loop μ-loop
 loop-less c = search needs
 
--- src/pages.rt:91:5
 loop-again : tie.Need-loop-again Inv-loop μ-loop
 loop-again c =
     let r = c .before .before .before .before .before in
@@ -81,15 +70,12 @@ loop-again c =
           ∙ pages-remade (a .shape) (s .pre .0) (a .n) (a .newest .now) (a .stamps .now) (a .page) (b .loop .k) room counted (b .loop .newest) (b .loop .stamps) (b .loop .level) (inv .5) (inv .6) (inv .2),
     )
 
--- src/pages.rt:76:1
 same-length : tie.Need-same-length Inv-loop μ-loop
 same-length c = c .before .loop .inv .3
 
--- src/pages.rt:76:1
 same-length-2 : tie.Need-same-length-2 Inv-loop μ-loop
 same-length-2 c = c .before .loop .inv .4
 
--- src/pages.rt:76:1
 returns : tie.Need-returns Inv-loop μ-loop
 returns c =
     let b = c .before in

@@ -10,70 +10,54 @@ use Rattle.pool_history.proofs.pages.stamp_page.Statement.{statement}
 use Rattle.pool_history.proofs.pages.stamp_page.Tie as tie
 use Rattle.grid_stamps.specs.StampConstants.{pageStamps}
 
--- src/pages.rt:37:9
 across-axis-requires : tie.Need-across-axis-requires
 across-axis-requires c κs = search needs
 
--- src/pages.rt:38:9
 down-axis-requires : tie.Need-down-axis-requires
 down-axis-requires c κs = search needs
 
--- src/pages.rt:39:13
 mul-a : tie.Need-mul-a
 mul-a c = search needs
 
--- src/pages.rt:40:13
 add-e : tie.Need-add-e
 add-e c = search needs
 
--- src/pages.rt:41:24
 mul-stamp : tie.Need-mul-stamp
 mul-stamp c = search needs
 
--- src/pages.rt:41:24
 sub-stamp : tie.Need-sub-stamp
 sub-stamp c = search needs
 
--- src/pages.rt:41:24
 part-stamp-start : tie.Need-part-stamp-start
 part-stamp-start c = search needs
 
--- src/pages.rt:41:24
 part-stamp-end : tie.Need-part-stamp-end
 part-stamp-end c = search needs
 
--- src/pages.rt:41:66
 mul-stamp-2 : tie.Need-mul-stamp-2
 mul-stamp-2 c = search needs
 
--- src/pages.rt:41:66
 slice-read-stamp : tie.Need-slice-read-stamp
 slice-read-stamp c = search needs
 
--- src/pages.rt:41:9
 stamp-requires : tie.Need-stamp-requires
 stamp-requires c κs =
     let b = c .before .before in
     let a = b .before .before .before .before .args in
     part-fits (a .shape) (b .before .before .before .before .pre .0) (a .level) (a .rect) (a .n) (a .newest .now) (a .stamps .now) (a .p) (omega (arith, b .before .before .before .before .pre)) (pageStamps * a .p + pageStamps - pageStamps * a .p) (b .before .across-axis .result) (b .down-axis .result) (omega arith) (b .before .across-axis .ensures) (b .down-axis .ensures)
 
--- src/pages.rt:42:5
 mul-newest : tie.Need-mul-newest
 mul-newest c = search needs
 
--- src/pages.rt:42:5
 slice-write-newest : tie.Need-slice-write-newest
 slice-write-newest c = search needs
 
--- src/pages.rt:23:1
 same-length : tie.Need-same-length
 same-length c = search needs
 
--- src/pages.rt:23:1
 same-length-2 : tie.Need-same-length-2
 same-length-2 c = search needs
 
--- src/pages.rt:23:1
 returns : tie.Need-returns
 returns c =
     let b = c .before .before in

@@ -1,4 +1,4 @@
--- `keep_version` meets its contract: the texture's record counts one more, and the spare stands behind the others. Assumes nothing.
+-- `keep_version` meets its contract: the texture's record counts one more, and the spare stands after the others. Assumes nothing.
 use borrow.Author.Needs.{needs}
 use native.Mathlib.Omega.{arith}
 use Rattle.pool_park.proofs.Parked.{end-fits, keep-history, keep-record, keep-spare}

@@ -10,7 +10,7 @@ use Rattle.base_tables.specs.Records.{recordAt}
 use Rattle.base_tables.proofs.Records.{table-left}
 use Rattle.grid_shapes.specs.Shapes.{bytesOf}
 use Rattle.pool_records.specs.Texture.{readTexture, textureIn, texturesIn}
-use Rattle.pool_relief_line.specs.Parked.{bytesFrom, recordSpares, recordBytes}
+use Rattle.pool_relief_line.specs.Parked.{bytesFrom, recordSpares, recordBytes, mostVersionBytes}
 use Rattle.pool_relief_line.proofs.Parked.{spares-rest, bytes-rest, before-rest, before-done, counted-bytes}
 use Rattle.pool_relief_line.proofs.line.bytes_before.Statement.{statement}
 use Rattle.pool_relief_line.proofs.line.bytes_before.Tie as tie
@@ -20,7 +20,7 @@ abbrev Inv-loop : tie.InvT-loop
 Inv-loop textures n spares line sum₀ from₀ i₀ sum from i =
     (i ≤ n)
     × (from + total recordSpares (left (recordAt textureStride readTexture textures) n i) ≡ total recordSpares (texturesIn n textures))
-    × (sum + total recordBytes (left (recordAt textureStride readTexture textures) n i) ≤ 72057594037927936)
+    × (sum + total recordBytes (left (recordAt textureStride readTexture textures) n i) ≤ mostVersionBytes)
     × (sum + bytesFrom spares line from (left (recordAt textureStride readTexture textures) n i) ≡ bytesFrom spares line 0 (texturesIn n textures))
 
 abbrev μ-loop : tie.MeasureT-loop

@@ -6,6 +6,7 @@ use Prim.Native.Nat.{_+_, _-_, _≤_, _<_}
 use native.Mathlib.Omega.{arith}
 use borrow.Author.Needs.{needs}
 use Rattle.pool_records.specs.Texture.{texturesIn}
+use Rattle.pool_rules.specs.Model.{limit}
 use Rattle.pool_relief_line.specs.Parked.{bytesFrom}
 use Rattle.pool_relief_line.proofs.Parked.{bytes-zero, ends-meet}
 use Rattle.pool_relief_line.proofs.line.parking_line.Statement.{statement}
@@ -14,18 +15,20 @@ use Rattle.pool_relief_line.proofs.line.parking_line.Tie as tie
 abbrev Inv-loop : tie.InvT-loop
 Inv-loop textures n spares dooming excess ends lo₀ hi₀ guess₀ lo hi guess =
     (lo < hi)
-    × (hi ≤ 281474976710658)
+    × (hi ≤ limit + 2)
     × (dooming + bytesFrom spares lo 0 (texturesIn n textures) < excess)
-    × ((excess ≤ dooming + bytesFrom spares hi 0 (texturesIn n textures)) ⊎ (hi ≡ 281474976710658))
+    × ((excess ≤ dooming + bytesFrom spares hi 0 (texturesIn n textures)) ⊎ (hi ≡ limit + 2))
 
 abbrev μ-loop : tie.MeasureT-loop
 μ-loop textures n spares dooming excess ends lo₀ hi₀ guess₀ lo hi guess = hi - lo
 
-spare-count-requires : tie.Need-spare-count-requires Inv-loop μ-loop
-spare-count-requires c κs = c .before .before .pre .0
+spares-before-requires : tie.Need-spares-before-requires Inv-loop μ-loop
+spares-before-requires c κs =
+    let k = c .before .before .pre .0 in
+    (k .fits, k .few)
 
 parked-ends-requires : tie.Need-parked-ends-requires Inv-loop μ-loop
-parked-ends-requires c κs = omega (arith, c .spare-count .ensures, c .before .before .before .pre .0 .runs)
+parked-ends-requires c κs = omega (arith, c .spares-before .ensures, c .before .before .before .pre .0 .runs)
 
 add-hi : tie.Need-add-hi Inv-loop μ-loop
 add-hi c = search needs
@@ -97,7 +100,7 @@ parking-line-spec =
     (tie.spec
     Inv-loop
     μ-loop
-    spare-count-requires
+    spares-before-requires
     parked-ends-requires
     add-hi
     add-guess

@@ -1,4 +1,4 @@
--- `push_spares` meets its contract: one spare after the other goes behind the ring. Assumes nothing.
+-- `push_spares` meets its contract: one spare after the other goes to the ring's end. Assumes nothing.
 use mathlib.Core.Path.{_≡_, ap, _∙_}
 use mathlib.Core.List.{[], _∷_}
 use Prim.Native.Nat.{_+_, _-_, _*_, _≤_}

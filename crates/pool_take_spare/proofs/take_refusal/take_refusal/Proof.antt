@@ -1,8 +1,6 @@
 -- `take_refusal` meets its contract, test by test. Assumes nothing.
 use native.Mathlib.Omega.{arith}
-use Rattle.pool_memory.proofs.FromPool.{pool-fits}
-use Rattle.pool_memory.proofs.Stays.{textures-fit}
-use Rattle.pool_take_spare.proofs.Said.{said-two, said-three, few-pages, said-five, said-new, tracked-fits, own-pages, said-same, said-other}
+use Rattle.pool_take_spare.proofs.Said.{few-pages, said-two, said-three, said-five, said-new, said-same, said-other, tracked-fits, own-pages}
 use borrow.Author.Needs.{needs}
 use Rattle.pool_take_spare.proofs.take_refusal.take_refusal.Statement.{statement}
 use Rattle.pool_take_spare.proofs.take_refusal.take_refusal.Tie as tie
@@ -12,63 +10,60 @@ is-shape-requires c κs = search needs
 
 returns : tie.Need-returns
 returns c =
-    let b = c .before .before .before .before .before .before .before .before in
-    said-two _ _ _ _ (b .args .records) _ (b .pre .0) (b .pre .1) _ (c .before .is-shape .ensures) (c .if1 .taken)
+    let a = c .before .before .before .args in
+    said-two _ _ _ _ _ _ (a .records) _ _ (c .before .is-shape .ensures) (c .if1 .taken)
 
 returns-2 : tie.Need-returns-2
 returns-2 c =
-    let b = c .before .before .before .before .before .before .before .before .before in
-    said-three _ _ _ _ (b .args .records) _ (b .pre .0) (b .pre .1) _ (c .before .before .is-shape .ensures) (c .before .if1 .left) (c .if2 .taken)
+    let a = c .before .before .before .before .args in
+    said-three _ _ _ _ _ _ (a .records) _ _ (c .before .before .is-shape .ensures) (c .before .if1 .left) (c .if2 .taken)
 
 has-id-requires : tie.Need-has-id-requires
-has-id-requires c κs =
-    let b = c .before .before .before .before .before .before .before .before .before in
-    textures-fit _ (pool-fits _ (b .pre .0))
+has-id-requires c κs = c .before .before .before .before .pre .there
 
 returns-3 : tie.Need-returns-3
 returns-3 c =
-    let b = c .before .before .before .before .before .before .before .before .before .before .before .before .before in
-    said-five _ _ _ _ (b .args .records) _ (b .pre .0) (b .pre .1) _ (c .before .before .before .before .before .before .is-shape .ensures) (c .before .before .before .before .before .if1 .left) (c .before .before .before .before .if2 .left) _ (c .before .before .before .has-id .ensures) (c .before .before .if3 .taken) (c .if4 .taken)
+    let a = c .before .before .before .before .before .before .before .before .args in
+    said-five _ _ _ _ _ _ (a .records) _ _ (c .before .before .before .before .before .before .is-shape .ensures) (c .before .before .before .before .before .if1 .left) (c .before .before .before .before .if2 .left) _ (c .before .before .before .has-id .ensures) (c .before .before .if3 .taken) (c .if4 .taken)
 
 tracking-refusal-requires : tie.Need-tracking-refusal-requires
 tracking-refusal-requires c κs =
-    let b = c .before .before .before .before .before .before .before .before .before .before .before .before .before in
-    let f = pool-fits _ (b .pre .0) in
-    (f .newest, omega arith, omega (arith, f .pages, f .newest), few-pages _ _ (c .before .before .before .before .before .before .is-shape .ensures) (c .before .before .before .before .before .if1 .left))
+    let k = c .before .before .before .before .before .before .before .before .pre in
+    (k .most, omega arith, k .used, few-pages _ _ (c .before .before .before .before .before .before .is-shape .ensures) (c .before .before .before .before .before .if1 .left))
 
 returns-4 : tie.Need-returns-4
 returns-4 c =
-    let b = c .before .before .before .before .before .before .before .before .before .before .before .before .before .before in
-    said-new _ _ _ _ (b .args .records) _ (b .pre .0) (b .pre .1) _ (c .before .before .before .before .before .before .before .is-shape .ensures) (c .before .before .before .before .before .before .if1 .left) (c .before .before .before .before .before .if2 .left) _ (c .before .before .before .before .has-id .ensures) (c .before .before .before .if3 .taken) (c .before .if4 .left) _ (c .tracking-refusal .ensures)
+    let a = c .before .before .before .before .before .before .before .before .before .args in
+    said-new _ _ _ _ _ _ (a .records) _ _ (c .before .before .before .before .before .before .before .is-shape .ensures) (c .before .before .before .before .before .before .if1 .left) (c .before .before .before .before .before .if2 .left) _ (c .before .before .before .before .has-id .ensures) (c .before .before .before .if3 .taken) (c .before .if4 .left) _ (c .tracking-refusal .ensures)
 
 texture-at-requires : tie.Need-texture-at-requires
 texture-at-requires c κs =
-    tracked-fits _ _ _ (c .before .before .before .before .before .before .before .before .before .before .before .pre .0) _ (c .before .has-id .ensures) (c .if3 .left)
+    let b = c .before .before .before .before .before .before in
+    tracked-fits _ _ _ _ _ (b .pre) _ (c .before .has-id .ensures) (c .if3 .left)
 
 same-shape-requires : tie.Need-same-shape-requires
 same-shape-requires c κs = search needs
 
 returns-5 : tie.Need-returns-5
 returns-5 c =
-    let b = c .before .before .before .before .before .before .before .before .before .before .before .before .before .before in
-    said-same _ _ _ _ (b .args .records) _ (b .pre .0) (b .pre .1) _ (c .before .before .before .before .before .before .before .is-shape .ensures) (c .before .before .before .before .before .before .if1 .left) (c .before .before .before .before .before .if2 .left) _ (c .before .before .before .before .has-id .ensures) (c .before .before .before .if3 .left) _ (c .before .before .texture-at .ensures) _ (c .before .same-shape .ensures) (c .if5 .taken)
+    let a = c .before .before .before .before .before .before .before .before .before .args in
+    said-same _ _ _ _ _ _ (a .records) _ _ (c .before .before .before .before .before .before .before .is-shape .ensures) (c .before .before .before .before .before .before .if1 .left) (c .before .before .before .before .before .if2 .left) _ (c .before .before .before .before .has-id .ensures) (c .before .before .before .if3 .left) _ (c .before .before .texture-at .ensures) _ (c .before .same-shape .ensures) (c .if5 .taken)
 
 history-pages-requires : tie.Need-history-pages-requires
 history-pages-requires c κs =
-    let b = c .before .before .before .before .before .before .before .before .before .before .before .before .before .before in
-    own-pages _ _ _ _ (b .args .records) _ (b .pre .0) (b .pre .1) _ (c .before .before .before .before .before .before .before .is-shape .ensures) (c .before .before .before .before .before .before .if1 .left) (c .before .before .before .before .before .if2 .left) _ (c .before .before .before .before .has-id .ensures) (c .before .before .before .if3 .left) _ (c .before .before .texture-at .ensures)
+    let b = c .before .before .before .before .before .before .before .before .before in
+    own-pages _ _ _ _ _ (b .pre) _ (c .before .before .before .before .has-id .ensures) (c .before .before .before .if3 .left) _ (c .before .before .texture-at .ensures)
 
 tracking-refusal-requires-2 : tie.Need-tracking-refusal-requires-2
 tracking-refusal-requires-2 c κs =
-    let b = c .before .before .before .before .before .before .before .before .before .before .before .before .before .before .before in
-    let f = pool-fits _ (b .pre .0) in
-    let own = own-pages _ _ _ _ (b .args .records) _ (b .pre .0) (b .pre .1) _ (c .before .before .before .before .before .before .before .before .is-shape .ensures) (c .before .before .before .before .before .before .before .if1 .left) (c .before .before .before .before .before .before .if2 .left) _ (c .before .before .before .before .before .has-id .ensures) (c .before .before .before .before .if3 .left) _ (c .before .before .before .texture-at .ensures) in
-    (f .newest, omega (arith, c .history-pages .ensures, own), omega (arith, f .pages, f .newest), few-pages _ _ (c .before .before .before .before .before .before .before .before .is-shape .ensures) (c .before .before .before .before .before .before .before .if1 .left))
+    let b = c .before .before .before .before .before .before .before .before .before .before in
+    let own = own-pages _ _ _ _ _ (b .pre) _ (c .before .before .before .before .before .has-id .ensures) (c .before .before .before .before .if3 .left) _ (c .before .before .before .texture-at .ensures) in
+    (b .pre .most, omega (arith, c .history-pages .ensures, own), b .pre .used, few-pages _ _ (c .before .before .before .before .before .before .before .before .is-shape .ensures) (c .before .before .before .before .before .before .before .if1 .left))
 
 returns-6 : tie.Need-returns-6
 returns-6 c =
-    let b = c .before .before .before .before .before .before .before .before .before .before .before .before .before .before .before .before in
-    said-other _ _ _ _ (b .args .records) _ (b .pre .0) (b .pre .1) _ (c .before .before .before .before .before .before .before .before .before .is-shape .ensures) (c .before .before .before .before .before .before .before .before .if1 .left) (c .before .before .before .before .before .before .before .if2 .left) _ (c .before .before .before .before .before .before .has-id .ensures) (c .before .before .before .before .before .if3 .left) _ (c .before .before .before .before .texture-at .ensures) _ (c .before .before .before .same-shape .ensures) (c .before .before .if5 .left) _ _ (c .before .history-pages .ensures) (c .tracking-refusal2 .ensures)
+    let a = c .before .before .before .before .before .before .before .before .before .before .before .args in
+    said-other _ _ _ _ _ _ (a .records) _ _ (c .before .before .before .before .before .before .before .before .before .is-shape .ensures) (c .before .before .before .before .before .before .before .before .if1 .left) (c .before .before .before .before .before .before .before .if2 .left) _ (c .before .before .before .before .before .before .has-id .ensures) (c .before .before .before .before .before .if3 .left) _ (c .before .before .before .before .texture-at .ensures) _ (c .before .before .before .same-shape .ensures) (c .before .before .if5 .left) _ _ (c .before .history-pages .ensures) (c .tracking-refusal2 .ensures)
 
 pub take-refusal-spec : {M : Type 1} → statement M
 take-refusal-spec =

@@ -1,56 +1,50 @@
--- `start_tracking` meets its contract: what it leaves is what the rule leaves for an untracked texture. Assumes nothing.
+-- `start_tracking` meets its contract: the record put in, then the pages. Assumes nothing.
 use native.Mathlib.Omega.{arith}
 use borrow.Author.Needs.{needs}
-use Rattle.pool_tracking.proofs.Refusals.{shape-passed}
+use Rattle.pool_access.proofs.Fields.{pages-bound}
 use Rattle.pool_tracking.proofs.Trackings.{begun-fits}
-use Rattle.pool_tracking.proofs.Started.{startable, left-started}
+use Rattle.pool_tracking.proofs.Started.{started-as}
 use Rattle.pool_tracking.proofs.start.start_tracking.Statement.{statement}
 use Rattle.pool_tracking.proofs.start.start_tracking.Tie as tie
 
 add-epoch : tie.Need-add-epoch
 add-epoch c =
-    let b = c .before .before .before .before .before .before .before in
-    let k = startable _ _ _ _ _ _ (b .pre .0) (b .pre .1) in
+    let k = c .before .before .before .before .pre in
     omega (arith, k .counter)
 
 fresh-pages-requires : tie.Need-fresh-pages-requires
 fresh-pages-requires c κs =
-    let b = c .before .before .before .before .before .before .before in
-    let k = startable _ _ _ _ _ _ (b .pre .0) (b .pre .1) in
-    k .few
+    let k = c .before .before .before .before .pre in
+    omega (arith, pages-bound _ (k .shaped))
 
 pages-before-requires : tie.Need-pages-before-requires
 pages-before-requires c κs =
-    let b = c .before .before .before .before .before .before .before .before .before in
-    let k = startable _ _ _ _ _ _ (b .pre .0) (b .pre .1) in
-    (omega (arith, k .textures, k .place), omega (arith, k .page, k .used, k .newest))
+    let k = c .before .before .before .before .before .before .pre in
+    (omega (arith, k .room, k .place), omega (arith, k .page, k .used, k .most))
 
 new-record-requires : tie.Need-new-record-requires
-new-record-requires c κs = shape-passed _ _ _ _ _ (c .before .before .before .before .before .before .before .before .before .before .before .pre .0 .1 .1)
+new-record-requires c κs = c .before .before .before .before .before .before .before .before .pre .shaped
 
 insert-texture-requires : tie.Need-insert-texture-requires
 insert-texture-requires c κs =
-    let b = c .before .before .before .before .before .before .before .before .before .before .before .before in
-    let k = startable _ _ _ _ _ _ (b .pre .0) (b .pre .1) in
-    (k .textures, k .place, begun-fits _ _ (b .args .records) _ _ _ (c .new-record .ensures))
+    let b = c .before .before .before .before .before .before .before .before .before in
+    let k = b .pre in
+    (k .room, k .place, begun-fits _ _ (b .args .records) _ _ _ (c .new-record .ensures))
 
 renew-pages-requires : tie.Need-renew-pages-requires
 renew-pages-requires c κs =
-    let b = c .before .before .before .before .before .before .before .before .before .before .before .before .before .before .before .before .before in
-    let k = startable _ _ _ _ _ _ (b .pre .0) (b .pre .1) in
-    (omega (arith, c .before .before .before .before .before .before .before .pages-before .ensures, k .page), k .used, omega (arith, k .room, c .before .before .before .before .before .before .before .before .before .fresh-pages .ensures), k .newest, k .stamps)
+    let k = c .before .before .before .before .before .before .before .before .before .before .before .before .before .before .pre in
+    (omega (arith, c .before .before .before .before .before .before .before .pages-before .ensures, k .page), k .used, omega (arith, k .pages, c .before .before .before .before .before .before .before .before .before .fresh-pages .ensures), k .most, k .paged)
 
 add-after : tie.Need-add-after
 add-after c =
-    let b = c .before .before .before .before .before .before .before .before .before .before .before .before .before .before .before .before .before .before .before .before .before .before .before in
-    let k = startable _ _ _ _ _ _ (b .pre .0) (b .pre .1) in
+    let k = c .before .before .before .before .before .before .before .before .before .before .before .before .before .before .before .before .before .before .before .before .pre in
     omega (arith, k .tracked)
 
 add-after-2 : tie.Need-add-after-2
 add-after-2 c =
-    let b = c .before .before .before .before .before .before .before .before .before .before .before .before .before .before .before .before .before .before .before .before .before .before .before .before in
-    let k = startable _ _ _ _ _ _ (b .pre .0) (b .pre .1) in
-    omega (arith, k .room, k .newest, c .before .before .before .before .before .before .before .before .before .before .before .before .before .before .before .before .fresh-pages .ensures)
+    let k = c .before .before .before .before .before .before .before .before .before .before .before .before .before .before .before .before .before .before .before .before .before .pre in
+    omega (arith, k .pages, k .most, c .before .before .before .before .before .before .before .before .before .before .before .before .before .before .before .before .fresh-pages .ensures)
 
 same-length : tie.Need-same-length
 same-length c = search needs
@@ -63,8 +57,8 @@ same-length-3 c = search needs
 
 returns : tie.Need-returns
 returns c =
-    let b = c .before .before .before .before .before .before .before .before .before .before .before .before .before .before .before .before .before .before .before .before .before .before .before .before in
-    left-started _ _ _ _ _ _ (b .pre .0) (b .pre .1) _ _ _ _ _ _ (c .before .before .before .before .before .before .before .before .before .before .before .before .new-record .ensures) (c .before .before .before .before .before .before .before .before .before .before .before .before .before .before .pages-before .ensures) (c .before .before .before .before .before .before .before .before .before .before .before .before .before .before .before .before .fresh-pages .ensures) (c .before .before .before .before .before .before .before .before .before .before .before .insert-texture .ensures) (c .before .before .before .before .before .before .renew-pages .ensures .0) (c .before .before .before .before .before .before .renew-pages .ensures .1)
+    let b = c .before .before .before .before .before .before .before .before .before .before .before .before .before .before .before .before .before .before .before .before .before in
+    started-as _ _ _ _ _ _ _ (b .args .records) _ _ _ _ _ _ _ (c .before .before .before .before .before .before .before .before .before .before .before .before .new-record .ensures) (c .before .before .before .before .before .before .before .before .before .before .before .before .before .before .pages-before .ensures) (c .before .before .before .before .before .before .before .before .before .before .before .before .before .before .before .before .fresh-pages .ensures) (c .before .before .before .before .before .before .before .before .before .before .before .insert-texture .ensures) (c .before .before .before .before .before .before .renew-pages .ensures .0) (c .before .before .before .before .before .before .renew-pages .ensures .1)
 
 pub start-tracking-spec : {M : Type 1} → statement M
 start-tracking-spec =

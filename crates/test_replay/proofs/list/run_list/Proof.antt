@@ -1,115 +1,180 @@
--- Lines of a list until none is left: the stores form a pool once they are opened, and no more lines have been run than bytes. The measure is the
--- number of turns that are left. Assumes nothing.
+-- Turns until the list ends, as those of `run_all` of crates/event_stream: the measure falls by the bytes that were given and fed. Assumes nothing.
 use borrow.Author.Needs.{needs}
 use mathlib.Core.Path.{_≡_, refl, _∙_}
-use Prim.Native.Nat.{_≤_}
+use Prim.Native.Nat.{_+_, _-_, _*_, _^_, _≤_}
 use native.Mathlib.Omega.{arith}
 use lib.ListN.{length}
-use Rattle.event_sessions.specs.Sessions.{stateOf, HoldsPool}
-use Rattle.event_runs.proofs.Outputs.{ran-left}
-use Rattle.test_replay.proofs.Parts.{fresh-holds, rest-length}
+use Rattle.event_sessions.specs.Sessions.{stateOf}
+use Rattle.event_sessions.specs.Parts.{freshSession}
+use Rattle.event_sessions.proofs.Keeps.{fresh-holds}
+use Rattle.event_feed.specs.Places.{carriedOf, waiting}
+use Rattle.event_feed.proofs.Parts.{part-length}
+use Rattle.event_stream.proofs.Reasons.{full-first, reason-says}
+use Rattle.event_stream.proofs.Loop.{Going, leftWhile, going-first, going-counts, going-ready, going-next, going-less}
 use Rattle.test_replay.proofs.list.run_list.Statement.{statement}
 use Rattle.test_replay.proofs.list.run_list.Tie as tie
 
 abbrev Inv-loop : tie.InvT-loop
-Inv-loop list textures₀ retiring₀ doomed₀ spares₀ newest₀ stamps₀ copies₀ views₀ out₀ session₀ number₀ from₀ turns₀ textures retiring doomed spares newest stamps copies views out session number from turns =
-    (number ≤ from) × (from ≤ length list) × HoldsPool (stateOf session textures retiring doomed spares newest stamps)
-    × (length textures ≡ length textures₀) × (length retiring ≡ length retiring₀) × (length doomed ≡ length doomed₀) × (length spares ≡ length spares₀)
-    × (length newest ≡ length newest₀) × (length stamps ≡ length stamps₀) × (length copies ≡ length copies₀) × (length views ≡ length views₀)
-    × (length out ≡ length out₀)
+Inv-loop list buf₀ textures₀ retiring₀ doomed₀ spares₀ newest₀ stamps₀ copies₀ views₀ out₀ at₀ given₀ written₀ why₀ buf textures retiring doomed spares newest stamps copies views out at given written why =
+    Going (length copies₀) (length views₀) (length buf₀) (length out₀) (stateOf freshSession textures₀ retiring₀ doomed₀ spares₀ newest₀ stamps₀)
+    (carriedOf at (stateOf (at .session) textures retiring doomed spares newest stamps) buf) at given written why
+    × (length buf ≡ length buf₀) × (length textures ≡ length textures₀) × (length retiring ≡ length retiring₀) × (length doomed ≡ length doomed₀) × (length spares ≡ length spares₀) × (length newest ≡ length newest₀) × (length stamps ≡ length stamps₀) × (length copies ≡ length copies₀) × (length views ≡ length views₀) × (length out ≡ length out₀) × (given ≤ length list)
 
 abbrev μ-loop : tie.MeasureT-loop
-μ-loop list textures₀ retiring₀ doomed₀ spares₀ newest₀ stamps₀ copies₀ views₀ out₀ session₀ number₀ from₀ turns₀ textures retiring doomed spares newest stamps copies views out session number from turns =
-    turns
+μ-loop list buf₀ textures₀ retiring₀ doomed₀ spares₀ newest₀ stamps₀ copies₀ views₀ out₀ at₀ given₀ written₀ why₀ buf textures retiring doomed spares newest stamps copies views out at given written why =
+    leftWhile why (2 * (2 ^ 64 - given) + waiting at)
 
-fresh-requires : tie.Need-fresh-requires Inv-loop μ-loop
-fresh-requires c κs = search needs
+begin-requires : tie.Need-begin-requires Inv-loop μ-loop
+begin-requires c κs = search needs
 
 loop-holds : tie.Need-loop-holds Inv-loop μ-loop
-loop-holds c = (search needs, search needs, fresh-holds (c .fresh .ensures), refl, refl, refl, refl, refl, refl, refl, refl, refl)
+loop-holds c =
+    let s = c .before .before .before .before .before .before .before .before .before .before .before .before in
+    (rw (c .begin .ensures) (going-first _ _ _ _ _ (s .args .buf .now) (full-first (length (s .args .buf .now)) (length (s .args .out .now)) (search needs) (search needs))), refl, refl, refl, refl, refl, refl, refl, refl, refl, refl, omega arith)
 
-sub-run-lines : tie.Need-sub-run-lines Inv-loop μ-loop
-sub-run-lines c = search needs
+next-part-requires : tie.Need-next-part-requires Inv-loop μ-loop
+next-part-requires c κs =
+    let i = c .before .before .loop in
+    let p = i .inv .0 .placed in
+    (i .inv .11, record { inside = p .inside; within = omega (arith, p .within, i .inv .1); space = p .space })
 
-part-run-lines-start : tie.Need-part-run-lines-start Inv-loop μ-loop
-part-run-lines-start c = search needs
+add-came : tie.Need-add-came Inv-loop μ-loop
+add-came c =
+    let l = c .before .before .before .before .before .before .loop in
+    let p = l .inv .0 .placed in
+    omega (arith, p .inside, p .within, going-counts _ _ _ _ _ (l .at) _ (l .buf) (l .buf) (l .given) (l .written) (l .why) (l .inv .0) (c .before .before .before .before .before .loop-test .taken) (l .inv .1) (l .at .end) (omega arith) (p .within) refl .0)
 
-part-run-lines-end : tie.Need-part-run-lines-end Inv-loop μ-loop
-part-run-lines-end c = search needs
+sub-came : tie.Need-sub-came Inv-loop μ-loop
+sub-came c =
+    let l = c .before .before .before .before .before .before .loop in
+    let r = c .before .before .before .next-part in
+    omega (arith, l .inv .0 .placed .inside, r .ensures .0)
 
-run-lines-requires : tie.Need-run-lines-requires Inv-loop μ-loop
-run-lines-requires c κs =
-    let l = c .before .before .before .before .before .before .before .before .before .before .before in
-    let i = l .loop .inv in
-    let s = l .before .before .before .before .before .before .before .before .before .before .before .before in
-    (i .2, omega (arith, rest-length (s .args .list .now) (l .loop .from), i .0, i .1))
+sub-given : tie.Need-sub-given Inv-loop μ-loop
+sub-given c = c .before .before .before .before .next-part .ensures .0
+
+add-given : tie.Need-add-given Inv-loop μ-loop
+add-given c =
+    let l = c .before .before .before .before .before .before .before .loop in
+    let r = c .before .before .before .before .next-part in
+    let i = l .inv in
+    let z = r .kept .1 .1 .0 ∙ i .1 in
+    omega (arith, going-counts _ _ _ _ _ (l .at) _ (l .buf) _ (l .given) (l .written) (l .why) (i .0) (c .before .before .before .before .before .before .loop-test .taken) z _ (r .ensures .0) (omega (arith, r .ensures .1, i .1)) (r .ensures .3) .0, r .ensures .1, i .1)
+
+feed-requires : tie.Need-feed-requires Inv-loop μ-loop
+feed-requires c κs =
+    let l = c .before .before .before .before .before .before .before .before .before .before .before .before .before .before .before .before .before .loop in
+    let r = c .before .before .before .before .before .before .before .before .before .before .before .before .before .before .next-part in
+    let s = c .before .before .before .before .before .before .before .before .before .before .before .before .before .before .before .before .before .before .before .before .before .before .before .before .before .before .before .before .before .before in
+    let i = l .inv in
+    let z = r .kept .1 .1 .0 ∙ i .1 in
+    let a = s .args in
+    rw (i .8, i .9)
+    (going-ready _ _ _ _ _ (l .at) _ (l .buf) _ (l .given) (l .written) (l .why) (i .0) (c .before .before .before .before .before .before .before .before .before .before .before .before .before .before .before .before .loop-test .taken) z _ (r .ensures .0) (omega (arith, r .ensures .1, i .1)) (r .ensures .3) (omega (arith, s .pre .0)) (fresh-holds (a .textures .now) (a .retiring .now) (a .doomed .now) (a .spares .now) (a .newest .now) (a .stamps .now)) _ (omega (arith, s .pre .1, i .10)))
+
+sub-write-out : tie.Need-sub-write-out Inv-loop μ-loop
+sub-write-out c = search needs
+
+part-write-out-start : tie.Need-part-write-out-start Inv-loop μ-loop
+part-write-out-start c = search needs
+
+part-write-out-end : tie.Need-part-write-out-end Inv-loop μ-loop
+part-write-out-end c =
+    let f = c .before .before .before .before .before .before .before .before .before .before .before .before .before .before .before .before .before .before .before .before .before .feed in
+    omega (arith, f .ensures .0 .ends, f .kept .1 .1 .1 .1 .1 .1 .1 .1 .1 .1 .1 .0)
 
 write-out-requires : tie.Need-write-out-requires Inv-loop μ-loop
-write-out-requires c κs =
-    let r = c .before .before .before .before .before .before .before .before .before .before .before .before .before .before .before .before .before .before .before .run-lines in
-    omega (arith, r .ensures .1, r .kept .1 .1 .1 .1 .1 .1 .1 .1 .1 .1 .1 .0)
+write-out-requires c κs = search needs
 
-add-from : tie.Need-add-from Inv-loop μ-loop
-add-from c =
-    let l = c .before .before .before .before .before .before .before .before .before .before .before .before .before .before .before .before .before .before .before .before .before .before .before .before .before .before .before .before .before .before .before .before .before .before in
-    let i = l .loop .inv in
-    let s = l .before .before .before .before .before .before .before .before .before .before .before .before in
-    omega (arith, rest-length (s .args .list .now) (l .loop .from), ran-left _ _ _ _ _ (c .before .before .before .before .before .before .before .before .before .before .before .before .before .before .before .before .before .before .before .before .before .before .run-lines .ensures .0) (i .2) .most, i .1)
+wide-requires : tie.Need-wide-requires Inv-loop μ-loop
+wide-requires c κs = search needs
 
-turns-left-requires : tie.Need-turns-left-requires Inv-loop μ-loop
-turns-left-requires c κs = c .before .before .before .before .before .before .before .before .before .before .before .before .before .before .before .before .before .before .before .before .before .before .before .before .before .before .before .before .before .before .before .before .before .before .loop-test .taken
+add-written : tie.Need-add-written Inv-loop μ-loop
+add-written c =
+    let l = c .before .before .before .before .before .before .before .before .before .before .before .before .before .before .before .before .before .before .before .before .before .before .before .before .before .before .before .before .before .before .before .before .before .before .before .before .before .before .before .before .before .before .loop in
+    let r = c .before .before .before .before .before .before .before .before .before .before .before .before .before .before .before .before .before .before .before .before .before .before .before .before .before .before .before .before .before .before .before .before .before .before .before .before .before .before .before .next-part in
+    let f = c .before .before .before .before .before .before .before .before .before .before .before .before .before .before .before .before .before .before .before .before .before .before .before .before .feed in
+    let i = l .inv in
+    let z = r .kept .1 .1 .0 ∙ i .1 in
+    let y : c .wide .result ≡ f .result .filled = omega (arith, c .wide .ensures, c .before .write-out .ensures, part-length 0 (f .result .filled - 0) (f .last .1 .1 .1 .1 .1 .1 .1 .1 .1 .1 .1 .0) (omega (arith, f .ensures .0 .ends, f .kept .1 .1 .1 .1 .1 .1 .1 .1 .1 .1 .1 .0))) in
+    omega (arith, going-counts _ _ _ _ _ (l .at) _ (l .buf) _ (l .given) (l .written) (l .why) (i .0) (c .before .before .before .before .before .before .before .before .before .before .before .before .before .before .before .before .before .before .before .before .before .before .before .before .before .before .before .before .before .before .before .before .before .before .before .before .before .before .before .before .before .loop-test .taken) z _ (r .ensures .0) (omega (arith, r .ensures .1, i .1)) (r .ensures .3) .1, f .ensures .0 .ends, i .10)
+
+wide-requires-2 : tie.Need-wide-requires-2 Inv-loop μ-loop
+wide-requires-2 c κs = search needs
+
+is-full-requires : tie.Need-is-full-requires Inv-loop μ-loop
+is-full-requires c κs = search needs
+
+reason-requires : tie.Need-reason-requires Inv-loop μ-loop
+reason-requires c κs = search needs
 
 loop-less : tie.Need-loop-less Inv-loop μ-loop
-loop-less c = c .turns-left .ensures
+loop-less c =
+    let l = c .before .before .before .before .before .before .before .before .before .before .before .before .before .before .before .before .before .before .before .before .before .before .before .before .before .before .before .before .before .before .before .before .before .before .before .before .before .before .before .before .before .before .before .before .before .loop in
+    let r = c .before .before .before .before .before .before .before .before .before .before .before .before .before .before .before .before .before .before .before .before .before .before .before .before .before .before .before .before .before .before .before .before .before .before .before .before .before .before .before .before .before .before .next-part in
+    let f = c .before .before .before .before .before .before .before .before .before .before .before .before .before .before .before .before .before .before .before .before .before .before .before .before .before .before .before .feed in
+    let i = l .inv in
+    let z = r .kept .1 .1 .0 ∙ i .1 in
+    let y : c .before .before .before .wide .result ≡ f .result .filled = omega (arith, c .before .before .before .wide .ensures, c .before .before .before .before .write-out .ensures, part-length 0 (f .result .filled - 0) (f .last .1 .1 .1 .1 .1 .1 .1 .1 .1 .1 .1 .0) (omega (arith, f .ensures .0 .ends, f .kept .1 .1 .1 .1 .1 .1 .1 .1 .1 .1 .1 .0))) in
+    let t = rw (i .8, i .9) at (f .ensures .0) in
+    let p = rw z at (f .ensures .1) in
+    let u = rw (c .before .before .wide2 .ensures, f .kept .1 .1 .0 ∙ z, f .kept .1 .1 .1 .1 .1 .1 .1 .1 .1 .1 .1 .0 ∙ i .10) at (c .before .is-full .ensures) in
+    going-less _ _ _ _ _ (l .at) _ (l .buf) _ (l .given) (l .written) (l .why) (i .0) (c .before .before .before .before .before .before .before .before .before .before .before .before .before .before .before .before .before .before .before .before .before .before .before .before .before .before .before .before .before .before .before .before .before .before .before .before .before .before .before .before .before .before .before .before .loop-test .taken) z _ (r .ensures .0) (omega (arith, r .ensures .1, i .1)) (r .ensures .3) _ _ _ _ _ t p (f .kept .1 .1 .0 ∙ z) _ refl _ y _ refl _ u _ (reason-says _ _ _ _ (c .reason .ensures))
 
 loop-again : tie.Need-loop-again Inv-loop μ-loop
 loop-again c =
-    let l = c .before .before .before .before .before .before .before .before .before .before .before .before .before .before .before .before .before .before .before .before .before .before .before .before .before .before .before .before .before .before .before .before .before .before .before .before in
-    let i = l .loop .inv in
-    let s = l .before .before .before .before .before .before .before .before .before .before .before .before in
-    let r = c .before .before .before .before .before .before .before .before .before .before .before .before .before .before .before .before .before .before .before .before .before .before .before .before .run-lines in
-    let left = ran-left _ _ _ _ _ (r .ensures .0) (i .2) in
-    let k = r .kept .1 .1 .1 in (
-      omega (arith, left .counted, i .0),
-      omega (arith, rest-length (s .args .list .now) (l .loop .from), left .most, i .1),
-      left .pool,
-      k .0 ∙ i .3,
-      k .1 .0 ∙ i .4,
-      k .1 .1 .0 ∙ i .5,
-      k .1 .1 .1 .0 ∙ i .6,
-      k .1 .1 .1 .1 .0 ∙ i .7,
-      k .1 .1 .1 .1 .1 .0 ∙ i .8,
-      k .1 .1 .1 .1 .1 .1 .0 ∙ i .9,
-      k .1 .1 .1 .1 .1 .1 .1 .0 ∙ i .10,
-      k .1 .1 .1 .1 .1 .1 .1 .1 .0 ∙ i .11,
+    let l = c .before .before .before .before .before .before .before .before .before .before .before .before .before .before .before .before .before .before .before .before .before .before .before .before .before .before .before .before .before .before .before .before .before .before .before .before .before .before .before .before .before .before .before .before .before .loop in
+    let r = c .before .before .before .before .before .before .before .before .before .before .before .before .before .before .before .before .before .before .before .before .before .before .before .before .before .before .before .before .before .before .before .before .before .before .before .before .before .before .before .before .before .before .next-part in
+    let f = c .before .before .before .before .before .before .before .before .before .before .before .before .before .before .before .before .before .before .before .before .before .before .before .before .before .before .before .feed in
+    let i = l .inv in
+    let z = r .kept .1 .1 .0 ∙ i .1 in
+    let y : c .before .before .before .wide .result ≡ f .result .filled = omega (arith, c .before .before .before .wide .ensures, c .before .before .before .before .write-out .ensures, part-length 0 (f .result .filled - 0) (f .last .1 .1 .1 .1 .1 .1 .1 .1 .1 .1 .1 .0) (omega (arith, f .ensures .0 .ends, f .kept .1 .1 .1 .1 .1 .1 .1 .1 .1 .1 .1 .0))) in
+    let t = rw (i .8, i .9) at (f .ensures .0) in
+    let p = rw z at (f .ensures .1) in
+    let u = rw (c .before .before .wide2 .ensures, f .kept .1 .1 .0 ∙ z, f .kept .1 .1 .1 .1 .1 .1 .1 .1 .1 .1 .1 .0 ∙ i .10) at (c .before .is-full .ensures) in (
+      going-next _ _ _ _ _ (l .at) _ (l .buf) _ (l .given) (l .written) (l .why) (i .0) (c .before .before .before .before .before .before .before .before .before .before .before .before .before .before .before .before .before .before .before .before .before .before .before .before .before .before .before .before .before .before .before .before .before .before .before .before .before .before .before .before .before .before .before .before .loop-test .taken) z _ (r .ensures .0) (omega (arith, r .ensures .1, i .1)) (r .ensures .3) _ _ _ _ _ t p (f .kept .1 .1 .0 ∙ z) _ refl _ y _ refl _ u _ (reason-says _ _ _ _ (c .reason .ensures)),
+      f .kept .1 .1 .0 ∙ z,
+      f .kept .1 .1 .1 .0 ∙ i .2,
+      f .kept .1 .1 .1 .1 .0 ∙ i .3,
+      f .kept .1 .1 .1 .1 .1 .0 ∙ i .4,
+      f .kept .1 .1 .1 .1 .1 .1 .0 ∙ i .5,
+      f .kept .1 .1 .1 .1 .1 .1 .1 .0 ∙ i .6,
+      f .kept .1 .1 .1 .1 .1 .1 .1 .1 .0 ∙ i .7,
+      f .kept .1 .1 .1 .1 .1 .1 .1 .1 .1 .0 ∙ i .8,
+      f .kept .1 .1 .1 .1 .1 .1 .1 .1 .1 .1 .0 ∙ i .9,
+      f .kept .1 .1 .1 .1 .1 .1 .1 .1 .1 .1 .1 .0 ∙ i .10,
+      omega (arith, r .ensures .2, r .ensures .0, i .11),
     )
 
 same-length : tie.Need-same-length Inv-loop μ-loop
-same-length c = search needs
+same-length c = c .before .loop .inv .1
 
 same-length-2 : tie.Need-same-length-2 Inv-loop μ-loop
-same-length-2 c = search needs
+same-length-2 c = c .before .loop .inv .2
 
 same-length-3 : tie.Need-same-length-3 Inv-loop μ-loop
-same-length-3 c = search needs
+same-length-3 c = c .before .loop .inv .3
 
 same-length-4 : tie.Need-same-length-4 Inv-loop μ-loop
-same-length-4 c = search needs
+same-length-4 c = c .before .loop .inv .4
 
 same-length-5 : tie.Need-same-length-5 Inv-loop μ-loop
-same-length-5 c = search needs
+same-length-5 c = c .before .loop .inv .5
 
 same-length-6 : tie.Need-same-length-6 Inv-loop μ-loop
-same-length-6 c = search needs
+same-length-6 c = c .before .loop .inv .6
 
 same-length-7 : tie.Need-same-length-7 Inv-loop μ-loop
-same-length-7 c = search needs
+same-length-7 c = c .before .loop .inv .7
 
 same-length-8 : tie.Need-same-length-8 Inv-loop μ-loop
-same-length-8 c = search needs
+same-length-8 c = c .before .loop .inv .8
 
 same-length-9 : tie.Need-same-length-9 Inv-loop μ-loop
-same-length-9 c = search needs
+same-length-9 c = c .before .loop .inv .9
+
+same-length-10 : tie.Need-same-length-10 Inv-loop μ-loop
+same-length-10 c = c .before .loop .inv .10
 
 returns : tie.Need-returns Inv-loop μ-loop
 returns c = search needs
@@ -120,15 +185,23 @@ run-list-spec =
     (tie.spec
     Inv-loop
     μ-loop
-    fresh-requires
+    begin-requires
     loop-holds
-    sub-run-lines
-    part-run-lines-start
-    part-run-lines-end
-    run-lines-requires
+    next-part-requires
+    add-came
+    sub-came
+    sub-given
+    add-given
+    feed-requires
+    sub-write-out
+    part-write-out-start
+    part-write-out-end
     write-out-requires
-    add-from
-    turns-left-requires
+    wide-requires
+    add-written
+    wide-requires-2
+    is-full-requires
+    reason-requires
     loop-less
     loop-again
     same-length
@@ -140,4 +213,5 @@ run-list-spec =
     same-length-7
     same-length-8
     same-length-9
+    same-length-10
     returns)

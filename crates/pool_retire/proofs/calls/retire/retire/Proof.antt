@@ -1,4 +1,4 @@
--- `retire` meets its contract: refused, or queued behind the others. Assumes nothing.
+-- `retire` meets its contract: refused, or queued after the others. Assumes nothing.
 use borrow.Author.Needs.{needs}
 use native.Mathlib.Omega.{arith}
 use Rattle.pool_memory.specs.Lent.{lent}

@@ -1,4 +1,4 @@
--- `copy_views` meets its contract: three columns, one behind the other. Assumes nothing.
+-- `copy_views` meets its contract: three columns, one after the other. Assumes nothing.
 use Rattle.pool_take_doomed.proofs.Columns.{views-copied}
 use borrow.Author.Needs.{needs}
 use Rattle.pool_take_doomed.proofs.calls.drain_versions.copy_views.Statement.{statement}

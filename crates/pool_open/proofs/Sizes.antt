@@ -1,0 +1,34 @@
+-- The sizes are the lengths' alone, and decide what `open` says. Assumes nothing.
+use Prim.Native.Nat.{ℕ, _<_}
+use mathlib.Core.Path.{_≡_, refl, sym, ap}
+use mathlib.Core.Bool.{Bool, true, false, cond}
+use native.Mathlib.Omega.{arith}
+use borrow.Author.Tests.{leb-true}
+use lib.ListN.{length}
+use Rattle.base_blocks.specs.Lists.{tests, after}
+use Rattle.base_blocks.proofs.Lists.{passed, not-passed}
+use Rattle.pool_rules.specs.RuleConstants.{mostPlaces}
+use Rattle.pool_rules.specs.Open.{arePlaces}
+use Rattle.pool_memory.specs.Lent.{Lent, versionPlaces}
+use Rattle.pool_memory.specs.Reading.{modelOf}
+use Rattle.pool_memory.specs.IsPool.{sizesFit}
+use Rattle.pool_memory.specs.Calls.{openNumber}
+use Rattle.pool_open.specs.Lengths.{lengthsFit}
+
+pub sizes-lengths : (l : Lent) → sizesFit l
+    ≡ lengthsFit (length (l .textures)) (length (l .retiring)) (length (l .doomed)) (length (l .spares)) (length (l .newest)) (length (l .stamps))
+unfolding sizesFit lengthsFit arePlaces modelOf versionPlaces tests after
+sizes-lengths l = refl
+
+pub too-many-pages : (textures retiring doomed spares newest stamps : ℕ) → mostPlaces < newest → lengthsFit textures retiring doomed spares newest stamps ≡ false
+unfolding lengthsFit
+too-many-pages textures retiring doomed spares newest stamps h =
+    not-passed _ (λ p. let q = leb-true newest mostPlaces (passed _ p 4) in let y : ⊥ = omega (arith, h, q) in y)
+
+pub opened : (l : Lent) → sizesFit l ≡ true → 0 ≡ openNumber l
+unfolding openNumber
+opened l e = sym (ap (λ (b : Bool). cond b 0 1) e)
+
+pub not-opened : (l : Lent) → sizesFit l ≡ false → 1 ≡ openNumber l
+unfolding openNumber
+not-opened l e = sym (ap (λ (b : Bool). cond b 0 1) e)

@@ -1,0 +1,64 @@
+// The sizes of the lent slices.
+ghost use mathlib.Core.Path.{_≡_};
+ghost use Rattle.pool_memory.specs.declared.pool.Pool.{Pool};
+ghost use Rattle.pool_memory.specs.declared.book.PacingBook.{PacingBook};
+ghost use Rattle.pool_memory.specs.Lent.{atEntry};
+ghost use Rattle.pool_memory.specs.IsPool.{sizesFit};
+ghost use Rattle.pool_open.specs.Lengths.{lengthsFit};
+use grid_stamps::PAGE_STAMPS;
+use pool_records::DOOMED_STRIDE;
+use pool_records::RETIRING_STRIDE;
+use pool_records::SPARE_STRIDE;
+use pool_records::TEXTURE_STRIDE;
+use pool_rules::MOST_PLACES;
+
+// Tests that the slices are of whole places, as many as may be lent, and fit together. The pages are tested first, so that the number of
+// their stamps cannot pass a word.
+fn lengths_fit(
+    textures: usize,
+    retiring: usize,
+    doomed: usize,
+    spares: usize,
+    newest: usize,
+    stamps: usize,
+) -> bool
+    ensures { λ r. ⌜ r ≡ lengthsFit textures retiring doomed spares newest stamps ⌝ }
+{
+    if newest > MOST_PLACES {
+        return false;
+    }
+    let places = textures / TEXTURE_STRIDE;
+    let versions = retiring / RETIRING_STRIDE;
+    (1 <= places)
+        & (places <= MOST_PLACES)
+        & (1 <= versions)
+        & (versions <= MOST_PLACES)
+        & (newest <= MOST_PLACES)
+        & (textures == TEXTURE_STRIDE * places)
+        & (retiring == RETIRING_STRIDE * versions)
+        & (doomed == DOOMED_STRIDE * versions)
+        & (spares == SPARE_STRIDE * versions)
+        & (stamps == PAGE_STAMPS * newest)
+}
+
+// Tests that the lent slices have the sizes that a pool needs, whatever its counts are.
+pub fn sizes_fit(
+    textures: &[u64],
+    retiring: &[u64],
+    doomed: &[u64],
+    spares: &[u64],
+    newest: &[u64],
+    stamps: &[u64],
+) -> bool
+    ensures { λ r. ⌜ ((pool : Pool) (book : PacingBook)
+        → r ≡ sizesFit (atEntry pool book textures retiring doomed spares newest stamps)) ⌝ }
+{
+    lengths_fit(
+        textures.len(),
+        retiring.len(),
+        doomed.len(),
+        spares.len(),
+        newest.len(),
+        stamps.len(),
+    )
+}
