@@ -76,36 +76,49 @@ fn source_files() -> Result<[PathBuf; 2], String> {
     ))
 }
 
-/// texture_versions.rs with ordered maps and sets, our stand-ins for its crates, and our looks inside.
+/// The maps and sets in order of id, as document 01 has them.
+const ORDERED: [(&str, &str); 3] = [
+    (
+        "use std::collections::{BTreeSet, VecDeque, hash_map::Entry};",
+        "use std::collections::{BTreeSet, VecDeque, btree_map::Entry};",
+    ),
+    (
+        "use rustc_hash::{FxHashMap, FxHashSet};",
+        "use std::collections::{BTreeMap as FxHashMap, BTreeSet as FxHashSet};",
+    ),
+    // An ordered set has no `drain`; taking it whole and going through it is the same in order of id.
+    (
+        "for id in self.with_spares.drain() {",
+        "for id in std::mem::take(&mut self.with_spares) {",
+    ),
+];
+
+/// The published hash maps and sets, for measurements: their order of ids is no answer.
+const HASHED: [(&str, &str); 1] = [(
+    "use rustc_hash::{FxHashMap, FxHashSet};",
+    "use crate::hashing::{FxHashMap, FxHashSet};",
+)];
+
+/// texture_versions.rs with ordered maps and sets (or with its own, under the feature `hash_maps`), our stand-ins for its crates,
+/// and our looks inside.
 fn changed_versions(source: &str, own: &Path) -> Result<String, String> {
     let ours = module("inspect", &own.join("inspect.rs")) + &module("laws", &own.join("laws.rs"));
-    let changes: [(&str, &str); 6] = [
-        (
-            "use std::collections::{BTreeSet, VecDeque, hash_map::Entry};",
-            "use std::collections::{BTreeSet, VecDeque, btree_map::Entry};",
-        ),
+    let hashed = env::var_os("CARGO_FEATURE_HASH_MAPS").is_some();
+    let maps: &[(&str, &str)] = if hashed { &HASHED } else { &ORDERED };
+    let others: [(&str, &str); 3] = [
         // The macros are called by their path, so the crate's name has to stand for our module.
         (
             "use mtld3d_shared::{",
             "use crate::standins as mtld3d_shared;\nuse crate::standins::{",
         ),
         (
-            "use rustc_hash::{FxHashMap, FxHashSet};",
-            "use std::collections::{BTreeMap as FxHashMap, BTreeSet as FxHashSet};",
-        ),
-        (
             "use crate::{format::FormatMapping, ids::TextureId};",
             "use crate::{format::FormatMapping, standins::TextureId};",
-        ),
-        // An ordered set has no `drain`; taking it whole and going through it is the same in order of id.
-        (
-            "for id in self.with_spares.drain() {",
-            "for id in std::mem::take(&mut self.with_spares) {",
         ),
         ("#[cfg(test)]\nmod tests;", &ours),
     ];
     let mut text = source.to_string();
-    for (old, new) in changes {
+    for &(old, new) in maps.iter().chain(&others) {
         at_once(source, old)?;
         text = text.replacen(old, new, 1);
     }

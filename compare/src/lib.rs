@@ -8,6 +8,8 @@
 pub mod books;
 pub mod coverage;
 pub mod event;
+#[cfg(feature = "hash_maps")]
+pub mod hashing;
 pub mod leaf;
 pub mod limited;
 pub mod lines;

@@ -1,169 +1,145 @@
-//! The workload of crates/bench_calls over the published Rust: `calls TEXTURES ROUNDS`.
+//! The workloads of crates/bench_calls over the published Rust: `calls WORKLOAD ORDER TEXTURES ROUNDS`.
 //!
 //! The phases, the ids, the rectangles and the clock are those of the Rattle program, so that the two are compared line by line.
 
 use std::env;
+use std::hint::black_box;
 
-use compare::shape::RawShape;
-use compare::standins::TextureId;
+use bench::{bench_desc, clock, ids_of, rect_of, shuffle};
+use compare::standins::{TextureCreateDesc, TextureId};
 use compare::texture_versions::inspect;
-use compare::texture_versions::{
-    TexelRect, TextureVersions, UploadFootprint, VersionBudget, VersionShape,
-};
+use compare::texture_versions::{TextureVersions, UploadFootprint, VersionBudget, VersionShape};
 
-unsafe extern "C" {
-    /// The processor time of the process, in microseconds.
-    safe fn clock() -> i64;
-}
+/// The phases of a round by their numbers in crates/bench_calls/src/phases.rt: phase by phase, by textures, by lifetimes,
+/// and by textures without the calls that are for none.
+const WORKLOADS: [&[usize]; 4] = [
+    &[0, 1, 2, 3, 13, 6, 7, 8],
+    &[12, 13, 6, 7, 8],
+    &[0, 2, 9, 13, 10, 11],
+    &[12, 13],
+];
 
-/// Calls of the last kinds a round.
+/// Calls a round of the kinds that are for no texture.
 const REPEATS: u64 = 8;
 
-fn id_of(i: u64) -> TextureId {
-    TextureId::from_raw(i % 65_536 * 40_503 % 65_536)
+/// Rounds after which every texture is forgotten.
+const LIFETIME: u64 = 16;
+
+struct Work {
+    pool: TextureVersions<u64>,
+    desc: TextureCreateDesc,
+    shape: VersionShape,
+    ids: Vec<TextureId>,
+    held: Vec<Option<u64>>,
 }
 
-/// As crates/bench_calls has it: small textures, or such whose tiles fill a page where their number is odd.
-fn bench_shape(n: u64) -> VersionShape {
-    let (format, extent) = if n % 2 == 1 { (0, 512) } else { (2, 64) };
-    let raw = RawShape {
-        format,
-        width: extent,
-        height: extent,
-        depth: 1,
-        levels: 1,
-        kind: 0,
-    };
-    VersionShape::of(&raw.desc().expect("a shape"))
-}
-
-fn rect_of(i: u64, seq: u64) -> TexelRect {
-    let (a, b) = (i % 65_536, seq % 65_536);
-    TexelRect::new(
-        ((13 * a + 7 * b) % 54) as u32,
-        ((5 * a + 11 * b) % 54) as u32,
-        10,
-        10,
-    )
-}
-
-#[derive(Default)]
-struct Totals {
-    take: i64,
-    plan: i64,
-    retire: i64,
-    write: i64,
-    settle: i64,
-    timed: i64,
-    pops: i64,
-    note: i64,
-    doomed: i64,
-    trim: i64,
-    copies: u64,
-}
-
-/// Adds to `total` what `phase` took.
-fn timed(total: &mut i64, phase: impl FnOnce()) {
-    let start = clock();
-    phase();
-    *total += clock() - start;
-}
-
-fn main() {
-    let numbers: Vec<u64> = env::args()
-        .skip(1)
-        .map(|a| a.parse().expect("a number"))
-        .collect();
-    let [n, rounds] = numbers[..] else {
-        panic!("calls TEXTURES ROUNDS")
-    };
-    let mut pool: TextureVersions<u64> =
-        TextureVersions::new(VersionBudget::from_working_set(17_179_869_184));
-    let mut held: Vec<Option<u64>> = vec![None; n as usize];
-    let mut t = Totals::default();
-    for seq in 1..=rounds {
-        if seq <= 8 {
-            t = Totals::default();
+impl Work {
+    fn new(n: u64, levels: u32, order: u64) -> Self {
+        let desc = bench_desc(n, levels);
+        Self {
+            pool: TextureVersions::new(VersionBudget::from_working_set(17_179_869_184)),
+            shape: VersionShape::of(&desc),
+            desc,
+            ids: ids_of(n, order),
+            held: vec![None; n as usize],
         }
-        round(&mut pool, &mut held, n, seq, &mut t);
     }
-    report(&t, &pool, n, rounds);
-}
 
-fn round(
-    pool: &mut TextureVersions<u64>,
-    held: &mut [Option<u64>],
-    n: u64,
-    seq: u64,
-    t: &mut Totals,
-) {
-    let shape = bench_shape(n);
-    timed(&mut t.take, || {
-        for i in 0..n {
-            let spare = pool.take_spare(id_of(i), bench_shape(n), true, seq);
-            held[i as usize] = spare.and_then(|s| s.into_parts().1);
+    /// The sum of what the phase's calls answer, as the Rattle program counts it.
+    fn phase(&mut self, phase: usize, seq: u64) -> u64 {
+        let n = self.ids.len();
+        match phase {
+            0 => (0..n).map(|i| self.take(i, seq)).sum(),
+            1 => (0..n).map(|i| self.plan(i)).sum(),
+            2 => (0..n).map(|i| self.retire(i, seq)).sum(),
+            3 => (0..n).map(|i| self.write(i, seq)).sum(),
+            6 => {
+                for _ in 0..REPEATS {
+                    self.pool.note_allocated(black_box(1_048_576));
+                }
+                0
+            }
+            7 => (0..REPEATS)
+                .map(|_| black_box(self.pool.take_doomed()).len() as u64)
+                .sum(),
+            8 => {
+                for _ in 0..REPEATS {
+                    self.pool.trim(seq);
+                }
+                0
+            }
+            9 => {
+                for id in &self.ids {
+                    self.pool.note_mip_regeneration(*id);
+                }
+                0
+            }
+            10 => black_box(self.pool.drain_versions()).len() as u64,
+            11 => {
+                if seq % LIFETIME == 0 {
+                    for id in &self.ids {
+                        self.pool.forget_texture(*id);
+                    }
+                }
+                0
+            }
+            12 => (0..n)
+                .map(|i| {
+                    self.take(i, seq) + self.plan(i) + self.retire(i, seq) + self.write(i, seq)
+                })
+                .sum(),
+            _ => (0..n).map(|_| self.settle(seq)).sum(),
         }
-    });
-    timed(&mut t.plan, || {
+    }
+
+    fn take(&mut self, i: usize, seq: u64) -> u64 {
+        let shape = VersionShape::of(&self.desc);
+        let spare = self.pool.take_spare(self.ids[i], shape, true, seq);
+        let held = spare.and_then(|s| s.into_parts().1);
+        self.held[i] = held;
+        held.map_or(0, |writes| writes + 1)
+    }
+
+    fn plan(&mut self, i: usize) -> u64 {
         let upload = UploadFootprint::new(0, 0, false);
-        for i in 0..n {
-            let plan = pool.preserve_plan(id_of(i), &shape, held[i as usize], &upload);
-            t.copies += plan.len() as u64;
-        }
-    });
-    timed(&mut t.retire, || {
-        for i in 0..n {
-            pool.retire(id_of(i), seq, seq);
-        }
-    });
-    timed(&mut t.write, || {
-        for i in 0..n {
-            pool.note_write(id_of(i), 0, 0, &rect_of(i, seq));
-        }
-    });
-    settle(pool, n, seq, t);
-    timed(&mut t.note, || {
-        for _ in 0..REPEATS {
-            pool.note_allocated(1_048_576);
-        }
-    });
-    timed(&mut t.doomed, || {
-        for _ in 0..REPEATS {
-            std::hint::black_box(pool.take_doomed());
-        }
-    });
-    timed(&mut t.trim, || {
-        for _ in 0..REPEATS {
-            pool.trim(seq);
-        }
-    });
+        let plan = self
+            .pool
+            .preserve_plan(self.ids[i], &self.shape, self.held[i], &upload);
+        black_box(plan).len() as u64
+    }
+
+    fn retire(&mut self, i: usize, seq: u64) -> u64 {
+        self.pool.retire(self.ids[i], seq, seq);
+        0
+    }
+
+    fn write(&mut self, i: usize, seq: u64) -> u64 {
+        self.pool
+            .note_write(self.ids[i], 0, 0, &rect_of(i as u64, seq));
+        0
+    }
+
+    fn settle(&mut self, seq: u64) -> u64 {
+        let Some(version) = self.pool.pop_retired(seq) else {
+            return 0;
+        };
+        let view = *version.views();
+        self.pool.park(version, 0, seq);
+        view
+    }
 }
 
-/// Every second round has its pops timed one by one.
-fn settle(pool: &mut TextureVersions<u64>, n: u64, seq: u64, t: &mut Totals) {
-    let apart = seq % 2 == 0;
-    let mut pops = 0;
-    let start = clock();
-    for _ in 0..n {
-        let popped = if apart {
-            let before = clock();
-            let popped = pool.pop_retired(seq);
-            pops += clock() - before;
-            popped
-        } else {
-            pool.pop_retired(seq)
-        };
-        if let Some(version) = popped {
-            pool.park(version, 0, seq);
+/// Whether the time counts. The first rounds do not, nor the first lifetime; of a lifetime's takes only those of textures that are not tracked.
+fn is_counted(workload: u64, phase: usize, seq: u64) -> bool {
+    if workload != 2 {
+        return seq >= 8;
+    }
+    seq > LIFETIME
+        && match phase {
+            0 => seq % LIFETIME == 1,
+            11 => seq % LIFETIME == 0,
+            _ => true,
         }
-    }
-    let whole = clock() - start;
-    if apart {
-        t.timed += whole;
-        t.pops += pops;
-    } else {
-        t.settle += whole;
-    }
 }
 
 /// So many readings of the clock, one right after the other: what reading it costs.
@@ -171,25 +147,37 @@ fn idle_time(readings: u64) -> i64 {
     (0..readings).map(|_| -clock() + clock()).sum()
 }
 
-fn report(t: &Totals, pool: &TextureVersions<u64>, n: u64, rounds: u64) {
-    println!("textures {n}");
-    println!("rounds {rounds}");
-    println!("clock {}", idle_time(100_000));
-    for (name, time) in [
-        ("take_spare", t.take),
-        ("preserve_plan", t.plan),
-        ("retire", t.retire),
-        ("note_write", t.write),
-        ("settle", t.settle),
-        ("settle_timed", t.timed),
-        ("pops", t.pops),
-        ("note_allocated", t.note),
-        ("take_doomed", t.doomed),
-        ("trim", t.trim),
-    ] {
-        println!("{name} {time}");
+fn main() {
+    let numbers: Vec<u64> = env::args()
+        .skip(1)
+        .map(|a| a.parse().expect("a number"))
+        .collect();
+    let [workload, order, n, rounds] = numbers[..] else {
+        panic!("calls WORKLOAD ORDER TEXTURES ROUNDS")
+    };
+    let levels = if workload == 2 && n <= 1024 { 4 } else { 1 };
+    let mut work = Work::new(n, levels, order);
+    let (mut times, mut sums) = ([0; 14], [0u64; 14]);
+    for seq in 1..=rounds {
+        if order != 0 {
+            shuffle(&mut work.ids, seq);
+        }
+        for &phase in WORKLOADS[workload as usize] {
+            let start = clock();
+            sums[phase] += work.phase(phase, seq);
+            let time = clock() - start;
+            if is_counted(workload, phase, seq) {
+                times[phase] += time;
+            }
+        }
     }
-    println!("copies {}", t.copies);
-    println!("versions {}", inspect::versions(pool));
-    println!("trackings {}", inspect::trackings(pool));
+    println!("clock {}", idle_time(100_000));
+    for (phase, (time, sum)) in times.iter().zip(sums).enumerate() {
+        println!("{phase} {time} {sum}");
+    }
+    println!("versions {}", inspect::versions(&work.pool));
+    println!("pages {}", inspect::pages_used(&work.pool));
+    println!("tracked {}", inspect::tracked(&work.pool));
+    println!("trackings {}", inspect::trackings(&work.pool));
+    println!("id {}", work.ids[0].raw());
 }

@@ -1,13 +1,25 @@
-// Times each kind of call of the pool, on memory that forms one: TEXTURES ROUNDS [VERSIONS PAGES]. bench/README.md says how it is used.
+// Times the calls of the pool, on memory that forms one: WORKLOAD ORDER TEXTURES ROUNDS [VERSIONS PAGES]. bench/README.md says how it is used.
+mod answered;
+mod arguments;
+mod asked;
+mod call_all;
+mod call_one;
+mod clock;
+mod notes;
+mod opening;
+mod phases;
+mod printing;
 mod report;
-mod rounds;
+mod room;
 mod run;
+mod testing;
 mod totals;
 
-use bench_work::argument;
+use arguments::argument;
+use phases::Task;
 
 // Runs the rounds on memory for as many places as may be lent.
-fn bench(t: usize, v: usize, p: usize, rounds: u64) {
+fn bench(t: usize, v: usize, p: usize, task: Task) {
     if t > 4096 {
         return;
     }
@@ -17,13 +29,13 @@ fn bench(t: usize, v: usize, p: usize, rounds: u64) {
     if p > 4096 {
         return;
     }
-    let mut textures = bench_work::texture_places();
-    let mut retiring = bench_work::retiring_places();
-    let mut doomed = bench_work::doomed_places();
-    let mut spares = bench_work::spare_places();
-    let mut newest = bench_work::numbers();
-    let mut stamps = bench_work::stamp_places();
-    let mut held = bench_work::numbers();
+    let mut textures = room::texture_places();
+    let mut retiring = room::retiring_places();
+    let mut doomed = room::doomed_places();
+    let mut spares = room::spare_places();
+    let mut newest = room::page_places();
+    let mut stamps = room::stamp_places();
+    let mut notes = room::note_places();
     run::run_part(
         &mut textures,
         &mut retiring,
@@ -31,25 +43,52 @@ fn bench(t: usize, v: usize, p: usize, rounds: u64) {
         &mut spares,
         &mut newest,
         &mut stamps,
-        &mut held,
+        &mut notes,
         t,
         v,
         p,
-        rounds,
+        task,
     );
 }
 
-// Takes two arguments, for as many versions and pages as textures, or four.
+// Returns the levels of a texture: four in lifetimes where the pages are enough, else one.
+fn levels_of(workload: u64, t: usize) -> u64 {
+    if workload != 2 {
+        return 1;
+    }
+    if t > 1024 {
+        return 1;
+    }
+    4
+}
+
+// Returns as many pages as all levels need.
+fn pages_of(levels: u64, t: usize) -> usize {
+    if levels == 1 {
+        return t;
+    }
+    4 * (t % 65536)
+}
+
+// Takes four arguments, for as many versions as textures and the pages that they need, or six.
 fn main() {
     let n = os::arg_count();
-    if n < 3 {
-        return;
-    }
-    let t = argument(1) as usize;
-    let rounds = argument(2);
     if n < 5 {
-        bench(t, t, t, rounds);
         return;
     }
-    bench(t, argument(3) as usize, argument(4) as usize, rounds);
+    let workload = argument(1);
+    let t = argument(3) as usize;
+    let levels = levels_of(workload, t);
+    let task = Task {
+        workload,
+        order: argument(2),
+        textures: t,
+        levels,
+        rounds: argument(4),
+    };
+    if n < 7 {
+        bench(t, t, pages_of(levels, t), task);
+        return;
+    }
+    bench(t, argument(5) as usize, argument(6) as usize, task);
 }

@@ -4,7 +4,7 @@ use mathlib.Core.Path.{sym}
 use Prim.Native.Nat.{_*_}
 use native.Mathlib.Omega.{arith}
 use lib.Seq.{length-take-le}
-use Rattle.bench_work.proofs.Parts.{cut-long}
+use Rattle.bench_calls.proofs.Parts.{cut-long}
 use Rattle.bench_calls.proofs.run.run_part.Statement.{statement}
 use Rattle.bench_calls.proofs.run.run_part.Tie as tie
 use Rattle.grid_stamps.specs.StampConstants.{pageStamps}

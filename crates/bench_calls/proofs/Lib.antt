@@ -1,0 +1,3 @@
+mod Keeps
+mod Opened
+mod Parts

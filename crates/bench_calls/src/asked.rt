@@ -1,0 +1,42 @@
+// What the calls are asked: flat textures that record their writes.
+use grid_rects::TexelRect;
+use grid_shapes::VersionShape;
+
+// Returns the shape of a flat square texture.
+fn square(format: u64, extent: u64, levels: u64) -> VersionShape {
+    VersionShape {
+        format,
+        width: extent,
+        height: extent,
+        depth: 1,
+        levels,
+        kind: 0,
+        storage: 0,
+        usage: 0,
+        red: 0,
+        green: 0,
+        blue: 0,
+        alpha: 0,
+    }
+}
+
+// Returns the shape of n textures: 64 by 64 texels of four bytes, sixteen tiles; where n is odd, 512 by 512 of one byte, whose
+// tiles fill a page.
+pub fn bench_shape(n: usize, levels: u64) -> VersionShape {
+    if n % 2 == 1 {
+        return square(0, 512, levels);
+    }
+    square(2, 64, levels)
+}
+
+// Returns ten by ten texels, at another place for each texture and in each round.
+pub fn rect_of(i: usize, seq: u64) -> TexelRect {
+    let a = (i % 65536) as u64;
+    let b = seq % 65536;
+    TexelRect {
+        x: (13 * a + 7 * b) % 54,
+        y: (5 * a + 11 * b) % 54,
+        width: 10,
+        height: 10,
+    }
+}

@@ -1,3 +1,0 @@
-pub mod Keeps
-mod Opened
-pub mod Parts
