@@ -1,7 +1,10 @@
 // What a call answers, as the answer of a line.
+use crate::called::Called;
 use event_answers::Answer;
+use pool_note_allocated::NotedAnswer;
 use pool_preserve_plan::PlanAnswer;
 use pool_retire::Popped;
+use pool_take_doomed::DrainAnswer;
 use pool_take_doomed::Handed;
 use pool_take_spare::Taken;
 
@@ -40,9 +43,26 @@ pub fn answer_popped(popped: Popped) -> Answer {
 }
 
 // Returns the answer of take_doomed and of drain_versions.
-pub fn answer_handed(handed: Handed) -> Answer {
+fn answer_handed(handed: Handed) -> Answer {
     match handed {
         Handed::Views(n) => Answer::Views(n),
         Handed::Refused(n) => Answer::Refused(n),
     }
+}
+
+// Returns what take_doomed and drain_versions leave.
+pub fn say_handed(said: DrainAnswer) -> Called {
+    let pool = said.pool;
+    let book = said.book;
+    let handed = said.handed;
+    let answer = answer_handed(handed);
+    Called { pool, book, answer }
+}
+
+// Returns what note_allocated leaves.
+pub fn say_noted(said: NotedAnswer) -> Called {
+    let pool = said.pool;
+    let book = said.book;
+    let answer = answer_done(said.outcome);
+    Called { pool, book, answer }
 }

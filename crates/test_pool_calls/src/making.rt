@@ -1,4 +1,4 @@
-// The call of an opened session's event.
+// The call of an event.
 use crate::called::Called;
 use crate::calls::drain_versions::make_drain_versions;
 use crate::calls::forget_texture::make_forget_texture;
@@ -18,7 +18,8 @@ use grid_shapes::VersionShape;
 use pool_memory::PacingBook;
 use pool_memory::Pool;
 
-// Makes the event's call. A plan goes by the shape of the latest take line: without one it is no call. Nor is a second `open`.
+// Makes the event's call, with the pacing book lent if `lends`. A plan goes by the shape of the latest take line: without one it is no call. Nor is
+// `open`.
 pub fn make_event(
     pool: Pool,
     book: PacingBook,
@@ -31,6 +32,7 @@ pub fn make_event(
     copies: &mut [u64],
     views: &mut [u64],
     taken: bool,
+    lends: bool,
     shape: VersionShape,
     event: Event,
 ) -> Called {
@@ -165,6 +167,7 @@ pub fn make_event(
             newest,
             stamps,
             allocated,
+            lends,
         ),
         Event::Doomed => make_take_doomed(
             pool,
@@ -176,6 +179,7 @@ pub fn make_event(
             newest,
             stamps,
             views,
+            lends,
         ),
         Event::Drain => make_drain_versions(
             pool,
@@ -187,6 +191,7 @@ pub fn make_event(
             newest,
             stamps,
             views,
+            lends,
         ),
         Event::Trim(current) => make_trim(
             pool,

@@ -3,6 +3,7 @@ use crate::reply::Reply;
 use crate::session::Session;
 use crate::session::after_event;
 use crate::session::with_counts;
+use crate::session::with_lends;
 use crate::session::with_shape;
 use event_answers::Answer;
 use event_lines::Event;
@@ -96,6 +97,7 @@ fn answer_call(
         copies,
         views,
         session.taken == 1,
+        session.lends == 1,
         shape,
         event,
     );
@@ -234,6 +236,10 @@ pub fn answer_line(
                 event,
             )
         }
+        OwnLine::Lend => Answered {
+            session: with_lends(session),
+            reply: Reply::Silent,
+        },
         OwnLine::Shape(shape) => Answered {
             session: with_shape(session, shape),
             reply: Reply::Silent,

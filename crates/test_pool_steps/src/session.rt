@@ -112,6 +112,13 @@ pub fn with_shape(session: Session, shape: VersionShape) -> Session {
     next
 }
 
+// Returns the session in which the pacing book is lent.
+pub fn with_lends(session: Session) -> Session {
+    let mut next = session;
+    next.lends = 1;
+    next
+}
+
 // Returns the session after an event's call: a take's shape is noted, whatever the call said.
 pub fn after_event(session: Session, event: Event) -> Session {
     match event {

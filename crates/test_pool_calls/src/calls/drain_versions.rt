@@ -1,5 +1,5 @@
-// drain_versions, made on any memory.
-use crate::answers::answer_handed;
+// drain_versions, made on any memory, with the pacing book by value or lent.
+use crate::answers::say_handed;
 use crate::called::Called;
 use pool_memory::PacingBook;
 use pool_memory::Pool;
@@ -15,8 +15,22 @@ pub fn make_drain_versions(
     newest: &[u64],
     stamps: &[u64],
     views: &mut [u64],
+    lends: bool,
 ) -> Called {
-    let said = pool::drain_versions(
+    if lends {
+        return say_handed(test_pool_pacing::lend_drain_versions(
+            pool,
+            book,
+            textures,
+            retiring,
+            doomed,
+            spares,
+            newest,
+            stamps,
+            views,
+        ));
+    }
+    say_handed(pool::drain_versions(
         pool,
         book,
         textures,
@@ -26,10 +40,5 @@ pub fn make_drain_versions(
         newest,
         stamps,
         views,
-    );
-    let handed = said.handed;
-    let answer = answer_handed(handed);
-    let pool = said.pool;
-    let book = said.book;
-    Called { pool, book, answer }
+    ))
 }

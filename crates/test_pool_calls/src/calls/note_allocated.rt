@@ -1,5 +1,5 @@
-// note_allocated, made on any memory.
-use crate::answers::answer_done;
+// note_allocated, made on any memory, with the pacing book by value or lent.
+use crate::answers::say_noted;
 use crate::called::Called;
 use pool_memory::PacingBook;
 use pool_memory::Pool;
@@ -15,8 +15,22 @@ pub fn make_note_allocated(
     newest: &[u64],
     stamps: &[u64],
     allocated: u64,
+    lends: bool,
 ) -> Called {
-    let said = pool::note_allocated(
+    if lends {
+        return say_noted(test_pool_pacing::lend_note_allocated(
+            pool,
+            book,
+            textures,
+            retiring,
+            doomed,
+            spares,
+            newest,
+            stamps,
+            allocated,
+        ));
+    }
+    say_noted(pool::note_allocated(
         pool,
         book,
         textures,
@@ -26,9 +40,5 @@ pub fn make_note_allocated(
         newest,
         stamps,
         allocated,
-    );
-    let answer = answer_done(said.outcome);
-    let pool = said.pool;
-    let book = said.book;
-    Called { pool, book, answer }
+    ))
 }

@@ -1,5 +1,5 @@
-// take_doomed, made on any memory.
-use crate::answers::answer_handed;
+// take_doomed, made on any memory, with the pacing book by value or lent.
+use crate::answers::say_handed;
 use crate::called::Called;
 use pool_memory::PacingBook;
 use pool_memory::Pool;
@@ -15,8 +15,22 @@ pub fn make_take_doomed(
     newest: &[u64],
     stamps: &[u64],
     views: &mut [u64],
+    lends: bool,
 ) -> Called {
-    let said = pool::take_doomed(
+    if lends {
+        return say_handed(test_pool_pacing::lend_take_doomed(
+            pool,
+            book,
+            textures,
+            retiring,
+            doomed,
+            spares,
+            newest,
+            stamps,
+            views,
+        ));
+    }
+    say_handed(pool::take_doomed(
         pool,
         book,
         textures,
@@ -26,10 +40,5 @@ pub fn make_take_doomed(
         newest,
         stamps,
         views,
-    );
-    let handed = said.handed;
-    let answer = answer_handed(handed);
-    let pool = said.pool;
-    let book = said.book;
-    Called { pool, book, answer }
+    ))
 }
