@@ -1,7 +1,5 @@
 // Lists of lines for lent memory, run by the calls of the checked face: standard input has the lists, and standard output is held to
 // answers written from document 01 and to those of the published Rust. compare/store_pool.sh wrote both.
-mod lines;
-
 // What is lent at most: 64 textures, 2,000 versions, 64 pages, answers of 4,096 entries. The copy has room for all of it.
 fn main() {
     let mut textures = [0; 1280];
@@ -15,7 +13,7 @@ fn main() {
     let mut copy = [0; 131072];
     let mut input = [0; 2097152];
     let mut out = [0; 655360];
-    lines::run_all(
+    test_pool_lists::run_all(
         &mut input,
         &mut textures,
         &mut retiring,

@@ -1,5 +1,5 @@
-// The lines of standard input, list after list.
-ghost use Prim.Native.Nat.{_≤_};
+// Lines, list after list.
+ghost use Prim.Native.Nat.{_≤_, _<_};
 ghost use lib.ListN.{length};
 use event_text::find_byte;
 use libc::STDIN_FILENO;
@@ -143,6 +143,17 @@ fn line_end(input: &[u8], from: usize) -> usize
     find_byte(input, from, b'\n')
 }
 
+// Returns where the line after the one from `from` to `end` begins.
+fn next_line_from(input: &[u8], from: usize, end: usize) -> usize
+    requires { ⌜ (from < length (now input)) × (from ≤ end) × (end ≤ length (now input)) ⌝ }
+    ensures { λ r. ⌜ (from < r) × (r ≤ length (now (input .entry))) ⌝ }
+{
+    if end < input.len() {
+        return end + 1;
+    }
+    end
+}
+
 // Runs the lines of all lists.
 fn run_lines(
     input: &[u8],
@@ -163,6 +174,7 @@ fn run_lines(
     let mut from = 0;
     while from < input.len() {
         let end = line_end(input, from);
+        let next = next_line_from(input, from, end);
         session = run_line(
             &input[from..end],
             session,
@@ -177,7 +189,7 @@ fn run_lines(
             copy,
             out,
         );
-        from = end + 1;
+        from = next;
     }
 }
 
