@@ -25,11 +25,11 @@ numberOf (answer t) = 0
 
 module _ (l : Lent) (id slice level held : ℕ) where
   module _ (n : ℕ) where
-    number-by : (b : Bool) → cond b (IsTile l id slice level held (refusedWith n)) (refusedWith n ≡ refusedWith 1) → n ≡ 1
+    number-by : (b : Bool) → cond b (IsTile l id slice level held (refusedWith n)) (_≡_ {A = Told DirtyTile} (refusedWith n) (refusedWith 1)) → n ≡ 1
     number-by true q = absurd q
     number-by false q = ap numberOf q
 
-    no-pool-by : (b : Bool) → cond b (IsTile l id slice level held (refusedWith n)) (refusedWith n ≡ refusedWith 1) → b ≡ false
+    no-pool-by : (b : Bool) → cond b (IsTile l id slice level held (refusedWith n)) (_≡_ {A = Told DirtyTile} (refusedWith n) (refusedWith 1)) → b ≡ false
     no-pool-by true q = absurd q
     no-pool-by false q = refl
 
