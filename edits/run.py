@@ -94,16 +94,18 @@ def edited(path, crate_folder):
 
 def errors_of(log, crate_folder):
     """The prover's errors, each on one line, without line and column, so that an edit need not follow its file's lines."""
-    errors = []
+    errors, current = [], None
     for line in log.split('\n'):
-        begins = re.match(r'(\S+?):\d+:\d+: error: (.*)', line)
+        begins = re.match(r'(/\S+?):\d+:\d+: (.*)', line)
         if begins:
-            errors.append([begins.group(1).replace(crate_folder + '/', '') + ': ' + begins.group(2)])
-        elif line.startswith('  ') and errors:
-            errors[-1].append(line.strip())
-        elif errors:
-            errors.append([])
-    return [' '.join(parts) for parts in errors if parts]
+            file, said = begins.groups()
+            current = None if said.startswith('note: ') else [file.replace(crate_folder + '/', '') + ': ' + said.removeprefix('error: ')]
+            errors += [current] if current else []
+        elif line.startswith('  ') and current:
+            current.append(line.strip())
+        elif not line.startswith('  '):
+            current = None
+    return [' '.join(parts) for parts in errors]
 
 
 def judge(status, log, facts, crate_folder):
@@ -149,10 +151,7 @@ class Copy:
 
     def try_edit(self, crate, path):
         folder = '%s/crates/%s' % (self.folder, crate)
-        try:
-            texts, facts = edited(path, folder)
-        except Unfit as why:
-            return False, 'DOES NOT FIT: %s' % why
+        texts, facts = edited(path, folder)
         before = {file: open(folder + '/' + file).read() for file in texts}
         for file, text in texts.items():
             open(folder + '/' + file, 'w').write(text)
@@ -222,6 +221,16 @@ def try_all(edits):
             copy.end()
         copies.append(copy)
 
+    # What does not fit its file is said at once, before anything is proved.
+    for crate, name, path in edits:
+        try:
+            edited(path, '%s/crates/%s' % (root, crate))
+        except Unfit as why:
+            tell(crate, name, False, 'DOES NOT FIT: %s' % why, time.time())
+            by_crate[crate].remove((name, path))
+    by_crate = {crate: those for crate, those in by_crate.items() if those}
+    if not by_crate:
+        return outcomes
     with tempfile.TemporaryDirectory(prefix='edits-') as work:
         target = prove_below(work, by_crate)
         copies = [Copy('%s/%d' % (work, k), target) for k in range(min(2, len(by_crate)))]
