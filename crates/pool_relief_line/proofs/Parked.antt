@@ -17,12 +17,12 @@ use Rattle.base_blocks.proofs.Listed.{left, left-step, left-none, total-more, t
 use Rattle.base_tables.specs.Records.{recordAt}
 use Rattle.grid_shapes.specs.Shapes.{bytesOf}
 use Rattle.pool_records.specs.declared.texture.TextureRecord.{TextureRecord}
-use Rattle.pool_records.specs.Texture.{readTexture, textureIn}
+use Rattle.pool_records.specs.Texture.{readTexture, textureIn, recordSpares, recordBytes}
 use Rattle.pool_records.specs.Spare.{readSpare}
 use Rattle.pool_access.proofs.Fields.{spares-number}
 use Rattle.pool_rules.specs.Model.{limit}
 use Rattle.pool_relief_line.specs.Line.{countBefore, takenAt, gives, IsLine}
-use Rattle.pool_relief_line.specs.Parked.{parkedAt, parkings, bytesFrom, recordSpares, recordBytes}
+use Rattle.pool_relief_line.specs.Parked.{parkedAt, parkings, bytesFrom}
 use Rattle.pool_records.specs.RecordConstants.{spareParkedAt, spareStride, textureSparesAt, textureStride}
 
 -- a parking number is the third number of its record

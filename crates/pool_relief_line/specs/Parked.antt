@@ -8,7 +8,7 @@ use Rattle.base_blocks.specs.Lists.{listed, total}
 use Rattle.base_tables.specs.Records.{recordAt}
 use Rattle.grid_shapes.specs.Shapes.{isShape, bytesOf}
 use Rattle.pool_records.specs.declared.texture.TextureRecord.{TextureRecord}
-use Rattle.pool_records.specs.Texture.{textureIn, texturesIn}
+use Rattle.pool_records.specs.Texture.{textureIn, texturesIn, recordSpares, recordBytes}
 use Rattle.pool_records.specs.Spare.{readSpare}
 use Rattle.pool_relief_line.specs.Line.{countBefore}
 use Rattle.pool_records.specs.RecordConstants.{spareStride, textureStride}
@@ -27,13 +27,6 @@ unfoldable pub bytesFrom : List ℕ → ℕ → ℕ → List TextureRecord → �
 bytesFrom spares line from [] = 0
 bytesFrom spares line from (t ∷ ts) =
     bytesOf (t .shape) * countBefore line (parkings spares from (t .spares)) + bytesFrom spares line (from + t .spares) ts
-
-abbrev pub recordSpares : TextureRecord → ℕ
-recordSpares t = t .spares
-
--- bytes of a texture's spares, each its texture's
-abbrev pub recordBytes : TextureRecord → ℕ
-recordBytes t = bytesOf (t .shape) * t .spares
 
 -- the most bytes that all versions together can have: 2^56
 abbrev pub mostVersionBytes : ℕ

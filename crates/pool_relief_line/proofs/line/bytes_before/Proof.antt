@@ -9,8 +9,8 @@ use Rattle.base_blocks.proofs.Listed.{left}
 use Rattle.base_tables.specs.Records.{recordAt}
 use Rattle.base_tables.proofs.Records.{table-left}
 use Rattle.grid_shapes.specs.Shapes.{bytesOf}
-use Rattle.pool_records.specs.Texture.{readTexture, textureIn, texturesIn}
-use Rattle.pool_relief_line.specs.Parked.{bytesFrom, recordSpares, recordBytes, mostVersionBytes}
+use Rattle.pool_records.specs.Texture.{readTexture, textureIn, texturesIn, recordSpares, recordBytes}
+use Rattle.pool_relief_line.specs.Parked.{bytesFrom, mostVersionBytes}
 use Rattle.pool_relief_line.proofs.Parked.{spares-rest, bytes-rest, before-rest, before-done, counted-bytes}
 use Rattle.pool_relief_line.proofs.line.bytes_before.Statement.{statement}
 use Rattle.pool_relief_line.proofs.line.bytes_before.Tie as tie
