@@ -27,8 +27,8 @@ use Rattle.event_lines.specs.declared.event.Event.{Event}
 use Rattle.event_lines.specs.Grammar.{eventOf}
 use Rattle.event_answers.specs.Printed.{printed}
 use Rattle.event_sessions.specs.Sessions.{SessionState, stateOf}
-use Rattle.event_sessions.specs.Parts.{noShape, freshSession, takenAfter, shapeAfter}
 use Rattle.event_runs.specs.Texts.{allLines, textOutput}
+use Rattle.event_sessions.specs.Noted.{noShape, freshSession, takenAfter, shapeAfter}
 
 -- ---- what the books know of the lent memory
 

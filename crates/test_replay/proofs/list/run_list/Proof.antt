@@ -5,7 +5,6 @@ use Prim.Native.Nat.{_+_, _-_, _*_, _^_, _≤_}
 use native.Mathlib.Omega.{arith}
 use lib.ListN.{length}
 use Rattle.event_sessions.specs.Sessions.{stateOf}
-use Rattle.event_sessions.specs.Parts.{freshSession}
 use Rattle.event_sessions.proofs.Keeps.{fresh-holds}
 use Rattle.event_feed.specs.Places.{carriedOf, waiting}
 use Rattle.event_feed.proofs.Parts.{part-length}
@@ -13,6 +12,7 @@ use Rattle.event_stream.proofs.Reasons.{full-first, reason-says}
 use Rattle.event_stream.proofs.Loop.{Going, leftWhile, going-first, going-counts, going-ready, going-next, going-less}
 use Rattle.test_replay.proofs.list.run_list.Statement.{statement}
 use Rattle.test_replay.proofs.list.run_list.Tie as tie
+use Rattle.event_sessions.specs.Noted.{freshSession}
 
 abbrev Inv-loop : tie.InvT-loop
 Inv-loop list buf₀ textures₀ retiring₀ doomed₀ spares₀ newest₀ stamps₀ copies₀ views₀ out₀ at₀ given₀ written₀ why₀ buf textures retiring doomed spares newest stamps copies views out at given written why =

@@ -6,7 +6,6 @@ use Prim.Native.Nat.{_+_, _-_, _*_, _^_}
 use native.Mathlib.Omega.{arith}
 use lib.ListN.{length}
 use Rattle.event_sessions.specs.Sessions.{stateOf}
-use Rattle.event_sessions.specs.Parts.{freshSession}
 use Rattle.event_sessions.proofs.Keeps.{fresh-holds}
 use Rattle.event_feed.specs.Places.{carriedOf, waiting}
 use Rattle.event_feed.proofs.Parts.{part-length}
@@ -14,6 +13,7 @@ use Rattle.event_stream.proofs.Reasons.{full-first, reason-says}
 use Rattle.event_stream.proofs.Loop.{Going, leftWhile, going-first, going-counts, going-ready, going-next, going-less, stopped}
 use Rattle.event_stream.proofs.calls.run_all.run_all.Statement.{statement}
 use Rattle.event_stream.proofs.calls.run_all.run_all.Tie as tie
+use Rattle.event_sessions.specs.Noted.{freshSession}
 
 abbrev Inv-loop : tie.InvT-loop
 Inv-loop buf₀ textures₀ retiring₀ doomed₀ spares₀ newest₀ stamps₀ copies₀ views₀ out₀ at₀ read₀ written₀ why₀ buf textures retiring doomed spares newest stamps copies views out at read written why =
