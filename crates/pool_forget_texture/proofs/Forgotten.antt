@@ -39,7 +39,7 @@ use Rattle.pool_memory.proofs.Tracked.{record-read, spares-to, pages-to, bytes-
 use Rattle.pool_take_doomed.specs.Given.{givenRecords}
 use Rattle.pool_take_doomed.proofs.Pushed.{given-spares}
 use Rattle.pool_access.proofs.Totals.{total-next}
-use Rattle.pool_access.proofs.Ids.{hasId, found, not-found}
+use Rattle.pool_access.proofs.Ids.{found, not-found}
 use Rattle.pool_forget_texture.specs.declared.owned.Owned.{Owned}
 use Rattle.pool_forget_texture.specs.Owned.{pagesTo, ownedAt, without}
 use Rattle.pool_forget_texture.proofs.TextureRuns.{spares-in, spares-within, pages-within, bytes-within}

@@ -140,6 +140,7 @@ module _ (textures spares : List ℕ) (n i : ℕ) (h : i < n) where
   spares-rest = total-more textureAt n recordSpares i h ∙ ap (λ (k : ℕ). k + total recordSpares (rest (i + 1))) (sym (spares-number textures i))
 
   pub bytes-rest : total recordBytes (rest i) ≡ bytesOf (textureAt i .shape) * getD textures (textureStride * i + textureSparesAt) 0 + total recordBytes (rest (i + 1))
+  unfolding recordBytes
   bytes-rest =
       total-more textureAt n recordBytes i h
       ∙ ap (λ (k : ℕ). bytesOf (textureAt i .shape) * k + total recordBytes (rest (i + 1))) (sym (spares-number textures i))
@@ -166,7 +167,7 @@ counted-bytes bytes line spares from n =
     mul-le-mul-left {m = countBefore line (parkings spares from n)} {n = n} bytes (omega (arith, count-most line (parkings spares from n), length-parkings spares from n))
 
 pub before-most : (spares : List ℕ) (line from : ℕ) (ts : List TextureRecord) → bytesFrom spares line from ts ≤ total recordBytes ts
-unfolding bytesFrom total
+unfolding bytesFrom total recordBytes
 before-most spares line from [] = omega arith
 before-most spares line from (t ∷ ts) =
     omega (arith, counted-bytes (bytesOf (t .shape)) line spares from (t .spares), before-most spares line (from + t .spares) ts)
