@@ -28,7 +28,7 @@ use Rattle.pool_memory.proofs.Parts.{total-next, total-within}
 use Rattle.pool_memory.proofs.Runs.{firstSpare, stateOf, tracked-records, tracked-model, records-model, model-at}
 use Rattle.pool_memory.proofs.Same.{doomed-model}
 use Rattle.pool_memory.proofs.Stays.{textures-fit, spares-fit, doomed-bound}
-use Rattle.pool_memory.proofs.Tracked.{shape-at, shape-passes}
+use Rattle.pool_memory.proofs.Tracked.{bytes-at, shape-at}
 use Rattle.pool_relief_line.specs.Line.{bytesOfAged, isBefore, isAt, bytesBefore, IsLine, freedWith, parkedOf, countBefore, takenAt, gives}
 use Rattle.pool_relief_line.specs.Parked.{parkedAt, parkings, bytesFrom, mostVersionBytes, Countable}
 use Rattle.pool_relief_line.proofs.Picked.{all-picked, freed-append}
@@ -118,7 +118,7 @@ module _ (l : Lent) where
     countable = record {
       fits = textures-fit l f;
       runs = spares-fit l f;
-      shapes = λ i h. shape-passes l i h f;
+      recorded = λ i h. bytes-at l i h f;
       few = omega (arith, f .kept, f .versions, f .most);
       bytes = omega (arith, bytes-most records-shaped, f .kept, f .versions, f .most);
     }

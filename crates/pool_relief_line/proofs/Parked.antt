@@ -23,7 +23,7 @@ use Rattle.pool_access.proofs.Fields.{spares-number}
 use Rattle.pool_rules.specs.Model.{limit}
 use Rattle.pool_relief_line.specs.Line.{countBefore, takenAt, gives, IsLine}
 use Rattle.pool_relief_line.specs.Parked.{parkedAt, parkings, bytesFrom}
-use Rattle.pool_records.specs.RecordConstants.{spareParkedAt, spareStride, textureSparesAt, textureStride}
+use Rattle.pool_records.specs.RecordConstants.{spareParkedAt, spareStride, textureBytesAt, textureSparesAt, textureStride}
 
 -- a parking number is the third number of its record
 pub parked-at : (spares : List ℕ) (k : ℕ) → getD spares (spareStride * k + spareParkedAt) 0 ≡ parkedAt spares k
@@ -113,6 +113,11 @@ unfolding gives
 gives-sum freed excess bytes line ps = refl
 
 -- ---- textures
+
+-- a texture's bytes are the last number of its record
+pub bytes-number : (textures : List ℕ) (i : ℕ) → getD textures (textureStride * i + textureBytesAt) 0 ≡ textureIn textures i .bytes
+unfolding recordAt readTexture
+bytes-number textures i = sym (getD-drop (textureStride * i) textures textureBytesAt 0)
 
 -- no spare is parked before the first line
 count-zero : (ps : List ℕ) → countBefore 0 ps ≡ 0

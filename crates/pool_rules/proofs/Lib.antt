@@ -11,3 +11,4 @@ pub mod Closure
 pub mod Histories
 pub mod Plans
 pub mod Parking
+pub mod RuleCases

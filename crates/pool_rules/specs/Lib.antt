@@ -17,3 +17,4 @@ pub mod ForgetTexture
 pub mod Open
 pub mod Formed
 pub mod Closed
+pub mod RuleCases

@@ -56,7 +56,7 @@ run-bytes-requires c κs =
     let f = b .before .before .before .pre in
     let h = c .before .loop-test .taken in (
       omega (arith, h, f .fits),
-      f .shapes (b .loop .i) h,
+      f .recorded (b .loop .i) h,
       omega (arith, b .loop .inv .1, spares-rest (a .textures .now) (a .spares .now) (a .n) (b .loop .i) h, f .runs),
       omega (arith, b .loop .inv .2, bytes-rest (a .textures .now) (a .spares .now) (a .n) (b .loop .i) h),
     )
