@@ -12,3 +12,4 @@ pub mod Histories
 pub mod Plans
 pub mod Parking
 pub mod RuleCases
+pub mod DirtyTiles

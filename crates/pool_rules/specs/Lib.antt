@@ -18,3 +18,4 @@ pub mod Open
 pub mod Formed
 pub mod Closed
 pub mod RuleCases
+pub mod DirtyTiles
