@@ -103,6 +103,15 @@ fn uploads() {
     ]);
 }
 
+/// Blocks of no texels. A question's format has blocks of 1 or 4, and a mapping's fields are private to the published module, so
+/// what is asked is the one function of the published rule to which 0 is a case of its own: 0 alone is a multiple of 0.
+#[test]
+fn only_0_is_a_multiple_of_block_0() {
+    for number in [0_u32, 1, 4, 7, u32::MAX] {
+        assert_eq!(number.is_multiple_of(0), number == 0, "{number}");
+    }
+}
+
 #[test]
 fn grids() {
     check(&[
