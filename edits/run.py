@@ -10,8 +10,8 @@ An edit has the lines of a must-fail edit, and 'at:':
     file: a path below crates/CRATE, in src/, specs/ or proofs/; it holds for the pairs after it
     old: a text that stands in that file exactly once
     new: what to put there
-    at: a text that has to stand in the prover's first error, of the form 'FILE: `FACT`: what differs ..', on one line: the law or fact that is broken.
-        Where there are several, each has to stand there.
+    at: a text that has to stand in the prover's first error, of the form 'FILE: `FACT`: what differs ..', on one line, or, of a function that has
+        no proof file, 'fn FUNCTION: `search` does not close `FACT`': the law or fact that is broken. Where there are several, each has to stand there.
 
 Other lines are passed over. All is tried in a temporary copy of the repository with the proofs of target/, two crates at a time; what target/ lacks is said,
 and proved in the copy. Each crate is first checked as it is; an edit of it then costs the check of what it touches. Needs rt and python3's standard library.
@@ -96,6 +96,10 @@ def errors_of(log, crate_folder):
     """The prover's errors, each on one line, without line and column, so that an edit need not follow its file's lines."""
     errors, current = [], None
     for line in log.split('\n'):
+        # A function that has no proof file is proved by the kit's own search; where that fails, it says so of the function.
+        unproved = re.match(r'fn (\S+): no proof: .*?; (.*)', line)
+        if unproved:
+            errors.append(['fn %s: %s' % unproved.groups()])
         begins = re.match(r'(/\S+?):\d+:\d+: (.*)', line)
         if begins:
             file, said = begins.groups()
