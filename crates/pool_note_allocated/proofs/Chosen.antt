@@ -109,7 +109,7 @@ module _ (l : Lent) where
     records-shaped = rw (records-model l (f .bytes)) at (all-map {Q = λ (t : TextureRecord). isShape (t .shape) ≡ true} textureRecord (λ t q. q .shape) (f .formed .textures))
 
     bytes-most : {ts : List TextureRecord} → All (λ (t : TextureRecord). isShape (t .shape) ≡ true) ts → total recordBytes ts ≤ mostShapeBytes * total recordSpares ts
-    unfolding total
+    unfolding total recordBytes
     bytes-most nil = omega arith
     bytes-most (cons {x = t} p ps) =
         omega (arith, bytes-most ps, mul-le-mul-right {m = bytesOf (t .shape)} {n = mostShapeBytes} (t .spares) (bytes-bound (t .shape) p))
@@ -191,7 +191,7 @@ module _ (l : Lent) where
       -- bounds of what is freed and given, for the code's sums
       freed-most : (i : ℕ) → i ≤ l .pool .tracked
           → freedTo excess line i ≤ l .pool .dooming + bytesFrom (l .spares) line 0 (trackedRecords l) + total recordBytes (take i (trackedRecords l))
-      unfolding total
+      unfolding total recordBytes
       freed-most zero h = omega (arith, freed-start)
       freed-most (suc i) h =
           let ps = parkings (l .spares) (firstSpare l i) (recordOf i .spares) in
@@ -209,6 +209,7 @@ module _ (l : Lent) where
           )
 
       pub freed-fits : (i : ℕ) → i < l .pool .tracked → freedTo excess line i + bytesOf (recordOf i .shape) * recordOf i .spares ≤ 216172782113783808
+      unfolding recordBytes
       freed-fits i h =
           omega (
             arith,
