@@ -30,8 +30,9 @@ import threading
 import time
 
 root = os.path.dirname(os.path.dirname(os.path.abspath(__file__)))
-# What an error says where the edit changed the code's shape, and so shows nothing; what merely follows from an earlier error.
-SHAPE = re.compile(r'has no `Need-|has no field|no such name|not in scope|unknown name|is not defined|cannot be parsed|parse error|mir\.(Syntax|MapTy)')
+# What an error says where the edit changed the code's shape, and so shows nothing (the last: a proof that spells the code out); what merely follows from an
+# earlier error.
+SHAPE = re.compile(r'has no `Need-|has no field|no such name|not in scope|unknown name|is not defined|cannot be parsed|parse error|where one has `[^`]*mir\.')
 FOLLOWS = re.compile(r'was not admitted')
 printing = threading.Lock()
 
