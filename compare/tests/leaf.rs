@@ -103,6 +103,25 @@ fn uploads() {
     ]);
 }
 
+/// Blocks of no texels, in a level of 7 by 5: the rectangles of the law `block-zero-rects` (crates/grid_rects/proofs/Rects.antt).
+#[test]
+fn only_0_is_a_multiple_of_block_0() {
+    let rects = [
+        ([0, 0, 7, 5], true),
+        ([0, 0, 0, 0], true),
+        ([0, 0, 7, 0], true),
+        ([0, 0, 7, 4], false),
+        ([1, 0, 6, 5], false),
+    ];
+    for (rect, on_grid) in rects {
+        assert_eq!(
+            leaf::on_grid_of_blocks(0, rect, (7, 5)),
+            on_grid,
+            "{rect:?}"
+        );
+    }
+}
+
 #[test]
 fn grids() {
     check(&[

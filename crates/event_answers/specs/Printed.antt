@@ -10,18 +10,12 @@ use Rattle.pool_rules.specs.declared.held.Held.{Held}
 use Rattle.pool_rules.specs.declared.held.Held.the-variants.{Known, Unknown}
 use Rattle.pool_rules.specs.Model.{PreserveCopy}
 use Rattle.pool_books.specs.Demand3.{Reply, refusal, done, spareTaken, copiesPlanned, versionPopped, viewsHanded}
-use Rattle.event_text.specs.Fields.{comma}
+use Rattle.event_text.specs.Fields.{comma, dash, lineFeed}
 use Rattle.event_text.specs.Numbers.{digitsOf}
 
-abbrev pub lineFeed : ℕ
-lineFeed = 10
-
--- "?", "-" and "0"
+-- "?" and "0"
 abbrev pub question : List ℕ
 question = 63 ∷ []
-
-abbrev pub dash : List ℕ
-dash = 45 ∷ []
 
 abbrev pub acceptedText : List ℕ
 acceptedText = 48 ∷ []

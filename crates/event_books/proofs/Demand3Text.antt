@@ -20,11 +20,12 @@ use Rattle.event_lines.specs.declared.event.Event.{Event}
 use Rattle.event_lines.specs.Grammar.{eventOf}
 use Rattle.event_answers.specs.Printed.{printed}
 use Rattle.event_sessions.specs.Sessions.{SessionState, opens, openedState, lineStep}
-use Rattle.event_sessions.specs.Parts.{noShape, freshSession, sessionOpened, takenAfter, shapeAfter}
+use Rattle.event_sessions.specs.Parts.{sessionOpened}
 use Rattle.event_runs.specs.Lines.{lineOutput, lineState, output}
 use Rattle.event_runs.specs.Texts.{allLines, textOutput}
 use Rattle.event_books.specs.EventLists.{Room, roomIn, SameLengths, RoomByLengths, workingOf, callOf, Opened, afterCall, replyTo, MayCall, opening, openingReply, afterLine, next, reply, InRenames, replies, repliesText, Agree, AgreeThroughout, fresh, Demand3Text}
 use Rattle.event_books.proofs.Agreeing.{throughout-none, throughout-more}
+use Rattle.event_sessions.specs.Noted.{noShape, freshSession, takenAfter, shapeAfter}
 
 -- ---- the room of lent memory
 

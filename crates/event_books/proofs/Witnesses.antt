@@ -13,8 +13,8 @@ use Rattle.pool_memory.specs.Reading.{modelOf}
 use Rattle.pool_memory.specs.IsPool.{sizesFit}
 use Rattle.pool_books.specs.Sample.{sampleLent}
 use Rattle.pool_books.specs.Texels.{Texel}
-use Rattle.event_books.specs.EventLists.{after, InRenames, replies, repliesText, AgreeThroughout, plainOf, Compared, AgreeAtTexels, events, fresh, freshRoom, Demand3Text}
-use Rattle.event_books.specs.Witnesses.{ProgramStores, programCopies, programViews, programRoom, Line, textOf, eventsOf, outputOf, Holds, Witness, bookAfter, NumberIs}
+use Rattle.event_books.specs.EventLists.{afterLines, InRenames, replies, repliesText, AgreeThroughout, plainOf, Compared, AgreeAtTexels, events, fresh, freshRoom, Demand3Text}
+use Rattle.event_books.specs.Witnesses.{ProgramStores, programCopies, programViews, programRoom, Line, textOf, eventsOf, outputOf, Holds, Witness, bookAfterLines, NumberIs}
 use Rattle.event_books.proofs.Agreeing.{agree-at-texels}
 use Rattle.event_books.proofs.Demand3Text.{demand3-text}
 
@@ -49,9 +49,9 @@ module _ (lines : List Line) (e : events (textOf lines) ≡ eventsOf lines) (r :
 
 -- ---- a texel
 
-pub number-is : (lines : List Line) (k id : ℕ) (t : Texel) (n : ℕ) → Compared (bookAfter lines k id) t → plainOf (bookAfter lines k id) t ≡ some n → NumberIs lines k id t n
+pub number-is : (lines : List Line) (k id : ℕ) (t : Texel) (n : ℕ) → Compared (bookAfterLines lines k id) t → plainOf (bookAfterLines lines k id) t ≡ some n → NumberIs lines k id t n
 unfolding AgreeAtTexels AgreeThroughout
 number-is lines k id t n c p = record {
   plain = p;
-  live = λ a. agree-at-texels (after programRoom none (take k (eventsOf lines))) (a k) id t c ∙ p;
+  live = λ a. agree-at-texels (afterLines programRoom none (take k (eventsOf lines))) (a k) id t c ∙ p;
 }

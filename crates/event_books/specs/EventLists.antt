@@ -27,8 +27,8 @@ use Rattle.event_lines.specs.declared.event.Event.{Event}
 use Rattle.event_lines.specs.Grammar.{eventOf}
 use Rattle.event_answers.specs.Printed.{printed}
 use Rattle.event_sessions.specs.Sessions.{SessionState, stateOf}
-use Rattle.event_sessions.specs.Parts.{noShape, freshSession, takenAfter, shapeAfter}
 use Rattle.event_runs.specs.Texts.{allLines, textOutput}
+use Rattle.event_sessions.specs.Noted.{noShape, freshSession, takenAfter, shapeAfter}
 
 -- ---- what the books know of the lent memory
 
@@ -128,11 +128,11 @@ module _ (room : Room) where
   openingReply (some working) = some (cond (room .fits) done (refusal 1))
 
   -- a line after it
-  abbrev pub call : Opened → Event → Option Call
-  call o e = callOf (room .copies) (room .views) (o .taken) (o .shape) e
+  abbrev pub callOfLine : Opened → Event → Option Call
+  callOfLine o e = callOf (room .copies) (room .views) (o .taken) (o .shape) e
 
   abbrev pub afterLine : Opened → Event → Opened
-  afterLine o e = record { books = afterCall (o .books) (call o e); taken = takenAfter true (o .taken) e; shape = shapeAfter (o .shape) e }
+  afterLine o e = record { books = afterCall (o .books) (callOfLine o e); taken = takenAfter true (o .taken) e; shape = shapeAfter (o .shape) e }
 
   -- any line: what it leaves, the reply that is printed ("?" where there is none), and whether it may stand there
   abbrev pub next : Option Opened → Event → Option Opened
@@ -141,16 +141,16 @@ module _ (room : Room) where
 
   abbrev pub reply : Option Opened → Event → Option Reply
   reply none e = openingReply (workingOf e)
-  reply (some o) e = replyTo (o .books) (call o e)
+  reply (some o) e = replyTo (o .books) (callOfLine o e)
 
   abbrev pub MayStand : Option Opened → Event → Type 0
   MayStand none e = Unit {0}
-  MayStand (some o) e = MayCall (o .books) (call o e)
+  MayStand (some o) e = MayCall (o .books) (callOfLine o e)
 
   -- lines, one after the other
-  unfoldable pub after : Option Opened → List Event → Option Opened
-  after o [] = o
-  after o (e ∷ es) = after (next o e) es
+  unfoldable pub afterLines : Option Opened → List Event → Option Opened
+  afterLines o [] = o
+  afterLines o (e ∷ es) = afterLines (next o e) es
 
   unfoldable pub replies : Option Opened → List Event → List (Option Reply)
   replies o [] = []
@@ -175,7 +175,7 @@ Agree (some o) = (id : ℕ) → Agrees (o .books .books id)
 
 -- after the first k lines, for every k
 unfoldable pub AgreeThroughout : Room → Option Opened → List Event → Type 0
-AgreeThroughout room o es = (k : ℕ) → Agree (after room o (take k es))
+AgreeThroughout room o es = (k : ℕ) → Agree (afterLines room o (take k es))
 
 -- ---- the same of one texel, in full
 

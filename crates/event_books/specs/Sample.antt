@@ -4,7 +4,7 @@ use mathlib.Core.List.{List, [], _∷_}
 use Rattle.pool_rules.specs.declared.held.Held.the-variants.{Known, Unknown}
 use Rattle.pool_books.specs.Sample.{flatShape}
 use Rattle.event_lines.specs.declared.event.Event.{Event}
-use Rattle.event_books.specs.Witnesses.{Line, line, Witness, NumberIs, texel}
+use Rattle.event_books.specs.Witnesses.{Line, line, Witness, NumberIs, flatTexel}
 
 unfoldable pub sampleLines : List Line
 sampleLines =
@@ -24,6 +24,6 @@ SampleHolds = Witness sampleLines
 
 -- the first write, in line 5: 1 inside its rectangle and 0 beside it; before that line 0
 pub record SampleNumbers : Type 0 where
-  pub inside : NumberIs sampleLines 5 7 (texel 0 20 5) 1
-  pub beside : NumberIs sampleLines 5 7 (texel 0 19 5) 0
-  pub before : NumberIs sampleLines 4 7 (texel 0 20 5) 0
+  pub inside : NumberIs sampleLines 5 7 (flatTexel 0 20 5) 1
+  pub beside : NumberIs sampleLines 5 7 (flatTexel 0 19 5) 0
+  pub before : NumberIs sampleLines 4 7 (flatTexel 0 20 5) 0

@@ -9,13 +9,14 @@ use lib.ListN.{length, take}
 use Rattle.grid_stamps.specs.StampConstants.{pageStamps}
 use Rattle.pool_records.specs.RecordConstants.{textureStride, retiringStride, doomedStride, spareStride}
 use Rattle.pool_memory.specs.MemoryConstants.{copyStride}
+use Rattle.pool_books.specs.ComputedBooks.{texel}
 use Rattle.pool_books.specs.Sample.{sampleLent}
 use Rattle.pool_books.specs.Texels.{Texel}
 use Rattle.pool_books.specs.VersionBook.{Book, liveOf}
 use Rattle.event_lines.specs.declared.event.Event.{Event}
 use Rattle.event_runs.specs.Texts.{textOutput}
 use Rattle.event_books.specs.Bytes.{bytes}
-use Rattle.event_books.specs.EventLists.{Room, after, InRenames, AgreeThroughout, bookOf, plainOf, events, fresh, Claim}
+use Rattle.event_books.specs.EventLists.{Room, afterLines, InRenames, AgreeThroughout, bookOf, plainOf, events, fresh, Claim}
 
 -- ---- the event program: "lends 8 textures, 64 versions, 6 pages, answers of 90 entries"
 
@@ -73,13 +74,13 @@ pub record Witness (lines : List Line) : Type 0 where
 
 -- ---- a texel's number after the first k lines: the plain book's is computed, and the claim makes it the live version's
 
-abbrev pub bookAfter : List Line → ℕ → ℕ → Option Book
-bookAfter lines k id = bookOf (after programRoom none (take k (eventsOf lines))) id
+abbrev pub bookAfterLines : List Line → ℕ → ℕ → Option Book
+bookAfterLines lines k id = bookOf (afterLines programRoom none (take k (eventsOf lines))) id
 
 pub record NumberIs (lines : List Line) (k id : ℕ) (t : Texel) (n : ℕ) : Type 0 where
-  pub plain : plainOf (bookAfter lines k id) t ≡ some n
-  pub live : AgreeThroughout programRoom none (eventsOf lines) → liveOf (bookAfter lines k id) t ≡ some n
+  pub plain : plainOf (bookAfterLines lines k id) t ≡ some n
+  pub live : AgreeThroughout programRoom none (eventsOf lines) → liveOf (bookAfterLines lines k id) t ≡ some n
 
 -- the texel at x and y of a level, in slice 0 of a texture that is no volume
-abbrev pub texel : ℕ → ℕ → ℕ → Texel
-texel level x y = record { slice = 0; level = level; x = x; y = y; z = 0 }
+abbrev pub flatTexel : ℕ → ℕ → ℕ → Texel
+flatTexel level x y = texel 0 level x y 0

@@ -5,11 +5,11 @@ use Prim.Native.Nat.{ℕ, _+_, _-_, _≤_, _<_}
 use native.Mathlib.Omega.{arith}
 use lib.ListN.{length, take, drop, set, length-drop}
 use lib.Seq.{take-set-le, drop-set-add}
-use Rattle.event_answers.specs.Printed.{lineFeed}
 use Rattle.event_feed.specs.Feed.{ending, turnBytes}
 use Rattle.event_feed.specs.Places.{part}
 use Rattle.event_feed.specs.Finish.{Filled}
 use Rattle.event_feed.proofs.Parts.{part-length, part-same}
+use Rattle.event_text.specs.Fields.{lineFeed}
 
 -- ---- what a turn feeds
 

@@ -4,11 +4,11 @@ use Prim.Native.Nat.{ℕ, _+_}
 use mathlib.Core.Path.{_≡_}
 use mathlib.Core.List.{List, [], _∷_, _++_}
 use lib.ListN.{length, take}
-use Rattle.event_answers.specs.Printed.{lineFeed}
 use Rattle.event_sessions.specs.Sessions.{SessionState}
 use Rattle.event_runs.specs.Lines.{wholeLines, output}
 use Rattle.event_runs.specs.Texts.{lastLine, allLines, afterLines, textOutput}
 use Rattle.event_feed.specs.FeedConstants.{keptBytes}
+use Rattle.event_text.specs.Fields.{lineFeed}
 
 -- what is carried from one block to the next
 pub record Carried : Type 0 where

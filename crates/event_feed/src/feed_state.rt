@@ -1,6 +1,6 @@
 // What is carried from one turn to the next, and where its bytes stand in the buffer.
 ghost use mathlib.Core.Path.{_≡_};
-ghost use Rattle.event_sessions.specs.Parts.{freshSession};
+ghost use Rattle.event_sessions.specs.Noted.{freshSession};
 use event_sessions::Session;
 use event_sessions::fresh;
 

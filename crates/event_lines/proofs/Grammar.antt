@@ -12,7 +12,7 @@ use lib.ListN.{length, getD, drop, set, replicate, List·getD-eq-default}
 use lib.Seq.{sets, sets-eq}
 use Rattle.base_blocks.specs.Lists.{over, all, tests, after}
 use Rattle.base_blocks.proofs.Lists.{and-both, getD-over-in, getD-over-past, not-passed}
-use Rattle.event_text.specs.Fields.{same, fieldsAfter, firstField, firstLine}
+use Rattle.event_text.specs.Fields.{same, fieldsAfter, firstField, firstLine, dash}
 use Rattle.event_text.specs.Numbers.{isNumber, decimal, value}
 use Rattle.event_text.specs.Searches.{indexOf}
 use Rattle.event_text.proofs.Fields.{fields-first, same-true, same-self}
@@ -21,7 +21,7 @@ use Rattle.event_text.proofs.FirstLines.{stops, line-until, until-found, until-
 use Rattle.event_lines.specs.declared.event.Word.{Word}
 use Rattle.event_lines.specs.declared.event.Event.{Event}
 use Rattle.event_lines.specs.Words.{Starts}
-use Rattle.event_lines.specs.Grammar.{Kind, below, held, dash, isKind, areKinds, kindsOf, heldBy, num, eventBy, event, eventOf}
+use Rattle.event_lines.specs.Grammar.{Kind, below, held, isKind, areKinds, kindsOf, heldBy, num, eventBy, event, eventOf}
 use Rattle.event_lines.specs.Reading.{Scanned, unreadFields, mayBe, scanFields, scan, limitsOf, limitTests, fits, numbersMade, dashMade}
 use Rattle.event_lines.proofs.Reading.{number-no-dash, scan-behind}
 use Rattle.event_lines.proofs.Limits.{word-numbers}

@@ -13,13 +13,12 @@ use lib.ListN.{length, drop, getD, set, List·getD-eq-default}
 use lib.Seq.{drop-cons, drop-drop, getD-drop}
 use Rattle.base_blocks.specs.Lists.{all, tests, after}
 use Rattle.base_blocks.proofs.Lists.{not-passed, default-free}
-use Rattle.event_text.specs.Fields.{firstLine, fieldsAfter, same, fieldsOf}
+use Rattle.event_text.specs.Fields.{firstLine, fieldsAfter, same, fieldsOf, dash}
 use Rattle.event_text.specs.Numbers.{isDigit, isNumber, value, decimal, leadingDigits}
 use Rattle.event_text.specs.Searches.{indexOf}
 use Rattle.event_text.proofs.Fields.{fields-first, same-true}
 use Rattle.event_text.proofs.Leading.{no-way, until, next, lead-whole, lead-parted, no-digit, AreDigits}
 use Rattle.event_text.proofs.FirstLines.{stops, stops-apart, line-until, digits-found}
-use Rattle.event_lines.specs.Grammar.{dash}
 use Rattle.event_lines.specs.Reading.{Scanned, unreadFields, mayBe, scanFields, scan}
 
 -- ---- one field

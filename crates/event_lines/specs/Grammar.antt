@@ -4,7 +4,7 @@ use mathlib.Core.Bool.{Bool, true, false, cond, _&&_, _||_}
 use mathlib.Core.List.{List, [], _∷_}
 use lib.Dec.{ltb, eqb}
 use lib.ListN.{getD}
-use Rattle.event_text.specs.Fields.{fieldsOf, same}
+use Rattle.event_text.specs.Fields.{fieldsOf, same, dash}
 use Rattle.event_text.specs.Numbers.{isNumber, decimal}
 use Rattle.grid_rects.specs.declared.rect.TexelRect.{TexelRect}
 use Rattle.grid_shapes.specs.declared.shape.VersionShape.{VersionShape}
@@ -31,10 +31,6 @@ small = below (2 ^ 32)
 
 abbrev pub flag : Kind
 flag = below 2
-
--- "-"
-abbrev pub dash : List ℕ
-dash = 45 ∷ []
 
 unfoldable pub isKind : Kind → List ℕ → Bool
 isKind (below bound) f = isNumber f && ltb (decimal f) bound

@@ -5,13 +5,13 @@ use mathlib.Core.List.{List, [], _∷_}
 use lib.Dec.{eqb, ltb, leb}
 use lib.ListN.{length, set, replicate}
 use Rattle.base_blocks.specs.Lists.{tests}
-use Rattle.event_text.specs.Fields.{fieldsOf, firstLine, same}
+use Rattle.event_text.specs.Fields.{fieldsOf, firstLine, same, dash}
 use Rattle.event_text.specs.Numbers.{isNumber, decimal}
 use Rattle.pool_rules.specs.declared.held.Held.the-variants.{Known, Unknown}
 use Rattle.event_lines.specs.declared.event.Word.{Word}
 use Rattle.event_lines.specs.declared.event.Event.{Event}
 use Rattle.event_lines.specs.declared.fields.Fields.{Fields}
-use Rattle.event_lines.specs.Grammar.{dash, made}
+use Rattle.event_lines.specs.Grammar.{made}
 
 -- ---- the fields as numbers
 

@@ -7,9 +7,9 @@ use native.Mathlib.Omega.{arith}
 use borrow.Author.Tests.{eqb-true}
 use lib.Dec.{eqb}
 use lib.ListN.{take}
-use Rattle.event_answers.specs.Printed.{lineFeed}
 use Rattle.event_runs.specs.Lines.{inFirstLine, wholeLines}
 use Rattle.event_runs.specs.Texts.{inLastLine, lastLine}
+use Rattle.event_text.specs.Fields.{lineFeed}
 
 -- ---- an input in two parts
 

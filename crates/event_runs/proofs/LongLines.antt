@@ -10,13 +10,13 @@ use lib.Dec.{eqb, ltb}
 use lib.ListN.{length, take, getD, length-append}
 use lib.Seq.{take-all, length-take-le}
 use Rattle.base_blocks.proofs.Lists.{and-both, passed}
-use Rattle.event_text.specs.Fields.{comma, inFirst, fieldsOf, same}
+use Rattle.event_text.specs.Fields.{comma, inFirst, fieldsOf, same, dash}
 use Rattle.event_text.specs.Numbers.{isNumber, decimal}
 use Rattle.event_text.proofs.Fields.{same-length, same-true}
 use Rattle.event_lines.specs.declared.event.Word.{Word}
 use Rattle.event_lines.specs.declared.event.Event.{Event}
 use Rattle.event_lines.specs.Words.{wordOf, laterWord, openWord, takeWord, planWord, retireWord, writeWord, regenWord, popWord, parkWord, noteWord, doomedWord, drainWord, trimWord, forgetWord}
-use Rattle.event_lines.specs.Grammar.{Kind, below, held, dash, isKind, areKinds, kindsOf, made, heldBy, num, eventBy, event, eventOf}
+use Rattle.event_lines.specs.Grammar.{Kind, below, held, isKind, areKinds, kindsOf, made, heldBy, num, eventBy, event, eventOf}
 
 -- ---- the bytes of fields, each with the comma after it
 

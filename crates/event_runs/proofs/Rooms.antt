@@ -12,10 +12,11 @@ use Rattle.event_text.specs.Searches.{indexOf}
 use Rattle.event_answers.specs.declared.answer.Answer.{Answer}
 use Rattle.event_answers.specs.declared.answer.Answer.the-variants.{Question, Refused, Done, Spare, NoSpare, Version, NothingSettled, Views, Copies}
 use Rattle.event_answers.specs.Answers.{replyTold, entries, InBuffers}
-use Rattle.event_answers.specs.Printed.{lineFeed, printed, mostBytes}
+use Rattle.event_answers.specs.Printed.{printed, mostBytes}
 use Rattle.event_answers.proofs.Most.{printed-most}
 use Rattle.event_runs.specs.Lines.{longestAnswer}
 use Rattle.pool_memory.specs.MemoryConstants.{copyStride}
+use Rattle.event_text.specs.Fields.{lineFeed}
 
 -- an answer has no more entries than its buffers have room for
 pub entries-most : (a : Answer) (copies views : List ℕ) → InBuffers a copies views → entries a ≤ max (length copies / copyStride) (length views)
@@ -45,23 +46,6 @@ pub answer-fits : (a : Answer) (copies views : List ℕ) (m n filled size : ℕ)
     → filled + longestAnswer m n ≤ size → filled + mostBytes (entries a) ≤ size
 answer-fits a copies views m n filled size h p q r =
     let e : entries a ≤ max (m / copyStride) n = rw (sym p, sym q) (entries-most a copies views h) in omega arith
-
--- ---- the end of a line
-
-index-within : (b : ℕ) (s : List ℕ) → indexOf b s ≤ length s
-unfolding indexOf
-index-within b [] = omega arith
-index-within b (x ∷ xs) = go (eqb x b) (index-within b xs)
-  where
-    go : (t : Bool) → indexOf b xs ≤ length xs → cond t 0 (suc (indexOf b xs)) ≤ suc (length xs)
-    go true h = omega arith
-    go false h = omega arith
-
--- it stands after `from`, and in the input
-pub find-within : (input : List ℕ) (from r : ℕ) → from ≤ length input → r ≡ from + indexOf lineFeed (drop from input) → (from ≤ r) × (r ≤ length input)
-find-within input from r h e =
-    let w : indexOf lineFeed (drop from input) ≤ length input - from = rw (sym (length-drop from input)) (index-within lineFeed (drop from input)) in
-    (omega arith, omega arith)
 
 -- and its output ends inside the buffer
 pub output-fits : (a : Answer) (copies views : List ℕ) (m n filled size number end : ℕ) → InBuffers a copies views → length copies ≡ m → length views ≡ n

@@ -10,19 +10,20 @@ use lib.Dec.{leb}
 use lib.ListN.{length, take, drop, length-drop}
 use lib.Seq.{sets, length-sets, length-take-le, take-all}
 use Rattle.pool_books.specs.Demand3.{Reply}
-use Rattle.event_text.specs.Fields.{firstLine}
+use Rattle.event_text.specs.Fields.{firstLine, lineFeed}
 use Rattle.event_text.specs.Searches.{indexOf}
 use Rattle.event_text.proofs.FirstLines.{first-index}
 use Rattle.event_lines.specs.declared.event.Event.{Event}
 use Rattle.event_lines.specs.Grammar.{eventOf}
 use Rattle.event_answers.specs.declared.answer.Answer.{Answer}
 use Rattle.event_answers.specs.Answers.{replyTold}
-use Rattle.event_answers.specs.Printed.{lineFeed, printed}
+use Rattle.event_answers.specs.Printed.{printed}
 use Rattle.event_sessions.specs.Sessions.{SessionState, HoldsPool, lineStep}
 use Rattle.event_sessions.proofs.Keeps.{step-keeps}
 use Rattle.event_runs.specs.Lines.{wholeLines, lineOutput, lineState, EventRan, longestAnswer, Progress, hasRoom, ran, ranAll}
 use Rattle.event_runs.proofs.Splits.{lineEnd, line-end, line-next, line-none}
-use Rattle.event_runs.proofs.Rooms.{room-none, room-some, find-within}
+use Rattle.event_runs.proofs.Rooms.{room-none, room-some}
+use Rattle.event_text.proofs.Searches.{found-within}
 
 -- ---- one line
 
@@ -120,7 +121,7 @@ module _ (cs vs a b : ℕ) (ea : a ≡ cs) (eb : b ≡ vs) (input : List ℕ) (p
   fits = room-some (longestAnswer cs vs) room (p .filled) size (g .filling) is-room has-room
 
   pub going-end : end ≤ length input
-  going-end = find-within input (p .from) end (g .inside) (is-end ∙ ap (λ (i : ℕ). p .from + i) line-at) .1
+  going-end = found-within lineFeed input (p .from) end (g .inside) (is-end ∙ ap (λ (i : ℕ). p .from + i) line-at) .1
 
   -- the line's answer has room
   pub going-room : p .filled + longestAnswer a b ≤ length (p .out)

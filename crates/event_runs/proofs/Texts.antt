@@ -11,13 +11,14 @@ use lib.Seq.{sets, take-append-add}
 use Rattle.pool_memory.proofs.Rewritten.{sets-append}
 use Rattle.event_lines.specs.declared.event.Event.{Event}
 use Rattle.event_lines.specs.Grammar.{eventOf}
-use Rattle.event_answers.specs.Printed.{lineFeed, printed}
+use Rattle.event_answers.specs.Printed.{printed}
 use Rattle.event_sessions.specs.Sessions.{SessionState, HoldsPool, lineStep}
 use Rattle.event_sessions.proofs.Keeps.{step-keeps}
 use Rattle.event_runs.specs.Lines.{wholeLines, lineOutput, lineState, output, longestAnswer, Progress, hasRoom, ran, ranAll}
 use Rattle.event_runs.specs.Texts.{lastLine, ifAny, afterLines}
 use Rattle.event_runs.proofs.LongLines.{cut-unread}
 use Rattle.event_runs.proofs.Cuts.{Unfinished, inFront, lastAfter, First, first-of, line-more, line-last}
+use Rattle.event_text.specs.Fields.{lineFeed}
 
 -- the front of a front with more after it
 pub take-cut : (k : ℕ) (x y : List ℕ) → take k (take k x ++ y) ≡ take k (x ++ y)

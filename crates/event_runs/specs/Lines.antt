@@ -8,10 +8,11 @@ use lib.ListN.{length}
 use lib.Seq.{sets}
 use Rattle.event_lines.specs.declared.event.Event.{Event}
 use Rattle.event_lines.specs.Grammar.{eventOf}
-use Rattle.event_answers.specs.Printed.{lineFeed, printed, mostBytes}
+use Rattle.event_answers.specs.Printed.{printed, mostBytes}
 use Rattle.event_sessions.specs.Sessions.{SessionState, stateOf, lineStep}
 use Rattle.event_runs.specs.declared.run.Run.{Run}
 use Rattle.pool_memory.specs.MemoryConstants.{copyStride}
+use Rattle.event_text.specs.Fields.{lineFeed}
 
 -- ---- lines
 

@@ -12,9 +12,9 @@ use Rattle.pool_books.specs.LentLists.{LentCall, EveryCallKeepsPool, OpenedIsPo
 use Rattle.pool_books.proofs.LentLists.{calls-keep-pool, opened-is-pool}
 use Rattle.event_lines.specs.declared.event.Event.{Event}
 use Rattle.event_sessions.specs.Sessions.{SessionState, stateOf, HoldsPool, opens, openedState, called, notCalled, takeLine, ifOpened, lineStep}
-use Rattle.event_sessions.specs.Parts.{freshSession}
 use Rattle.event_sessions.proofs.Opened.{same-sizes}
 use Rattle.pool_books.specs.Lists.{planCall, takeCall}
+use Rattle.event_sessions.specs.Noted.{freshSession}
 
 -- nothing is opened in a fresh session
 pub fresh-holds : (textures retiring doomed spares newest stamps : List ℕ) → HoldsPool (stateOf freshSession textures retiring doomed spares newest stamps)

@@ -24,8 +24,9 @@ use Rattle.event_answers.specs.declared.answer.Answer.{Answer}
 use Rattle.event_answers.specs.declared.answer.Answer.the-variants.{Question, Refused, Done}
 use Rattle.event_sessions.specs.declared.session.Session.{Session}
 use Rattle.event_sessions.specs.Sessions.{SessionState, stateOf, opens, openedState, notCalled, ifOpened, lineStep}
-use Rattle.event_sessions.specs.Parts.{sessionOpened, sessionAfter, takenAfter, shapeAfter, Stepped, SaysOnly, AnsweredAlone}
+use Rattle.event_sessions.specs.Parts.{sessionOpened, sessionAfter, Stepped, SaysOnly, AnsweredAlone}
 use Rattle.event_sessions.proofs.Steps.{step-notes}
+use Rattle.event_sessions.specs.Noted.{takenAfter, shapeAfter}
 
 -- ---- `open`
 

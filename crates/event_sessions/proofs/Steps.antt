@@ -19,8 +19,9 @@ use Rattle.event_answers.specs.declared.answer.Answer.{Answer}
 use Rattle.event_answers.specs.declared.answer.Answer.the-variants.{Question}
 use Rattle.event_calls.specs.Calls.{Made, MadeCopies, MadeViews}
 use Rattle.event_sessions.specs.Sessions.{SessionState, lineStep}
-use Rattle.event_sessions.specs.Parts.{sessionOpened, Stepped, takenAfter, shapeAfter}
+use Rattle.event_sessions.specs.Parts.{sessionOpened, Stepped}
 use Rattle.pool_books.specs.Lists.{between, doomedCall, drainCall, forgetCall, noteCall, parkCall, planCall, popCall, regenCall, retireCall, takeCall, trimCall, writeCall}
+use Rattle.event_sessions.specs.Noted.{takenAfter, shapeAfter}
 
 -- ---- the step of an opened session
 

@@ -1,6 +1,6 @@
 // A session before its first line.
 ghost use mathlib.Core.Path.{_≡_};
-ghost use Rattle.event_sessions.specs.Parts.{noShape, freshSession};
+ghost use Rattle.event_sessions.specs.Noted.{noShape, freshSession};
 use crate::session::Session;
 use grid_shapes::VersionShape;
 use pool_open::opened_book;

@@ -8,7 +8,6 @@ use native.Mathlib.Omega.{arith}
 use lib.ListN.{length, take}
 use lib.Seq.{take-all}
 use Rattle.event_sessions.specs.Sessions.{SessionState, HoldsPool}
-use Rattle.event_sessions.specs.Parts.{freshSession}
 use Rattle.event_runs.specs.Lines.{wholeLines, longestAnswer}
 use Rattle.event_feed.specs.declared.feed_state.FeedState.{FeedState}
 use Rattle.event_feed.specs.FeedConstants.{keptBytes}
@@ -19,6 +18,7 @@ use Rattle.event_feed.proofs.Ends.{turn-came, turn-ended}
 use Rattle.event_stream.specs.Streams.{whyGoing, whyEnded, whyTooLong, isFull, RunOf}
 use Rattle.event_stream.proofs.Reasons.{Reason, not-full}
 use Rattle.event_stream.proofs.Sofar.{Sofar, Closed, sofar-first, sofar-plain, sofar-holds, sofar-count, sofar-turn, turn-less, stopped-early, stopped-ended}
+use Rattle.event_sessions.specs.Noted.{freshSession}
 
 -- what is left to do while a run goes on
 abbrev pub leftWhile : ℕ → ℕ → ℕ

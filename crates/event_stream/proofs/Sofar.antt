@@ -8,7 +8,6 @@ use native.Mathlib.Omega.{arith}
 use lib.Dec.{eqb}
 use lib.ListN.{length, take, length-append, length-drop}
 use lib.Seq.{length-take-le}
-use Rattle.event_answers.specs.Printed.{lineFeed}
 use Rattle.event_sessions.specs.Sessions.{SessionState, HoldsPool}
 use Rattle.event_runs.specs.Lines.{inFirstLine, wholeLines, output}
 use Rattle.event_runs.specs.Texts.{lastLine, allLines, afterLines, textOutput}
@@ -17,6 +16,7 @@ use Rattle.event_feed.specs.Feed.{Carried, first, joinedBlocks, fed, fedOutput,
 use Rattle.event_feed.specs.Places.{Turn}
 use Rattle.event_feed.proofs.Cutting.{fed-append, fed-output-append, fed-plain, fed-holds, every-cutting}
 use Rattle.event_stream.specs.Streams.{whyEnded, whyTooLong, isFull, RunOf}
+use Rattle.event_text.specs.Fields.{lineFeed}
 
 -- no more lines than bytes
 lines-few : (input : List ℕ) → length (wholeLines input) ≤ length input

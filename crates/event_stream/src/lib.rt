@@ -2,6 +2,7 @@
 mod calls;
 mod read_more;
 
+pub use calls::byte_count::byte_count;
 pub use calls::reason::GOING;
 pub use calls::reason::is_full;
 pub use calls::reason::reason;

@@ -5,9 +5,16 @@ use mathlib.Core.List.{List, [], _∷_}
 use lib.Dec.{eqb}
 use lib.ListN.{length, drop}
 
--- the byte of ","
+-- the byte of ",", and the one that ends a line
 abbrev pub comma : ℕ
 comma = 44
+
+abbrev pub lineFeed : ℕ
+lineFeed = 10
+
+-- the field "-", which stands for no number
+abbrev pub dash : List ℕ
+dash = 45 ∷ []
 
 -- b put in front of the first of some fields
 unfoldable pub inFirst : ℕ → List (List ℕ) → List (List ℕ)
@@ -28,7 +35,7 @@ firstField (b ∷ bs) = cond (eqb b comma) [] (b ∷ firstField bs)
 -- the bytes before the first line feed, or all of them
 unfoldable pub firstLine : List ℕ → List ℕ
 firstLine [] = []
-firstLine (b ∷ bs) = cond (eqb b 10) [] (b ∷ firstLine bs)
+firstLine (b ∷ bs) = cond (eqb b lineFeed) [] (b ∷ firstLine bs)
 
 -- where the field that starts at `at` ends
 unfoldable pub fieldEnd : List ℕ → ℕ → ℕ

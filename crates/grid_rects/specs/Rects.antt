@@ -15,9 +15,13 @@ use Rattle.grid_shapes.specs.Outcomes.{Outcome, accepted, refused}
 unfoldable pub wholeLevel : ℕ → ℕ → TexelRect
 wholeLevel width height = record { x = 0; y = 0; width = width; height = height }
 
+-- whether a number is a multiple of `block`: for block 0, whether it is 0
+unfoldable pub isMultipleOf : ℕ → ℕ → Bool
+isMultipleOf number block = cond (eqb block 0) (eqb number 0) (eqb (number % block) 0)
+
 -- one side of a rectangle: it starts a whole number of blocks in, and is a whole number of blocks long or ends at the level's edge
 unfoldable pub sideOnGrid : ℕ → ℕ → ℕ → ℕ → Bool
-sideOnGrid block start size extent = eqb (start % block) 0 && (eqb (size % block) 0 || eqb (start + size) extent)
+sideOnGrid block start size extent = isMultipleOf start block && (isMultipleOf size block || eqb (start + size) extent)
 
 -- both sides of a rectangle in a level of `width` by `height` texels
 unfoldable pub rectOnGrid : ℕ → TexelRect → ℕ → ℕ → Bool

@@ -1,6 +1,6 @@
 // Rectangles of texels: the block grid's rule, what an upload writes, and the bytes of a copy.
 //
-// `upload_written_rect` and `copy_bytes` have no `requires` and answer or refuse every input.
+// No public function has a `requires`: each answers or refuses every input.
 mod copies;
 mod rect;
 mod upload;

@@ -1,14 +1,13 @@
 -- A box is a legal rectangle: some texels of the level, on the block grid of every format whose block edge divides the tile edges.
 -- Assumes nothing.
 use mathlib.Core.Path.{_≡_, refl, sym, ap, subst, _∙_}
-use mathlib.Core.Bool.{Bool, true, false, _||_, or-true}
+use mathlib.Core.Bool.{Bool, true, false}
 use mathlib.Core.List.{List, [], _∷_, map}
 use Prim.Native.Nat.{ℕ, suc, _+_, _-_, _*_, _/_, _%_, _≤_, _<_, min}
 use native.Mathlib.Nat.{mul-mod-left, mul-assoc, add-mul, div-add-mod', add-zero}
 use native.Mathlib.Decide.{decLe}
 use native.Mathlib.Omega.{arith}
-use lib.Dec.{eqb, leb}
-use borrow.Author.Tests.{eq-eqb}
+use lib.Dec.{leb}
 use Rattle.base_blocks.specs.All.{All}
 use Rattle.base_blocks.proofs.All.{all-head, all-tail, all-map}
 use Rattle.grid_axes.specs.declared.axis.Axis.{Axis}
@@ -20,6 +19,7 @@ use Rattle.grid_rects.specs.Rects.{sideOnGrid, rectOnGrid}
 use Rattle.grid_stamps.specs.Grids.{Tiling, TilingOk, columnsOf, rowsOf, StampGrid, Tile, dirtyTiles, boxOf, boxAround, boxSince}
 use Rattle.grid_axes.proofs.Axes.{span-size-pos, span-inside, span-end}
 use Rattle.grid_axes.proofs.Spans.{around-in, one-in}
+use Rattle.grid_rects.proofs.Rects.{mod-multiple, side-of-blocks, side-at-edge}
 use Rattle.grid_stamps.proofs.Boxes.{TileIn, dirty-in}
 
 -- some texels of the level
@@ -53,14 +53,13 @@ module _ (a : Axis) (s : Span) (block : ℕ) (wide : 0 < a .edge) (h : SpanIn a 
       ap (λ (k : ℕ). k % block) f ∙ multiple block (a .edge) n whole
 
   pub span-on-grid : sideOnGrid block (spanStart a s) (spanSize a s) (a .extent) ≡ true
-  unfolding sideOnGrid
-  span-on-grid = rw (eq-eqb (spanStart a s % block) 0 starts) (go (decLe (suc (s .last) * a .edge) (a .extent)))
+  span-on-grid = go (decLe (suc (s .last) * a .edge) (a .extent))
     where
-      go : Dec (suc (s .last) * a .edge ≤ a .extent) → eqb (spanSize a s % block) 0 || eqb (spanStart a s + spanSize a s) (a .extent) ≡ true
-      go (yes q) = rw (eq-eqb (spanSize a s % block) 0 (sizes q))
+      go : Dec (suc (s .last) * a .edge ≤ a .extent) → sideOnGrid block (spanStart a s) (spanSize a s) (a .extent) ≡ true
+      go (yes q) = side-of-blocks block (spanStart a s) (spanSize a s) (a .extent) (mod-multiple (spanStart a s) block starts) (mod-multiple (spanSize a s) block (sizes q))
       go (no q) =
           let e : spanStart a s + spanSize a s ≡ a .extent = omega (arith, span-end a s wide h) in
-          rw (eq-eqb (spanStart a s + spanSize a s) (a .extent) e) (or-true (eqb (spanSize a s % block) 0))
+          side-at-edge block (spanStart a s) (spanSize a s) (a .extent) (mod-multiple (spanStart a s) block starts) e
 
 -- ---- the box
 

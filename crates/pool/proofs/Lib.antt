@@ -1,2 +1,3 @@
 pub mod NoPool
 pub mod Asking
+pub mod DirtyTiles

@@ -1,12 +1,10 @@
 // The textures' records: twenty numbers each, packed in ascending id from the front of their slice.
 ghost use mathlib.Core.Path.{_≡_};
-ghost use mathlib.Core.Bool.{_&&_};
 ghost use Prim.Native.Nat.{_+_, _*_, _-_, _≤_, _<_};
-ghost use lib.Dec.{ltb, eqb};
 ghost use lib.ListN.{length};
 ghost use lib.Seq.{sets};
 ghost use Rattle.base_blocks.specs.Blocks.{moved};
-ghost use Rattle.pool_records.specs.Find.{idOf};
+ghost use Rattle.pool_records.specs.Find.{hasId};
 ghost use Rattle.pool_records.specs.Recorded.{RecordedFits};
 ghost use Rattle.pool_records.specs.Texture.{writeTexture, textureIn};
 ghost use Rattle.pool_records.specs.RecordConstants.{textureStride};
@@ -31,7 +29,7 @@ pub fn texture_at(s: &[u64], i: usize) -> TextureRecord
 // Tells whether record i, where a search among n ended, is there and has the id.
 pub fn has_id(s: &[u64], n: usize, i: usize, id: u64) -> bool
     requires { ⌜ textureStride * n ≤ length (now s) ⌝ }
-    ensures { λ r. ⌜ r ≡ (ltb i n && eqb (idOf (textureIn (now (s .entry)) i)) id) ⌝ }
+    ensures { λ r. ⌜ r ≡ hasId (now (s .entry)) n i id ⌝ }
 {
     if n <= i {
         return false;

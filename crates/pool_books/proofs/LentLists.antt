@@ -24,7 +24,7 @@ use Rattle.pool_rules.specs.ForgetTexture.{forgetTexture}
 use Rattle.pool_rules.proofs.Closure.{closed}
 use Rattle.pool_memory.specs.Lent.{Lent}
 use Rattle.pool_memory.specs.Reading.{modelOf}
-use Rattle.pool_memory.specs.Writing.{after}
+use Rattle.pool_memory.specs.Writing.{lentAfter}
 use Rattle.pool_memory.specs.Calls.{writtenBack, asked, inBuffer, takenOf, poppedOf, copyNumbers, viewNumbers, takeSpareOn, retireOn, noteWriteOn, noteMipRegenerationOn, popRetiredOn, parkOn, noteAllocatedOn, trimOn, forgetTextureOn, preservePlanOn, takeDoomedOn, drainVersionsOn}
 use Rattle.pool_memory.proofs.Fits.{Fits}
 use Rattle.pool_memory.proofs.FromPool.{pool-fits, are-places}
@@ -59,7 +59,7 @@ module _ (l : Lent) (p : PoolModel ℕ) (represents : Represents l p) {A : Type 
   unfolding asked
   asked-model f = rw (fits-pool l (represents .0), represents .1)
 
-  after-represents : (q : PoolModel ℕ) → Formed q → q .places ≡ p .places → Represents (after q l) q
+  after-represents : (q : PoolModel ℕ) → Formed q → q .places ≡ p .places → Represents (lentAfter q l) q
   after-represents q k e =
       let f = e ∙ ap (λ (r : PoolModel ℕ). r .places) (sym (represents .1)) in
       (after-fits l q (represents .0) k f, read-back l q (represents .0) k f)

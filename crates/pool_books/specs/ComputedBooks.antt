@@ -148,26 +148,26 @@ pub record KeepToRenames : Type 0 where
 -- ---- books
 
 -- the books of texture 7 after the first n calls of a list
-abbrev pub bookAfter : Places → List Call → ℕ → Option Book
-bookAfter places cs n = run (start places 0) (take n cs) .books 7
+abbrev pub bookAfterCalls : Places → List Call → ℕ → Option Book
+bookAfterCalls places cs n = run (start places 0) (take n cs) .books 7
 
 abbrev pub afterSample : ℕ → Option Book
-afterSample n = bookAfter sampleLent sampleOn n
+afterSample n = bookAfterCalls sampleLent sampleOn n
 
 abbrev pub afterCube : ℕ → Option Book
-afterCube n = bookAfter cubeLent cubeList n
+afterCube n = bookAfterCalls cubeLent cubeList n
 
 abbrev pub afterVolume : ℕ → Option Book
-afterVolume n = bookAfter sampleLent volumeList n
+afterVolume n = bookAfterCalls sampleLent volumeList n
 
 abbrev pub afterCover : ℕ → Option Book
-afterCover n = bookAfter sampleLent coverList n
+afterCover n = bookAfterCalls sampleLent coverList n
 
 abbrev pub afterShapes : ℕ → Option Book
-afterShapes n = bookAfter cubeLent shapesList n
+afterShapes n = bookAfterCalls cubeLent shapesList n
 
 abbrev pub afterTwelve : ℕ → Option Book
-afterTwelve n = bookAfter sampleLent twelveList n
+afterTwelve n = bookAfterCalls sampleLent twelveList n
 
 -- the live version's number, the plain book's, and whether the level is left out
 abbrev pub liveAt : Option Book → Texel → Option ℕ

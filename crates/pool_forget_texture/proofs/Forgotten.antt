@@ -16,12 +16,12 @@ use Rattle.pool_rules.specs.Updates.{withTextures, asDoomed, doomSpares}
 use Rattle.pool_rules.specs.ForgetTexture.{forgetTexture}
 use Rattle.pool_rules.proofs.Moves.{as-doomed-bytes, as-doomed-length}
 use Rattle.pool_records.specs.Doomed.{writeDoomed}
-use Rattle.pool_records.specs.Texture.{readTexture, textureIn, recordPages}
-use Rattle.pool_records.specs.Find.{idOf}
+use Rattle.pool_records.specs.Texture.{readTexture, textureIn, recordPages, sparesTo}
+use Rattle.pool_records.specs.Find.{idOf, hasId}
 use Rattle.pool_memory.specs.declared.pool.Pool.{Pool as Counts}
 use Rattle.pool_memory.specs.Lent.{Lent, lent, versionPlaces}
 use Rattle.pool_memory.specs.Reading.{trackedRecords, modelOf}
-use Rattle.pool_memory.specs.Writing.{doomedRecord, poolAfter, bookAfter, doomedAfter, sparesAfter, newestAfter, stampsAfter, after}
+use Rattle.pool_memory.specs.Writing.{doomedRecord, poolAfter, pacingAfter, doomedAfter, sparesAfter, newestAfter, stampsAfter, lentAfter}
 use Rattle.pool_memory.specs.IsPool.{isPool}
 use Rattle.pool_memory.specs.Calls.{answer, forgetTextureOn}
 use Rattle.pool_memory.proofs.Fits.{Fits}
@@ -39,9 +39,9 @@ use Rattle.pool_memory.proofs.Tracked.{record-read, spares-to, pages-to, bytes-
 use Rattle.pool_take_doomed.specs.Given.{givenRecords}
 use Rattle.pool_take_doomed.proofs.Pushed.{given-spares}
 use Rattle.pool_access.proofs.Totals.{total-next}
-use Rattle.pool_access.proofs.Ids.{hasId, found, not-found}
+use Rattle.pool_access.proofs.Ids.{found, not-found}
 use Rattle.pool_forget_texture.specs.declared.owned.Owned.{Owned}
-use Rattle.pool_forget_texture.specs.Owned.{sparesTo, pagesTo, ownedAt, without}
+use Rattle.pool_forget_texture.specs.Owned.{pagesTo, ownedAt, without}
 use Rattle.pool_forget_texture.proofs.TextureRuns.{spares-in, spares-within, pages-within, bytes-within}
 use Rattle.grid_shapes.specs.ShapeConstants.{mostShapeBytes}
 use Rattle.grid_stamps.specs.StampConstants.{pageStamps}
@@ -205,8 +205,8 @@ module _ (l : Lent) (f : Fits l) (i : ℕ) (h : i < l .pool .tracked) where
       (ap recordPages (record-read l i h)))
       ∙ stamps-removed l left (f .claimed) i h refl (ids-ascend l f) (omega (arith, f .stamps, f .pages))
 
-  book-left : l .book ≡ bookAfter left
-  unfolding bookAfter
+  book-left : l .book ≡ pacingAfter left
+  unfolding pacingAfter
   book-left = sym (book-same l (f .mark))
 
   pub left-behind : (own : Owned) → own ≡ ownedAt T i → (c : Counts) (textures doomed spares newest stamps : List ℕ)
@@ -217,7 +217,7 @@ module _ (l : Lent) (f : Fits l) (i : ℕ) (h : i < l .pool .tracked) where
       → spares ≡ moved (l .spares) (spareStride * own .first) (spareStride * own .first + spareStride * own .spares) (spareStride * (l .pool .kept - (own .first + own .spares)))
       → newest ≡ moved (l .newest) (own .page) (own .page + own .pages) (l .pool .pages - (own .page + own .pages))
       → stamps ≡ moved (l .stamps) (pageStamps * own .page) (pageStamps * own .page + pageStamps * own .pages) (pageStamps * (l .pool .pages - (own .page + own .pages)))
-      → lent c (l .book) textures (l .retiring) doomed spares newest stamps ≡ after left l
+      → lent c (l .book) textures (l .retiring) doomed spares newest stamps ≡ lentAfter left l
   unfolding ownedAt versionPlaces
   left-behind own e c textures doomed spares newest stamps e1 e2 e3 e4 e5 e6 =
       put-together left l c (l .book) textures (l .retiring) doomed spares newest stamps
@@ -285,11 +285,11 @@ module _ (l : Lent) (pool : isPool l ≡ true) (id : ℕ) where
     is-nowhere : hasId (l .textures) (l .pool .tracked) i id ≡ false → IsTracked l id up → ⊥
     is-nowhere q (h, e) = not-found (l .textures) (l .pool .tracked) i id up at q (place l id up) h (ap idOf (sym (record-read l (place l id up) h)) ∙ e)
 
-    pub forget-tracked : hasId (l .textures) (l .pool .tracked) i id ≡ true → (r : Lent) → r ≡ after (forgotten l i) l
+    pub forget-tracked : hasId (l .textures) (l .pool .tracked) i id ≡ true → (r : Lent) → r ≡ lentAfter (forgotten l i) l
         → (answer tt, r) ≡ forgetTextureOn l id
     unfolding forgetTextureOn
     forget-tracked q r e =
-        ap (λ (s : Lent). (answer tt, s)) (e ∙ ap (λ (k : ℕ). after (forgotten l k) l) at)
+        ap (λ (s : Lent). (answer tt, s)) (e ∙ ap (λ (k : ℕ). lentAfter (forgotten l k) l) at)
         ∙ sym (asked-accepted (λ a. a) l (λ (p : PoolModel ℕ). forgetTexture p id) pool tt (forgotten l (place l id up)) (rule-tracked (is-there q)))
 
     pub forget-untracked : hasId (l .textures) (l .pool .tracked) i id ≡ false → (answer tt, l) ≡ forgetTextureOn l id

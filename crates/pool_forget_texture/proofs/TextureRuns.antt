@@ -6,14 +6,14 @@ use native.Mathlib.Omega.{arith}
 use Rattle.base_blocks.specs.Lists.{listed}
 use Rattle.grid_shapes.specs.Shapes.{bytesOf}
 use Rattle.grid_shapes.proofs.ShapeBytes.{bytes-bound}
-use Rattle.pool_records.specs.Texture.{readTexture, textureIn, recordPages}
+use Rattle.pool_records.specs.Texture.{readTexture, textureIn, recordPages, sparesTo}
 use Rattle.pool_memory.specs.Lent.{Lent}
 use Rattle.pool_memory.specs.Reading.{spareRead, stateRead}
 use Rattle.pool_memory.proofs.Fits.{Fits}
 use Rattle.pool_memory.proofs.Runs.{sparesOf, stateOf}
 use Rattle.pool_memory.proofs.Tracked.{record-read, spares-to, shape-passes}
 use Rattle.pool_access.proofs.Totals.{total-with}
-use Rattle.pool_forget_texture.specs.Owned.{sparesTo, pagesTo}
+use Rattle.pool_forget_texture.specs.Owned.{pagesTo}
 use Rattle.grid_shapes.specs.ShapeConstants.{mostShapeBytes}
 use Rattle.pool_records.specs.RecordConstants.{textureStride}
 use Rattle.pool_rules.specs.RuleConstants.{mostPlaces}

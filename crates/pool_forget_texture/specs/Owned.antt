@@ -3,13 +3,9 @@ use Prim.Native.Nat.{ℕ, _+_, _-_, _*_}
 use mathlib.Core.List.{List}
 use Rattle.base_blocks.specs.Lists.{total}
 use Rattle.pool_records.specs.declared.texture.TextureRecord.{TextureRecord}
-use Rattle.pool_records.specs.Texture.{textureIn, texturesIn, recordPages}
+use Rattle.pool_records.specs.Texture.{textureIn, texturesIn, recordPages, sparesTo}
 use Rattle.pool_memory.specs.declared.pool.Pool.{Pool as Counts}
 use Rattle.pool_forget_texture.specs.declared.owned.Owned.{Owned}
-
--- where the spares and the pages of texture i begin
-abbrev pub sparesTo : List ℕ → ℕ → ℕ
-sparesTo textures i = total (λ (t : TextureRecord). t .spares) (texturesIn i textures)
 
 abbrev pub pagesTo : List ℕ → ℕ → ℕ
 pagesTo textures i = total recordPages (texturesIn i textures)

@@ -19,14 +19,14 @@ use Rattle.pool_memory.specs.Lent.{Lent, versionPlaces}
 use Rattle.pool_memory.specs.Reading.{trackedRecords, statesRead, retiringRead, handRead, doomedRead, modelOf}
 use Rattle.pool_memory.specs.IsPool.{sizesFit, countsFit, runsFit, bytesHold, bytesFit, markFits, stateId, isSpare, isState, isRetiring, isHand, isDoomed, isArrival, isFormed, isPool}
 use Rattle.pool_formed.specs.Parts.{placesHold, retiringAt, retiringFit, doomedAt, doomedFit, ringsFit, numbersFit}
-use Rattle.pool_formed_textures.specs.Textures.{isRecord, recordSpares, claim, spareAt, historiesFit, texturesFit}
+use Rattle.pool_formed_textures.specs.Textures.{isRecord, claim, modelSpareAt, historiesFit, texturesFit}
 use Rattle.pool_formed_textures.proofs.Tests.{same-test}
 use Rattle.pool_formed_textures.proofs.States.{states-ids, states-bytes, states-test}
 use Rattle.pool_formed.proofs.RingTests.{hand-test}
 use Rattle.grid_stamps.specs.StampConstants.{pageStamps}
 use Rattle.pool_records.specs.RecordConstants.{doomedStride, retiringStride, spareStride, textureStride}
 use Rattle.pool_rules.specs.RuleConstants.{destroySpreadDrains, mostPlaces}
-use Rattle.pool_records.specs.Texture.{recordPages}
+use Rattle.pool_records.specs.Texture.{recordPages, recordSpares}
 
 pub counts-places : (l : Lent) → countsFit l ≡ placesHold (l .pool) (length (l .textures) / textureStride) (length (l .retiring) / retiringStride) (length (l .newest))
 unfolding countsFit placesHold modelOf versionPlaces
@@ -147,7 +147,7 @@ module _ (l : Lent) where
           (cons (sym (states-ids l 0 0 ts) ∙ c .ids)
           (cons (q .0)
           (cons to-claim
-          (cons (ap (λ (n : ℕ). all isSpare (listed (spareAt (l .spares)) 0 n)) (sym (kept runs)) ∙ r .1)
+          (cons (ap (λ (n : ℕ). all isSpare (listed (modelSpareAt (l .spares)) 0 n)) (sym (kept runs)) ∙ r .1)
           (cons (ap (eqb (l .pool .parked)) (sym (states-bytes l 0 0 ts)) ∙ c .parked) (cons (r .0) nil))))))
 
   -- ---- and what passes them forms a pool
@@ -175,7 +175,7 @@ module _ (l : Lent) where
     from-records =
         states-test l 0 0 ts
         ∙ ap₂ (λ (a b : Bool). a && b) (passed _ t 1)
-        (ap₂ (λ (a b : Bool). a && b) (passed _ t 5) (ap (λ (n : ℕ). all isSpare (listed (spareAt (l .spares)) 0 n)) (kept from-runs) ∙ passed _ t 3))
+        (ap₂ (λ (a b : Bool). a && b) (passed _ t 5) (ap (λ (n : ℕ). all isSpare (listed (modelSpareAt (l .spares)) 0 n)) (kept from-runs) ∙ passed _ t 3))
 
     from-states : all isState (statesRead l 0 0 ts) ≡ true
     from-states = and-both (all isState (statesRead l 0 0 ts)) (all bytesHold ts) from-records .0

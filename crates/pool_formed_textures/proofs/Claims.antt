@@ -13,13 +13,12 @@ use Rattle.base_blocks.proofs.Listed.{left, left-step, left-none, total-more}
 use Rattle.grid_shapes.specs.Shapes.{bytesOf}
 use Rattle.grid_shapes.proofs.ShapeBytes.{bytes-bound}
 use Rattle.pool_records.specs.declared.texture.TextureRecord.{TextureRecord}
-use Rattle.pool_records.specs.Find.{textures}
-use Rattle.pool_formed_textures.specs.Textures.{isRecord, recordSpares, recordBytes, claim}
+use Rattle.pool_formed_textures.specs.Textures.{isRecord, claim}
 use Rattle.pool_formed_textures.proofs.Tests.{same-test}
 use Rattle.pool_formed_textures.proofs.RecordTests.{record-shape}
 use Rattle.grid_shapes.specs.ShapeConstants.{mostShapeBytes}
 use Rattle.pool_rules.specs.RuleConstants.{mostPlaces}
-use Rattle.pool_records.specs.Texture.{textureIn, recordPages}
+use Rattle.pool_records.specs.Texture.{textureIn, recordPages, recordSpares, recordBytes, texturesIn}
 
 -- ---- spares and pages claimed: what is left of both
 
@@ -69,9 +68,9 @@ parked-bound (t ∷ ts) e =
 
 -- ---- a running sum of the bytes
 
-module _ (s : List ℕ) (n i sum b : ℕ) (h : i < n) (so-far : sum + total recordBytes (left (textureIn s) n i) ≡ total recordBytes (textures n s)) (e : b ≡ recordBytes (textureIn s i)) where
-  pub parked-more : sum + b + total recordBytes (left (textureIn s) n (i + 1)) ≡ total recordBytes (textures n s)
+module _ (s : List ℕ) (n i sum b : ℕ) (h : i < n) (so-far : sum + total recordBytes (left (textureIn s) n i) ≡ total recordBytes (texturesIn n s)) (e : b ≡ recordBytes (textureIn s i)) where
+  pub parked-more : sum + b + total recordBytes (left (textureIn s) n (i + 1)) ≡ total recordBytes (texturesIn n s)
   parked-more = omega (arith, so-far, e, total-more (textureIn s) n recordBytes i h)
 
-  pub parked-room : all isRecord (textures n s) ≡ true → total recordSpares (textures n s) ≤ mostPlaces → sum + b ≤ 72057594037927936
-  parked-room ok q = omega (arith, parked-more, parked-bound (textures n s) ok, q)
+  pub parked-room : all isRecord (texturesIn n s) ≡ true → total recordSpares (texturesIn n s) ≤ mostPlaces → sum + b ≤ 72057594037927936
+  parked-room ok q = omega (arith, parked-more, parked-bound (texturesIn n s) ok, q)

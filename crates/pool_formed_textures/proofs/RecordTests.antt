@@ -20,12 +20,12 @@ use Rattle.grid_shapes.proofs.Shapes.{shape-bounds, slices-bound}
 use Rattle.grid_shapes.proofs.ShapeBytes.{bytes-bound}
 use Rattle.pool_rules.specs.Model.{limit}
 use Rattle.pool_records.specs.declared.texture.TextureRecord.{TextureRecord}
-use Rattle.pool_records.specs.Texture.{readTexture, textureIn}
-use Rattle.pool_records.specs.Find.{textures, idOf}
+use Rattle.pool_records.specs.Texture.{readTexture, textureIn, recordSpares, texturesIn}
+use Rattle.pool_records.specs.Find.{idOf}
 use Rattle.pool_records.proofs.Codecs.{texture-codec}
 use Rattle.pool_memory.specs.IsPool.{bytesHold}
 use Rattle.pool_memory.proofs.Runs.{bytes-held}
-use Rattle.pool_formed_textures.specs.Textures.{writesFit, isRecord, recordSpares}
+use Rattle.pool_formed_textures.specs.Textures.{writesFit, isRecord}
 use Rattle.pool_formed_textures.proofs.Tests.{fails}
 use Rattle.grid_shapes.specs.ShapeConstants.{mostShapeBytes}
 use Rattle.pool_records.specs.RecordConstants.{textureSparesAt, textureStride}
@@ -85,32 +85,32 @@ pub record-holds : (t : TextureRecord) → isRecord t ≡ true → bytesHold t �
 unfolding isRecord
 record-holds t e = passed _ e 6
 
-module _ (s : List ℕ) (n : ℕ) (ok : all isRecord (textures n s) ≡ true) where
+module _ (s : List ℕ) (n : ℕ) (ok : all isRecord (texturesIn n s) ≡ true) where
   pub shape-at : (i : ℕ) → i < n → isShape (textureIn s i .shape) ≡ true
   shape-at i h =
       let e = getD-table textureStride readTexture n i s (readTexture []) h in
-      let f = all-get isRecord (textures n s) i (readTexture []) ok (omega (arith, length-table textureStride readTexture n s)) in
+      let f = all-get isRecord (texturesIn n s) i (readTexture []) ok (omega (arith, length-table textureStride readTexture n s)) in
       record-shape (textureIn s i) (rw e at f)
 
   pub bytes-at : (i : ℕ) → i < n → textureIn s i .bytes ≡ bytesOf (textureIn s i .shape)
   bytes-at i h =
       let e = getD-table textureStride readTexture n i s (readTexture []) h in
-      let f = all-get isRecord (textures n s) i (readTexture []) ok (omega (arith, length-table textureStride readTexture n s)) in
+      let f = all-get isRecord (texturesIn n s) i (readTexture []) ok (omega (arith, length-table textureStride readTexture n s)) in
       bytes-held (textureIn s i) (record-holds (textureIn s i) (rw e at f))
 
-pub spares-at : (s : List ℕ) (n i : ℕ) → i < n → textureIn s i .spares ≤ total recordSpares (textures n s)
+pub spares-at : (s : List ℕ) (n i : ℕ) → i < n → textureIn s i .spares ≤ total recordSpares (texturesIn n s)
 spares-at s n i h =
     let e = getD-table textureStride readTexture n i s (readTexture []) h in
-    let f = total-get recordSpares (textures n s) i (readTexture []) (omega (arith, length-table textureStride readTexture n s)) in
+    let f = total-get recordSpares (texturesIn n s) i (readTexture []) (omega (arith, length-table textureStride readTexture n s)) in
     rw e at f
 
 -- ---- the record at i, read out of its part of the slice
 
 module _ (s : List ℕ) (i : ℕ) (p : List ℕ) (e : p ≡ take textureStride (drop (textureStride * i) s)) where
-  pub read-shape : (n : ℕ) → all isRecord (textures n s) ≡ true → i < n → isShape (readTexture p .shape) ≡ true
+  pub read-shape : (n : ℕ) → all isRecord (texturesIn n s) ≡ true → i < n → isShape (readTexture p .shape) ≡ true
   read-shape n ok h = ap (λ (t : TextureRecord). isShape (t .shape)) (texture-read s i p e) ∙ shape-at s n ok i h
 
-  pub read-bytes : (n : ℕ) → all isRecord (textures n s) ≡ true → i < n → readTexture p .bytes ≡ bytesOf (readTexture p .shape)
+  pub read-bytes : (n : ℕ) → all isRecord (texturesIn n s) ≡ true → i < n → readTexture p .bytes ≡ bytesOf (readTexture p .shape)
   read-bytes n ok h = subst (λ (t : TextureRecord). t .bytes ≡ bytesOf (t .shape)) (sym (texture-read s i p e)) (bytes-at s n ok i h)
 
   pub read-spares : getD p textureSparesAt 0 ≡ textureIn s i .spares

@@ -16,9 +16,9 @@ use Rattle.pool_records.specs.declared.texture.TextureRecord.{TextureRecord}
 use Rattle.pool_records.specs.Find.{idOf}
 use Rattle.pool_memory.specs.Reading.{gridRead, historyRead, spareRead, stateRead, statesRead}
 use Rattle.pool_memory.specs.IsPool.{bytesHold, isSpare, stateId, isHistory, isState}
-use Rattle.pool_formed_textures.specs.Textures.{writesFit, isRecord, recordSpares, recordBytes, spareAt, gridsFit, historyFits, historiesFit, gridAt}
+use Rattle.pool_formed_textures.specs.Textures.{writesFit, isRecord, modelSpareAt, gridsFit, historyFits, historiesFit, gridOnPage}
 use Rattle.pool_memory.specs.Lent.{Lent}
-use Rattle.pool_records.specs.Texture.{recordPages}
+use Rattle.pool_records.specs.Texture.{recordPages, recordSpares, recordBytes}
 
 -- conditions of one state and of the rest, by kind
 by-kind : (a h s b g r : Bool) → a && (h && s) && (b && (g && r)) ≡ a && b && (h && g && (s && r))
@@ -60,16 +60,16 @@ module _ (l : Lent) where
   -- ---- every state passes and every record's bytes hold: every record, every grid and every spare
 
   history-test : (s : VersionShape) (page : ℕ) (h : Recorded) → isHistory (historyRead l s page h) ≡ writesFit h && historyFits (l .newest) (l .stamps) s page h
-  unfolding isHistory gridRead gridAt gridsFit
+  unfolding isHistory gridRead gridOnPage gridsFit
   history-test s page (Writes n) = refl
   history-test s page NoHistory = refl
 
   abbrev sparesFrom : ℕ → ℕ → Bool
-  sparesFrom first n = all isSpare (listed (spareAt (l .spares)) first n)
+  sparesFrom first n = all isSpare (listed (modelSpareAt (l .spares)) first n)
 
   state-test : (first page : ℕ) (t : TextureRecord) → isState (stateRead l first page t) && bytesHold t
       ≡ isRecord t && (historyFits (l .newest) (l .stamps) (t .shape) page (t .history) && sparesFrom first (t .spares))
-  unfolding isState isRecord stateRead spareRead spareAt tests after
+  unfolding isState isRecord stateRead spareRead modelSpareAt tests after
   state-test first page t =
       let x = isShape (t .shape) && leb (t .epoch) limit && leb (t .birth) limit && leb (t .rename) limit && leb (t .due) limit in
       ap (λ (b : Bool). x && b && sparesFrom first (t .spares) && bytesHold t) (history-test (t .shape) page (t .history))
@@ -77,7 +77,7 @@ module _ (l : Lent) where
 
   spares-split : (first m n : ℕ) → sparesFrom first (m + n) ≡ sparesFrom first m && sparesFrom (first + m) n
   spares-split first m n =
-      ap (all isSpare) (listed-split (spareAt (l .spares)) first m n) ∙ all-append isSpare (listed (spareAt (l .spares)) first m) (listed (spareAt (l .spares)) (first + m) n)
+      ap (all isSpare) (listed-split (modelSpareAt (l .spares)) first m n) ∙ all-append isSpare (listed (modelSpareAt (l .spares)) first m) (listed (modelSpareAt (l .spares)) (first + m) n)
 
   pub states-test : (first page : ℕ) (ts : List TextureRecord) → all isState (statesRead l first page ts) && all bytesHold ts
       ≡ all isRecord ts && (historiesFit (l .newest) (l .stamps) page ts && sparesFrom first (total recordSpares ts))

@@ -8,11 +8,11 @@ use lib.Dec.{eqb}
 use Rattle.base_blocks.specs.Lists.{all, total, ascending, listed, tests, after}
 use Rattle.base_blocks.proofs.Lists.{passed}
 use Rattle.pool_records.specs.declared.texture.TextureRecord.{TextureRecord}
-use Rattle.pool_records.specs.Find.{textures, idOf}
+use Rattle.pool_records.specs.Find.{idOf}
 use Rattle.pool_memory.specs.declared.pool.Pool.{Pool}
 use Rattle.pool_memory.specs.IsPool.{isSpare}
-use Rattle.pool_formed_textures.specs.Textures.{isRecord, recordSpares, recordBytes, claim, spareAt, historiesFit, texturesFit}
-use Rattle.pool_records.specs.Texture.{recordPages}
+use Rattle.pool_formed_textures.specs.Textures.{isRecord, claim, modelSpareAt, historiesFit, texturesFit}
+use Rattle.pool_records.specs.Texture.{recordPages, recordSpares, recordBytes, texturesIn}
 
 module _ (ts : List TextureRecord) (kept pages : ℕ) (e : claim ts kept pages ≡ true) where
   pub claimed-spares : total recordSpares ts ≡ kept
@@ -26,9 +26,9 @@ module _ (ts : List TextureRecord) (kept pages : ℕ) (e : claim ts kept pages �
 pub parked-other : (parked sum n : ℕ) → sum ≡ n → (parked ≡ sum → ⊥) → eqb parked n ≡ false
 parked-other parked sum n e h = ne-eqb parked n (λ q. h (q ∙ sym e))
 
-pub textures-last : (pool : Pool) (slice spares newest stamps : List ℕ) → ascending idOf (textures (pool .tracked) slice) ≡ true
-    → all isRecord (textures (pool .tracked) slice) ≡ true → claim (textures (pool .tracked) slice) (pool .kept) (pool .pages) ≡ true
-    → all isSpare (listed (spareAt spares) 0 (pool .kept)) ≡ true → pool .parked ≡ total recordBytes (textures (pool .tracked) slice)
-    → historiesFit newest stamps 0 (textures (pool .tracked) slice) ≡ texturesFit pool slice spares newest stamps
+pub textures-last : (pool : Pool) (slice spares newest stamps : List ℕ) → ascending idOf (texturesIn (pool .tracked) slice) ≡ true
+    → all isRecord (texturesIn (pool .tracked) slice) ≡ true → claim (texturesIn (pool .tracked) slice) (pool .kept) (pool .pages) ≡ true
+    → all isSpare (listed (modelSpareAt spares) 0 (pool .kept)) ≡ true → pool .parked ≡ total recordBytes (texturesIn (pool .tracked) slice)
+    → historiesFit newest stamps 0 (texturesIn (pool .tracked) slice) ≡ texturesFit pool slice spares newest stamps
 unfolding texturesFit tests after
-textures-last pool slice spares newest stamps i r c s p = sym (rw (i, r, c, s, eq-eqb (pool .parked) (total recordBytes (textures (pool .tracked) slice)) p))
+textures-last pool slice spares newest stamps i r c s p = sym (rw (i, r, c, s, eq-eqb (pool .parked) (total recordBytes (texturesIn (pool .tracked) slice)) p))

@@ -16,12 +16,12 @@ use Rattle.pool_records.specs.declared.recorded.Recorded.the-variants.{Writes, 
 use Rattle.pool_records.specs.declared.texture.TextureRecord.{TextureRecord}
 use Rattle.pool_records.specs.Spare.{readSpare}
 use Rattle.pool_records.specs.Views.{spareOf}
-use Rattle.pool_records.specs.Find.{textures, idOf}
+use Rattle.pool_records.specs.Find.{idOf}
 use Rattle.pool_memory.specs.declared.pool.Pool.{Pool}
 use Rattle.pool_memory.specs.Reading.{pageAt}
 use Rattle.pool_memory.specs.IsPool.{bytesHold, isGrid, isSpare}
 use Rattle.pool_records.specs.RecordConstants.{spareStride}
-use Rattle.pool_records.specs.Texture.{recordPages}
+use Rattle.pool_records.specs.Texture.{recordPages, recordSpares, recordBytes, texturesIn}
 
 -- ---- textures
 
@@ -35,28 +35,21 @@ isRecord t = tests (
     isShape (t .shape) ∷ leb (t .epoch) limit ∷ leb (t .birth) limit ∷ leb (t .rename) limit ∷ leb (t .due) limit ∷ writesFit (t .history)
     ∷ bytesHold t ∷ [])
 
-abbrev pub recordSpares : TextureRecord → ℕ
-recordSpares t = t .spares
-
--- bytes of a texture's spares
-unfoldable pub recordBytes : TextureRecord → ℕ
-recordBytes t = bytesOf (t .shape) * t .spares
-
 -- the records claim so many spares and so many pages
 unfoldable pub claim : List TextureRecord → ℕ → ℕ → Bool
 claim ts kept pages = tests (eqb kept (total recordSpares ts) ∷ eqb pages (total recordPages ts) ∷ [])
 
-unfoldable pub spareAt : List ℕ → ℕ → Spare ℕ
-spareAt spares k = spareOf (recordAt spareStride readSpare spares k)
+unfoldable pub modelSpareAt : List ℕ → ℕ → Spare ℕ
+modelSpareAt spares k = spareOf (recordAt spareStride readSpare spares k)
 
 -- ---- histories
 
 -- the k-th grid of a history whose first page is `page`
-unfoldable pub gridAt : List ℕ → List ℕ → VersionShape → ℕ → ℕ → StampGrid
-gridAt newest stamps s page k = gridIn (tilingOf s (k % s .levels)) (getD newest (page + k) 0) (pageAt stamps (page + k))
+unfoldable pub gridOnPage : List ℕ → List ℕ → VersionShape → ℕ → ℕ → StampGrid
+gridOnPage newest stamps s page k = gridIn (tilingOf s (k % s .levels)) (getD newest (page + k) 0) (pageAt stamps (page + k))
 
 unfoldable pub gridsFit : List ℕ → List ℕ → VersionShape → ℕ → ℕ → Bool
-gridsFit newest stamps s page writes = all (isGrid writes) (listed (gridAt newest stamps s page) 0 (pagesOf s))
+gridsFit newest stamps s page writes = all (isGrid writes) (listed (gridOnPage newest stamps s page) 0 (pagesOf s))
 
 abbrev pub historyFits : List ℕ → List ℕ → VersionShape → ℕ → Recorded → Bool
 historyFits newest stamps s page (Writes n) = gridsFit newest stamps s page n
@@ -71,11 +64,11 @@ historiesFit newest stamps page (t ∷ ts) =
 -- the textures, their spares and their histories
 unfoldable pub texturesFit : Pool → List ℕ → List ℕ → List ℕ → List ℕ → Bool
 texturesFit pool slice spares newest stamps =
-    let ts = textures (pool .tracked) slice in
+    let ts = texturesIn (pool .tracked) slice in
     tests (
     ascending idOf ts
     ∷ all isRecord ts
     ∷ claim ts (pool .kept) (pool .pages)
-    ∷ all isSpare (listed (spareAt spares) 0 (pool .kept))
+    ∷ all isSpare (listed (modelSpareAt spares) 0 (pool .kept))
     ∷ eqb (pool .parked) (total recordBytes ts)
     ∷ historiesFit newest stamps 0 ts ∷ [])

@@ -7,8 +7,7 @@ ghost use Rattle.base_blocks.specs.Lists.{all, total};
 ghost use Rattle.grid_shapes.specs.Shapes.{isShape};
 ghost use Rattle.grid_stamps.specs.Grids.{gridIn, tilingOf};
 ghost use Rattle.pool_rules.specs.Model.{pagesOf};
-ghost use Rattle.pool_records.specs.Texture.{readTexture, recordPages};
-ghost use Rattle.pool_records.specs.Find.{textures as textures′};
+ghost use Rattle.pool_records.specs.Texture.{readTexture, recordPages, texturesIn};
 ghost use Rattle.pool_memory.specs.Reading.{pageAt};
 ghost use Rattle.pool_memory.specs.IsPool.{isGrid};
 ghost use Rattle.pool_formed_textures.specs.Textures.{isRecord, gridsFit, historyFits, historiesFit};
@@ -81,9 +80,9 @@ fn history_fits(p: &[u64], newest: &[u64], stamps: &[u64], page: usize) -> bool
 
 // The histories of the first n records, each behind the pages of those before it.
 pub fn histories_fit(textures: &[u64], n: usize, newest: &[u64], stamps: &[u64]) -> bool
-    requires { ⌜ (textureStride * n ≤ length (now textures)) × (all isRecord (textures′ n (now textures)) ≡ true)
-        × (total recordPages (textures′ n (now textures)) ≤ length (now newest)) × (length (now stamps) ≡ pageStamps * length (now newest)) ⌝ }
-    ensures { λ r. ⌜ r ≡ historiesFit (now (newest .entry)) (now (stamps .entry)) 0 (textures′ n (now (textures .entry))) ⌝ }
+    requires { ⌜ (textureStride * n ≤ length (now textures)) × (all isRecord (texturesIn n (now textures)) ≡ true)
+        × (total recordPages (texturesIn n (now textures)) ≤ length (now newest)) × (length (now stamps) ≡ pageStamps * length (now newest)) ⌝ }
+    ensures { λ r. ⌜ r ≡ historiesFit (now (newest .entry)) (now (stamps .entry)) 0 (texturesIn n (now (textures .entry))) ⌝ }
 {
     let mut page = 0;
     let mut i = 0;

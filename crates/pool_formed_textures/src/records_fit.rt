@@ -6,9 +6,9 @@ ghost use lib.ListN.{length};
 ghost use Rattle.base_blocks.specs.Lists.{all, ascending};
 ghost use Rattle.grid_shapes.specs.Shapes.{isShape, bytesOf};
 ghost use Rattle.pool_rules.specs.Model.{pagesOf};
-ghost use Rattle.pool_records.specs.Texture.{readTexture, recordPages};
-ghost use Rattle.pool_records.specs.Find.{textures as textures′, idOf};
-ghost use Rattle.pool_formed_textures.specs.Textures.{writesFit, isRecord, recordBytes};
+ghost use Rattle.pool_records.specs.Texture.{readTexture, recordPages, recordBytes, texturesIn};
+ghost use Rattle.pool_records.specs.Find.{idOf};
+ghost use Rattle.pool_formed_textures.specs.Textures.{writesFit, isRecord};
 ghost use Rattle.pool_records.specs.RecordConstants.{textureStride};
 ghost use Rattle.pool_rules.specs.RuleConstants.{mostPlaces};
 use base_tables::record_at;
@@ -26,7 +26,7 @@ use pool_rules::LIMIT;
 // The ids of the first n records ascend.
 pub fn ids_ascend(textures: &[u64], n: usize) -> bool
     requires { ⌜ textureStride * n ≤ length (now textures) ⌝ }
-    ensures { λ r. ⌜ r ≡ ascending idOf (textures′ n (now (textures .entry))) ⌝ }
+    ensures { λ r. ⌜ r ≡ ascending idOf (texturesIn n (now (textures .entry))) ⌝ }
 {
     let mut i = 0;
     while i + 1 < n {
@@ -70,7 +70,7 @@ fn is_record(p: &[u64]) -> bool
 // Every one of the first n records does.
 pub fn records_fit(textures: &[u64], n: usize) -> bool
     requires { ⌜ textureStride * n ≤ length (now textures) ⌝ }
-    ensures { λ r. ⌜ r ≡ all isRecord (textures′ n (now (textures .entry))) ⌝ }
+    ensures { λ r. ⌜ r ≡ all isRecord (texturesIn n (now (textures .entry))) ⌝ }
 {
     let mut i = 0;
     while i < n {

@@ -4,10 +4,10 @@ ghost use mathlib.Core.Bool.{true};
 ghost use Prim.Native.Nat.{_*_, _≤_};
 ghost use lib.ListN.{length};
 ghost use Rattle.base_blocks.specs.Lists.{all, total};
-ghost use Rattle.pool_records.specs.Find.{textures as textures′};
-ghost use Rattle.pool_formed_textures.specs.Textures.{isRecord, recordSpares, recordBytes, claim};
+ghost use Rattle.pool_formed_textures.specs.Textures.{isRecord, claim};
 ghost use Rattle.pool_records.specs.RecordConstants.{textureStride};
 ghost use Rattle.pool_rules.specs.RuleConstants.{mostPlaces};
+ghost use Rattle.pool_records.specs.Texture.{recordSpares, recordBytes, texturesIn};
 use crate::records_fit::record_bytes;
 use crate::records_fit::record_pages;
 use base_tables::record_at;
@@ -16,8 +16,8 @@ use pool_records::TEXTURE_STRIDE;
 
 // The first n records claim just `kept` spares and `pages` pages. What is left of both goes down, so that no sum can pass a word.
 pub fn runs_fit(textures: &[u64], n: usize, kept: usize, pages: usize) -> bool
-    requires { ⌜ (textureStride * n ≤ length (now textures)) × (all isRecord (textures′ n (now textures)) ≡ true) ⌝ }
-    ensures { λ r. ⌜ r ≡ claim (textures′ n (now (textures .entry))) kept pages ⌝ }
+    requires { ⌜ (textureStride * n ≤ length (now textures)) × (all isRecord (texturesIn n (now textures)) ≡ true) ⌝ }
+    ensures { λ r. ⌜ r ≡ claim (texturesIn n (now (textures .entry))) kept pages ⌝ }
 {
     let mut spares = kept as u64;
     let mut free = pages;
@@ -41,9 +41,9 @@ pub fn runs_fit(textures: &[u64], n: usize, kept: usize, pages: usize) -> bool
 
 // The bytes of the first n textures' spares.
 pub fn parked_bytes(textures: &[u64], n: usize) -> u64
-    requires { ⌜ (textureStride * n ≤ length (now textures)) × (all isRecord (textures′ n (now textures)) ≡ true)
-        × (total recordSpares (textures′ n (now textures)) ≤ mostPlaces) ⌝ }
-    ensures { λ r. ⌜ r ≡ total recordBytes (textures′ n (now (textures .entry))) ⌝ }
+    requires { ⌜ (textureStride * n ≤ length (now textures)) × (all isRecord (texturesIn n (now textures)) ≡ true)
+        × (total recordSpares (texturesIn n (now textures)) ≤ mostPlaces) ⌝ }
+    ensures { λ r. ⌜ r ≡ total recordBytes (texturesIn n (now (textures .entry))) ⌝ }
 {
     let mut sum = 0;
     let mut i = 0;

@@ -5,7 +5,7 @@ use Prim.Native.Nat.{ℕ}
 use Rattle.pool_rules.specs.Model.{PoolModel, Out, refused, accepted, guard}
 use Rattle.pool_memory.specs.Lent.{Lent}
 use Rattle.pool_memory.specs.Reading.{modelOf}
-use Rattle.pool_memory.specs.Writing.{after}
+use Rattle.pool_memory.specs.Writing.{lentAfter}
 use Rattle.pool_memory.specs.IsPool.{isPool}
 use Rattle.pool_memory.specs.Calls.{refusedWith, answer, writtenBack, asked}
 
@@ -27,7 +27,7 @@ module _ {A B : Type 0} (f : A → B) (l : Lent) (rule : PoolModel ℕ → Out �
     pub asked-refused : (n : ℕ) → rule (modelOf l) ≡ refused n → asked f l rule ≡ (refusedWith n, l)
     asked-refused n q = asked-pool ∙ ap (writtenBack f l) q
 
-    pub asked-accepted : (a : A) (p : PoolModel ℕ) → rule (modelOf l) ≡ accepted a p → asked f l rule ≡ (answer (f a), after p l)
+    pub asked-accepted : (a : A) (p : PoolModel ℕ) → rule (modelOf l) ≡ accepted a p → asked f l rule ≡ (answer (f a), lentAfter p l)
     asked-accepted a p q = asked-pool ∙ ap (writtenBack f l) q
 
   -- stores that form no pool are refused with 1

@@ -10,6 +10,7 @@ use lib.Seq.{sets, sets-eq, take-at, take-suc, length-take-le, take-append-seam}
 use Rattle.base_blocks.specs.Lists.{over}
 use Rattle.base_blocks.specs.Blocks.{moved}
 use Rattle.base_blocks.proofs.Lists.{drop-over}
+use Rattle.base_blocks.proofs.Blocks.{over-moved}
 use Rattle.base_tables.specs.Records.{recordAt, table, flat}
 use Rattle.base_tables.proofs.Records.{Codec, length-table, flat-append, length-flat, flat-table, take-table, drop-table}
 use Rattle.pool_memory.proofs.Parts.{flat-append as flatMap-append}
@@ -23,17 +24,6 @@ unfolding flatMap
 flat-step {B = B} f xs i d h =
     ap (flatMap f) (take-suc xs i d h) ∙ flatMap-append f (take i xs) (getD xs i d ∷ [])
     ∙ ap (λ (l : List B). flatMap f (take i xs) ++ l) (append-nil (f (getD xs i d)))
-
--- a run from further back moved up to what was packed
-pub over-moved : (xs s : List ℕ) (r m : ℕ) → length xs ≤ r → r + m ≤ length s → moved (over xs s) (length xs) r m ≡ over (xs ++ take m (drop r s)) s
-unfolding moved over
-over-moved xs s r m h k =
-    let b = take m (drop r s) in
-    let lb : length b ≡ m = length-take-le m (drop r s) (omega (arith, length-drop r s)) in
-    ap₂ (λ (p q : List ℕ). p ++ take m q ++ drop (length xs + m) (xs ++ drop (length xs) s)) (take-append-seam xs (drop (length xs) s))
-    (drop-over xs s r h)
-    ∙ ap (λ (q : List ℕ). (xs ++ b) ++ q) (drop-over xs s (length xs + m) (omega arith))
-    ∙ ap (λ (n : ℕ). (xs ++ b) ++ drop n s) (sym (length-append xs b ∙ ap (λ (n : ℕ). length xs + n) lb))
 
 -- numbers stored behind what was packed
 pub over-stored : (xs ys s : List ℕ) → length xs + length ys ≤ length s → sets (over xs s) (length xs) ys ≡ over (xs ++ ys) s

@@ -20,7 +20,7 @@ use Rattle.pool_memory.specs.Lent.{Lent}
 use Rattle.pool_memory.specs.Reading.{trackedRecords, modelOf}
 use Rattle.pool_memory.specs.Writing.{gridsOf, newestOf, newestAfter, firstPage, pageBefore, pagesFrom, pagesAfter, stampsAfter}
 use Rattle.pool_memory.proofs.Parts.{total-next, flat-append}
-use Rattle.pool_memory.proofs.Rewritten.{repacked}
+use Rattle.base_blocks.proofs.Blocks.{repacked}
 use Rattle.pool_memory.proofs.Runs.{sparesOf, newestAt, firstPageOf, stateOf, tracked-records, tracked-model, pages-model, newest-states, take-states, drop-states}
 use Rattle.pool_memory.proofs.Kept.{page-of, pages-before, pages-from}
 use Rattle.pool_memory.proofs.Same.{listed-run}

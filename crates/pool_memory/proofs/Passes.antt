@@ -21,7 +21,8 @@ use Rattle.pool_memory.specs.Lent.{Lent}
 use Rattle.pool_memory.specs.Reading.{trackedRecords}
 use Rattle.pool_memory.specs.Writing.{textureRecord, spareRecord, everySpare, newestOf, texturesAfter, sparesAfter, newestAfter, pagesAfter, stampsAfter}
 use Rattle.pool_memory.proofs.Parts.{flat-append, map-take, map-drop}
-use Rattle.pool_memory.proofs.Packed.{packed-read, packed-put, packed-moved, over-moved}
+use Rattle.base_blocks.proofs.Blocks.{over-moved}
+use Rattle.pool_memory.proofs.Packed.{packed-read, packed-put, packed-moved}
 use Rattle.pool_memory.proofs.Runs.{sparesOf, firstSpare, firstPageOf, stateOf, newest-state}
 use Rattle.pool_memory.proofs.Kept.{Paged, pagedOf, pages-kept, pages-paged, newest-paged}
 use Rattle.pool_memory.proofs.Same.{listed-run}

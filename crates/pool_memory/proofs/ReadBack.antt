@@ -24,7 +24,7 @@ use Rattle.pool_records.specs.Doomed.{writeDoomed}
 use Rattle.pool_records.proofs.Codecs.{texture-codec, spare-codec}
 use Rattle.pool_memory.specs.Lent.{Lent, versionPlaces}
 use Rattle.pool_memory.specs.Reading.{trackedRecords, statesRead, retiringRead, handRead, doomedRead, modelOf}
-use Rattle.pool_memory.specs.Writing.{textureRecord, spareRecord, retiringRecord, doomedRecord, texturesAfter, everySpare, sparesAfter, newestAfter, stampsAfter, headAfter, handList, retiringAfter, firstAfter, doomedAfter, poolAfter, markOf, bookAfter, after}
+use Rattle.pool_memory.specs.Writing.{textureRecord, spareRecord, retiringRecord, doomedRecord, texturesAfter, everySpare, sparesAfter, newestAfter, stampsAfter, headAfter, handList, retiringAfter, firstAfter, doomedAfter, poolAfter, markOf, pacingAfter, lentAfter}
 use Rattle.pool_memory.specs.IsPool.{bytesHold, bytesFit, isPool}
 use Rattle.pool_memory.proofs.Fits.{Fits}
 use Rattle.pool_memory.proofs.FromPool.{version-places, page-places}
@@ -100,12 +100,12 @@ module _ (l : Lent) (p : PoolModel ℕ) (fits : Fits l) (formed : Formed p) (sam
   unfolding doomedAfter
   doomed-kept = length-laid doomedStride writeDoomed (versionPlaces l) (firstAfter p l) (map doomedRecord (p .doomed)) 0 (l .doomed)
 
-  versions-kept : versionPlaces (after p l) ≡ versionPlaces l
-  unfolding versionPlaces after
+  versions-kept : versionPlaces (lentAfter p l) ≡ versionPlaces l
+  unfolding versionPlaces lentAfter
   versions-kept = ap (λ (n : ℕ). n / retiringStride) retiring-kept
 
-  pub places-kept : modelOf (after p l) .places ≡ modelOf l .places
-  unfolding modelOf after
+  pub places-kept : modelOf (lentAfter p l) .places ≡ modelOf l .places
+  unfolding modelOf lentAfter
   places-kept = λ i. record { textures = textures-kept i / textureStride; versions = versions-kept i; pages = newest-kept i }
 
   -- ---- both rings begin inside their places
@@ -120,60 +120,60 @@ module _ (l : Lent) (p : PoolModel ℕ) (fits : Fits l) (formed : Formed p) (sam
 
   -- ---- each part is read back
 
-  records-back : trackedRecords (after p l) ≡ map textureRecord (p .textures)
-  unfolding after poolAfter texturesAfter
+  records-back : trackedRecords (lentAfter p l) ≡ map textureRecord (p .textures)
+  unfolding lentAfter poolAfter texturesAfter
   records-back = reread texture-codec (map textureRecord (p .textures)) (length (p .textures)) (l .textures) (length-map (p .textures) textureRecord)
 
-  textures-back : statesRead (after p l) 0 0 (map textureRecord (p .textures)) ≡ p .textures
-  unfolding after sparesAfter newestAfter stampsAfter over
-  textures-back = states-back l (after p l) (fits .stamps) pages-before 0 0 (p .textures) (formed .textures) _ _ _ refl refl refl
+  textures-back : statesRead (lentAfter p l) 0 0 (map textureRecord (p .textures)) ≡ p .textures
+  unfolding lentAfter sparesAfter newestAfter stampsAfter over
+  textures-back = states-back l (lentAfter p l) (fits .stamps) pages-before 0 0 (p .textures) (formed .textures) _ _ _ refl refl refl
 
-  ring-laid-back : after p l .retiring
-      ≡ laid retiringStride writeRetiring (versionPlaces (after p l)) (after p l .pool .head) 0 (map retiringRecord (handList (p .hand) ++ p .retiring)) (l .retiring)
-  unfolding after poolAfter retiringAfter
+  ring-laid-back : lentAfter p l .retiring
+      ≡ laid retiringStride writeRetiring (versionPlaces (lentAfter p l)) (lentAfter p l .pool .head) 0 (map retiringRecord (handList (p .hand) ++ p .retiring)) (l .retiring)
+  unfolding lentAfter poolAfter retiringAfter
   ring-laid-back =
       ap (λ (n : ℕ). laid retiringStride writeRetiring n (headAfter p l) 0 (map retiringRecord (handList (p .hand) ++ p .retiring)) (l .retiring)) (sym versions-kept)
 
-  ring-room : retiringStride * versionPlaces (after p l) ≤ length (l .retiring)
+  ring-room : retiringStride * versionPlaces (lentAfter p l) ≤ length (l .retiring)
   ring-room = omega (arith, versions-kept, fits .retiring)
 
-  ring-head : after p l .pool .head < versionPlaces (after p l)
-  unfolding after poolAfter
+  ring-head : lentAfter p l .pool .head < versionPlaces (lentAfter p l)
+  unfolding lentAfter poolAfter
   ring-head = omega (arith, head-in, versions-kept)
 
-  waiting-room : length (p .retiring) + handCount (p .hand) ≤ versionPlaces (after p l)
+  waiting-room : length (p .retiring) + handCount (p .hand) ≤ versionPlaces (lentAfter p l)
   waiting-room = omega (arith, version-room, versions-kept)
 
-  hand-read-back : handRead (after p l) (handCount (p .hand)) ≡ p .hand
-  hand-read-back = hand-back (after p l) (l .retiring) ring-room ring-head (p .hand) (p .retiring) waiting-room ring-laid-back
+  hand-read-back : handRead (lentAfter p l) (handCount (p .hand)) ≡ p .hand
+  hand-read-back = hand-back (lentAfter p l) (l .retiring) ring-room ring-head (p .hand) (p .retiring) waiting-room ring-laid-back
 
-  queue-read-back : listed (retiringRead (after p l)) (handCount (p .hand)) (length (p .retiring)) ≡ p .retiring
-  queue-read-back = queue-back (after p l) (l .retiring) ring-room ring-head (p .hand) (p .retiring) waiting-room ring-laid-back
+  queue-read-back : listed (retiringRead (lentAfter p l)) (handCount (p .hand)) (length (p .retiring)) ≡ p .retiring
+  queue-read-back = queue-back (lentAfter p l) (l .retiring) ring-room ring-head (p .hand) (p .retiring) waiting-room ring-laid-back
 
-  destroy-laid-back : after p l .doomed
-      ≡ laid doomedStride writeDoomed (versionPlaces (after p l)) (after p l .pool .first) 0 (map doomedRecord (p .doomed)) (l .doomed)
-  unfolding after poolAfter doomedAfter
+  destroy-laid-back : lentAfter p l .doomed
+      ≡ laid doomedStride writeDoomed (versionPlaces (lentAfter p l)) (lentAfter p l .pool .first) 0 (map doomedRecord (p .doomed)) (l .doomed)
+  unfolding lentAfter poolAfter doomedAfter
   destroy-laid-back = ap (λ (n : ℕ). laid doomedStride writeDoomed n (firstAfter p l) 0 (map doomedRecord (p .doomed)) (l .doomed)) (sym versions-kept)
 
-  ring-first : after p l .pool .first < versionPlaces (after p l)
-  unfolding after poolAfter
+  ring-first : lentAfter p l .pool .first < versionPlaces (lentAfter p l)
+  unfolding lentAfter poolAfter
   ring-first = omega (arith, first-in, versions-kept)
 
-  doomed-read-back : listed (doomedRead (after p l)) 0 (length (p .doomed)) ≡ p .doomed
+  doomed-read-back : listed (doomedRead (lentAfter p l)) 0 (length (p .doomed)) ≡ p .doomed
   doomed-read-back =
-      doomed-back (after p l) (l .doomed) (omega (arith, versions-kept, fits .doomed)) ring-first (p .doomed)
+      doomed-back (lentAfter p l) (l .doomed) (omega (arith, versions-kept, fits .doomed)) ring-first (p .doomed)
       (omega (arith, version-room, versions-kept)) destroy-laid-back
 
   -- ---- the whole pool
 
-  states-read-back : statesRead (after p l) 0 0 (trackedRecords (after p l)) ≡ p .textures
-  states-read-back = ap (statesRead (after p l) 0 0) records-back ∙ textures-back
+  states-read-back : statesRead (lentAfter p l) 0 0 (trackedRecords (lentAfter p l)) ≡ p .textures
+  states-read-back = ap (statesRead (lentAfter p l) 0 0) records-back ∙ textures-back
 
-  places-read-back : modelOf (after p l) .places ≡ p .places
+  places-read-back : modelOf (lentAfter p l) .places ≡ p .places
   places-read-back = places-kept ∙ sym same
 
-  pub read-back : modelOf (after p l) ≡ p
-  unfolding modelOf after poolAfter bookAfter
+  pub read-back : modelOf (lentAfter p l) ≡ p
+  unfolding modelOf lentAfter poolAfter pacingAfter
   read-back = λ i. record {
     textures = states-read-back i;
     retiring = queue-read-back i;
@@ -195,12 +195,12 @@ module _ (l : Lent) (p : PoolModel ℕ) (fits : Fits l) (formed : Formed p) (sam
 
   -- ---- and it fits
 
-  bytes-back : bytesFit (after p l) ≡ true
+  bytes-back : bytesFit (lentAfter p l) ≡ true
   unfolding bytesFit
   bytes-back = ap (all bytesHold) records-back ∙ bytes-recorded (p .textures)
 
-  pub after-fits : Fits (after p l)
-  unfolding after poolAfter bookAfter
+  pub after-fits : Fits (lentAfter p l)
+  unfolding lentAfter poolAfter pacingAfter
   after-fits = record {
     places = ap arePlaces places-kept ∙ fits .places;
     textures = ap (λ (n : Places). textureStride * n .textures) places-kept ∙ fits .textures ∙ sym textures-kept;
@@ -224,5 +224,5 @@ module _ (l : Lent) (p : PoolModel ℕ) (fits : Fits l) (formed : Formed p) (sam
     formed = subst (λ (q : PoolModel ℕ). Formed q) (sym read-back) formed;
   }
 
-  pub after-pool : isPool (after p l) ≡ true
-  after-pool = fits-pool (after p l) after-fits
+  pub after-pool : isPool (lentAfter p l) ≡ true
+  after-pool = fits-pool (lentAfter p l) after-fits

@@ -25,7 +25,7 @@ use Rattle.pool_records.specs.Views.{spareOf}
 use Rattle.pool_records.proofs.Codecs.{spare-codec}
 use Rattle.pool_memory.specs.Lent.{Lent}
 use Rattle.pool_memory.specs.Reading.{historyRead, spareRead, stateRead, statesRead, modelOf}
-use Rattle.pool_memory.specs.Writing.{recordedOf, textureRecord, spareRecord, everySpare, gridsOf, newestOf, firstPage, pageBefore, pagesFrom, pagesAfter}
+use Rattle.pool_memory.specs.Writing.{recordedHistory, textureRecord, spareRecord, everySpare, gridsOf, newestOf, firstPage, pageBefore, pagesFrom, pagesAfter}
 use Rattle.pool_memory.specs.IsPool.{bytesHold}
 use Rattle.pool_memory.proofs.ReadHistories.{length-pages, grids-back, whole-pages}
 use Rattle.grid_stamps.specs.StampConstants.{pageStamps}
@@ -59,7 +59,7 @@ module _ (m : Lent) (first : ℕ) (ss : List (Spare ℕ)) (rest : List ℕ) wher
 -- ---- one texture's history
 
 length-newest : (s : VersionShape) (o : Option WriteHistory) → Given (HistoryFormed s) o
-    → length (map (λ (g : StampGrid). g .newest) (gridsOf o)) ≡ recordedPages (recordedOf o) s
+    → length (map (λ (g : StampGrid). g .newest) (gridsOf o)) ≡ recordedPages (recordedHistory o) s
 unfolding pagesOf
 length-newest s none f = refl
 length-newest s (some h) f = length-map (h .grids) (λ (g : StampGrid). g .newest) ∙ f .size
@@ -70,7 +70,7 @@ module _ (l : Lent) (paged : pageStamps * length (l .newest) ≡ length (l .stam
   before = pageBefore l (firstPage id s 0 (modelOf l .textures))
 
   length-stamps : (o : Option WriteHistory) → Given (HistoryFormed s) o
-      → length (pagesFrom before 0 (gridsOf o)) ≡ pageStamps * recordedPages (recordedOf o) s
+      → length (pagesFrom before 0 (gridsOf o)) ≡ pageStamps * recordedPages (recordedHistory o) s
   unfolding pagesOf pagesFrom
   length-stamps none f = refl
   length-stamps (some h) f =
@@ -79,7 +79,7 @@ module _ (l : Lent) (paged : pageStamps * length (l .newest) ≡ length (l .stam
   history-back : (m : Lent) (page : ℕ) (o : Option WriteHistory) → Given (HistoryFormed s) o → (others rest : List ℕ)
       → drop page (m .newest) ≡ map (λ (g : StampGrid). g .newest) (gridsOf o) ++ others
       → drop (pageStamps * page) (m .stamps) ≡ pagesFrom before 0 (gridsOf o) ++ rest
-      → historyRead m s page (recordedOf o) ≡ o
+      → historyRead m s page (recordedHistory o) ≡ o
   history-back m page none f others rest e g = refl
   history-back m page (some h) f others rest e g = λ i. some (record {
     writes = h .writes;
@@ -151,7 +151,7 @@ unfolding total
 kept-recorded [] = refl
 kept-recorded (t ∷ ts) = ap (λ (n : ℕ). length (t .spares) + n) (kept-recorded ts)
 
-record-pages : (s : VersionShape) (o : Option WriteHistory) → recordedPages (recordedOf o) s ≡ cond (hasHistory o) (pagesOf s) 0
+record-pages : (s : VersionShape) (o : Option WriteHistory) → recordedPages (recordedHistory o) s ≡ cond (hasHistory o) (pagesOf s) 0
 record-pages s none = refl
 record-pages s (some h) = refl
 

@@ -10,35 +10,6 @@ use Rattle.base_blocks.specs.Lists.{over}
 use Rattle.base_blocks.specs.Blocks.{moved}
 use Rattle.base_blocks.proofs.Lists.{over-self}
 
--- ---- packed in one list of numbers
-
--- the block between a and b replaced by y, and b moved behind it
-pub repacked : (s y : List ℕ) (a b r : ℕ) → a ≤ b → b + r ≤ length s → a + length y + r ≤ length s
-    → sets (moved s (a + length y) b r) a y ≡ over (take a s ++ (y ++ take r (drop b s))) s
-unfolding moved over
-repacked s y a b r h k room =
-    let n = length y in
-    let z = drop (a + n + r) s in
-    let m = take r (drop b s) in
-    let front = take (a + n) s in
-    let lf : length front ≡ a + n = length-take-le (a + n) s (omega arith) in
-    let lm : length m ≡ r = length-take-le r (drop b s) (omega (arith, length-drop b s)) in
-    let la : length (take a s) ≡ a = length-take-le a s (omega arith) in
-    let form : front ++ m ++ z ≡ front ++ (m ++ z) = append-assoc front m z in
-    let long : length (front ++ (m ++ z)) ≡ length s =
-    length-append front (m ++ z) ∙ ap (λ (i : ℕ). length front + i) (length-append m z)
-    ∙ (let e : length front + (length m + length z) ≡ length s = omega (arith, length-drop (a + n + r) s) in e) in
-    let whole : length (take a s ++ (y ++ m)) ≡ a + n + r =
-    length-append (take a s) (y ++ m) ∙ ap (λ (i : ℕ). length (take a s) + i) (length-append y m)
-    ∙ (let e : length (take a s) + (length y + length m) ≡ a + n + r = omega arith in e) in
-    ap (λ (l : List ℕ). sets l a y) form
-    ∙ sets-eq y (front ++ (m ++ z)) a (omega arith)
-    ∙ ap₂ (λ (l q : List ℕ). l ++ y ++ q)
-    (take-append-le a front (m ++ z) (omega arith) ∙ take-take a (a + n) s (omega arith))
-    (drop-at front (m ++ z) (a + n) lf)
-    ∙ (let e : (take a s ++ y) ++ (m ++ z) ≡ (take a s ++ (y ++ m)) ++ z = simp append-assoc in e)
-    ∙ ap (λ (i : ℕ). (take a s ++ (y ++ m)) ++ drop i s) (sym whole)
-
 -- moved to where it stands
 pub moved-self : (s : List ℕ) (at n : ℕ) → moved s at at n ≡ s
 unfolding moved

@@ -22,7 +22,7 @@ use Rattle.pool_records.specs.Texture.{readTexture, recordedPages, recordPages}
 use Rattle.pool_memory.specs.Lent.{Lent}
 use Rattle.pool_memory.specs.Reading.{trackedRecords, gridRead, historyRead, spareRead, stateRead, statesRead, modelOf}
 use Rattle.pool_memory.specs.IsPool.{bytesHold, bytesFit, stateId}
-use Rattle.pool_memory.specs.Writing.{recordedOf, textureRecord, everySpare, gridsOf, newestOf}
+use Rattle.pool_memory.specs.Writing.{recordedHistory, textureRecord, everySpare, gridsOf, newestOf}
 use Rattle.pool_records.specs.RecordConstants.{textureStride}
 
 abbrev pub sparesOf : TextureRecord → ℕ
@@ -42,7 +42,7 @@ bytes-held t e = eqb-true _ _ e
 module _ (l : Lent) where
   -- ---- one texture
 
-  recorded-read : (s : VersionShape) (page : ℕ) (h : Recorded) → recordedOf (historyRead l s page h) ≡ h
+  recorded-read : (s : VersionShape) (page : ℕ) (h : Recorded) → recordedHistory (historyRead l s page h) ≡ h
   recorded-read s page NoHistory = refl
   recorded-read s page (Writes n) = refl
 

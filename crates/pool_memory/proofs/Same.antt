@@ -21,7 +21,7 @@ use Rattle.pool_records.specs.Find.{idOf}
 use Rattle.pool_records.proofs.Codecs.{texture-codec, spare-codec}
 use Rattle.pool_memory.specs.Lent.{Lent, versionPlaces}
 use Rattle.pool_memory.specs.Reading.{trackedRecords, spareRead, retiringRead, doomedRead, modelOf}
-use Rattle.pool_memory.specs.Writing.{textureRecord, spareRecord, everySpare, texturesAfter, sparesAfter, newestAfter, stampsAfter, poolAfter, markOf, bookAfter, after}
+use Rattle.pool_memory.specs.Writing.{textureRecord, spareRecord, everySpare, texturesAfter, sparesAfter, newestAfter, stampsAfter, poolAfter, markOf, pacingAfter, lentAfter}
 use Rattle.pool_memory.specs.IsPool.{bytesFit}
 use Rattle.pool_memory.proofs.Runs.{sparesOf, stateOf, tracked-model, records-model, spares-model, kept-model, pages-model, newest-model}
 use Rattle.pool_memory.proofs.Kept.{pagedOf, pages-all, pages-paged, newest-paged}
@@ -86,8 +86,8 @@ mark-same (suc zero) h = refl
 mark-same (suc (suc n)) h = absurd (let y : ⊥ = omega arith in y)
 
 module _ (l : Lent) where
-  pub book-same : l .book .pressed ≤ 1 → bookAfter (modelOf l) ≡ l .book
-  unfolding bookAfter modelOf
+  pub book-same : l .book .pressed ≤ 1 → pacingAfter (modelOf l) ≡ l .book
+  unfolding pacingAfter modelOf
   book-same h = λ i. record {
     arrivals = l .book .arrivals;
     slot = l .book .slot;
@@ -131,8 +131,8 @@ module _ (l : Lent) where
         (newest : l .pool .pages ≤ length (l .newest))
         (queue : l .pool .popped + l .pool .queued ≤ versionPlaces l) (queued : l .pool .doomed ≤ versionPlaces l)
         (bytes : bytesFit l ≡ true) (mark : l .book .pressed ≤ 1) (up : ascending idOf (trackedRecords l) ≡ true) where
-      pub after-same : after (modelOf l) l ≡ l
-      unfolding after
+      pub after-same : lentAfter (modelOf l) l ≡ l
+      unfolding lentAfter
       after-same = λ i. record {
         pool = pool-same i;
         book = book-same mark i;

@@ -16,7 +16,7 @@ use Rattle.pool_memory.specs.declared.pool.Pool.{Pool as Counts}
 use Rattle.pool_memory.specs.declared.book.PacingBook.{PacingBook}
 use Rattle.pool_memory.specs.Lent.{Lent, lent, versionPlaces}
 use Rattle.pool_memory.specs.Reading.{trackedRecords, modelOf}
-use Rattle.pool_memory.specs.Writing.{textureRecord, everySpare, texturesAfter, sparesAfter, newestAfter, stampsAfter, retiringAfter, doomedAfter, poolAfter, markOf, bookAfter, after}
+use Rattle.pool_memory.specs.Writing.{textureRecord, everySpare, texturesAfter, sparesAfter, newestAfter, stampsAfter, retiringAfter, doomedAfter, poolAfter, markOf, pacingAfter, lentAfter}
 use Rattle.pool_memory.specs.IsPool.{stateId}
 use Rattle.pool_memory.proofs.FitsTests.{ascending-passes}
 use Rattle.pool_memory.proofs.Fits.{Fits}
@@ -30,10 +30,10 @@ use Rattle.pool_records.specs.Texture.{recordPages}
 
 -- what a call leaves, slice by slice
 pub put-together : (p : PoolModel ℕ) (l : Lent) (c : Counts) (b : PacingBook) (textures retiring doomed spares newest stamps : List ℕ)
-    → c ≡ poolAfter p l → b ≡ bookAfter p → textures ≡ texturesAfter p l → retiring ≡ retiringAfter p l → doomed ≡ doomedAfter p l
+    → c ≡ poolAfter p l → b ≡ pacingAfter p → textures ≡ texturesAfter p l → retiring ≡ retiringAfter p l → doomed ≡ doomedAfter p l
     → spares ≡ sparesAfter p l → newest ≡ newestAfter p l → stamps ≡ stampsAfter p l
-    → lent c b textures retiring doomed spares newest stamps ≡ after p l
-unfolding after
+    → lent c b textures retiring doomed spares newest stamps ≡ lentAfter p l
+unfolding lentAfter
 put-together p l c b textures retiring doomed spares newest stamps e1 e2 e3 e4 e5 e6 e7 e8 =
     λ i. lent (e1 i) (e2 i) (e3 i) (e4 i) (e5 i) (e6 i) (e7 i) (e8 i)
 
@@ -70,14 +70,14 @@ module _ (l : Lent) (f : Fits l) where
   doomed-fit = omega (arith, f .versions)
 
   -- nothing changed
-  pub nothing-changed : after (modelOf l) l ≡ l
+  pub nothing-changed : lentAfter (modelOf l) l ≡ l
   nothing-changed =
       after-same l (f .kept) (f .claimed) (f .head) (f .first) (f .hand) textures-fit (omega (arith, f .retiring)) (omega (arith, f .doomed))
       (omega (arith, f .spares, f .versions)) (f .pages) ring-fits doomed-fit (f .bytes) (f .mark) ids-ascend
 
   module _ (p : PoolModel ℕ) where
-    pub book-stays : p .pacing ≡ modelOf l .pacing → l .book ≡ bookAfter p
-    unfolding bookAfter
+    pub book-stays : p .pacing ≡ modelOf l .pacing → l .book ≡ pacingAfter p
+    unfolding pacingAfter
     book-stays e =
         sym (book-same l (f .mark))
         ∙ (λ i. record { arrivals = sym e i .arrivals; slot = sym e i .slot; pressed = markOf (sym e i .pressed); excess = sym e i .excess })

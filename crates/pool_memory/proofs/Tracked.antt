@@ -18,7 +18,7 @@ use Rattle.pool_records.specs.Recorded.{RecordedFits, recordedNumber}
 use Rattle.pool_records.specs.Texture.{readTexture, textureIn, texturesIn, recordPages}
 use Rattle.pool_memory.specs.Lent.{Lent}
 use Rattle.pool_memory.specs.Reading.{trackedRecords, stateRead, modelOf}
-use Rattle.pool_memory.specs.Writing.{recordedOf, textureRecord}
+use Rattle.pool_memory.specs.Writing.{recordedHistory, textureRecord}
 use Rattle.pool_memory.specs.IsPool.{bytesHold, bytesFit}
 use Rattle.pool_memory.proofs.Fits.{Fits}
 use Rattle.pool_memory.proofs.Runs.{sparesOf, firstSpare, firstPageOf, stateOf, tracked-records, tracked-model, model-at, bytes-held, record-state, pages-state}
@@ -78,6 +78,6 @@ module _ (l : Lent) (i : ℕ) (h : i < l .pool .tracked) where
   pub history-fits : Fits l → RecordedFits (textureAt l i .history)
   history-fits f = subst (λ (t : TextureRecord). RecordedFits (t .history)) (record-at f) (go (stateOf l i .history) (state-formed f .history))
     where
-      go : (o : Option WriteHistory) → Given (HistoryFormed (stateOf l i .shape)) o → recordedNumber (recordedOf o) < 2 ^ 64
+      go : (o : Option WriteHistory) → Given (HistoryFormed (stateOf l i .shape)) o → recordedNumber (recordedHistory o) < 2 ^ 64
       go none g = omega arith
       go (some w) g = omega (arith, g .writes)

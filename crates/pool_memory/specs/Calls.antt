@@ -30,7 +30,7 @@ use Rattle.pool_memory.specs.declared.pool.Pool.{Pool as Counts}
 use Rattle.pool_memory.specs.declared.book.PacingBook.{PacingBook}
 use Rattle.pool_memory.specs.Lent.{Lent}
 use Rattle.pool_memory.specs.Reading.{modelOf}
-use Rattle.pool_memory.specs.Writing.{after}
+use Rattle.pool_memory.specs.Writing.{lentAfter}
 use Rattle.pool_memory.specs.IsPool.{isPool, sizesFit}
 use Rattle.pool_memory.specs.MemoryConstants.{copyStride}
 use Rattle.pool_rules.specs.RuleConstants.{destroySpreadDrains}
@@ -77,7 +77,7 @@ toldNumber n = cond (eqb n 0) (answer tt) (refusedWith n)
 -- a refusal leaves everything as it was
 abbrev pub writtenBack : {A B : Type 0} → (A → B) → Lent → Out ℕ A → Told B × Lent
 writtenBack f l (refused n) = (refusedWith n, l)
-writtenBack f l (accepted a p) = (answer (f a), after p l)
+writtenBack f l (accepted a p) = (answer (f a), lentAfter p l)
 
 unfoldable pub asked : {A B : Type 0} → (A → B) → Lent → (PoolModel ℕ → Out ℕ A) → Told B × Lent
 asked f l rule = cond (isPool l) (writtenBack f l (rule (modelOf l))) (refusedWith 1, l)

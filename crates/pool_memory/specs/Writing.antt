@@ -31,16 +31,16 @@ use Rattle.pool_records.specs.RecordConstants.{doomedStride, retiringStride}
 
 -- ---- records
 
-abbrev pub recordedOf : Option WriteHistory → Recorded
-recordedOf none = NoHistory
-recordedOf (some h) = Writes (h .writes)
+abbrev pub recordedHistory : Option WriteHistory → Recorded
+recordedHistory none = NoHistory
+recordedHistory (some h) = Writes (h .writes)
 
 abbrev pub textureRecord : VersionState ℕ → TextureRecord
 textureRecord t = record {
   id = t .id;
   shape = t .shape;
   epoch = t .epoch;
-  history = recordedOf (t .history);
+  history = recordedHistory (t .history);
   birth = t .birth;
   rename = t .rename;
   due = t .due;
@@ -146,9 +146,9 @@ abbrev pub markOf : Bool → ℕ
 markOf true = 1
 markOf false = 0
 
-unfoldable pub bookAfter : PoolModel ℕ → PacingBook
-bookAfter p = record { arrivals = p .pacing .arrivals; slot = p .pacing .slot; pressed = markOf (p .pacing .pressed); excess = p .pacing .excess }
+unfoldable pub pacingAfter : PoolModel ℕ → PacingBook
+pacingAfter p = record { arrivals = p .pacing .arrivals; slot = p .pacing .slot; pressed = markOf (p .pacing .pressed); excess = p .pacing .excess }
 
-unfoldable pub after : PoolModel ℕ → Lent → Lent
-after p l =
-    lent (poolAfter p l) (bookAfter p) (texturesAfter p l) (retiringAfter p l) (doomedAfter p l) (sparesAfter p l) (newestAfter p l) (stampsAfter p l)
+unfoldable pub lentAfter : PoolModel ℕ → Lent → Lent
+lentAfter p l =
+    lent (poolAfter p l) (pacingAfter p) (texturesAfter p l) (retiringAfter p l) (doomedAfter p l) (sparesAfter p l) (newestAfter p l) (stampsAfter p l)

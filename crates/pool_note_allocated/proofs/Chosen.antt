@@ -19,7 +19,7 @@ use Rattle.grid_shapes.proofs.ShapeBytes.{bytes-bound}
 use Rattle.pool_rules.specs.Model.{VersionState}
 use Rattle.pool_rules.specs.NoteAllocated.{Aged, picked, byAge, countOf, agedOf, pickedIn}
 use Rattle.pool_records.specs.declared.texture.TextureRecord.{TextureRecord}
-use Rattle.pool_records.specs.Texture.{readTexture, textureIn, recordPages}
+use Rattle.pool_records.specs.Texture.{readTexture, textureIn, recordPages, recordSpares, recordBytes}
 use Rattle.pool_memory.specs.Lent.{Lent}
 use Rattle.pool_memory.specs.Reading.{trackedRecords, spareRead, stateRead, statesRead, modelOf}
 use Rattle.pool_memory.specs.Writing.{textureRecord}
@@ -28,9 +28,9 @@ use Rattle.pool_memory.proofs.Parts.{total-next, total-within}
 use Rattle.pool_memory.proofs.Runs.{firstSpare, stateOf, tracked-records, tracked-model, records-model, model-at}
 use Rattle.pool_memory.proofs.Same.{doomed-model}
 use Rattle.pool_memory.proofs.Stays.{textures-fit, spares-fit, doomed-bound}
-use Rattle.pool_memory.proofs.Tracked.{shape-at, shape-passes}
+use Rattle.pool_memory.proofs.Tracked.{bytes-at, shape-at}
 use Rattle.pool_relief_line.specs.Line.{bytesOfAged, isBefore, isAt, bytesBefore, IsLine, freedWith, parkedOf, countBefore, takenAt, gives}
-use Rattle.pool_relief_line.specs.Parked.{parkedAt, parkings, bytesFrom, recordSpares, recordBytes, mostVersionBytes, Countable}
+use Rattle.pool_relief_line.specs.Parked.{parkedAt, parkings, bytesFrom, mostVersionBytes, Countable}
 use Rattle.pool_relief_line.proofs.Picked.{all-picked, freed-append}
 use Rattle.pool_relief_line.proofs.ByLine.{agedAll, aged-append, before-run, at-run, gives-among, aged-bytes}
 use Rattle.pool_relief_line.proofs.Parked.{length-parkings, gives-most, gives-sum, before-most}
@@ -109,7 +109,7 @@ module _ (l : Lent) where
     records-shaped = rw (records-model l (f .bytes)) at (all-map {Q = λ (t : TextureRecord). isShape (t .shape) ≡ true} textureRecord (λ t q. q .shape) (f .formed .textures))
 
     bytes-most : {ts : List TextureRecord} → All (λ (t : TextureRecord). isShape (t .shape) ≡ true) ts → total recordBytes ts ≤ mostShapeBytes * total recordSpares ts
-    unfolding total
+    unfolding total recordBytes
     bytes-most nil = omega arith
     bytes-most (cons {x = t} p ps) =
         omega (arith, bytes-most ps, mul-le-mul-right {m = bytesOf (t .shape)} {n = mostShapeBytes} (t .spares) (bytes-bound (t .shape) p))
@@ -118,7 +118,7 @@ module _ (l : Lent) where
     countable = record {
       fits = textures-fit l f;
       runs = spares-fit l f;
-      shapes = λ i h. shape-passes l i h f;
+      recorded = λ i h. bytes-at l i h f;
       few = omega (arith, f .kept, f .versions, f .most);
       bytes = omega (arith, bytes-most records-shaped, f .kept, f .versions, f .most);
     }
@@ -191,7 +191,7 @@ module _ (l : Lent) where
       -- bounds of what is freed and given, for the code's sums
       freed-most : (i : ℕ) → i ≤ l .pool .tracked
           → freedTo excess line i ≤ l .pool .dooming + bytesFrom (l .spares) line 0 (trackedRecords l) + total recordBytes (take i (trackedRecords l))
-      unfolding total
+      unfolding total recordBytes
       freed-most zero h = omega (arith, freed-start)
       freed-most (suc i) h =
           let ps = parkings (l .spares) (firstSpare l i) (recordOf i .spares) in
@@ -209,6 +209,7 @@ module _ (l : Lent) where
           )
 
       pub freed-fits : (i : ℕ) → i < l .pool .tracked → freedTo excess line i + bytesOf (recordOf i .shape) * recordOf i .spares ≤ 216172782113783808
+      unfolding recordBytes
       freed-fits i h =
           omega (
             arith,

@@ -21,7 +21,7 @@ use Rattle.pool_rules.proofs.Lists.{total-map}
 use Rattle.pool_rules.proofs.Moves.{lessened, given, given-bytes, given-count}
 use Rattle.pool_memory.specs.Lent.{Lent, lent}
 use Rattle.pool_memory.specs.Reading.{modelOf}
-use Rattle.pool_memory.specs.Writing.{texturesAfter, sparesAfter, newestAfter, stampsAfter, headAfter, retiringAfter, firstAfter, doomedAfter, poolAfter, markOf, bookAfter, after}
+use Rattle.pool_memory.specs.Writing.{texturesAfter, sparesAfter, newestAfter, stampsAfter, headAfter, retiringAfter, firstAfter, doomedAfter, poolAfter, markOf, pacingAfter, lentAfter}
 use Rattle.pool_memory.specs.IsPool.{isPool}
 use Rattle.pool_memory.specs.Calls.{answer, toldNumber, noteAllocatedOn}
 use Rattle.pool_memory.proofs.Fits.{Fits}
@@ -31,7 +31,7 @@ use Rattle.pool_memory.proofs.Rings.{hand-model, head-stays, first-stays}
 use Rattle.pool_memory.proofs.Same.{queued-model, doomed-model}
 use Rattle.pool_memory.proofs.Stays.{put-together, nothing-changed, newest-stay, stamps-stay, retiring-stay}
 use Rattle.pool_memory.proofs.Asked.{asked-accepted}
-use Rattle.pool_note_allocated.specs.NoteAllocated.{relievedPool, sparesGiven, Relieves, countsAfter, notedBook}
+use Rattle.pool_note_allocated.specs.NoteAllocated.{relievedPool, sparesGiven, Relieves, countsRelieved, notedBook}
 use Rattle.pool_relief_line.proofs.Picked.{picked-none}
 use Rattle.pool_note_allocated.proofs.Chosen.{share, dooming-most}
 use Rattle.grid_shapes.specs.ShapeConstants.{mostShapeBytes}
@@ -77,8 +77,8 @@ module _ (l : Lent) (f : Fits l) (allocated : ℕ) where
   unfolding noteAllocated modelOf
   the-rule = refl
 
-  book-noted : notedBook (l .pool) (l .book) allocated ≡ bookAfter notedPool
-  unfolding bookAfter
+  book-noted : notedBook (l .pool) (l .book) allocated ≡ pacingAfter notedPool
+  unfolding pacingAfter
   book-noted = refl
 
   -- ---- how much is given
@@ -119,7 +119,7 @@ module _ (l : Lent) (f : Fits l) (allocated : ℕ) where
     hand-same : headAfter notedPool l ≡ l .pool .head
     hand-same = head-stays l notedPool (f .head) (omega (arith, hand-model l (f .hand)))
 
-    counts-left : countsAfter (l .pool) kept bytes ≡ poolAfter notedPool l
+    counts-left : countsRelieved (l .pool) kept bytes ≡ poolAfter notedPool l
     unfolding poolAfter modelOf
     counts-left = sym (λ i. record {
       tracked = (length-map (modelOf l .textures) (lessened (share l excess)) ∙ tracked-model l) i;
@@ -151,13 +151,13 @@ module _ (l : Lent) (f : Fits l) (allocated : ℕ) where
     runs-left = r .runs
 
     pub noted-relieved : isPool l ≡ true
-        → (toldNumber 0, lent (countsAfter (l .pool) kept bytes) (notedBook (l .pool) (l .book) allocated) textures (l .retiring) doomed spares (l .newest) (l .stamps))
+        → (toldNumber 0, lent (countsRelieved (l .pool) kept bytes) (notedBook (l .pool) (l .book) allocated) textures (l .retiring) doomed spares (l .newest) (l .stamps))
         ≡ noteAllocatedOn l allocated
     unfolding noteAllocatedOn
     noted-relieved e =
         let same = paged-lessened (share l excess) (modelOf l .textures) in
         ap (λ (m : Lent). (answer tt, m))
-        (put-together notedPool l (countsAfter (l .pool) kept bytes) (notedBook (l .pool) (l .book) allocated) textures (l .retiring) doomed spares (l .newest) (l .stamps)
+        (put-together notedPool l (countsRelieved (l .pool) kept bytes) (notedBook (l .pool) (l .book) allocated) textures (l .retiring) doomed spares (l .newest) (l .stamps)
         counts-left book-noted records-left (retiring-stay l f notedPool refl refl) ring-left runs-left (newest-stay l f notedPool same) (stamps-stay l f notedPool same))
         ∙ sym (asked-accepted (λ a. a) l (λ (p : PoolModel ℕ). noteAllocated p allocated) e tt notedPool the-rule)
 
@@ -200,11 +200,11 @@ module _ (l : Lent) (f : Fits l) (allocated : ℕ) where
     pool-stays : relievedPool excess l ≡ modelOf l
     pool-stays = ap (λ chosen. relieved chosen (modelOf l)) none-picked ∙ nothing-relieved (modelOf l)
 
-    book-alone : after notedPool l ≡ lent (l .pool) (notedBook (l .pool) (l .book) allocated) (l .textures) (l .retiring) (l .doomed) (l .spares) (l .newest) (l .stamps)
-    unfolding after poolAfter bookAfter headAfter firstAfter texturesAfter retiringAfter doomedAfter sparesAfter newestAfter stampsAfter
+    book-alone : lentAfter notedPool l ≡ lent (l .pool) (notedBook (l .pool) (l .book) allocated) (l .textures) (l .retiring) (l .doomed) (l .spares) (l .newest) (l .stamps)
+    unfolding lentAfter poolAfter pacingAfter headAfter firstAfter texturesAfter retiringAfter doomedAfter sparesAfter newestAfter stampsAfter
     book-alone =
         let same = nothing-changed l f in
-        ap (λ (p : PoolModel ℕ). after (withPacing (notedPool .pacing) p) l) pool-stays
+        ap (λ (p : PoolModel ℕ). lentAfter (withPacing (notedPool .pacing) p) l) pool-stays
         ∙ (λ i. lent (same i .pool) (notedBook (l .pool) (l .book) allocated) (same i .textures) (same i .retiring) (same i .doomed) (same i .spares) (same i .newest) (same i .stamps))
 
     pub noted-covered : isPool l ≡ true

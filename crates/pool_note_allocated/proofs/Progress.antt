@@ -1,6 +1,5 @@
 -- The loop over the textures: how far relief has come when the first i textures have given, and a turn of it. Assumes nothing.
-use mathlib.Core.Path.{_≡_, refl, sym, ap, ap₂, _∙_}
-use mathlib.Core.Bool.{true}
+use mathlib.Core.Path.{_≡_, refl, sym, ap, ap₂, subst, _∙_}
 use mathlib.Core.List.{List, map, flatMap}
 use Prim.Native.Nat.{ℕ, suc, _+_, _-_, _*_, _≤_, _<_, _^_}
 use native.Mathlib.Numerals.{add-one}
@@ -11,7 +10,7 @@ use Rattle.base_blocks.specs.Blocks.{moved}
 use Rattle.base_blocks.proofs.Listed.{listed-same}
 use Rattle.base_tables.specs.Records.{flat}
 use Rattle.base_tables.specs.Rings.{laid}
-use Rattle.grid_shapes.specs.Shapes.{isShape, bytesOf}
+use Rattle.grid_shapes.specs.Shapes.{bytesOf}
 use Rattle.pool_rules.specs.Model.{VersionState, spareBytes, doomedBytes}
 use Rattle.pool_rules.proofs.Moves.{lessened, given, given-bytes}
 use Rattle.pool_rules.proofs.Lists.{total-cut}
@@ -29,7 +28,7 @@ use Rattle.pool_memory.proofs.Runs.{sparesOf, spareCount, firstSpare, stateOf}
 use Rattle.pool_memory.proofs.Stays.{textures-fit, doomed-fit}
 use Rattle.pool_take_doomed.specs.Given.{givenRecords}
 use Rattle.pool_relief_line.specs.Line.{IsLine, takenAt, gives}
-use Rattle.pool_relief_line.specs.Parked.{parkedAt, parkings, bytesFrom}
+use Rattle.pool_relief_line.specs.Parked.{parkedAt, parkings, bytesFrom, HasBytes}
 use Rattle.pool_note_allocated.specs.NoteAllocated.{relievedPool, sparesGiven, Relieves}
 use Rattle.pool_note_allocated.proofs.Thinned.{first-next, texturesTo, sparesTo, doomedTo, keptTo, bytesTo, textures-next, record-next, kept-most, kept-next, spares-next, spare-next, doomed-next, bytes-next, none-given, none-counted, all-given}
 use Rattle.pool_note_allocated.proofs.Chosen.{share, freedTo, countable, share-gives, share-most, freed-next, freed-fits}
@@ -85,14 +84,14 @@ module _ (l : Lent) (excess line : ℕ) where
     within = omega (arith, first-next l i h, total-cut sparesOf (suc i) (trackedRecords l), f .kept)
 
     -- what a turn asks for
-    pub turn-needs : (textureStride * i + textureStride ≤ length textures) × (isShape (here .shape) ≡ true) × (doomedStride * versionPlaces l ≤ length doomed) × (l .pool .first < versionPlaces l)
+    pub turn-needs : (textureStride * i + textureStride ≤ length textures) × HasBytes here × (doomedStride * versionPlaces l ≤ length doomed) × (l .pool .first < versionPlaces l)
         × (l .pool .doomed + (from - kept) + here .spares ≤ versionPlaces l) × (spareStride * (from + here .spares) ≤ length spares) × (kept ≤ from)
         × (sum + bytesOf (here .shape) * here .spares < 2 ^ 64)
     turn-needs =
         let r = same-record in
         let c = ap (λ (t : TextureRecord). t .spares) r in (
           omega (arith, textures-fit l f, p .textured, h),
-          ap (λ (t : TextureRecord). isShape (t .shape)) r ∙ countable l f .shapes i h,
+          subst HasBytes (sym r) (countable l f .recorded i h),
           omega (arith, f .doomed, p .ringed),
           f .first,
           omega (arith, within, c, p .first, f .versions),

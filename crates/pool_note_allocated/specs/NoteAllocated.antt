@@ -31,8 +31,8 @@ pub record Relieves (l : Lent) (excess kept bytes : ℕ) (textures doomed spares
   pub runs : spares ≡ sparesAfter (relievedPool excess l) l
 
 -- the counts when `kept` spares are left, and `bytes` bytes went to the destroy queue
-abbrev pub countsAfter : Counts → ℕ → ℕ → Counts
-countsAfter c kept bytes = record {
+abbrev pub countsRelieved : Counts → ℕ → ℕ → Counts
+countsRelieved c kept bytes = record {
   tracked = c .tracked;
   kept = kept;
   pages = c .pages;

@@ -5,14 +5,14 @@ ghost use Prim.Native.Nat.{_+_, _-_, _*_, _≤_, _<_, _^_};
 ghost use lib.ListN.{length, set};
 ghost use Rattle.base_blocks.specs.Blocks.{moved};
 ghost use Rattle.base_tables.specs.Rings.{laid};
-ghost use Rattle.grid_shapes.specs.Shapes.{isShape, bytesOf};
+ghost use Rattle.grid_shapes.specs.Shapes.{bytesOf};
 ghost use Rattle.pool_records.specs.Texture.{textureIn, texturesIn};
 ghost use Rattle.pool_records.specs.Doomed.{writeDoomed};
 ghost use Rattle.pool_memory.specs.Lent.{lentBy, atEntry};
 ghost use Rattle.pool_memory.specs.IsPool.{isPool};
 ghost use Rattle.pool_take_doomed.specs.Given.{givenRecords};
 ghost use Rattle.pool_relief_line.specs.Line.{IsLine, takenAt, gives};
-ghost use Rattle.pool_relief_line.specs.Parked.{parkings, bytesFrom};
+ghost use Rattle.pool_relief_line.specs.Parked.{parkings, bytesFrom, HasBytes};
 ghost use Rattle.pool_note_allocated.specs.NoteAllocated.{Relieves};
 ghost use Rattle.pool_records.specs.RecordConstants.{doomedStride, spareStride, textureSparesAt, textureStride};
 use crate::give::give_spares;
@@ -47,7 +47,7 @@ fn relieve_texture(
     freed: u64,
     excess: u64,
 ) -> Step
-    requires { ⌜ (textureStride * i + textureStride ≤ length (now textures)) × (isShape (textureIn (now textures) i .shape) ≡ true)
+    requires { ⌜ (textureStride * i + textureStride ≤ length (now textures)) × HasBytes (textureIn (now textures) i)
         × (doomedStride * cap ≤ length (now doomed)) × (first < cap) × (queued + textureIn (now textures) i .spares ≤ cap)
         × (spareStride * (from + textureIn (now textures) i .spares) ≤ length (now spares)) × (to ≤ from)
         × (freed + bytesOf (textureIn (now textures) i .shape) * textureIn (now textures) i .spares < 2 ^ 64) ⌝ }

@@ -7,7 +7,7 @@ use Prim.Native.Nat.{ℕ, _+_, _*_, _≤_, _<_}
 use native.Mathlib.Omega.{arith}
 use native.Mathlib.Nat.{mul-comm}
 use borrow.Author.Tests.{lt-ltb, ltb-true, eq-eqb}
-use lib.Dec.{ltb, eqb}
+use lib.Dec.{ltb}
 use lib.ListN.{getD}
 use Rattle.base_blocks.specs.Lists.{listed}
 use Rattle.base_blocks.proofs.Lists.{and-both}
@@ -19,7 +19,7 @@ use Rattle.pool_records.specs.declared.recorded.Recorded.{Recorded}
 use Rattle.pool_records.specs.declared.recorded.Recorded.the-variants.{Writes, NoHistory}
 use Rattle.pool_records.specs.declared.texture.TextureRecord.{TextureRecord}
 use Rattle.pool_records.specs.Texture.{readTexture, textureIn, recordedPages, recordPages}
-use Rattle.pool_records.specs.Find.{idOf}
+use Rattle.pool_records.specs.Find.{idOf, hasId}
 use Rattle.pool_access.proofs.Ids.{found}
 use Rattle.pool_memory.specs.Lent.{Lent}
 use Rattle.pool_memory.specs.Reading.{trackedRecords, gridRead, historyRead, stateRead}
@@ -98,7 +98,7 @@ module _ (l : Lent) (f : Fits l) (id : ℕ) where
   Says (Writes n) = Recording n
 
   here : Bool
-  here = ltb at (l .pool .tracked) && eqb (idOf (textureIn (l .textures) at)) id
+  here = hasId (l .textures) (l .pool .tracked) at id
 
   tracked-here : here ≡ true → Tracked
   unfolding here

@@ -21,7 +21,7 @@ use Rattle.pool_records.specs.declared.texture.TextureRecord.{TextureRecord}
 use Rattle.pool_records.specs.Texture.{writeTexture, textureIn}
 use Rattle.pool_memory.specs.Lent.{Lent, lent}
 use Rattle.pool_memory.specs.Reading.{pageAt, gridRead, stateRead, modelOf, gridOn}
-use Rattle.pool_memory.specs.Writing.{recordedOf, textureRecord, gridsOf, pageBefore, texturesAfter, newestAfter, stampsAfter, poolAfter, after}
+use Rattle.pool_memory.specs.Writing.{recordedHistory, textureRecord, gridsOf, pageBefore, texturesAfter, newestAfter, stampsAfter, poolAfter, lentAfter}
 use Rattle.pool_memory.proofs.Fits.{Fits}
 use Rattle.pool_memory.proofs.Runs.{spareCount, firstPageOf, stateOf, tracked-model, model-at, kept-model, pages-model}
 use Rattle.pool_memory.proofs.Rings.{head-stays, hand-model, first-stays}
@@ -72,13 +72,13 @@ module _ (l : Lent) (f : Fits l) (i : ℕ) (h : i < l .pool .tracked) where
     abbrev pub otherPool : PoolModel ℕ
     otherPool = withTextures (set (modelOf l .textures) i otherState) (modelOf l)
 
-    other-record : textureRecord otherState ≡ recordedAs (recordedOf o) (textureIn (l .textures) i)
+    other-record : textureRecord otherState ≡ recordedAs (recordedHistory o) (textureIn (l .textures) i)
     unfolding stateOf stateRead
     other-record = λ j. record {
       id = record-read l i h j .id;
       shape = record-read l i h j .shape;
       epoch = record-read l i h j .epoch;
-      history = recordedOf o;
+      history = recordedHistory o;
       birth = record-read l i h j .birth;
       rename = record-read l i h j .rename;
       due = record-read l i h j .due;
@@ -86,7 +86,7 @@ module _ (l : Lent) (f : Fits l) (i : ℕ) (h : i < l .pool .tracked) where
       bytes = (ap bytesOf (shape-at l i h) ∙ sym (bytes-at l i h f)) j;
     }
 
-    textures-left : sets (l .textures) (textureStride * i) (writeTexture (recordedAs (recordedOf o) (textureIn (l .textures) i))) ≡ texturesAfter otherPool l
+    textures-left : sets (l .textures) (textureStride * i) (writeTexture (recordedAs (recordedHistory o) (textureIn (l .textures) i))) ≡ texturesAfter otherPool l
     textures-left =
         ap (λ (t : TextureRecord). sets (l .textures) (textureStride * i) (writeTexture t)) (sym other-record)
         ∙ textures-set l otherPool f i otherState h refl
@@ -123,10 +123,10 @@ module _ (l : Lent) (f : Fits l) (i : ℕ) (h : i < l .pool .tracked) where
 
     history-left : (pages : ℕ) (newest stamps : List ℕ) → total pagesUsed (set (modelOf l .textures) i otherState) ≡ pages
         → newest ≡ newestAfter otherPool l → stamps ≡ stampsAfter otherPool l
-        → lent (withPages pages (l .pool)) (l .book) (sets (l .textures) (textureStride * i) (writeTexture (recordedAs (recordedOf o) (textureIn (l .textures) i)))) (l .retiring) (l .doomed) (l .spares) newest stamps
-        ≡ after otherPool l
+        → lent (withPages pages (l .pool)) (l .book) (sets (l .textures) (textureStride * i) (writeTexture (recordedAs (recordedHistory o) (textureIn (l .textures) i)))) (l .retiring) (l .doomed) (l .spares) newest stamps
+        ≡ lentAfter otherPool l
     history-left pages newest stamps e a b =
-        put-together otherPool l (withPages pages (l .pool)) (l .book) (sets (l .textures) (textureStride * i) (writeTexture (recordedAs (recordedOf o) (textureIn (l .textures) i))))
+        put-together otherPool l (withPages pages (l .pool)) (l .book) (sets (l .textures) (textureStride * i) (writeTexture (recordedAs (recordedHistory o) (textureIn (l .textures) i))))
         (l .retiring) (l .doomed) (l .spares) newest stamps (counts-left pages e) (book-stays l f otherPool refl) textures-left
         (retiring-stay l f otherPool refl refl) (doomed-stay l f otherPool refl) (spares-stay l f otherPool (every-kept l i h otherState refl)) a b
 
@@ -135,7 +135,7 @@ module _ (l : Lent) (f : Fits l) (i : ℕ) (h : i < l .pool .tracked) where
   stamps-fit : pageStamps * l .pool .pages ≤ length (l .stamps)
   stamps-fit = omega (arith, f .stamps, f .pages)
 
-  pub history-dropped : droppedLent l i ≡ after (otherPool none) l
+  pub history-dropped : droppedLent l i ≡ lentAfter (otherPool none) l
   history-dropped =
       history-left none (l .pool .pages - pagesHere (l .textures) i) _ _
       (omega (arith, pages-left none, pages-of-record l i h, pages-in l (f .claimed) i h))
@@ -188,7 +188,7 @@ module _ (l : Lent) (f : Fits l) (i : ℕ) (h : i < l .pool .tracked) where
       page-of-write = ap₂ (λ (p : ℕ) (s : VersionShape). p + gridPlace s slice level) (pages-begin l i h) (sym (shape-at l i h))
 
       pub history-stamped : keptLent l i (suc (old .writes)) (pageOf (l .textures) i slice level) (stampedOn (l .textures) i slice level r (suc (old .writes)) (l .newest) (l .stamps) ∷ [])
-          ≡ after (otherPool afterWrite) l
+          ≡ lentAfter (otherPool afterWrite) l
       unfolding stampWrite
       history-stamped =
           ap₂ (λ (p : ℕ) (g : StampGrid). keptLent l i (suc (old .writes)) p (g ∷ [])) page-of-write stamped-on
@@ -232,7 +232,7 @@ module _ (l : Lent) (f : Fits l) (i : ℕ) (h : i < l .pool .tracked) where
 
       pub history-regenerated : keptLent l i (suc (old .writes)) (pagesUpTo (l .textures) i)
           (remadeGrids (textureIn (l .textures) i .shape) (suc (old .writes)) (l .newest) (l .stamps) (pagesUpTo (l .textures) i) (pagesHere (l .textures) i))
-          ≡ after (otherPool afterRegeneration) l
+          ≡ lentAfter (otherPool afterRegeneration) l
       unfolding stampRegeneration newestWritten pagesWritten pageBefore
       history-regenerated =
           ap₂ (keptLent l i (suc (old .writes))) (pages-begin l i h) made-grids

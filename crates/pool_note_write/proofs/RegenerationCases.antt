@@ -16,7 +16,7 @@ use Rattle.pool_rules.specs.NoteWrite.{historyIn, noteMipRegeneration}
 use Rattle.pool_records.specs.declared.recorded.Recorded.the-variants.{NoHistory}
 use Rattle.pool_memory.specs.Lent.{Lent}
 use Rattle.pool_memory.specs.Reading.{modelOf}
-use Rattle.pool_memory.specs.Writing.{after}
+use Rattle.pool_memory.specs.Writing.{lentAfter}
 use Rattle.pool_memory.specs.IsPool.{isPool}
 use Rattle.pool_memory.specs.Calls.{refusedWith, answer, noteMipRegenerationOn}
 use Rattle.pool_memory.proofs.Fits.{Fits}
@@ -47,7 +47,7 @@ module _ (l : Lent) (e : isPool l ≡ true) (id : ℕ) where
   regenerate t = withHistory (regenerated (t .shape) (t .history)) t
 
   passes : spent (historyIn (find id (modelOf l .textures))) ≡ false → (ts : List (VersionState ℕ)) → change id regenerate (modelOf l .textures) ≡ ts
-      → noteMipRegenerationOn l id ≡ (answer tt, after (withTextures ts (modelOf l)) l)
+      → noteMipRegenerationOn l id ≡ (answer tt, lentAfter (withTextures ts (modelOf l)) l)
   unfolding noteMipRegenerationOn noteMipRegeneration
   passes q ts k =
       asked-accepted (λ (a : Unit {0}). a) l rule e tt (withTextures ts (modelOf l))

@@ -21,7 +21,7 @@ use Rattle.pool_records.specs.declared.recorded.Recorded.the-variants.{NoHistor
 use Rattle.pool_records.specs.declared.texture.TextureRecord.{TextureRecord}
 use Rattle.pool_memory.specs.Lent.{Lent}
 use Rattle.pool_memory.specs.Reading.{modelOf}
-use Rattle.pool_memory.specs.Writing.{after}
+use Rattle.pool_memory.specs.Writing.{lentAfter}
 use Rattle.pool_memory.specs.IsPool.{isPool}
 use Rattle.pool_memory.specs.Calls.{refusedWith, answer, noteWriteOn}
 use Rattle.pool_memory.proofs.Fits.{Fits}
@@ -55,7 +55,7 @@ module _ (l : Lent) (e : isPool l ≡ true) (id slice level : ℕ) (r : TexelRec
 
   -- not refused
   passes : writeSpent (find id (modelOf l .textures)) slice level ≡ false → (ts : List (VersionState ℕ)) → change id write (modelOf l .textures) ≡ ts
-      → noteWriteOn l id slice level r ≡ (answer tt, after (withTextures ts (modelOf l)) l)
+      → noteWriteOn l id slice level r ≡ (answer tt, lentAfter (withTextures ts (modelOf l)) l)
   unfolding noteWriteOn noteWrite
   passes q ts k =
       asked-accepted (λ (a : Unit {0}). a) l rule e tt (withTextures ts (modelOf l))

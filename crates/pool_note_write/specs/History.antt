@@ -1,9 +1,8 @@
 -- Helper: What a texture's record says of its history, read off the slices at the record's place.
 use Prim.Native.Nat.{ℕ, _+_, _*_, _≤_}
 use mathlib.Core.Path.{_≡_}
-use mathlib.Core.Bool.{true, cond, _&&_}
+use mathlib.Core.Bool.{true, cond}
 use mathlib.Core.List.{List}
-use lib.Dec.{ltb, eqb}
 use lib.ListN.{length}
 use Rattle.base_blocks.specs.Lists.{total}
 use Rattle.grid_shapes.specs.Shapes.{isShape}
@@ -14,14 +13,14 @@ use Rattle.pool_records.specs.declared.recorded.Recorded.{Recorded}
 use Rattle.pool_records.specs.declared.recorded.Recorded.the-variants.{Writes, NoHistory}
 use Rattle.pool_records.specs.declared.texture.TextureRecord.{TextureRecord}
 use Rattle.pool_records.specs.Texture.{textureIn, texturesIn, recordPages}
-use Rattle.pool_records.specs.Find.{idOf}
+use Rattle.pool_records.specs.Find.{hasId}
 use Rattle.pool_memory.specs.Reading.{gridOn}
 use Rattle.pool_records.specs.RecordConstants.{textureStride}
 use Rattle.pool_rules.specs.RuleConstants.{mostPlaces}
 
 -- what it says of its history if it is there and has the id
 unfoldable pub recordedAt : List ℕ → ℕ → ℕ → ℕ → Recorded
-recordedAt textures tracked i id = cond (ltb i tracked && eqb (idOf (textureIn textures i)) id) (textureIn textures i .history) NoHistory
+recordedAt textures tracked i id = cond (hasId textures tracked i id) (textureIn textures i .history) NoHistory
 
 -- a record with another history
 abbrev pub recordedAs : Recorded → TextureRecord → TextureRecord

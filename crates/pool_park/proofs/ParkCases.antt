@@ -30,13 +30,13 @@ use Rattle.pool_records.specs.Texture.{readTexture, writeTexture}
 use Rattle.pool_records.specs.Spare.{writeSpare}
 use Rattle.pool_records.specs.Doomed.{writeDoomed}
 use Rattle.pool_records.specs.Retiring.{readRetiring}
-use Rattle.pool_records.specs.Find.{below}
+use Rattle.pool_records.specs.Find.{below, hasId}
 use Rattle.pool_records.specs.Views.{retiringOf}
 use Rattle.pool_access.proofs.Totals.{total-with}
 use Rattle.pool_memory.specs.declared.pool.Pool.{Pool as Counts}
 use Rattle.pool_memory.specs.Lent.{Lent, lent, versionPlaces}
 use Rattle.pool_memory.specs.Reading.{trackedRecords, handRead, modelOf}
-use Rattle.pool_memory.specs.Writing.{textureRecord, everySpare, texturesAfter, doomedAfter, sparesAfter, poolAfter, after}
+use Rattle.pool_memory.specs.Writing.{textureRecord, everySpare, texturesAfter, doomedAfter, sparesAfter, poolAfter, lentAfter}
 use Rattle.pool_memory.specs.IsPool.{isPool}
 use Rattle.pool_memory.specs.Calls.{refusedWith, answer, toldNumber, parkOn}
 use Rattle.pool_memory.proofs.Fits.{Fits}
@@ -53,7 +53,6 @@ use Rattle.pool_memory.proofs.Tracked.{textureAt, record-read, bytes-at, record
 use Rattle.pool_park.specs.declared.park_or_destroy.Parking.{Parking}
 use Rattle.pool_park.specs.declared.park_or_destroy.Parking.the-variants.{Destroyed, Kept}
 use Rattle.pool_park.specs.Counts.{handKept, handDoomed}
-use Rattle.pool_retire.specs.Noted.{hasId}
 use Rattle.pool_park.specs.Park.{parkRefusal, parkingOf, spareParked, oneMore, sparesEnd}
 use Rattle.pool_retire.proofs.Tracked.{map-change, inside, found-here, found-nowhere, changed-here, history-here}
 use Rattle.pool_retire.proofs.PopCases.{front-read}
@@ -196,7 +195,7 @@ module _ (l : Lent) (e : isPool l ≡ true) (failed current : ℕ) where
             ∙ tracked-parks (stateOf l i)
             ∙ ap (λ (t : TextureRecord). parked (parkingOf (l .pool) pressed true t x)) (record-at l i (inside l fits (x .id) i at q) fits)
 
-        decides : (d : Parking) → decided ≡ d → (m : Lent) → m ≡ after (parked d) l → (answer tt, m) ≡ parkOn l failed current
+        decides : (d : Parking) → decided ≡ d → (m : Lent) → m ≡ lentAfter (parked d) l → (answer tt, m) ≡ parkOn l failed current
         unfolding parkOn
         decides d q m left =
             ap (λ (m′ : Lent). (answer tt, m′)) left

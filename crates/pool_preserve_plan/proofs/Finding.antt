@@ -21,7 +21,7 @@ use Rattle.pool_records.specs.declared.recorded.Recorded.{Recorded}
 use Rattle.pool_records.specs.declared.recorded.Recorded.the-variants.{Writes, NoHistory}
 use Rattle.pool_records.specs.declared.texture.TextureRecord.{TextureRecord}
 use Rattle.pool_records.specs.Texture.{readTexture, textureIn, texturesIn, recordedPages, recordPages}
-use Rattle.pool_records.specs.Find.{idOf, below}
+use Rattle.pool_records.specs.Find.{idOf, below, hasId}
 use Rattle.pool_memory.specs.Lent.{Lent}
 use Rattle.pool_memory.specs.Reading.{trackedRecords, historyRead, stateRead, modelOf}
 use Rattle.pool_memory.proofs.Fits.{Fits}
@@ -30,13 +30,12 @@ use Rattle.pool_memory.proofs.Runs.{firstSpare, firstPageOf, stateOf, tracked-r
 use Rattle.pool_memory.proofs.Places.{IsTracked}
 use Rattle.pool_memory.proofs.Places as places
 use Rattle.pool_memory.proofs.Stays.{ids-ascend}
-use Rattle.pool_access.proofs.Ids.{hasId}
 use Rattle.pool_access.proofs.Ids as ids
 use Rattle.pool_preserve_plan.specs.declared.history.Found.{Found}
 use Rattle.pool_preserve_plan.specs.declared.history.Found.the-variants.{OtherShape, NothingRecorded, History}
 use Rattle.pool_preserve_plan.specs.Copies.{SinceFits}
-use Rattle.pool_preserve_plan.specs.PreservePlan.{recordedFound, foundOf, foundAt, historyFound, sinceOf, isOther, isSpent}
 use Rattle.pool_records.specs.RecordConstants.{textureStride}
+use Rattle.pool_preserve_plan.specs.PlanRefusal.{recordedFound, foundOf, foundAt, historyFound, sinceOf, isOther, isSpent}
 
 -- ---- as the code finds it
 

@@ -32,11 +32,11 @@ use Rattle.pool_preserve_plan.specs.declared.since.Since.{Since}
 use Rattle.pool_preserve_plan.specs.declared.history.Found.{Found}
 use Rattle.pool_preserve_plan.specs.declared.history.Found.the-variants.{OtherShape, NothingRecorded, History}
 use Rattle.pool_preserve_plan.specs.Copies.{SinceFits, boxPlanned, plannedSince, plannedAt, copyList, inOrder, copiesAt, sliceCopies, lentCopies, withCopies}
-use Rattle.pool_preserve_plan.specs.PreservePlan.{sinceOf, isOther, skipsSpent, planRefusal}
 use Rattle.pool_preserve_plan.proofs.Passes.{list-most, with-front}
 use Rattle.pool_preserve_plan.proofs.Finding.{historyIn, spent-found, foundIn, plan-found, found-fits}
 use Rattle.grid_stamps.specs.StampConstants.{pageStamps}
 use Rattle.pool_memory.specs.MemoryConstants.{copyStride}
+use Rattle.pool_preserve_plan.specs.PlanRefusal.{sinceOf, isOther, skipsSpent, planRefusal}
 
 -- ---- in order
 

@@ -13,9 +13,9 @@ use Rattle.pool_rules.specs.Model.{UploadFootprint, pagesOf}
 use Rattle.pool_preserve_plan.specs.declared.since.Since.{Since}
 use Rattle.pool_preserve_plan.specs.declared.history.Found.{Found}
 use Rattle.pool_preserve_plan.specs.Copies.{lentCopies}
-use Rattle.pool_preserve_plan.specs.PreservePlan.{isOther, skipsSpent, planRefusal}
 use Rattle.pool_preserve_plan.proofs.Planned.{pages-most}
 use Rattle.pool_preserve_plan.proofs.Planning.{copies-most}
+use Rattle.pool_preserve_plan.specs.PlanRefusal.{isOther, skipsSpent, planRefusal}
 
 module _ (s : VersionShape) (f : Found) (u : UploadFootprint) (count room : ℕ) where
   pub refusal-shape : isShape s ≡ false → planRefusal s f u count room ≡ 2

@@ -6,7 +6,7 @@ ghost use lib.ListN.{length};
 ghost use Rattle.grid_shapes.specs.Shapes.{isShape};
 ghost use Rattle.pool_rules.specs.Model.{pagesOf};
 ghost use Rattle.pool_preserve_plan.specs.Copies.{SinceFits, footprint, lentCopies};
-ghost use Rattle.pool_preserve_plan.specs.PreservePlan.{skipsSpent, planRefusal};
+ghost use Rattle.pool_preserve_plan.specs.PlanRefusal.{skipsSpent, planRefusal};
 use crate::count_copies::count_copies;
 use crate::history::Found;
 use crate::history::is_other;

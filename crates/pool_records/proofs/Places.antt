@@ -17,8 +17,8 @@ use Rattle.base_blocks.proofs.Lists.{ascending-get}
 use Rattle.base_tables.specs.Records.{recordAt}
 use Rattle.base_tables.proofs.Records.{length-table, getD-table}
 use Rattle.pool_records.specs.declared.texture.TextureRecord.{TextureRecord}
-use Rattle.pool_records.specs.Texture.{readTexture}
-use Rattle.pool_records.specs.Find.{textures, idOf, below}
+use Rattle.pool_records.specs.Texture.{readTexture, texturesIn}
+use Rattle.pool_records.specs.Find.{idOf, below}
 use Rattle.pool_records.specs.RecordConstants.{textureStride}
 
 module _ (id : ℕ) where
@@ -97,7 +97,7 @@ module _ (id : ℕ) where
     below-found e = omega (arith, reached (omega arith), not-past ts i d (omega arith))
 
 -- an id is the first number of its record
-pub id-at : (n i : ℕ) (s : List ℕ) → i < n → getD (textures n s) i (readTexture []) .id ≡ getD s (textureStride * i) 0
+pub id-at : (n i : ℕ) (s : List ℕ) → i < n → getD (texturesIn n s) i (readTexture []) .id ≡ getD s (textureStride * i) 0
 unfolding readTexture recordAt
 id-at n i s h =
     ap idOf (getD-table textureStride readTexture n i s (readTexture []) h)
@@ -105,20 +105,20 @@ id-at n i s h =
 
 -- the search's two turns
 module _ (n i id : ℕ) (s : List ℕ) (h : i < n) where
-  pub search-past : ascending idOf (textures n s) ≡ true → getD s (textureStride * i) 0 < id → i < below id (textures n s)
-  search-past up q = past id (textures n s) i (readTexture []) (omega (arith, length-table textureStride readTexture n s)) up (omega (arith, id-at n i s h))
+  pub search-past : ascending idOf (texturesIn n s) ≡ true → getD s (textureStride * i) 0 < id → i < below id (texturesIn n s)
+  search-past up q = past id (texturesIn n s) i (readTexture []) (omega (arith, length-table textureStride readTexture n s)) up (omega (arith, id-at n i s h))
 
-  pub search-before : id ≤ getD s (textureStride * i) 0 → below id (textures n s) ≤ i
-  search-before q = not-past id (textures n s) i (readTexture []) (omega (arith, id-at n i s h))
+  pub search-before : id ≤ getD s (textureStride * i) 0 → below id (texturesIn n s) ≤ i
+  search-before q = not-past id (texturesIn n s) i (readTexture []) (omega (arith, id-at n i s h))
 
   -- and a count's turn: one more where this one is below the id
-  pub search-count : ascending idOf (textures n s) ≡ true →
-      min i (below id (textures n s)) + boolByte (ltb (getD s (textureStride * i) 0) id) ≡ min (i + 1) (below id (textures n s))
+  pub search-count : ascending idOf (texturesIn n s) ≡ true →
+      min i (below id (texturesIn n s)) + boolByte (ltb (getD s (textureStride * i) 0) id) ≡ min (i + 1) (below id (texturesIn n s))
   search-count up = go (decLt (getD s (textureStride * i) 0) id)
     where
-      go : Dec (getD s (textureStride * i) 0 < id) → min i (below id (textures n s)) + boolByte (ltb (getD s (textureStride * i) 0) id) ≡ min (i + 1) (below id (textures n s))
+      go : Dec (getD s (textureStride * i) 0 < id) → min i (below id (texturesIn n s)) + boolByte (ltb (getD s (textureStride * i) 0) id) ≡ min (i + 1) (below id (texturesIn n s))
       go (yes q) = let e = lt-ltb (getD s (textureStride * i) 0) id q in rw e (omega (arith, search-past up q))
       go (no q) = let e = le-ltb (getD s (textureStride * i) 0) id (omega arith) in rw e (omega (arith, search-before (omega arith)))
 
-pub search-end : (n id : ℕ) (s : List ℕ) → below id (textures n s) ≤ n
-search-end n id s = omega (arith, below-length id (textures n s), length-table textureStride readTexture n s)
+pub search-end : (n id : ℕ) (s : List ℕ) → below id (texturesIn n s) ≤ n
+search-end n id s = omega (arith, below-length id (texturesIn n s), length-table textureStride readTexture n s)

@@ -1,9 +1,11 @@
 -- Rule: A texture's record: twenty numbers, of which the second to the thirteenth are the shape and the last is the bytes of one version of it.
-use Prim.Native.Nat.{ℕ}
+use Prim.Native.Nat.{ℕ, _*_}
 use mathlib.Core.List.{List, [], _∷_, _++_}
 use lib.ListN.{getD}
+use Rattle.base_blocks.specs.Lists.{total}
 use Rattle.base_tables.specs.Records.{recordAt, table}
 use Rattle.grid_shapes.specs.declared.shape.VersionShape.{VersionShape}
+use Rattle.grid_shapes.specs.Shapes.{bytesOf}
 use Rattle.pool_records.specs.declared.texture.TextureRecord.{TextureRecord}
 use Rattle.pool_records.specs.RecordConstants.{textureStride}
 use Rattle.pool_records.specs.Recorded.{recordedOf, recordedNumber}
@@ -62,3 +64,14 @@ recordedPages (Writes n) s = pagesOf s
 -- how many pages a texture's record claims
 abbrev pub recordPages : TextureRecord → ℕ
 recordPages t = recordedPages (t .history) (t .shape)
+
+-- how many spares it says that the texture has, and the bytes of all of them
+abbrev pub recordSpares : TextureRecord → ℕ
+recordSpares t = t .spares
+
+unfoldable pub recordBytes : TextureRecord → ℕ
+recordBytes t = bytesOf (t .shape) * t .spares
+
+-- where the spares of texture i begin
+abbrev pub sparesTo : List ℕ → ℕ → ℕ
+sparesTo textures i = total recordSpares (texturesIn i textures)

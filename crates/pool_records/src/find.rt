@@ -5,14 +5,15 @@ ghost use mathlib.Core.Bool.{true};
 ghost use Prim.Native.Nat.{_*_, _≤_};
 ghost use lib.ListN.{length};
 ghost use Rattle.base_blocks.specs.Lists.{ascending};
-ghost use Rattle.pool_records.specs.Find.{textures, idOf, below};
+ghost use Rattle.pool_records.specs.Find.{idOf, below};
 ghost use Rattle.pool_records.specs.RecordConstants.{textureStride};
+ghost use Rattle.pool_records.specs.Texture.{texturesIn};
 use crate::constants::TEXTURE_STRIDE;
 
 // Counts, of the first n records, those that have an id below this one. The id's texture is at that place, or nowhere.
 pub fn find_texture(s: &[u64], n: usize, id: u64) -> usize
-    requires { ⌜ (textureStride * n ≤ length (now s)) × (ascending idOf (textures n (now s)) ≡ true) ⌝ }
-    ensures { λ r. ⌜ r ≡ below id (textures n (now (s .entry))) ⌝ }
+    requires { ⌜ (textureStride * n ≤ length (now s)) × (ascending idOf (texturesIn n (now s)) ≡ true) ⌝ }
+    ensures { λ r. ⌜ r ≡ below id (texturesIn n (now (s .entry))) ⌝ }
 {
     let mut lo = 0;
     let mut hi = n;

@@ -17,13 +17,13 @@ use Rattle.base_blocks.proofs.Listed.{left, left-step, left-none, total-more, t
 use Rattle.base_tables.specs.Records.{recordAt}
 use Rattle.grid_shapes.specs.Shapes.{bytesOf}
 use Rattle.pool_records.specs.declared.texture.TextureRecord.{TextureRecord}
-use Rattle.pool_records.specs.Texture.{readTexture, textureIn}
+use Rattle.pool_records.specs.Texture.{readTexture, textureIn, recordSpares, recordBytes}
 use Rattle.pool_records.specs.Spare.{readSpare}
 use Rattle.pool_access.proofs.Fields.{spares-number}
 use Rattle.pool_rules.specs.Model.{limit}
 use Rattle.pool_relief_line.specs.Line.{countBefore, takenAt, gives, IsLine}
-use Rattle.pool_relief_line.specs.Parked.{parkedAt, parkings, bytesFrom, recordSpares, recordBytes}
-use Rattle.pool_records.specs.RecordConstants.{spareParkedAt, spareStride, textureSparesAt, textureStride}
+use Rattle.pool_relief_line.specs.Parked.{parkedAt, parkings, bytesFrom}
+use Rattle.pool_records.specs.RecordConstants.{spareParkedAt, spareStride, textureBytesAt, textureSparesAt, textureStride}
 
 -- a parking number is the third number of its record
 pub parked-at : (spares : List ℕ) (k : ℕ) → getD spares (spareStride * k + spareParkedAt) 0 ≡ parkedAt spares k
@@ -114,6 +114,11 @@ gives-sum freed excess bytes line ps = refl
 
 -- ---- textures
 
+-- a texture's bytes are the last number of its record
+pub bytes-number : (textures : List ℕ) (i : ℕ) → getD textures (textureStride * i + textureBytesAt) 0 ≡ textureIn textures i .bytes
+unfolding recordAt readTexture
+bytes-number textures i = sym (getD-drop (textureStride * i) textures textureBytesAt 0)
+
 -- no spare is parked before the first line
 count-zero : (ps : List ℕ) → countBefore 0 ps ≡ 0
 unfolding countBefore total
@@ -140,6 +145,7 @@ module _ (textures spares : List ℕ) (n i : ℕ) (h : i < n) where
   spares-rest = total-more textureAt n recordSpares i h ∙ ap (λ (k : ℕ). k + total recordSpares (rest (i + 1))) (sym (spares-number textures i))
 
   pub bytes-rest : total recordBytes (rest i) ≡ bytesOf (textureAt i .shape) * getD textures (textureStride * i + textureSparesAt) 0 + total recordBytes (rest (i + 1))
+  unfolding recordBytes
   bytes-rest =
       total-more textureAt n recordBytes i h
       ∙ ap (λ (k : ℕ). bytesOf (textureAt i .shape) * k + total recordBytes (rest (i + 1))) (sym (spares-number textures i))
@@ -166,7 +172,7 @@ counted-bytes bytes line spares from n =
     mul-le-mul-left {m = countBefore line (parkings spares from n)} {n = n} bytes (omega (arith, count-most line (parkings spares from n), length-parkings spares from n))
 
 pub before-most : (spares : List ℕ) (line from : ℕ) (ts : List TextureRecord) → bytesFrom spares line from ts ≤ total recordBytes ts
-unfolding bytesFrom total
+unfolding bytesFrom total recordBytes
 before-most spares line from [] = omega arith
 before-most spares line from (t ∷ ts) =
     omega (arith, counted-bytes (bytesOf (t .shape)) line spares from (t .spares), before-most spares line (from + t .spares) ts)

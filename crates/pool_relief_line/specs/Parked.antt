@@ -1,14 +1,13 @@
 -- Helper: The parking numbers of spares as they stand in their slice, and what they sum up to.
 use Prim.Native.Nat.{ℕ, _+_, _*_, _≤_, _<_}
 use mathlib.Core.Path.{_≡_}
-use mathlib.Core.Bool.{true}
 use mathlib.Core.List.{List, [], _∷_}
 use lib.ListN.{length}
 use Rattle.base_blocks.specs.Lists.{listed, total}
 use Rattle.base_tables.specs.Records.{recordAt}
-use Rattle.grid_shapes.specs.Shapes.{isShape, bytesOf}
+use Rattle.grid_shapes.specs.Shapes.{bytesOf}
 use Rattle.pool_records.specs.declared.texture.TextureRecord.{TextureRecord}
-use Rattle.pool_records.specs.Texture.{textureIn, texturesIn}
+use Rattle.pool_records.specs.Texture.{textureIn, texturesIn, recordSpares, recordBytes}
 use Rattle.pool_records.specs.Spare.{readSpare}
 use Rattle.pool_relief_line.specs.Line.{countBefore}
 use Rattle.pool_records.specs.RecordConstants.{spareStride, textureStride}
@@ -28,12 +27,9 @@ bytesFrom spares line from [] = 0
 bytesFrom spares line from (t ∷ ts) =
     bytesOf (t .shape) * countBefore line (parkings spares from (t .spares)) + bytesFrom spares line (from + t .spares) ts
 
-abbrev pub recordSpares : TextureRecord → ℕ
-recordSpares t = t .spares
-
--- bytes of a texture's spares, each its texture's
-abbrev pub recordBytes : TextureRecord → ℕ
-recordBytes t = bytesOf (t .shape) * t .spares
+-- the record has the bytes of one version of its shape, as the records of a pool do
+abbrev pub HasBytes : TextureRecord → Type 0
+HasBytes t = t .bytes ≡ bytesOf (t .shape)
 
 -- the most bytes that all versions together can have: 2^56
 abbrev pub mostVersionBytes : ℕ
@@ -43,6 +39,6 @@ mostVersionBytes = mostShapeBytes * mostPlaces
 pub record Countable (textures : List ℕ) (n : ℕ) (spares : List ℕ) : Type 0 where
   pub fits : textureStride * n ≤ length textures
   pub runs : spareStride * total recordSpares (texturesIn n textures) ≤ length spares
-  pub shapes : (i : ℕ) → i < n → isShape (textureIn textures i .shape) ≡ true
+  pub recorded : (i : ℕ) → i < n → HasBytes (textureIn textures i)
   pub few : total recordSpares (texturesIn n textures) ≤ mostPlaces
   pub bytes : total recordBytes (texturesIn n textures) ≤ mostVersionBytes

@@ -1,45 +1,38 @@
 // The parking line: all spares parked before it go, and none parked after it. It is found by halving, so that nothing is sorted and
 // no memory is needed.
 ghost use mathlib.Core.Path.{_≡_};
-ghost use mathlib.Core.Bool.{true};
 ghost use Prim.Native.Nat.{_+_, _*_, _≤_, _<_};
 ghost use lib.ListN.{length};
-ghost use Rattle.grid_shapes.specs.Shapes.{isShape, bytesOf};
+ghost use Rattle.grid_shapes.specs.Shapes.{bytesOf};
 ghost use Rattle.pool_records.specs.Texture.{textureIn, texturesIn};
 ghost use Rattle.pool_relief_line.specs.Line.{countBefore, IsLine};
-ghost use Rattle.pool_relief_line.specs.Parked.{parkings, bytesFrom, mostVersionBytes, Countable};
+ghost use Rattle.pool_relief_line.specs.Parked.{parkings, bytesFrom, HasBytes, mostVersionBytes, Countable};
 ghost use Rattle.pool_records.specs.RecordConstants.{spareStride, textureStride};
 use crate::gives::count_before;
-use grid_shapes::shape_bytes;
 use pool_access::spares_before;
-use pool_access::texture_at;
 use pool_records::SPARE_PARKED_AT;
 use pool_records::SPARE_STRIDE;
+use pool_records::TEXTURE_BYTES_AT;
 use pool_records::TEXTURE_SPARES_AT;
 use pool_records::TEXTURE_STRIDE;
 use pool_rules::LIMIT;
 
-// Returns the bytes of one version of texture i.
+// Returns the bytes of one version of texture i, which its record has, so that they are not worked out again from the shape.
 pub fn version_bytes(textures: &[u64], i: usize) -> u64
-    requires { ⌜ (textureStride * i + textureStride ≤ length (now textures)) × (isShape (textureIn (now textures) i .shape) ≡ true) ⌝ }
+    requires { ⌜ (textureStride * i + textureStride ≤ length (now textures)) × HasBytes (textureIn (now textures) i) ⌝ }
     ensures { λ r. ⌜ r ≡ bytesOf (textureIn (now (textures .entry)) i .shape) ⌝ }
 {
-    let t = texture_at(textures, i);
-    shape_bytes(t.shape)
+    textures[TEXTURE_STRIDE * i + TEXTURE_BYTES_AT]
 }
 
 // Adds up the bytes of the spares of texture i that were parked before the line. They are the n from place `from` on.
 fn run_bytes(textures: &[u64], i: usize, spares: &[u64], from: usize, n: usize, line: u64) -> u64
-    requires { ⌜ (textureStride * i + textureStride ≤ length (now textures)) × (isShape (textureIn (now textures) i .shape) ≡ true)
+    requires { ⌜ (textureStride * i + textureStride ≤ length (now textures)) × HasBytes (textureIn (now textures) i)
         × (spareStride * (from + n) ≤ length (now spares))
         × (bytesOf (textureIn (now textures) i .shape) * n ≤ mostVersionBytes) ⌝ }
     ensures { λ r. ⌜ r ≡ bytesOf (textureIn (now (textures .entry)) i .shape) * countBefore line (parkings (now (spares .entry)) from n) ⌝ }
 {
     let count = count_before(spares, from, n, line);
-    // The bytes are worked out only where they count.
-    if count == 0 {
-        return 0;
-    }
     let bytes = version_bytes(textures, i);
     bytes * count as u64
 }

@@ -11,7 +11,7 @@ use Rattle.pool_rules.specs.Retire.{retired}
 use Rattle.pool_records.specs.declared.texture.TextureRecord.{TextureRecord}
 use Rattle.pool_records.specs.Recorded.{RecordedFits}
 use Rattle.pool_records.specs.Texture.{writeTexture}
-use Rattle.pool_memory.specs.Writing.{recordedOf, textureRecord, retiringRecord}
+use Rattle.pool_memory.specs.Writing.{recordedHistory, textureRecord, retiringRecord}
 use Rattle.pool_retire.specs.Noted.{writesCounted, retiredRecord, bornAt}
 use Rattle.pool_records.specs.RecordConstants.{textureStride}
 
@@ -59,7 +59,7 @@ model-tracked t id view seq = λ i. record {
   bytes = bytesOf (t .shape);
 }
   where
-    go : (o : Option WriteHistory) → writesOf o ≡ writesCounted (recordedOf o)
+    go : (o : Option WriteHistory) → writesOf o ≡ writesCounted (recordedHistory o)
     go none = refl
     go (some h) = refl
 

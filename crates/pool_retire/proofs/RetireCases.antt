@@ -18,7 +18,7 @@ use Rattle.pool_records.specs.declared.texture.TextureRecord.{TextureRecord}
 use Rattle.pool_records.specs.declared.retiring.RetiringRecord.{RetiringRecord}
 use Rattle.pool_records.specs.Texture.{writeTexture}
 use Rattle.pool_records.specs.Retiring.{writeRetiring}
-use Rattle.pool_records.specs.Find.{below}
+use Rattle.pool_records.specs.Find.{below, hasId}
 use Rattle.pool_memory.specs.declared.pool.Pool.{Pool as Counts}
 use Rattle.pool_memory.specs.Lent.{Lent, lent, versionPlaces}
 use Rattle.pool_memory.specs.Reading.{trackedRecords, modelOf}
@@ -37,7 +37,7 @@ use Rattle.pool_memory.proofs.Changes.{textures-set}
 use Rattle.pool_memory.proofs.Stays.{put-together, book-stays, textures-stay, spares-stay, newest-stay, stamps-stay, doomed-stay}
 use Rattle.pool_memory.proofs.Tracked.{textureAt, record-at}
 use Rattle.pool_retire.specs.Counts.{ringCount, oneQueued}
-use Rattle.pool_retire.specs.Noted.{lastQueued, retireRefusal, hasId, retiredRecord, bornAt}
+use Rattle.pool_retire.specs.Noted.{lastQueued, retireRefusal, retiredRecord, bornAt}
 use Rattle.pool_retire.proofs.Noted.{model-tracked, model-untracked}
 use Rattle.pool_retire.proofs.Tracked.{map-change, inside, found-here, found-nowhere, changed-here, changed-nowhere}
 use Rattle.pool_retire.proofs.RetireRefusals.{place-left, guards-refused, guards-passed, last-model, used-model}

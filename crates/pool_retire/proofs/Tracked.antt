@@ -13,8 +13,8 @@ use Rattle.pool_rules.specs.Model.{VersionState, find}
 use Rattle.pool_rules.specs.Updates.{change}
 use Rattle.pool_records.specs.Recorded.{RecordedFits}
 use Rattle.pool_records.specs.Texture.{readTexture}
-use Rattle.pool_records.specs.Find.{idOf, below}
-use Rattle.pool_access.proofs.Ids.{hasId, found as found′, not-found as not-found′}
+use Rattle.pool_records.specs.Find.{idOf, below, hasId}
+use Rattle.pool_access.proofs.Ids.{found as found′, not-found as not-found′}
 use Rattle.pool_memory.specs.Lent.{Lent}
 use Rattle.pool_memory.specs.Reading.{trackedRecords, modelOf}
 use Rattle.pool_memory.proofs.Fits.{Fits}

@@ -27,10 +27,6 @@ retireRefusal p retiring places seq =
     (cond (leb places (ringCount p + p .kept + p .doomed)) 7
     (cond (ltb seq (lastQueued p retiring places)) 8 0))
 
--- record i, where a search among n ended, is there and has the id
-abbrev pub hasId : List ℕ → ℕ → ℕ → ℕ → Bool
-hasId textures n i id = ltb i n && eqb (idOf (textureIn textures i)) id
-
 abbrev pub writesCounted : Recorded → ℕ
 writesCounted NoHistory = 0
 writesCounted (Writes n) = n

@@ -11,3 +11,5 @@ pub mod Closure
 pub mod Histories
 pub mod Plans
 pub mod Parking
+pub mod RuleCases
+pub mod DirtyTiles

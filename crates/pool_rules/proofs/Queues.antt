@@ -104,7 +104,7 @@ module _ {W : Type 0} where
           parked = sym (none-parked (p .textures));
           dooming = refl;
           cap = omega arith;
-          slot = f .slot;
+          slot = omega (arith, f .slot);
           eight = refl;
           arrivals = all-replicate destroySpreadDrains 0 (omega arith);
           since = omega arith;

@@ -17,3 +17,5 @@ pub mod ForgetTexture
 pub mod Open
 pub mod Formed
 pub mod Closed
+pub mod RuleCases
+pub mod DirtyTiles

@@ -25,7 +25,7 @@ use Rattle.pool_memory.specs.declared.pool.Pool.{Pool as Counts}
 use Rattle.pool_memory.specs.declared.book.PacingBook.{PacingBook}
 use Rattle.pool_memory.specs.Lent.{Lent, lent, versionPlaces}
 use Rattle.pool_memory.specs.Reading.{spareRead, retiringRead, doomedRead, modelOf}
-use Rattle.pool_memory.specs.Writing.{textureRecord, spareRecord, everySpare, texturesAfter, sparesAfter, bookAfter, poolAfter, after}
+use Rattle.pool_memory.specs.Writing.{textureRecord, spareRecord, everySpare, texturesAfter, sparesAfter, pacingAfter, poolAfter, lentAfter}
 use Rattle.pool_memory.specs.IsPool.{isPool}
 use Rattle.pool_memory.specs.Calls.{refusedWith, answer, viewNumbers, asked, drainVersionsOn}
 use Rattle.pool_memory.proofs.Fits.{Fits}
@@ -165,8 +165,8 @@ module _ (l : Lent) (f : Fits l) where
     line = l .pool .line;
   }
 
-  book-drained : drainedBook (l .book) ≡ bookAfter rest
-  unfolding drainedBook bookAfter modelOf
+  book-drained : drainedBook (l .book) ≡ pacingAfter rest
+  unfolding drainedBook pacingAfter modelOf
   book-drained = λ i. record {
     arrivals = replicate destroySpreadDrains 0;
     slot = l .book .slot;
@@ -188,7 +188,7 @@ module _ (l : Lent) (f : Fits l) where
   abbrev leaving : Counts → PacingBook → List ℕ → Lent
   leaving c b textures = lent c b textures (l .retiring) (l .doomed) (l .spares) (l .newest) (l .stamps)
 
-  left-drained : leaving (drainedCounts (l .pool) places) (drainedBook (l .book)) (cleared (l .pool .tracked) (l .textures)) ≡ after rest l
+  left-drained : leaving (drainedCounts (l .pool) places) (drainedBook (l .book)) (cleared (l .pool .tracked) (l .textures)) ≡ lentAfter rest l
   left-drained =
       put-together rest l (drainedCounts (l .pool) places) (drainedBook (l .book)) (cleared (l .pool .tracked) (l .textures))
       (l .retiring) (l .doomed) (l .spares) (l .newest) (l .stamps)
@@ -211,7 +211,7 @@ module _ (l : Lent) (f : Fits l) where
     drain-refused h = sym (rw (pooled, lt-ltb (length buffer) (length (everyView (modelOf l))) (omega (arith, counted))))
 
     drain-said : handedOut ≤ length buffer
-        → (answer (length (everyView (modelOf l))), (over (flat viewNumbers (everyView (modelOf l))) buffer, after rest l)) ≡ drainVersionsOn l buffer
+        → (answer (length (everyView (modelOf l))), (over (flat viewNumbers (everyView (modelOf l))) buffer, lentAfter rest l)) ≡ drainVersionsOn l buffer
     unfolding drainVersionsOn asked drainVersions guard
     drain-said h = sym (rw (pooled, le-ltb (length buffer) (length (everyView (modelOf l))) (omega (arith, counted))))
 
@@ -221,5 +221,5 @@ module _ (l : Lent) (f : Fits l) where
     drain-accepted h out textures c b e1 e2 e3 e4 =
         let full : out ≡ over (flat viewNumbers (everyView (modelOf l))) buffer =
         e1 ∙ ap (λ (vs : List ℕ). over vs buffer) (views-drained ∙ sym (flat-views (everyView (modelOf l)))) in
-        let kept : leaving c b textures ≡ after rest l = (λ i. leaving (e3 i) (e4 i) (e2 i)) ∙ left-drained in
+        let kept : leaving c b textures ≡ lentAfter rest l = (λ i. leaving (e3 i) (e4 i) (e2 i)) ∙ left-drained in
         (λ i. (answer (sym counted i), (full i, kept i))) ∙ drain-said h

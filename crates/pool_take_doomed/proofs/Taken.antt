@@ -22,7 +22,7 @@ use Rattle.pool_memory.specs.declared.pool.Pool.{Pool as Counts}
 use Rattle.pool_memory.specs.declared.book.PacingBook.{PacingBook}
 use Rattle.pool_memory.specs.Lent.{Lent, lent, versionPlaces}
 use Rattle.pool_memory.specs.Reading.{doomedRead, modelOf}
-use Rattle.pool_memory.specs.Writing.{bookAfter, poolAfter, after}
+use Rattle.pool_memory.specs.Writing.{pacingAfter, poolAfter, lentAfter}
 use Rattle.pool_memory.specs.IsPool.{isPool}
 use Rattle.pool_memory.specs.Calls.{Told, refusedWith, answer, viewNumbers, asked, takeDoomedOn}
 use Rattle.pool_memory.proofs.Fits.{Fits}
@@ -60,7 +60,7 @@ restOf l n =
     (withDoomed (drop n (modelOf l .doomed)) 0 (modelOf l .dooming - doomedBytes (take n (modelOf l .doomed))) (modelOf l))
 
 abbrev said : Lent → List ℕ → ℕ → Told ℕ × (List ℕ × Lent)
-said l buffer n = (answer (length (viewsOf l n)), (over (flat viewNumbers (viewsOf l n)) buffer, after (restOf l n) l))
+said l buffer n = (answer (length (viewsOf l n)), (over (flat viewNumbers (viewsOf l n)) buffer, lentAfter (restOf l n) l))
 
 -- the slices with these counts and this book
 abbrev leaving : Lent → Counts → PacingBook → Lent
@@ -150,8 +150,8 @@ module _ (l : Lent) where
         line = l .pool .line;
       }
 
-      book-taken : takenBook (l .book) noted ≡ bookAfter rest
-      unfolding takenBook bookAfter modelOf
+      book-taken : takenBook (l .book) noted ≡ pacingAfter rest
+      unfolding takenBook pacingAfter modelOf
       book-taken = λ i. record {
         arrivals = noted;
         slot = suc (l .book .slot) % destroySpreadDrains;
@@ -159,7 +159,7 @@ module _ (l : Lent) where
         excess = 0;
       }
 
-      left-taken : leaving l (takenCounts (l .pool) (versionPlaces l) n bytes) (takenBook (l .book) noted) ≡ after rest l
+      left-taken : leaving l (takenCounts (l .pool) (versionPlaces l) n bytes) (takenBook (l .book) noted) ≡ lentAfter rest l
       left-taken =
           put-together rest l (takenCounts (l .pool) (versionPlaces l) n bytes) (takenBook (l .book) noted)
           (l .textures) (l .retiring) (l .doomed) (l .spares) (l .newest) (l .stamps)
@@ -203,7 +203,7 @@ module _ (l : Lent) where
           let same : vs ≡ flat viewNumbers (viewsOf l n) = sym (flat-views (viewsOf l n) ∙ views-taken n few) in
           let full : out ≡ over (flat viewNumbers (viewsOf l n)) buffer =
           e1 ∙ front-sets vs buffer (omega arith) ∙ ap (λ (xs : List ℕ). over xs buffer) same in
-          let kept : leaving l c b ≡ after (restOf l n) l =
+          let kept : leaving l c b ≡ lentAfter (restOf l n) l =
           ap₂ (leaving l) e2 (e3 ∙ ap (takenBook (l .book)) now) ∙ left-taken f n bytes few sum in
           (λ i. (answer ((sym long ∙ ap length (sym (views-taken n few))) i), (full i, kept i)))
           ∙ ap (said l buffer) counted

@@ -9,14 +9,14 @@ use Rattle.grid_shapes.specs.declared.shape.VersionShape.{VersionShape}
 use Rattle.grid_shapes.specs.Shapes.{sameShape}
 use Rattle.pool_records.specs.declared.texture.TextureRecord.{TextureRecord}
 use Rattle.pool_records.specs.Texture.{textureIn, texturesIn}
-use Rattle.pool_records.specs.Find.{below}
+use Rattle.pool_records.specs.Find.{below, hasId}
 use Rattle.pool_memory.specs.declared.pool.Pool.{Pool as Counts}
 use Rattle.pool_memory.specs.Lent.{Lent}
 use Rattle.pool_memory.specs.IsPool.{isPool}
 use Rattle.pool_access.proofs.Ids.{found}
 use Rattle.pool_tracking.specs.Cases.{Accepted, TrackedAt}
 use Rattle.pool_take_spare.specs.declared.look_up.Look.{Look}
-use Rattle.pool_take_spare.specs.TakeRefusal.{hasId, refusalAt}
+use Rattle.pool_take_spare.specs.TakeRefusal.{refusalAt}
 use Rattle.pool_take_spare.specs.LookUp.{Looked}
 use Rattle.pool_take_spare.proofs.Said.{refusal-read, none-at}
 

@@ -15,7 +15,7 @@ use Rattle.pool_rules.specs.RuleConstants.{mostPlaces}
 use Rattle.pool_records.specs.declared.texture.TextureRecord.{TextureRecord}
 use Rattle.pool_records.specs.RecordConstants.{textureStride}
 use Rattle.pool_records.specs.Texture.{textureIn, recordPages}
-use Rattle.pool_records.specs.Find.{below}
+use Rattle.pool_records.specs.Find.{below, hasId}
 use Rattle.pool_memory.specs.declared.pool.Pool.{Pool as Counts}
 use Rattle.pool_memory.specs.Lent.{Lent}
 use Rattle.pool_memory.specs.Reading.{trackedRecords, modelOf}
@@ -34,7 +34,7 @@ use Rattle.pool_tracking.specs.Refusal.{trackingRefusal, begunRefusal, foundRef
 use Rattle.pool_tracking.specs.Cases.{recordOf, TrackedAt}
 use Rattle.pool_tracking.proofs.Refusals.{take-refused}
 use Rattle.pool_tracking.proofs.Tracked.{found-there, not-there}
-use Rattle.pool_take_spare.specs.TakeRefusal.{Readable, hasId, refusalAt}
+use Rattle.pool_take_spare.specs.TakeRefusal.{Readable, refusalAt}
 
 -- ---- a tracking begun
 

@@ -22,12 +22,12 @@ use Rattle.pool_rules.specs.TakeSpare.{newest, others, takenBytes, takeSpare}
 use Rattle.pool_rules.proofs.States.{length-change, total-change, total-unchanged}
 use Rattle.pool_records.specs.declared.texture.TextureRecord.{TextureRecord}
 use Rattle.pool_records.specs.declared.spare.SpareRecord.{SpareRecord}
-use Rattle.pool_records.specs.Texture.{writeTexture, textureIn}
+use Rattle.pool_records.specs.Texture.{writeTexture, textureIn, sparesTo}
 use Rattle.pool_records.specs.Recorded.{RecordedFits}
 use Rattle.pool_memory.specs.declared.pool.Pool.{Pool as Counts}
 use Rattle.pool_memory.specs.Lent.{Lent, lent}
 use Rattle.pool_memory.specs.Reading.{spareRead, stateRead, modelOf}
-use Rattle.pool_memory.specs.Writing.{textureRecord, everySpare, poolAfter, sparesAfter, after}
+use Rattle.pool_memory.specs.Writing.{textureRecord, everySpare, poolAfter, sparesAfter, lentAfter}
 use Rattle.pool_memory.specs.Calls.{Told, answer, TakenVersion, takenOf, takeSpareOn}
 use Rattle.pool_memory.proofs.Fits.{Fits}
 use Rattle.pool_memory.proofs.FromPool.{pool-fits}
@@ -40,7 +40,7 @@ use Rattle.pool_memory.proofs.Changes.{textures-set, sparesBefore, sparesAt, ev
 use Rattle.pool_memory.proofs.Asked.{asked-accepted}
 use Rattle.pool_memory.proofs.Tracked.{record-read, spares-to, bytes-at, record-at, shape-at, count-at}
 use Rattle.pool_tracking.specs.Cases.{Accepted, recordOf, TrackedAt}
-use Rattle.pool_take_spare.specs.TakeNewest.{renamedRecord, sparesTo, NewestFits, oneTaken, renamedAt, newestAt, spareAt, noneTaken, spareTaken, newestTaken}
+use Rattle.pool_take_spare.specs.TakeNewest.{renamedRecord, NewestFits, oneTaken, renamedAt, newestAt, spareAt, noneTaken, spareTaken, newestTaken}
 use Rattle.pool_tracking.proofs.Refusals.{take-tracked}
 use Rattle.pool_tracking.proofs.Counts.{counted, counts-after}
 use Rattle.pool_tracking.proofs.Tracked.{spares-within, kept-fits, is-there, found-there, here}
@@ -147,7 +147,7 @@ module _ (l : Lent) (i id : ℕ) (shape : VersionShape) (records : Bool) (seq : 
       withParked (modelOf l .parked - takenBytes (u .shape) (newest (u .spares)))
       (withTextures (change id (renamedState seq) (modelOf l .textures)) (modelOf l))
 
-  ruled : takeSpareOn l id shape records seq ≡ (answer (takenOf (newest (u .spares))), after after-take l)
+  ruled : takeSpareOn l id shape records seq ≡ (answer (takenOf (newest (u .spares))), lentAfter after-take l)
   unfolding takeSpareOn
   ruled =
       asked-accepted takenOf l (λ (p : PoolModel ℕ). takeSpare p id shape records seq) (ok .0) (newest (u .spares)) after-take
@@ -172,7 +172,7 @@ module _ (l : Lent) (i id : ℕ) (shape : VersionShape) (records : Bool) (seq : 
   abbrev left-with : Counts → List ℕ → Lent
   left-with c spares = lent c (l .book) (renamedAt (l .textures) i seq) (l .retiring) (l .doomed) spares (l .newest) (l .stamps)
 
-  left-as : (c : Counts) (spares : List ℕ) → c ≡ poolAfter after-take l → spares ≡ sparesAfter after-take l → left-with c spares ≡ after after-take l
+  left-as : (c : Counts) (spares : List ℕ) → c ≡ poolAfter after-take l → spares ≡ sparesAfter after-take l → left-with c spares ≡ lentAfter after-take l
   left-as c spares e1 e2 =
       let kept = map-unchanged pagedOf id (renamedState seq) (λ (v : VersionState ℕ). refl) (modelOf l .textures) in
       put-together after-take l c (l .book) (renamedAt (l .textures) i seq) (l .retiring) (l .doomed) spares (l .newest) (l .stamps)

@@ -6,10 +6,10 @@ use mathlib.Core.List.{List}
 use Rattle.grid_shapes.specs.declared.shape.VersionShape.{VersionShape}
 use Rattle.grid_shapes.specs.Shapes.{sameShape}
 use Rattle.pool_records.specs.Texture.{textureIn, texturesIn}
-use Rattle.pool_records.specs.Find.{below}
+use Rattle.pool_records.specs.Find.{below, hasId}
 use Rattle.pool_memory.specs.declared.pool.Pool.{Pool}
 use Rattle.pool_take_spare.specs.declared.look_up.Look.{Look}
-use Rattle.pool_take_spare.specs.TakeRefusal.{hasId, refusalAt}
+use Rattle.pool_take_spare.specs.TakeRefusal.{refusalAt}
 
 pub record Looked (pool : Pool) (textures : List ℕ) (lentPages id : ℕ) (shape : VersionShape) (records : Bool) (seq : ℕ) (r : Look) : Type 0 where
   pub place : r .place ≡ below id (texturesIn (pool .tracked) textures)

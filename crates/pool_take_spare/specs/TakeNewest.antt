@@ -15,7 +15,7 @@ use Rattle.pool_records.specs.declared.spare.SpareRecord.{SpareRecord}
 use Rattle.pool_records.specs.RecordConstants.{spareStride, textureStride}
 use Rattle.pool_records.specs.Recorded.{RecordedFits}
 use Rattle.pool_records.specs.Spare.{readSpare}
-use Rattle.pool_records.specs.Texture.{writeTexture, textureIn, texturesIn}
+use Rattle.pool_records.specs.Texture.{writeTexture, textureIn, texturesIn, sparesTo}
 use Rattle.pool_memory.specs.declared.pool.Pool.{Pool}
 use Rattle.pool_memory.specs.Calls.{Told, answer, TakenVersion}
 
@@ -32,10 +32,6 @@ renamedRecord seq left t = record {
   spares = left;
   bytes = t .bytes;
 }
-
--- where the spares of texture i begin
-abbrev pub sparesTo : List ℕ → ℕ → ℕ
-sparesTo textures i = total (λ (t : TextureRecord). t .spares) (texturesIn i textures)
 
 -- what is asked: texture i and its spares are there, and their bytes are part of the parked ones
 pub record NewestFits (pool : Pool) (textures spares : List ℕ) (i : ℕ) : Type 0 where

@@ -12,7 +12,7 @@ use Rattle.pool_rules.specs.Model.{limit}
 use Rattle.pool_rules.specs.RuleConstants.{mostPlaces}
 use Rattle.pool_records.specs.RecordConstants.{textureStride}
 use Rattle.pool_records.specs.Texture.{textureIn, texturesIn, recordPages}
-use Rattle.pool_records.specs.Find.{idOf}
+use Rattle.pool_records.specs.Find.{idOf, hasId}
 use Rattle.pool_memory.specs.declared.pool.Pool.{Pool}
 use Rattle.pool_tracking.specs.Refusal.{trackingRefusal}
 
@@ -23,10 +23,6 @@ pub record Readable (pool : Pool) (textures : List ℕ) (lentPages : ℕ) : Type
   pub shapes : (i : ℕ) → i < pool .tracked → isShape (textureIn textures i .shape) ≡ true
   pub most : lentPages ≤ mostPlaces
   pub used : pool .pages ≤ mostPlaces
-
--- record i, where a search among n ended, is there and has the id
-abbrev pub hasId : List ℕ → ℕ → ℕ → ℕ → Bool
-hasId textures n i id = ltb i n && eqb (idOf (textureIn textures i)) id
 
 -- the number of the first refusal, or 0; record i is where the search for the id ended
 unfoldable pub refusalAt : Pool → List ℕ → ℕ → ℕ → ℕ → VersionShape → Bool → ℕ → ℕ

@@ -27,7 +27,7 @@ use Rattle.pool_records.specs.Doomed.{writeDoomed}
 use Rattle.pool_memory.specs.declared.pool.Pool.{Pool as Counts}
 use Rattle.pool_memory.specs.Lent.{Lent, lent, versionPlaces}
 use Rattle.pool_memory.specs.Reading.{spareRead, stateRead, modelOf}
-use Rattle.pool_memory.specs.Writing.{doomedRecord, everySpare, firstPage, sparesAfter, doomedAfter, poolAfter, after}
+use Rattle.pool_memory.specs.Writing.{doomedRecord, everySpare, firstPage, sparesAfter, doomedAfter, poolAfter, lentAfter}
 use Rattle.pool_memory.specs.Calls.{answer, takenOf, takeSpareOn}
 use Rattle.pool_memory.proofs.Fits.{Fits}
 use Rattle.pool_memory.proofs.FromPool.{pool-fits, page-places}
@@ -111,7 +111,7 @@ module _ (l : Lent) (i id : ℕ) (shape : VersionShape) (records : Bool) (seq : 
   other-state : sameShape (u .shape) shape ≡ false
   other-state = ap (λ (s : VersionShape). sameShape s shape) (shape-at l i (h .0)) ∙ other
 
-  ruled : takeSpareOn l id shape records seq ≡ (answer none, after renewed l)
+  ruled : takeSpareOn l id shape records seq ≡ (answer none, lentAfter renewed l)
   unfolding takeSpareOn
   ruled =
       asked-accepted takenOf l (λ (p : PoolModel ℕ). takeSpare p id shape records seq) (ok .0) none renewed

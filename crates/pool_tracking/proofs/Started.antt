@@ -24,7 +24,7 @@ use Rattle.pool_records.proofs.Places.{below-length}
 use Rattle.pool_memory.specs.declared.pool.Pool.{Pool as Counts}
 use Rattle.pool_memory.specs.Lent.{Lent, lent}
 use Rattle.pool_memory.specs.Reading.{trackedRecords, modelOf}
-use Rattle.pool_memory.specs.Writing.{everySpare, poolAfter, after}
+use Rattle.pool_memory.specs.Writing.{everySpare, poolAfter, lentAfter}
 use Rattle.pool_memory.specs.Calls.{answer, takenOf, takeSpareOn}
 use Rattle.pool_memory.proofs.Fits.{Fits}
 use Rattle.pool_memory.proofs.FromPool.{pool-fits, page-places, enough}
@@ -85,7 +85,7 @@ module _ (l : Lent) (i id : ℕ) (shape : VersionShape) (records : Bool) (seq : 
   abbrev started : PoolModel ℕ
   started = withTrackings epoch (withTextures (insert new (modelOf l .textures)) (modelOf l))
 
-  ruled : takeSpareOn l id shape records seq ≡ (answer none, after started l)
+  ruled : takeSpareOn l id shape records seq ≡ (answer none, lentAfter started l)
   unfolding takeSpareOn
   ruled =
       asked-accepted takenOf l (λ (p : PoolModel ℕ). takeSpare p id shape records seq) (ok .0) none started

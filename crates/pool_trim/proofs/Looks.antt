@@ -28,13 +28,12 @@ use Rattle.pool_memory.proofs.Tracked.{bytes-at, record-at, shape-at, count-at,
 use Rattle.pool_take_doomed.specs.Given.{givenRecords}
 use Rattle.pool_take_doomed.proofs.Pushed.{given-spares}
 use Rattle.pool_trim.specs.declared.look_at.Look.{Look}
-use Rattle.pool_forget_texture.specs.Owned.{sparesTo}
 use Rattle.pool_trim.specs.LookAt.{isIdle, dueAfter, lookOf, lookedRecord}
 use Rattle.pool_trim.specs.Pass.{givenOne}
 use Rattle.pool_forget_texture.proofs.TextureRuns.{spares-in}
 use Rattle.pool_trim.proofs.Ages.{aged-most}
 use Rattle.grid_shapes.specs.ShapeConstants.{mostShapeBytes}
-use Rattle.pool_records.specs.Texture.{textureIn, recordPages}
+use Rattle.pool_records.specs.Texture.{textureIn, recordPages, sparesTo}
 
 -- ---- any state
 

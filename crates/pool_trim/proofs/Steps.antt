@@ -16,7 +16,7 @@ use Rattle.pool_rules.specs.Model.{Doomed, VersionState, PoolModel, pagesUsed}
 use Rattle.pool_rules.specs.Trim.{idle, thinned}
 use Rattle.pool_records.specs.declared.texture.TextureRecord.{TextureRecord}
 use Rattle.pool_records.specs.declared.doomed.DoomedRecord.{DoomedRecord}
-use Rattle.pool_records.specs.Texture.{writeTexture, textureIn, recordPages}
+use Rattle.pool_records.specs.Texture.{writeTexture, textureIn, recordPages, sparesTo}
 use Rattle.pool_records.specs.Spare.{writeSpare}
 use Rattle.pool_records.specs.Doomed.{writeDoomed}
 use Rattle.pool_memory.specs.Lent.{Lent}
@@ -32,7 +32,7 @@ use Rattle.pool_memory.proofs.Changes.{spares-rest}
 use Rattle.pool_memory.proofs.Stays.{ids-ascend}
 use Rattle.pool_memory.proofs.Passes.{texture-packed, spares-packed, newest-packed, stamps-packed}
 use Rattle.pool_memory.proofs.Tracked.{record-read, spares-to, pages-to, pages-at}
-use Rattle.pool_forget_texture.specs.Owned.{sparesTo, pagesTo}
+use Rattle.pool_forget_texture.specs.Owned.{pagesTo}
 use Rattle.pool_trim.specs.LookAt.{lookedRecord}
 use Rattle.pool_trim.specs.Pass.{trimmedOne, givenOne, trimmed}
 use Rattle.pool_forget_texture.proofs.TextureRuns.{spares-within}

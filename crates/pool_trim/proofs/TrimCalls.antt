@@ -25,7 +25,7 @@ use Rattle.pool_records.specs.Texture.{readTexture, textureIn, recordPages}
 use Rattle.pool_memory.specs.declared.pool.Pool.{Pool as Counts}
 use Rattle.pool_memory.specs.Lent.{Lent, lent, versionPlaces}
 use Rattle.pool_memory.specs.Reading.{trackedRecords, historyRead, stateRead, modelOf}
-use Rattle.pool_memory.specs.Writing.{poolAfter, bookAfter, retiringAfter, doomedAfter, after}
+use Rattle.pool_memory.specs.Writing.{poolAfter, pacingAfter, retiringAfter, doomedAfter, lentAfter}
 use Rattle.pool_memory.specs.IsPool.{isPool}
 use Rattle.pool_memory.specs.Calls.{refusedWith, answer, trimOn}
 use Rattle.pool_memory.proofs.Fits.{Fits}
@@ -40,7 +40,7 @@ use Rattle.pool_memory.proofs.Tracked.{record-read}
 use Rattle.pool_access.proofs.Totals.{total-first}
 use Rattle.pool_trim.specs.declared.look_at.Look.{Look}
 use Rattle.pool_trim.specs.declared.pass.Pass.{Pass}
-use Rattle.pool_trim.specs.Pass.{trimmedOne, givenOne, trimmed, countsAfter}
+use Rattle.pool_trim.specs.Pass.{trimmedOne, givenOne, trimmed, countsTrimmed}
 use Rattle.pool_trim.specs.NothingAged.{allYoung}
 use Rattle.pool_forget_texture.proofs.TextureRuns.{spares-within, pages-within}
 use Rattle.pool_trim.proofs.Steps.{givenTo, keptTo}
@@ -139,8 +139,8 @@ module _ (l : Lent) (f : Fits l) (now i : ℕ) (w : Pass) (T D S N P : List ℕ)
         omega (arith, dooming, doomed-model l, doomed-fit l f, f .most, s .light, few),
       )
 
-  counts-left : countsAfter (l .pool) w ≡ poolAfter (trimmed l now i) l
-  unfolding countsAfter poolAfter modelOf trimmed
+  counts-left : countsTrimmed (l .pool) w ≡ poolAfter (trimmed l now i) l
+  unfolding countsTrimmed poolAfter modelOf trimmed
   counts-left = λ j. record {
     tracked = s .tracked j;
     kept = (s .kept ∙ sym (count-spares (keptTo l now i))) j;
@@ -158,8 +158,8 @@ module _ (l : Lent) (f : Fits l) (now i : ℕ) (w : Pass) (T D S N P : List ℕ)
     line = l .pool .line;
   }
 
-  book-left : l .book ≡ bookAfter (trimmed l now i)
-  unfolding bookAfter trimmed
+  book-left : l .book ≡ pacingAfter (trimmed l now i)
+  unfolding pacingAfter trimmed
   book-left = sym (book-same l (f .mark))
 
   retiring-left : l .retiring ≡ retiringAfter (trimmed l now i) l
@@ -170,12 +170,12 @@ module _ (l : Lent) (f : Fits l) (now i : ℕ) (w : Pass) (T D S N P : List ℕ)
   unfolding versionPlaces trimmed
   doomed-left = s .doomed ∙ doomed-pushed l (trimmed l now i) (f .first) (omega (arith, f .doomed)) (doomed-fit l f) (givenTo l now i) refl
 
-  pub pass-done : l .pool .tracked ≤ i → (c : Counts) → c ≡ countsAfter (l .pool) w
-      → lent c (l .book) T (l .retiring) D S N P ≡ after (trimmed l now (l .pool .tracked)) l
+  pub pass-done : l .pool .tracked ≤ i → (c : Counts) → c ≡ countsTrimmed (l .pool) w
+      → lent c (l .book) T (l .retiring) D S N P ≡ lentAfter (trimmed l now (l .pool .tracked)) l
   pass-done end c e =
       put-together (trimmed l now i) l c (l .book) T (l .retiring) D S N P (e ∙ counts-left) book-left (s .textures) retiring-left doomed-left
       (s .spares) (s .newest) (s .stamps)
-      ∙ ap (λ (n : ℕ). after (trimmed l now n) l) (let q : i ≡ l .pool .tracked = omega (arith, s .at) in q)
+      ∙ ap (λ (n : ℕ). lentAfter (trimmed l now n) l) (let q : i ≡ l .pool .tracked = omega (arith, s .at) in q)
 
 -- ---- the call
 
@@ -208,7 +208,7 @@ module _ (l : Lent) (pool : isPool l ≡ true) (now : ℕ) where
   unfolding trim
   rule-late h = guard-refused (ltb limit now) 3 _ (lt-ltb limit now h)
 
-  pub trim-done : now ≤ limit → (r : Lent) → r ≡ after (trimmed l now (l .pool .tracked)) l → (answer tt, r) ≡ trimOn l now
+  pub trim-done : now ≤ limit → (r : Lent) → r ≡ lentAfter (trimmed l now (l .pool .tracked)) l → (answer tt, r) ≡ trimOn l now
   unfolding trimOn
   trim-done h r e =
       ap (λ (x : Lent). (answer tt, x)) e

@@ -18,7 +18,7 @@ use Rattle.pool_rules.specs.Model.{Spare, Doomed, VersionState, pagesUsed, doom
 use Rattle.pool_rules.specs.Trim.{agedCount, thinned, idle}
 use Rattle.pool_records.specs.declared.texture.TextureRecord.{TextureRecord}
 use Rattle.pool_records.specs.declared.spare.SpareRecord.{SpareRecord}
-use Rattle.pool_records.specs.Texture.{readTexture, writeTexture, textureIn, recordPages}
+use Rattle.pool_records.specs.Texture.{readTexture, writeTexture, textureIn, recordPages, sparesTo}
 use Rattle.pool_records.specs.Spare.{readSpare}
 use Rattle.pool_records.specs.Doomed.{writeDoomed}
 use Rattle.pool_records.specs.Views.{spareOf}
@@ -33,7 +33,7 @@ use Rattle.pool_take_doomed.specs.Given.{givenRecords}
 use Rattle.pool_access.proofs.Totals.{total-none, total-next}
 use Rattle.pool_trim.specs.declared.look_at.Look.{Look}
 use Rattle.pool_trim.specs.declared.pass.Pass.{Pass}
-use Rattle.pool_forget_texture.specs.Owned.{sparesTo, pagesTo}
+use Rattle.pool_forget_texture.specs.Owned.{pagesTo}
 use Rattle.pool_trim.specs.LookAt.{spareIn, lookOf, lookAt, lookedRecord, lookedPut}
 use Rattle.pool_trim.specs.Pass.{noPass, passOn, givenOne, trimmed}
 use Rattle.pool_forget_texture.proofs.TextureRuns.{spares-in, spares-within, pages-within}

@@ -18,17 +18,16 @@ use Rattle.pool_rules.specs.Model.{Doomed, VersionState, PoolModel}
 use Rattle.pool_rules.specs.Updates.{withTextures, doomSpares}
 use Rattle.pool_rules.specs.Trim.{aged, agedCount}
 use Rattle.pool_records.specs.declared.texture.TextureRecord.{TextureRecord}
-use Rattle.pool_records.specs.Texture.{readTexture, textureIn}
+use Rattle.pool_records.specs.Texture.{readTexture, textureIn, sparesTo}
 use Rattle.pool_memory.specs.Lent.{Lent}
 use Rattle.pool_memory.specs.Reading.{spareRead, stateRead, modelOf}
-use Rattle.pool_memory.specs.Writing.{after}
+use Rattle.pool_memory.specs.Writing.{lentAfter}
 use Rattle.pool_memory.proofs.Fits.{Fits}
 use Rattle.pool_memory.proofs.Runs.{stateOf, tracked-model, model-at}
 use Rattle.pool_memory.proofs.Stays.{nothing-changed}
 use Rattle.pool_memory.proofs.Tracked.{record-read}
 use Rattle.pool_access.proofs.Totals.{total-none, total-next, total-with}
 use Rattle.pool_access.proofs.Fields.{spares-number}
-use Rattle.pool_forget_texture.specs.Owned.{sparesTo}
 use Rattle.pool_forget_texture.proofs.TextureRuns.{spares-in}
 use Rattle.pool_trim.specs.LookAt.{spareIn}
 use Rattle.pool_trim.specs.Pass.{trimmedOne, givenOne, trimmed}
@@ -204,5 +203,5 @@ module _ (l : Lent) (f : Fits l) (now : ℕ) (young : allYoung now (l .textures)
       (ap (flatMap (givenOne now)) whole ∙ none-given now all-young) (ap (flatMap (trimmedOne now)) whole ∙ textures-stay now all-young)
       ∙ pool-stays (modelOf l)
 
-  pub nothing-trimmed : after (trimmed l now (l .pool .tracked)) l ≡ l
-  nothing-trimmed = ap (λ (p : PoolModel ℕ). after p l) model-stays ∙ nothing-changed l f
+  pub nothing-trimmed : lentAfter (trimmed l now (l .pool .tracked)) l ≡ l
+  nothing-trimmed = ap (λ (p : PoolModel ℕ). lentAfter p l) model-stays ∙ nothing-changed l f

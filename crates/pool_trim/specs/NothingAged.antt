@@ -5,9 +5,8 @@ use mathlib.Core.List.{List}
 use lib.Dec.{eqb}
 use Rattle.base_blocks.specs.Lists.{listed, all}
 use Rattle.pool_rules.specs.Trim.{aged, agedCount}
-use Rattle.pool_forget_texture.specs.Owned.{sparesTo}
 use Rattle.pool_trim.specs.LookAt.{spareIn}
-use Rattle.pool_records.specs.Texture.{textureIn}
+use Rattle.pool_records.specs.Texture.{textureIn, sparesTo}
 
 -- texture i: it is not due for a look, and it gives up no spare
 unfoldable pub youngAt : ℕ → List ℕ → List ℕ → ℕ → Bool

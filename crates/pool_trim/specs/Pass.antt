@@ -29,8 +29,8 @@ passOn pass look = record {
   freed = pass .freed + look .bytes * look .aged;
 }
 
-unfoldable pub countsAfter : Counts → Pass → Counts
-countsAfter c pass = record {
+unfoldable pub countsTrimmed : Counts → Pass → Counts
+countsTrimmed c pass = record {
   tracked = pass .tracked;
   kept = pass .kept;
   pages = pass .pages;

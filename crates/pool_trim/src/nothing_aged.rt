@@ -2,9 +2,9 @@
 ghost use mathlib.Core.Path.{_≡_};
 ghost use Prim.Native.Nat.{_*_, _≤_};
 ghost use lib.ListN.{length};
-ghost use Rattle.pool_forget_texture.specs.Owned.{sparesTo};
 ghost use Rattle.pool_trim.specs.NothingAged.{allYoung};
 ghost use Rattle.pool_records.specs.RecordConstants.{spareStride, textureStride};
+ghost use Rattle.pool_records.specs.Texture.{sparesTo};
 use crate::look_at::before;
 use pool_records::SPARE_PARKED_AT;
 use pool_records::SPARE_STRIDE;

@@ -1,7 +1,7 @@
 // Where a trim's pass over the textures stands, and the pool's counts after it.
 ghost use mathlib.Core.Path.{_≡_};
 ghost use Prim.Native.Nat.{_+_, _-_, _*_, _≤_, _<_, _^_};
-ghost use Rattle.pool_trim.specs.Pass.{noPass, passOn, countsAfter};
+ghost use Rattle.pool_trim.specs.Pass.{noPass, passOn, countsTrimmed};
 ghost use Rattle.pool_rules.specs.RuleConstants.{mostPlaces};
 use crate::look_at::Look;
 use pool_memory::Pool;
@@ -57,7 +57,7 @@ pub fn pass_on(pass: Pass, look: Look) -> Pass
 pub fn counts_after(pool: Pool, pass: Pass) -> Pool
     requires { ⌜ (pool .doomed + pass .count ≤ mostPlaces) × (pool .since ≤ mostPlaces) × (pass .freed ≤ pool .parked)
         × (pool .dooming + pass .freed < 2 ^ 64) ⌝ }
-    ensures { λ r. ⌜ r ≡ countsAfter pool pass ⌝ }
+    ensures { λ r. ⌜ r ≡ countsTrimmed pool pass ⌝ }
 {
     let given = pass.count as u64;
     Pool {

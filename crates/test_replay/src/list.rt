@@ -8,15 +8,10 @@ use crate::parts::next_part;
 use event_feed::begin;
 use event_feed::feed;
 use event_stream::GOING;
+use event_stream::byte_count;
 use event_stream::is_full;
 use event_stream::reason;
 use event_stream::write_out;
-
-fn wide(bytes: usize) -> u64
-    ensures { λ r. ⌜ r ≡ bytes ⌝ }
-{
-    bytes as u64
-}
 
 // Runs the lines of a list from a fresh session on, in turns as `run_all` of crates/event_stream does with standard input, and writes
 // their output.
@@ -59,8 +54,8 @@ pub fn run_list(
         );
         let filled = at.filled;
         let wrote = write_out(&out[0..filled]);
-        written += wide(wrote.bytes);
-        let full = is_full(wide(given), buf.len(), written, out.len());
+        written += byte_count(wrote.bytes);
+        let full = is_full(byte_count(given), buf.len(), written, out.len());
         why = reason(came, wrote.all, full);
     }
 }

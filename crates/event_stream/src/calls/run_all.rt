@@ -3,10 +3,11 @@ ghost use mathlib.Core.Path.{_≡_};
 ghost use Prim.Native.Nat.{_≤_, _<_};
 ghost use lib.ListN.{length};
 ghost use Rattle.event_sessions.specs.Sessions.{stateOf};
-ghost use Rattle.event_sessions.specs.Parts.{freshSession};
 ghost use Rattle.event_runs.specs.Lines.{longestAnswer};
 ghost use Rattle.event_feed.specs.FeedConstants.{keptBytes};
 ghost use Rattle.event_stream.specs.Streams.{RunOf};
+ghost use Rattle.event_sessions.specs.Noted.{freshSession};
+use crate::calls::byte_count::byte_count;
 use crate::calls::reason::GOING;
 use crate::calls::reason::is_full;
 use crate::calls::reason::reason;
@@ -25,12 +26,6 @@ pub struct Stopped {
     pub written: u64,
     // The pool as the lines left it; the rest is in the lent slices.
     pub session: Session,
-}
-
-fn wide(bytes: usize) -> u64
-    ensures { λ r. ⌜ r ≡ bytes ⌝ }
-{
-    bytes as u64
 }
 
 // Runs all lines of standard input from a fresh session on, and writes their output. A write that fails ends it, since no caller would
@@ -62,7 +57,7 @@ pub fn run_all(
     while why == GOING {
         let end = read_more(buf, at);
         let came = end - (at.from + at.held);
-        read += wide(end - at.end);
+        read += byte_count(end - at.end);
         at = feed(
             at,
             end,
@@ -79,7 +74,7 @@ pub fn run_all(
         );
         let filled = at.filled;
         let wrote = write_out(&out[0..filled]);
-        written += wide(wrote.bytes);
+        written += byte_count(wrote.bytes);
         let full = is_full(read, buf.len(), written, out.len());
         why = reason(came, wrote.all, full);
     }

@@ -7,7 +7,7 @@ ghost use Rattle.pool_rules.specs.NoteAllocated.{pressedAfter};
 ghost use Rattle.pool_memory.specs.Lent.{lentBy, atEntry, atExit};
 ghost use Rattle.pool_memory.specs.IsPool.{isPool};
 ghost use Rattle.pool_memory.specs.Calls.{toldNumber, noteAllocatedOn};
-ghost use Rattle.pool_note_allocated.specs.NoteAllocated.{countsAfter, notedBook};
+ghost use Rattle.pool_note_allocated.specs.NoteAllocated.{countsRelieved, notedBook};
 ghost use Rattle.pool_rules.specs.RuleConstants.{mostPlaces};
 use crate::relieve::relieve;
 use pool_memory::PacingBook;
@@ -62,7 +62,7 @@ fn noted(pool: Pool, book: PacingBook, allocated: u64) -> PacingBook
 fn counts_after(pool: Pool, kept: usize, bytes: u64) -> Pool
     requires { ⌜ (kept ≤ pool .kept) × (pool .doomed + pool .kept ≤ mostPlaces) × (pool .since ≤ mostPlaces) × (bytes ≤ pool .parked)
         × (pool .dooming + bytes < 2 ^ 64) ⌝ }
-    ensures { λ r. ⌜ r ≡ countsAfter pool kept bytes ⌝ }
+    ensures { λ r. ⌜ r ≡ countsRelieved pool kept bytes ⌝ }
 {
     let given = pool.kept - kept;
     let mut after = pool;

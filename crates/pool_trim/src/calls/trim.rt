@@ -7,7 +7,7 @@ ghost use Rattle.pool_records.specs.Recorded.{RecordedFits};
 ghost use Rattle.pool_records.specs.Texture.{textureIn};
 ghost use Rattle.pool_memory.specs.Lent.{lent, lentBy, atExit};
 ghost use Rattle.pool_memory.specs.IsPool.{isPool};
-ghost use Rattle.pool_memory.specs.Writing.{after};
+ghost use Rattle.pool_memory.specs.Writing.{lentAfter};
 ghost use Rattle.pool_memory.specs.Calls.{toldNumber, trimOn};
 ghost use Rattle.pool_trim.specs.LookAt.{lookedPut};
 ghost use Rattle.pool_trim.specs.Pass.{trimmed};
@@ -72,7 +72,7 @@ fn trim_textures(
     requires { ⌜ isPool (lentBy pool book textures retiring doomed spares newest stamps) ≡ true ⌝ }
     ensures { λ r. ⌜
         atExit r book textures retiring doomed spares newest stamps
-        ≡ after (trimmed (lent pool book (now (textures .entry)) (now (retiring .entry)) (now (doomed .entry)) (now (spares .entry))
+        ≡ lentAfter (trimmed (lent pool book (now (textures .entry)) (now (retiring .entry)) (now (doomed .entry)) (now (spares .entry))
         (now (newest .entry)) (now (stamps .entry))) current (pool .tracked))
         (lent pool book (now (textures .entry)) (now (retiring .entry)) (now (doomed .entry)) (now (spares .entry))
         (now (newest .entry)) (now (stamps .entry))) ⌝ }

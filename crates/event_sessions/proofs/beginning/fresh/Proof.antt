@@ -1,8 +1,8 @@
 -- `fresh` meets its contract. Assumes nothing.
 use borrow.Author.Needs.{needs}
-use Rattle.event_sessions.specs.Parts.{freshSession}
 use Rattle.event_sessions.proofs.beginning.fresh.Statement.{statement}
 use Rattle.event_sessions.proofs.beginning.fresh.Tie as tie
+use Rattle.event_sessions.specs.Noted.{freshSession}
 
 opened-pool-requires : tie.Need-opened-pool-requires
 opened-pool-requires c κs = search needs

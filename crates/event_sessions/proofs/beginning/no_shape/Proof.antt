@@ -1,8 +1,8 @@
 -- `no_shape` meets its contract. Assumes nothing.
 use mathlib.Core.Path.{refl}
-use Rattle.event_sessions.specs.Parts.{noShape}
 use Rattle.event_sessions.proofs.beginning.no_shape.Statement.{statement}
 use Rattle.event_sessions.proofs.beginning.no_shape.Tie as tie
+use Rattle.event_sessions.specs.Noted.{noShape}
 
 returns : tie.Need-returns
 unfolding noShape

@@ -7,7 +7,6 @@ use Rattle.grid_rects.specs.declared.rect.TexelRect.{TexelRect}
 use Rattle.grid_shapes.specs.Formats.{blockEdge}
 use Rattle.grid_shapes.specs.Outcomes.{accepted}
 use Rattle.grid_rects.specs.Rects.{rectOnGrid, rectFields, uploadOutcome, ofUpload}
-use Rattle.grid_shapes.proofs.Formats.{block-edge-pos}
 use Rattle.grid_rects.proofs.Outcomes.{upload-refused, upload-on-grid, upload-off-grid}
 use Rattle.grid_rects.proofs.upload.upload_written_rect.Statement.{statement}
 use Rattle.grid_rects.proofs.upload.upload_written_rect.Tie as tie
@@ -38,7 +37,7 @@ block-edge-requires : tie.Need-block-edge-requires
 block-edge-requires c κs = search needs
 
 rect-on-block-grid-requires : tie.Need-rect-on-block-grid-requires
-rect-on-block-grid-requires c κs = omega (arith, block-edge-pos (c .before .before .before .compressed .given .0 .0))
+rect-on-block-grid-requires c κs = search needs
 
 level-rect-requires : tie.Need-level-rect-requires
 level-rect-requires c κs = search needs

@@ -7,8 +7,7 @@ use Rattle.base_blocks.specs.Lists.{total}
 use Rattle.base_blocks.proofs.Listed.{left, total-more}
 use Rattle.base_tables.proofs.Records.{table-left}
 use Rattle.pool_records.specs.declared.texture.TextureRecord.{TextureRecord}
-use Rattle.pool_records.specs.Texture.{readTexture, textureIn, recordPages}
-use Rattle.pool_records.specs.Find.{textures as textures′}
+use Rattle.pool_records.specs.Texture.{readTexture, textureIn, recordPages, texturesIn}
 use Rattle.pool_formed_textures.specs.Textures.{historyFits, historiesFit}
 use Rattle.pool_formed_textures.proofs.RecordTests.{texture-read, read-shape}
 use Rattle.pool_formed_textures.proofs.HistoryTests.{histories-more, histories-stop, histories-done}
@@ -19,8 +18,8 @@ use Rattle.pool_records.specs.RecordConstants.{textureStride}
 
 abbrev Inv-loop : tie.InvT-loop
 Inv-loop textures n newest stamps page₀ i₀ page i =
-    (i ≤ n) × (page + total recordPages (left (textureIn textures) n i) ≡ total recordPages (textures′ n textures))
-    × (historiesFit newest stamps page (left (textureIn textures) n i) ≡ historiesFit newest stamps 0 (textures′ n textures))
+    (i ≤ n) × (page + total recordPages (left (textureIn textures) n i) ≡ total recordPages (texturesIn n textures))
+    × (historiesFit newest stamps page (left (textureIn textures) n i) ≡ historiesFit newest stamps 0 (texturesIn n textures))
 
 abbrev μ-loop : tie.MeasureT-loop
 μ-loop textures n newest stamps page₀ i₀ page i = n - i

@@ -5,8 +5,8 @@ use native.Mathlib.Omega.{arith}
 use Rattle.base_blocks.specs.Lists.{ascending}
 use Rattle.base_blocks.proofs.Listed.{left, ascending-done}
 use Rattle.base_tables.proofs.Records.{table-left}
-use Rattle.pool_records.specs.Texture.{readTexture, textureIn}
-use Rattle.pool_records.specs.Find.{textures as textures′, idOf}
+use Rattle.pool_records.specs.Texture.{readTexture, textureIn, texturesIn}
+use Rattle.pool_records.specs.Find.{idOf}
 use Rattle.pool_formed_textures.proofs.RecordTests.{ids-more, ids-stop}
 use borrow.Author.Needs.{needs}
 use Rattle.pool_formed_textures.proofs.records_fit.ids_ascend.Statement.{statement}
@@ -14,7 +14,7 @@ use Rattle.pool_formed_textures.proofs.records_fit.ids_ascend.Tie as ti
 use Rattle.pool_records.specs.RecordConstants.{textureStride}
 
 abbrev Inv-loop : tie.InvT-loop
-Inv-loop textures n i₀ i = (i ≤ n) × (ascending idOf (left (textureIn textures) n i) ≡ ascending idOf (textures′ n textures))
+Inv-loop textures n i₀ i = (i ≤ n) × (ascending idOf (left (textureIn textures) n i) ≡ ascending idOf (texturesIn n textures))
 
 abbrev μ-loop : tie.MeasureT-loop
 μ-loop textures n i₀ i = n - i

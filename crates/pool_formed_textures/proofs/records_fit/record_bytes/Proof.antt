@@ -3,8 +3,7 @@ use mathlib.Core.Path.{ap}
 use Prim.Native.Nat.{ℕ, _*_}
 use native.Mathlib.Omega.{arith}
 use lib.ListN.{getD}
-use Rattle.pool_records.specs.Texture.{readTexture}
-use Rattle.pool_formed_textures.specs.Textures.{recordBytes}
+use Rattle.pool_records.specs.Texture.{readTexture, recordBytes}
 use Rattle.pool_formed_textures.proofs.RecordTests.{bytes-small}
 use borrow.Author.Needs.{needs}
 use Rattle.pool_formed_textures.proofs.records_fit.record_bytes.Statement.{statement}

@@ -5,8 +5,7 @@ use borrow.Author.Tests.{not-true, not-false}
 use Rattle.base_blocks.specs.Lists.{all}
 use Rattle.base_blocks.proofs.Listed.{left, all-more, all-stop, all-done}
 use Rattle.base_tables.proofs.Records.{table-left}
-use Rattle.pool_records.specs.Texture.{readTexture, textureIn}
-use Rattle.pool_records.specs.Find.{textures as textures′}
+use Rattle.pool_records.specs.Texture.{readTexture, textureIn, texturesIn}
 use Rattle.pool_formed_textures.specs.Textures.{isRecord}
 use Rattle.pool_formed_textures.proofs.RecordTests.{texture-read}
 use borrow.Author.Needs.{needs}
@@ -15,7 +14,7 @@ use Rattle.pool_formed_textures.proofs.records_fit.records_fit.Tie as t
 use Rattle.pool_records.specs.RecordConstants.{textureStride}
 
 abbrev Inv-loop : tie.InvT-loop
-Inv-loop textures n i₀ i = (i ≤ n) × (all isRecord (left (textureIn textures) n i) ≡ all isRecord (textures′ n textures))
+Inv-loop textures n i₀ i = (i ≤ n) × (all isRecord (left (textureIn textures) n i) ≡ all isRecord (texturesIn n textures))
 
 abbrev μ-loop : tie.MeasureT-loop
 μ-loop textures n i₀ i = n - i

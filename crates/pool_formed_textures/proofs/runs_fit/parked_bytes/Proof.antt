@@ -6,9 +6,7 @@ use Rattle.base_blocks.specs.Lists.{total}
 use Rattle.base_blocks.proofs.Listed.{left, total-done}
 use Rattle.base_tables.proofs.Records.{table-left}
 use Rattle.pool_records.specs.declared.texture.TextureRecord.{TextureRecord}
-use Rattle.pool_records.specs.Texture.{readTexture, textureIn}
-use Rattle.pool_records.specs.Find.{textures as textures′}
-use Rattle.pool_formed_textures.specs.Textures.{recordBytes}
+use Rattle.pool_records.specs.Texture.{readTexture, textureIn, recordBytes, texturesIn}
 use Rattle.pool_formed_textures.proofs.RecordTests.{texture-read, read-shape, read-bytes, spares-at}
 use Rattle.pool_formed_textures.proofs.Claims.{parked-more, parked-room}
 use borrow.Author.Needs.{needs}
@@ -17,7 +15,7 @@ use Rattle.pool_formed_textures.proofs.runs_fit.parked_bytes.Tie as tie
 use Rattle.pool_records.specs.RecordConstants.{textureStride}
 
 abbrev Inv-loop : tie.InvT-loop
-Inv-loop textures n sum₀ i₀ sum i = (i ≤ n) × (sum + total recordBytes (left (textureIn textures) n i) ≡ total recordBytes (textures′ n textures))
+Inv-loop textures n sum₀ i₀ sum i = (i ≤ n) × (sum + total recordBytes (left (textureIn textures) n i) ≡ total recordBytes (texturesIn n textures))
 
 abbrev μ-loop : tie.MeasureT-loop
 μ-loop textures n sum₀ i₀ sum i = n - i

@@ -6,8 +6,7 @@ use Rattle.base_blocks.proofs.Listed.{left}
 use Rattle.base_tables.proofs.Records.{table-left}
 use Rattle.pool_records.specs.declared.texture.TextureRecord.{TextureRecord}
 use mathlib.Core.List.{List}
-use Rattle.pool_records.specs.Texture.{readTexture, textureIn, recordPages}
-use Rattle.pool_records.specs.Find.{textures as textures′}
+use Rattle.pool_records.specs.Texture.{readTexture, textureIn, recordPages, texturesIn}
 use Rattle.pool_formed_textures.specs.Textures.{claim}
 use Rattle.pool_formed_textures.proofs.RecordTests.{texture-read, read-shape, read-spares}
 use Rattle.pool_formed_textures.proofs.Claims.{claim-more, claim-short, claim-cut, claim-done}
@@ -17,7 +16,7 @@ use Rattle.pool_formed_textures.proofs.runs_fit.runs_fit.Tie as tie
 use Rattle.pool_records.specs.RecordConstants.{textureStride}
 
 abbrev Inv-loop : tie.InvT-loop
-Inv-loop textures n kept pages spares₀ free₀ i₀ spares free i = (i ≤ n) × (claim (left (textureIn textures) n i) spares free ≡ claim (textures′ n textures) kept pages)
+Inv-loop textures n kept pages spares₀ free₀ i₀ spares free i = (i ≤ n) × (claim (left (textureIn textures) n i) spares free ≡ claim (texturesIn n textures) kept pages)
 
 abbrev μ-loop : tie.MeasureT-loop
 μ-loop textures n kept pages spares₀ free₀ i₀ spares free i = n - i

@@ -1,11 +1,11 @@
 -- `park_or_destroy` meets its contract, test by test. Assumes nothing.
 use native.Mathlib.Omega.{arith}
 use Rattle.pool_records.specs.Texture.{textureIn}
-use Rattle.pool_access.proofs.Ids.{hasId}
 use Rattle.pool_retire.proofs.Tracked.{says-nowhere, says-here, record-fits}
 use Rattle.pool_park.proofs.Parked.{decide-untracked, decide-renewed, decide-full, decide-kept}
 use Rattle.pool_park.proofs.park_or_destroy.park_or_destroy.Statement.{statement}
 use Rattle.pool_park.proofs.park_or_destroy.park_or_destroy.Tie as tie
+use Rattle.pool_records.specs.Find.{hasId}
 
 has-id-requires : tie.Need-has-id-requires
 has-id-requires c κs = c .before .pre .0

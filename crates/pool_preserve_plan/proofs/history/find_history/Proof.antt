@@ -5,13 +5,13 @@ use Prim.Native.Nat.{ℕ, _<_}
 use native.Mathlib.Omega.{arith}
 use borrow.Author.Tests.{not-true, not-false}
 use Rattle.pool_records.specs.declared.recorded.Recorded.the-variants.{Writes, NoHistory}
-use Rattle.pool_access.proofs.Ids.{hasId}
 use Rattle.pool_access.proofs.Ids as ids
-use Rattle.pool_preserve_plan.specs.PreservePlan.{foundAt, historyFound}
 use Rattle.pool_preserve_plan.proofs.Finding.{found-none, found-other, found-recorded, found-place, pages-part}
 use borrow.Author.Needs.{needs}
 use Rattle.pool_preserve_plan.proofs.history.find_history.Statement.{statement}
 use Rattle.pool_preserve_plan.proofs.history.find_history.Tie as tie
+use Rattle.pool_records.specs.Find.{hasId}
+use Rattle.pool_preserve_plan.specs.PlanRefusal.{foundAt, historyFound}
 
 find-texture-requires : tie.Need-find-texture-requires
 find-texture-requires c κs = search needs

@@ -1,9 +1,9 @@
 -- `is_spent` meets its contract. Assumes nothing.
 use mathlib.Core.Path.{sym, ap}
-use Rattle.pool_preserve_plan.specs.PreservePlan.{isSpent}
 use borrow.Author.Needs.{needs}
 use Rattle.pool_preserve_plan.proofs.history.is_spent.Statement.{statement}
 use Rattle.pool_preserve_plan.proofs.history.is_spent.Tie as tie
+use Rattle.pool_preserve_plan.specs.PlanRefusal.{isSpent}
 
 enum-told : tie.Need-enum-told
 enum-told c = search needs

@@ -1,9 +1,9 @@
 -- `since_held` meets its contract. Assumes nothing.
 use mathlib.Core.Path.{sym, ap}
-use Rattle.pool_preserve_plan.specs.PreservePlan.{sinceHeld}
 use borrow.Author.Needs.{needs}
 use Rattle.pool_preserve_plan.proofs.history.since_held.Statement.{statement}
 use Rattle.pool_preserve_plan.proofs.history.since_held.Tie as tie
+use Rattle.pool_preserve_plan.specs.PlanRefusal.{sinceHeld}
 
 enum-known-held : tie.Need-enum-known-held
 enum-known-held c = search needs

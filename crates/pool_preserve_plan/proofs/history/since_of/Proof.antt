@@ -1,9 +1,9 @@
 -- `since_of` meets its contract. Assumes nothing.
 use mathlib.Core.Path.{sym, ap, _∙_}
-use Rattle.pool_preserve_plan.specs.PreservePlan.{sinceOf}
 use borrow.Author.Needs.{needs}
 use Rattle.pool_preserve_plan.proofs.history.since_of.Statement.{statement}
 use Rattle.pool_preserve_plan.proofs.history.since_of.Tie as tie
+use Rattle.pool_preserve_plan.specs.PlanRefusal.{sinceOf}
 
 enum-told : tie.Need-enum-told
 enum-told c = search needs

@@ -6,11 +6,11 @@ use borrow.Author.Tests.{not-true, not-false}
 use lib.ListN.{length}
 use Rattle.grid_shapes.specs.Shapes.{isShape}
 use Rattle.pool_preserve_plan.specs.Copies.{footprint, lentCopies}
-use Rattle.pool_preserve_plan.specs.PreservePlan.{isOther}
 use Rattle.pool_preserve_plan.proofs.Refusals.{refusal-shape, refusal-other, refusal-short, refusal-spent, refusal-none}
 use borrow.Author.Needs.{needs}
 use Rattle.pool_preserve_plan.proofs.plan_refusal.plan_refusal.Statement.{statement}
 use Rattle.pool_preserve_plan.proofs.plan_refusal.plan_refusal.Tie as tie
+use Rattle.pool_preserve_plan.specs.PlanRefusal.{isOther}
 
 -- how many copies
 module _ (s : tie.Start) where

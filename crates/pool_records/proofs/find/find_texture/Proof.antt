@@ -7,21 +7,22 @@ use native.Mathlib.Omega.{arith}
 use lib.Dec.{ltb}
 use lib.ListN.{getD}
 use mir.Val.{boolByte}
-use Rattle.pool_records.specs.Find.{textures, below}
+use Rattle.pool_records.specs.Find.{below}
 use Rattle.pool_records.proofs.Places.{search-past, search-before, search-count, search-end}
 use Rattle.pool_records.proofs.find.find_texture.Statement.{statement}
 use Rattle.pool_records.proofs.find.find_texture.Tie as tie
 use Rattle.pool_records.specs.RecordConstants.{textureStride}
+use Rattle.pool_records.specs.Texture.{texturesIn}
 
 abbrev Inv-loop : tie.InvT-loop
-Inv-loop s n id lo₀ hi₀ lo hi = (lo ≤ below id (textures n s)) × (below id (textures n s) ≤ hi) × (hi ≤ n)
+Inv-loop s n id lo₀ hi₀ lo hi = (lo ≤ below id (texturesIn n s)) × (below id (texturesIn n s) ≤ hi) × (hi ≤ n)
 
 abbrev μ-loop : tie.MeasureT-loop
 μ-loop s n id lo₀ hi₀ lo hi = hi - lo
 
 abbrev Inv-loop2 : tie.InvT-loop2
 Inv-loop2 s n id lo₀ hi place₀ lo place =
-    (lo ≤ hi) × (below id (textures n s) ≤ hi) × (hi ≤ n) × (place ≡ min lo (below id (textures n s)))
+    (lo ≤ hi) × (below id (texturesIn n s) ≤ hi) × (hi ≤ n) × (place ≡ min lo (below id (texturesIn n s)))
 
 abbrev μ-loop2 : tie.MeasureT-loop2
 μ-loop2 s n id lo₀ hi place₀ lo place = hi - lo
@@ -30,7 +31,7 @@ abbrev μ-loop2 : tie.MeasureT-loop2
 counted : (c : tie.After-shared-slice-known2 Inv-loop μ-loop Inv-loop2 μ-loop2) →
     let a = c .before .before .before .before .before .args in
     c .before .before .loop2 .place + boolByte (ltb (getD (a .s .now) (textureStride * c .before .before .loop2 .lo) 0) (a .id))
-    ≡ min (c .before .before .loop2 .lo + 1) (below (a .id) (textures (a .n) (a .s .now)))
+    ≡ min (c .before .before .loop2 .lo + 1) (below (a .id) (texturesIn (a .n) (a .s .now)))
 counted c =
     let b = c .before .before in
     let e = b .before .before .before in

@@ -9,8 +9,8 @@ use Rattle.base_blocks.proofs.Listed.{left}
 use Rattle.base_tables.specs.Records.{recordAt}
 use Rattle.base_tables.proofs.Records.{table-left}
 use Rattle.grid_shapes.specs.Shapes.{bytesOf}
-use Rattle.pool_records.specs.Texture.{readTexture, textureIn, texturesIn}
-use Rattle.pool_relief_line.specs.Parked.{bytesFrom, recordSpares, recordBytes, mostVersionBytes}
+use Rattle.pool_records.specs.Texture.{readTexture, textureIn, texturesIn, recordSpares, recordBytes}
+use Rattle.pool_relief_line.specs.Parked.{bytesFrom, mostVersionBytes}
 use Rattle.pool_relief_line.proofs.Parked.{spares-rest, bytes-rest, before-rest, before-done, counted-bytes}
 use Rattle.pool_relief_line.proofs.line.bytes_before.Statement.{statement}
 use Rattle.pool_relief_line.proofs.line.bytes_before.Tie as tie
@@ -56,7 +56,7 @@ run-bytes-requires c κs =
     let f = b .before .before .before .pre in
     let h = c .before .loop-test .taken in (
       omega (arith, h, f .fits),
-      f .shapes (b .loop .i) h,
+      f .recorded (b .loop .i) h,
       omega (arith, b .loop .inv .1, spares-rest (a .textures .now) (a .spares .now) (a .n) (b .loop .i) h, f .runs),
       omega (arith, b .loop .inv .2, bytes-rest (a .textures .now) (a .spares .now) (a .n) (b .loop .i) h),
     )

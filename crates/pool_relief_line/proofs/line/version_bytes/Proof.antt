@@ -1,18 +1,24 @@
 -- `version_bytes` meets its contract. Assumes nothing.
-use mathlib.Core.Path.{ap, _∙_}
+use mathlib.Core.Path.{_∙_}
 use borrow.Author.Needs.{needs}
-use Rattle.grid_shapes.specs.Shapes.{isShape, bytesOf}
+use Rattle.pool_relief_line.proofs.Parked.{bytes-number}
 use Rattle.pool_relief_line.proofs.line.version_bytes.Statement.{statement}
 use Rattle.pool_relief_line.proofs.line.version_bytes.Tie as tie
 
-texture-at-requires : tie.Need-texture-at-requires
-texture-at-requires c κs = search needs
+mul-result : tie.Need-mul-result
+mul-result c = search needs
 
-shape-bytes-requires : tie.Need-shape-bytes-requires
-shape-bytes-requires c κs = ap (λ t. isShape (t .shape)) (c .texture-at .ensures) ∙ c .before .before .pre .1
+add-result : tie.Need-add-result
+add-result c = search needs
+
+mul-result-2 : tie.Need-mul-result-2
+mul-result-2 c = search needs
+
+shared-slice-read-result : tie.Need-shared-slice-read-result
+shared-slice-read-result c = search needs
 
 returns : tie.Need-returns
-returns c = c .shape-bytes .ensures ∙ ap (λ t. bytesOf (t .shape)) (c .before .texture-at .ensures)
+returns c = bytes-number (c .before .args .textures .now) (c .before .args .i) ∙ c .before .pre .1
 
 pub version-bytes-spec : {M : Type 1} → statement M
-version-bytes-spec = tie.close (tie.spec texture-at-requires shape-bytes-requires returns)
+version-bytes-spec = tie.close (tie.spec mul-result add-result mul-result-2 shared-slice-read-result returns)

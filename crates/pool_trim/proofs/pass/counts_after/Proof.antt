@@ -1,7 +1,7 @@
 -- `counts_after` meets its contract. Assumes nothing.
 use mathlib.Core.Path.{refl}
 use native.Mathlib.Omega.{arith}
-use Rattle.pool_trim.specs.Pass.{countsAfter}
+use Rattle.pool_trim.specs.Pass.{countsTrimmed}
 use Rattle.pool_trim.proofs.pass.counts_after.Statement.{statement}
 use Rattle.pool_trim.proofs.pass.counts_after.Tie as tie
 
@@ -18,7 +18,7 @@ add-t7 : tie.Need-add-t7
 add-t7 c = omega (arith, c .before .before .before .before .before .before .before .pre)
 
 returns : tie.Need-returns
-unfolding countsAfter
+unfolding countsTrimmed
 returns c = refl
 
 pub counts-after-spec : {M : Type 1} → statement M

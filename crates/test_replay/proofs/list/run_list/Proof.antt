@@ -5,7 +5,6 @@ use Prim.Native.Nat.{_+_, _-_, _*_, _^_, _≤_}
 use native.Mathlib.Omega.{arith}
 use lib.ListN.{length}
 use Rattle.event_sessions.specs.Sessions.{stateOf}
-use Rattle.event_sessions.specs.Parts.{freshSession}
 use Rattle.event_sessions.proofs.Keeps.{fresh-holds}
 use Rattle.event_feed.specs.Places.{carriedOf, waiting}
 use Rattle.event_feed.proofs.Parts.{part-length}
@@ -13,6 +12,7 @@ use Rattle.event_stream.proofs.Reasons.{full-first, reason-says}
 use Rattle.event_stream.proofs.Loop.{Going, leftWhile, going-first, going-counts, going-ready, going-next, going-less}
 use Rattle.test_replay.proofs.list.run_list.Statement.{statement}
 use Rattle.test_replay.proofs.list.run_list.Tie as tie
+use Rattle.event_sessions.specs.Noted.{freshSession}
 
 abbrev Inv-loop : tie.InvT-loop
 Inv-loop list buf₀ textures₀ retiring₀ doomed₀ spares₀ newest₀ stamps₀ copies₀ views₀ out₀ at₀ given₀ written₀ why₀ buf textures retiring doomed spares newest stamps copies views out at given written why =
@@ -86,8 +86,8 @@ part-write-out-end c =
 write-out-requires : tie.Need-write-out-requires Inv-loop μ-loop
 write-out-requires c κs = search needs
 
-wide-requires : tie.Need-wide-requires Inv-loop μ-loop
-wide-requires c κs = search needs
+byte-count-requires : tie.Need-byte-count-requires Inv-loop μ-loop
+byte-count-requires c κs = search needs
 
 add-written : tie.Need-add-written Inv-loop μ-loop
 add-written c =
@@ -96,11 +96,11 @@ add-written c =
     let f = c .before .before .before .before .before .before .before .before .before .before .before .before .before .before .before .before .before .before .before .before .before .before .before .before .feed in
     let i = l .inv in
     let z = r .kept .1 .1 .0 ∙ i .1 in
-    let y : c .wide .result ≡ f .result .filled = omega (arith, c .wide .ensures, c .before .write-out .ensures, part-length 0 (f .result .filled - 0) (f .last .1 .1 .1 .1 .1 .1 .1 .1 .1 .1 .1 .0) (omega (arith, f .ensures .0 .ends, f .kept .1 .1 .1 .1 .1 .1 .1 .1 .1 .1 .1 .0))) in
+    let y : c .byte-count .result ≡ f .result .filled = omega (arith, c .byte-count .ensures, c .before .write-out .ensures, part-length 0 (f .result .filled - 0) (f .last .1 .1 .1 .1 .1 .1 .1 .1 .1 .1 .1 .0) (omega (arith, f .ensures .0 .ends, f .kept .1 .1 .1 .1 .1 .1 .1 .1 .1 .1 .1 .0))) in
     omega (arith, going-counts _ _ _ _ _ (l .at) _ (l .buf) _ (l .given) (l .written) (l .why) (i .0) (c .before .before .before .before .before .before .before .before .before .before .before .before .before .before .before .before .before .before .before .before .before .before .before .before .before .before .before .before .before .before .before .before .before .before .before .before .before .before .before .before .before .loop-test .taken) z _ (r .ensures .0) (omega (arith, r .ensures .1, i .1)) (r .ensures .3) .1, f .ensures .0 .ends, i .10)
 
-wide-requires-2 : tie.Need-wide-requires-2 Inv-loop μ-loop
-wide-requires-2 c κs = search needs
+byte-count-requires-2 : tie.Need-byte-count-requires-2 Inv-loop μ-loop
+byte-count-requires-2 c κs = search needs
 
 is-full-requires : tie.Need-is-full-requires Inv-loop μ-loop
 is-full-requires c κs = search needs
@@ -115,10 +115,10 @@ loop-less c =
     let f = c .before .before .before .before .before .before .before .before .before .before .before .before .before .before .before .before .before .before .before .before .before .before .before .before .before .before .before .feed in
     let i = l .inv in
     let z = r .kept .1 .1 .0 ∙ i .1 in
-    let y : c .before .before .before .wide .result ≡ f .result .filled = omega (arith, c .before .before .before .wide .ensures, c .before .before .before .before .write-out .ensures, part-length 0 (f .result .filled - 0) (f .last .1 .1 .1 .1 .1 .1 .1 .1 .1 .1 .1 .0) (omega (arith, f .ensures .0 .ends, f .kept .1 .1 .1 .1 .1 .1 .1 .1 .1 .1 .1 .0))) in
+    let y : c .before .before .before .byte-count .result ≡ f .result .filled = omega (arith, c .before .before .before .byte-count .ensures, c .before .before .before .before .write-out .ensures, part-length 0 (f .result .filled - 0) (f .last .1 .1 .1 .1 .1 .1 .1 .1 .1 .1 .1 .0) (omega (arith, f .ensures .0 .ends, f .kept .1 .1 .1 .1 .1 .1 .1 .1 .1 .1 .1 .0))) in
     let t = rw (i .8, i .9) at (f .ensures .0) in
     let p = rw z at (f .ensures .1) in
-    let u = rw (c .before .before .wide2 .ensures, f .kept .1 .1 .0 ∙ z, f .kept .1 .1 .1 .1 .1 .1 .1 .1 .1 .1 .1 .0 ∙ i .10) at (c .before .is-full .ensures) in
+    let u = rw (c .before .before .byte-count2 .ensures, f .kept .1 .1 .0 ∙ z, f .kept .1 .1 .1 .1 .1 .1 .1 .1 .1 .1 .1 .0 ∙ i .10) at (c .before .is-full .ensures) in
     going-less _ _ _ _ _ (l .at) _ (l .buf) _ (l .given) (l .written) (l .why) (i .0) (c .before .before .before .before .before .before .before .before .before .before .before .before .before .before .before .before .before .before .before .before .before .before .before .before .before .before .before .before .before .before .before .before .before .before .before .before .before .before .before .before .before .before .before .before .loop-test .taken) z _ (r .ensures .0) (omega (arith, r .ensures .1, i .1)) (r .ensures .3) _ _ _ _ _ t p (f .kept .1 .1 .0 ∙ z) _ refl _ y _ refl _ u _ (reason-says _ _ _ _ (c .reason .ensures))
 
 loop-again : tie.Need-loop-again Inv-loop μ-loop
@@ -128,10 +128,10 @@ loop-again c =
     let f = c .before .before .before .before .before .before .before .before .before .before .before .before .before .before .before .before .before .before .before .before .before .before .before .before .before .before .before .feed in
     let i = l .inv in
     let z = r .kept .1 .1 .0 ∙ i .1 in
-    let y : c .before .before .before .wide .result ≡ f .result .filled = omega (arith, c .before .before .before .wide .ensures, c .before .before .before .before .write-out .ensures, part-length 0 (f .result .filled - 0) (f .last .1 .1 .1 .1 .1 .1 .1 .1 .1 .1 .1 .0) (omega (arith, f .ensures .0 .ends, f .kept .1 .1 .1 .1 .1 .1 .1 .1 .1 .1 .1 .0))) in
+    let y : c .before .before .before .byte-count .result ≡ f .result .filled = omega (arith, c .before .before .before .byte-count .ensures, c .before .before .before .before .write-out .ensures, part-length 0 (f .result .filled - 0) (f .last .1 .1 .1 .1 .1 .1 .1 .1 .1 .1 .1 .0) (omega (arith, f .ensures .0 .ends, f .kept .1 .1 .1 .1 .1 .1 .1 .1 .1 .1 .1 .0))) in
     let t = rw (i .8, i .9) at (f .ensures .0) in
     let p = rw z at (f .ensures .1) in
-    let u = rw (c .before .before .wide2 .ensures, f .kept .1 .1 .0 ∙ z, f .kept .1 .1 .1 .1 .1 .1 .1 .1 .1 .1 .1 .0 ∙ i .10) at (c .before .is-full .ensures) in (
+    let u = rw (c .before .before .byte-count2 .ensures, f .kept .1 .1 .0 ∙ z, f .kept .1 .1 .1 .1 .1 .1 .1 .1 .1 .1 .1 .0 ∙ i .10) at (c .before .is-full .ensures) in (
       going-next _ _ _ _ _ (l .at) _ (l .buf) _ (l .given) (l .written) (l .why) (i .0) (c .before .before .before .before .before .before .before .before .before .before .before .before .before .before .before .before .before .before .before .before .before .before .before .before .before .before .before .before .before .before .before .before .before .before .before .before .before .before .before .before .before .before .before .before .loop-test .taken) z _ (r .ensures .0) (omega (arith, r .ensures .1, i .1)) (r .ensures .3) _ _ _ _ _ t p (f .kept .1 .1 .0 ∙ z) _ refl _ y _ refl _ u _ (reason-says _ _ _ _ (c .reason .ensures)),
       f .kept .1 .1 .0 ∙ z,
       f .kept .1 .1 .1 .0 ∙ i .2,
@@ -197,9 +197,9 @@ run-list-spec =
     part-write-out-start
     part-write-out-end
     write-out-requires
-    wide-requires
+    byte-count-requires
     add-written
-    wide-requires-2
+    byte-count-requires-2
     is-full-requires
     reason-requires
     loop-less

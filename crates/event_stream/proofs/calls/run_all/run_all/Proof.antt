@@ -6,7 +6,6 @@ use Prim.Native.Nat.{_+_, _-_, _*_, _^_}
 use native.Mathlib.Omega.{arith}
 use lib.ListN.{length}
 use Rattle.event_sessions.specs.Sessions.{stateOf}
-use Rattle.event_sessions.specs.Parts.{freshSession}
 use Rattle.event_sessions.proofs.Keeps.{fresh-holds}
 use Rattle.event_feed.specs.Places.{carriedOf, waiting}
 use Rattle.event_feed.proofs.Parts.{part-length}
@@ -14,6 +13,7 @@ use Rattle.event_stream.proofs.Reasons.{full-first, reason-says}
 use Rattle.event_stream.proofs.Loop.{Going, leftWhile, going-first, going-counts, going-ready, going-next, going-less, stopped}
 use Rattle.event_stream.proofs.calls.run_all.run_all.Statement.{statement}
 use Rattle.event_stream.proofs.calls.run_all.run_all.Tie as tie
+use Rattle.event_sessions.specs.Noted.{freshSession}
 
 abbrev Inv-loop : tie.InvT-loop
 Inv-loop buf₀ textures₀ retiring₀ doomed₀ spares₀ newest₀ stamps₀ copies₀ views₀ out₀ at₀ read₀ written₀ why₀ buf textures retiring doomed spares newest stamps copies views out at read written why =
@@ -53,11 +53,11 @@ sub-came c =
     let r = c .before .before .before .read-more in
     omega (arith, l .inv .0 .placed .inside, r .ensures .0)
 
-sub-wide : tie.Need-sub-wide Inv-loop μ-loop
-sub-wide c = c .before .before .before .before .read-more .ensures .0
+sub-byte-count : tie.Need-sub-byte-count Inv-loop μ-loop
+sub-byte-count c = c .before .before .before .before .read-more .ensures .0
 
-wide-requires : tie.Need-wide-requires Inv-loop μ-loop
-wide-requires c κs = search needs
+byte-count-requires : tie.Need-byte-count-requires Inv-loop μ-loop
+byte-count-requires c κs = search needs
 
 add-read : tie.Need-add-read Inv-loop μ-loop
 add-read c =
@@ -65,7 +65,7 @@ add-read c =
     let r = c .before .before .before .before .before .read-more in
     let i = l .inv in
     let z = r .kept .0 ∙ i .1 in
-    omega (arith, going-counts _ _ _ _ _ (l .at) _ (l .buf) _ (l .read) (l .written) (l .why) (i .0) (c .before .before .before .before .before .before .before .loop-test .taken) z _ (r .ensures .0) (omega (arith, r .ensures .1, i .1)) (r .ensures .2) .0, r .ensures .1, i .1, c .wide .ensures)
+    omega (arith, going-counts _ _ _ _ _ (l .at) _ (l .buf) _ (l .read) (l .written) (l .why) (i .0) (c .before .before .before .before .before .before .before .loop-test .taken) z _ (r .ensures .0) (omega (arith, r .ensures .1, i .1)) (r .ensures .2) .0, r .ensures .1, i .1, c .byte-count .ensures)
 
 feed-requires : tie.Need-feed-requires Inv-loop μ-loop
 feed-requires c κs =
@@ -92,8 +92,8 @@ part-write-out-end c =
 write-out-requires : tie.Need-write-out-requires Inv-loop μ-loop
 write-out-requires c κs = search needs
 
-wide-requires-2 : tie.Need-wide-requires-2 Inv-loop μ-loop
-wide-requires-2 c κs = search needs
+byte-count-requires-2 : tie.Need-byte-count-requires-2 Inv-loop μ-loop
+byte-count-requires-2 c κs = search needs
 
 add-written : tie.Need-add-written Inv-loop μ-loop
 add-written c =
@@ -102,7 +102,7 @@ add-written c =
     let f = c .before .before .before .before .before .before .before .before .before .before .before .before .before .before .before .before .before .before .before .before .before .before .before .before .feed in
     let i = l .inv in
     let z = r .kept .0 ∙ i .1 in
-    let y : c .wide2 .result ≡ f .result .filled = omega (arith, c .wide2 .ensures, c .before .write-out .ensures, part-length 0 (f .result .filled - 0) (f .last .1 .1 .1 .1 .1 .1 .1 .1 .1 .1 .1 .0) (omega (arith, f .ensures .0 .ends, f .kept .1 .1 .1 .1 .1 .1 .1 .1 .1 .1 .1 .0))) in
+    let y : c .byte-count2 .result ≡ f .result .filled = omega (arith, c .byte-count2 .ensures, c .before .write-out .ensures, part-length 0 (f .result .filled - 0) (f .last .1 .1 .1 .1 .1 .1 .1 .1 .1 .1 .1 .0) (omega (arith, f .ensures .0 .ends, f .kept .1 .1 .1 .1 .1 .1 .1 .1 .1 .1 .1 .0))) in
     omega (arith, going-counts _ _ _ _ _ (l .at) _ (l .buf) _ (l .read) (l .written) (l .why) (i .0) (c .before .before .before .before .before .before .before .before .before .before .before .before .before .before .before .before .before .before .before .before .before .before .before .before .before .before .before .before .before .before .before .before .before .before .before .before .before .before .before .before .before .before .loop-test .taken) z _ (r .ensures .0) (omega (arith, r .ensures .1, i .1)) (r .ensures .2) .1, f .ensures .0 .ends, i .10)
 
 is-full-requires : tie.Need-is-full-requires Inv-loop μ-loop
@@ -118,11 +118,11 @@ loop-less c =
     let f = c .before .before .before .before .before .before .before .before .before .before .before .before .before .before .before .before .before .before .before .before .before .before .before .before .before .before .feed in
     let i = l .inv in
     let z = r .kept .0 ∙ i .1 in
-    let y : c .before .before .wide2 .result ≡ f .result .filled = omega (arith, c .before .before .wide2 .ensures, c .before .before .before .write-out .ensures, part-length 0 (f .result .filled - 0) (f .last .1 .1 .1 .1 .1 .1 .1 .1 .1 .1 .1 .0) (omega (arith, f .ensures .0 .ends, f .kept .1 .1 .1 .1 .1 .1 .1 .1 .1 .1 .1 .0))) in
+    let y : c .before .before .byte-count2 .result ≡ f .result .filled = omega (arith, c .before .before .byte-count2 .ensures, c .before .before .before .write-out .ensures, part-length 0 (f .result .filled - 0) (f .last .1 .1 .1 .1 .1 .1 .1 .1 .1 .1 .1 .0) (omega (arith, f .ensures .0 .ends, f .kept .1 .1 .1 .1 .1 .1 .1 .1 .1 .1 .1 .0))) in
     let t = rw (i .8, i .9) at (f .ensures .0) in
     let p = rw z at (f .ensures .1) in
     let u = rw (f .kept .1 .1 .0 ∙ z, f .kept .1 .1 .1 .1 .1 .1 .1 .1 .1 .1 .1 .0 ∙ i .10) at (c .before .is-full .ensures) in
-    going-less _ _ _ _ _ (l .at) _ (l .buf) _ (l .read) (l .written) (l .why) (i .0) (c .before .before .before .before .before .before .before .before .before .before .before .before .before .before .before .before .before .before .before .before .before .before .before .before .before .before .before .before .before .before .before .before .before .before .before .before .before .before .before .before .before .before .before .before .loop-test .taken) z _ (r .ensures .0) (omega (arith, r .ensures .1, i .1)) (r .ensures .2) _ _ _ _ _ t p (f .kept .1 .1 .0 ∙ z) _ (c .before .before .before .before .before .before .before .before .before .before .before .before .before .before .before .before .before .before .before .before .before .before .before .before .before .before .before .before .before .before .before .before .before .before .before .before .before .wide .ensures) _ y _ refl _ u _ (reason-says _ _ _ _ (c .reason .ensures))
+    going-less _ _ _ _ _ (l .at) _ (l .buf) _ (l .read) (l .written) (l .why) (i .0) (c .before .before .before .before .before .before .before .before .before .before .before .before .before .before .before .before .before .before .before .before .before .before .before .before .before .before .before .before .before .before .before .before .before .before .before .before .before .before .before .before .before .before .before .before .loop-test .taken) z _ (r .ensures .0) (omega (arith, r .ensures .1, i .1)) (r .ensures .2) _ _ _ _ _ t p (f .kept .1 .1 .0 ∙ z) _ (c .before .before .before .before .before .before .before .before .before .before .before .before .before .before .before .before .before .before .before .before .before .before .before .before .before .before .before .before .before .before .before .before .before .before .before .before .before .byte-count .ensures) _ y _ refl _ u _ (reason-says _ _ _ _ (c .reason .ensures))
 
 loop-again : tie.Need-loop-again Inv-loop μ-loop
 loop-again c =
@@ -131,11 +131,11 @@ loop-again c =
     let f = c .before .before .before .before .before .before .before .before .before .before .before .before .before .before .before .before .before .before .before .before .before .before .before .before .before .before .feed in
     let i = l .inv in
     let z = r .kept .0 ∙ i .1 in
-    let y : c .before .before .wide2 .result ≡ f .result .filled = omega (arith, c .before .before .wide2 .ensures, c .before .before .before .write-out .ensures, part-length 0 (f .result .filled - 0) (f .last .1 .1 .1 .1 .1 .1 .1 .1 .1 .1 .1 .0) (omega (arith, f .ensures .0 .ends, f .kept .1 .1 .1 .1 .1 .1 .1 .1 .1 .1 .1 .0))) in
+    let y : c .before .before .byte-count2 .result ≡ f .result .filled = omega (arith, c .before .before .byte-count2 .ensures, c .before .before .before .write-out .ensures, part-length 0 (f .result .filled - 0) (f .last .1 .1 .1 .1 .1 .1 .1 .1 .1 .1 .1 .0) (omega (arith, f .ensures .0 .ends, f .kept .1 .1 .1 .1 .1 .1 .1 .1 .1 .1 .1 .0))) in
     let t = rw (i .8, i .9) at (f .ensures .0) in
     let p = rw z at (f .ensures .1) in
     let u = rw (f .kept .1 .1 .0 ∙ z, f .kept .1 .1 .1 .1 .1 .1 .1 .1 .1 .1 .1 .0 ∙ i .10) at (c .before .is-full .ensures) in (
-      going-next _ _ _ _ _ (l .at) _ (l .buf) _ (l .read) (l .written) (l .why) (i .0) (c .before .before .before .before .before .before .before .before .before .before .before .before .before .before .before .before .before .before .before .before .before .before .before .before .before .before .before .before .before .before .before .before .before .before .before .before .before .before .before .before .before .before .before .before .loop-test .taken) z _ (r .ensures .0) (omega (arith, r .ensures .1, i .1)) (r .ensures .2) _ _ _ _ _ t p (f .kept .1 .1 .0 ∙ z) _ (c .before .before .before .before .before .before .before .before .before .before .before .before .before .before .before .before .before .before .before .before .before .before .before .before .before .before .before .before .before .before .before .before .before .before .before .before .before .wide .ensures) _ y _ refl _ u _ (reason-says _ _ _ _ (c .reason .ensures)),
+      going-next _ _ _ _ _ (l .at) _ (l .buf) _ (l .read) (l .written) (l .why) (i .0) (c .before .before .before .before .before .before .before .before .before .before .before .before .before .before .before .before .before .before .before .before .before .before .before .before .before .before .before .before .before .before .before .before .before .before .before .before .before .before .before .before .before .before .before .before .loop-test .taken) z _ (r .ensures .0) (omega (arith, r .ensures .1, i .1)) (r .ensures .2) _ _ _ _ _ t p (f .kept .1 .1 .0 ∙ z) _ (c .before .before .before .before .before .before .before .before .before .before .before .before .before .before .before .before .before .before .before .before .before .before .before .before .before .before .before .before .before .before .before .before .before .before .before .before .before .byte-count .ensures) _ y _ refl _ u _ (reason-says _ _ _ _ (c .reason .ensures)),
       f .kept .1 .1 .0 ∙ z,
       f .kept .1 .1 .1 .0 ∙ i .2,
       f .kept .1 .1 .1 .1 .0 ∙ i .3,
@@ -194,15 +194,15 @@ run-all-spec =
     read-more-requires
     add-came
     sub-came
-    sub-wide
-    wide-requires
+    sub-byte-count
+    byte-count-requires
     add-read
     feed-requires
     sub-write-out
     part-write-out-start
     part-write-out-end
     write-out-requires
-    wide-requires-2
+    byte-count-requires-2
     add-written
     is-full-requires
     reason-requires
