@@ -5,4 +5,5 @@ pub use calls::open::OpenAnswer;
 pub use calls::open::open;
 pub use calls::open::opened_book;
 pub use calls::open::opened_pool;
+pub use calls::sizes_fit::lengths_fit;
 pub use calls::sizes_fit::sizes_fit;

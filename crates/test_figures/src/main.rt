@@ -1,5 +1,6 @@
 // Document 01's figures, each computed by the proved functions: a line for each, `name value`, or `name argument value` where a
 // figure is that of an argument. The lines are held to `stdout`, which is written from 01's text; docs/FIGURES.md has 01's sentence for each.
+mod calls;
 mod copies;
 mod extents;
 mod formats;
@@ -20,4 +21,5 @@ fn main() {
     uploads::print_uploads();
     texts::print_texts();
     copies::print_copies();
+    calls::print_calls();
 }

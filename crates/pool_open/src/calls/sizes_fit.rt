@@ -12,9 +12,9 @@ use pool_records::SPARE_STRIDE;
 use pool_records::TEXTURE_STRIDE;
 use pool_rules::MOST_PLACES;
 
-// Tests that the slices are of whole places, as many as may be lent, and fit together. The pages are tested first, so that the number of
-// their stamps cannot pass a word.
-fn lengths_fit(
+// Tests that slices of these lengths are of whole places, as many as may be lent, and fit together. The pages are tested first, so that
+// the number of their stamps cannot pass a word.
+pub fn lengths_fit(
     textures: usize,
     retiring: usize,
     doomed: usize,
