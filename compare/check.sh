@@ -1,6 +1,6 @@
 #!/usr/bin/env bash
-# The gate's share of the comparison with the Rust: the oracle's own tests, the leaf questions on fixed seeds, then the
-# event programs on lists of events from fixed seeds, with the coverage of outcomes and the two books.
+# The gate's share of the comparison with the Rust: the oracle's own tests, the leaf questions on fixed seeds, damaged stores, then
+# the event programs on lists of events from fixed seeds, with the coverage of outcomes and the two books.
 # Without the Rust's source, or without cargo, it says so and ends with 0: the stored answers are checked by rt ci all the same.
 #
 #   compare/check.sh          builds what is missing, tests and compares
@@ -31,6 +31,27 @@ cargo test --release --offline -q >"$log" 2>&1 || {
     exit 1
 }
 COUNT=${COUNT:-5000} ./leaf_live.sh ../target/bin/test_leaf || exit 1
+
+# Damaged stores: equal answers, each condition failing alone at least ten times, and a judge that lacks a condition is seen.
+built=${CARGO_TARGET_DIR:-target}/release
+if [ -x ../target/bin/test_pool ]; then
+    ./stores_live.sh ../target/bin/test_pool 0 2000 || exit 1
+    "$built/stores" table 0 2000 >"$log" || {
+        cat -- "$log"
+        exit 1
+    }
+    if ./stores_live.sh --wrong Newest ../target/bin/test_pool 0 2000 >"$log" 2>&1; then
+        echo 'a judge without its condition Newest was not seen'
+        exit 1
+    fi
+    grep -q 'answers differ' "$log" || {
+        cat -- "$log"
+        exit 1
+    }
+elif [ -d ../crates/test_pool ]; then
+    echo '../target/bin/test_pool is missing: its crate is there, so build it first'
+    exit 1
+fi
 
 # compare_program NAME LINES OPTION ..: each kind of list has LINES lines in each of eight seeds.
 compare_program() {

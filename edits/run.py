@@ -10,8 +10,8 @@ An edit has the lines of a must-fail edit, and 'at:':
     file: a path below crates/CRATE, in src/, specs/ or proofs/; it holds for the pairs after it
     old: a text that stands in that file exactly once
     new: what to put there
-    at: a text that has to stand in the prover's first error, of the form 'FILE: `FACT`: what differs ..', on one line: the law or fact that is broken.
-        Where there are several, each has to stand there.
+    at: a text that has to stand in the prover's first error, of the form 'FILE: `FACT`: what differs ..', on one line, or, of a function that has
+        no proof file, 'fn FUNCTION: `search` does not close `FACT`': the law or fact that is broken. Where there are several, each has to stand there.
 
 Other lines are passed over. All is tried in a temporary copy of the repository with the proofs of target/, two crates at a time; what target/ lacks is said,
 and proved in the copy. Each crate is first checked as it is; an edit of it then costs the check of what it touches. Needs rt and python3's standard library.
@@ -30,8 +30,9 @@ import threading
 import time
 
 root = os.path.dirname(os.path.dirname(os.path.abspath(__file__)))
-# What an error says where the edit changed the code's shape, and so shows nothing; what merely follows from an earlier error.
-SHAPE = re.compile(r'has no `Need-|no such name|not in scope|unknown name|is not defined|cannot be parsed|parse error')
+# What an error says where the edit changed the code's shape, and so shows nothing (the last: a proof that spells the code out); what merely follows from an
+# earlier error.
+SHAPE = re.compile(r'has no `Need-|has no field|no such name|not in scope|unknown name|is not defined|cannot be parsed|parse error|where one has `[^`]*mir\.')
 FOLLOWS = re.compile(r'was not admitted')
 printing = threading.Lock()
 
@@ -94,16 +95,22 @@ def edited(path, crate_folder):
 
 def errors_of(log, crate_folder):
     """The prover's errors, each on one line, without line and column, so that an edit need not follow its file's lines."""
-    errors = []
+    errors, current = [], None
     for line in log.split('\n'):
-        begins = re.match(r'(\S+?):\d+:\d+: error: (.*)', line)
+        # A function that has no proof file is proved by the kit's own search; where that fails, it says so of the function.
+        unproved = re.match(r'fn (\S+): no proof: .*?; (.*)', line)
+        if unproved:
+            errors.append(['fn %s: %s' % unproved.groups()])
+        begins = re.match(r'(/\S+?):\d+:\d+: (.*)', line)
         if begins:
-            errors.append([begins.group(1).replace(crate_folder + '/', '') + ': ' + begins.group(2)])
-        elif line.startswith('  ') and errors:
-            errors[-1].append(line.strip())
-        elif errors:
-            errors.append([])
-    return [' '.join(parts) for parts in errors if parts]
+            file, said = begins.groups()
+            current = None if said.startswith('note: ') else [file.replace(crate_folder + '/', '') + ': ' + said.removeprefix('error: ')]
+            errors += [current] if current else []
+        elif line.startswith('  ') and current:
+            current.append(line.strip())
+        elif not line.startswith('  '):
+            current = None
+    return [' '.join(parts) for parts in errors]
 
 
 def judge(status, log, facts, crate_folder):
@@ -149,10 +156,7 @@ class Copy:
 
     def try_edit(self, crate, path):
         folder = '%s/crates/%s' % (self.folder, crate)
-        try:
-            texts, facts = edited(path, folder)
-        except Unfit as why:
-            return False, 'DOES NOT FIT: %s' % why
+        texts, facts = edited(path, folder)
         before = {file: open(folder + '/' + file).read() for file in texts}
         for file, text in texts.items():
             open(folder + '/' + file, 'w').write(text)
@@ -222,6 +226,16 @@ def try_all(edits):
             copy.end()
         copies.append(copy)
 
+    # What does not fit its file is said at once, before anything is proved.
+    for crate, name, path in edits:
+        try:
+            edited(path, '%s/crates/%s' % (root, crate))
+        except Unfit as why:
+            tell(crate, name, False, 'DOES NOT FIT: %s' % why, time.time())
+            by_crate[crate].remove((name, path))
+    by_crate = {crate: those for crate, those in by_crate.items() if those}
+    if not by_crate:
+        return outcomes
     with tempfile.TemporaryDirectory(prefix='edits-') as work:
         target = prove_below(work, by_crate)
         copies = [Copy('%s/%d' % (work, k), target) for k in range(min(2, len(by_crate)))]

@@ -111,6 +111,14 @@ fn on_grid(f: &mut Fields) -> Option<Answer> {
     }))
 }
 
+/// Whether a rectangle lies on the grid of blocks of `edge` by `edge` texels, by the published rule. No question asks it, since a
+/// format's edge is 1 or 4.
+#[must_use]
+pub const fn on_grid_of_blocks(edge: u32, rect: [u32; 4], extent: (u32, u32)) -> bool {
+    let [x, y, width, height] = rect;
+    mapping::of_block(edge).rect_on_block_grid((x, y), (width, height), extent)
+}
+
 fn grid(f: &mut Fields) -> Option<Answer> {
     let format = PixelFormat::numbered(f.next_u64()?)?;
     let (width, height) = (f.next_u32()?, f.next_u32()?);

@@ -115,6 +115,7 @@ impl Program {
                 self.latest = Some(shape);
                 Ok(Answer::Silent)
             }
+            (Some(Line::Lend), _) => Ok(Answer::Silent),
             (Some(Line::Records { id }), Some(pool)) => {
                 Ok(Answer::Number(pool.records_writes(id).into()))
             }

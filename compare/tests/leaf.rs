@@ -103,12 +103,22 @@ fn uploads() {
     ]);
 }
 
-/// Blocks of no texels. A question's format has blocks of 1 or 4, and a mapping's fields are private to the published module, so
-/// what is asked is the one function of the published rule to which 0 is a case of its own: 0 alone is a multiple of 0.
+/// Blocks of no texels, in a level of 7 by 5: the rectangles of the law `block-zero-rects` (crates/grid_rects/proofs/Rects.antt).
 #[test]
 fn only_0_is_a_multiple_of_block_0() {
-    for number in [0_u32, 1, 4, 7, u32::MAX] {
-        assert_eq!(number.is_multiple_of(0), number == 0, "{number}");
+    let rects = [
+        ([0, 0, 7, 5], true),
+        ([0, 0, 0, 0], true),
+        ([0, 0, 7, 0], true),
+        ([0, 0, 7, 4], false),
+        ([1, 0, 6, 5], false),
+    ];
+    for (rect, on_grid) in rects {
+        assert_eq!(
+            leaf::on_grid_of_blocks(0, rect, (7, 5)),
+            on_grid,
+            "{rect:?}"
+        );
     }
 }
 

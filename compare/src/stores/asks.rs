@@ -33,6 +33,10 @@ pub fn ask(memory: &Memory, seed: u64, unasked: Option<Condition>) -> Asked {
             answers.extend_from_slice(format!("{line},{said}\n").as_bytes());
         }
     };
+    // Every second store is asked with the pacing book lent.
+    if seed % 2 == 1 {
+        say("lend", "");
+    }
     say("formed", if forms { "0\nsame" } else { "1\nsame" });
     let id = some_id(memory, &mut random);
     if broken.is_empty() {

@@ -10,6 +10,8 @@ pub enum Line {
     Take(Take),
     /// The shape that plans go by from here on.
     Shape(RawShape),
+    /// The pacing book is lent from here on, which the Rust does not know.
+    Lend,
     Records {
         id: u64,
     },
@@ -29,6 +31,7 @@ pub fn parse(line: &[u8]) -> Option<Line> {
             seq: f.next_u64()?,
         }),
         b"shape" => Line::Shape(whole_shape(f)?),
+        b"lend" => Line::Lend,
         b"records" => Line::Records { id: f.next_u64()? },
         b"parked" => Line::Parked,
         b"pending" => Line::Pending,

@@ -1,9 +1,8 @@
 // The lines of standard input run on the pool, to standard output, on stores of any size: what the event programs do.
-mod byte_count;
 mod calls;
 mod read_more;
 
-pub use byte_count::byte_count;
+pub use calls::byte_count::byte_count;
 pub use calls::reason::GOING;
 pub use calls::reason::is_full;
 pub use calls::reason::reason;

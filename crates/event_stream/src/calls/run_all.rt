@@ -7,7 +7,7 @@ ghost use Rattle.event_runs.specs.Lines.{longestAnswer};
 ghost use Rattle.event_feed.specs.FeedConstants.{keptBytes};
 ghost use Rattle.event_stream.specs.Streams.{RunOf};
 ghost use Rattle.event_sessions.specs.Noted.{freshSession};
-use crate::byte_count::byte_count;
+use crate::calls::byte_count::byte_count;
 use crate::calls::reason::GOING;
 use crate::calls::reason::is_full;
 use crate::calls::reason::reason;

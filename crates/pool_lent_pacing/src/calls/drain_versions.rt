@@ -1,4 +1,4 @@
-// drain_versions, with the pacing book lent.
+// drain_versions for a caller who keeps the pacing book in memory of his own.
 ghost use mathlib.Core.Path.{_≡_};
 ghost use Rattle.pool_memory.specs.Lent.{atEntry, atExit};
 ghost use Rattle.pool_memory.specs.Calls.{drainVersionsOn};
@@ -7,7 +7,7 @@ use crate::answer::HandedAnswer;
 use pool_memory::PacingBook;
 use pool_memory::Pool;
 
-// Hands back every version but the one in the hand.
+// Hands back every version but the one in the hand, and clears the arrivals in the lent book: the versions that they counted are gone.
 pub fn drain_versions(
     pool: Pool,
     book: &mut PacingBook,

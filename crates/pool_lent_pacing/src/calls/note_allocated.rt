@@ -1,4 +1,4 @@
-// note_allocated, with the pacing book lent.
+// note_allocated for a caller who keeps the pacing book in memory of his own.
 ghost use mathlib.Core.Path.{_≡_};
 ghost use Rattle.pool_memory.specs.Lent.{atEntry, atExit};
 ghost use Rattle.pool_memory.specs.Calls.{toldNumber, noteAllocatedOn};
@@ -6,7 +6,8 @@ use pool_memory::DoneAnswer;
 use pool_memory::PacingBook;
 use pool_memory::Pool;
 
-// Notes how much memory the process has allocated, and gives spares back if that is too much.
+// Notes how much memory the process has allocated, and gives spares back if that is too much. Puts mark and excess into the lent book, since
+// parking and the next batches go by them.
 pub fn note_allocated(
     pool: Pool,
     book: &mut PacingBook,

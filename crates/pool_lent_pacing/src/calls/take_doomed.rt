@@ -1,4 +1,4 @@
-// take_doomed, with the pacing book lent.
+// take_doomed for a caller who keeps the pacing book in memory of his own.
 ghost use mathlib.Core.Path.{_≡_};
 ghost use Rattle.pool_memory.specs.Lent.{atEntry, atExit};
 ghost use Rattle.pool_memory.specs.Calls.{takeDoomedOn};
@@ -7,7 +7,7 @@ use crate::answer::HandedAnswer;
 use pool_memory::PacingBook;
 use pool_memory::Pool;
 
-// Hands back the next batch of versions to destroy.
+// Hands back the next batch of versions to destroy, and notes in the lent book what came since the last one, by which the next is measured.
 pub fn take_doomed(
     pool: Pool,
     book: &mut PacingBook,
