@@ -126,6 +126,7 @@ fn is_followed(reply: Reply) -> bool {
     }
 }
 
+// Returns whether an answer is a refusal.
 fn is_refused(answer: Answer) -> bool {
     match answer {
         Answer::Refused(_) => true,

@@ -7,9 +7,6 @@ use borrow.Author.Needs.{needs}
 use Rattle.event_text.proofs.Numbers.{number-within}
 use Rattle.test_pool_lines.proofs.fields.read_numbers.Statement.{statement}
 use Rattle.test_pool_lines.proofs.fields.read_numbers.Tie as tie
-use Rattle.test_pool_lines.proofs.fields.read_numbers.Reads as reads
-use Rattle.test_pool_lines.proofs.fields.read_numbers.Lts as lts
-use Rattle.event_text.proofs.number_at.Reads as number-at-reads
 
 abbrev Inv-loop : tie.InvT-loop
 Inv-loop line at values₀ end₀ count₀ values end count = (end ≤ length line) × (count ≤ 16)
@@ -17,57 +14,44 @@ Inv-loop line at values₀ end₀ count₀ values end count = (end ≤ length li
 abbrev μ-loop : tie.MeasureT-loop
 μ-loop line at values₀ end₀ count₀ values end count = 16 - count
 
--- src/fields.rt:24:5
 loop-holds : tie.Need-loop-holds Inv-loop μ-loop
 loop-holds c = search needs
 
--- src/fields.rt:26:13
 returns : tie.Need-returns Inv-loop μ-loop
 returns c = search needs
 
--- src/fields.rt:32:59
 add-number-at : tie.Need-add-number-at Inv-loop μ-loop
 add-number-at c = search needs
 
--- src/fields.rt:32:43
 number-at-requires : tie.Need-number-at-requires Inv-loop μ-loop
 number-at-requires c κs = search needs
 
--- src/fields.rt:32:28
 enum-known-value : tie.Need-enum-known-value Inv-loop μ-loop
 enum-known-value c = search needs
 
--- src/fields.rt:35:17
 enum-told : tie.Need-enum-told Inv-loop μ-loop
 enum-told c = search needs
 
--- src/fields.rt:33:13
 returns-2 : tie.Need-returns-2 Inv-loop μ-loop
 returns-2 c = search needs
 
--- src/fields.rt:39:9
 mul-values : tie.Need-mul-values Inv-loop μ-loop
 mul-values c = search needs
 
--- src/fields.rt:39:9
 array-write-values : tie.Need-array-write-values Inv-loop μ-loop
 array-write-values c = search needs
 
--- src/fields.rt:41:9
 add-count : tie.Need-add-count Inv-loop μ-loop
 add-count c = search needs
 
--- src/fields.rt:24:5
 loop-less : tie.Need-loop-less Inv-loop μ-loop
 loop-less c = search needs
 
--- src/fields.rt:24:5
 loop-again : tie.Need-loop-again Inv-loop μ-loop
 loop-again c =
     let w = number-within _ _ _ _ (omega arith) (sym (c .before .value .given .1) ∙ c .before .before .before .number-at .ensures) in
     (w .1, search needs)
 
--- src/fields.rt:18:1
 returns-3 : tie.Need-returns-3 Inv-loop μ-loop
 returns-3 c = search needs
 

@@ -6,12 +6,6 @@ use lib.ListN.{length}
 use borrow.Author.Needs.{needs}
 use Rattle.test_pool_lists.proofs.lines.run_lines.Statement.{statement}
 use Rattle.test_pool_lists.proofs.lines.run_lines.Tie as tie
-use Rattle.test_pool_lists.proofs.lines.run_lines.Reads as reads
-use Rattle.test_pool_lists.proofs.lines.run_lines.Lts as lts
-use Rattle.test_pool_lists.proofs.lines.line_end.Reads as line-end-reads
-use Rattle.test_pool_lists.proofs.lines.run_line.Reads as run-line-reads
-use Rattle.test_pool_lines.proofs.lengths_of.Reads as lengths-of-reads
-use Rattle.test_pool_steps.proofs.fresh.Reads as fresh-reads
 
 abbrev Inv-loop : tie.InvT-loop
 Inv-loop input textures₀ retiring₀ doomed₀ spares₀ newest₀ stamps₀ copies₀ views₀ copy₀ out₀ session₀ from₀ textures retiring doomed spares newest stamps copies views copy out session from =
@@ -20,96 +14,75 @@ Inv-loop input textures₀ retiring₀ doomed₀ spares₀ newest₀ stamps₀ c
 abbrev μ-loop : tie.MeasureT-loop
 μ-loop input textures₀ retiring₀ doomed₀ spares₀ newest₀ stamps₀ copies₀ views₀ copy₀ out₀ session₀ from₀ textures retiring doomed spares newest stamps copies views copy out session from = length input - from
 
--- src/lines.rt:162:40
 slice-aggregate-lengths-of : tie.Need-slice-aggregate-lengths-of Inv-loop μ-loop
 slice-aggregate-lengths-of c = search needs
 
--- src/lines.rt:162:29
 lengths-of-requires : tie.Need-lengths-of-requires Inv-loop μ-loop
 lengths-of-requires c κs = search needs
 
--- src/lines.rt:162:9
 fresh-requires : tie.Need-fresh-requires Inv-loop μ-loop
 fresh-requires c κs = search needs
 
--- src/lines.rt:164:5
 loop-holds : tie.Need-loop-holds Inv-loop μ-loop
 loop-holds c = (refl, refl, refl, refl, refl, refl, refl, refl, refl, refl)
 
 line-end-requires : tie.Need-line-end-requires Inv-loop μ-loop
 line-end-requires c κs = search needs
 
--- src/lines.rt:167:13
 next-line-from-requires : tie.Need-next-line-from-requires Inv-loop μ-loop
 next-line-from-requires c κs = search needs
 
 sub-run-line : tie.Need-sub-run-line Inv-loop μ-loop
 sub-run-line c = search needs
 
--- src/lines.rt:167:13
 part-run-line-start : tie.Need-part-run-line-start Inv-loop μ-loop
 part-run-line-start c = search needs
 
--- src/lines.rt:167:13
 part-run-line-end : tie.Need-part-run-line-end Inv-loop μ-loop
 part-run-line-end c = search needs
 
--- src/lines.rt:166:9
 run-line-requires : tie.Need-run-line-requires Inv-loop μ-loop
 run-line-requires c κs = omega (arith, c .before .before .before .before .before .before .before .before .before .before .before .before .before .before .loop .inv .9, c .before .before .before .before .before .before .before .before .before .before .before .before .before .before .before .before .before .before .before .before .before .before .before .before .before .before .before .before .before .pre)
 
--- src/lines.rt:164:5
 loop-less : tie.Need-loop-less Inv-loop μ-loop
 loop-less c = omega (arith, c .before .before .before .before .before .before .before .before .before .before .before .before .before .before .before .before .before .before .before .before .before .before .before .before .before .before .before .before .before .before .before .before .next-line-from .ensures .0, c .before .before .before .before .before .before .before .before .before .before .before .before .before .before .before .before .before .before .before .before .before .before .before .before .before .before .before .before .before .before .before .before .next-line-from .ensures .1, c .before .before .before .before .before .before .before .before .before .before .before .before .before .before .before .before .before .before .before .before .before .before .before .before .before .before .before .before .before .before .before .before .before .before .loop-test .taken)
 
--- src/lines.rt:164:5
 loop-again : tie.Need-loop-again Inv-loop μ-loop
 loop-again c =
     let i = c .before .before .before .before .before .before .before .before .before .before .before .before .before .before .before .before .before .before .before .before .before .before .before .before .before .before .before .before .before .before .before .before .before .before .before .loop .inv in
     let k = c .before .before .before .before .before .before .before .before .before .before .before .before .before .before .before .before .before .before .before .before .run-line .kept .1 .1 in
     (k .0 ∙ i .0, k .1 .0 ∙ i .1, k .1 .1 .0 ∙ i .2, k .1 .1 .1 .0 ∙ i .3, k .1 .1 .1 .1 .0 ∙ i .4, k .1 .1 .1 .1 .1 .0 ∙ i .5, k .1 .1 .1 .1 .1 .1 .0 ∙ i .6, k .1 .1 .1 .1 .1 .1 .1 .0 ∙ i .7, k .1 .1 .1 .1 .1 .1 .1 .1 .0 ∙ i .8, k .1 .1 .1 .1 .1 .1 .1 .1 .1 .0 ∙ i .9)
 
--- src/lines.rt:147:1
 same-length : tie.Need-same-length Inv-loop μ-loop
 same-length c = search needs
 
--- src/lines.rt:147:1
 same-length-2 : tie.Need-same-length-2 Inv-loop μ-loop
 same-length-2 c = search needs
 
--- src/lines.rt:147:1
 same-length-3 : tie.Need-same-length-3 Inv-loop μ-loop
 same-length-3 c = search needs
 
--- src/lines.rt:147:1
 same-length-4 : tie.Need-same-length-4 Inv-loop μ-loop
 same-length-4 c = search needs
 
--- src/lines.rt:147:1
 same-length-5 : tie.Need-same-length-5 Inv-loop μ-loop
 same-length-5 c = search needs
 
--- src/lines.rt:147:1
 same-length-6 : tie.Need-same-length-6 Inv-loop μ-loop
 same-length-6 c = search needs
 
--- src/lines.rt:147:1
 same-length-7 : tie.Need-same-length-7 Inv-loop μ-loop
 same-length-7 c = search needs
 
--- src/lines.rt:147:1
 same-length-8 : tie.Need-same-length-8 Inv-loop μ-loop
 same-length-8 c = search needs
 
--- src/lines.rt:147:1
 same-length-9 : tie.Need-same-length-9 Inv-loop μ-loop
 same-length-9 c = search needs
 
--- src/lines.rt:147:1
 same-length-10 : tie.Need-same-length-10 Inv-loop μ-loop
 same-length-10 c = search needs
 
--- src/lines.rt:147:1
 returns : tie.Need-returns Inv-loop μ-loop
 returns c = search needs
 

@@ -5,9 +5,6 @@ use lib.ListN.{length}
 use borrow.Author.Needs.{needs}
 use Rattle.test_pool_memory.proofs.clearing.clear.Statement.{statement}
 use Rattle.test_pool_memory.proofs.clearing.clear.Tie as tie
-use Rattle.test_pool_memory.proofs.clearing.clear.Reads as reads
-use Rattle.test_pool_memory.proofs.clearing.clear.Lts as lts
-use Rattle.test_pool_memory.proofs.bounds.least.Reads as least-reads
 
 abbrev Inv-loop : tie.InvT-loop
 Inv-loop store₀ count most i₀ store i = (most ≤ length store₀) × (length store ≡ length store₀)
@@ -15,39 +12,30 @@ Inv-loop store₀ count most i₀ store i = (most ≤ length store₀) × (lengt
 abbrev μ-loop : tie.MeasureT-loop
 μ-loop store₀ count most i₀ store i = most - i
 
--- src/clearing.rt:6:9
 least-requires : tie.Need-least-requires Inv-loop μ-loop
 least-requires c κs = search needs
 
--- src/clearing.rt:8:5
 loop-holds : tie.Need-loop-holds Inv-loop μ-loop
 loop-holds c = search needs
 
--- src/clearing.rt:9:9
 mul-store : tie.Need-mul-store Inv-loop μ-loop
 mul-store c = search needs
 
--- src/clearing.rt:9:9
 slice-write-store : tie.Need-slice-write-store Inv-loop μ-loop
 slice-write-store c = search needs
 
--- src/clearing.rt:10:9
 add-i : tie.Need-add-i Inv-loop μ-loop
 add-i c = search needs
 
--- src/clearing.rt:8:5
 loop-less : tie.Need-loop-less Inv-loop μ-loop
 loop-less c = search needs
 
--- src/clearing.rt:8:5
 loop-again : tie.Need-loop-again Inv-loop μ-loop
 loop-again c = (search needs, search needs)
 
--- src/clearing.rt:5:1
 same-length : tie.Need-same-length Inv-loop μ-loop
 same-length c = search needs
 
--- src/clearing.rt:5:1
 returns : tie.Need-returns Inv-loop μ-loop
 returns c = search needs
 

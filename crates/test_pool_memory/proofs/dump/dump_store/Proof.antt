@@ -5,9 +5,6 @@ use lib.ListN.{length}
 use borrow.Author.Needs.{needs}
 use Rattle.test_pool_memory.proofs.dump.dump_store.Statement.{statement}
 use Rattle.test_pool_memory.proofs.dump.dump_store.Tie as tie
-use Rattle.test_pool_memory.proofs.dump.dump_store.Reads as reads
-use Rattle.test_pool_memory.proofs.dump.dump_store.Lts as lts
-use Rattle.test_pool_memory.proofs.dump.dump_number.Reads as dump-number-reads
 
 abbrev Inv-loop : tie.InvT-loop
 Inv-loop out₀ number store i₀ out i = (i ≤ length store) × (length out ≡ length out₀)
@@ -15,39 +12,30 @@ Inv-loop out₀ number store i₀ out i = (i ≤ length store) × (length out �
 abbrev μ-loop : tie.MeasureT-loop
 μ-loop out₀ number store i₀ out i = length store - i
 
--- src/dump.rt:36:5
 loop-holds : tie.Need-loop-holds Inv-loop μ-loop
 loop-holds c = search needs
 
--- src/dump.rt:37:44
 mul-dump-number : tie.Need-mul-dump-number Inv-loop μ-loop
 mul-dump-number c = search needs
 
--- src/dump.rt:37:44
 shared-slice-read-dump-number : tie.Need-shared-slice-read-dump-number Inv-loop μ-loop
 shared-slice-read-dump-number c = search needs
 
--- src/dump.rt:37:9
 dump-number-requires : tie.Need-dump-number-requires Inv-loop μ-loop
 dump-number-requires c κs = search needs
 
--- src/dump.rt:38:9
 add-i : tie.Need-add-i Inv-loop μ-loop
 add-i c = search needs
 
--- src/dump.rt:36:5
 loop-less : tie.Need-loop-less Inv-loop μ-loop
 loop-less c = search needs
 
--- src/dump.rt:36:5
 loop-again : tie.Need-loop-again Inv-loop μ-loop
 loop-again c = search needs
 
--- src/dump.rt:32:1
 same-length : tie.Need-same-length Inv-loop μ-loop
 same-length c = search needs
 
--- src/dump.rt:32:1
 returns : tie.Need-returns Inv-loop μ-loop
 returns c = search needs
 

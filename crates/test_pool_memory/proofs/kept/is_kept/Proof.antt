@@ -4,8 +4,6 @@ use lib.ListN.{length}
 use borrow.Author.Needs.{needs}
 use Rattle.test_pool_memory.proofs.kept.is_kept.Statement.{statement}
 use Rattle.test_pool_memory.proofs.kept.is_kept.Tie as tie
-use Rattle.test_pool_memory.proofs.kept.is_kept.Reads as reads
-use Rattle.test_pool_memory.proofs.kept.is_kept.Lts as lts
 
 abbrev Inv-loop : tie.InvT-loop
 Inv-loop copy at part i₀ i = (at ≤ length copy) × (length part ≤ length copy - at) × (i ≤ length part)
@@ -13,71 +11,54 @@ Inv-loop copy at part i₀ i = (at ≤ length copy) × (length part ≤ length c
 abbrev μ-loop : tie.MeasureT-loop
 μ-loop copy at part i₀ i = length part - i
 
--- src/kept.rt:21:9
 returns : tie.Need-returns Inv-loop μ-loop
 returns c = search needs
 
--- src/kept.rt:23:8
 sub-if2 : tie.Need-sub-if2 Inv-loop μ-loop
 sub-if2 c = search needs
 
--- src/kept.rt:24:16
 add-result : tie.Need-add-result Inv-loop μ-loop
 add-result c = search needs
 
--- src/kept.rt:24:9
 returns-2 : tie.Need-returns-2 Inv-loop μ-loop
 returns-2 c = search needs
 
--- src/kept.rt:27:5
 loop-holds : tie.Need-loop-holds Inv-loop μ-loop
 loop-holds c = search needs
 
--- src/kept.rt:28:17
 add-if3 : tie.Need-add-if3 Inv-loop μ-loop
 add-if3 c = search needs
 
--- src/kept.rt:28:12
 mul-if3 : tie.Need-mul-if3 Inv-loop μ-loop
 mul-if3 c = search needs
 
--- src/kept.rt:28:12
 shared-slice-read-if3 : tie.Need-shared-slice-read-if3 Inv-loop μ-loop
 shared-slice-read-if3 c = search needs
 
--- src/kept.rt:28:28
 mul-if3-2 : tie.Need-mul-if3-2 Inv-loop μ-loop
 mul-if3-2 c = search needs
 
--- src/kept.rt:28:28
 shared-slice-read-if3-2 : tie.Need-shared-slice-read-if3-2 Inv-loop μ-loop
 shared-slice-read-if3-2 c = search needs
 
--- src/kept.rt:29:20
 add-result-2 : tie.Need-add-result-2 Inv-loop μ-loop
 add-result-2 c = search needs
 
--- src/kept.rt:29:13
 returns-3 : tie.Need-returns-3 Inv-loop μ-loop
 returns-3 c = search needs
 
--- src/kept.rt:31:9
 add-i : tie.Need-add-i Inv-loop μ-loop
 add-i c = search needs
 
--- src/kept.rt:27:5
 loop-less : tie.Need-loop-less Inv-loop μ-loop
 loop-less c = search needs
 
--- src/kept.rt:27:5
 loop-again : tie.Need-loop-again Inv-loop μ-loop
 loop-again c = search needs
 
--- src/kept.rt:33:5
 add-result-3 : tie.Need-add-result-3 Inv-loop μ-loop
 add-result-3 c = search needs
 
--- src/kept.rt:19:1
 returns-4 : tie.Need-returns-4 Inv-loop μ-loop
 returns-4 c = search needs
 

@@ -5,9 +5,6 @@ use lib.ListN.{length}
 use borrow.Author.Needs.{needs}
 use Rattle.test_pool_memory.proofs.put.put_numbers.Statement.{statement}
 use Rattle.test_pool_memory.proofs.put.put_numbers.Tie as tie
-use Rattle.test_pool_memory.proofs.put.put_numbers.Reads as reads
-use Rattle.test_pool_memory.proofs.put.put_numbers.Lts as lts
-use Rattle.test_pool_memory.proofs.bounds.least.Reads as least-reads
 
 abbrev Inv-loop : tie.InvT-loop
 Inv-loop store₀ number count values index most k₀ store k = (2 ≤ k) × (most ≤ 16) × (index ≤ length store₀) × (most ≤ 2 + (length store₀ - index)) × (length store ≡ length store₀)
@@ -15,87 +12,66 @@ Inv-loop store₀ number count values index most k₀ store k = (2 ≤ k) × (mo
 abbrev μ-loop : tie.MeasureT-loop
 μ-loop store₀ number count values index most k₀ store k = 16 - k
 
--- src/put.rt:7:8
 array-read-if1 : tie.Need-array-read-if1 Inv-loop μ-loop
 array-read-if1 c = search needs
 
--- src/put.rt:8:9
 returns : tie.Need-returns Inv-loop μ-loop
 returns c = search needs
 
--- src/put.rt:10:30
 array-read-if2 : tie.Need-array-read-if2 Inv-loop μ-loop
 array-read-if2 c = search needs
 
--- src/put.rt:11:9
 returns-2 : tie.Need-returns-2 Inv-loop μ-loop
 returns-2 c = search needs
 
--- src/put.rt:13:17
 array-read-index : tie.Need-array-read-index Inv-loop μ-loop
 array-read-index c = search needs
 
--- src/put.rt:14:22
 least-requires : tie.Need-least-requires Inv-loop μ-loop
 least-requires c κs = search needs
 
--- src/put.rt:14:54
 sub-least : tie.Need-sub-least Inv-loop μ-loop
 sub-least c = search needs
 
--- src/put.rt:14:49
 add-least : tie.Need-add-least Inv-loop μ-loop
 add-least c = search needs
 
--- src/put.rt:14:9
 least-requires-2 : tie.Need-least-requires-2 Inv-loop μ-loop
 least-requires-2 c κs = search needs
 
--- src/put.rt:16:5
 loop-holds : tie.Need-loop-holds Inv-loop μ-loop
 loop-holds c = search needs
 
--- src/put.rt:17:34
 mul-store : tie.Need-mul-store Inv-loop μ-loop
 mul-store c = search needs
 
--- src/put.rt:17:34
 array-read-store : tie.Need-array-read-store Inv-loop μ-loop
 array-read-store c = search needs
 
--- src/put.rt:17:24
 sub-store : tie.Need-sub-store Inv-loop μ-loop
 sub-store c = search needs
 
--- src/put.rt:17:15
 add-store : tie.Need-add-store Inv-loop μ-loop
 add-store c = search needs
 
--- src/put.rt:17:9
 mul-store-2 : tie.Need-mul-store-2 Inv-loop μ-loop
 mul-store-2 c = search needs
 
--- src/put.rt:17:9
 slice-write-store : tie.Need-slice-write-store Inv-loop μ-loop
 slice-write-store c = search needs
 
--- src/put.rt:18:9
 add-k : tie.Need-add-k Inv-loop μ-loop
 add-k c = search needs
 
--- src/put.rt:16:5
 loop-less : tie.Need-loop-less Inv-loop μ-loop
 loop-less c = search needs
 
--- src/put.rt:16:5
 loop-again : tie.Need-loop-again Inv-loop μ-loop
 loop-again c = (search needs, search needs, search needs, search needs, search needs)
 
--- src/put.rt:6:1
 same-length : tie.Need-same-length Inv-loop μ-loop
 same-length c = search needs
 
--- src/put.rt:6:1
 returns-3 : tie.Need-returns-3 Inv-loop μ-loop
 returns-3 c = search needs
 

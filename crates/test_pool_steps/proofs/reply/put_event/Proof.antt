@@ -4,160 +4,119 @@ use native.Mathlib.Omega.{arith}
 use Rattle.event_answers.specs.Answers.{entries, InBuffers}
 use Rattle.test_pool_steps.proofs.reply.put_event.Statement.{statement}
 use Rattle.test_pool_steps.proofs.reply.put_event.Tie as tie
-use Rattle.test_pool_steps.proofs.reply.put_event.Reads as reads
-use Rattle.test_pool_steps.proofs.reply.put_event.Lts as lts
-use Rattle.event_answers.proofs.put_answer.Reads as put-answer-reads
-use Rattle.test_pool_steps.proofs.reply.put_copies.Reads as put-copies-reads
-use Rattle.test_pool_steps.proofs.reply.put_views.Reads as put-views-reads
 
--- src/reply.rt:50:23
 enum-known-answer : tie.Need-enum-known-answer
 enum-known-answer c = search needs
 
--- src/reply.rt:50:29
 put-views-requires : tie.Need-put-views-requires
 put-views-requires c κs = search needs
 
--- src/reply.rt:51:24
 enum-known-answer-2 : tie.Need-enum-known-answer-2
 enum-known-answer-2 c = search needs
 
--- src/reply.rt:51:30
 put-copies-requires : tie.Need-put-copies-requires
 put-copies-requires c κs = search needs
 
--- src/reply.rt:52:40
 enum-told : tie.Need-enum-told
 enum-told c = search needs
 
--- src/reply.rt:52:29
 put-answer-requires : tie.Need-put-answer-requires
 unfolding entries InBuffers
 put-answer-requires c κs = (omega arith, tt)
 
--- src/reply.rt:53:25
 enum-known-answer-3 : tie.Need-enum-known-answer-3
 enum-known-answer-3 c = search needs
 
--- src/reply.rt:53:31
 put-answer-requires-2 : tie.Need-put-answer-requires-2
 unfolding entries InBuffers
 put-answer-requires-2 c κs = (omega arith, tt)
 
--- src/reply.rt:54:36
 enum-told-2 : tie.Need-enum-told-2
 enum-told-2 c = search needs
 
--- src/reply.rt:54:25
 put-answer-requires-3 : tie.Need-put-answer-requires-3
 unfolding entries InBuffers
 put-answer-requires-3 c κs = (omega arith, tt)
 
--- src/reply.rt:55:23
 enum-known-answer-4 : tie.Need-enum-known-answer-4
 enum-known-answer-4 c = search needs
 
--- src/reply.rt:56:13
 put-answer-requires-4 : tie.Need-put-answer-requires-4
 unfolding entries InBuffers
 put-answer-requires-4 c κs = (omega arith, tt)
 
--- src/reply.rt:58:39
 enum-told-3 : tie.Need-enum-told-3
 enum-told-3 c = search needs
 
--- src/reply.rt:58:28
 put-answer-requires-5 : tie.Need-put-answer-requires-5
 unfolding entries InBuffers
 put-answer-requires-5 c κs = (omega arith, tt)
 
--- src/reply.rt:59:25
 enum-known-answer-5 : tie.Need-enum-known-answer-5
 enum-known-answer-5 c = search needs
 
--- src/reply.rt:60:13
 put-answer-requires-6 : tie.Need-put-answer-requires-6
 unfolding entries InBuffers
 put-answer-requires-6 c κs = (omega arith, tt)
 
--- src/reply.rt:62:46
 enum-told-4 : tie.Need-enum-told-4
 enum-told-4 c = search needs
 
--- src/reply.rt:62:35
 put-answer-requires-7 : tie.Need-put-answer-requires-7
 unfolding entries InBuffers
 put-answer-requires-7 c κs = (omega arith, tt)
 
--- src/reply.rt:46:1
 same-length : tie.Need-same-length
 same-length c = search needs
 
--- src/reply.rt:46:1
 returns : tie.Need-returns
 returns c = search needs
 
--- src/reply.rt:46:1
 same-length-2 : tie.Need-same-length-2
 same-length-2 c = search needs
 
--- src/reply.rt:46:1
 returns-2 : tie.Need-returns-2
 returns-2 c = search needs
 
--- src/reply.rt:46:1
 same-length-3 : tie.Need-same-length-3
 same-length-3 c = search needs
 
--- src/reply.rt:46:1
 returns-3 : tie.Need-returns-3
 returns-3 c = search needs
 
--- src/reply.rt:46:1
 same-length-4 : tie.Need-same-length-4
 same-length-4 c = search needs
 
--- src/reply.rt:46:1
 returns-4 : tie.Need-returns-4
 returns-4 c = search needs
 
--- src/reply.rt:46:1
 same-length-5 : tie.Need-same-length-5
 same-length-5 c = search needs
 
--- src/reply.rt:46:1
 returns-5 : tie.Need-returns-5
 returns-5 c = search needs
 
--- src/reply.rt:46:1
 same-length-6 : tie.Need-same-length-6
 same-length-6 c = search needs
 
--- src/reply.rt:46:1
 returns-6 : tie.Need-returns-6
 returns-6 c = search needs
 
--- src/reply.rt:46:1
 same-length-7 : tie.Need-same-length-7
 same-length-7 c = search needs
 
--- src/reply.rt:46:1
 returns-7 : tie.Need-returns-7
 returns-7 c = search needs
 
--- src/reply.rt:46:1
 same-length-8 : tie.Need-same-length-8
 same-length-8 c = search needs
 
--- src/reply.rt:46:1
 returns-8 : tie.Need-returns-8
 returns-8 c = search needs
 
--- src/reply.rt:46:1
 same-length-9 : tie.Need-same-length-9
 same-length-9 c = search needs
 
--- src/reply.rt:46:1
 returns-9 : tie.Need-returns-9
 returns-9 c = search needs
 

@@ -2,60 +2,43 @@
 use borrow.Author.Needs.{needs}
 use Rattle.test_pool_steps.proofs.stepping.call_step.Statement.{statement}
 use Rattle.test_pool_steps.proofs.stepping.call_step.Tie as tie
-use Rattle.test_pool_steps.proofs.stepping.call_step.Reads as reads
-use Rattle.test_pool_steps.proofs.stepping.call_step.Lts as lts
-use Rattle.test_pool_steps.proofs.stepping.answer_step.Reads as answer-step-reads
-use Rattle.test_pool_steps.proofs.stepping.print_step.Reads as print-step-reads
 
--- src/stepping.rt:151:9
 answer-step-requires : tie.Need-answer-step-requires
 answer-step-requires c κs = search needs
 
--- src/stepping.rt:165:5
 print-step-requires : tie.Need-print-step-requires
 print-step-requires c κs = c .before .before .before .before .before .before .before .before .before .before .before .before .before .before .before .before .before .before .before .before .before .before .before .before .before .before .before .before .before .before .before .before .before .before .before .before .before .before .before .before .before .before .before .before .before .before .before .before .before .pre
 
--- src/stepping.rt:134:1
 same-length : tie.Need-same-length
 same-length c = c .before .before .before .before .before .before .before .before .before .before .before .before .before .before .before .before .before .before .before .before .before .before .before .before .before .before .before .before .before .before .before .answer-step .kept .1 .0
 
--- src/stepping.rt:134:1
 same-length-2 : tie.Need-same-length-2
 same-length-2 c = c .before .before .before .before .before .before .before .before .before .before .before .before .before .before .before .before .before .before .before .before .before .before .before .before .before .before .before .before .before .before .before .answer-step .kept .1 .1 .0
 
--- src/stepping.rt:134:1
 same-length-3 : tie.Need-same-length-3
 same-length-3 c = c .before .before .before .before .before .before .before .before .before .before .before .before .before .before .before .before .before .before .before .before .before .before .before .before .before .before .before .before .before .before .before .answer-step .kept .1 .1 .1 .0
 
--- src/stepping.rt:134:1
 same-length-4 : tie.Need-same-length-4
 same-length-4 c = c .before .before .before .before .before .before .before .before .before .before .before .before .before .before .before .before .before .before .before .before .before .before .before .before .before .before .before .before .before .before .before .answer-step .kept .1 .1 .1 .1 .0
 
--- src/stepping.rt:134:1
 same-length-5 : tie.Need-same-length-5
 same-length-5 c = c .before .before .before .before .before .before .before .before .before .before .before .before .before .before .before .before .before .before .before .before .before .before .before .before .before .before .before .before .before .before .before .answer-step .kept .1 .1 .1 .1 .1 .0
 
--- src/stepping.rt:134:1
 same-length-6 : tie.Need-same-length-6
 same-length-6 c = c .before .before .before .before .before .before .before .before .before .before .before .before .before .before .before .before .before .before .before .before .before .before .before .before .before .before .before .before .before .before .before .answer-step .kept .1 .1 .1 .1 .1 .1 .0
 
--- src/stepping.rt:134:1
 same-length-7 : tie.Need-same-length-7
 same-length-7 c = c .before .before .before .before .before .before .before .before .before .before .before .before .before .before .before .before .before .before .before .before .before .before .before .before .before .before .before .before .before .before .before .answer-step .kept .1 .1 .1 .1 .1 .1 .1 .0
 
--- src/stepping.rt:134:1
 same-length-8 : tie.Need-same-length-8
 same-length-8 c = c .before .before .before .before .before .before .before .before .before .before .before .before .before .before .before .before .before .before .before .before .before .before .before .before .before .before .before .before .before .before .before .answer-step .kept .1 .1 .1 .1 .1 .1 .1 .1 .0
 
--- src/stepping.rt:134:1
 same-length-9 : tie.Need-same-length-9
 same-length-9 c = c .before .before .before .before .before .before .before .before .before .before .before .before .before .before .before .before .before .before .before .before .before .before .before .before .before .before .before .before .before .before .before .answer-step .kept .1 .1 .1 .1 .1 .1 .1 .1 .1 .0
 
--- src/stepping.rt:134:1
 same-length-10 : tie.Need-same-length-10
 same-length-10 c = c .before .before .print-step .kept .1 .1 .1 .1 .1 .1 .1 .1 .1 .1 .0
 
--- src/stepping.rt:134:1
 returns : tie.Need-returns
 returns c = search needs
 
