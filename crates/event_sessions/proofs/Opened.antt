@@ -8,6 +8,7 @@ use native.Mathlib.Omega.{arith}
 use lib.Dec.{eqb}
 use types.Run.{OneOf, miss}
 use denote.Enum.Declared.{tagOf}
+use borrow.Author.Tests.{eq-eqb}
 use Rattle.grid_shapes.specs.declared.shape.VersionShape.{VersionShape}
 use Rattle.pool_memory.specs.declared.pool.Pool.{Pool}
 use Rattle.pool_memory.specs.declared.book.PacingBook.{PacingBook}
@@ -118,7 +119,7 @@ module _ (a : Answer) (exit s : SessionState) (e : Event) (copies views : ℕ) (
   unfolding AnsweredAlone SaysOnly
   alone-answers m = m copies views copiesExit viewsExit
 
-  pub stepped-answers : s .opened ≡ true → (after : Lent) → Stepped copies views (sessionOpened (s .taken) (s .shape) (s .lent)) e a copiesExit viewsExit after
+  stepped-answers : s .opened ≡ true → (after : Lent) → Stepped copies views (sessionOpened (s .taken) (s .shape) (s .lent)) e a copiesExit viewsExit after
       → exit ≡ sessionOpened (takenAfter true (s .taken) e) (shapeAfter (s .shape) e) after → Answers
   unfolding Stepped
   stepped-answers o after m x =
@@ -148,10 +149,22 @@ taken-noted taken (Event.Trim now) = refl
 taken-noted taken (Event.Forget id) = refl
 taken-noted taken Event.Unread = refl
 
-pub session-state : (r : Session) (taken : ℕ) (shape : VersionShape) (p : Pool) (b : PacingBook) (e : Event) (textures retiring doomed spares newest stamps : List ℕ)
+session-state : (r : Session) (taken : ℕ) (shape : VersionShape) (p : Pool) (b : PacingBook) (e : Event) (textures retiring doomed spares newest stamps : List ℕ)
     → r ≡ sessionAfter taken shape p b e
     → stateOf r textures retiring doomed spares newest stamps ≡ sessionOpened (takenAfter true (eqb taken 1) e) (shapeAfter shape e) (lent p b textures retiring doomed spares newest stamps)
 unfolding sessionAfter
 session-state r taken shape p b e textures retiring doomed spares newest stamps q =
     ap (λ (x : Session). stateOf x textures retiring doomed spares newest stamps) q
     ∙ ap (λ (t : Bool). sessionOpened t (shapeAfter shape e) (lent p b textures retiring doomed spares newest stamps)) (taken-noted taken e)
+
+-- the answer of a line to an opened session: what the call told, and the state that the session after it stands for
+pub opened-answers : (s : Session) (textures retiring doomed spares newest stamps : List ℕ) (e : Event) (copies views : ℕ) (a : Answer) (copiesExit viewsExit : List ℕ) (p : Pool) (b : PacingBook)
+    (textures′ retiring′ doomed′ spares′ newest′ stamps′ : List ℕ) (next : Session) → s .opened ≡ 1
+    → Stepped copies views (sessionOpened (eqb (s .taken) 1) (s .shape) (lent (s .pool) (s .book) textures retiring doomed spares newest stamps)) e a copiesExit viewsExit (lent p b textures′ retiring′ doomed′ spares′ newest′ stamps′)
+    → next ≡ sessionAfter (s .taken) (s .shape) p b e
+    → InBuffers a copiesExit viewsExit
+    × ((replyTold a copiesExit viewsExit, stateOf next textures′ retiring′ doomed′ spares′ newest′ stamps′) ≡ lineStep copies views (stateOf s textures retiring doomed spares newest stamps) e)
+opened-answers s textures retiring doomed spares newest stamps e copies views a copiesExit viewsExit p b textures′ retiring′ doomed′ spares′ newest′ stamps′ next one m q =
+    stepped-answers a (stateOf next textures′ retiring′ doomed′ spares′ newest′ stamps′) (stateOf s textures retiring doomed spares newest stamps) e copies views copiesExit viewsExit
+    (eq-eqb (s .opened) 1 one) (lent p b textures′ retiring′ doomed′ spares′ newest′ stamps′) m
+    (session-state next (s .taken) (s .shape) p b e textures′ retiring′ doomed′ spares′ newest′ stamps′ q)

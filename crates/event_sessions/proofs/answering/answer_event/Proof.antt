@@ -1,7 +1,8 @@
 -- `answer_event` meets its contract. Assumes nothing.
 use mathlib.Core.Path.{refl}
 use borrow.Author.Tests.{eq-eqb, ne-eqb}
-use Rattle.event_sessions.proofs.Opened.{alone-answers, stepped-answers, session-state}
+use lib.ListN.{length}
+use Rattle.event_sessions.proofs.Opened.{alone-answers, opened-answers}
 use Rattle.event_sessions.proofs.answering.answer_event.Statement.{statement}
 use Rattle.event_sessions.proofs.answering.answer_event.Tie as tie
 
@@ -65,8 +66,8 @@ returns-2 : tie.Need-returns-2
 returns-2 c =
     let a = c .before .before .before .before .before .before .before .before .before .before .before .before .before .before .before .before .before .before .before .before .before .before .before .before .before .before .before .before .before .before .before .before .before .before .before .before .before .before .before .before .before .args in
     let m = c .before .before .before .before .before .before .before .before .before .before .before .before .before .before .before .before .before .before .before .call-event in
-    stepped-answers _ _ _ (a .event) _ _ _ _ (eq-eqb _ 1 (c .before .before .before .before .before .before .before .before .before .before .before .before .before .before .before .before .before .before .before .before .before .before .before .before .before .before .before .before .before .before .before .before .if1 .left)) _ (m .ensures)
-    (session-state _ (a .session .taken) (a .session .shape) _ _ (a .event) _ _ _ _ _ _ (c .session-after .ensures))
+    opened-answers (a .session) (a .textures .now) (a .retiring .now) (a .doomed .now) (a .spares .now) (a .newest .now) (a .stamps .now) (a .event) (length (a .copies .now)) (length (a .views .now)) _ _ _ _ _ _ _ _ _ _ _ _
+    (c .before .before .before .before .before .before .before .before .before .before .before .before .before .before .before .before .before .before .before .before .before .before .before .before .before .before .before .before .before .before .before .before .if1 .left) (m .ensures) (c .session-after .ensures)
 
 pub answer-event-spec : {M : Type 1} → statement M
 answer-event-spec =
