@@ -2,6 +2,12 @@
 ghost use Prim.Native.Nat.{_≤_};
 use crate::fields::read_numbers;
 use crate::fields::word_end;
+use grid_stamps::PAGE_STAMPS;
+use pool_memory::COPY_STRIDE;
+use pool_records::DOOMED_STRIDE;
+use pool_records::RETIRING_STRIDE;
+use pool_records::SPARE_STRIDE;
+use pool_records::TEXTURE_STRIDE;
 
 // More numbers than any slice of a list has.
 const MOST_PLACES: u64 = 65536;
@@ -45,13 +51,13 @@ pub fn lengths_of(line: &[u8]) -> Lengths {
         };
     }
     Lengths {
-        textures: 20 * small(n[0]),
-        retiring: 7 * small(n[1]),
-        doomed: 2 * small(n[1]),
-        spares: 3 * small(n[1]),
+        textures: TEXTURE_STRIDE * small(n[0]),
+        retiring: RETIRING_STRIDE * small(n[1]),
+        doomed: DOOMED_STRIDE * small(n[1]),
+        spares: SPARE_STRIDE * small(n[1]),
         newest: small(n[2]),
-        stamps: 1024 * small(n[2]),
-        copies: 7 * small(n[3]),
+        stamps: PAGE_STAMPS * small(n[2]),
+        copies: COPY_STRIDE * small(n[3]),
         views: small(n[3]),
     }
 }

@@ -1,6 +1,7 @@
 // Lines, list after list.
 ghost use Prim.Native.Nat.{_≤_, _<_};
 ghost use lib.ListN.{length};
+ghost use Rattle.event_answers.specs.Printed.{mostRow};
 use event_text::find_byte;
 use libc::STDIN_FILENO;
 use libc::STDOUT_FILENO;
@@ -58,7 +59,7 @@ fn run_part(
     copy: &mut [u64],
     out: &mut [u8],
 ) -> Session
-    requires { ⌜ 147 ≤ length (now out) ⌝ }
+    requires { ⌜ mostRow ≤ length (now out) ⌝ }
 {
     let lengths = session.lengths;
     let t = least(lengths.textures, textures.len());
@@ -100,7 +101,7 @@ fn run_line(
     copy: &mut [u64],
     out: &mut [u8],
 ) -> Session
-    requires { ⌜ 147 ≤ length (now out) ⌝ }
+    requires { ⌜ mostRow ≤ length (now out) ⌝ }
 {
     if is_head(line) {
         io::write_all(STDOUT_FILENO, line);
@@ -168,7 +169,7 @@ fn run_lines(
     copy: &mut [u64],
     out: &mut [u8],
 )
-    requires { ⌜ 147 ≤ length (now out) ⌝ }
+    requires { ⌜ mostRow ≤ length (now out) ⌝ }
 {
     let mut session = fresh(lengths_of(b"="));
     let mut from = 0;
@@ -207,7 +208,7 @@ pub fn run_all(
     copy: &mut [u64],
     out: &mut [u8],
 )
-    requires { ⌜ 147 ≤ length (now out) ⌝ }
+    requires { ⌜ mostRow ≤ length (now out) ⌝ }
 {
     let to = io::read_full(STDIN_FILENO, input);
     run_lines(

@@ -1,10 +1,12 @@
 // What a line is answered with, and its lines of output.
 ghost use Prim.Native.Nat.{_+_, _≤_};
 ghost use lib.ListN.{length};
+ghost use Rattle.event_answers.specs.Printed.{mostRow};
 use event_answers::Answer;
 use event_answers::put_answer;
 use event_text::put_text;
 use libc::STDOUT_FILENO;
+use pool_memory::COPY_STRIDE;
 use test_pool_calls::QueryAnswer;
 use test_pool_memory::least;
 use test_pool_memory::put_digits;
@@ -33,7 +35,7 @@ fn put_views(out: &mut [u8], number: u64, n: usize, copies: &[u64], views: &[u64
 
 // Puts an answer of n copies, if they are there and have room, and returns where it ends.
 fn put_copies(out: &mut [u8], number: u64, n: usize, copies: &[u64], views: &[u64]) -> usize {
-    if copies.len() / 7 < n {
+    if copies.len() / COPY_STRIDE < n {
         return 0;
     }
     if out.len() / MOST_ROW <= n {
@@ -44,7 +46,7 @@ fn put_copies(out: &mut [u8], number: u64, n: usize, copies: &[u64], views: &[u6
 
 // Puts an event's answer and returns where it ends.
 fn put_event(out: &mut [u8], number: u64, answer: Answer, copies: &[u64], views: &[u64]) -> usize
-    requires { ⌜ 147 ≤ length (now out) ⌝ }
+    requires { ⌜ mostRow ≤ length (now out) ⌝ }
 {
     match answer {
         Answer::Views(n) => put_views(out, number, n, copies, views),
@@ -84,7 +86,7 @@ fn put_told(out: &mut [u8], at: usize, told: u64) -> usize
 
 // Puts a query's answer and returns where it ends.
 fn put_query(out: &mut [u8], number: u64, answer: QueryAnswer) -> usize
-    requires { ⌜ 147 ≤ length (now out) ⌝ }
+    requires { ⌜ mostRow ≤ length (now out) ⌝ }
 {
     let at = put_digits(out, 0, number);
     match answer {
@@ -105,7 +107,7 @@ fn print(out: &[u8], filled: usize) {
 
 // Prints whether everything lent is as it was before the call.
 fn print_same(out: &mut [u8], number: u64, same: bool)
-    requires { ⌜ 147 ≤ length (now out) ⌝ }
+    requires { ⌜ mostRow ≤ length (now out) ⌝ }
 {
     let at = put_digits(out, 0, number);
     if same {
@@ -136,7 +138,7 @@ fn is_refused(answer: Answer) -> bool {
 
 // Puts a reply and returns where it ends.
 fn put_reply(out: &mut [u8], number: u64, reply: Reply, copies: &[u64], views: &[u64]) -> usize
-    requires { ⌜ 147 ≤ length (now out) ⌝ }
+    requires { ⌜ mostRow ≤ length (now out) ⌝ }
 {
     match reply {
         Reply::Silent => 0,
@@ -154,7 +156,7 @@ pub fn print_reply(
     copies: &[u64],
     views: &[u64],
 )
-    requires { ⌜ 147 ≤ length (now out) ⌝ }
+    requires { ⌜ mostRow ≤ length (now out) ⌝ }
 {
     let end = put_reply(out, number, reply, copies, views);
     print(out, end);

@@ -1,6 +1,7 @@
 // One line run on as much of the memory as its list lends.
 ghost use Prim.Native.Nat.{_≤_};
 ghost use lib.ListN.{length};
+ghost use Rattle.event_answers.specs.Printed.{mostRow};
 use crate::answering::Answered;
 use crate::answering::answer_line;
 use crate::reply::print_reply;
@@ -62,7 +63,7 @@ fn print_step(
     copy: &[u64],
     out: &mut [u8],
 ) -> Session
-    requires { ⌜ 147 ≤ length (now out) ⌝ }
+    requires { ⌜ mostRow ≤ length (now out) ⌝ }
 {
     let after = answered.session;
     let pool = after.pool;
@@ -146,7 +147,7 @@ fn call_step(
     own: OwnLine,
     text: &[u8],
 ) -> Session
-    requires { ⌜ 147 ≤ length (now out) ⌝ }
+    requires { ⌜ mostRow ≤ length (now out) ⌝ }
 {
     let answered = answer_step(
         session,
@@ -192,7 +193,7 @@ pub fn run_step(
     copy: &mut [u64],
     out: &mut [u8],
 ) -> Session
-    requires { ⌜ 147 ≤ length (now out) ⌝ }
+    requires { ⌜ mostRow ≤ length (now out) ⌝ }
 {
     let read = read_own(text);
     let own = read.line;
