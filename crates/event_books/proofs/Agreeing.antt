@@ -7,7 +7,7 @@ use Rattle.pool_books.specs.Texels.{Texel}
 use Rattle.pool_books.specs.VersionBook.{Book, liveOf}
 use Rattle.pool_books.specs.Demand3.{Agrees}
 use Rattle.event_lines.specs.declared.event.Event.{Event}
-use Rattle.event_books.specs.EventLists.{Room, Opened, next, afterLines, Agree, AgreeThroughout, plainOf, Compared, AgreeAtTexels}
+use Rattle.event_books.specs.EventLists.{Room, Opened, next, afterEvents, Agree, AgreeThroughout, plainOf, Compared, AgreeAtTexels}
 
 book-agrees : (b : Option Book) → Agrees b → (t : Texel) → Compared b t → liveOf b t ≡ plainOf b t
 unfolding Agrees
@@ -21,11 +21,11 @@ agree-at-texels (some o) a id t c = book-agrees (o .books .books id) (a id) t c
 
 module _ (room : Room) where
   pub throughout-none : (o : Option Opened) → Agree o → AgreeThroughout room o []
-  unfolding AgreeThroughout afterLines
+  unfolding AgreeThroughout afterEvents
   throughout-none o a zero = a
   throughout-none o a (suc k) = a
 
   pub throughout-more : (o : Option Opened) (e : Event) (es : List Event) → Agree o → AgreeThroughout room (next room o e) es → AgreeThroughout room o (e ∷ es)
-  unfolding AgreeThroughout afterLines
+  unfolding AgreeThroughout afterEvents
   throughout-more o e es a t zero = a
   throughout-more o e es a t (suc k) = t k

@@ -36,7 +36,7 @@ use Rattle.event_runs.specs.Texts.{inLastLine, lastLine, ifAny, allLines}
 use Rattle.pool_books.specs.Texels.{inRect, inWrite, isWhole}
 use Rattle.pool_books.specs.VersionBook.{put, changeBook, startBook, bookWrite, bookRegeneration, copied, inCopy, skipped, notCopied}
 use Rattle.pool_books.specs.Sample.{flatShape}
-use Rattle.event_books.specs.EventLists.{afterLines, events, workingOf, callOf, opening, openingReply, InRenames, replies, repliesText}
+use Rattle.event_books.specs.EventLists.{afterEvents, events, workingOf, callOf, opening, openingReply, InRenames, replies, repliesText}
 use Rattle.event_books.specs.Bytes.{bytes}
 use Rattle.event_books.specs.Witnesses.{programRoom, textOf, eventsOf, outputOf, flatTexel}
 use Rattle.event_books.specs.AllCalls.{allCalls, AllCallsHold, AllCallsNumbers}
@@ -58,7 +58,7 @@ pub all-calls-hold : AllCallsHold
 all-calls-hold = witness allCalls all-calls-events all-calls-renames all-calls-replies
 
 pub all-calls-numbers : AllCallsNumbers
-unfolding afterLines allCalls copied inCopy skipped notCopied inRect inWrite isWhole noteMipRegeneration noteAllocated takeDoomed drainVersions trim forgetTexture coverMore agedCount insertAged byAge picked countOf resumeBelow regenerateFrom stampRegeneration put changeBook startBook bookWrite bookRegeneration takeSpare preservePlan retire noteWrite popRetired park guard find pagesOf change insert gridAt newHistory stampWrite boxCopy copyOf copies budgetOf isShape sameShape slicesOf levelExtent levelWidth levelHeight levelDepth levelBytes bytesOf blockEdge blockBytes wholeLevel tileEdge axisOf tilesOf cutEnd isCut touched oneTile widened spanAround spanStart spanSize tilingOf columnsOf rowsOf stampCount newGrid rowByRow stampOf touches isCutRect stampedBy dirtyTiles boxOf boxAround boxSince listed total keep tests afterIf ceilDiv flatMap afterTake afterPlan afterRetire renameIn marking stepBetween step start callOf workingOf opening flatShape
+unfolding afterEvents allCalls copied inCopy skipped notCopied inRect inWrite isWhole noteMipRegeneration noteAllocated takeDoomed drainVersions trim forgetTexture coverMore agedCount insertAged byAge picked countOf resumeBelow regenerateFrom stampRegeneration put changeBook startBook bookWrite bookRegeneration takeSpare preservePlan retire noteWrite popRetired park guard find pagesOf change insert gridAt newHistory stampWrite boxCopy copyOf copies budgetOf isShape sameShape slicesOf levelExtent levelWidth levelHeight levelDepth levelBytes bytesOf blockEdge blockBytes wholeLevel tileEdge axisOf tilesOf cutEnd isCut touched oneTile widened spanAround spanStart spanSize tilingOf columnsOf rowsOf stampCount newGrid rowByRow stampOf touches isCutRect stampedBy dirtyTiles boxOf boxAround boxSince listed total keep tests afterIf ceilDiv flatMap afterTake afterPlan afterRetire renameIn marking stepBetween step start callOf workingOf opening flatShape
 all-calls-numbers = record {
   refused-rename = number-is allCalls 10 7 (flatTexel 0 7 7) 1 (record { slice = lit< tt; level = lit< tt; x = lit< tt; y = lit< tt; z = lit< tt }, refl) refl;
   copied-level = number-is allCalls 13 7 (flatTexel 1 0 0) 0 (record { slice = lit< tt; level = lit< tt; x = lit< tt; y = lit< tt; z = lit< tt }, refl) refl;

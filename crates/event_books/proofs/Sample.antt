@@ -31,7 +31,7 @@ use Rattle.event_runs.specs.Texts.{inLastLine, lastLine, ifAny, allLines}
 use Rattle.pool_books.specs.Texels.{inRect, inWrite, isWhole}
 use Rattle.pool_books.specs.VersionBook.{put, changeBook, startBook, bookWrite, bookRegeneration, copied, inCopy, skipped, notCopied}
 use Rattle.pool_books.specs.Sample.{flatShape}
-use Rattle.event_books.specs.EventLists.{afterLines, events, workingOf, callOf, opening, openingReply, InRenames, replies, repliesText}
+use Rattle.event_books.specs.EventLists.{afterEvents, events, workingOf, callOf, opening, openingReply, InRenames, replies, repliesText}
 use Rattle.event_books.specs.Bytes.{bytes}
 use Rattle.event_books.specs.Witnesses.{programRoom, textOf, eventsOf, outputOf, flatTexel}
 use Rattle.event_books.specs.Sample.{sampleLines, SampleHolds, SampleNumbers}
@@ -53,7 +53,7 @@ pub sample-holds : SampleHolds
 sample-holds = witness sampleLines sample-events sample-renames sample-replies
 
 pub sample-numbers : SampleNumbers
-unfolding afterLines sampleLines put changeBook startBook bookWrite bookRegeneration copied inCopy skipped notCopied inRect inWrite isWhole takeSpare preservePlan retire noteWrite popRetired park guard find pagesOf change insert gridAt newHistory stampWrite boxCopy copyOf copies budgetOf isShape sameShape slicesOf levelExtent levelWidth levelHeight levelDepth levelBytes bytesOf blockEdge blockBytes wholeLevel tileEdge axisOf tilesOf cutEnd isCut touched oneTile widened spanAround spanStart spanSize tilingOf columnsOf rowsOf stampCount newGrid rowByRow stampOf touches isCutRect stampedBy dirtyTiles boxOf boxAround boxSince listed total keep tests afterIf ceilDiv flatMap afterTake afterPlan afterRetire renameIn marking stepBetween step start callOf workingOf opening flatShape
+unfolding afterEvents sampleLines put changeBook startBook bookWrite bookRegeneration copied inCopy skipped notCopied inRect inWrite isWhole takeSpare preservePlan retire noteWrite popRetired park guard find pagesOf change insert gridAt newHistory stampWrite boxCopy copyOf copies budgetOf isShape sameShape slicesOf levelExtent levelWidth levelHeight levelDepth levelBytes bytesOf blockEdge blockBytes wholeLevel tileEdge axisOf tilesOf cutEnd isCut touched oneTile widened spanAround spanStart spanSize tilingOf columnsOf rowsOf stampCount newGrid rowByRow stampOf touches isCutRect stampedBy dirtyTiles boxOf boxAround boxSince listed total keep tests afterIf ceilDiv flatMap afterTake afterPlan afterRetire renameIn marking stepBetween step start callOf workingOf opening flatShape
 sample-numbers = record {
   inside = number-is sampleLines 5 7 (flatTexel 0 20 5) 1 (record { slice = lit< tt; level = lit< tt; x = lit< tt; y = lit< tt; z = lit< tt }, refl) refl;
   beside = number-is sampleLines 5 7 (flatTexel 0 19 5) 0 (record { slice = lit< tt; level = lit< tt; x = lit< tt; y = lit< tt; z = lit< tt }, refl) refl;

@@ -13,7 +13,7 @@ use Rattle.pool_memory.specs.Reading.{modelOf}
 use Rattle.pool_memory.specs.IsPool.{sizesFit}
 use Rattle.pool_books.specs.Sample.{sampleLent}
 use Rattle.pool_books.specs.Texels.{Texel}
-use Rattle.event_books.specs.EventLists.{afterLines, InRenames, replies, repliesText, AgreeThroughout, plainOf, Compared, AgreeAtTexels, events, fresh, freshRoom, Demand3Text}
+use Rattle.event_books.specs.EventLists.{afterEvents, InRenames, replies, repliesText, AgreeThroughout, plainOf, Compared, AgreeAtTexels, events, fresh, freshRoom, Demand3Text}
 use Rattle.event_books.specs.Witnesses.{ProgramStores, programCopies, programViews, programRoom, Line, textOf, eventsOf, outputOf, Holds, Witness, bookAfterLines, NumberIs}
 use Rattle.event_books.proofs.Agreeing.{agree-at-texels}
 use Rattle.event_books.proofs.Demand3Text.{demand3-text}
@@ -53,5 +53,5 @@ pub number-is : (lines : List Line) (k id : ℕ) (t : Texel) (n : ℕ) → Compa
 unfolding AgreeAtTexels AgreeThroughout
 number-is lines k id t n c p = record {
   plain = p;
-  live = λ a. agree-at-texels (afterLines programRoom none (take k (eventsOf lines))) (a k) id t c ∙ p;
+  live = λ a. agree-at-texels (afterEvents programRoom none (take k (eventsOf lines))) (a k) id t c ∙ p;
 }

@@ -148,9 +148,9 @@ module _ (room : Room) where
   MayStand (some o) e = MayCall (o .books) (callOfLine o e)
 
   -- lines, one after the other
-  unfoldable pub afterLines : Option Opened → List Event → Option Opened
-  afterLines o [] = o
-  afterLines o (e ∷ es) = afterLines (next o e) es
+  unfoldable pub afterEvents : Option Opened → List Event → Option Opened
+  afterEvents o [] = o
+  afterEvents o (e ∷ es) = afterEvents (next o e) es
 
   unfoldable pub replies : Option Opened → List Event → List (Option Reply)
   replies o [] = []
@@ -175,7 +175,7 @@ Agree (some o) = (id : ℕ) → Agrees (o .books .books id)
 
 -- after the first k lines, for every k
 unfoldable pub AgreeThroughout : Room → Option Opened → List Event → Type 0
-AgreeThroughout room o es = (k : ℕ) → Agree (afterLines room o (take k es))
+AgreeThroughout room o es = (k : ℕ) → Agree (afterEvents room o (take k es))
 
 -- ---- the same of one texel, in full
 

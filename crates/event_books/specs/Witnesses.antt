@@ -16,7 +16,7 @@ use Rattle.pool_books.specs.VersionBook.{Book, liveOf}
 use Rattle.event_lines.specs.declared.event.Event.{Event}
 use Rattle.event_runs.specs.Texts.{textOutput}
 use Rattle.event_books.specs.Bytes.{bytes}
-use Rattle.event_books.specs.EventLists.{Room, afterLines, InRenames, AgreeThroughout, bookOf, plainOf, events, fresh, Claim}
+use Rattle.event_books.specs.EventLists.{Room, afterEvents, InRenames, AgreeThroughout, bookOf, plainOf, events, fresh, Claim}
 
 -- ---- the event program: "lends 8 textures, 64 versions, 6 pages, answers of 90 entries"
 
@@ -75,7 +75,7 @@ pub record Witness (lines : List Line) : Type 0 where
 -- ---- a texel's number after the first k lines: the plain book's is computed, and the claim makes it the live version's
 
 abbrev pub bookAfterLines : List Line → ℕ → ℕ → Option Book
-bookAfterLines lines k id = bookOf (afterLines programRoom none (take k (eventsOf lines))) id
+bookAfterLines lines k id = bookOf (afterEvents programRoom none (take k (eventsOf lines))) id
 
 pub record NumberIs (lines : List Line) (k id : ℕ) (t : Texel) (n : ℕ) : Type 0 where
   pub plain : plainOf (bookAfterLines lines k id) t ≡ some n
