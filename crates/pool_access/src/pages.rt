@@ -3,8 +3,8 @@ ghost use mathlib.Core.Path.{_≡_};
 ghost use Prim.Native.Nat.{_+_, _*_, _≤_};
 ghost use lib.ListN.{length};
 ghost use Rattle.base_blocks.specs.Lists.{total};
-ghost use Rattle.pool_rules.specs.Model.{pagesOf};
-ghost use Rattle.pool_records.specs.Texture.{textureIn, texturesIn, recordPages};
+ghost use Rattle.pool_rules.specs.Model.{gridCount};
+ghost use Rattle.pool_records.specs.Texture.{textureIn, texturesIn, recordGrids};
 ghost use Rattle.pool_records.specs.RecordConstants.{textureStride};
 ghost use Rattle.pool_rules.specs.RuleConstants.{mostPlaces};
 use grid_shapes::VersionShape;
@@ -18,16 +18,16 @@ use pool_records::TextureRecord;
 
 // Returns how many pages a history of the shape takes: one for each slice and level, since each has a grid of its own.
 pub fn shape_pages(shape: VersionShape) -> usize
-    requires { ⌜ pagesOf shape ≤ mostPlaces ⌝ }
-    ensures { λ r. ⌜ r ≡ pagesOf shape ⌝ }
+    requires { ⌜ gridCount shape ≤ mostPlaces ⌝ }
+    ensures { λ r. ⌜ r ≡ gridCount shape ⌝ }
 {
     (slices(shape) * shape.levels) as usize
 }
 
 // Returns how many pages a texture's record claims: those of its shape, or none if it keeps no history.
 pub fn history_pages(t: TextureRecord) -> usize
-    requires { ⌜ recordPages t ≤ mostPlaces ⌝ }
-    ensures { λ r. ⌜ r ≡ recordPages t ⌝ }
+    requires { ⌜ recordGrids t ≤ mostPlaces ⌝ }
+    ensures { λ r. ⌜ r ≡ recordGrids t ⌝ }
 {
     let history = t.history;
     match history {
@@ -38,8 +38,8 @@ pub fn history_pages(t: TextureRecord) -> usize
 
 // Returns how many pages record i of the textures' slice claims. Three of its numbers tell: history, kind and levels.
 pub fn pages_at(textures: &[u64], i: usize) -> usize
-    requires { ⌜ (textureStride * i + textureStride ≤ length (now textures)) × (recordPages (textureIn (now textures) i) ≤ mostPlaces) ⌝ }
-    ensures { λ r. ⌜ r ≡ recordPages (textureIn (now (textures .entry)) i) ⌝ }
+    requires { ⌜ (textureStride * i + textureStride ≤ length (now textures)) × (recordGrids (textureIn (now textures) i) ≤ mostPlaces) ⌝ }
+    ensures { λ r. ⌜ r ≡ recordGrids (textureIn (now (textures .entry)) i) ⌝ }
 {
     if textures[TEXTURE_STRIDE * i + TEXTURE_HISTORY_AT] == 0 {
         return 0;
@@ -53,8 +53,8 @@ pub fn pages_at(textures: &[u64], i: usize) -> usize
 
 // Counts the pages that the first i textures claim, which is where those of texture i begin.
 pub fn pages_before(textures: &[u64], i: usize) -> usize
-    requires { ⌜ (textureStride * i ≤ length (now textures)) × (total recordPages (texturesIn i (now textures)) ≤ mostPlaces) ⌝ }
-    ensures { λ r. ⌜ r ≡ total recordPages (texturesIn i (now (textures .entry))) ⌝ }
+    requires { ⌜ (textureStride * i ≤ length (now textures)) × (total recordGrids (texturesIn i (now textures)) ≤ mostPlaces) ⌝ }
+    ensures { λ r. ⌜ r ≡ total recordGrids (texturesIn i (now (textures .entry))) ⌝ }
 {
     let mut sum = 0;
     let mut j = 0;

@@ -10,7 +10,7 @@ use Rattle.grid_shapes.specs.declared.shape.VersionShape.{VersionShape}
 use Rattle.grid_shapes.specs.Shapes.{sameShape, bytesOf}
 use Rattle.grid_rects.specs.declared.rect.TexelRect.{TexelRect}
 use Rattle.pool_rules.specs.declared.held.Held.{Held}
-use Rattle.pool_rules.specs.Model.{WriteHistory, Spare, Retiring, Doomed, VersionState, PoolModel, Out, refused, accepted, guard, find, handCount, versionsUsed, pagesOf, pagesUsed, doomedBytes, PreserveCopy, UploadFootprint}
+use Rattle.pool_rules.specs.Model.{WriteHistory, Spare, Retiring, Doomed, VersionState, PoolModel, Out, refused, accepted, guard, find, handCount, versionsUsed, gridCount, gridsUsed, doomedBytes, PreserveCopy, UploadFootprint}
 use Rattle.pool_rules.specs.Updates.{withHistory, withSpares, withBirth, withRename, withTextures, withRetiring, withTrackings, withParked, withDoomed, change, insert, doom, asDoomed, doomSpares}
 use Rattle.pool_rules.specs.Histories.{written, regenerated, spent}
 use Rattle.pool_rules.specs.TakeSpare.{newState, historyFull, newest, others, takenBytes, takeNew, takeRenewed, takeTracked, takeFound, takeSpare}
@@ -98,7 +98,7 @@ module _ {W X : Type 0} (f : W → X) where
   module _ (p : PoolModel W) where
     full-map : (sh : VersionShape) (records : Bool) (own : ℕ) → historyFull (mapPool f p) sh records own ≡ historyFull p sh records own
     full-map sh records own =
-        λ i. records && ltb (p .places .pages + own) (map-total (mapState f) pagesUsed pagesUsed (λ t. refl) (p .textures) i + pagesOf sh)
+        λ i. records && ltb (p .places .pages + own) (map-total (mapState f) gridsUsed gridsUsed (λ t. refl) (p .textures) i + gridCount sh)
 
     pub take-map : (id : ℕ) (sh : VersionShape) (records : Bool) (seq : ℕ) → Carried spareOf (takeSpare p id sh records seq) (takeSpare (mapPool f p) id sh records seq)
     unfolding takeSpare
@@ -123,7 +123,7 @@ module _ {W X : Type 0} (f : W → X) where
 
         renewed : (t : VersionState W) → Carried spareOf (takeRenewed p id sh records seq t) (takeRenewed (mapPool f p) id sh records seq (mapState f t))
         renewed t =
-            guard-eq _ _ 6 (full-map sh records (pagesUsed t))
+            guard-eq _ _ 6 (full-map sh records (gridsUsed t))
             (guard-eq _ _ 12 refl
             (alike refl
             (λ i. withTrackings (suc (p .trackings))

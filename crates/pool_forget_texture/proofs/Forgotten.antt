@@ -16,7 +16,7 @@ use Rattle.pool_rules.specs.Updates.{withTextures, asDoomed, doomSpares}
 use Rattle.pool_rules.specs.ForgetTexture.{forgetTexture}
 use Rattle.pool_rules.proofs.Moves.{as-doomed-bytes, as-doomed-length}
 use Rattle.pool_records.specs.Doomed.{writeDoomed}
-use Rattle.pool_records.specs.Texture.{readTexture, textureIn, recordPages, sparesTo}
+use Rattle.pool_records.specs.Texture.{readTexture, textureIn, recordGrids, sparesTo}
 use Rattle.pool_records.specs.Find.{idOf, hasId}
 use Rattle.pool_memory.specs.declared.pool.Pool.{Pool as Counts}
 use Rattle.pool_memory.specs.Lent.{Lent, lent, versionPlaces}
@@ -75,7 +75,7 @@ module _ (l : Lent) (f : Fits l) (i : ℕ) (h : i < l .pool .tracked) where
   owned-fits = (
     omega (arith, textures-fit l f),
     omega (arith, total-next textureStride readTexture (λ t. t .spares) T i, spares-within l i h f, f .versions, f .most),
-    omega (arith, total-next textureStride readTexture recordPages T i, pages-within l i h f, f .pages, f .newest),
+    omega (arith, total-next textureStride readTexture recordGrids T i, pages-within l i h f, f .pages, f .newest),
   )
 
   module _ (own : Owned) (e : own ≡ ownedAt T i) where
@@ -91,7 +91,7 @@ module _ (l : Lent) (f : Fits l) (i : ℕ) (h : i < l .pool .tracked) where
     unfolding ownedAt
     page-is = ap (λ (o : Owned). o .page) e
 
-    pages-is : own .pages ≡ recordPages (textureIn T i)
+    pages-is : own .pages ≡ recordGrids (textureIn T i)
     unfolding ownedAt
     pages-is = ap (λ (o : Owned). o .pages) e
 
@@ -102,7 +102,7 @@ module _ (l : Lent) (f : Fits l) (i : ℕ) (h : i < l .pool .tracked) where
     pub own-spares : own .first + own .spares ≤ l .pool .kept
     own-spares = omega (arith, first-is, spares-is, spares-within l i h f)
 
-    pub own-pages : own .page + own .pages ≤ l .pool .pages
+    pub own-pages : own .page + own .pages ≤ l .pool .grids
     own-pages = omega (arith, page-is, pages-is, pages-within l i h f)
 
     pub push-fits : (doomedStride * places l ≤ length (l .doomed)) × (l .pool .first < places l) × (l .pool .doomed + own .spares ≤ places l)
@@ -118,7 +118,7 @@ module _ (l : Lent) (f : Fits l) (i : ℕ) (h : i < l .pool .tracked) where
         let least = total-get spareBytes (modelOf l .textures) i (stateOf l 0) (omega (arith, tracked-model l)) in
         omega (arith, same, ap spareBytes (model-at l i (stateOf l 0) h), least, f .formed .parked)
 
-    pub counts-fit : (1 ≤ l .pool .tracked) × (own .spares ≤ l .pool .kept) × (own .pages ≤ l .pool .pages) × (l .pool .doomed + own .spares ≤ mostPlaces)
+    pub counts-fit : (1 ≤ l .pool .tracked) × (own .spares ≤ l .pool .kept) × (own .pages ≤ l .pool .grids) × (l .pool .doomed + own .spares ≤ mostPlaces)
         × (l .pool .since ≤ mostPlaces) × (own .bytes * own .spares ≤ l .pool .parked) × (l .pool .dooming + own .bytes * own .spares < 2 ^ 64)
     unfolding modelOf
     counts-fit =
@@ -163,7 +163,7 @@ module _ (l : Lent) (f : Fits l) (i : ℕ) (h : i < l .pool .tracked) where
     tracked = sym (tracked-removed l left i 1 (omega arith) refl) j;
     kept = sym (kept-removed l left (f .kept) (firstSpare l i) (sparesAt l i) spares-there (every-removed l i h)
         ∙ ap (λ (n : ℕ). l .pool .kept - n) own-spares-are) j;
-    pages = sym (used-removed l left (f .claimed) i h refl ∙ ap (λ (n : ℕ). l .pool .pages - n) (ap recordPages (record-read l i h))) j;
+    pages = sym (used-removed l left (f .claimed) i h refl ∙ ap (λ (n : ℕ). l .pool .grids - n) (ap recordGrids (record-read l i h))) j;
     head = sym (head-stays l left (f .head) (omega (arith, hand-model l (f .hand)))) j;
     popped = sym (hand-model l (f .hand)) j;
     queued = sym (queued-model l) j;
@@ -191,18 +191,18 @@ module _ (l : Lent) (f : Fits l) (i : ℕ) (h : i < l .pool .tracked) where
       ∙ spares-removed l left (f .kept) (omega (arith, f .spares, f .versions)) (firstSpare l i) (sparesAt l i)
       spares-there (every-removed l i h)
 
-  newest-left : moved (l .newest) (pagesTo T i) (pagesTo T i + recordPages (textureIn T i))
-      (l .pool .pages - (pagesTo T i + recordPages (textureIn T i)))
+  newest-left : moved (l .newest) (pagesTo T i) (pagesTo T i + recordGrids (textureIn T i))
+      (l .pool .grids - (pagesTo T i + recordGrids (textureIn T i)))
       ≡ newestAfter left l
   newest-left =
-      sym (ap₂ (λ (k n : ℕ). moved (l .newest) k (k + n) (l .pool .pages - (k + n))) (pages-to l i h) (ap recordPages (record-read l i h)))
+      sym (ap₂ (λ (k n : ℕ). moved (l .newest) k (k + n) (l .pool .grids - (k + n))) (pages-to l i h) (ap recordGrids (record-read l i h)))
       ∙ newest-removed l left (f .claimed) i h refl (f .pages)
 
-  stamps-left : moved (l .stamps) (pageStamps * pagesTo T i) (pageStamps * pagesTo T i + pageStamps * recordPages (textureIn T i))
-      (pageStamps * (l .pool .pages - (pagesTo T i + recordPages (textureIn T i)))) ≡ stampsAfter left l
+  stamps-left : moved (l .stamps) (pageStamps * pagesTo T i) (pageStamps * pagesTo T i + pageStamps * recordGrids (textureIn T i))
+      (pageStamps * (l .pool .grids - (pagesTo T i + recordGrids (textureIn T i)))) ≡ stampsAfter left l
   stamps-left =
-      sym (ap₂ (λ (k n : ℕ). moved (l .stamps) (pageStamps * k) (pageStamps * k + pageStamps * n) (pageStamps * (l .pool .pages - (k + n)))) (pages-to l i h)
-      (ap recordPages (record-read l i h)))
+      sym (ap₂ (λ (k n : ℕ). moved (l .stamps) (pageStamps * k) (pageStamps * k + pageStamps * n) (pageStamps * (l .pool .grids - (k + n)))) (pages-to l i h)
+      (ap recordGrids (record-read l i h)))
       ∙ stamps-removed l left (f .claimed) i h refl (ids-ascend l f) (omega (arith, f .stamps, f .pages))
 
   book-left : l .book ≡ pacingAfter left
@@ -215,8 +215,8 @@ module _ (l : Lent) (f : Fits l) (i : ℕ) (h : i < l .pool .tracked) where
       → doomed ≡ laid doomedStride writeDoomed (places l) (l .pool .first) (l .pool .doomed) (givenRecords (l .spares) (own .bytes) (own .first) (own .spares))
       (l .doomed)
       → spares ≡ moved (l .spares) (spareStride * own .first) (spareStride * own .first + spareStride * own .spares) (spareStride * (l .pool .kept - (own .first + own .spares)))
-      → newest ≡ moved (l .newest) (own .page) (own .page + own .pages) (l .pool .pages - (own .page + own .pages))
-      → stamps ≡ moved (l .stamps) (pageStamps * own .page) (pageStamps * own .page + pageStamps * own .pages) (pageStamps * (l .pool .pages - (own .page + own .pages)))
+      → newest ≡ moved (l .newest) (own .page) (own .page + own .pages) (l .pool .grids - (own .page + own .pages))
+      → stamps ≡ moved (l .stamps) (pageStamps * own .page) (pageStamps * own .page + pageStamps * own .pages) (pageStamps * (l .pool .grids - (own .page + own .pages)))
       → lent c (l .book) textures (l .retiring) doomed spares newest stamps ≡ lentAfter left l
   unfolding ownedAt versionPlaces
   left-behind own e c textures doomed spares newest stamps e1 e2 e3 e4 e5 e6 =
@@ -230,9 +230,9 @@ module _ (l : Lent) (f : Fits l) (i : ℕ) (h : i < l .pool .tracked) where
       ∙ doomed-left)
       (e4 ∙ ap (λ (o : Owned). moved (l .spares) (spareStride * o .first) (spareStride * o .first + spareStride * o .spares) (spareStride * (l .pool .kept - (o .first + o .spares)))) e
       ∙ spares-left)
-      (e5 ∙ ap (λ (o : Owned). moved (l .newest) (o .page) (o .page + o .pages) (l .pool .pages - (o .page + o .pages))) e ∙ newest-left)
+      (e5 ∙ ap (λ (o : Owned). moved (l .newest) (o .page) (o .page + o .pages) (l .pool .grids - (o .page + o .pages))) e ∙ newest-left)
       (e6 ∙ ap (λ (o : Owned). moved (l .stamps) (pageStamps * o .page) (pageStamps * o .page + pageStamps * o .pages)
-      (pageStamps * (l .pool .pages - (o .page + o .pages)))) e ∙ stamps-left)
+      (pageStamps * (l .pool .grids - (o .page + o .pages)))) e ∙ stamps-left)
 
 -- ---- the call
 

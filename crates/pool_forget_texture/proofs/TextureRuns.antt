@@ -6,7 +6,7 @@ use native.Mathlib.Omega.{arith}
 use Rattle.base_blocks.specs.Lists.{listed}
 use Rattle.grid_shapes.specs.Shapes.{bytesOf}
 use Rattle.grid_shapes.proofs.ShapeBytes.{bytes-bound}
-use Rattle.pool_records.specs.Texture.{readTexture, textureIn, recordPages, sparesTo}
+use Rattle.pool_records.specs.Texture.{readTexture, textureIn, recordGrids, sparesTo}
 use Rattle.pool_memory.specs.Lent.{Lent}
 use Rattle.pool_memory.specs.Reading.{spareRead, stateRead}
 use Rattle.pool_memory.proofs.Fits.{Fits}
@@ -28,8 +28,8 @@ module _ (l : Lent) (i : ℕ) (h : i < l .pool .tracked) where
     pub spares-within : sparesTo (l .textures) i + textureIn (l .textures) i .spares ≤ l .pool .kept
     spares-within = omega (arith, f .kept, total-with textureStride readTexture sparesOf (l .textures) i (l .pool .tracked) h)
 
-    pub pages-within : pagesTo (l .textures) i + recordPages (textureIn (l .textures) i) ≤ l .pool .pages
-    pages-within = omega (arith, f .claimed, total-with textureStride readTexture recordPages (l .textures) i (l .pool .tracked) h)
+    pub pages-within : pagesTo (l .textures) i + recordGrids (textureIn (l .textures) i) ≤ l .pool .grids
+    pages-within = omega (arith, f .claimed, total-with textureStride readTexture recordGrids (l .textures) i (l .pool .tracked) h)
 
     -- what its spares take
     pub bytes-within : bytesOf (textureIn (l .textures) i .shape) * textureIn (l .textures) i .spares ≤ mostShapeBytes * mostPlaces

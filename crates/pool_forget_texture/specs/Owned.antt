@@ -3,19 +3,19 @@ use Prim.Native.Nat.{ℕ, _+_, _-_, _*_}
 use mathlib.Core.List.{List}
 use Rattle.base_blocks.specs.Lists.{total}
 use Rattle.pool_records.specs.declared.texture.TextureRecord.{TextureRecord}
-use Rattle.pool_records.specs.Texture.{textureIn, texturesIn, recordPages, sparesTo}
+use Rattle.pool_records.specs.Texture.{textureIn, texturesIn, recordGrids, sparesTo}
 use Rattle.pool_memory.specs.declared.pool.Pool.{Pool as Counts}
 use Rattle.pool_forget_texture.specs.declared.owned.Owned.{Owned}
 
 abbrev pub pagesTo : List ℕ → ℕ → ℕ
-pagesTo textures i = total recordPages (texturesIn i textures)
+pagesTo textures i = total recordGrids (texturesIn i textures)
 
 unfoldable pub ownedAt : List ℕ → ℕ → Owned
 ownedAt textures i = record {
   first = sparesTo textures i;
   spares = textureIn textures i .spares;
   page = pagesTo textures i;
-  pages = recordPages (textureIn textures i);
+  pages = recordGrids (textureIn textures i);
   bytes = textureIn textures i .bytes;
 }
 

@@ -3,7 +3,7 @@ ghost use mathlib.Core.Path.{_≡_};
 ghost use Prim.Native.Nat.{_+_, _*_, _≤_, _<_, _^_};
 ghost use lib.ListN.{length};
 ghost use Rattle.base_blocks.specs.Lists.{total};
-ghost use Rattle.pool_records.specs.Texture.{texturesIn, recordPages};
+ghost use Rattle.pool_records.specs.Texture.{texturesIn, recordGrids};
 ghost use Rattle.pool_forget_texture.specs.Owned.{ownedAt, without};
 ghost use Rattle.pool_records.specs.RecordConstants.{textureStride};
 ghost use Rattle.pool_rules.specs.RuleConstants.{mostPlaces};
@@ -26,7 +26,7 @@ pub struct Owned {
 pub fn owned_at(textures: &[u64], i: usize) -> Owned
     requires { ⌜ (textureStride * i + textureStride ≤ length (now textures))
         × (total (λ t. t .spares) (texturesIn (i + 1) (now textures)) ≤ mostPlaces)
-        × (total recordPages (texturesIn (i + 1) (now textures)) ≤ mostPlaces) ⌝ }
+        × (total recordGrids (texturesIn (i + 1) (now textures)) ≤ mostPlaces) ⌝ }
     ensures { λ r. ⌜ r ≡ ownedAt (now (textures .entry)) i ⌝ }
 {
     let t = texture_at(textures, i);
@@ -53,7 +53,7 @@ pub fn counts_without(pool: Pool, own: Owned) -> Pool
     Pool {
         tracked: pool.tracked - 1,
         kept: pool.kept - own.spares,
-        pages: pool.pages - own.pages,
+        pages: pool.grids - own.pages,
         head: pool.head,
         popped: pool.popped,
         queued: pool.queued,

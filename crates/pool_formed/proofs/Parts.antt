@@ -26,7 +26,7 @@ use Rattle.pool_formed.proofs.RingTests.{hand-test}
 use Rattle.grid_stamps.specs.StampConstants.{pageStamps}
 use Rattle.pool_records.specs.RecordConstants.{doomedStride, retiringStride, spareStride, textureStride}
 use Rattle.pool_rules.specs.RuleConstants.{destroySpreadDrains, mostPlaces}
-use Rattle.pool_records.specs.Texture.{recordPages, recordSpares}
+use Rattle.pool_records.specs.Texture.{recordGrids, recordSpares}
 
 pub counts-places : (l : Lent) → countsFit l ≡ placesHold (l .pool) (length (l .textures) / textureStride) (length (l .retiring) / retiringStride) (length (l .newest))
 unfolding countsFit placesHold modelOf versionPlaces
@@ -133,10 +133,10 @@ module _ (l : Lent) where
     to-rings = pass-all _ (cons to-queue (cons to-doomed nil))
 
     module _ (runs : runsFit l ≡ true) (bytes : bytesFit l ≡ true) where
-      to-claim : claim ts (l .pool .kept) (l .pool .pages) ≡ true
+      to-claim : claim ts (l .pool .kept) (l .pool .grids) ≡ true
       unfolding claim runsFit
       to-claim =
-          pass-all _ (cons (flip (total recordSpares ts) (l .pool .kept) (passed _ runs 0)) (cons (flip (total recordPages ts) (l .pool .pages) (passed _ runs 1)) nil))
+          pass-all _ (cons (flip (total recordSpares ts) (l .pool .kept) (passed _ runs 0)) (cons (flip (total recordGrids ts) (l .pool .grids) (passed _ runs 1)) nil))
 
       to-textures : texturesOf l ≡ true
       unfolding texturesFit bytesFit
@@ -161,14 +161,14 @@ module _ (l : Lent) where
     unfolding ringsFit
     from-doomed = passed _ r 1
 
-    from-claim : claim ts (l .pool .kept) (l .pool .pages) ≡ true
+    from-claim : claim ts (l .pool .kept) (l .pool .grids) ≡ true
     unfolding texturesFit
     from-claim = passed _ t 2
 
     from-runs : runsFit l ≡ true
     unfolding claim runsFit
     from-runs =
-        pass-all _ (cons (flip (l .pool .kept) (total recordSpares ts) (passed _ from-claim 0)) (cons (flip (l .pool .pages) (total recordPages ts) (passed _ from-claim 1)) nil))
+        pass-all _ (cons (flip (l .pool .kept) (total recordSpares ts) (passed _ from-claim 0)) (cons (flip (l .pool .grids) (total recordGrids ts) (passed _ from-claim 1)) nil))
 
     from-records : all isState (statesRead l 0 0 ts) && all bytesHold ts ≡ true
     unfolding texturesFit
@@ -263,7 +263,7 @@ pub record CountsFit (l : Lent) : Type 0 where
   pub head : l .pool .head < versionPlaces l
   pub first : l .pool .first < versionPlaces l
   pub used : l .pool .queued + l .pool .popped + l .pool .kept + l .pool .doomed ≤ versionPlaces l
-  pub pages : l .pool .pages ≤ length (l .newest)
+  pub pages : l .pool .grids ≤ length (l .newest)
 
 pub counts : (l : Lent) → countsFit l ≡ true → CountsFit l
 unfolding countsFit modelOf
@@ -293,7 +293,7 @@ module _ (l : Lent) (s : sizesFit l ≡ true) where
         (omega (arith, z .retiring), omega (arith, z .doomed), few-versions, counted .head, counted .first, omega (arith, counted .used), omega (arith, counted .used))
 
     pub textures-room : (textureStride * l .pool .tracked ≤ length (l .textures)) × (spareStride * l .pool .kept ≤ length (l .spares)) × (l .pool .kept ≤ mostPlaces)
-        × (l .pool .pages ≤ length (l .newest)) × (length (l .stamps) ≡ pageStamps * length (l .newest))
+        × (l .pool .grids ≤ length (l .newest)) × (length (l .stamps) ≡ pageStamps * length (l .newest))
     textures-room =
         let z = sizes l s in (
           omega (arith, z .textures, counted .tracked),

@@ -26,5 +26,5 @@ pub fn counts_fit(pool: Pool, places: usize, versions: usize, pages: usize) -> b
         & (pool.head < versions)
         & (pool.first < versions)
         & (pool.queued + pool.popped + pool.kept + pool.doomed <= versions)
-        & (pool.pages <= pages)
+        & (pool.grids <= pages)
 }

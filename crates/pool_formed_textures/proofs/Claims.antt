@@ -18,7 +18,7 @@ use Rattle.pool_formed_textures.proofs.Tests.{same-test}
 use Rattle.pool_formed_textures.proofs.RecordTests.{record-shape}
 use Rattle.grid_shapes.specs.ShapeConstants.{mostShapeBytes}
 use Rattle.pool_rules.specs.RuleConstants.{mostPlaces}
-use Rattle.pool_records.specs.Texture.{textureIn, recordPages, recordSpares, recordBytes, texturesIn}
+use Rattle.pool_records.specs.Texture.{textureIn, recordGrids, recordSpares, recordBytes, texturesIn}
 
 -- ---- spares and pages claimed: what is left of both
 
@@ -36,24 +36,24 @@ module _ (s : List ℕ) (n i : ℕ) (a b : ℕ) where
     later f = total f (left (textureIn s) n (i + 1))
 
     claim-step : claim (left (textureIn s) n i) a b
-        ≡ eqb a (textureIn s i .spares + later recordSpares) && eqb b (recordPages (textureIn s i) + later recordPages)
+        ≡ eqb a (textureIn s i .spares + later recordSpares) && eqb b (recordGrids (textureIn s i) + later recordGrids)
     unfolding claim tests after total
     claim-step = rw (left-step (textureIn s) n i h)
 
-    pub claim-more : (k m : ℕ) → k ≡ textureIn s i .spares → m ≡ recordPages (textureIn s i) → k ≤ a → m ≤ b
+    pub claim-more : (k m : ℕ) → k ≡ textureIn s i .spares → m ≡ recordGrids (textureIn s i) → k ≤ a → m ≤ b
         → claim (left (textureIn s) n i) a b ≡ claim (left (textureIn s) n (i + 1)) (a - k) (b - m)
     unfolding claim tests after
     claim-more k m ek em ha hb =
         claim-step
-        ∙ ap₂ (λ (x y : Bool). x && y) (taken-off a k (textureIn s i .spares) (later recordSpares) ek ha) (taken-off b m (recordPages (textureIn s i)) (later recordPages) em hb)
+        ∙ ap₂ (λ (x y : Bool). x && y) (taken-off a k (textureIn s i .spares) (later recordSpares) ek ha) (taken-off b m (recordGrids (textureIn s i)) (later recordGrids) em hb)
 
     pub claim-short : (k : ℕ) → k ≡ textureIn s i .spares → a < k → claim (left (textureIn s) n i) a b ≡ false
     claim-short k e q = claim-step ∙ rw (ne-eqb a (textureIn s i .spares + later recordSpares) (λ z. let y : ⊥ = omega (arith, z, e) in y))
 
-    pub claim-cut : (m : ℕ) → m ≡ recordPages (textureIn s i) → b < m → claim (left (textureIn s) n i) a b ≡ false
+    pub claim-cut : (m : ℕ) → m ≡ recordGrids (textureIn s i) → b < m → claim (left (textureIn s) n i) a b ≡ false
     claim-cut m e q =
         claim-step
-        ∙ rw (ne-eqb b (recordPages (textureIn s i) + later recordPages) (λ z. let y : ⊥ = omega (arith, z, e) in y)) (and-false (eqb a (textureIn s i .spares + later recordSpares)))
+        ∙ rw (ne-eqb b (recordGrids (textureIn s i) + later recordGrids) (λ z. let y : ⊥ = omega (arith, z, e) in y)) (and-false (eqb a (textureIn s i .spares + later recordSpares)))
 
 -- ---- parked bytes
 

@@ -15,14 +15,14 @@ use Rattle.grid_axes.specs.declared.axis.Axis.{Axis}
 use Rattle.grid_axes.specs.Axes.{AxisOk}
 use Rattle.grid_stamps.specs.Grids.{Tiling, tiled, tilingOf, stampCount, gridIn, largestStamp}
 use Rattle.grid_stamps.proofs.Tilings.{count-bound, tiling-ok, count-pos}
-use Rattle.pool_rules.specs.Model.{pagesOf}
+use Rattle.pool_rules.specs.Model.{gridCount}
 use Rattle.pool_records.specs.declared.recorded.Recorded.{Recorded}
 use Rattle.pool_records.specs.declared.recorded.Recorded.the-variants.{Writes, NoHistory}
 use Rattle.pool_records.specs.declared.texture.TextureRecord.{TextureRecord}
 use Rattle.pool_memory.specs.IsPool.{isGrid}
 use Rattle.pool_formed_textures.specs.Textures.{gridsFit, historyFits, historiesFit}
 use Rattle.grid_stamps.specs.StampConstants.{pageStamps}
-use Rattle.pool_records.specs.Texture.{textureIn, recordedPages, recordPages}
+use Rattle.pool_records.specs.Texture.{textureIn, recordedGrids, recordGrids}
 
 -- ---- grids
 
@@ -58,8 +58,8 @@ module _ (newest stamps : List ℕ) (t u : TextureRecord) (page : ℕ) (e : t �
   pub history-none : t .history ≡ NoHistory → true ≡ historyFits newest stamps (u .shape) page (u .history)
   history-none h = sym (ap (historyFits newest stamps (t .shape) page) h) ∙ ap (λ (r : TextureRecord). historyFits newest stamps (r .shape) page (r .history)) e
 
-pub pages-writes : (t u : TextureRecord) (n : ℕ) → t ≡ u → t .history ≡ Writes n → recordPages u ≡ pagesOf (t .shape)
-pages-writes t u n e h = sym (ap recordPages e) ∙ ap (λ (r : Recorded). recordedPages r (t .shape)) h
+pub pages-writes : (t u : TextureRecord) (n : ℕ) → t ≡ u → t .history ≡ Writes n → recordGrids u ≡ gridCount (t .shape)
+pages-writes t u n e h = sym (ap recordGrids e) ∙ ap (λ (r : Recorded). recordedGrids r (t .shape)) h
 
 -- ---- histories
 
@@ -69,7 +69,7 @@ module _ (newest stamps s : List ℕ) (n i page : ℕ) where
   histories-done h = rw (left-none (textureIn s) n i h)
 
   module _ (h : i < n) where
-    pub histories-more : (m : ℕ) → m ≡ recordPages (textureIn s i) → historyFits newest stamps (textureIn s i .shape) page (textureIn s i .history) ≡ true
+    pub histories-more : (m : ℕ) → m ≡ recordGrids (textureIn s i) → historyFits newest stamps (textureIn s i .shape) page (textureIn s i .history) ≡ true
         → historiesFit newest stamps page (left (textureIn s) n i) ≡ historiesFit newest stamps (page + m) (left (textureIn s) n (i + 1))
     unfolding historiesFit
     histories-more m e t = rw (left-step (textureIn s) n i h, t, e)

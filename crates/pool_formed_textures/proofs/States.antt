@@ -18,7 +18,7 @@ use Rattle.pool_memory.specs.Reading.{gridRead, historyRead, spareRead, stateRe
 use Rattle.pool_memory.specs.IsPool.{bytesHold, isSpare, stateId, isHistory, isState}
 use Rattle.pool_formed_textures.specs.Textures.{writesFit, isRecord, modelSpareAt, gridsFit, historyFits, historiesFit, gridOnPage}
 use Rattle.pool_memory.specs.Lent.{Lent}
-use Rattle.pool_records.specs.Texture.{recordPages, recordSpares, recordBytes}
+use Rattle.pool_records.specs.Texture.{recordGrids, recordSpares, recordBytes}
 
 -- conditions of one state and of the rest, by kind
 by-kind : (a h s b g r : Bool) → a && (h && s) && (b && (g && r)) ≡ a && b && (h && g && (s && r))
@@ -49,13 +49,13 @@ module _ (l : Lent) where
   unfolding ascending statesRead stateRead
   states-ids first page [] = refl
   states-ids first page (t ∷ []) = refl
-  states-ids first page (t ∷ u ∷ ts) = ap (λ (b : Bool). ltb (t .id) (u .id) && b) (states-ids (first + t .spares) (page + recordPages t) (u ∷ ts))
+  states-ids first page (t ∷ u ∷ ts) = ap (λ (b : Bool). ltb (t .id) (u .id) && b) (states-ids (first + t .spares) (page + recordGrids t) (u ∷ ts))
 
   pub states-bytes : (first page : ℕ) (ts : List TextureRecord) → total spareBytes (statesRead l first page ts) ≡ total recordBytes ts
   unfolding total statesRead stateRead recordBytes
   states-bytes first page [] = refl
   states-bytes first page (t ∷ ts) =
-      ap₂ (λ (a b : ℕ). a + b) (ap (λ (k : ℕ). bytesOf (t .shape) * k) (length-listed (spareRead l) first (t .spares))) (states-bytes (first + t .spares) (page + recordPages t) ts)
+      ap₂ (λ (a b : ℕ). a + b) (ap (λ (k : ℕ). bytesOf (t .shape) * k) (length-listed (spareRead l) first (t .spares))) (states-bytes (first + t .spares) (page + recordGrids t) ts)
 
   -- ---- every state passes and every record's bytes hold: every record, every grid and every spare
 
@@ -85,9 +85,9 @@ module _ (l : Lent) where
   states-test first page [] = refl
   states-test first page (t ∷ ts) =
       let h = historyFits (l .newest) (l .stamps) (t .shape) page (t .history) in
-      let hs = historiesFit (l .newest) (l .stamps) (page + recordPages t) ts in
-      let later = all isState (statesRead l (first + t .spares) (page + recordPages t) ts) in
+      let hs = historiesFit (l .newest) (l .stamps) (page + recordGrids t) ts in
+      let later = all isState (statesRead l (first + t .spares) (page + recordGrids t) ts) in
       by-two (isState (stateRead l first page t)) later (bytesHold t) (all bytesHold ts)
-      ∙ ap₂ (λ (a b : Bool). a && b) (state-test first page t) (states-test (first + t .spares) (page + recordPages t) ts)
+      ∙ ap₂ (λ (a b : Bool). a && b) (state-test first page t) (states-test (first + t .spares) (page + recordGrids t) ts)
       ∙ by-kind (isRecord t) h (sparesFrom first (t .spares)) (all isRecord ts) hs (sparesFrom (first + t .spares) (total recordSpares ts))
       ∙ ap (λ (b : Bool). isRecord t && all isRecord ts && (h && hs && b)) (sym (spares-split first (t .spares) (total recordSpares ts)))

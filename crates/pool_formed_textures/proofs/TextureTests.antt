@@ -12,14 +12,14 @@ use Rattle.pool_records.specs.Find.{idOf}
 use Rattle.pool_memory.specs.declared.pool.Pool.{Pool}
 use Rattle.pool_memory.specs.IsPool.{isSpare}
 use Rattle.pool_formed_textures.specs.Textures.{isRecord, claim, modelSpareAt, historiesFit, texturesFit}
-use Rattle.pool_records.specs.Texture.{recordPages, recordSpares, recordBytes, texturesIn}
+use Rattle.pool_records.specs.Texture.{recordGrids, recordSpares, recordBytes, texturesIn}
 
 module _ (ts : List TextureRecord) (kept pages : ℕ) (e : claim ts kept pages ≡ true) where
   pub claimed-spares : total recordSpares ts ≡ kept
   unfolding claim
   claimed-spares = sym (eqb-true _ _ (passed _ e 0))
 
-  pub claimed-pages : total recordPages ts ≡ pages
+  pub claimed-pages : total recordGrids ts ≡ pages
   unfolding claim
   claimed-pages = sym (eqb-true _ _ (passed _ e 1))
 

@@ -10,7 +10,7 @@ use Rattle.base_tables.specs.Records.{recordAt}
 use Rattle.grid_shapes.specs.declared.shape.VersionShape.{VersionShape}
 use Rattle.grid_shapes.specs.Shapes.{isShape, bytesOf}
 use Rattle.grid_stamps.specs.Grids.{StampGrid, gridIn, tilingOf}
-use Rattle.pool_rules.specs.Model.{Spare, limit, pagesOf}
+use Rattle.pool_rules.specs.Model.{Spare, limit, gridCount}
 use Rattle.pool_records.specs.declared.recorded.Recorded.{Recorded}
 use Rattle.pool_records.specs.declared.recorded.Recorded.the-variants.{Writes, NoHistory}
 use Rattle.pool_records.specs.declared.texture.TextureRecord.{TextureRecord}
@@ -21,7 +21,7 @@ use Rattle.pool_memory.specs.declared.pool.Pool.{Pool}
 use Rattle.pool_memory.specs.Reading.{pageAt}
 use Rattle.pool_memory.specs.IsPool.{bytesHold, isGrid, isSpare}
 use Rattle.pool_records.specs.RecordConstants.{spareStride}
-use Rattle.pool_records.specs.Texture.{recordPages, recordSpares, recordBytes, texturesIn}
+use Rattle.pool_records.specs.Texture.{recordGrids, recordSpares, recordBytes, texturesIn}
 
 -- ---- textures
 
@@ -37,7 +37,7 @@ isRecord t = tests (
 
 -- the records claim so many spares and so many pages
 unfoldable pub claim : List TextureRecord → ℕ → ℕ → Bool
-claim ts kept pages = tests (eqb kept (total recordSpares ts) ∷ eqb pages (total recordPages ts) ∷ [])
+claim ts kept pages = tests (eqb kept (total recordSpares ts) ∷ eqb pages (total recordGrids ts) ∷ [])
 
 unfoldable pub modelSpareAt : List ℕ → ℕ → Spare ℕ
 modelSpareAt spares k = spareOf (recordAt spareStride readSpare spares k)
@@ -49,7 +49,7 @@ unfoldable pub gridOnPage : List ℕ → List ℕ → VersionShape → ℕ → �
 gridOnPage newest stamps s page k = gridIn (tilingOf s (k % s .levels)) (getD newest (page + k) 0) (pageAt stamps (page + k))
 
 unfoldable pub gridsFit : List ℕ → List ℕ → VersionShape → ℕ → ℕ → Bool
-gridsFit newest stamps s page writes = all (isGrid writes) (listed (gridOnPage newest stamps s page) 0 (pagesOf s))
+gridsFit newest stamps s page writes = all (isGrid writes) (listed (gridOnPage newest stamps s page) 0 (gridCount s))
 
 abbrev pub historyFits : List ℕ → List ℕ → VersionShape → ℕ → Recorded → Bool
 historyFits newest stamps s page (Writes n) = gridsFit newest stamps s page n
@@ -59,7 +59,7 @@ historyFits newest stamps s page NoHistory = true
 unfoldable pub historiesFit : List ℕ → List ℕ → ℕ → List TextureRecord → Bool
 historiesFit newest stamps page [] = true
 historiesFit newest stamps page (t ∷ ts) =
-    historyFits newest stamps (t .shape) page (t .history) && historiesFit newest stamps (page + recordPages t) ts
+    historyFits newest stamps (t .shape) page (t .history) && historiesFit newest stamps (page + recordGrids t) ts
 
 -- the textures, their spares and their histories
 unfoldable pub texturesFit : Pool → List ℕ → List ℕ → List ℕ → List ℕ → Bool

@@ -6,8 +6,8 @@ ghost use lib.ListN.{length, getD};
 ghost use Rattle.base_blocks.specs.Lists.{all, total};
 ghost use Rattle.grid_shapes.specs.Shapes.{isShape};
 ghost use Rattle.grid_stamps.specs.Grids.{gridIn, tilingOf};
-ghost use Rattle.pool_rules.specs.Model.{pagesOf};
-ghost use Rattle.pool_records.specs.Texture.{readTexture, recordPages, texturesIn};
+ghost use Rattle.pool_rules.specs.Model.{gridCount};
+ghost use Rattle.pool_records.specs.Texture.{readTexture, recordGrids, texturesIn};
 ghost use Rattle.pool_memory.specs.Reading.{pageAt};
 ghost use Rattle.pool_memory.specs.IsPool.{isGrid};
 ghost use Rattle.pool_formed_textures.specs.Textures.{isRecord, gridsFit, historyFits, historiesFit};
@@ -48,7 +48,7 @@ fn grid_fits(
 
 // The grids of a history whose first page is `page`.
 fn grids_fit(s: VersionShape, writes: u64, newest: &[u64], stamps: &[u64], page: usize) -> bool
-    requires { ⌜ (isShape s ≡ true) × (page + pagesOf s ≤ length (now newest)) × (length (now stamps) ≡ pageStamps * length (now newest)) ⌝ }
+    requires { ⌜ (isShape s ≡ true) × (page + gridCount s ≤ length (now newest)) × (length (now stamps) ≡ pageStamps * length (now newest)) ⌝ }
     ensures { λ r. ⌜ r ≡ gridsFit (now (newest .entry)) (now (stamps .entry)) s page writes ⌝ }
 {
     let n = pages_of(s);
@@ -65,7 +65,7 @@ fn grids_fit(s: VersionShape, writes: u64, newest: &[u64], stamps: &[u64], page:
 // The history of a record whose first page is `page`.
 fn history_fits(p: &[u64], newest: &[u64], stamps: &[u64], page: usize) -> bool
     requires { ⌜ (textureStride ≤ length (now p)) × (isShape (readTexture (now p) .shape) ≡ true)
-        × (page + recordPages (readTexture (now p)) ≤ length (now newest)) × (length (now stamps) ≡ pageStamps * length (now newest)) ⌝ }
+        × (page + recordGrids (readTexture (now p)) ≤ length (now newest)) × (length (now stamps) ≡ pageStamps * length (now newest)) ⌝ }
     ensures { λ r. ⌜ r
         ≡ historyFits (now (newest .entry)) (now (stamps .entry)) (readTexture (now (p .entry)) .shape) page (readTexture (now (p .entry)) .history) ⌝ }
 {
@@ -81,7 +81,7 @@ fn history_fits(p: &[u64], newest: &[u64], stamps: &[u64], page: usize) -> bool
 // The histories of the first n records, each behind the pages of those before it.
 pub fn histories_fit(textures: &[u64], n: usize, newest: &[u64], stamps: &[u64]) -> bool
     requires { ⌜ (textureStride * n ≤ length (now textures)) × (all isRecord (texturesIn n (now textures)) ≡ true)
-        × (total recordPages (texturesIn n (now textures)) ≤ length (now newest)) × (length (now stamps) ≡ pageStamps * length (now newest)) ⌝ }
+        × (total recordGrids (texturesIn n (now textures)) ≤ length (now newest)) × (length (now stamps) ≡ pageStamps * length (now newest)) ⌝ }
     ensures { λ r. ⌜ r ≡ historiesFit (now (newest .entry)) (now (stamps .entry)) 0 (texturesIn n (now (textures .entry))) ⌝ }
 {
     let mut page = 0;

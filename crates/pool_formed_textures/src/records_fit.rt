@@ -5,8 +5,8 @@ ghost use Prim.Native.Nat.{_+_, _*_, _≤_};
 ghost use lib.ListN.{length};
 ghost use Rattle.base_blocks.specs.Lists.{all, ascending};
 ghost use Rattle.grid_shapes.specs.Shapes.{isShape, bytesOf};
-ghost use Rattle.pool_rules.specs.Model.{pagesOf};
-ghost use Rattle.pool_records.specs.Texture.{readTexture, recordPages, recordBytes, texturesIn};
+ghost use Rattle.pool_rules.specs.Model.{gridCount};
+ghost use Rattle.pool_records.specs.Texture.{readTexture, recordGrids, recordBytes, texturesIn};
 ghost use Rattle.pool_records.specs.Find.{idOf};
 ghost use Rattle.pool_formed_textures.specs.Textures.{writesFit, isRecord};
 ghost use Rattle.pool_records.specs.RecordConstants.{textureStride};
@@ -85,7 +85,7 @@ pub fn records_fit(textures: &[u64], n: usize) -> bool
 // One page for each slice and level.
 pub fn pages_of(s: VersionShape) -> u64
     requires { ⌜ isShape s ≡ true ⌝ }
-    ensures { λ r. ⌜ (r ≤ 90) × (r ≡ pagesOf s) ⌝ }
+    ensures { λ r. ⌜ (r ≤ 90) × (r ≡ gridCount s) ⌝ }
 {
     slices(s) * s.levels
 }
@@ -93,7 +93,7 @@ pub fn pages_of(s: VersionShape) -> u64
 // How many pages a record claims.
 pub fn record_pages(p: &[u64]) -> usize
     requires { ⌜ (textureStride ≤ length (now p)) × (isShape (readTexture (now p) .shape) ≡ true) ⌝ }
-    ensures { λ r. ⌜ (r ≤ 90) × (r ≡ recordPages (readTexture (now (p .entry)))) ⌝ }
+    ensures { λ r. ⌜ (r ≤ 90) × (r ≡ recordGrids (readTexture (now (p .entry)))) ⌝ }
 {
     let t = read_texture(p);
     let shape = t.shape;

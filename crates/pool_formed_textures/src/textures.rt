@@ -32,7 +32,7 @@ pub fn textures_fit(
     if !records_fit(textures, n) {
         return false;
     }
-    if !runs_fit(textures, n, pool.kept, pool.pages) {
+    if !runs_fit(textures, n, pool.kept, pool.grids) {
         return false;
     }
     if !spares_fit(spares, pool.kept) {

@@ -6,16 +6,16 @@ use native.Mathlib.Omega.{arith}
 use lib.ListN.{length, take, drop, length-append}
 use Rattle.base_blocks.specs.Lists.{total, removed, inserted}
 use Rattle.base_blocks.proofs.Lists.{length-removed, length-inserted, total-append}
-use Rattle.pool_rules.specs.Model.{Spare, VersionState, PoolModel, pagesUsed}
+use Rattle.pool_rules.specs.Model.{Spare, VersionState, PoolModel, gridsUsed}
 use Rattle.pool_rules.proofs.Lists.{total-cut}
 use Rattle.pool_memory.specs.Lent.{Lent}
 use Rattle.pool_memory.specs.Reading.{trackedRecords, modelOf}
 use Rattle.pool_memory.specs.Writing.{everySpare}
-use Rattle.pool_memory.proofs.Runs.{sparesOf, spareCount, firstPageOf, tracked-model, pages-model}
+use Rattle.pool_memory.proofs.Runs.{sparesOf, spareCount, firstGrid, tracked-model, pages-model}
 use Rattle.pool_memory.proofs.Kept.{page-of}
 use Rattle.pool_memory.proofs.Changes.{sparesBefore, length-spares}
-use Rattle.pool_memory.proofs.Pages.{pagesAt, next-page, page-bound, removed-parts}
-use Rattle.pool_records.specs.Texture.{recordPages}
+use Rattle.pool_memory.proofs.Pages.{gridCountAt, next-page, page-bound, removed-parts}
+use Rattle.pool_records.specs.Texture.{recordGrids}
 
 -- as many as all of them in a row
 pub count-spares : (ts : List (VersionState ℕ)) → total spareCount ts ≡ length (everySpare ts)
@@ -48,25 +48,25 @@ module _ (l : Lent) (p : PoolModel ℕ) where
 
   -- ---- pages in use
 
-  module _ (pages : total recordPages (trackedRecords l) ≡ l .pool .pages) where
+  module _ (pages : total recordGrids (trackedRecords l) ≡ l .pool .grids) where
     used-parts : (i j : ℕ) (between : List (VersionState ℕ)) → p .textures ≡ take i (modelOf l .textures) ++ (between ++ drop j (modelOf l .textures))
-        → total pagesUsed (p .textures) ≡ firstPageOf l i + (total pagesUsed between + (l .pool .pages - firstPageOf l j))
+        → total gridsUsed (p .textures) ≡ firstGrid l i + (total gridsUsed between + (l .pool .grids - firstGrid l j))
     used-parts i j between e =
-        ap (total pagesUsed) e
-        ∙ total-append pagesUsed (take i (modelOf l .textures)) (between ++ drop j (modelOf l .textures))
+        ap (total gridsUsed) e
+        ∙ total-append gridsUsed (take i (modelOf l .textures)) (between ++ drop j (modelOf l .textures))
         ∙ ap₂ (λ (a b : ℕ). a + b) (page-of l i)
-        (total-append pagesUsed between (drop j (modelOf l .textures))
-        ∙ ap (λ (n : ℕ). total pagesUsed between + n)
-        (let q : total pagesUsed (drop j (modelOf l .textures)) ≡ l .pool .pages - firstPageOf l j =
-        omega (arith, pages, pages-model l, page-of l j, total-cut pagesUsed j (modelOf l .textures)) in q))
+        (total-append gridsUsed between (drop j (modelOf l .textures))
+        ∙ ap (λ (n : ℕ). total gridsUsed between + n)
+        (let q : total gridsUsed (drop j (modelOf l .textures)) ≡ l .pool .grids - firstGrid l j =
+        omega (arith, pages, pages-model l, page-of l j, total-cut gridsUsed j (modelOf l .textures)) in q))
 
-    none-used : total (pagesUsed {W = ℕ}) [] ≡ 0
+    none-used : total (gridsUsed {W = ℕ}) [] ≡ 0
     unfolding total
     none-used = refl
 
     pub used-removed : (i : ℕ) → i < l .pool .tracked → p .textures ≡ removed i 1 (modelOf l .textures)
-        → total pagesUsed (p .textures) ≡ l .pool .pages - pagesAt l i
+        → total gridsUsed (p .textures) ≡ l .pool .grids - gridCountAt l i
     used-removed i h e =
         used-parts i (suc i) [] (removed-parts l p i e)
-        ∙ (let q : firstPageOf l i + (total (pagesUsed {W = ℕ}) [] + (l .pool .pages - firstPageOf l (suc i))) ≡ l .pool .pages - pagesAt l i =
+        ∙ (let q : firstGrid l i + (total (gridsUsed {W = ℕ}) [] + (l .pool .grids - firstGrid l (suc i))) ≡ l .pool .grids - gridCountAt l i =
         omega (arith, none-used, next-page l i h, page-bound l pages (suc i)) in q)

@@ -13,7 +13,7 @@ use Rattle.pool_memory.specs.IsPool.{bytesFit}
 use Rattle.grid_stamps.specs.StampConstants.{pageStamps}
 use Rattle.pool_records.specs.RecordConstants.{doomedStride, retiringStride, spareStride, textureStride}
 use Rattle.pool_rules.specs.RuleConstants.{mostPlaces}
-use Rattle.pool_records.specs.Texture.{recordPages}
+use Rattle.pool_records.specs.Texture.{recordGrids}
 
 pub record Fits (l : Lent) : Type 0 where
   -- the slices are as long as whole places, as many as may be lent
@@ -32,10 +32,10 @@ pub record Fits (l : Lent) : Type 0 where
   pub first : l .pool .first < versionPlaces l
   pub hand : l .pool .popped ≤ 1
   pub versions : l .pool .queued + l .pool .popped + l .pool .kept + l .pool .doomed ≤ versionPlaces l
-  pub pages : l .pool .pages ≤ length (l .newest)
+  pub pages : l .pool .grids ≤ length (l .newest)
   -- the records claim just the spares and pages that are counted
   pub kept : total (λ (t : TextureRecord). t .spares) (trackedRecords l) ≡ l .pool .kept
-  pub claimed : total recordPages (trackedRecords l) ≡ l .pool .pages
+  pub claimed : total recordGrids (trackedRecords l) ≡ l .pool .grids
   -- their bytes are those of their shapes
   pub bytes : bytesFit l ≡ true
   -- the pressure mark is 0 or 1

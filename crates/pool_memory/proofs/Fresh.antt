@@ -16,7 +16,7 @@ use Rattle.grid_shapes.specs.declared.shape.VersionShape.{VersionShape}
 use Rattle.grid_shapes.specs.Shapes.{isShape, sameShape, slicesOf}
 use Rattle.grid_stamps.specs.Grids.{StampGrid, newGrid, tilingOf, stampCount}
 use Rattle.grid_stamps.proofs.Tilings.{count-bound, tiling-ok}
-use Rattle.pool_rules.specs.Model.{pagesOf}
+use Rattle.pool_rules.specs.Model.{gridCount}
 use Rattle.pool_rules.specs.Histories.{newHistory}
 use Rattle.pool_rules.proofs.GridPlaces.{new-size}
 use Rattle.pool_records.specs.Find.{idOf}
@@ -68,19 +68,19 @@ unwritten-from m before zeros k (g ∷ gs) (cons u us) =
     ∙ sym (replicate-add m (m * length gs) 0)
     ∙ ap (λ (n : ℕ). replicate n 0) (add-comm m (m * length gs) ∙ sym (mul-suc m (length gs)))
 
-new-pages : (s : VersionShape) → length (newHistory s .grids) ≡ pagesOf s
-unfolding pagesOf
+new-pages : (s : VersionShape) → length (newHistory s .grids) ≡ gridCount s
+unfolding gridCount
 new-pages s = new-size s
 
 -- its stamps: every page of it is all 0
 pub fresh-stamps : (l : Lent) (s : VersionShape) → isShape s ≡ true
-    → pagesFrom (pageBefore l none) 0 (newHistory s .grids) ≡ replicate (pageStamps * pagesOf s) 0
+    → pagesFrom (pageBefore l none) 0 (newHistory s .grids) ≡ replicate (pageStamps * gridCount s) 0
 unfolding pageBefore
 fresh-stamps l s shaped =
     unwritten-from pageStamps (pageBefore l none) (λ j. refl) 0 (newHistory s .grids) (unwritten s shaped)
     ∙ ap (λ (n : ℕ). replicate (pageStamps * n) 0) (new-pages s)
 
-pub fresh-newest : (s : VersionShape) → isShape s ≡ true → map (λ (g : StampGrid). g .newest) (newHistory s .grids) ≡ replicate (pagesOf s) 0
+pub fresh-newest : (s : VersionShape) → isShape s ≡ true → map (λ (g : StampGrid). g .newest) (newHistory s .grids) ≡ replicate (gridCount s) 0
 fresh-newest s shaped = unwritten-newest (newHistory s .grids) (unwritten s shaped) ∙ ap (λ (n : ℕ). replicate n 0) (new-pages s)
 
 -- ---- no page stood there before

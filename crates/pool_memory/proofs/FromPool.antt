@@ -22,7 +22,7 @@ use Rattle.grid_stamps.proofs.Tilings.{tiling-ok, count-bound}
 use Rattle.grid_stamps.proofs.RowByRow.{tile-place}
 use Rattle.pool_rules.specs.declared.held.Held.{Held}
 use Rattle.pool_rules.specs.declared.held.Held.the-variants.{Known, Unknown}
-use Rattle.pool_rules.specs.Model.{WriteHistory, Spare, Retiring, Doomed, Places, pagesOf, versionsUsed, limit}
+use Rattle.pool_rules.specs.Model.{WriteHistory, Spare, Retiring, Doomed, Places, gridCount, versionsUsed, limit}
 use Rattle.pool_rules.specs.Histories.{gridAt, gridPlace}
 use Rattle.pool_rules.specs.Open.{arePlaces}
 use Rattle.pool_rules.specs.Formed.{Given, HeldFormed, GridFormed, HistoryFormed, SpareFormed, RetiringFormed, DoomedFormed, StateFormed, Formed}
@@ -40,7 +40,7 @@ use Rattle.pool_memory.proofs.Rings.{hand-model}
 use Rattle.grid_stamps.specs.StampConstants.{pageStamps}
 use Rattle.pool_records.specs.RecordConstants.{doomedStride, retiringStride, spareStride, textureStride}
 use Rattle.pool_rules.specs.RuleConstants.{mostPlaces}
-use Rattle.pool_records.specs.Texture.{recordedPages, recordPages}
+use Rattle.pool_records.specs.Texture.{recordedGrids, recordGrids}
 
 -- ---- 01's conditions of each part
 
@@ -60,49 +60,49 @@ pub length-page : (l : Lent) → pageStamps * length (l .newest) ≡ length (l .
 length-page l paged page h = length-take-le pageStamps (drop (pageStamps * page) (l .stamps)) (omega (arith, length-drop (pageStamps * page) (l .stamps)))
 
 module _ (l : Lent) (paged : pageStamps * length (l .newest) ≡ length (l .stamps)) (s : VersionShape) (shaped : isShape s ≡ true)
-    (page : ℕ) (room : page + pagesOf s ≤ length (l .newest)) where
+    (page : ℕ) (room : page + gridCount s ≤ length (l .newest)) where
   -- the history that is read there
   abbrev readHistory : ℕ → WriteHistory
-  readHistory writes = record { writes = writes; grids = listed (gridRead l s page) 0 (pagesOf s) }
+  readHistory writes = record { writes = writes; grids = listed (gridRead l s page) 0 (gridCount s) }
 
   -- the grid of a subresource is that of its page
   pub grid-place : (writes slice level : ℕ) → slice < slicesOf s → level < s .levels
-      → (gridPlace s slice level < pagesOf s)
+      → (gridPlace s slice level < gridCount s)
       × (gridAt s (readHistory writes) slice level ≡ gridRead l s page (gridPlace s slice level))
-  unfolding gridAt pagesOf
+  unfolding gridAt gridCount
   grid-place writes slice level p q =
       let h : gridPlace s slice level < slicesOf s * s .levels =
       omega (arith, tile-place (s .levels) (slicesOf s) level slice q p, mul-comm (s .levels) (slicesOf s)) in
       let k = gridPlace s slice level in
       (h, getD-listed (gridRead l s page) 0 (slicesOf s * s .levels) k _ h ∙ ap (gridRead l s page) (zero-add k))
 
-  page-formed : (n k : ℕ) → k < pagesOf s → isGrid n (gridRead l s page k) ≡ true → GridFormed (tilingOf s (k % s .levels)) n (gridRead l s page k)
+  page-formed : (n k : ℕ) → k < gridCount s → isGrid n (gridRead l s page k) ≡ true → GridFormed (tilingOf s (k % s .levels)) n (gridRead l s page k)
   unfolding gridRead
   page-formed n k h e =
       let c = count-bound (tilingOf s (k % s .levels)) (tiling-ok s shaped (k % s .levels)) in
       grid-formed (tilingOf s (k % s .levels)) n (getD (l .newest) (page + k) 0) (pageAt (l .stamps) (page + k))
       (omega (arith, c, length-page l paged (page + k) (omega arith))) e
 
-  length-grids : length (listed (gridRead l s page) 0 (pagesOf s)) ≡ slicesOf s * s .levels
-  unfolding pagesOf
+  length-grids : length (listed (gridRead l s page) 0 (gridCount s)) ≡ slicesOf s * s .levels
+  unfolding gridCount
   length-grids = length-listed (gridRead l s page) 0 (slicesOf s * s .levels)
 
   history-formed : (h : Recorded) → isHistory (historyRead l s page h) ≡ true → Given (HistoryFormed s) (historyRead l s page h)
   unfolding isHistory
   history-formed NoHistory e = tt
   history-formed (Writes n) e =
-      let q = and-both (leb n limit) (all (isGrid n) (listed (gridRead l s page) 0 (pagesOf s))) e in
+      let q = and-both (leb n limit) (all (isGrid n) (listed (gridRead l s page) 0 (gridCount s))) e in
       record { writes = leb-true _ _ (q .0); size = length-grids; grids = λ slice level a b. go slice level a b (q .1) }
     where
-      go : (slice level : ℕ) → slice < slicesOf s → level < s .levels → all (isGrid n) (listed (gridRead l s page) 0 (pagesOf s)) ≡ true
+      go : (slice level : ℕ) → slice < slicesOf s → level < s .levels → all (isGrid n) (listed (gridRead l s page) 0 (gridCount s)) ≡ true
           → GridFormed (tilingOf s level) n (gridAt s (readHistory n) slice level)
       go slice level a b e =
           let k = gridPlace s slice level in
           let w = grid-place n slice level a b in
           let d : StampGrid = record { newest = 0; stamps = [] } in
           let f : getD (readHistory n .grids) k d ≡ gridRead l s page k =
-          getD-listed (gridRead l s page) 0 (pagesOf s) k d (w .0) ∙ ap (gridRead l s page) (zero-add k) in
-          let g = all-get (isGrid n) (readHistory n .grids) k d e (omega (arith, w .0, length-listed (gridRead l s page) 0 (pagesOf s))) in
+          getD-listed (gridRead l s page) 0 (gridCount s) k d (w .0) ∙ ap (gridRead l s page) (zero-add k) in
+          let g = all-get (isGrid n) (readHistory n .grids) k d e (omega (arith, w .0, length-listed (gridRead l s page) 0 (gridCount s))) in
           subst (λ (m : ℕ). GridFormed (tilingOf s m) n (gridAt s (readHistory n) slice level)) (place-level slice level (s .levels) b)
           (subst (λ (x : StampGrid). GridFormed (tilingOf s (k % s .levels)) n x) (sym (w .1))
           (page-formed n k (w .0) (ap (isGrid n) (sym f) ∙ g)))
@@ -139,7 +139,7 @@ unfolding isArrival
 arrival-formed n e = leb-true _ _ e
 
 module _ (l : Lent) (paged : pageStamps * length (l .newest) ≡ length (l .stamps)) where
-  state-formed : (first page : ℕ) (t : TextureRecord) → page + recordPages t ≤ length (l .newest) → isState (stateRead l first page t) ≡ true
+  state-formed : (first page : ℕ) (t : TextureRecord) → page + recordGrids t ≤ length (l .newest) → isState (stateRead l first page t) ≡ true
       → StateFormed (stateRead l first page t)
   unfolding isState stateRead
   state-formed first page t room e = record {
@@ -152,20 +152,20 @@ module _ (l : Lent) (paged : pageStamps * length (l .newest) ≡ length (l .stam
     spares = all-holds isSpare spare-formed (listed (spareRead l) first (t .spares)) (passed _ e 6);
   }
     where
-      go : (h : Recorded) → page + recordedPages h (t .shape) ≤ length (l .newest) → isHistory (historyRead l (t .shape) page h) ≡ true
+      go : (h : Recorded) → page + recordedGrids h (t .shape) ≤ length (l .newest) → isHistory (historyRead l (t .shape) page h) ≡ true
           → Given (HistoryFormed (t .shape)) (historyRead l (t .shape) page h)
       go NoHistory room f = tt
       go (Writes n) room f = history-formed l paged (t .shape) (passed _ e 0) page room (Writes n) f
 
-  states-formed : (first page : ℕ) (ts : List TextureRecord) → page + total recordPages ts ≤ length (l .newest)
+  states-formed : (first page : ℕ) (ts : List TextureRecord) → page + total recordGrids ts ≤ length (l .newest)
       → all isState (statesRead l first page ts) ≡ true
       → All StateFormed (statesRead l first page ts)
   unfolding statesRead total all
   states-formed first page [] room e = nil
   states-formed first page (t ∷ ts) room e =
-      let rest = statesRead l (first + t .spares) (page + recordPages t) ts in
+      let rest = statesRead l (first + t .spares) (page + recordGrids t) ts in
       let q = and-both (isState (stateRead l first page t)) (all isState rest) e in
-      cons (state-formed first page t (omega arith) (q .0)) (states-formed (first + t .spares) (page + recordPages t) ts (omega arith) (q .1))
+      cons (state-formed first page t (omega arith) (q .0)) (states-formed (first + t .spares) (page + recordGrids t) ts (omega arith) (q .1))
 
 -- the counts of what is read
 module _ (l : Lent) where
@@ -268,7 +268,7 @@ module _ (l : Lent) (e : isPool l ≡ true) where
   unfolding isPool markFits
   marked = leb-true _ _ (passed _ e 4)
 
-  pages-claimed : total recordPages (trackedRecords l) ≡ l .pool .pages
+  pages-claimed : total recordGrids (trackedRecords l) ≡ l .pool .grids
   unfolding runsFit
   pages-claimed = eqb-true _ _ (passed _ claiming 1)
 
@@ -276,7 +276,7 @@ module _ (l : Lent) (e : isPool l ≡ true) where
   unfolding runsFit
   spares-claimed = eqb-true _ _ (passed _ claiming 0)
 
-  pages-counted : l .pool .pages ≤ length (l .newest)
+  pages-counted : l .pool .grids ≤ length (l .newest)
   unfolding countsFit
   pages-counted = leb-true _ _ (passed _ counted 5)
 

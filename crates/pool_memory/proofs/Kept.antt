@@ -16,16 +16,16 @@ use Rattle.grid_shapes.specs.declared.shape.VersionShape.{VersionShape}
 use Rattle.grid_shapes.specs.Shapes.{sameShape}
 use Rattle.grid_shapes.proofs.Shapes.{same-self}
 use Rattle.grid_stamps.specs.Grids.{StampGrid, gridIn, tilingOf, stampCount}
-use Rattle.pool_rules.specs.Model.{WriteHistory, VersionState, hasHistory, pagesOf, pagesUsed}
+use Rattle.pool_rules.specs.Model.{WriteHistory, VersionState, hasHistory, gridCount, gridsUsed}
 use Rattle.pool_records.specs.declared.recorded.Recorded.{Recorded}
 use Rattle.pool_records.specs.declared.recorded.Recorded.the-variants.{Writes, NoHistory}
-use Rattle.pool_records.specs.Texture.{readTexture, recordedPages}
+use Rattle.pool_records.specs.Texture.{readTexture, recordedGrids}
 use Rattle.pool_records.specs.Find.{idOf}
 use Rattle.pool_memory.specs.Lent.{Lent}
 use Rattle.pool_memory.specs.Reading.{trackedRecords, pageAt, gridRead, historyRead, stateRead, modelOf}
 use Rattle.pool_memory.specs.Writing.{gridsOf, firstPage, pageBefore, pagesFrom, pagesAfter, newestOf}
 use Rattle.pool_memory.proofs.Parts.{flat-mapped, total-mapped, Stands, stands-whole, stands-take, stands-drop}
-use Rattle.pool_memory.proofs.Runs.{firstSpare, firstPageOf, pages-state, stateOf, tracked-records, tracked-model, model-at, id-model, take-states, pages-states}
+use Rattle.pool_memory.proofs.Runs.{firstSpare, firstGrid, pages-state, stateOf, tracked-records, tracked-model, model-at, id-model, take-states, pages-states}
 use Rattle.grid_stamps.specs.StampConstants.{pageStamps}
 
 -- ---- the first page of a texture
@@ -39,22 +39,22 @@ module _ (id : ℕ) (shape : VersionShape) where
 
   -- the first that has that id, shape and a history
   pub first-page : (xs : List (VersionState ℕ)) (page i : ℕ) (d : VersionState ℕ) → i < length xs → ((j : ℕ) → j < i → isHere (getD xs j d) ≡ false)
-      → isHere (getD xs i d) ≡ true → firstPage id shape page xs ≡ some (page + total pagesUsed (take i xs))
+      → isHere (getD xs i d) ≡ true → firstPage id shape page xs ≡ some (page + total gridsUsed (take i xs))
   unfolding firstPage total
   first-page [] page i d h apart here = absurd (let y : ⊥ = omega arith in y)
   first-page (x ∷ xs) page zero d h apart here = rw here (ap some (sym (add-zero page)))
   first-page (x ∷ xs) page (suc i) d h apart here =
-      ap (λ (b : Bool). cond b (some page) (firstPage id shape (page + pagesUsed x) xs)) (apart 0 (omega arith))
-      ∙ first-page xs (page + pagesUsed x) i d (omega arith) (λ j q. apart (suc j) (omega arith)) here
-      ∙ ap some (add-assoc page (pagesUsed x) (total pagesUsed (take i xs)))
+      ap (λ (b : Bool). cond b (some page) (firstPage id shape (page + gridsUsed x) xs)) (apart 0 (omega arith))
+      ∙ first-page xs (page + gridsUsed x) i d (omega arith) (λ j q. apart (suc j) (omega arith)) here
+      ∙ ap some (add-assoc page (gridsUsed x) (total gridsUsed (take i xs)))
 
   pub no-page : (xs : List (VersionState ℕ)) (page : ℕ) (d : VersionState ℕ) → ((j : ℕ) → j < length xs → isHere (getD xs j d) ≡ false)
       → firstPage id shape page xs ≡ none
   unfolding firstPage
   no-page [] page d apart = refl
   no-page (x ∷ xs) page d apart =
-      ap (λ (b : Bool). cond b (some page) (firstPage id shape (page + pagesUsed x) xs)) (apart 0 (omega arith))
-      ∙ no-page xs (page + pagesUsed x) d (λ j q. apart (suc j) (omega arith))
+      ap (λ (b : Bool). cond b (some page) (firstPage id shape (page + gridsUsed x) xs)) (apart 0 (omega arith))
+      ∙ no-page xs (page + gridsUsed x) d (λ j q. apart (suc j) (omega arith))
 
 -- ---- a texture's pages
 
@@ -76,27 +76,27 @@ module _ (l : Lent) where
       ∙ ap (λ (m : ℕ). take m (drop at (l .stamps))) (let e : pageStamps + pageStamps * n ≡ pageStamps * suc n = omega arith in e)
 
   history-pages : (s : VersionShape) (page : ℕ) (found : Option ℕ) (h : Recorded) → (hasHistory (historyRead l s page h) ≡ true → found ≡ some page)
-      → pagesFrom (pageBefore l found) 0 (gridsOf (historyRead l s page h)) ≡ take (pageStamps * recordedPages h s) (drop (pageStamps * page) (l .stamps))
+      → pagesFrom (pageBefore l found) 0 (gridsOf (historyRead l s page h)) ≡ take (pageStamps * recordedGrids h s) (drop (pageStamps * page) (l .stamps))
   unfolding pagesFrom
   history-pages s page found NoHistory e = sym (ap (λ (m : ℕ). take m (drop (pageStamps * page) (l .stamps))) (mul-zero pageStamps))
   history-pages s page found (Writes n) e =
-      ap (λ (o : Option ℕ). pagesFrom (pageBefore l o) 0 (listed (gridRead l s page) 0 (pagesOf s))) (e refl)
-      ∙ pages-read s page 0 (pagesOf s)
-      ∙ ap (λ (m : ℕ). take (pageStamps * pagesOf s) (drop (pageStamps * m) (l .stamps))) (add-zero page)
+      ap (λ (o : Option ℕ). pagesFrom (pageBefore l o) 0 (listed (gridRead l s page) 0 (gridCount s))) (e refl)
+      ∙ pages-read s page 0 (gridCount s)
+      ∙ ap (λ (m : ℕ). take (pageStamps * gridCount s) (drop (pageStamps * m) (l .stamps))) (add-zero page)
 
-  pub pages-of : (i : ℕ) (found : Option ℕ) → (hasHistory (stateOf l i .history) ≡ true → found ≡ some (firstPageOf l i))
+  pub pages-of : (i : ℕ) (found : Option ℕ) → (hasHistory (stateOf l i .history) ≡ true → found ≡ some (firstGrid l i))
       → pagesFrom (pageBefore l found) 0 (gridsOf (stateOf l i .history))
-      ≡ take (pageStamps * pagesUsed (stateOf l i)) (drop (pageStamps * firstPageOf l i) (l .stamps))
+      ≡ take (pageStamps * gridsUsed (stateOf l i)) (drop (pageStamps * firstGrid l i) (l .stamps))
   unfolding stateOf stateRead
   pages-of i found e =
       let t = getD (trackedRecords l) i (readTexture []) in
-      history-pages (t .shape) (firstPageOf l i) found (t .history) e
-      ∙ ap (λ (m : ℕ). take (pageStamps * m) (drop (pageStamps * firstPageOf l i) (l .stamps))) (sym (pages-state l (firstSpare l i) (firstPageOf l i) t))
+      history-pages (t .shape) (firstGrid l i) found (t .history) e
+      ∙ ap (λ (m : ℕ). take (pageStamps * m) (drop (pageStamps * firstGrid l i) (l .stamps))) (sym (pages-state l (firstSpare l i) (firstGrid l i) t))
 
   -- where they begin
-  pub page-of : (i : ℕ) → total pagesUsed (take i (modelOf l .textures)) ≡ firstPageOf l i
-  unfolding modelOf firstPageOf
-  page-of i = ap (total pagesUsed) (take-states l i 0 0 (trackedRecords l)) ∙ pages-states l 0 0 (take i (trackedRecords l))
+  pub page-of : (i : ℕ) → total gridsUsed (take i (modelOf l .textures)) ≡ firstGrid l i
+  unfolding modelOf firstGrid
+  page-of i = ap (total gridsUsed) (take-states l i 0 0 (trackedRecords l)) ∙ pages-states l 0 0 (take i (trackedRecords l))
 
   module _ (up : ascending idOf (trackedRecords l) ≡ true) (d : VersionState ℕ) where
     -- no other texture has its id
@@ -111,7 +111,7 @@ module _ (l : Lent) where
         )
 
     pub found-at : (i : ℕ) → i < l .pool .tracked → (id : ℕ) (shape : VersionShape) → isHere id shape (getD (modelOf l .textures) i d) ≡ true
-        → firstPage id shape 0 (modelOf l .textures) ≡ some (firstPageOf l i)
+        → firstPage id shape 0 (modelOf l .textures) ≡ some (firstGrid l i)
     found-at i h id shape here =
         let e = eqb-true (getD (modelOf l .textures) i d .id) id (and-both _ _ (and-both _ _ here .0) .0) in
         first-page id shape (modelOf l .textures) 0 i d (omega (arith, tracked-model l))
@@ -123,37 +123,37 @@ module _ (l : Lent) where
 
     -- texture i keeps its run of pages
     pub pages-kept : (i : ℕ) → i < l .pool .tracked
-        → pagesAfter l (stateOf l i) ≡ take (pageStamps * pagesUsed (stateOf l i)) (drop (pageStamps * firstPageOf l i) (l .stamps))
+        → pagesAfter l (stateOf l i) ≡ take (pageStamps * gridsUsed (stateOf l i)) (drop (pageStamps * firstGrid l i) (l .stamps))
     unfolding pagesAfter
     pages-kept i h = pages-of i (firstPage (stateOf l i .id) (stateOf l i .shape) 0 (modelOf l .textures))
         (λ e. found-at i h (stateOf l i .id) (stateOf l i .shape)
         (ap (isHere (stateOf l i .id) (stateOf l i .shape)) (model-at l i d h) ∙ here-at i e))
 
-    pub pages-stand : Stands (pagesAfter l) pagesUsed pageStamps (l .stamps) d 0 (modelOf l .textures)
+    pub pages-stand : Stands (pagesAfter l) gridsUsed pageStamps (l .stamps) d 0 (modelOf l .textures)
     pages-stand i h =
         let k : i < l .pool .tracked = omega (arith, tracked-model l) in
         ap (pagesAfter l) (model-at l i d k)
         ∙ pages-kept i k
-        ∙ ap₂ (λ (t : VersionState ℕ) (n : ℕ). take (pageStamps * pagesUsed t) (drop (pageStamps * n) (l .stamps))) (sym (model-at l i d k))
+        ∙ ap₂ (λ (t : VersionState ℕ) (n : ℕ). take (pageStamps * gridsUsed t) (drop (pageStamps * n) (l .stamps))) (sym (model-at l i d k))
         (sym (zero-add _ ∙ page-of i))
 
     -- all the textures' pages, those before texture i and those from it on
-    pub pages-all : flatMap (pagesAfter l) (modelOf l .textures) ≡ take (pageStamps * total pagesUsed (modelOf l .textures)) (l .stamps)
-    pages-all = stands-whole (pagesAfter l) pagesUsed pageStamps (l .stamps) d 0 (modelOf l .textures) pages-stand
+    pub pages-all : flatMap (pagesAfter l) (modelOf l .textures) ≡ take (pageStamps * total gridsUsed (modelOf l .textures)) (l .stamps)
+    pages-all = stands-whole (pagesAfter l) gridsUsed pageStamps (l .stamps) d 0 (modelOf l .textures) pages-stand
 
-    pub pages-before : (i : ℕ) → flatMap (pagesAfter l) (take i (modelOf l .textures)) ≡ take (pageStamps * firstPageOf l i) (l .stamps)
+    pub pages-before : (i : ℕ) → flatMap (pagesAfter l) (take i (modelOf l .textures)) ≡ take (pageStamps * firstGrid l i) (l .stamps)
     pages-before i =
-        stands-whole (pagesAfter l) pagesUsed pageStamps (l .stamps) d 0 (take i (modelOf l .textures))
-        (stands-take (pagesAfter l) pagesUsed pageStamps (l .stamps) d 0 i (modelOf l .textures) pages-stand)
+        stands-whole (pagesAfter l) gridsUsed pageStamps (l .stamps) d 0 (take i (modelOf l .textures))
+        (stands-take (pagesAfter l) gridsUsed pageStamps (l .stamps) d 0 i (modelOf l .textures) pages-stand)
         ∙ ap (λ (n : ℕ). take (pageStamps * n) (l .stamps)) (page-of i)
 
     pub pages-from : (i : ℕ)
         → flatMap (pagesAfter l) (drop i (modelOf l .textures))
-        ≡ take (pageStamps * total pagesUsed (drop i (modelOf l .textures))) (drop (pageStamps * firstPageOf l i) (l .stamps))
+        ≡ take (pageStamps * total gridsUsed (drop i (modelOf l .textures))) (drop (pageStamps * firstGrid l i) (l .stamps))
     pages-from i =
-        stands-whole (pagesAfter l) pagesUsed pageStamps (l .stamps) d (0 + total pagesUsed (take i (modelOf l .textures))) (drop i (modelOf l .textures))
-        (stands-drop (pagesAfter l) pagesUsed pageStamps (l .stamps) d 0 i (modelOf l .textures) pages-stand)
-        ∙ ap (λ (n : ℕ). take (pageStamps * total pagesUsed (drop i (modelOf l .textures))) (drop (pageStamps * n) (l .stamps))) (zero-add _ ∙ page-of i)
+        stands-whole (pagesAfter l) gridsUsed pageStamps (l .stamps) d (0 + total gridsUsed (take i (modelOf l .textures))) (drop i (modelOf l .textures))
+        (stands-drop (pagesAfter l) gridsUsed pageStamps (l .stamps) d 0 i (modelOf l .textures) pages-stand)
+        ∙ ap (λ (n : ℕ). take (pageStamps * total gridsUsed (drop i (modelOf l .textures))) (drop (pageStamps * n) (l .stamps))) (zero-add _ ∙ page-of i)
 
 -- ---- textures that keep their ids, shapes and histories
 
@@ -180,7 +180,7 @@ pub newest-paged : (ts us : List (VersionState ℕ)) → map pagedOf ts ≡ map 
 newest-paged ts us e = flat-mapped pagedOf newestIn ts ∙ ap (flatMap newestIn) e ∙ sym (flat-mapped pagedOf newestIn us)
 
 abbrev usedIn : Paged → ℕ
-usedIn t = cond (hasHistory (t .history)) (pagesOf (t .shape)) 0
+usedIn t = cond (hasHistory (t .history)) (gridCount (t .shape)) 0
 
-pub used-paged : (ts us : List (VersionState ℕ)) → map pagedOf ts ≡ map pagedOf us → total pagesUsed ts ≡ total pagesUsed us
+pub used-paged : (ts us : List (VersionState ℕ)) → map pagedOf ts ≡ map pagedOf us → total gridsUsed ts ≡ total gridsUsed us
 used-paged ts us e = total-mapped pagedOf usedIn ts ∙ ap (total usedIn) e ∙ sym (total-mapped pagedOf usedIn us)

@@ -13,7 +13,7 @@ use Rattle.base_tables.specs.Records.{recordAt, table, flat}
 use Rattle.pool_rules.specs.Model.{Spare, VersionState, PoolModel}
 use Rattle.pool_records.specs.declared.texture.TextureRecord.{TextureRecord}
 use Rattle.pool_records.specs.declared.spare.SpareRecord.{SpareRecord}
-use Rattle.pool_records.specs.Texture.{readTexture, writeTexture, textureIn, recordPages}
+use Rattle.pool_records.specs.Texture.{readTexture, writeTexture, textureIn, recordGrids}
 use Rattle.pool_records.specs.Spare.{readSpare, writeSpare}
 use Rattle.pool_records.specs.Find.{idOf}
 use Rattle.pool_records.proofs.Codecs.{texture-codec, spare-codec}
@@ -23,11 +23,11 @@ use Rattle.pool_memory.specs.Writing.{textureRecord, spareRecord, everyS
 use Rattle.pool_memory.proofs.Parts.{flat-append, map-take, map-drop}
 use Rattle.base_blocks.proofs.Blocks.{over-moved}
 use Rattle.pool_memory.proofs.Packed.{packed-read, packed-put, packed-moved}
-use Rattle.pool_memory.proofs.Runs.{sparesOf, firstSpare, firstPageOf, stateOf, newest-state}
+use Rattle.pool_memory.proofs.Runs.{sparesOf, firstSpare, firstGrid, stateOf, newest-state}
 use Rattle.pool_memory.proofs.Kept.{Paged, pagedOf, pages-kept, pages-paged, newest-paged}
 use Rattle.pool_memory.proofs.Same.{listed-run}
 use Rattle.pool_memory.proofs.Changes.{sparesBefore, table-spares}
-use Rattle.pool_memory.proofs.Pages.{pagesAt, pages-in}
+use Rattle.pool_memory.proofs.Pages.{gridCountAt, pages-in}
 use Rattle.pool_memory.proofs.Stamped.{used-at}
 use Rattle.grid_stamps.specs.StampConstants.{pageStamps}
 use Rattle.pool_records.specs.RecordConstants.{spareStride, textureStride}
@@ -103,62 +103,62 @@ module _ (l : Lent) (p q : PoolModel ℕ) (t : VersionState ℕ) (e : q .texture
       (sym (ap (map spareRecord) more-spares ∙ map-append spareRecord xs (t .spares) ∙ ap (λ (ys : List SpareRecord). map spareRecord xs ++ ys) run))
 
   -- texture i, with its id, shape and history
-  module _ (pages : total recordPages (trackedRecords l) ≡ l .pool .pages) (i : ℕ) (h : i < l .pool .tracked)
+  module _ (pages : total recordGrids (trackedRecords l) ≡ l .pool .grids) (i : ℕ) (h : i < l .pool .tracked)
       (same : pagedOf t ≡ pagedOf (stateOf l i)) where
     more : (f : VersionState ℕ → List ℕ) (xs : List ℕ) → flatMap f (t ∷ []) ≡ xs → flatMap f (q .textures) ≡ flatMap f (p .textures) ++ xs
     more f xs g = ap (flatMap f) e ∙ flat-append f (p .textures) (t ∷ []) ∙ ap (λ (ys : List ℕ). flatMap f (p .textures) ++ ys) g
 
-    one-newest : l .pool .pages ≤ length (l .newest) → flatMap newestOf (t ∷ []) ≡ take (pagesAt l i) (drop (firstPageOf l i) (l .newest))
+    one-newest : l .pool .grids ≤ length (l .newest) → flatMap newestOf (t ∷ []) ≡ take (gridCountAt l i) (drop (firstGrid l i) (l .newest))
     unfolding flatMap stateOf
     one-newest fits =
         newest-paged (t ∷ []) (stateOf l i ∷ []) (ap (λ (x : Paged). x ∷ []) same)
         ∙ append-nil (newestOf (stateOf l i))
-        ∙ newest-state l (firstSpare l i) (firstPageOf l i) (getD (trackedRecords l) i (readTexture []))
-        ∙ listed-run 0 (l .newest) (firstPageOf l i) (pagesAt l i) (omega (arith, pages-in l pages i h))
+        ∙ newest-state l (firstSpare l i) (firstGrid l i) (getD (trackedRecords l) i (readTexture []))
+        ∙ listed-run 0 (l .newest) (firstGrid l i) (gridCountAt l i) (omega (arith, pages-in l pages i h))
 
     one-pages : ascending idOf (trackedRecords l) ≡ true
-        → flatMap (pagesAfter l) (t ∷ []) ≡ take (pageStamps * pagesAt l i) (drop (pageStamps * firstPageOf l i) (l .stamps))
+        → flatMap (pagesAfter l) (t ∷ []) ≡ take (pageStamps * gridCountAt l i) (drop (pageStamps * firstGrid l i) (l .stamps))
     unfolding flatMap
     one-pages up =
         pages-paged l (t ∷ []) (stateOf l i ∷ []) (ap (λ (x : Paged). x ∷ []) same)
         ∙ append-nil (pagesAfter l (stateOf l i))
         ∙ pages-kept l up (stateOf l 0) i h
-        ∙ ap (λ (n : ℕ). take (pageStamps * n) (drop (pageStamps * firstPageOf l i) (l .stamps))) (used-at l i)
+        ∙ ap (λ (n : ℕ). take (pageStamps * n) (drop (pageStamps * firstGrid l i) (l .stamps))) (used-at l i)
 
     -- `used` pages are packed so far
-    module _ (used : ℕ) (before : used ≤ firstPageOf l i) where
-      pub newest-packed : l .pool .pages ≤ length (l .newest) → length (flatMap newestOf (p .textures)) ≡ used
-          → (moved (newestAfter p l) used (firstPageOf l i) (pagesAt l i) ≡ newestAfter q l)
-          × (length (flatMap newestOf (q .textures)) ≡ used + pagesAt l i)
+    module _ (used : ℕ) (before : used ≤ firstGrid l i) where
+      pub newest-packed : l .pool .grids ≤ length (l .newest) → length (flatMap newestOf (p .textures)) ≡ used
+          → (moved (newestAfter p l) used (firstGrid l i) (gridCountAt l i) ≡ newestAfter q l)
+          × (length (flatMap newestOf (q .textures)) ≡ used + gridCountAt l i)
       unfolding newestAfter
       newest-packed fits n =
           let xs = flatMap newestOf (p .textures) in
-          let run = take (pagesAt l i) (drop (firstPageOf l i) (l .newest)) in
+          let run = take (gridCountAt l i) (drop (firstGrid l i) (l .newest)) in
           let inside = pages-in l pages i h in
           let new = more newestOf run (one-newest fits) in (
-            ap (λ (k : ℕ). moved (over xs (l .newest)) k (firstPageOf l i) (pagesAt l i)) (sym n)
-                ∙ over-moved xs (l .newest) (firstPageOf l i) (pagesAt l i) (omega arith) (omega arith)
+            ap (λ (k : ℕ). moved (over xs (l .newest)) k (firstGrid l i) (gridCountAt l i)) (sym n)
+                ∙ over-moved xs (l .newest) (firstGrid l i) (gridCountAt l i) (omega arith) (omega arith)
                 ∙ ap (λ (ys : List ℕ). over ys (l .newest)) (sym new),
             ap length new ∙ length-append xs run
                 ∙ ap₂ (λ (a b : ℕ). a + b) n
-                (length-take-le (pagesAt l i) (drop (firstPageOf l i) (l .newest)) (omega (arith, length-drop (firstPageOf l i) (l .newest)))),
+                (length-take-le (gridCountAt l i) (drop (firstGrid l i) (l .newest)) (omega (arith, length-drop (firstGrid l i) (l .newest)))),
           )
 
-      pub stamps-packed : ascending idOf (trackedRecords l) ≡ true → pageStamps * l .pool .pages ≤ length (l .stamps)
+      pub stamps-packed : ascending idOf (trackedRecords l) ≡ true → pageStamps * l .pool .grids ≤ length (l .stamps)
           → length (flatMap (pagesAfter l) (p .textures)) ≡ pageStamps * used
-          → (moved (stampsAfter p l) (pageStamps * used) (pageStamps * firstPageOf l i) (pageStamps * pagesAt l i) ≡ stampsAfter q l)
-          × (length (flatMap (pagesAfter l) (q .textures)) ≡ pageStamps * (used + pagesAt l i))
+          → (moved (stampsAfter p l) (pageStamps * used) (pageStamps * firstGrid l i) (pageStamps * gridCountAt l i) ≡ stampsAfter q l)
+          × (length (flatMap (pagesAfter l) (q .textures)) ≡ pageStamps * (used + gridCountAt l i))
       unfolding stampsAfter
       stamps-packed up fits n =
           let xs = flatMap (pagesAfter l) (p .textures) in
-          let at = pageStamps * firstPageOf l i in
-          let run = take (pageStamps * pagesAt l i) (drop at (l .stamps)) in
+          let at = pageStamps * firstGrid l i in
+          let run = take (pageStamps * gridCountAt l i) (drop at (l .stamps)) in
           let inside = pages-in l pages i h in
           let new = more (pagesAfter l) run (one-pages up) in
-          let lr : length run ≡ pageStamps * pagesAt l i =
-          length-take-le (pageStamps * pagesAt l i) (drop at (l .stamps)) (omega (arith, length-drop at (l .stamps))) in (
-            ap (λ (k : ℕ). moved (over xs (l .stamps)) k at (pageStamps * pagesAt l i)) (sym n)
-                ∙ over-moved xs (l .stamps) at (pageStamps * pagesAt l i) (omega arith) (omega arith)
+          let lr : length run ≡ pageStamps * gridCountAt l i =
+          length-take-le (pageStamps * gridCountAt l i) (drop at (l .stamps)) (omega (arith, length-drop at (l .stamps))) in (
+            ap (λ (k : ℕ). moved (over xs (l .stamps)) k at (pageStamps * gridCountAt l i)) (sym n)
+                ∙ over-moved xs (l .stamps) at (pageStamps * gridCountAt l i) (omega arith) (omega arith)
                 ∙ ap (λ (ys : List ℕ). over ys (l .stamps)) (sym new),
-            ap length new ∙ length-append xs run ∙ (let z : length xs + length run ≡ pageStamps * (used + pagesAt l i) = omega arith in z),
+            ap length new ∙ length-append xs run ∙ (let z : length xs + length run ≡ pageStamps * (used + gridCountAt l i) = omega arith in z),
           )

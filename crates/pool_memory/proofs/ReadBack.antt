@@ -13,11 +13,11 @@ use Rattle.base_tables.specs.Records.{flat}
 use Rattle.base_tables.specs.Rings.{laid}
 use Rattle.base_tables.proofs.Records.{length-flat, reread}
 use Rattle.base_tables.proofs.Rings.{place-in, length-laid}
-use Rattle.pool_rules.specs.Model.{Retiring, VersionState, Places, PoolModel, pagesUsed, handCount, versionsUsed}
+use Rattle.pool_rules.specs.Model.{Retiring, VersionState, Places, PoolModel, gridsUsed, handCount, versionsUsed}
 use Rattle.pool_rules.specs.Open.{arePlaces}
 use Rattle.pool_rules.specs.Formed.{Formed}
 use Rattle.pool_records.specs.declared.texture.TextureRecord.{TextureRecord}
-use Rattle.pool_records.specs.Texture.{writeTexture, recordPages}
+use Rattle.pool_records.specs.Texture.{writeTexture, recordGrids}
 use Rattle.pool_records.specs.Spare.{writeSpare}
 use Rattle.pool_records.specs.Retiring.{writeRetiring}
 use Rattle.pool_records.specs.Doomed.{writeDoomed}
@@ -57,10 +57,10 @@ module _ (l : Lent) (p : PoolModel ℕ) (fits : Fits l) (formed : Formed p) (sam
   version-room : versionsUsed p ≤ versionPlaces l
   version-room = omega (arith, formed .versions, ap (λ (n : Places). n .versions) same, version-places l)
 
-  page-room : total pagesUsed (p .textures) ≤ length (l .newest)
+  page-room : total gridsUsed (p .textures) ≤ length (l .newest)
   page-room = omega (arith, formed .pages, ap (λ (n : Places). n .pages) same, page-places l)
 
-  pages-before : total pagesUsed (modelOf l .textures) ≤ length (l .newest)
+  pages-before : total gridsUsed (modelOf l .textures) ≤ length (l .newest)
   pages-before = omega (arith, pages-model l, fits .claimed, fits .pages)
 
   -- ---- the slices keep their lengths
@@ -218,7 +218,7 @@ module _ (l : Lent) (p : PoolModel ℕ) (fits : Fits l) (formed : Formed p) (sam
     versions = omega (arith, version-room, versions-kept);
     pages = omega (arith, page-room, newest-kept);
     kept = ap (total (λ (t : TextureRecord). t .spares)) records-back ∙ kept-recorded (p .textures);
-    claimed = ap (total recordPages) records-back ∙ pages-recorded (p .textures);
+    claimed = ap (total recordGrids) records-back ∙ pages-recorded (p .textures);
     bytes = bytes-back;
     mark = mark-few (p .pacing .pressed);
     formed = subst (λ (q : PoolModel ℕ). Formed q) (sym read-back) formed;

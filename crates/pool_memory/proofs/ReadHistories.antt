@@ -17,7 +17,7 @@ use Rattle.grid_shapes.specs.Shapes.{isShape, sameShape}
 use Rattle.grid_shapes.proofs.Shapes.{same-shape}
 use Rattle.grid_stamps.specs.Grids.{StampGrid, tilingOf, stampCount, gridIn}
 use Rattle.grid_stamps.proofs.Tilings.{tiling-ok, count-bound}
-use Rattle.pool_rules.specs.Model.{WriteHistory, VersionState, pagesOf, pagesUsed, hasHistory}
+use Rattle.pool_rules.specs.Model.{WriteHistory, VersionState, gridCount, gridsUsed, hasHistory}
 use Rattle.pool_rules.specs.Formed.{HistoryFormed}
 use Rattle.pool_memory.specs.Lent.{Lent}
 use Rattle.pool_memory.specs.Reading.{pageAt, gridRead}
@@ -97,8 +97,8 @@ module _ (m : Lent) (s : VersionShape) (page : ℕ) (h : WriteHistory) (formed :
   unfolding gridRead gridIn
   grid-back k q = λ i. record { newest = newest-back k q i; stamps = stamps-back k q i }
 
-  pub grids-back : listed (gridRead m s page) 0 (pagesOf s) ≡ h .grids
-  unfolding pagesOf
+  pub grids-back : listed (gridRead m s page) 0 (gridCount s) ≡ h .grids
+  unfolding gridCount
   grids-back =
       ap (listed (gridRead m s page) 0) (sym (formed .size))
       ∙ listed-same (gridRead m s page) (λ k. getD (h .grids) k noGrid) (length (h .grids)) 0 0 (λ j q. grid-back (0 + j) (omega arith))
@@ -108,20 +108,20 @@ module _ (m : Lent) (s : VersionShape) (page : ℕ) (h : WriteHistory) (formed :
 
 -- the pages of the texture with that id, shape and a history are among those used
 pub first-within : (id : ℕ) (s : VersionShape) (page q : ℕ) (ts : List (VersionState ℕ)) → firstPage id s page ts ≡ some q
-    → q + pagesOf s ≤ page + total pagesUsed ts
+    → q + gridCount s ≤ page + total gridsUsed ts
 unfolding firstPage total
 first-within id s page q [] e = absurd (Option·none-ne-some q e)
 first-within id s page q (t ∷ ts) e =
-    go (eqb (t .id) id && sameShape (t .shape) s && hasHistory (t .history)) refl e (first-within id s (page + pagesUsed t) q ts)
+    go (eqb (t .id) id && sameShape (t .shape) s && hasHistory (t .history)) refl e (first-within id s (page + gridsUsed t) q ts)
   where
-    own : (h : Option WriteHistory) → hasHistory h ≡ true → t .shape ≡ s → cond (hasHistory h) (pagesOf (t .shape)) 0 ≡ pagesOf s
+    own : (h : Option WriteHistory) → hasHistory h ≡ true → t .shape ≡ s → cond (hasHistory h) (gridCount (t .shape)) 0 ≡ gridCount s
     own none x y = absurd (true≢false (sym x))
-    own (some h) x y = ap pagesOf y
+    own (some h) x y = ap gridCount y
 
     go : (b : Bool) → (eqb (t .id) id && sameShape (t .shape) s && hasHistory (t .history)) ≡ b
-        → cond b (some page) (firstPage id s (page + pagesUsed t) ts) ≡ some q
-        → (firstPage id s (page + pagesUsed t) ts ≡ some q → q + pagesOf s ≤ page + pagesUsed t + total pagesUsed ts)
-        → q + pagesOf s ≤ page + (pagesUsed t + total pagesUsed ts)
+        → cond b (some page) (firstPage id s (page + gridsUsed t) ts) ≡ some q
+        → (firstPage id s (page + gridsUsed t) ts ≡ some q → q + gridCount s ≤ page + gridsUsed t + total gridsUsed ts)
+        → q + gridCount s ≤ page + (gridsUsed t + total gridsUsed ts)
     go true x y r =
         let a = and-both (eqb (t .id) id && sameShape (t .shape) s) (hasHistory (t .history)) x in
         let c = and-both (eqb (t .id) id) (sameShape (t .shape) s) (a .0) in
@@ -131,23 +131,23 @@ first-within id s page q (t ∷ ts) e =
     go false x y r = omega (arith, r y)
 
 module _ (l : Lent) (paged : pageStamps * length (l .newest) ≡ length (l .stamps)) (s : VersionShape) where
-  length-before : (o : Option ℕ) → ((q : ℕ) → o ≡ some q → q + pagesOf s ≤ length (l .newest))
-      → (k : ℕ) → k < pagesOf s → length (pageBefore l o k) ≡ pageStamps
+  length-before : (o : Option ℕ) → ((q : ℕ) → o ≡ some q → q + gridCount s ≤ length (l .newest))
+      → (k : ℕ) → k < gridCount s → length (pageBefore l o k) ≡ pageStamps
   unfolding pageBefore
   length-before none h k q = length-replicate {A = ℕ} pageStamps 0
   length-before (some page) h k q = let r = h page refl in length-page l paged (page + k) (omega arith)
 
   -- so each grid and what it is laid over make up one page
-  whole-page : isShape s ≡ true → (o : Option ℕ) → ((q : ℕ) → o ≡ some q → q + pagesOf s ≤ length (l .newest)) → (h : WriteHistory) → HistoryFormed s h
+  whole-page : isShape s ≡ true → (o : Option ℕ) → ((q : ℕ) → o ≡ some q → q + gridCount s ≤ length (l .newest)) → (h : WriteHistory) → HistoryFormed s h
       → Whole (pageBefore l o) 0 (h .grids)
-  unfolding pagesOf
+  unfolding gridCount
   whole-page shaped o room h f = λ j q.
       let n = grid-of s h f j q .size in
       let c = count-bound (tilingOf s (j % s .levels)) (tiling-ok s shaped (j % s .levels)) in
       let b = length-before o room (0 + j) (omega (arith, f .size)) in
       length-over (getD (h .grids) j noGrid .stamps) (pageBefore l o (0 + j)) (omega arith) ∙ b
 
-  pub whole-pages : isShape s ≡ true → (id : ℕ) (ts : List (VersionState ℕ)) → total pagesUsed ts ≤ length (l .newest)
+  pub whole-pages : isShape s ≡ true → (id : ℕ) (ts : List (VersionState ℕ)) → total gridsUsed ts ≤ length (l .newest)
       → (h : WriteHistory) → HistoryFormed s h
       → Whole (pageBefore l (firstPage id s 0 ts)) 0 (h .grids)
   whole-pages shaped id ts room h f =

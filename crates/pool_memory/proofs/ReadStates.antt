@@ -17,7 +17,7 @@ use Rattle.base_tables.proofs.Records.{record-past, flat-append, length-flat, t
 use Rattle.grid_shapes.specs.declared.shape.VersionShape.{VersionShape}
 use Rattle.grid_shapes.specs.Shapes.{isShape, bytesOf}
 use Rattle.grid_stamps.specs.Grids.{StampGrid}
-use Rattle.pool_rules.specs.Model.{WriteHistory, Spare, VersionState, pagesOf, pagesUsed, hasHistory}
+use Rattle.pool_rules.specs.Model.{WriteHistory, Spare, VersionState, gridCount, gridsUsed, hasHistory}
 use Rattle.pool_rules.specs.Formed.{Given, HistoryFormed, StateFormed}
 use Rattle.pool_records.specs.declared.texture.TextureRecord.{TextureRecord}
 use Rattle.pool_records.specs.Spare.{readSpare, writeSpare}
@@ -30,7 +30,7 @@ use Rattle.pool_memory.specs.IsPool.{bytesHold}
 use Rattle.pool_memory.proofs.ReadHistories.{length-pages, grids-back, whole-pages}
 use Rattle.grid_stamps.specs.StampConstants.{pageStamps}
 use Rattle.pool_records.specs.RecordConstants.{spareStride}
-use Rattle.pool_records.specs.Texture.{recordedPages, recordPages}
+use Rattle.pool_records.specs.Texture.{recordedGrids, recordGrids}
 
 -- what stands past a front part, of a list that stands from place i on
 drop-past : (xs a b rest : List ℕ) (i n j : ℕ) → drop i xs ≡ (a ++ b) ++ rest → length a ≡ n → i + n ≡ j → drop j xs ≡ b ++ rest
@@ -59,19 +59,19 @@ module _ (m : Lent) (first : ℕ) (ss : List (Spare ℕ)) (rest : List ℕ) wher
 -- ---- one texture's history
 
 length-newest : (s : VersionShape) (o : Option WriteHistory) → Given (HistoryFormed s) o
-    → length (map (λ (g : StampGrid). g .newest) (gridsOf o)) ≡ recordedPages (recordedHistory o) s
-unfolding pagesOf
+    → length (map (λ (g : StampGrid). g .newest) (gridsOf o)) ≡ recordedGrids (recordedHistory o) s
+unfolding gridCount
 length-newest s none f = refl
 length-newest s (some h) f = length-map (h .grids) (λ (g : StampGrid). g .newest) ∙ f .size
 
-module _ (l : Lent) (paged : pageStamps * length (l .newest) ≡ length (l .stamps)) (used : total pagesUsed (modelOf l .textures) ≤ length (l .newest))
+module _ (l : Lent) (paged : pageStamps * length (l .newest) ≡ length (l .stamps)) (used : total gridsUsed (modelOf l .textures) ≤ length (l .newest))
     (id : ℕ) (s : VersionShape) (shaped : isShape s ≡ true) where
   abbrev before : ℕ → List ℕ
   before = pageBefore l (firstPage id s 0 (modelOf l .textures))
 
   length-stamps : (o : Option WriteHistory) → Given (HistoryFormed s) o
-      → length (pagesFrom before 0 (gridsOf o)) ≡ pageStamps * recordedPages (recordedHistory o) s
-  unfolding pagesOf pagesFrom
+      → length (pagesFrom before 0 (gridsOf o)) ≡ pageStamps * recordedGrids (recordedHistory o) s
+  unfolding gridCount pagesFrom
   length-stamps none f = refl
   length-stamps (some h) f =
       length-pages before 0 (h .grids) (whole-pages l paged s shaped id (modelOf l .textures) used h f) ∙ ap (λ (n : ℕ). pageStamps * n) (f .size)
@@ -88,12 +88,12 @@ module _ (l : Lent) (paged : pageStamps * length (l .newest) ≡ length (l .stam
 
 -- ---- all of them, one behind the other
 
-module _ (l : Lent) (paged : pageStamps * length (l .newest) ≡ length (l .stamps)) (used : total pagesUsed (modelOf l .textures) ≤ length (l .newest)) where
-  length-new : (t : VersionState ℕ) → StateFormed t → length (pagesAfter l t) ≡ pageStamps * recordPages (textureRecord t)
+module _ (l : Lent) (paged : pageStamps * length (l .newest) ≡ length (l .stamps)) (used : total gridsUsed (modelOf l .textures) ≤ length (l .newest)) where
+  length-new : (t : VersionState ℕ) → StateFormed t → length (pagesAfter l t) ≡ pageStamps * recordGrids (textureRecord t)
   unfolding pagesAfter
   length-new t f = length-stamps l paged used (t .id) (t .shape) (f .shape) (t .history) (f .history)
 
-module _ (l m : Lent) (paged : pageStamps * length (l .newest) ≡ length (l .stamps)) (used : total pagesUsed (modelOf l .textures) ≤ length (l .newest)) where
+module _ (l m : Lent) (paged : pageStamps * length (l .newest) ≡ length (l .stamps)) (used : total gridsUsed (modelOf l .textures) ≤ length (l .newest)) where
   state-back : (first page : ℕ) (t : VersionState ℕ) → StateFormed t → (a b c : List ℕ)
       → drop (spareStride * first) (m .spares) ≡ flat writeSpare (map spareRecord (t .spares)) ++ a
       → drop page (m .newest) ≡ newestOf t ++ b
@@ -123,7 +123,7 @@ module _ (l m : Lent) (paged : pageStamps * length (l .newest) ≡ length (l .st
       let x = flat writeSpare ss in
       let xs = flat writeSpare (map spareRecord (everySpare ts)) in
       let n = length (t .spares) in
-      let k = recordPages (textureRecord t) in
+      let k = recordGrids (textureRecord t) in
       let both = map-append spareRecord (t .spares) (everySpare ts) in
       let ea′ : drop (spareStride * first) (m .spares) ≡ (x ++ xs) ++ a =
       ea ∙ ap (λ (l : List ℕ). l ++ a) (ap (flat writeSpare) both ∙ flat-append writeSpare ss (map spareRecord (everySpare ts))) in
@@ -151,11 +151,11 @@ unfolding total
 kept-recorded [] = refl
 kept-recorded (t ∷ ts) = ap (λ (n : ℕ). length (t .spares) + n) (kept-recorded ts)
 
-record-pages : (s : VersionShape) (o : Option WriteHistory) → recordedPages (recordedHistory o) s ≡ cond (hasHistory o) (pagesOf s) 0
+record-pages : (s : VersionShape) (o : Option WriteHistory) → recordedGrids (recordedHistory o) s ≡ cond (hasHistory o) (gridCount s) 0
 record-pages s none = refl
 record-pages s (some h) = refl
 
-pub pages-recorded : (ts : List (VersionState ℕ)) → total recordPages (map textureRecord ts) ≡ total pagesUsed ts
+pub pages-recorded : (ts : List (VersionState ℕ)) → total recordGrids (map textureRecord ts) ≡ total gridsUsed ts
 unfolding total
 pages-recorded [] = refl
 pages-recorded (t ∷ ts) = ap₂ (λ (a b : ℕ). a + b) (record-pages (t .shape) (t .history)) (pages-recorded ts)
@@ -166,18 +166,18 @@ unfolding all bytesHold
 bytes-recorded [] = refl
 bytes-recorded (t ∷ ts) = ap₂ (λ (a b : Bool). a && b) (eq-eqb (bytesOf (t .shape)) (bytesOf (t .shape)) refl) (bytes-recorded ts)
 
-pub length-newests : (ts : List (VersionState ℕ)) → All StateFormed ts → length (flatMap newestOf ts) ≡ total pagesUsed ts
+pub length-newests : (ts : List (VersionState ℕ)) → All StateFormed ts → length (flatMap newestOf ts) ≡ total gridsUsed ts
 unfolding flatMap total
 length-newests [] nil = refl
 length-newests (t ∷ ts) (cons f fs) =
     length-append (newestOf t) (flatMap newestOf ts)
     ∙ ap₂ (λ (a b : ℕ). a + b) (length-newest (t .shape) (t .history) (f .history) ∙ record-pages (t .shape) (t .history)) (length-newests ts fs)
 
-module _ (l : Lent) (paged : pageStamps * length (l .newest) ≡ length (l .stamps)) (used : total pagesUsed (modelOf l .textures) ≤ length (l .newest)) where
-  pub length-new-pages : (ts : List (VersionState ℕ)) → All StateFormed ts → length (flatMap (pagesAfter l) ts) ≡ pageStamps * total pagesUsed ts
+module _ (l : Lent) (paged : pageStamps * length (l .newest) ≡ length (l .stamps)) (used : total gridsUsed (modelOf l .textures) ≤ length (l .newest)) where
+  pub length-new-pages : (ts : List (VersionState ℕ)) → All StateFormed ts → length (flatMap (pagesAfter l) ts) ≡ pageStamps * total gridsUsed ts
   unfolding flatMap total
   length-new-pages [] nil = refl
   length-new-pages (t ∷ ts) (cons f fs) =
       length-append (pagesAfter l t) (flatMap (pagesAfter l) ts)
       ∙ ap₂ (λ (a b : ℕ). a + b) (length-new l paged used t f ∙ ap (λ (n : ℕ). pageStamps * n) (record-pages (t .shape) (t .history))) (length-new-pages ts fs)
-      ∙ sym (mul-add pageStamps (pagesUsed t) (total pagesUsed ts))
+      ∙ sym (mul-add pageStamps (gridsUsed t) (total gridsUsed ts))

@@ -14,11 +14,11 @@ use Rattle.base_tables.proofs.Records.{length-table}
 use Rattle.grid_shapes.specs.declared.shape.VersionShape.{VersionShape}
 use Rattle.grid_shapes.specs.Shapes.{bytesOf}
 use Rattle.grid_stamps.specs.Grids.{StampGrid, gridIn}
-use Rattle.pool_rules.specs.Model.{Spare, VersionState, pagesOf, hasHistory, pagesUsed}
+use Rattle.pool_rules.specs.Model.{Spare, VersionState, gridCount, hasHistory, gridsUsed}
 use Rattle.pool_records.specs.declared.recorded.Recorded.{Recorded}
 use Rattle.pool_records.specs.declared.recorded.Recorded.the-variants.{Writes, NoHistory}
 use Rattle.pool_records.specs.declared.texture.TextureRecord.{TextureRecord}
-use Rattle.pool_records.specs.Texture.{readTexture, recordedPages, recordPages}
+use Rattle.pool_records.specs.Texture.{readTexture, recordedGrids, recordGrids}
 use Rattle.pool_memory.specs.Lent.{Lent}
 use Rattle.pool_memory.specs.Reading.{trackedRecords, gridRead, historyRead, spareRead, stateRead, statesRead, modelOf}
 use Rattle.pool_memory.specs.IsPool.{bytesHold, bytesFit, stateId}
@@ -61,24 +61,24 @@ module _ (l : Lent) where
     bytes = sym e j;
   }
 
-  used-read : (s : VersionShape) (page : ℕ) (h : Recorded) → cond (hasHistory (historyRead l s page h)) (pagesOf s) 0 ≡ recordedPages h s
+  used-read : (s : VersionShape) (page : ℕ) (h : Recorded) → cond (hasHistory (historyRead l s page h)) (gridCount s) 0 ≡ recordedGrids h s
   used-read s page NoHistory = refl
   used-read s page (Writes n) = refl
 
-  pub pages-state : (first page : ℕ) (t : TextureRecord) → pagesUsed (stateRead l first page t) ≡ recordPages t
+  pub pages-state : (first page : ℕ) (t : TextureRecord) → gridsUsed (stateRead l first page t) ≡ recordGrids t
   unfolding stateRead
   pages-state first page t = used-read (t .shape) page (t .history)
 
   newest-read : (s : VersionShape) (page : ℕ) (h : Recorded)
-      → map (λ (g : StampGrid). g .newest) (gridsOf (historyRead l s page h)) ≡ listed (newestAt l) page (recordedPages h s)
+      → map (λ (g : StampGrid). g .newest) (gridsOf (historyRead l s page h)) ≡ listed (newestAt l) page (recordedGrids h s)
   unfolding listed gridRead gridIn
   newest-read s page NoHistory = refl
   newest-read s page (Writes n) =
-      map-listed (λ (g : StampGrid). g .newest) (gridRead l s page) 0 (pagesOf s)
-      ∙ listed-same (λ k. getD (l .newest) (page + k) 0) (newestAt l) (pagesOf s) 0 page
+      map-listed (λ (g : StampGrid). g .newest) (gridRead l s page) 0 (gridCount s)
+      ∙ listed-same (λ k. getD (l .newest) (page + k) 0) (newestAt l) (gridCount s) 0 page
       (λ j q. ap (λ (k : ℕ). getD (l .newest) (page + k) 0) (zero-add j))
 
-  pub newest-state : (first page : ℕ) (t : TextureRecord) → newestOf (stateRead l first page t) ≡ listed (newestAt l) page (recordPages t)
+  pub newest-state : (first page : ℕ) (t : TextureRecord) → newestOf (stateRead l first page t) ≡ listed (newestAt l) page (recordGrids t)
   unfolding stateRead
   newest-state first page t = newest-read (t .shape) page (t .history)
 
@@ -87,7 +87,7 @@ module _ (l : Lent) where
   pub length-states : (first page : ℕ) (ts : List TextureRecord) → length (statesRead l first page ts) ≡ length ts
   unfolding statesRead
   length-states first page [] = refl
-  length-states first page (t ∷ ts) = ap suc (length-states (first + t .spares) (page + recordPages t) ts)
+  length-states first page (t ∷ ts) = ap suc (length-states (first + t .spares) (page + recordGrids t) ts)
 
   -- their records
   pub records-states : (first page : ℕ) (ts : List TextureRecord) → all bytesHold ts ≡ true → map textureRecord (statesRead l first page ts) ≡ ts
@@ -96,7 +96,7 @@ module _ (l : Lent) where
   records-states first page (t ∷ ts) e =
       let q = and-both (bytesHold t) (all bytesHold ts) e in
       ap₂ (λ (x : TextureRecord) (xs : List TextureRecord). x ∷ xs) (record-state first page t (bytes-held t (q .0)))
-      (records-states (first + t .spares) (page + recordPages t) ts (q .1))
+      (records-states (first + t .spares) (page + recordGrids t) ts (q .1))
 
   -- their spares
   pub spares-states : (first page : ℕ) (ts : List TextureRecord)
@@ -104,29 +104,29 @@ module _ (l : Lent) where
   unfolding statesRead stateRead flatMap total listed
   spares-states first page [] = refl
   spares-states first page (t ∷ ts) =
-      ap (λ (xs : List (Spare ℕ)). listed (spareRead l) first (t .spares) ++ xs) (spares-states (first + t .spares) (page + recordPages t) ts)
+      ap (λ (xs : List (Spare ℕ)). listed (spareRead l) first (t .spares) ++ xs) (spares-states (first + t .spares) (page + recordGrids t) ts)
       ∙ sym (listed-split (spareRead l) first (t .spares) (total sparesOf ts))
 
   pub kept-states : (first page : ℕ) (ts : List TextureRecord) → total spareCount (statesRead l first page ts) ≡ total sparesOf ts
   unfolding statesRead stateRead total
   kept-states first page [] = refl
   kept-states first page (t ∷ ts) =
-      ap₂ (λ (a b : ℕ). a + b) (length-listed (spareRead l) first (t .spares)) (kept-states (first + t .spares) (page + recordPages t) ts)
+      ap₂ (λ (a b : ℕ). a + b) (length-listed (spareRead l) first (t .spares)) (kept-states (first + t .spares) (page + recordGrids t) ts)
 
   -- their pages
-  pub pages-states : (first page : ℕ) (ts : List TextureRecord) → total pagesUsed (statesRead l first page ts) ≡ total recordPages ts
+  pub pages-states : (first page : ℕ) (ts : List TextureRecord) → total gridsUsed (statesRead l first page ts) ≡ total recordGrids ts
   unfolding statesRead total
   pages-states first page [] = refl
   pages-states first page (t ∷ ts) =
-      ap₂ (λ (a b : ℕ). a + b) (pages-state first page t) (pages-states (first + t .spares) (page + recordPages t) ts)
+      ap₂ (λ (a b : ℕ). a + b) (pages-state first page t) (pages-states (first + t .spares) (page + recordGrids t) ts)
 
   pub newest-states : (first page : ℕ) (ts : List TextureRecord)
-      → flatMap newestOf (statesRead l first page ts) ≡ listed (newestAt l) page (total recordPages ts)
+      → flatMap newestOf (statesRead l first page ts) ≡ listed (newestAt l) page (total recordGrids ts)
   unfolding statesRead flatMap total listed
   newest-states first page [] = refl
   newest-states first page (t ∷ ts) =
-      ap₂ (λ (a b : List ℕ). a ++ b) (newest-state first page t) (newest-states (first + t .spares) (page + recordPages t) ts)
-      ∙ sym (listed-split (newestAt l) page (recordPages t) (total recordPages ts))
+      ap₂ (λ (a b : List ℕ). a ++ b) (newest-state first page t) (newest-states (first + t .spares) (page + recordGrids t) ts)
+      ∙ sym (listed-split (newestAt l) page (recordGrids t) (total recordGrids ts))
 
   -- ---- the first of them, the later ones, and one among them
 
@@ -135,27 +135,27 @@ module _ (l : Lent) where
   take-states zero first page ts = refl
   take-states (suc i) first page [] = refl
   take-states (suc i) first page (t ∷ ts) =
-      ap (λ (xs : List (VersionState ℕ)). stateRead l first page t ∷ xs) (take-states i (first + t .spares) (page + recordPages t) ts)
+      ap (λ (xs : List (VersionState ℕ)). stateRead l first page t ∷ xs) (take-states i (first + t .spares) (page + recordGrids t) ts)
 
   pub drop-states : (i first page : ℕ) (ts : List TextureRecord)
-      → drop i (statesRead l first page ts) ≡ statesRead l (first + total sparesOf (take i ts)) (page + total recordPages (take i ts)) (drop i ts)
+      → drop i (statesRead l first page ts) ≡ statesRead l (first + total sparesOf (take i ts)) (page + total recordGrids (take i ts)) (drop i ts)
   unfolding statesRead total
   drop-states zero first page ts = ap₂ (λ (a b : ℕ). statesRead l a b ts) (sym (add-zero first)) (sym (add-zero page))
   drop-states (suc i) first page [] = refl
   drop-states (suc i) first page (t ∷ ts) =
-      drop-states i (first + t .spares) (page + recordPages t) ts
+      drop-states i (first + t .spares) (page + recordGrids t) ts
       ∙ ap₂ (λ (a b : ℕ). statesRead l a b (drop i ts))
-      (add-assoc first (t .spares) (total sparesOf (take i ts))) (add-assoc page (recordPages t) (total recordPages (take i ts)))
+      (add-assoc first (t .spares) (total sparesOf (take i ts))) (add-assoc page (recordGrids t) (total recordGrids (take i ts)))
 
   pub state-at : (i first page : ℕ) (ts : List TextureRecord) (d : VersionState ℕ) (e : TextureRecord) → i < length ts
-      → getD (statesRead l first page ts) i d ≡ stateRead l (first + total sparesOf (take i ts)) (page + total recordPages (take i ts)) (getD ts i e)
+      → getD (statesRead l first page ts) i d ≡ stateRead l (first + total sparesOf (take i ts)) (page + total recordGrids (take i ts)) (getD ts i e)
   unfolding statesRead total
   state-at i first page [] d e h = absurd (let y : ⊥ = omega arith in y)
   state-at zero first page (t ∷ ts) d e h = ap₂ (λ (a b : ℕ). stateRead l a b t) (sym (add-zero first)) (sym (add-zero page))
   state-at (suc i) first page (t ∷ ts) d e h =
-      state-at i (first + t .spares) (page + recordPages t) ts d e (omega arith)
+      state-at i (first + t .spares) (page + recordGrids t) ts d e (omega arith)
       ∙ ap₂ (λ (a b : ℕ). stateRead l a b (getD ts i e))
-      (add-assoc first (t .spares) (total sparesOf (take i ts))) (add-assoc page (recordPages t) (total recordPages (take i ts)))
+      (add-assoc first (t .spares) (total sparesOf (take i ts))) (add-assoc page (recordGrids t) (total recordGrids (take i ts)))
 
   -- ---- the model
 
@@ -163,12 +163,12 @@ module _ (l : Lent) where
   unfoldable pub firstSpare : ℕ → ℕ
   firstSpare i = total sparesOf (take i (trackedRecords l))
 
-  unfoldable pub firstPageOf : ℕ → ℕ
-  firstPageOf i = total recordPages (take i (trackedRecords l))
+  unfoldable pub firstGrid : ℕ → ℕ
+  firstGrid i = total recordGrids (take i (trackedRecords l))
 
   -- texture i of the model
   unfoldable pub stateOf : ℕ → VersionState ℕ
-  stateOf i = stateRead l (firstSpare i) (firstPageOf i) (getD (trackedRecords l) i (readTexture []))
+  stateOf i = stateRead l (firstSpare i) (firstGrid i) (getD (trackedRecords l) i (readTexture []))
 
   pub tracked-records : length (trackedRecords l) ≡ l .pool .tracked
   tracked-records = length-table textureStride readTexture (l .pool .tracked) (l .textures)
@@ -189,20 +189,20 @@ module _ (l : Lent) where
   unfolding modelOf
   kept-model = kept-states 0 0 (trackedRecords l)
 
-  pub pages-model : total pagesUsed (modelOf l .textures) ≡ total recordPages (trackedRecords l)
+  pub pages-model : total gridsUsed (modelOf l .textures) ≡ total recordGrids (trackedRecords l)
   unfolding modelOf
   pages-model = pages-states 0 0 (trackedRecords l)
 
-  pub newest-model : flatMap newestOf (modelOf l .textures) ≡ listed (newestAt l) 0 (total recordPages (trackedRecords l))
+  pub newest-model : flatMap newestOf (modelOf l .textures) ≡ listed (newestAt l) 0 (total recordGrids (trackedRecords l))
   unfolding modelOf
   newest-model = newest-states 0 0 (trackedRecords l)
 
   pub model-at : (i : ℕ) (d : VersionState ℕ) → i < l .pool .tracked → getD (modelOf l .textures) i d ≡ stateOf i
-  unfolding modelOf stateOf firstSpare firstPageOf
+  unfolding modelOf stateOf firstSpare firstGrid
   model-at i d h =
       state-at i 0 0 (trackedRecords l) d (readTexture []) (omega (arith, tracked-records))
       ∙ ap₂ (λ (a b : ℕ). stateRead l a b (getD (trackedRecords l) i (readTexture [])))
-      (zero-add (total sparesOf (take i (trackedRecords l)))) (zero-add (total recordPages (take i (trackedRecords l))))
+      (zero-add (total sparesOf (take i (trackedRecords l)))) (zero-add (total recordGrids (take i (trackedRecords l))))
 
   pub id-model : (i : ℕ) (d : VersionState ℕ) → i < l .pool .tracked
       → getD (modelOf l .textures) i d .id ≡ getD (trackedRecords l) i (readTexture []) .id

@@ -12,10 +12,10 @@ use Rattle.base_blocks.proofs.Lists.{over-self}
 use Rattle.base_blocks.proofs.Listed.{length-listed, map-listed}
 use Rattle.base_tables.specs.Records.{table, flat}
 use Rattle.base_tables.proofs.Records.{over-table}
-use Rattle.pool_rules.specs.Model.{PoolModel, pagesUsed}
+use Rattle.pool_rules.specs.Model.{PoolModel, gridsUsed}
 use Rattle.pool_records.specs.declared.texture.TextureRecord.{TextureRecord}
 use Rattle.pool_records.specs.declared.spare.SpareRecord.{SpareRecord}
-use Rattle.pool_records.specs.Texture.{writeTexture, recordPages}
+use Rattle.pool_records.specs.Texture.{writeTexture, recordGrids}
 use Rattle.pool_records.specs.Spare.{readSpare, writeSpare}
 use Rattle.pool_records.specs.Find.{idOf}
 use Rattle.pool_records.proofs.Codecs.{texture-codec, spare-codec}
@@ -61,21 +61,21 @@ module _ (l : Lent) (p : PoolModel ℕ) where
       ∙ over-table spare-codec (total sparesOf (trackedRecords l)) (l .spares) fits
 
   -- textures that keep their ids, shapes and histories keep their pages
-  pub newest-same : total recordPages (trackedRecords l) ≤ length (l .newest) → map pagedOf (p .textures) ≡ map pagedOf (modelOf l .textures)
+  pub newest-same : total recordGrids (trackedRecords l) ≤ length (l .newest) → map pagedOf (p .textures) ≡ map pagedOf (modelOf l .textures)
       → newestAfter p l ≡ l .newest
   unfolding newestAfter
   newest-same fits e =
       ap (λ (xs : List ℕ). over xs (l .newest))
       (newest-paged (p .textures) (modelOf l .textures) e ∙ newest-model l
-      ∙ listed-run 0 (l .newest) 0 (total recordPages (trackedRecords l)) (omega arith))
-      ∙ over-front (total recordPages (trackedRecords l)) (l .newest)
+      ∙ listed-run 0 (l .newest) 0 (total recordGrids (trackedRecords l)) (omega arith))
+      ∙ over-front (total recordGrids (trackedRecords l)) (l .newest)
 
   pub stamps-same : ascending idOf (trackedRecords l) ≡ true → map pagedOf (p .textures) ≡ map pagedOf (modelOf l .textures)
       → stampsAfter p l ≡ l .stamps
   unfolding stampsAfter
   stamps-same up e =
       ap (λ (xs : List ℕ). over xs (l .stamps)) (pages-paged l (p .textures) (modelOf l .textures) e ∙ pages-all l up (stateOf l 0))
-      ∙ over-front (pageStamps * total pagesUsed (modelOf l .textures)) (l .stamps)
+      ∙ over-front (pageStamps * total gridsUsed (modelOf l .textures)) (l .stamps)
 
 -- ---- nothing changed at all
 
@@ -104,7 +104,7 @@ module _ (l : Lent) where
   doomed-model = length-listed (doomedRead l) 0 (l .pool .doomed)
 
   -- what the packing needs
-  module _ (kept : total sparesOf (trackedRecords l) ≡ l .pool .kept) (pages : total recordPages (trackedRecords l) ≡ l .pool .pages)
+  module _ (kept : total sparesOf (trackedRecords l) ≡ l .pool .kept) (pages : total recordGrids (trackedRecords l) ≡ l .pool .grids)
       (head : l .pool .head < versionPlaces l) (first : l .pool .first < versionPlaces l) (hand : l .pool .popped ≤ 1) where
     pub pool-same : poolAfter (modelOf l) l ≡ l .pool
     unfolding poolAfter modelOf
@@ -128,7 +128,7 @@ module _ (l : Lent) where
     -- the lent memory as it stood
     module _ (textures : textureStride * l .pool .tracked ≤ length (l .textures)) (retiring : retiringStride * versionPlaces l ≤ length (l .retiring))
         (doomed : doomedStride * versionPlaces l ≤ length (l .doomed)) (spares : spareStride * l .pool .kept ≤ length (l .spares))
-        (newest : l .pool .pages ≤ length (l .newest))
+        (newest : l .pool .grids ≤ length (l .newest))
         (queue : l .pool .popped + l .pool .queued ≤ versionPlaces l) (queued : l .pool .doomed ≤ versionPlaces l)
         (bytes : bytesFit l ≡ true) (mark : l .book .pressed ≤ 1) (up : ascending idOf (trackedRecords l) ≡ true) where
       pub after-same : lentAfter (modelOf l) l ≡ l

@@ -13,18 +13,18 @@ use Rattle.base_blocks.proofs.Lists.{length-over}
 use Rattle.base_blocks.proofs.Listed.{length-listed, getD-listed}
 use Rattle.grid_shapes.specs.declared.shape.VersionShape.{VersionShape}
 use Rattle.grid_stamps.specs.Grids.{StampGrid, gridIn, tilingOf, stampCount}
-use Rattle.pool_rules.specs.Model.{hasHistory, pagesOf, pagesUsed}
+use Rattle.pool_rules.specs.Model.{hasHistory, gridCount, gridsUsed}
 use Rattle.pool_records.specs.declared.recorded.Recorded.{Recorded}
 use Rattle.pool_records.specs.declared.recorded.Recorded.the-variants.{Writes, NoHistory}
-use Rattle.pool_records.specs.Texture.{readTexture, recordedPages}
+use Rattle.pool_records.specs.Texture.{readTexture, recordedGrids}
 use Rattle.pool_memory.specs.Lent.{Lent}
 use Rattle.pool_memory.specs.Reading.{trackedRecords, pageAt, gridRead, historyRead, stateRead}
 use Rattle.pool_memory.specs.Writing.{gridsOf, pageBefore, pagesFrom}
 use Rattle.pool_memory.proofs.Rewritten.{sets-self, sets-part}
-use Rattle.pool_memory.proofs.Runs.{firstSpare, firstPageOf, stateOf, pages-state}
+use Rattle.pool_memory.proofs.Runs.{firstSpare, firstGrid, stateOf, pages-state}
 use Rattle.pool_memory.proofs.Kept.{pages-of}
 use Rattle.pool_memory.proofs.Same.{over-front}
-use Rattle.pool_memory.proofs.Pages.{pagesAt}
+use Rattle.pool_memory.proofs.Pages.{gridCountAt}
 use Rattle.grid_stamps.specs.StampConstants.{pageStamps}
 
 -- ---- pages, grid by grid
@@ -97,68 +97,68 @@ module _ (l : Lent) (i : ℕ) where
 
   -- its pages as they stood
   abbrev pub pagesStood : ℕ → List ℕ
-  pagesStood = pageBefore l (some (firstPageOf l i))
+  pagesStood = pageBefore l (some (firstGrid l i))
 
-  pub used-at : pagesUsed (stateOf l i) ≡ pagesAt l i
+  pub used-at : gridsUsed (stateOf l i) ≡ gridCountAt l i
   unfolding stateOf
-  used-at = pages-state l (firstSpare l i) (firstPageOf l i) (getD (trackedRecords l) i (readTexture []))
+  used-at = pages-state l (firstSpare l i) (firstGrid l i) (getD (trackedRecords l) i (readTexture []))
 
-  length-read : (s : VersionShape) (page : ℕ) (h : Recorded) → length (gridsOf (historyRead l s page h)) ≡ recordedPages h s
+  length-read : (s : VersionShape) (page : ℕ) (h : Recorded) → length (gridsOf (historyRead l s page h)) ≡ recordedGrids h s
   length-read s page NoHistory = refl
-  length-read s page (Writes n) = length-listed (gridRead l s page) 0 (pagesOf s)
+  length-read s page (Writes n) = length-listed (gridRead l s page) 0 (gridCount s)
 
-  pub length-grids : length gridsAt ≡ pagesAt l i
+  pub length-grids : length gridsAt ≡ gridCountAt l i
   unfolding stateOf stateRead
   length-grids =
       let t = getD (trackedRecords l) i (readTexture []) in
-      length-read (t .shape) (firstPageOf l i) (t .history)
+      length-read (t .shape) (firstGrid l i) (t .history)
 
-  grid-in : (s : VersionShape) (page : ℕ) (h : Recorded) (k : ℕ) (d : StampGrid) → k < recordedPages h s
+  grid-in : (s : VersionShape) (page : ℕ) (h : Recorded) (k : ℕ) (d : StampGrid) → k < recordedGrids h s
       → getD (gridsOf (historyRead l s page h)) k d ≡ gridRead l s page k
   grid-in s page NoHistory k d q = absurd (let y : ⊥ = omega arith in y)
-  grid-in s page (Writes n) k d q = getD-listed (gridRead l s page) 0 (pagesOf s) k d q ∙ ap (gridRead l s page) (zero-add k)
+  grid-in s page (Writes n) k d q = getD-listed (gridRead l s page) 0 (gridCount s) k d q ∙ ap (gridRead l s page) (zero-add k)
 
   -- grid k is the one that its page holds
-  pub grid-of : (k : ℕ) (d : StampGrid) → k < pagesAt l i → getD gridsAt k d ≡ gridRead l (stateOf l i .shape) (firstPageOf l i) k
+  pub grid-of : (k : ℕ) (d : StampGrid) → k < gridCountAt l i → getD gridsAt k d ≡ gridRead l (stateOf l i .shape) (firstGrid l i) k
   unfolding stateOf stateRead
   grid-of k d q =
       let t = getD (trackedRecords l) i (readTexture []) in
-      grid-in (t .shape) (firstPageOf l i) (t .history) k d q
+      grid-in (t .shape) (firstGrid l i) (t .history) k d q
 
-  recorded : (s : VersionShape) (page : ℕ) (h : Recorded) (k : ℕ) → k < recordedPages h s → hasHistory (historyRead l s page h) ≡ true
+  recorded : (s : VersionShape) (page : ℕ) (h : Recorded) (k : ℕ) → k < recordedGrids h s → hasHistory (historyRead l s page h) ≡ true
   recorded s page NoHistory k q = absurd (let y : ⊥ = omega arith in y)
   recorded s page (Writes n) k q = refl
 
-  pub has-pages : (k : ℕ) → k < pagesAt l i → hasHistory (stateOf l i .history) ≡ true
+  pub has-pages : (k : ℕ) → k < gridCountAt l i → hasHistory (stateOf l i .history) ≡ true
   unfolding stateOf stateRead
   has-pages k q =
       let t = getD (trackedRecords l) i (readTexture []) in
-      recorded (t .shape) (firstPageOf l i) (t .history) k q
+      recorded (t .shape) (firstGrid l i) (t .history) k q
 
-  pub page-stood : (k : ℕ) → pagesStood k ≡ pageAt (l .stamps) (firstPageOf l i + k)
+  pub page-stood : (k : ℕ) → pagesStood k ≡ pageAt (l .stamps) (firstGrid l i + k)
   unfolding pageBefore
   page-stood k = refl
 
   -- a grid that was read, laid over its page, is the page
-  pub read-over : (k : ℕ) (d : StampGrid) → k < pagesAt l i → over (getD gridsAt k d .stamps) (pagesStood k) ≡ pagesStood k
+  pub read-over : (k : ℕ) (d : StampGrid) → k < gridCountAt l i → over (getD gridsAt k d .stamps) (pagesStood k) ≡ pagesStood k
   unfolding gridRead gridIn pageBefore
   read-over k d q =
       ap (λ (g : StampGrid). over (g .stamps) (pagesStood k)) (grid-of k d q)
       ∙ over-front (stampCount (tilingOf (stateOf l i .shape) (k % stateOf l i .shape .levels))) (pagesStood k)
 
-  module _ (fits : pageStamps * (firstPageOf l i + pagesAt l i) ≤ length (l .stamps)) where
-    pub length-stood : (k : ℕ) → k < pagesAt l i → length (pagesStood k) ≡ pageStamps
+  module _ (fits : pageStamps * (firstGrid l i + gridCountAt l i) ≤ length (l .stamps)) where
+    pub length-stood : (k : ℕ) → k < gridCountAt l i → length (pagesStood k) ≡ pageStamps
     unfolding pageBefore
     length-stood k q =
-        length-take-le pageStamps (drop (pageStamps * (firstPageOf l i + k)) (l .stamps)) (omega (arith, length-drop (pageStamps * (firstPageOf l i + k)) (l .stamps)))
+        length-take-le pageStamps (drop (pageStamps * (firstGrid l i + k)) (l .stamps)) (omega (arith, length-drop (pageStamps * (firstGrid l i + k)) (l .stamps)))
 
     pub whole-read : (d : StampGrid) → Whole pagesStood d 0 gridsAt
     whole-read d k q =
-        let r : k < pagesAt l i = omega (arith, length-grids) in
+        let r : k < gridCountAt l i = omega (arith, length-grids) in
         ap (λ (j : ℕ). length (over (getD gridsAt k d .stamps) (pagesStood j))) (zero-add k) ∙ ap length (read-over k d r) ∙ length-stood k r
 
     -- grids of no more than 1,024 stamps
-    pub whole-grids : (d : StampGrid) (gs : List StampGrid) → length gs ≡ pagesAt l i
+    pub whole-grids : (d : StampGrid) (gs : List StampGrid) → length gs ≡ gridCountAt l i
         → ((k : ℕ) → k < length gs → length (getD gs k d .stamps) ≤ pageStamps) → Whole pagesStood d 0 gs
     whole-grids d gs n small k q =
         let e = length-stood k (omega arith) in
@@ -166,7 +166,7 @@ module _ (l : Lent) (i : ℕ) where
         ∙ length-over (getD gs k d .stamps) (pagesStood k) (omega (arith, small k q)) ∙ e
 
     -- the slice as it stands
-    pub stood : sets (l .stamps) (pageStamps * firstPageOf l i) (pagesFrom pagesStood 0 gridsAt) ≡ l .stamps
+    pub stood : sets (l .stamps) (pageStamps * firstGrid l i) (pagesFrom pagesStood 0 gridsAt) ≡ l .stamps
     stood =
-        ap (sets (l .stamps) (pageStamps * firstPageOf l i)) (pages-of l i (some (firstPageOf l i)) (λ e. refl))
-        ∙ sets-self (l .stamps) (pageStamps * firstPageOf l i) (pageStamps * pagesUsed (stateOf l i)) (omega (arith, used-at))
+        ap (sets (l .stamps) (pageStamps * firstGrid l i)) (pages-of l i (some (firstGrid l i)) (λ e. refl))
+        ∙ sets-self (l .stamps) (pageStamps * firstGrid l i) (pageStamps * gridsUsed (stateOf l i)) (omega (arith, used-at))

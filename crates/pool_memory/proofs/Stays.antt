@@ -26,7 +26,7 @@ use Rattle.pool_memory.proofs.Rings.{retiring-same, doomed-same}
 use Rattle.pool_memory.proofs.Same.{book-same, textures-same, spares-same, newest-same, stamps-same, after-same}
 use Rattle.grid_shapes.specs.ShapeConstants.{mostShapeBytes}
 use Rattle.pool_records.specs.RecordConstants.{spareStride, textureStride}
-use Rattle.pool_records.specs.Texture.{recordPages}
+use Rattle.pool_records.specs.Texture.{recordGrids}
 
 -- what a call leaves, slice by slice
 pub put-together : (p : PoolModel ℕ) (l : Lent) (c : Counts) (b : PacingBook) (textures retiring doomed spares newest stamps : List ℕ)
@@ -60,7 +60,7 @@ module _ (l : Lent) (f : Fits l) where
   pub spares-fit : spareStride * total (λ (t : TextureRecord). t .spares) (trackedRecords l) ≤ length (l .spares)
   spares-fit = omega (arith, f .spares, f .kept, f .versions)
 
-  pub pages-fit : total recordPages (trackedRecords l) ≤ length (l .newest)
+  pub pages-fit : total recordGrids (trackedRecords l) ≤ length (l .newest)
   pages-fit = omega (arith, f .claimed, f .pages)
 
   pub ring-fits : l .pool .popped + l .pool .queued ≤ versionPlaces l

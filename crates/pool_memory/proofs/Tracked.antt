@@ -11,17 +11,17 @@ use Rattle.base_blocks.proofs.Lists.{all-get}
 use Rattle.base_blocks.proofs.All.{all-at}
 use Rattle.base_tables.proofs.Records.{getD-table, take-table}
 use Rattle.grid_shapes.specs.Shapes.{isShape, bytesOf}
-use Rattle.pool_rules.specs.Model.{WriteHistory, pagesUsed}
+use Rattle.pool_rules.specs.Model.{WriteHistory, gridsUsed}
 use Rattle.pool_rules.specs.Formed.{Given, HistoryFormed, StateFormed}
 use Rattle.pool_records.specs.declared.texture.TextureRecord.{TextureRecord}
 use Rattle.pool_records.specs.Recorded.{RecordedFits, recordedNumber}
-use Rattle.pool_records.specs.Texture.{readTexture, textureIn, texturesIn, recordPages}
+use Rattle.pool_records.specs.Texture.{readTexture, textureIn, texturesIn, recordGrids}
 use Rattle.pool_memory.specs.Lent.{Lent}
 use Rattle.pool_memory.specs.Reading.{trackedRecords, stateRead, modelOf}
 use Rattle.pool_memory.specs.Writing.{recordedHistory, textureRecord}
 use Rattle.pool_memory.specs.IsPool.{bytesHold, bytesFit}
 use Rattle.pool_memory.proofs.Fits.{Fits}
-use Rattle.pool_memory.proofs.Runs.{sparesOf, firstSpare, firstPageOf, stateOf, tracked-records, tracked-model, model-at, bytes-held, record-state, pages-state}
+use Rattle.pool_memory.proofs.Runs.{sparesOf, firstSpare, firstGrid, stateOf, tracked-records, tracked-model, model-at, bytes-held, record-state, pages-state}
 use Rattle.pool_memory.proofs.Changes.{count-state}
 use Rattle.pool_records.specs.RecordConstants.{textureStride}
 
@@ -38,9 +38,9 @@ module _ (l : Lent) (i : ℕ) (h : i < l .pool .tracked) where
   unfolding firstSpare
   spares-to = ap (total sparesOf) (take-table textureStride readTexture i (l .pool .tracked) (l .textures) (omega arith))
 
-  pub pages-to : firstPageOf l i ≡ total recordPages (texturesIn i (l .textures))
-  unfolding firstPageOf
-  pages-to = ap (total recordPages) (take-table textureStride readTexture i (l .pool .tracked) (l .textures) (omega arith))
+  pub pages-to : firstGrid l i ≡ total recordGrids (texturesIn i (l .textures))
+  unfolding firstGrid
+  pages-to = ap (total recordGrids) (take-table textureStride readTexture i (l .pool .tracked) (l .textures) (omega arith))
 
   -- the record's bytes are those of one version of its shape
   bytes-tracked : Fits l → getD (trackedRecords l) i (readTexture []) .bytes ≡ bytesOf (getD (trackedRecords l) i (readTexture []) .shape)
@@ -54,7 +54,7 @@ module _ (l : Lent) (i : ℕ) (h : i < l .pool .tracked) where
 
   pub record-at : Fits l → textureRecord (stateOf l i) ≡ textureAt l i
   unfolding stateOf
-  record-at f = record-state l (firstSpare l i) (firstPageOf l i) (getD (trackedRecords l) i (readTexture [])) (bytes-tracked f) ∙ record-read
+  record-at f = record-state l (firstSpare l i) (firstGrid l i) (getD (trackedRecords l) i (readTexture [])) (bytes-tracked f) ∙ record-read
 
   pub shape-at : stateOf l i .shape ≡ textureAt l i .shape
   unfolding stateOf stateRead
@@ -63,9 +63,9 @@ module _ (l : Lent) (i : ℕ) (h : i < l .pool .tracked) where
   pub count-at : length (stateOf l i .spares) ≡ textureAt l i .spares
   count-at = count-state l i ∙ ap sparesOf record-read
 
-  pub pages-at : pagesUsed (stateOf l i) ≡ recordPages (textureAt l i)
+  pub pages-at : gridsUsed (stateOf l i) ≡ recordGrids (textureAt l i)
   unfolding stateOf
-  pages-at = pages-state l (firstSpare l i) (firstPageOf l i) (getD (trackedRecords l) i (readTexture [])) ∙ ap recordPages record-read
+  pages-at = pages-state l (firstSpare l i) (firstGrid l i) (getD (trackedRecords l) i (readTexture [])) ∙ ap recordGrids record-read
 
   pub state-formed : Fits l → StateFormed (stateOf l i)
   state-formed f =

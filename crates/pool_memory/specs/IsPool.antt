@@ -20,7 +20,7 @@ use Rattle.grid_shapes.specs.ShapeConstants.{mostShapeBytes}
 use Rattle.grid_stamps.specs.StampConstants.{pageStamps}
 use Rattle.pool_records.specs.RecordConstants.{doomedStride, retiringStride, spareStride, textureStride}
 use Rattle.pool_rules.specs.RuleConstants.{destroySpreadDrains, mostPlaces}
-use Rattle.pool_records.specs.Texture.{recordPages}
+use Rattle.pool_records.specs.Texture.{recordGrids}
 
 -- the slices' lengths are those of whole places, as many as may be lent, and fit together
 unfoldable pub sizesFit : Lent → Bool
@@ -40,13 +40,13 @@ countsFit l = tests (
     ∷ ltb (l .pool .first) (versionPlaces l)
     ∷ leb (l .pool .popped) 1
     ∷ leb (l .pool .queued + l .pool .popped + l .pool .kept + l .pool .doomed) (versionPlaces l)
-    ∷ leb (l .pool .pages) (length (l .newest)) ∷ [])
+    ∷ leb (l .pool .grids) (length (l .newest)) ∷ [])
 
 -- the records claim just the spares and pages that are counted
 unfoldable pub runsFit : Lent → Bool
 runsFit l = tests (
     eqb (total (λ (t : TextureRecord). t .spares) (trackedRecords l)) (l .pool .kept)
-    ∷ eqb (total recordPages (trackedRecords l)) (l .pool .pages) ∷ [])
+    ∷ eqb (total recordGrids (trackedRecords l)) (l .pool .grids) ∷ [])
 
 -- every record's bytes are those of one version of its shape
 unfoldable pub bytesHold : TextureRecord → Bool

@@ -9,11 +9,11 @@ use Rattle.base_tables.specs.Records.{recordAt}
 use Rattle.base_tables.specs.Rings.{along}
 use Rattle.grid_shapes.specs.declared.shape.VersionShape.{VersionShape}
 use Rattle.grid_stamps.specs.Grids.{StampGrid, gridIn, tilingOf}
-use Rattle.pool_rules.specs.Model.{WriteHistory, Spare, Retiring, Doomed, VersionState, PoolModel, pagesOf}
+use Rattle.pool_rules.specs.Model.{WriteHistory, Spare, Retiring, Doomed, VersionState, PoolModel, gridCount}
 use Rattle.pool_records.specs.declared.recorded.Recorded.{Recorded}
 use Rattle.pool_records.specs.declared.recorded.Recorded.the-variants.{Writes, NoHistory}
 use Rattle.pool_records.specs.declared.texture.TextureRecord.{TextureRecord}
-use Rattle.pool_records.specs.Texture.{texturesIn, recordedPages, recordPages}
+use Rattle.pool_records.specs.Texture.{texturesIn, recordedGrids, recordGrids}
 use Rattle.pool_records.specs.Spare.{readSpare}
 use Rattle.pool_records.specs.Retiring.{readRetiring}
 use Rattle.pool_records.specs.Doomed.{readDoomed}
@@ -38,7 +38,7 @@ gridRead l s page k = gridIn (tilingOf s (k % s .levels)) (getD (l .newest) (pag
 
 abbrev pub historyRead : Lent → VersionShape → ℕ → Recorded → Option WriteHistory
 historyRead l s page NoHistory = none
-historyRead l s page (Writes n) = some (record { writes = n; grids = listed (gridRead l s page) 0 (pagesOf s) })
+historyRead l s page (Writes n) = some (record { writes = n; grids = listed (gridRead l s page) 0 (gridCount s) })
 
 -- ---- textures
 
@@ -61,7 +61,7 @@ stateRead l first page t = record {
 -- each texture's spares and pages stand behind those of the textures before it
 unfoldable pub statesRead : Lent → ℕ → ℕ → List TextureRecord → List (VersionState ℕ)
 statesRead l first page [] = []
-statesRead l first page (t ∷ ts) = stateRead l first page t ∷ statesRead l (first + t .spares) (page + recordPages t) ts
+statesRead l first page (t ∷ ts) = stateRead l first page t ∷ statesRead l (first + t .spares) (page + recordGrids t) ts
 
 -- ---- the rings
 

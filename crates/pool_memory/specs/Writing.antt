@@ -11,7 +11,7 @@ use Rattle.base_tables.specs.Rings.{placeOf, laid}
 use Rattle.grid_shapes.specs.declared.shape.VersionShape.{VersionShape}
 use Rattle.grid_shapes.specs.Shapes.{sameShape, bytesOf}
 use Rattle.grid_stamps.specs.Grids.{StampGrid}
-use Rattle.pool_rules.specs.Model.{WriteHistory, Spare, Retiring, Doomed, VersionState, PoolModel, hasHistory, pagesUsed, handCount}
+use Rattle.pool_rules.specs.Model.{WriteHistory, Spare, Retiring, Doomed, VersionState, PoolModel, hasHistory, gridsUsed, handCount}
 use Rattle.pool_records.specs.declared.recorded.Recorded.{Recorded}
 use Rattle.pool_records.specs.declared.recorded.Recorded.the-variants.{Writes, NoHistory}
 use Rattle.pool_records.specs.declared.texture.TextureRecord.{TextureRecord}
@@ -86,7 +86,7 @@ newestAfter p l = over (flatMap newestOf (p .textures)) (l .newest)
 unfoldable pub firstPage : ℕ → VersionShape → ℕ → List (VersionState ℕ) → Option ℕ
 firstPage id shape page [] = none
 firstPage id shape page (t ∷ ts) =
-    cond (eqb (t .id) id && sameShape (t .shape) shape && hasHistory (t .history)) (some page) (firstPage id shape (page + pagesUsed t) ts)
+    cond (eqb (t .id) id && sameShape (t .shape) shape && hasHistory (t .history)) (some page) (firstPage id shape (page + gridsUsed t) ts)
 
 unfoldable pub pageBefore : Lent → Option ℕ → ℕ → List ℕ
 pageBefore l none k = replicate pageStamps 0
@@ -127,7 +127,7 @@ unfoldable pub poolAfter : PoolModel ℕ → Lent → Counts
 poolAfter p l = record {
   tracked = length (p .textures);
   kept = total (λ (t : VersionState ℕ). length (t .spares)) (p .textures);
-  pages = total pagesUsed (p .textures);
+  pages = total gridsUsed (p .textures);
   head = headAfter p l;
   popped = handCount (p .hand);
   queued = length (p .retiring);

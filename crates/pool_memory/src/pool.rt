@@ -29,7 +29,7 @@ pub fn same_counts(pool: Pool) -> Pool
     Pool {
         tracked: pool.tracked,
         kept: pool.kept,
-        pages: pool.pages,
+        pages: pool.grids,
         head: pool.head,
         popped: pool.popped,
         queued: pool.queued,

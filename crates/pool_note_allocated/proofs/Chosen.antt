@@ -19,7 +19,7 @@ use Rattle.grid_shapes.proofs.ShapeBytes.{bytes-bound}
 use Rattle.pool_rules.specs.Model.{VersionState}
 use Rattle.pool_rules.specs.NoteAllocated.{Aged, picked, byAge, countOf, agedOf, pickedIn}
 use Rattle.pool_records.specs.declared.texture.TextureRecord.{TextureRecord}
-use Rattle.pool_records.specs.Texture.{readTexture, textureIn, recordPages, recordSpares, recordBytes}
+use Rattle.pool_records.specs.Texture.{readTexture, textureIn, recordGrids, recordSpares, recordBytes}
 use Rattle.pool_memory.specs.Lent.{Lent}
 use Rattle.pool_memory.specs.Reading.{trackedRecords, spareRead, stateRead, statesRead, modelOf}
 use Rattle.pool_memory.specs.Writing.{textureRecord}
@@ -93,10 +93,10 @@ module _ (l : Lent) where
   bytes-states line first page [] = refl
   bytes-states line first page (t ∷ ts) =
       let s = stateRead l first page t in
-      let us = statesRead l (first + t .spares) (page + recordPages t) ts in
+      let us = statesRead l (first + t .spares) (page + recordGrids t) ts in
       sym (ap (total bytesOfAged) (keep-append (isBefore line) (agedOf s) (agedAll us))
       ∙ total-append bytesOfAged (keep (isBefore line) (agedOf s)) (keep (isBefore line) (agedAll us))
-      ∙ ap₂ (λ (a b : ℕ). a + b) (state-before s line ∙ run-bytes line first page t) (sym (bytes-states line (first + t .spares) (page + recordPages t) ts)))
+      ∙ ap₂ (λ (a b : ℕ). a + b) (state-before s line ∙ run-bytes line first page t) (sym (bytes-states line (first + t .spares) (page + recordGrids t) ts)))
 
   pub bytes-model : (line : ℕ) → bytesFrom (l .spares) line 0 (trackedRecords l) ≡ bytesBefore line (agedAll (modelOf l .textures))
   unfolding modelOf

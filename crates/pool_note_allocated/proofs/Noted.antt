@@ -13,7 +13,7 @@ use Rattle.base_blocks.specs.Lists.{total}
 use Rattle.base_blocks.specs.All.{All, nil, cons}
 use Rattle.grid_shapes.specs.Shapes.{bytesOf}
 use Rattle.grid_shapes.proofs.ShapeBytes.{bytes-bound}
-use Rattle.pool_rules.specs.Model.{Doomed, VersionState, PoolModel, accepted, pagesUsed, spareBytes, doomedBytes}
+use Rattle.pool_rules.specs.Model.{Doomed, VersionState, PoolModel, accepted, gridsUsed, spareBytes, doomedBytes}
 use Rattle.pool_rules.specs.Updates.{withPacing}
 use Rattle.pool_rules.specs.NoteAllocated.{pressedAfter, countOf, pickedIn, relieved, noteAllocated}
 use Rattle.pool_rules.specs.Formed.{StateFormed}
@@ -124,7 +124,7 @@ module _ (l : Lent) (f : Fits l) (allocated : ℕ) where
     counts-left = sym (λ i. record {
       tracked = (length-map (modelOf l .textures) (lessened (share l excess)) ∙ tracked-model l) i;
       kept = sym (r .count) i;
-      pages = (total-map pagesUsed (lessened (share l excess)) (λ t. refl) (modelOf l .textures) ∙ pages-model l ∙ f .claimed) i;
+      pages = (total-map gridsUsed (lessened (share l excess)) (λ t. refl) (modelOf l .textures) ∙ pages-model l ∙ f .claimed) i;
       head = hand-same i;
       popped = hand-model l (f .hand) i;
       queued = queued-model l i;

@@ -28,7 +28,7 @@ use Rattle.pool_memory.specs.Lent.{Lent, versionPlaces}
 use Rattle.pool_memory.specs.Reading.{trackedRecords, spareRead, stateRead, modelOf}
 use Rattle.pool_memory.specs.Writing.{textureRecord, spareRecord, doomedRecord, everySpare}
 use Rattle.pool_memory.proofs.Parts.{total-next, flat-append}
-use Rattle.pool_memory.proofs.Runs.{sparesOf, spareCount, firstSpare, firstPageOf, stateOf, take-states, kept-states, tracked-model, tracked-records, model-at}
+use Rattle.pool_memory.proofs.Runs.{sparesOf, spareCount, firstSpare, firstGrid, stateOf, take-states, kept-states, tracked-model, tracked-records, model-at}
 use Rattle.pool_memory.proofs.Rings.{laid-append}
 use Rattle.pool_memory.proofs.Counts.{count-spares}
 use Rattle.pool_memory.proofs.Fits.{Fits}
@@ -43,10 +43,10 @@ module _ (l : Lent) where
   abbrev recordOf : ℕ → TextureRecord
   recordOf i = textureIn (l .textures) i
 
-  pub state-record : (i : ℕ) → i < l .pool .tracked → stateOf l i ≡ stateRead l (firstSpare l i) (firstPageOf l i) (recordOf i)
+  pub state-record : (i : ℕ) → i < l .pool .tracked → stateOf l i ≡ stateRead l (firstSpare l i) (firstGrid l i) (recordOf i)
   unfolding stateOf
   state-record i h =
-      ap (stateRead l (firstSpare l i) (firstPageOf l i)) (record-read l i h)
+      ap (stateRead l (firstSpare l i) (firstGrid l i)) (record-read l i h)
 
   pub state-spares : (i : ℕ) → i < l .pool .tracked → stateOf l i .spares ≡ listed (spareRead l) (firstSpare l i) (recordOf i .spares)
   unfolding stateRead

@@ -12,37 +12,37 @@ use lib.ListN.{getD}
 use Rattle.base_blocks.specs.Lists.{listed}
 use Rattle.base_blocks.proofs.Lists.{and-both}
 use Rattle.grid_shapes.specs.Shapes.{isShape, slicesOf}
-use Rattle.pool_rules.specs.Model.{WriteHistory, pagesOf}
+use Rattle.pool_rules.specs.Model.{WriteHistory, gridCount}
 use Rattle.pool_rules.specs.Histories.{inShape, gridPlace}
 use Rattle.grid_stamps.proofs.RowByRow.{tile-place}
 use Rattle.pool_records.specs.declared.recorded.Recorded.{Recorded}
 use Rattle.pool_records.specs.declared.recorded.Recorded.the-variants.{Writes, NoHistory}
 use Rattle.pool_records.specs.declared.texture.TextureRecord.{TextureRecord}
-use Rattle.pool_records.specs.Texture.{readTexture, textureIn, recordedPages, recordPages}
+use Rattle.pool_records.specs.Texture.{readTexture, textureIn, recordedGrids, recordGrids}
 use Rattle.pool_records.specs.Find.{idOf, hasId}
 use Rattle.pool_access.proofs.Ids.{found}
 use Rattle.pool_memory.specs.Lent.{Lent}
 use Rattle.pool_memory.specs.Reading.{trackedRecords, gridRead, historyRead, stateRead}
 use Rattle.pool_memory.proofs.Fits.{Fits}
-use Rattle.pool_memory.proofs.Runs.{firstPageOf, stateOf}
+use Rattle.pool_memory.proofs.Runs.{firstGrid, stateOf}
 use Rattle.pool_memory.proofs.Tracked.{record-read, pages-to, shape-passes}
 use Rattle.pool_memory.proofs.Places.{place, IsTracked}
 use Rattle.pool_memory.proofs.Stays.{ids-ascend, textures-fit}
-use Rattle.pool_memory.proofs.Pages.{pagesAt, pages-in}
+use Rattle.pool_memory.proofs.Pages.{gridCountAt, pages-in}
 use Rattle.pool_note_write.specs.History.{recordedAt, pagesUpTo, pagesHere, pagesEnd, HistoryAt}
 use Rattle.pool_rules.specs.RuleConstants.{mostPlaces}
 
 -- ---- the pages of a record that has a history
 
 module _ (textures : List ℕ) (i : ℕ) (h : HistoryAt textures i) where
-  pub pages-shape : pagesHere textures i ≡ pagesOf (textureIn textures i .shape)
+  pub pages-shape : pagesHere textures i ≡ gridCount (textureIn textures i .shape)
   unfolding pagesHere
-  pages-shape = ap (λ (r : Recorded). recordedPages r (textureIn textures i .shape)) (h .recorded)
+  pages-shape = ap (λ (r : Recorded). recordedGrids r (textureIn textures i .shape)) (h .recorded)
 
   -- a subresource of the shape has its page among them
   pub page-inside : (slice level : ℕ) → inShape (textureIn textures i .shape) slice level ≡ true
       → pagesUpTo textures i + gridPlace (textureIn textures i .shape) slice level < pagesEnd textures i
-  unfolding pagesOf
+  unfolding gridCount
   page-inside slice level e =
       let s = textureIn textures i .shape in
       let q = and-both (ltb slice (slicesOf s)) (ltb level (s .levels)) e in
@@ -62,18 +62,18 @@ module _ (textures : List ℕ) (i : ℕ) (h : HistoryAt textures i) where
 -- ---- the record at a place
 
 module _ (l : Lent) (i : ℕ) (h : i < l .pool .tracked) where
-  pub pages-begin : pagesUpTo (l .textures) i ≡ firstPageOf l i
+  pub pages-begin : pagesUpTo (l .textures) i ≡ firstGrid l i
   unfolding pagesUpTo
   pages-begin = sym (pages-to l i h)
 
-  pub pages-of-record : pagesHere (l .textures) i ≡ pagesAt l i
+  pub pages-of-record : pagesHere (l .textures) i ≡ gridCountAt l i
   unfolding pagesHere
-  pages-of-record = ap recordPages (sym (record-read l i h))
+  pages-of-record = ap recordGrids (sym (record-read l i h))
 
-  pub history-read : (r : Recorded) → textureIn (l .textures) i .history ≡ r → stateOf l i .history ≡ historyRead l (stateOf l i .shape) (firstPageOf l i) r
+  pub history-read : (r : Recorded) → textureIn (l .textures) i .history ≡ r → stateOf l i .history ≡ historyRead l (stateOf l i .shape) (firstGrid l i) r
   unfolding stateOf stateRead
   history-read r e =
-      ap (historyRead l (getD (trackedRecords l) i (readTexture []) .shape) (firstPageOf l i)) (ap (λ (t : TextureRecord). t .history) (record-read l i h) ∙ e)
+      ap (historyRead l (getD (trackedRecords l) i (readTexture []) .shape) (firstGrid l i)) (ap (λ (t : TextureRecord). t .history) (record-read l i h) ∙ e)
 
 -- ---- a texture of a pool
 
@@ -125,7 +125,7 @@ module _ (l : Lent) (f : Fits l) (id : ℕ) where
 
   module _ (n : ℕ) (r : Recording n) where
     abbrev pub historyIs : WriteHistory
-    historyIs = record { writes = n; grids = listed (gridRead l (stateOf l at .shape) (firstPageOf l at)) 0 (pagesOf (stateOf l at .shape)) }
+    historyIs = record { writes = n; grids = listed (gridRead l (stateOf l at .shape) (firstGrid l at)) 0 (gridCount (stateOf l at .shape)) }
 
     pub has-history : stateOf l at .history ≡ some historyIs
     has-history = history-read l at (r .tracked .0) (Writes n) (r .history)
@@ -133,7 +133,7 @@ module _ (l : Lent) (f : Fits l) (id : ℕ) where
     pub shape-formed : isShape (textureIn (l .textures) at .shape) ≡ true
     shape-formed = shape-passes l at (r .tracked .0) f
 
-    pub pages-inside : pagesEnd (l .textures) at ≤ l .pool .pages
+    pub pages-inside : pagesEnd (l .textures) at ≤ l .pool .grids
     pages-inside =
         omega (arith, pages-begin l at (r .tracked .0), pages-of-record l at (r .tracked .0), pages-in l (f .claimed) at (r .tracked .0))
 
@@ -156,5 +156,5 @@ module _ (l : Lent) (f : Fits l) (id : ℕ) where
       pub history-here : HistoryAt (l .textures) i
       history-here = subst (HistoryAt (l .textures)) (sym q) (history-there n r)
 
-      pub pages-here : pagesEnd (l .textures) i ≤ l .pool .pages
-      pages-here = subst (λ (k : ℕ). pagesEnd (l .textures) k ≤ l .pool .pages) (sym q) (pages-inside n r)
+      pub pages-here : pagesEnd (l .textures) i ≤ l .pool .grids
+      pages-here = subst (λ (k : ℕ). pagesEnd (l .textures) k ≤ l .pool .grids) (sym q) (pages-inside n r)

@@ -13,7 +13,7 @@ use Rattle.grid_shapes.specs.declared.shape.VersionShape.{VersionShape}
 use Rattle.grid_shapes.specs.Shapes.{isShape, slicesOf, bytesOf}
 use Rattle.grid_rects.specs.declared.rect.TexelRect.{TexelRect}
 use Rattle.grid_stamps.specs.Grids.{StampGrid, gridIn, tilingOf, stampedBy}
-use Rattle.pool_rules.specs.Model.{WriteHistory, VersionState, PoolModel, hasHistory, pagesOf, pagesUsed}
+use Rattle.pool_rules.specs.Model.{WriteHistory, VersionState, PoolModel, hasHistory, gridCount, gridsUsed}
 use Rattle.pool_rules.specs.Updates.{withHistory, withTextures}
 use Rattle.pool_rules.specs.Histories.{gridAt, gridPlace, stampWrite, regenerateFrom, stampRegeneration}
 use Rattle.pool_records.specs.declared.recorded.Recorded.the-variants.{Writes, NoHistory}
@@ -23,12 +23,12 @@ use Rattle.pool_memory.specs.Lent.{Lent, lent}
 use Rattle.pool_memory.specs.Reading.{pageAt, gridRead, stateRead, modelOf, gridOn}
 use Rattle.pool_memory.specs.Writing.{recordedHistory, textureRecord, gridsOf, pageBefore, texturesAfter, newestAfter, stampsAfter, poolAfter, lentAfter}
 use Rattle.pool_memory.proofs.Fits.{Fits}
-use Rattle.pool_memory.proofs.Runs.{spareCount, firstPageOf, stateOf, tracked-model, model-at, kept-model, pages-model}
+use Rattle.pool_memory.proofs.Runs.{spareCount, firstGrid, stateOf, tracked-model, model-at, kept-model, pages-model}
 use Rattle.pool_memory.proofs.Rings.{head-stays, hand-model, first-stays}
 use Rattle.pool_memory.proofs.Same.{queued-model, doomed-model}
 use Rattle.pool_memory.proofs.Stays.{put-together, ids-ascend, book-stays, retiring-stay, doomed-stay, spares-stay}
 use Rattle.pool_memory.proofs.Changes.{count-state, textures-set, every-kept}
-use Rattle.pool_memory.proofs.Pages.{pagesAt, pages-in, newest-dropped, stamps-dropped}
+use Rattle.pool_memory.proofs.Pages.{gridCountAt, pages-in, newest-dropped, stamps-dropped}
 use Rattle.pool_memory.proofs.Stamped.{gridsAt, used-at, whole-grids}
 use Rattle.pool_memory.proofs.Written.{all-pages, place-page, grid-held, newest-rewritten, newest-stamped, stamps-rewritten, stamps-stamped}
 use Rattle.pool_memory.proofs.Tracked.{record-read, bytes-at, shape-at}
@@ -52,10 +52,10 @@ total-set f (x ∷ xs) (suc i) a d h = omega (arith, total-set f xs i a d (omega
 
 abbrev pub droppedLent : Lent → ℕ → Lent
 droppedLent l i =
-    lent (withPages (l .pool .pages - pagesHere (l .textures) i) (l .pool)) (l .book)
+    lent (withPages (l .pool .grids - pagesHere (l .textures) i) (l .pool)) (l .book)
     (sets (l .textures) (textureStride * i) (writeTexture (recordedAs NoHistory (textureIn (l .textures) i)))) (l .retiring) (l .doomed) (l .spares)
-    (moved (l .newest) (pagesUpTo (l .textures) i) (pagesEnd (l .textures) i) (l .pool .pages - pagesEnd (l .textures) i))
-    (moved (l .stamps) (pageStamps * pagesUpTo (l .textures) i) (pageStamps * pagesUpTo (l .textures) i + pageStamps * pagesHere (l .textures) i) (pageStamps * (l .pool .pages - pagesEnd (l .textures) i)))
+    (moved (l .newest) (pagesUpTo (l .textures) i) (pagesEnd (l .textures) i) (l .pool .grids - pagesEnd (l .textures) i))
+    (moved (l .stamps) (pageStamps * pagesUpTo (l .textures) i) (pageStamps * pagesUpTo (l .textures) i + pageStamps * pagesHere (l .textures) i) (pageStamps * (l .pool .grids - pagesEnd (l .textures) i)))
 
 abbrev pub keptLent : Lent → ℕ → ℕ → ℕ → List StampGrid → Lent
 keptLent l i writes p gs =
@@ -98,11 +98,11 @@ module _ (l : Lent) (f : Fits l) (i : ℕ) (h : i < l .pool .tracked) where
     kept-left =
         omega (arith, total-set spareCount (modelOf l .textures) i otherState (stateOf l 0) within, ap spareCount (model-at l i (stateOf l 0) h), kept-model l, f .kept)
 
-    pages-left : total pagesUsed (set (modelOf l .textures) i otherState) + pagesAt l i ≡ l .pool .pages + pagesUsed otherState
+    pages-left : total gridsUsed (set (modelOf l .textures) i otherState) + gridCountAt l i ≡ l .pool .grids + gridsUsed otherState
     pages-left =
-        omega (arith, total-set pagesUsed (modelOf l .textures) i otherState (stateOf l 0) within, ap pagesUsed (model-at l i (stateOf l 0) h), used-at l i, pages-model l, f .claimed)
+        omega (arith, total-set gridsUsed (modelOf l .textures) i otherState (stateOf l 0) within, ap gridsUsed (model-at l i (stateOf l 0) h), used-at l i, pages-model l, f .claimed)
 
-    counts-left : (pages : ℕ) → total pagesUsed (set (modelOf l .textures) i otherState) ≡ pages → withPages pages (l .pool) ≡ poolAfter otherPool l
+    counts-left : (pages : ℕ) → total gridsUsed (set (modelOf l .textures) i otherState) ≡ pages → withPages pages (l .pool) ≡ poolAfter otherPool l
     unfolding poolAfter modelOf
     counts-left pages e = λ j. record {
       tracked = sym (length-set (modelOf l .textures) i otherState ∙ tracked-model l) j;
@@ -121,7 +121,7 @@ module _ (l : Lent) (f : Fits l) (i : ℕ) (h : i < l .pool .tracked) where
       line = l .pool .line;
     }
 
-    history-left : (pages : ℕ) (newest stamps : List ℕ) → total pagesUsed (set (modelOf l .textures) i otherState) ≡ pages
+    history-left : (pages : ℕ) (newest stamps : List ℕ) → total gridsUsed (set (modelOf l .textures) i otherState) ≡ pages
         → newest ≡ newestAfter otherPool l → stamps ≡ stampsAfter otherPool l
         → lent (withPages pages (l .pool)) (l .book) (sets (l .textures) (textureStride * i) (writeTexture (recordedAs (recordedHistory o) (textureIn (l .textures) i)))) (l .retiring) (l .doomed) (l .spares) newest stamps
         ≡ lentAfter otherPool l
@@ -132,16 +132,16 @@ module _ (l : Lent) (f : Fits l) (i : ℕ) (h : i < l .pool .tracked) where
 
   -- ---- dropped
 
-  stamps-fit : pageStamps * l .pool .pages ≤ length (l .stamps)
+  stamps-fit : pageStamps * l .pool .grids ≤ length (l .stamps)
   stamps-fit = omega (arith, f .stamps, f .pages)
 
   pub history-dropped : droppedLent l i ≡ lentAfter (otherPool none) l
   history-dropped =
-      history-left none (l .pool .pages - pagesHere (l .textures) i) _ _
+      history-left none (l .pool .grids - pagesHere (l .textures) i) _ _
       (omega (arith, pages-left none, pages-of-record l i h, pages-in l (f .claimed) i h))
-      (ap₂ (λ (p n : ℕ). moved (l .newest) p (p + n) (l .pool .pages - (p + n))) (pages-begin l i h) (pages-of-record l i h)
+      (ap₂ (λ (p n : ℕ). moved (l .newest) p (p + n) (l .pool .grids - (p + n))) (pages-begin l i h) (pages-of-record l i h)
       ∙ newest-dropped l (otherPool none) (f .claimed) i h (otherState none) refl refl (f .pages))
-      (ap₂ (λ (p n : ℕ). moved (l .stamps) (pageStamps * p) (pageStamps * p + pageStamps * n) (pageStamps * (l .pool .pages - (p + n)))) (pages-begin l i h) (pages-of-record l i h)
+      (ap₂ (λ (p n : ℕ). moved (l .stamps) (pageStamps * p) (pageStamps * p + pageStamps * n) (pageStamps * (l .pool .grids - (p + n)))) (pages-begin l i h) (pages-of-record l i h)
       ∙ stamps-dropped l (otherPool none) (f .claimed) i h (otherState none) refl refl (ids-ascend l f) stamps-fit)
 
   -- ---- a texture with a history, which it keeps
@@ -150,13 +150,13 @@ module _ (l : Lent) (f : Fits l) (i : ℕ) (h : i < l .pool .tracked) where
     abbrev shape : VersionShape
     shape = stateOf l i .shape
 
-    same-pages : (new : WriteHistory) → total pagesUsed (set (modelOf l .textures) i (otherState (some new))) ≡ l .pool .pages
+    same-pages : (new : WriteHistory) → total gridsUsed (set (modelOf l .textures) i (otherState (some new))) ≡ l .pool .grids
     same-pages new = omega (arith, pages-left (some new), all-pages l i old has)
 
     keeps : hasHistory (stateOf l i .history) ≡ true
     keeps = ap hasHistory has
 
-    stamps-room : pageStamps * (firstPageOf l i + pagesAt l i) ≤ length (l .stamps)
+    stamps-room : pageStamps * (firstGrid l i + gridCountAt l i) ≤ length (l .stamps)
     stamps-room = omega (arith, stamps-fit, pages-in l (f .claimed) i h)
 
     -- ---- a write
@@ -183,7 +183,7 @@ module _ (l : Lent) (f : Fits l) (i : ℕ) (h : i < l .pool .tracked) where
           (sym (shape-at l i h)) (pages-begin l i h)
           ∙ ap (stampedBy (tilingOf shape level) r (suc (old .writes))) (sym (grid-held l i old has slice level a b))
 
-      page-of-write : pageOf (l .textures) i slice level ≡ firstPageOf l i + place
+      page-of-write : pageOf (l .textures) i slice level ≡ firstGrid l i + place
       unfolding pageOf
       page-of-write = ap₂ (λ (p : ℕ) (s : VersionShape). p + gridPlace s slice level) (pages-begin l i h) (sym (shape-at l i h))
 
@@ -192,18 +192,18 @@ module _ (l : Lent) (f : Fits l) (i : ℕ) (h : i < l .pool .tracked) where
       unfolding stampWrite
       history-stamped =
           ap₂ (λ (p : ℕ) (g : StampGrid). keptLent l i (suc (old .writes)) p (g ∷ [])) page-of-write stamped-on
-          ∙ history-left afterWrite (l .pool .pages) (newestWritten (l .newest) (firstPageOf l i + place) (stampedGrid ∷ [])) (pagesWritten (l .stamps) (firstPageOf l i + place) (stampedGrid ∷ []))
+          ∙ history-left afterWrite (l .pool .grids) (newestWritten (l .newest) (firstGrid l i + place) (stampedGrid ∷ [])) (pagesWritten (l .stamps) (firstGrid l i + place) (stampedGrid ∷ []))
           (same-pages (stampWrite shape slice level r old))
-          (one-newest (l .newest) (firstPageOf l i + place) stampedGrid
+          (one-newest (l .newest) (firstGrid l i + place) stampedGrid
           ∙ newest-stamped l (otherPool afterWrite) (f .claimed) i h (otherState afterWrite) refl (f .pages) place stampedGrid (place-page l i old has slice level a b) new-grids)
-          (one-page (l .stamps) (firstPageOf l i + place) stampedGrid (omega (arith, stamps-room, place-page l i old has slice level a b))
+          (one-page (l .stamps) (firstGrid l i + place) stampedGrid (omega (arith, stamps-room, place-page l i old has slice level a b))
           (small-stamped shape shaped level r (suc (old .writes)) (gridAt shape old slice level))
           ∙ stamps-stamped l (otherPool afterWrite) (f .claimed) i h (otherState afterWrite) refl (ids-ascend l f) refl refl stamps-fit place stampedGrid
           (place-page l i old has slice level a b) new-grids (small-stamped shape shaped level r (suc (old .writes)) (gridAt shape old slice level)))
 
     -- ---- a regeneration
 
-    module _ (shaped : isShape shape ≡ true) (grids : old .grids ≡ listed (gridRead l shape (firstPageOf l i)) 0 (pagesOf shape)) where
+    module _ (shaped : isShape shape ≡ true) (grids : old .grids ≡ listed (gridRead l shape (firstGrid l i)) 0 (gridCount shape)) where
       abbrev afterRegeneration : Option WriteHistory
       afterRegeneration = some (stampRegeneration shape old)
 
@@ -212,10 +212,10 @@ module _ (l : Lent) (f : Fits l) (i : ℕ) (h : i < l .pool .tracked) where
       unfolding stampRegeneration remadeGrids gridRead gridOn
       made-grids =
           ap₂ (λ (s : VersionShape) (p : ℕ). remadeGrids s (suc (old .writes)) (l .newest) (l .stamps) p (pagesHere (l .textures) i)) (sym (shape-at l i h)) (pages-begin l i h)
-          ∙ ap (remadeGrids shape (suc (old .writes)) (l .newest) (l .stamps) (firstPageOf l i)) (pages-of-record l i h ∙ all-pages l i old has)
-          ∙ sym (ap (regenerateFrom shape (suc (old .writes)) 0) grids ∙ regenerate-listed shape (suc (old .writes)) (gridRead l shape (firstPageOf l i)) 0 (pagesOf shape))
+          ∙ ap (remadeGrids shape (suc (old .writes)) (l .newest) (l .stamps) (firstGrid l i)) (pages-of-record l i h ∙ all-pages l i old has)
+          ∙ sym (ap (regenerateFrom shape (suc (old .writes)) 0) grids ∙ regenerate-listed shape (suc (old .writes)) (gridRead l shape (firstGrid l i)) 0 (gridCount shape))
 
-      count-made : length (gridsOf afterRegeneration) ≡ pagesAt l i
+      count-made : length (gridsOf afterRegeneration) ≡ gridCountAt l i
       count-made = ap length (sym made-grids) ∙ length-made ∙ pages-of-record l i h
         where
           length-made : length (remadeGrids (textureIn (l .textures) i .shape) (suc (old .writes)) (l .newest) (l .stamps) (pagesUpTo (l .textures) i) (pagesHere (l .textures) i)) ≡ pagesHere (l .textures) i
@@ -236,7 +236,7 @@ module _ (l : Lent) (f : Fits l) (i : ℕ) (h : i < l .pool .tracked) where
       unfolding stampRegeneration newestWritten pagesWritten pageBefore
       history-regenerated =
           ap₂ (keptLent l i (suc (old .writes))) (pages-begin l i h) made-grids
-          ∙ history-left afterRegeneration (l .pool .pages) (newestWritten (l .newest) (firstPageOf l i) (gridsOf afterRegeneration)) (pagesWritten (l .stamps) (firstPageOf l i) (gridsOf afterRegeneration))
+          ∙ history-left afterRegeneration (l .pool .grids) (newestWritten (l .newest) (firstGrid l i) (gridsOf afterRegeneration)) (pagesWritten (l .stamps) (firstGrid l i) (gridsOf afterRegeneration))
           (same-pages (stampRegeneration shape old))
           (newest-rewritten l (otherPool afterRegeneration) (f .claimed) i h (otherState afterRegeneration) refl (f .pages) count-made)
           (stamps-rewritten l (otherPool afterRegeneration) (f .claimed) i h (otherState afterRegeneration) refl (ids-ascend l f) refl refl stamps-fit (record { newest = 0; stamps = [] }) keeps count-made

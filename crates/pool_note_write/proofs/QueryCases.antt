@@ -23,7 +23,7 @@ use Rattle.pool_records.specs.declared.texture.TextureRecord.{TextureRecord}
 use Rattle.pool_memory.specs.Lent.{Lent}
 use Rattle.pool_memory.specs.Reading.{pageAt, modelOf}
 use Rattle.pool_memory.proofs.Fits.{Fits}
-use Rattle.pool_memory.proofs.Runs.{stateOf, firstPageOf}
+use Rattle.pool_memory.proofs.Runs.{stateOf, firstGrid}
 use Rattle.pool_memory.proofs.Places.{found, not-found}
 use Rattle.pool_memory.proofs.Stays.{ids-ascend}
 use Rattle.pool_memory.proofs.Written.{grid-held}
@@ -101,11 +101,11 @@ module _ (l : Lent) (f : Fits l) (id : ℕ) where
         dirty-inside g r d =
             let here = in-state true g in
             let w = and-both (ltb slice (slicesOf shape)) (ltb level (shape .levels)) here in
-            let p = firstPageOf l i + gridPlace shape slice level in
+            let p = firstGrid l i + gridPlace shape slice level in
             let e : textureIn (l .textures) k .shape ≡ shape = sym (same-shape ∙ ap (λ (x : TextureRecord). x .shape) read) in
-            let b : pagesUpTo (l .textures) k ≡ firstPageOf l i = ap (pagesUpTo (l .textures)) q ∙ pages-begin l i (rec .tracked .0) in
+            let b : pagesUpTo (l .textures) k ≡ firstGrid l i = ap (pagesUpTo (l .textures)) q ∙ pages-begin l i (rec .tracked .0) in
             let d′ : IsDirtyTile (tilingOf shape level) held (pageAt (l .stamps) p) r =
-            subst (λ (s : VersionShape). IsDirtyTile (tilingOf s level) held (pageAt (l .stamps) (firstPageOf l i + gridPlace s slice level)) r) e
+            subst (λ (s : VersionShape). IsDirtyTile (tilingOf s level) held (pageAt (l .stamps) (firstGrid l i + gridPlace s slice level)) r) e
             (subst (λ (m : ℕ). IsDirtyTile (tilingOf (textureIn (l .textures) k .shape) level) held (pageAt (l .stamps) (m + gridPlace (textureIn (l .textures) k .shape) slice level)) r) b d) in
             of-history r
             (subst (λ (b : Bool). cond b (IsDirtyTile (tilingOf shape level) held (gridAt shape old slice level .stamps) r) (r ≡ NoTile)) (sym here)

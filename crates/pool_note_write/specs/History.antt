@@ -12,7 +12,7 @@ use Rattle.pool_rules.specs.Histories.{gridPlace}
 use Rattle.pool_records.specs.declared.recorded.Recorded.{Recorded}
 use Rattle.pool_records.specs.declared.recorded.Recorded.the-variants.{Writes, NoHistory}
 use Rattle.pool_records.specs.declared.texture.TextureRecord.{TextureRecord}
-use Rattle.pool_records.specs.Texture.{textureIn, texturesIn, recordPages}
+use Rattle.pool_records.specs.Texture.{textureIn, texturesIn, recordGrids}
 use Rattle.pool_records.specs.Find.{hasId}
 use Rattle.pool_memory.specs.Reading.{gridOn}
 use Rattle.pool_records.specs.RecordConstants.{textureStride}
@@ -28,10 +28,10 @@ recordedAs h t = record { id = t .id; shape = t .shape; epoch = t .epoch; histor
 
 -- the pages of the textures before record i, which is where its own begin, and how many those are
 unfoldable pub pagesUpTo : List ℕ → ℕ → ℕ
-pagesUpTo textures i = total recordPages (texturesIn i textures)
+pagesUpTo textures i = total recordGrids (texturesIn i textures)
 
 unfoldable pub pagesHere : List ℕ → ℕ → ℕ
-pagesHere textures i = recordPages (textureIn textures i)
+pagesHere textures i = recordGrids (textureIn textures i)
 
 abbrev pub pagesEnd : List ℕ → ℕ → ℕ
 pagesEnd textures i = pagesUpTo textures i + pagesHere textures i

@@ -16,7 +16,7 @@ use Rattle.base_tables.specs.Rings.{placeOf, along, laid}
 use Rattle.base_tables.proofs.Records.{take-table}
 use Rattle.grid_shapes.specs.Shapes.{bytesOf}
 use Rattle.grid_shapes.proofs.ShapeBytes.{bytes-bound}
-use Rattle.pool_rules.specs.Model.{Spare, Retiring, Doomed, VersionState, PoolModel, accepted, refused, guard, find, limit, pagesUsed}
+use Rattle.pool_rules.specs.Model.{Spare, Retiring, Doomed, VersionState, PoolModel, accepted, refused, guard, find, limit, gridsUsed}
 use Rattle.pool_rules.specs.Updates.{withSpares, withTextures, withRetiring, withParked, change, doom}
 use Rattle.pool_rules.specs.Park.{asSpare, parkFound, parkHand, park}
 use Rattle.pool_rules.specs.Formed.{Given, RetiringFormed}
@@ -343,7 +343,7 @@ module _ (l : Lent) (e : isPool l ≡ true) (failed current : ℕ) where
             counts-kept head q = λ j. record {
               tracked = sym (length-change (x .id) (withOne spare) (modelOf l .textures) ∙ tracked-model l) j;
               kept = sym (kept-inserted l stays (fits .kept) end spare end-within every-is) j;
-              pages = sym (total-unchanged pagesUsed (x .id) (withOne spare) (λ t. refl) (modelOf l .textures) ∙ pages-model l ∙ fits .claimed) j;
+              pages = sym (total-unchanged gridsUsed (x .id) (withOne spare) (λ t. refl) (modelOf l .textures) ∙ pages-model l ∙ fits .claimed) j;
               head = (q ∙ sym (head-parked l stays (fits .head) held refl)) j;
               popped = 0;
               queued = sym (queued-model l) j;

@@ -13,20 +13,20 @@ use Rattle.grid_shapes.specs.Shapes.{sameShape}
 use Rattle.grid_shapes.proofs.Shapes.{same-shape}
 use Rattle.pool_rules.specs.declared.held.Held.{Held}
 use Rattle.pool_rules.specs.declared.held.Held.the-variants.{Known, Unknown}
-use Rattle.pool_rules.specs.Model.{WriteHistory, Out, PreserveCopy, UploadFootprint, guard, find, pagesOf}
+use Rattle.pool_rules.specs.Model.{WriteHistory, Out, PreserveCopy, UploadFootprint, guard, find, gridCount}
 use Rattle.pool_rules.specs.Histories.{spent}
 use Rattle.pool_rules.specs.PreservePlan.{planWith, planFound}
 use Rattle.pool_rules.proofs.Lists.{total-cut}
 use Rattle.pool_records.specs.declared.recorded.Recorded.{Recorded}
 use Rattle.pool_records.specs.declared.recorded.Recorded.the-variants.{Writes, NoHistory}
 use Rattle.pool_records.specs.declared.texture.TextureRecord.{TextureRecord}
-use Rattle.pool_records.specs.Texture.{readTexture, textureIn, texturesIn, recordedPages, recordPages}
+use Rattle.pool_records.specs.Texture.{readTexture, textureIn, texturesIn, recordedGrids, recordGrids}
 use Rattle.pool_records.specs.Find.{idOf, below, hasId}
 use Rattle.pool_memory.specs.Lent.{Lent}
 use Rattle.pool_memory.specs.Reading.{trackedRecords, historyRead, stateRead, modelOf}
 use Rattle.pool_memory.proofs.Fits.{Fits}
 use Rattle.pool_memory.proofs.Parts.{total-within}
-use Rattle.pool_memory.proofs.Runs.{firstSpare, firstPageOf, stateOf, tracked-records}
+use Rattle.pool_memory.proofs.Runs.{firstSpare, firstGrid, stateOf, tracked-records}
 use Rattle.pool_memory.proofs.Places.{IsTracked}
 use Rattle.pool_memory.proofs.Places as places
 use Rattle.pool_memory.proofs.Stays.{ids-ascend}
@@ -43,25 +43,25 @@ module _ (textures : List ℕ) (tracked id : ℕ) (shape : VersionShape) (i : �
   pub found-none : hasId textures tracked i id ≡ false → foundAt textures tracked id shape i ≡ NothingRecorded
   unfolding foundAt
   found-none e =
-      ap (λ (b : Bool). cond b (foundOf (total recordPages (texturesIn i textures)) shape (textureIn textures i)) NothingRecorded) e
+      ap (λ (b : Bool). cond b (foundOf (total recordGrids (texturesIn i textures)) shape (textureIn textures i)) NothingRecorded) e
 
   module _ (t : TextureRecord) (r : t ≡ textureIn textures i) (h : hasId textures tracked i id ≡ true) where
-    found-there : foundAt textures tracked id shape i ≡ foundOf (total recordPages (texturesIn i textures)) shape t
+    found-there : foundAt textures tracked id shape i ≡ foundOf (total recordGrids (texturesIn i textures)) shape t
     unfolding foundAt
     found-there =
-        ap (λ (b : Bool). cond b (foundOf (total recordPages (texturesIn i textures)) shape (textureIn textures i)) NothingRecorded) h
-        ∙ ap (foundOf (total recordPages (texturesIn i textures)) shape) (sym r)
+        ap (λ (b : Bool). cond b (foundOf (total recordGrids (texturesIn i textures)) shape (textureIn textures i)) NothingRecorded) h
+        ∙ ap (foundOf (total recordGrids (texturesIn i textures)) shape) (sym r)
 
     pub found-other : sameShape (t .shape) shape ≡ false → foundAt textures tracked id shape i ≡ OtherShape
     unfolding foundOf
     found-other e =
-        found-there ∙ ap (λ (b : Bool). cond b (recordedFound (total recordPages (texturesIn i textures)) (t .history)) OtherShape) e
+        found-there ∙ ap (λ (b : Bool). cond b (recordedFound (total recordGrids (texturesIn i textures)) (t .history)) OtherShape) e
 
     pub found-recorded : (history : Recorded) (page : ℕ) → sameShape (t .shape) shape ≡ true → t .history ≡ history
-        → page ≡ total recordPages (texturesIn i textures) → foundAt textures tracked id shape i ≡ recordedFound page history
+        → page ≡ total recordGrids (texturesIn i textures) → foundAt textures tracked id shape i ≡ recordedFound page history
     unfolding foundOf
     found-recorded history page e f p =
-        found-there ∙ ap (λ (b : Bool). cond b (recordedFound (total recordPages (texturesIn i textures)) (t .history)) OtherShape) e
+        found-there ∙ ap (λ (b : Bool). cond b (recordedFound (total recordGrids (texturesIn i textures)) (t .history)) OtherShape) e
         ∙ ap₂ recordedFound (sym p) f
 
 -- the search answers the place
@@ -72,9 +72,9 @@ found-place textures tracked id shape i e = ap (foundAt textures tracked id shap
 
 -- the pages of the first i, which the code adds up
 pub pages-part : (textures : List ℕ) (tracked i : ℕ) → i ≤ tracked
-    → total recordPages (texturesIn i textures) ≤ total recordPages (texturesIn tracked textures)
+    → total recordGrids (texturesIn i textures) ≤ total recordGrids (texturesIn tracked textures)
 pages-part textures tracked i h =
-    omega (arith, total-cut recordPages i (texturesIn tracked textures), ap (total recordPages) (take-table textureStride readTexture i tracked textures h))
+    omega (arith, total-cut recordGrids i (texturesIn tracked textures), ap (total recordGrids) (take-table textureStride readTexture i tracked textures h))
 
 -- ---- as the model has it
 
@@ -127,9 +127,9 @@ module _ (l : Lent) (fits : Fits l) (id : ℕ) (shape : VersionShape) where
   record-place : place < l .pool .tracked → getD (trackedRecords l) place (readTexture []) ≡ textureIn (l .textures) place
   record-place h = getD-table textureStride readTexture (l .pool .tracked) place (l .textures) (readTexture []) h
 
-  page-place : place < l .pool .tracked → firstPageOf l place ≡ total recordPages (texturesIn place (l .textures))
-  unfolding firstPageOf
-  page-place h = ap (total recordPages) (take-table textureStride readTexture place (l .pool .tracked) (l .textures) (omega arith))
+  page-place : place < l .pool .tracked → firstGrid l place ≡ total recordGrids (texturesIn place (l .textures))
+  unfolding firstGrid
+  page-place h = ap (total recordGrids) (take-table textureStride readTexture place (l .pool .tracked) (l .textures) (omega arith))
 
   module _ (has : hasId (l .textures) (l .pool .tracked) place id ≡ true) where
     within : place < l .pool .tracked
@@ -138,7 +138,7 @@ module _ (l : Lent) (fits : Fits l) (id : ℕ) (shape : VersionShape) where
     is-there : IsTracked l id (ids-ascend l fits)
     is-there = (within, ap idOf (record-place within) ∙ ids.found (l .textures) (l .pool .tracked) place id has .1)
 
-    found-state : foundIn ≡ foundOf (firstPageOf l place) shape (getD (trackedRecords l) place (readTexture []))
+    found-state : foundIn ≡ foundOf (firstGrid l place) shape (getD (trackedRecords l) place (readTexture []))
     unfolding historyFound
     found-state =
         found-there (l .textures) (l .pool .tracked) id shape place (textureIn (l .textures) place) refl has
@@ -156,7 +156,7 @@ module _ (l : Lent) (fits : Fits l) (id : ℕ) (shape : VersionShape) where
           → planFound (modelOf l) shape held u room (find id (modelOf l .textures)) ≡ planBy l shape held u room foundIn
       go true e =
           ap (planFound (modelOf l) shape held u room) (places.found l id (ids-ascend l fits) (is-there e))
-          ∙ plan-state l shape held u room (firstSpare l place) (firstPageOf l place) (getD (trackedRecords l) place (readTexture []))
+          ∙ plan-state l shape held u room (firstSpare l place) (firstGrid l place) (getD (trackedRecords l) place (readTexture []))
           ∙ ap (planBy l shape held u room) (sym (found-state e))
       go false e =
           ap (planFound (modelOf l) shape held u room) (places.not-found l id (ids-ascend l fits) (not-there e))
@@ -164,34 +164,34 @@ module _ (l : Lent) (fits : Fits l) (id : ℕ) (shape : VersionShape) where
 
   -- ---- the pages of what was found are there
 
-  recorded-fits : (page : ℕ) (h : Recorded) (held : Held) → page + recordedPages h shape ≤ length (l .newest)
-      → SinceFits (sinceOf (recordedFound page h) held) (pagesOf shape) (length (l .newest)) (length (l .stamps))
+  recorded-fits : (page : ℕ) (h : Recorded) (held : Held) → page + recordedGrids h shape ≤ length (l .newest)
+      → SinceFits (sinceOf (recordedFound page h) held) (gridCount shape) (length (l .newest)) (length (l .stamps))
   recorded-fits page NoHistory held q = tt
   recorded-fits page (Writes n) (Known k) q = (q, omega (arith, fits .stamps))
   recorded-fits page (Writes n) Unknown q = tt
 
-  state-fits : (page : ℕ) (t : TextureRecord) (held : Held) → page + recordPages t ≤ length (l .newest)
-      → SinceFits (sinceOf (foundOf page shape t) held) (pagesOf shape) (length (l .newest)) (length (l .stamps))
+  state-fits : (page : ℕ) (t : TextureRecord) (held : Held) → page + recordGrids t ≤ length (l .newest)
+      → SinceFits (sinceOf (foundOf page shape t) held) (gridCount shape) (length (l .newest)) (length (l .stamps))
   unfolding foundOf
   state-fits page t held q = go (sameShape (t .shape) shape) refl
     where
       go : (b : Bool) → sameShape (t .shape) shape ≡ b
-          → SinceFits (sinceOf (cond b (recordedFound page (t .history)) OtherShape) held) (pagesOf shape) (length (l .newest)) (length (l .stamps))
-      go true e = recorded-fits page (t .history) held (omega (arith, ap (recordedPages (t .history)) (same-shape (t .shape) shape e)))
+          → SinceFits (sinceOf (cond b (recordedFound page (t .history)) OtherShape) held) (gridCount shape) (length (l .newest)) (length (l .stamps))
+      go true e = recorded-fits page (t .history) held (omega (arith, ap (recordedGrids (t .history)) (same-shape (t .shape) shape e)))
       go false e = tt
 
   first-in : place < l .pool .tracked
-      → firstPageOf l place + recordPages (getD (trackedRecords l) place (readTexture [])) ≤ length (l .newest)
-  unfolding firstPageOf
+      → firstGrid l place + recordGrids (getD (trackedRecords l) place (readTexture [])) ≤ length (l .newest)
+  unfolding firstGrid
   first-in h =
-      omega (arith, total-within recordPages (trackedRecords l) place (readTexture []) (omega (arith, tracked-records l)), fits .claimed, fits .pages)
+      omega (arith, total-within recordGrids (trackedRecords l) place (readTexture []) (omega (arith, tracked-records l)), fits .claimed, fits .pages)
 
-  pub found-fits : (held : Held) → SinceFits (sinceOf foundIn held) (pagesOf shape) (length (l .newest)) (length (l .stamps))
+  pub found-fits : (held : Held) → SinceFits (sinceOf foundIn held) (gridCount shape) (length (l .newest)) (length (l .stamps))
   unfolding historyFound
   found-fits held = go (hasId (l .textures) (l .pool .tracked) place id) refl
     where
       go : (b : Bool) → hasId (l .textures) (l .pool .tracked) place id ≡ b
-          → SinceFits (sinceOf foundIn held) (pagesOf shape) (length (l .newest)) (length (l .stamps))
+          → SinceFits (sinceOf foundIn held) (gridCount shape) (length (l .newest)) (length (l .stamps))
       go true e =
-          rw (found-state e) (state-fits (firstPageOf l place) (getD (trackedRecords l) place (readTexture [])) held (first-in (within e)))
+          rw (found-state e) (state-fits (firstGrid l place) (getD (trackedRecords l) place (readTexture [])) held (first-in (within e)))
       go false e = rw (found-none (l .textures) (l .pool .tracked) id shape place e) tt

@@ -21,7 +21,7 @@ use Rattle.grid_stamps.specs.declared.since.Dirty.the-variants.{Box, Clean}
 use Rattle.grid_stamps.specs.Grids.{Tiling, tiled, tilingOf, stampCount, gridIn, boxSince}
 use Rattle.grid_stamps.proofs.Tilings.{tiling-ok, count-bound}
 use Rattle.grid_stamps.proofs.RowByRow.{tile-place}
-use Rattle.pool_rules.specs.Model.{UploadFootprint, pagesOf}
+use Rattle.pool_rules.specs.Model.{UploadFootprint, gridCount}
 use Rattle.pool_rules.specs.Histories.{gridPlace}
 use Rattle.pool_rules.specs.PreservePlan.{sameRect, covers}
 use Rattle.pool_memory.specs.Reading.{pageAt, gridOn}
@@ -103,12 +103,12 @@ unfolding slicesOf
 slices-most s = either (λ (n : ℕ). n ≤ 6) (eqb (s .kind) 1) 6 1 (λ e. omega arith) (λ e. omega arith)
 
 -- a subresource's page is one of the history's
-pub place-in : (s : VersionShape) (slice level : ℕ) → slice < slicesOf s → level < s .levels → gridPlace s slice level < pagesOf s
-unfolding pagesOf
+pub place-in : (s : VersionShape) (slice level : ℕ) → slice < slicesOf s → level < s .levels → gridPlace s slice level < gridCount s
+unfolding gridCount
 place-in s slice level p q = omega (arith, tile-place (s .levels) (slicesOf s) level slice q p, mul-comm (s .levels) (slicesOf s))
 
-pub pages-most : (s : VersionShape) → isShape s ≡ true → pagesOf s ≤ 90
-unfolding pagesOf
+pub pages-most : (s : VersionShape) → isShape s ≡ true → gridCount s ≤ 90
+unfolding gridCount
 pages-most s e = omega (arith, mul-le-mul (slices-most s) (shape-bounds s e .levels-bound))
 
 pub since-fits : (since : Since) (page held pages n m : ℕ) → since ≡ After page held → SinceFits since pages n m → (page + pages ≤ n) × (pageStamps * n ≤ m)
@@ -122,9 +122,9 @@ pub record PageIn (s : VersionShape) (slice level page n m : ℕ) : Type 0 where
   pub room : pageStamps * (page + gridPlace s slice level) + pageStamps ≤ m
 
 pub page-in : (s : VersionShape) (slice level : ℕ) (since : Since) (page held n m : ℕ) → isShape s ≡ true → slice < slicesOf s → level < s .levels
-    → SinceFits since (pagesOf s) n m → since ≡ After page held → PageIn s slice level page n m
+    → SinceFits since (gridCount s) n m → since ≡ After page held → PageIn s slice level page n m
 page-in s slice level since page held n m shaped p q fits e =
-    let f = since-fits since page held (pagesOf s) n m e fits in
+    let f = since-fits since page held (gridCount s) n m e fits in
     let i = place-in s slice level p q in
     let most = pages-most s shaped in
     record {

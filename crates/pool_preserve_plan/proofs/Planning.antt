@@ -16,7 +16,7 @@ use Rattle.grid_stamps.specs.declared.since.Dirty.the-variants.{Box, Clean}
 use Rattle.grid_stamps.specs.Grids.{StampGrid, tilingOf, gridIn, boxSince}
 use Rattle.pool_rules.specs.declared.held.Held.{Held}
 use Rattle.pool_rules.specs.declared.held.Held.the-variants.{Known, Unknown}
-use Rattle.pool_rules.specs.Model.{PoolModel, Out, refused, accepted, guard, find, PreserveCopy, UploadFootprint, pagesOf}
+use Rattle.pool_rules.specs.Model.{PoolModel, Out, refused, accepted, guard, find, PreserveCopy, UploadFootprint, gridCount}
 use Rattle.pool_rules.specs.Histories.{inShape, gridPlace, gridAt}
 use Rattle.pool_rules.specs.PreservePlan.{covers, boxCopy, copyOf, copies, planFound, preservePlan}
 use Rattle.pool_memory.specs.Lent.{Lent}
@@ -74,8 +74,8 @@ slice-most newest stamps s since u slice =
     )
 
 pub copies-most : (newest stamps : List ℕ) (s : VersionShape) (since : Since) (u : UploadFootprint)
-    → length (lentCopies newest stamps s since u) ≤ pagesOf s
-unfolding lentCopies pagesOf
+    → length (lentCopies newest stamps s since u) ≤ gridCount s
+unfolding lentCopies gridCount
 copies-most newest stamps s since u =
     in-order-most (sliceCopies newest stamps s since u) (s .levels) (slice-most newest stamps s since u) (slicesOf s)
 
@@ -88,9 +88,9 @@ box-list s slice level (Box r) = refl
 
 module _ (l : Lent) (paged : pageStamps * length (l .newest) ≡ length (l .stamps)) (s : VersionShape) (shaped : isShape s ≡ true) where
   -- the grid on the page is the model's
-  grid-same : (page n slice level : ℕ) → page + pagesOf s ≤ length (l .newest) → slice < slicesOf s → level < s .levels
+  grid-same : (page n slice level : ℕ) → page + gridCount s ≤ length (l .newest) → slice < slicesOf s → level < s .levels
       → gridOn s level (l .newest) (l .stamps) (page + gridPlace s slice level)
-      ≡ gridAt s (record { writes = n; grids = listed (gridRead l s page) 0 (pagesOf s) }) slice level
+      ≡ gridAt s (record { writes = n; grids = listed (gridRead l s page) 0 (gridCount s) }) slice level
   unfolding gridOn gridRead
   grid-same page n slice level room p q =
       let k = gridPlace s slice level in
@@ -98,7 +98,7 @@ module _ (l : Lent) (paged : pageStamps * length (l .newest) ≡ length (l .stam
       (sym (mul-add-mod-self-right slice (s .levels) level ∙ mod-eq-of-lt q))
       ∙ sym (grid-place l paged s shaped page room n slice level p q .1)
 
-  since-list : (f : Found) (held : Held) (slice level : ℕ) → SinceFits (sinceOf f held) (pagesOf s) (length (l .newest)) (length (l .stamps))
+  since-list : (f : Found) (held : Held) (slice level : ℕ) → SinceFits (sinceOf f held) (gridCount s) (length (l .newest)) (length (l .stamps))
       → slice < slicesOf s → level < s .levels
       → copyList (plannedSince (l .newest) (l .stamps) s (sinceOf f held) slice level) slice level ≡ copyOf s (historyIn l s f) held slice level
   unfolding copyList copyOf
@@ -109,7 +109,7 @@ module _ (l : Lent) (paged : pageStamps * length (l .newest) ≡ length (l .stam
       box-list s slice level (boxSince (tilingOf s level) k (gridOn s level (l .newest) (l .stamps) (page + gridPlace s slice level)))
       ∙ ap (λ (g : StampGrid). boxCopy s slice level (boxSince (tilingOf s level) k g)) (grid-same page n slice level (fits .0) p q)
 
-  module _ (f : Found) (held : Held) (u : UploadFootprint) (fits : SinceFits (sinceOf f held) (pagesOf s) (length (l .newest)) (length (l .stamps))) where
+  module _ (f : Found) (held : Held) (u : UploadFootprint) (fits : SinceFits (sinceOf f held) (gridCount s) (length (l .newest)) (length (l .stamps))) where
     at-list : (slice level : ℕ) → slice < slicesOf s → level < s .levels
         → copiesAt (l .newest) (l .stamps) s (sinceOf f held) u slice level ≡ cond (covers u slice level) [] (copyOf s (historyIn l s f) held slice level)
     unfolding copiesAt plannedAt copyList

@@ -9,7 +9,7 @@ use lib.Dec.{ltb}
 use lib.ListN.{length}
 use Rattle.grid_shapes.specs.declared.shape.VersionShape.{VersionShape}
 use Rattle.grid_shapes.specs.Shapes.{isShape, slicesOf}
-use Rattle.pool_rules.specs.Model.{UploadFootprint, pagesOf}
+use Rattle.pool_rules.specs.Model.{UploadFootprint, gridCount}
 use Rattle.pool_preserve_plan.specs.declared.since.Since.{Since}
 use Rattle.pool_preserve_plan.specs.declared.history.Found.{Found}
 use Rattle.pool_preserve_plan.specs.Copies.{lentCopies}
@@ -43,11 +43,11 @@ module _ (s : VersionShape) (f : Found) (u : UploadFootprint) (count room : ℕ)
 -- ---- the room that always suffices
 
 pub most-product : (s : VersionShape) (n : ℕ) → n ≡ slicesOf s → isShape s ≡ true → n * s .levels ≤ 90
-unfolding pagesOf
+unfolding gridCount
 most-product s n e shaped = omega (arith, pages-most s shaped, ap (λ (k : ℕ). k * s .levels) e)
 
 pub room-for-all : (newest stamps : List ℕ) (s : VersionShape) (since : Since) (u : UploadFootprint) (n room : ℕ) → n ≡ slicesOf s
     → n * s .levels ≤ room → ltb room (length (lentCopies newest stamps s since u)) ≡ false
-unfolding pagesOf
+unfolding gridCount
 room-for-all newest stamps s since u n room e h =
     le-ltb room (length (lentCopies newest stamps s since u)) (omega (arith, copies-most newest stamps s since u, ap (λ (k : ℕ). k * s .levels) e))

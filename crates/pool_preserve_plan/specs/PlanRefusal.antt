@@ -13,7 +13,7 @@ use Rattle.pool_rules.specs.Histories.{inShape}
 use Rattle.pool_records.specs.declared.recorded.Recorded.{Recorded}
 use Rattle.pool_records.specs.declared.recorded.Recorded.the-variants.{Writes, NoHistory}
 use Rattle.pool_records.specs.declared.texture.TextureRecord.{TextureRecord}
-use Rattle.pool_records.specs.Texture.{textureIn, texturesIn, recordPages}
+use Rattle.pool_records.specs.Texture.{textureIn, texturesIn, recordGrids}
 use Rattle.pool_records.specs.Find.{below, hasId}
 use Rattle.pool_preserve_plan.specs.declared.since.Since.{Since}
 use Rattle.pool_preserve_plan.specs.declared.since.Since.the-variants.{After, Nothing}
@@ -34,7 +34,7 @@ foundOf page shape t = cond (sameShape (t .shape) shape) (recordedFound page (t 
 unfoldable pub foundAt : List ℕ → ℕ → ℕ → VersionShape → ℕ → Found
 foundAt textures tracked id shape i =
     cond (hasId textures tracked i id)
-    (foundOf (total recordPages (texturesIn i textures)) shape (textureIn textures i)) NothingRecorded
+    (foundOf (total recordGrids (texturesIn i textures)) shape (textureIn textures i)) NothingRecorded
 
 unfoldable pub historyFound : List ℕ → ℕ → ℕ → VersionShape → Found
 historyFound textures tracked id shape = foundAt textures tracked id shape (below id (texturesIn tracked textures))

@@ -5,7 +5,7 @@ ghost use Prim.Native.Nat.{_+_, _*_, _≤_, _<_};
 ghost use lib.ListN.{length};
 ghost use Rattle.grid_shapes.specs.Shapes.{isShape, slicesOf};
 ghost use Rattle.grid_stamps.specs.Grids.{tilingOf, boxSince};
-ghost use Rattle.pool_rules.specs.Model.{pagesOf};
+ghost use Rattle.pool_rules.specs.Model.{gridCount};
 ghost use Rattle.pool_rules.specs.PreservePlan.{sameRect};
 ghost use Rattle.pool_preserve_plan.specs.Copies.{boxPlanned, SinceFits, footprint, plannedAt, copyNumbersOf};
 ghost use Rattle.grid_stamps.specs.StampConstants.{pageStamps};
@@ -84,7 +84,7 @@ pub fn copy_at(
     level: u64,
 ) -> Planned
     requires { ⌜ (isShape shape ≡ true) × (slice < slicesOf shape) × (level < shape .levels)
-        × SinceFits since (pagesOf shape) (length (now newest)) (length (now stamps)) ⌝ }
+        × SinceFits since (gridCount shape) (length (now newest)) (length (now stamps)) ⌝ }
     ensures { λ r. ⌜ r ≡ plannedAt (now (newest .entry)) (now (stamps .entry)) shape since (footprint upload) slice level ⌝ }
 {
     if upload.cover & ((slice == upload.slice) & (level == upload.level)) {

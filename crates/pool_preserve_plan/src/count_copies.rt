@@ -4,7 +4,7 @@ ghost use mathlib.Core.Bool.{true};
 ghost use Prim.Native.Nat.{_≤_, _<_};
 ghost use lib.ListN.{length};
 ghost use Rattle.grid_shapes.specs.Shapes.{isShape, slicesOf};
-ghost use Rattle.pool_rules.specs.Model.{pagesOf};
+ghost use Rattle.pool_rules.specs.Model.{gridCount};
 ghost use Rattle.pool_preserve_plan.specs.Copies.{SinceFits, footprint, copyList, sliceCopies, lentCopies};
 use crate::copy::Planned;
 use crate::copy::copy_at;
@@ -32,7 +32,7 @@ fn count_slice(
     upload: Upload,
     slice: u64,
 ) -> usize
-    requires { ⌜ (isShape shape ≡ true) × (slice < slicesOf shape) × SinceFits since (pagesOf shape) (length (now newest)) (length (now stamps)) ⌝ }
+    requires { ⌜ (isShape shape ≡ true) × (slice < slicesOf shape) × SinceFits since (gridCount shape) (length (now newest)) (length (now stamps)) ⌝ }
     ensures { λ r. ⌜ (r ≤ 15) × (r ≡ length (sliceCopies (now (newest .entry)) (now (stamps .entry)) shape since (footprint upload) slice)) ⌝ }
 {
     let mut count = 0;
@@ -53,7 +53,7 @@ pub fn count_copies(
     since: Since,
     upload: Upload,
 ) -> usize
-    requires { ⌜ (isShape shape ≡ true) × SinceFits since (pagesOf shape) (length (now newest)) (length (now stamps)) ⌝ }
+    requires { ⌜ (isShape shape ≡ true) × SinceFits since (gridCount shape) (length (now newest)) (length (now stamps)) ⌝ }
     ensures { λ r. ⌜ r ≡ length (lentCopies (now (newest .entry)) (now (stamps .entry)) shape since (footprint upload)) ⌝ }
 {
     let all = slices(shape);

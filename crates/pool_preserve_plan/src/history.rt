@@ -4,7 +4,7 @@ ghost use mathlib.Core.Bool.{true};
 ghost use Prim.Native.Nat.{_*_, _≤_};
 ghost use lib.ListN.{length};
 ghost use Rattle.base_blocks.specs.Lists.{ascending, total};
-ghost use Rattle.pool_records.specs.Texture.{texturesIn, recordPages};
+ghost use Rattle.pool_records.specs.Texture.{texturesIn, recordGrids};
 ghost use Rattle.pool_records.specs.Find.{idOf};
 ghost use Rattle.pool_records.specs.RecordConstants.{textureStride};
 ghost use Rattle.pool_rules.specs.RuleConstants.{mostPlaces};
@@ -30,7 +30,7 @@ pub enum Found {
 // Looks up the history of a texture that the plan takes to have this shape.
 pub fn find_history(textures: &[u64], tracked: usize, id: u64, shape: VersionShape) -> Found
     requires { ⌜ (textureStride * tracked ≤ length (now textures)) × (ascending idOf (texturesIn tracked (now textures)) ≡ true)
-        × (total recordPages (texturesIn tracked (now textures)) ≤ mostPlaces) ⌝ }
+        × (total recordGrids (texturesIn tracked (now textures)) ≤ mostPlaces) ⌝ }
     ensures { λ r. ⌜ r ≡ historyFound (now (textures .entry)) tracked id shape ⌝ }
 {
     let i = find_texture(textures, tracked, id);

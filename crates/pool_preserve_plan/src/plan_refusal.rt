@@ -4,7 +4,7 @@ ghost use mathlib.Core.Bool.{true};
 ghost use lib.Dec.{ltb};
 ghost use lib.ListN.{length};
 ghost use Rattle.grid_shapes.specs.Shapes.{isShape};
-ghost use Rattle.pool_rules.specs.Model.{pagesOf};
+ghost use Rattle.pool_rules.specs.Model.{gridCount};
 ghost use Rattle.pool_preserve_plan.specs.Copies.{SinceFits, footprint, lentCopies};
 ghost use Rattle.pool_preserve_plan.specs.PlanRefusal.{skipsSpent, planRefusal};
 use crate::count_copies::count_copies;
@@ -27,7 +27,7 @@ fn is_short(
     upload: Upload,
     room: usize,
 ) -> bool
-    requires { ⌜ (isShape shape ≡ true) × SinceFits since (pagesOf shape) (length (now newest)) (length (now stamps)) ⌝ }
+    requires { ⌜ (isShape shape ≡ true) × SinceFits since (gridCount shape) (length (now newest)) (length (now stamps)) ⌝ }
     ensures { λ r. ⌜ r ≡ ltb room (length (lentCopies (now (newest .entry)) (now (stamps .entry)) shape since (footprint upload))) ⌝ }
 {
     let most = (slices(shape) * shape.levels) as usize;
@@ -56,7 +56,7 @@ pub fn plan_refusal(
     upload: Upload,
     room: usize,
 ) -> u64
-    requires { ⌜ SinceFits since (pagesOf shape) (length (now newest)) (length (now stamps)) ⌝ }
+    requires { ⌜ SinceFits since (gridCount shape) (length (now newest)) (length (now stamps)) ⌝ }
     ensures { λ r. ⌜ r ≡ planRefusal shape found (footprint upload)
         (length (lentCopies (now (newest .entry)) (now (stamps .entry)) shape since (footprint upload))) room ⌝ }
 {

@@ -4,7 +4,7 @@ ghost use mathlib.Core.Bool.{true};
 ghost use Prim.Native.Nat.{_+_, _*_, _≤_, _<_};
 ghost use lib.ListN.{length};
 ghost use Rattle.grid_shapes.specs.Shapes.{isShape, slicesOf};
-ghost use Rattle.pool_rules.specs.Model.{pagesOf};
+ghost use Rattle.pool_rules.specs.Model.{gridCount};
 ghost use Rattle.pool_preserve_plan.specs.Copies.{SinceFits, footprint, copyList, sliceCopies, lentCopies, withCopies};
 ghost use Rattle.pool_memory.specs.MemoryConstants.{copyStride};
 use crate::copy::Planned;
@@ -42,7 +42,7 @@ fn put_slice(
     upload: Upload,
     slice: u64,
 ) -> usize
-    requires { ⌜ (isShape shape ≡ true) × (slice < slicesOf shape) × SinceFits since (pagesOf shape) (length (now newest)) (length (now stamps))
+    requires { ⌜ (isShape shape ≡ true) × (slice < slicesOf shape) × SinceFits since (gridCount shape) (length (now newest)) (length (now stamps))
         × (copyStride * (at + length (sliceCopies (now newest) (now stamps) shape since (footprint upload) slice)) ≤ length (now buffer)) ⌝ }
     ensures { λ r. ⌜ (r ≡ at + length (sliceCopies (now (newest .entry)) (now (stamps .entry)) shape since (footprint upload) slice))
         × (now (buffer .exit)
@@ -67,7 +67,7 @@ pub fn put_copies(
     since: Since,
     upload: Upload,
 ) -> usize
-    requires { ⌜ (isShape shape ≡ true) × SinceFits since (pagesOf shape) (length (now newest)) (length (now stamps))
+    requires { ⌜ (isShape shape ≡ true) × SinceFits since (gridCount shape) (length (now newest)) (length (now stamps))
         × (copyStride * length (lentCopies (now newest) (now stamps) shape since (footprint upload)) ≤ length (now buffer)) ⌝ }
     ensures { λ r. ⌜ (r ≡ length (lentCopies (now (newest .entry)) (now (stamps .entry)) shape since (footprint upload)))
         × (now (buffer .exit)

@@ -3,7 +3,7 @@ use Prim.Native.Nat.{ℕ}
 
 -- The numbers of a texture's record.
 abbrev pub textureStride : ℕ
-textureStride = 20
+textureStride = 22
 
 -- The numbers of a retiring version's record.
 abbrev pub retiringStride : ℕ
@@ -44,6 +44,14 @@ textureSparesAt = 18
 -- Where a texture's record has the bytes of one version.
 abbrev pub textureBytesAt : ℕ
 textureBytesAt = 19
+
+-- Where a texture's record has the first of its history's grids.
+abbrev pub textureGridAt : ℕ
+textureGridAt = 20
+
+-- Where a texture's record has the first of its history's stamps.
+abbrev pub textureStampAt : ℕ
+textureStampAt = 21
 
 -- Where a spare's record has the writes that it holds: 0 for unknown, or the count and one.
 abbrev pub spareHeldAt : ℕ

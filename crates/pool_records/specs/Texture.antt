@@ -1,4 +1,5 @@
--- Rule: A texture's record: twenty numbers, of which the second to the thirteenth are the shape and the last is the bytes of one version of it.
+-- Rule: A texture's record: twenty-two numbers, of which the second to the thirteenth are the shape and the last three are the bytes of one version
+-- of it and where its history's grids begin: the first of them in `newest`, and the first of their stamps.
 use Prim.Native.Nat.{ℕ, _*_}
 use mathlib.Core.List.{List, [], _∷_, _++_}
 use lib.ListN.{getD}
@@ -9,7 +10,8 @@ use Rattle.grid_shapes.specs.Shapes.{bytesOf}
 use Rattle.pool_records.specs.declared.texture.TextureRecord.{TextureRecord}
 use Rattle.pool_records.specs.RecordConstants.{textureStride}
 use Rattle.pool_records.specs.Recorded.{recordedOf, recordedNumber}
-use Rattle.pool_rules.specs.Model.{pagesOf}
+use Rattle.pool_rules.specs.Model.{gridCount}
+use Rattle.pool_rules.specs.HistorySizes.{historySize}
 use Rattle.pool_records.specs.declared.recorded.Recorded.{Recorded}
 use Rattle.pool_records.specs.declared.recorded.Recorded.the-variants.{Writes, NoHistory}
 
@@ -44,11 +46,13 @@ readTexture s = record {
   due = getD s 17 0;
   spares = getD s 18 0;
   bytes = getD s 19 0;
+  grid = getD s 20 0;
+  stamp = getD s 21 0;
 }
 
 unfoldable pub writeTexture : TextureRecord → List ℕ
 writeTexture x =
-    x .id ∷ (shapeNumbers (x .shape) ++ (x .epoch ∷ recordedNumber (x .history) ∷ x .birth ∷ x .rename ∷ x .due ∷ x .spares ∷ x .bytes ∷ []))
+    x .id ∷ (shapeNumbers (x .shape) ++ (x .epoch ∷ recordedNumber (x .history) ∷ x .birth ∷ x .rename ∷ x .due ∷ x .spares ∷ x .bytes ∷ x .grid ∷ x .stamp ∷ []))
 
 -- record i of the textures' slice, and the first n
 abbrev pub textureIn : List ℕ → ℕ → TextureRecord
@@ -57,13 +61,21 @@ textureIn s i = recordAt textureStride readTexture s i
 abbrev pub texturesIn : ℕ → List ℕ → List TextureRecord
 texturesIn n s = table textureStride readTexture n s
 
-abbrev pub recordedPages : Recorded → VersionShape → ℕ
-recordedPages NoHistory s = 0
-recordedPages (Writes n) s = pagesOf s
+abbrev pub recordedGrids : Recorded → VersionShape → ℕ
+recordedGrids NoHistory s = 0
+recordedGrids (Writes n) s = gridCount s
 
--- how many pages a texture's record claims
-abbrev pub recordPages : TextureRecord → ℕ
-recordPages t = recordedPages (t .history) (t .shape)
+-- how many grids a texture's record claims
+abbrev pub recordGrids : TextureRecord → ℕ
+recordGrids t = recordedGrids (t .history) (t .shape)
+
+-- and how many stamps
+abbrev pub recordedStamps : Recorded → VersionShape → ℕ
+recordedStamps NoHistory s = 0
+recordedStamps (Writes n) s = historySize s
+
+abbrev pub recordStamps : TextureRecord → ℕ
+recordStamps t = recordedStamps (t .history) (t .shape)
 
 -- how many spares it says that the texture has, and the bytes of all of them
 abbrev pub recordSpares : TextureRecord → ℕ

@@ -1,7 +1,7 @@
 // The numbers that have a name, each with its reason.
 
 // The numbers of a texture's record.
-pub const TEXTURE_STRIDE: usize = 20;
+pub const TEXTURE_STRIDE: usize = 22;
 
 // The numbers of a retiring version's record.
 pub const RETIRING_STRIDE: usize = 7;
@@ -32,6 +32,12 @@ pub const TEXTURE_SPARES_AT: usize = 18;
 
 // Where a texture's record has the bytes of one version.
 pub const TEXTURE_BYTES_AT: usize = 19;
+
+// Where a texture's record has the first of its history's grids.
+pub const TEXTURE_GRID_AT: usize = 20;
+
+// Where a texture's record has the first of its history's stamps.
+pub const TEXTURE_STAMP_AT: usize = 21;
 
 // Where a spare's record has the writes that it holds: 0 for unknown, or the count and one.
 pub const SPARE_HELD_AT: usize = 1;

@@ -1,5 +1,6 @@
-// A tracked texture. Twenty numbers: the id first, so that a search reads one number a record, then the shape's twelve; the bytes
-// of one version of that shape last, so that no call works them out again.
+// A tracked texture. Twenty-two numbers: the id first, so that a search reads one number a record, then the shape's twelve; near the
+// end the bytes of one version of that shape, so that no call works them out again; last where its history's grids begin, in `newest`
+// and in the stamps, so that no call adds up those of the textures before it.
 ghost use mathlib.Core.Path.{_≡_};
 ghost use Prim.Native.Nat.{_≤_};
 ghost use lib.ListN.{length};
@@ -8,11 +9,13 @@ ghost use Rattle.pool_records.specs.Texture.{readTexture, writeTexture};
 ghost use Rattle.pool_records.specs.RecordConstants.{textureStride};
 use crate::constants::TEXTURE_BYTES_AT;
 use crate::constants::TEXTURE_DUE_AT;
+use crate::constants::TEXTURE_GRID_AT;
 use crate::constants::TEXTURE_HISTORY_AT;
 use crate::constants::TEXTURE_KIND_AT;
 use crate::constants::TEXTURE_LEVELS_AT;
 use crate::constants::TEXTURE_RENAME_AT;
 use crate::constants::TEXTURE_SPARES_AT;
+use crate::constants::TEXTURE_STAMP_AT;
 use crate::constants::TEXTURE_STRIDE;
 use crate::recorded::Recorded;
 use crate::recorded::read_recorded;
@@ -29,6 +32,8 @@ pub struct TextureRecord {
     pub due: u64,
     pub spares: u64,
     pub bytes: u64,
+    pub grid: u64,
+    pub stamp: u64,
 }
 
 // Reads a record from the front of the numbers.
@@ -61,6 +66,8 @@ pub fn read_texture(p: &[u64]) -> TextureRecord
         due: p[TEXTURE_DUE_AT],
         spares: p[TEXTURE_SPARES_AT],
         bytes: p[TEXTURE_BYTES_AT],
+        grid: p[TEXTURE_GRID_AT],
+        stamp: p[TEXTURE_STAMP_AT],
     }
 }
 
@@ -93,5 +100,7 @@ pub fn texture_numbers(x: TextureRecord) -> [u64; TEXTURE_STRIDE]
         x.due,
         x.spares,
         x.bytes,
+        x.grid,
+        x.stamp,
     ]
 }

@@ -10,7 +10,7 @@ use lib.Dec.{leb, ltb}
 use lib.ListN.{length, length-append}
 use lib.Seq.{sets}
 use Rattle.base_tables.specs.Rings.{placeOf}
-use Rattle.pool_rules.specs.Model.{Retiring, VersionState, PoolModel, accepted, guard, find, limit, pagesUsed}
+use Rattle.pool_rules.specs.Model.{Retiring, VersionState, PoolModel, accepted, guard, find, limit, gridsUsed}
 use Rattle.pool_rules.specs.Updates.{withBirth, withTextures, withRetiring, change}
 use Rattle.pool_rules.specs.Retire.{retired, retire}
 use Rattle.pool_rules.proofs.States.{length-change, total-unchanged}
@@ -128,7 +128,7 @@ module _ (l : Lent) (e : isPool l ≡ true) (id view seq : ℕ) where
     counts = λ i. record {
       tracked = sym (length-change id (withBirth seq) (modelOf l .textures) ∙ tracked-model l) i;
       kept = sym (total-unchanged spareCount id (withBirth seq) (λ t. refl) (modelOf l .textures) ∙ kept-model l ∙ fits .kept) i;
-      pages = sym (total-unchanged pagesUsed id (withBirth seq) (λ t. refl) (modelOf l .textures) ∙ pages-model l ∙ fits .claimed) i;
+      pages = sym (total-unchanged gridsUsed id (withBirth seq) (λ t. refl) (modelOf l .textures) ∙ pages-model l ∙ fits .claimed) i;
       head = sym (head-stays l queued (fits .head) (omega (arith, hand-model l (fits .hand)))) i;
       popped = sym (hand-model l (fits .hand)) i;
       queued = sym (length-append (modelOf l .retiring) (version ∷ []) ∙ ap (λ (n : ℕ). n + 1) (queued-model l)) i;

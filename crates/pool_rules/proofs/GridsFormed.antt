@@ -22,7 +22,7 @@ use Rattle.grid_stamps.specs.Grids.{Tiling, TilingOk, tilingOf, columnsOf, rows
 use Rattle.grid_stamps.proofs.Tilings.{tiling-ok}
 use Rattle.grid_stamps.proofs.RowByRow.{tile-at, same-tiles}
 use Rattle.grid_stamps.proofs.Stamps.{InLevel, InRect, texel-column, texel-row, touches-texel, touches-cut, length-stamped, stamped-tile, new-length}
-use Rattle.pool_rules.specs.Model.{WriteHistory, limit, pagesOf, hasHistory}
+use Rattle.pool_rules.specs.Model.{WriteHistory, limit, gridCount, hasHistory}
 use Rattle.pool_rules.specs.Histories.{inShape, gridAt, newHistory, stampWrite, stampRegeneration, written, regenerated, spent}
 use Rattle.pool_rules.specs.Formed.{Given, GridFormed, HistoryFormed}
 use Rattle.pool_rules.proofs.GridPlaces.{new-size, new-grid, write-size, write-each, regenerated-size, regenerate-each}
@@ -167,12 +167,12 @@ module _ (s : VersionShape) (shaped : isShape s ≡ true) where
 
 module _ (s : VersionShape) where
   pub written-pages : (slice level : ℕ) (r : TexelRect) (o : Option WriteHistory)
-      → cond (hasHistory (written slice level r s o)) (pagesOf s) 0 ≤ cond (hasHistory o) (pagesOf s) 0
+      → cond (hasHistory (written slice level r s o)) (gridCount s) 0 ≤ cond (hasHistory o) (gridCount s) 0
   written-pages slice level r none = omega arith
   written-pages slice level r (some h) =
-      either (λ (o : Option WriteHistory). cond (hasHistory o) (pagesOf s) 0 ≤ pagesOf s) (inShape s slice level) (some (stampWrite s slice level r h)) none
+      either (λ (o : Option WriteHistory). cond (hasHistory o) (gridCount s) 0 ≤ gridCount s) (inShape s slice level) (some (stampWrite s slice level r h)) none
       (λ q. omega arith) (λ q. omega arith)
 
-  pub regenerated-pages : (o : Option WriteHistory) → cond (hasHistory (regenerated s o)) (pagesOf s) 0 ≤ cond (hasHistory o) (pagesOf s) 0
+  pub regenerated-pages : (o : Option WriteHistory) → cond (hasHistory (regenerated s o)) (gridCount s) 0 ≤ cond (hasHistory o) (gridCount s) 0
   regenerated-pages none = omega arith
   regenerated-pages (some h) = omega arith

@@ -18,7 +18,7 @@ use Rattle.grid_shapes.specs.declared.shape.VersionShape.{VersionShape}
 use Rattle.grid_shapes.specs.Shapes.{bytesOf}
 use Rattle.grid_shapes.proofs.ShapeBytes.{bytes-bound}
 use Rattle.pool_rules.specs.declared.held.Held.the-variants.{Known, Unknown}
-use Rattle.pool_rules.specs.Model.{WriteHistory, Spare, Retiring, Doomed, VersionState, PoolModel, accepted, find, limit, writesOf, pagesUsed, spareBytes, handCount, versionsUsed}
+use Rattle.pool_rules.specs.Model.{WriteHistory, Spare, Retiring, Doomed, VersionState, PoolModel, accepted, find, limit, writesOf, gridsUsed, spareBytes, handCount, versionsUsed}
 use Rattle.pool_rules.specs.Updates.{withSpares, withBirth, withTextures, withRetiring, withParked, change, doom}
 use Rattle.pool_rules.specs.Retire.{retire, retired}
 use Rattle.pool_rules.specs.PopRetired.{popRetired, popFront, isHeld}
@@ -100,7 +100,7 @@ module _ {W : Type 0} where
           trackings = f .trackings;
           places = omega (arith, f .places, length-map (p .textures) (withSpares []));
           versions = omega (arith, f .versions, none-spare (p .textures));
-          pages = omega (arith, f .pages, total-map pagesUsed (withSpares []) (λ t. refl) (p .textures));
+          pages = omega (arith, f .pages, total-map gridsUsed (withSpares []) (λ t. refl) (p .textures));
           parked = sym (none-parked (p .textures));
           dooming = refl;
           cap = omega arith;
@@ -186,7 +186,7 @@ module _ {W : Type 0} where
         length-append (p .retiring) (v ∷ []),
         total-unchanged spareCount id (withBirth seq) (λ t. refl) (p .textures),
       );
-      pages = omega (arith, f .pages, total-unchanged pagesUsed id (withBirth seq) (λ t. refl) (p .textures));
+      pages = omega (arith, f .pages, total-unchanged gridsUsed id (withBirth seq) (λ t. refl) (p .textures));
       parked = f .parked ∙ sym (total-unchanged spareBytes id (withBirth seq) (λ t. refl) (p .textures));
       dooming = f .dooming;
       cap = f .cap;
@@ -277,7 +277,7 @@ module _ {W : Type 0} where
           total-change spareCount (v .id) gains t (p .textures) (f .ids) found,
           length-append (t .spares) (spare ∷ []),
         );
-        pages = omega (arith, f .pages, total-unchanged pagesUsed (v .id) gains (λ u. refl) (p .textures));
+        pages = omega (arith, f .pages, total-unchanged gridsUsed (v .id) gains (λ u. refl) (p .textures));
         parked = omega (arith, f .parked, total-change spareBytes (v .id) gains t (p .textures) (f .ids) found, gained-bytes);
         dooming = f .dooming;
         cap = fits;

@@ -17,7 +17,7 @@ use Rattle.grid_shapes.specs.declared.shape.VersionShape.{VersionShape}
 use Rattle.grid_shapes.specs.Shapes.{isShape, sameShape, bytesOf}
 use Rattle.grid_rects.specs.declared.rect.TexelRect.{TexelRect}
 use Rattle.pool_rules.specs.declared.held.Held.{Held}
-use Rattle.pool_rules.specs.Model.{WriteHistory, Spare, Doomed, VersionState, PoolModel, UploadFootprint, find, limit, pagesOf, hasHistory, pagesUsed, spareBytes}
+use Rattle.pool_rules.specs.Model.{WriteHistory, Spare, Doomed, VersionState, PoolModel, UploadFootprint, find, limit, gridCount, hasHistory, gridsUsed, spareBytes}
 use Rattle.pool_rules.specs.Updates.{withHistory, withSpares, withRename, withTextures, withParked, change, asDoomed}
 use Rattle.pool_rules.specs.Histories.{newHistory, inShape, written, regenerated, spent}
 use Rattle.pool_rules.specs.TakeSpare.{takeSpare, takeFound, takeNew, takeTracked, takeRenewed, newState, newest, others, takenBytes}
@@ -46,7 +46,7 @@ module _ {W : Type 0} (p : PoolModel W) (f : Formed p) where
 
   -- histories change, and nothing else; q is what is known of the states besides
   histories-changed : (id : ℕ) (k : VersionState W → Option WriteHistory)
-      → ((t : VersionState W) → cond (hasHistory (k t)) (pagesOf (t .shape)) 0 ≤ pagesUsed t) → (q : VersionState W → Type 0) → All q (p .textures)
+      → ((t : VersionState W) → cond (hasHistory (k t)) (gridCount (t .shape)) 0 ≤ gridsUsed t) → (q : VersionState W → Type 0) → All q (p .textures)
       → ((t : VersionState W) → t .id ≡ id → q t → StateFormed t → Given (HistoryFormed (t .shape)) (k t))
       → Formed (withTextures (change id (λ (t : VersionState W). withHistory (k t) t) (p .textures)) p)
   histories-changed id k pages q qs h =
@@ -60,7 +60,7 @@ module _ {W : Type 0} (p : PoolModel W) (f : Formed p) where
         trackings = f .trackings;
         places = omega (arith, f .places, length-change id g (p .textures));
         versions = omega (arith, f .versions, total-unchanged spareCount id g (λ t. refl) (p .textures));
-        pages = omega (arith, f .pages, total-not-raised pagesUsed id g pages (p .textures));
+        pages = omega (arith, f .pages, total-not-raised gridsUsed id g pages (p .textures));
         parked = f .parked ∙ sym (total-unchanged spareBytes id g (λ t. refl) (p .textures));
         dooming = f .dooming;
         cap = f .cap;
@@ -149,13 +149,13 @@ module _ {W : Type 0} (p : PoolModel W) (f : Formed p) (id : ℕ) (shape : Versi
   }
 
   -- the pages of the new state fit beside the others', those of the state that it replaces given back
-  pages-fit : (own used : ℕ) → (records && ltb (p .places .pages + own) (used + pagesOf shape)) ≡ false → used ≤ p .places .pages → own ≤ used
-      → used - own + pagesUsed fresh ≤ p .places .pages
+  pages-fit : (own used : ℕ) → (records && ltb (p .places .pages + own) (used + gridCount shape)) ≡ false → used ≤ p .places .pages → own ≤ used
+      → used - own + gridsUsed fresh ≤ p .places .pages
   pages-fit own used e h k = go records refl
     where
       go : (b : Bool) → records ≡ b
-          → used - own + cond (hasHistory (cond records (some (newHistory shape)) none)) (pagesOf shape) 0 ≤ p .places .pages
-      go true q = rw q (omega (arith, ltb-false (p .places .pages + own) (used + pagesOf shape) (rw q at e)))
+          → used - own + cond (hasHistory (cond records (some (newHistory shape)) none)) (gridCount shape) 0 ≤ p .places .pages
+      go true q = rw q (omega (arith, ltb-false (p .places .pages + own) (used + gridCount shape) (rw q at e)))
       go false q = rw q (omega arith)
 
   take-new : find id (p .textures) ≡ none → OutFormed (takeNew p id shape records seq)
@@ -171,8 +171,8 @@ module _ {W : Type 0} (p : PoolModel W) (f : Formed p) (id : ℕ) (shape : Versi
         versions = omega (arith, f .versions, total-insert spareCount fresh (p .textures));
         pages = omega (
           arith,
-          total-insert pagesUsed fresh (p .textures),
-          pages-fit 0 (total pagesUsed (p .textures)) b (f .pages) (omega arith),
+          total-insert gridsUsed fresh (p .textures),
+          pages-fit 0 (total gridsUsed (p .textures)) b (f .pages) (omega arith),
         );
         parked = omega (arith, f .parked, total-insert spareBytes fresh (p .textures), mul-zero (bytesOf shape));
         dooming = f .dooming;
@@ -207,9 +207,9 @@ module _ {W : Type 0} (p : PoolModel W) (f : Formed p) (id : ℕ) (shape : Versi
         );
         pages = omega (
           arith,
-          total-change pagesUsed id g t (p .textures) (f .ids) found,
-          pages-fit (pagesUsed t) (total pagesUsed (p .textures)) b (f .pages) (find-part pagesUsed id t (p .textures) found),
-          find-part pagesUsed id t (p .textures) found,
+          total-change gridsUsed id g t (p .textures) (f .ids) found,
+          pages-fit (gridsUsed t) (total gridsUsed (p .textures)) b (f .pages) (find-part gridsUsed id t (p .textures) found),
+          find-part gridsUsed id t (p .textures) found,
         );
         parked = omega (
           arith,
@@ -252,7 +252,7 @@ module _ {W : Type 0} (p : PoolModel W) (f : Formed p) (id : ℕ) (shape : Versi
         trackings = f .trackings;
         places = omega (arith, f .places, length-change id yields (p .textures));
         versions = omega (arith, f .versions, total-change spareCount id yields t (p .textures) (f .ids) found, others-count (t .spares));
-        pages = omega (arith, f .pages, total-unchanged pagesUsed id yields (λ u. refl) (p .textures));
+        pages = omega (arith, f .pages, total-unchanged gridsUsed id yields (λ u. refl) (p .textures));
         parked = omega (arith, f .parked, total-change spareBytes id yields t (p .textures) (f .ids) found, others-bytes (t .shape) (t .spares));
         dooming = f .dooming;
         cap = omega (arith, f .cap);

@@ -14,7 +14,7 @@ use Rattle.grid_shapes.specs.declared.shape.VersionShape.{VersionShape}
 use Rattle.grid_shapes.specs.Shapes.{isShape, sameShape, slicesOf}
 use Rattle.grid_shapes.proofs.Shapes.{same-shape, same-self}
 use Rattle.pool_rules.specs.declared.held.Held.{Held}
-use Rattle.pool_rules.specs.Model.{WriteHistory, VersionState, PoolModel, Out, refused, accepted, UploadFootprint, guard, find, limit, pagesOf, pagesUsed}
+use Rattle.pool_rules.specs.Model.{WriteHistory, VersionState, PoolModel, Out, refused, accepted, UploadFootprint, guard, find, limit, gridCount, gridsUsed}
 use Rattle.pool_rules.specs.Histories.{inShape, spent}
 use Rattle.pool_rules.specs.TakeSpare.{takeSpare}
 use Rattle.pool_rules.specs.PreservePlan.{copies, planFound, planWith, preservePlan}
@@ -63,7 +63,7 @@ module _ {W : Type 0} where
   pub take-full-before-spent : TakeFullBeforeSpent W
   unfolding takeSpare guard
   take-full-before-spent p id shape seq good le =
-      let kept = total pagesUsed (p .textures) + pagesOf shape in
+      let kept = total gridsUsed (p .textures) + gridCount shape in
       record {
         new-full = λ e free full.
             rw (good, le-ltb limit seq le, e, lt-leb (p .places .textures) (length (p .textures)) free, lt-ltb (p .places .pages + 0) kept (omega (arith, full)));
@@ -77,14 +77,14 @@ module _ {W : Type 0} where
               le-leb limit (p .trackings) spent,
             );
         renewed-full = λ t e other full.
-            rw (good, le-ltb limit seq le, e, other-shape (t .shape) shape other, lt-ltb (p .places .pages + pagesUsed t) kept full);
+            rw (good, le-ltb limit seq le, e, other-shape (t .shape) shape other, lt-ltb (p .places .pages + gridsUsed t) kept full);
         renewed-spent = λ records t e other fits spent.
             rw (
               good,
               le-ltb limit seq le,
               e,
               other-shape (t .shape) shape other,
-              not-both records (ltb (p .places .pages + pagesUsed t) kept) (le-ltb (p .places .pages + pagesUsed t) kept fits),
+              not-both records (ltb (p .places .pages + gridsUsed t) kept) (le-ltb (p .places .pages + gridsUsed t) kept fits),
               le-leb limit (p .trackings) spent,
             );
       }

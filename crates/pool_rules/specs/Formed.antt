@@ -13,8 +13,10 @@ use Rattle.grid_shapes.specs.Shapes.{isShape, slicesOf}
 use Rattle.grid_stamps.specs.Grids.{Tiling, tilingOf, stampCount, StampGrid}
 use Rattle.pool_rules.specs.declared.held.Held.{Held}
 use Rattle.pool_rules.specs.declared.held.Held.the-variants.{Known, Unknown}
-use Rattle.pool_rules.specs.Model.{WriteHistory, Spare, Retiring, Doomed, VersionState, PoolModel, limit, pagesUsed, spareBytes, doomedBytes, versionsUsed}
+use Rattle.pool_rules.specs.Model.{WriteHistory, Spare, Retiring, Doomed, VersionState, PoolModel, limit, spareBytes, doomedBytes, versionsUsed}
 use Rattle.pool_rules.specs.Histories.{gridAt}
+use Rattle.pool_rules.specs.HistorySizes.{stampsUsed}
+use Rattle.grid_stamps.specs.StampConstants.{pageStamps}
 use Rattle.grid_shapes.specs.ShapeConstants.{mostShapeBytes}
 use Rattle.pool_rules.specs.RuleConstants.{destroySpreadDrains, mostPlaces}
 
@@ -33,7 +35,7 @@ pub record GridFormed (g : Tiling) (writes : ℕ) (grid : StampGrid) : Type 0 wh
   pub newest : largest (grid .stamps) ≡ grid .newest
   pub below : grid .newest ≤ writes
 
--- one grid, and so one page, for each slice and level
+-- one grid for each slice and level
 pub record HistoryFormed (s : VersionShape) (h : WriteHistory) : Type 0 where
   pub writes : h .writes ≤ limit
   pub size : length (h .grids) ≡ slicesOf s * s .levels
@@ -77,10 +79,10 @@ module _ {W : Type 0} where
     pub hand : Given RetiringFormed (p .hand)
     pub doomed : All DoomedFormed (p .doomed)
     pub trackings : p .trackings ≤ limit
-    -- places enough for the textures, the versions (each in one of queue, hand, spares, destroy queue) and the pages
+    -- places enough for the textures, the versions (each in one of queue, hand, spares, destroy queue) and the stamps
     pub places : length (p .textures) ≤ p .places .textures
     pub versions : versionsUsed p ≤ p .places .versions
-    pub pages : total pagesUsed (p .textures) ≤ p .places .pages
+    pub stamps : total stampsUsed (p .textures) ≤ pageStamps * p .places .pages
     -- the parked and destroy totals are their sums; parked bytes are within the cap
     pub parked : p .parked ≡ total spareBytes (p .textures)
     pub dooming : p .dooming ≡ doomedBytes (p .doomed)

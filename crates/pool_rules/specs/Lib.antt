@@ -3,6 +3,7 @@ pub mod Budget
 pub mod Model
 pub mod Updates
 pub mod Histories
+pub mod HistorySizes
 pub mod TakeSpare
 pub mod PreservePlan
 pub mod Retire

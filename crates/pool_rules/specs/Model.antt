@@ -67,7 +67,7 @@ pub record PacingModel : Type 0 where
   pub pressed : Bool
   pub excess : ℕ
 
--- places lent at opening
+-- places lent at opening: for textures, for versions, and pages of 1,024 stamps
 pub record Places : Type 0 where
   pub textures : ℕ
   pub versions : ℕ
@@ -107,9 +107,9 @@ pub record UploadFootprint : Type 0 where
 
 -- ---- what is read off them
 
--- one page for each slice and level
-unfoldable pub pagesOf : VersionShape → ℕ
-pagesOf s = slicesOf s * s .levels
+-- one grid for each slice and level
+unfoldable pub gridCount : VersionShape → ℕ
+gridCount s = slicesOf s * s .levels
 
 abbrev pub hasHistory : Option WriteHistory → Bool
 hasHistory none = false
@@ -131,8 +131,9 @@ module _ {W : Type 0} where
   find id [] = none
   find id (t ∷ ts) = cond (eqb (t .id) id) (some t) (find id ts)
 
-  abbrev pub pagesUsed : VersionState W → ℕ
-  pagesUsed t = cond (hasHistory (t .history)) (pagesOf (t .shape)) 0
+  -- grids in use: those of its history
+  abbrev pub gridsUsed : VersionState W → ℕ
+  gridsUsed t = cond (hasHistory (t .history)) (gridCount (t .shape)) 0
 
   -- bytes of a state's spares, each its texture's
   abbrev pub spareBytes : VersionState W → ℕ

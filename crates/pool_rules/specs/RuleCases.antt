@@ -1,6 +1,6 @@
 -- Rule: Cases of the rules, in 01's words, that neither a formed pool nor demand 3 decides: which of two refusals a call says, and what it leaves
 -- behind. Each is said in numbers, without the names that the rules are said with.
-use Prim.Native.Nat.{ℕ, _+_, _≤_, _<_}
+use Prim.Native.Nat.{ℕ, _+_, _*_, _≤_, _<_}
 use mathlib.Core.Path.{_≡_}
 use mathlib.Core.Bool.{Bool, true}
 use mathlib.Core.Option.{none, some}
@@ -9,8 +9,10 @@ use lib.ListN.{length, replicate}
 use Rattle.base_blocks.specs.Lists.{total}
 use Rattle.grid_shapes.specs.declared.shape.VersionShape.{VersionShape}
 use Rattle.grid_shapes.specs.Shapes.{isShape, slicesOf}
+use Rattle.grid_stamps.specs.StampConstants.{pageStamps}
 use Rattle.pool_rules.specs.declared.held.Held.{Held}
-use Rattle.pool_rules.specs.Model.{WriteHistory, VersionState, PoolModel, UploadFootprint, refused, accepted, find, limit, pagesOf, pagesUsed}
+use Rattle.pool_rules.specs.Model.{WriteHistory, VersionState, PoolModel, UploadFootprint, refused, accepted, find, limit}
+use Rattle.pool_rules.specs.HistorySizes.{historySize, stampsUsed}
 use Rattle.pool_rules.specs.Updates.{withSpares}
 use Rattle.pool_rules.specs.TakeSpare.{takeSpare}
 use Rattle.pool_rules.specs.PreservePlan.{copies, preservePlan}
@@ -18,16 +20,16 @@ use Rattle.pool_rules.specs.Retire.{retire}
 use Rattle.pool_rules.specs.DrainVersions.{drainVersions}
 
 -- take_spare, of a shape and a submission that may be: "history full" (6) is said before "counter spent" (12), so where both hold it is 6. An id
--- that is not tracked needs a free place (5); of one tracked with another shape the old pages count as free.
+-- that is not tracked needs a free place (5); of one tracked with another shape its own stamps count as free.
 pub record FullBeforeSpent {W : Type 0} (p : PoolModel W) (id : ℕ) (shape : VersionShape) (seq : ℕ) : Type 0 where
   pub new-full : find id (p .textures) ≡ none → length (p .textures) < p .places .textures
-      → p .places .pages < total pagesUsed (p .textures) + pagesOf shape → takeSpare p id shape true seq ≡ refused 6
+      → pageStamps * p .places .pages < total stampsUsed (p .textures) + historySize shape → takeSpare p id shape true seq ≡ refused 6
   pub new-spent : (records : Bool) → find id (p .textures) ≡ none → length (p .textures) < p .places .textures
-      → total pagesUsed (p .textures) + pagesOf shape ≤ p .places .pages → limit ≤ p .trackings → takeSpare p id shape records seq ≡ refused 12
+      → total stampsUsed (p .textures) + historySize shape ≤ pageStamps * p .places .pages → limit ≤ p .trackings → takeSpare p id shape records seq ≡ refused 12
   pub renewed-full : (t : VersionState W) → find id (p .textures) ≡ some t → (t .shape ≡ shape → ⊥)
-      → p .places .pages + pagesUsed t < total pagesUsed (p .textures) + pagesOf shape → takeSpare p id shape true seq ≡ refused 6
+      → pageStamps * p .places .pages + stampsUsed t < total stampsUsed (p .textures) + historySize shape → takeSpare p id shape true seq ≡ refused 6
   pub renewed-spent : (records : Bool) (t : VersionState W) → find id (p .textures) ≡ some t → (t .shape ≡ shape → ⊥)
-      → total pagesUsed (p .textures) + pagesOf shape ≤ p .places .pages + pagesUsed t → limit ≤ p .trackings
+      → total stampsUsed (p .textures) + historySize shape ≤ pageStamps * p .places .pages + stampsUsed t → limit ≤ p .trackings
       → takeSpare p id shape records seq ≡ refused 12
 
 abbrev pub TakeFullBeforeSpent : Type 0 → Type 0

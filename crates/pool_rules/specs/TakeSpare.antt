@@ -1,5 +1,5 @@
 -- Rule: take_spare: start a rename, handing back the texture's newest spare if it has one.
-use Prim.Native.Nat.{ℕ, suc, _+_, _-_}
+use Prim.Native.Nat.{ℕ, suc, _+_, _*_, _-_}
 use mathlib.Core.Bool.{Bool, cond, _&&_, not}
 use mathlib.Core.Option.{Option, none, some}
 use mathlib.Core.List.{List, [], _∷_}
@@ -8,9 +8,11 @@ use lib.ListN.{length}
 use Rattle.base_blocks.specs.Lists.{total}
 use Rattle.grid_shapes.specs.declared.shape.VersionShape.{VersionShape}
 use Rattle.grid_shapes.specs.Shapes.{isShape, sameShape, bytesOf}
-use Rattle.pool_rules.specs.Model.{Spare, VersionState, PoolModel, Out, accepted, guard, find, limit, pagesOf, pagesUsed}
+use Rattle.pool_rules.specs.Model.{Spare, VersionState, PoolModel, Out, accepted, guard, find, limit}
 use Rattle.pool_rules.specs.Updates.{withSpares, withRename, withTextures, withTrackings, withParked, change, insert, asDoomed, doomSpares}
 use Rattle.pool_rules.specs.Histories.{newHistory}
+use Rattle.pool_rules.specs.HistorySizes.{historySize, stampsUsed}
+use Rattle.grid_stamps.specs.StampConstants.{pageStamps}
 
 module _ {W : Type 0} where
   -- a tracking just begun: due starts at the creating submission
@@ -26,9 +28,9 @@ module _ {W : Type 0} where
     spares = [];
   }
 
-  -- a new history needs more pages than are free, `own` counted as free
+  -- a new history needs more stamps than are free, the `own` of the same id counted as free
   abbrev pub historyFull : PoolModel W → VersionShape → Bool → ℕ → Bool
-  historyFull p shape records own = records && ltb (p .places .pages + own) (total pagesUsed (p .textures) + pagesOf shape)
+  historyFull p shape records own = records && ltb (pageStamps * p .places .pages + own) (total stampsUsed (p .textures) + historySize shape)
 
   -- an untracked id
   abbrev pub takeNew : PoolModel W → ℕ → VersionShape → Bool → ℕ → Out W (Option (Spare W))
@@ -41,7 +43,7 @@ module _ {W : Type 0} where
   -- another shape: the spares are queued for destruction and the tracking is renewed
   abbrev pub takeRenewed : PoolModel W → ℕ → VersionShape → Bool → ℕ → VersionState W → Out W (Option (Spare W))
   takeRenewed p id shape records seq t =
-      guard (historyFull p shape records (pagesUsed t)) 6
+      guard (historyFull p shape records (stampsUsed t)) 6
       (guard (leb limit (p .trackings)) 12
       (accepted none
       (withTrackings (suc (p .trackings))

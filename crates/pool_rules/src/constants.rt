@@ -7,6 +7,9 @@ pub const LIMIT: u64 = 1 << 48;
 // The most textures, versions and pages that the lent slices may have places for.
 pub const MOST_PLACES: usize = 4096;
 
+// The most grids of a texture: fifteen levels on each of a cube's six slices.
+pub const MOST_GRIDS: usize = 90;
+
 // Submissions that a spare may wait for a rename, counted from its parking. The Rust: this bound sizes the pool to the demand,
 // for a texture that is still renamed takes its newest spares first and leaves the oldest to age; eight gives a texture that
 // stopped being renamed its storage back within about 130 ms at 60 frames a second. Counted from retiring instead, the same

@@ -9,12 +9,12 @@ use lib.Dec.{ltb, leb}
 use lib.ListN.{length}
 use Rattle.grid_shapes.specs.declared.shape.VersionShape.{VersionShape}
 use Rattle.grid_shapes.specs.Shapes.{isShape, sameShape}
-use Rattle.pool_rules.specs.Model.{PoolModel, find, limit, pagesOf}
+use Rattle.pool_rules.specs.Model.{PoolModel, find, limit, gridCount}
 use Rattle.pool_rules.specs.TakeSpare.{takeSpare}
 use Rattle.pool_rules.specs.RuleConstants.{mostPlaces}
 use Rattle.pool_records.specs.declared.texture.TextureRecord.{TextureRecord}
 use Rattle.pool_records.specs.RecordConstants.{textureStride}
-use Rattle.pool_records.specs.Texture.{textureIn, recordPages}
+use Rattle.pool_records.specs.Texture.{textureIn, recordGrids}
 use Rattle.pool_records.specs.Find.{below, hasId}
 use Rattle.pool_memory.specs.declared.pool.Pool.{Pool as Counts}
 use Rattle.pool_memory.specs.Lent.{Lent}
@@ -38,8 +38,8 @@ use Rattle.pool_take_spare.specs.TakeRefusal.{Readable, refusalAt}
 
 -- ---- a tracking begun
 
-module _ (places own used trackings : ℕ) (shape : VersionShape) (records : Bool) (n : ℕ) (e : n ≡ pagesOf shape) where
-  full : (b : Bool) → records && ltb (places + own) (used + n) ≡ b → records && ltb (places + own) (used + pagesOf shape) ≡ b
+module _ (places own used trackings : ℕ) (shape : VersionShape) (records : Bool) (n : ℕ) (e : n ≡ gridCount shape) where
+  full : (b : Bool) → records && ltb (places + own) (used + n) ≡ b → records && ltb (places + own) (used + gridCount shape) ≡ b
   full b q = ap (λ (k : ℕ). records && ltb (places + own) (used + k)) (sym e) ∙ q
 
   pub said-six : records && ltb (places + own) (used + n) ≡ true → 6 ≡ trackingRefusal places own used trackings shape records
@@ -59,7 +59,7 @@ module _ (places own used trackings : ℕ) (shape : VersionShape) (records : Boo
 
 -- ---- the call, test by test
 
-pub few-pages : (shape : VersionShape) (r : Bool) → r ≡ isShape shape → not r ≡ false → pagesOf shape ≤ mostPlaces
+pub few-pages : (shape : VersionShape) (r : Bool) → r ≡ isShape shape → not r ≡ false → gridCount shape ≤ mostPlaces
 few-pages shape r is shaped = omega (arith, pages-bound shape (sym is ∙ not-false r shaped))
 
 module _ (pool : Counts) (textures : List ℕ) (pages i id : ℕ) (shape : VersionShape) (records : Bool) (seq : ℕ) where
@@ -70,7 +70,7 @@ module _ (pool : Counts) (textures : List ℕ) (pages i id : ℕ) (shape : Versi
   begun own = trackingRefusal pages own (pool .pages) (pool .trackings) shape records
 
   abbrev said-tracked : ℕ
-  said-tracked = cond (sameShape (textureIn textures i .shape) shape) 0 (begun (recordPages (textureIn textures i)))
+  said-tracked = cond (sameShape (textureIn textures i .shape) shape) 0 (begun (recordGrids (textureIn textures i)))
 
   abbrev said-untracked : ℕ
   said-untracked = cond (leb (length textures / textureStride) (pool .tracked)) 5 (begun 0)
@@ -99,16 +99,16 @@ module _ (pool : Counts) (textures : List ℕ) (pages i id : ℕ) (shape : Versi
         said-new out h n e = e ∙ sym (ap (λ (c : Bool). cond c 5 (begun 0)) (lt-leb (length textures / textureStride) (pool .tracked) h)) ∙ by-found false (not-true b out)
 
         module _ (into : not b ≡ false) (t : TextureRecord) (is-record : t ≡ textureIn textures i) (q : Bool) (e : q ≡ sameShape (t .shape) shape) where
-          by-shape : (c : Bool) → q ≡ c → cond c 0 (begun (recordPages (textureIn textures i))) ≡ said
+          by-shape : (c : Bool) → q ≡ c → cond c 0 (begun (recordGrids (textureIn textures i))) ≡ said
           by-shape c y =
-              sym (ap (λ (d : Bool). cond d 0 (begun (recordPages (textureIn textures i)))) (ap (λ (u : TextureRecord). sameShape (u .shape) shape) (sym is-record) ∙ sym e ∙ y))
+              sym (ap (λ (d : Bool). cond d 0 (begun (recordGrids (textureIn textures i)))) (ap (λ (u : TextureRecord). sameShape (u .shape) shape) (sym is-record) ∙ sym e ∙ y))
               ∙ by-found true (not-false b into)
 
           pub said-same : q ≡ true → 0 ≡ said
           said-same y = by-shape true y
 
-          pub said-other : q ≡ false → (own n : ℕ) → own ≡ recordPages t → n ≡ begun own → n ≡ said
-          said-other y own n eo en = en ∙ ap begun (eo ∙ ap recordPages is-record) ∙ by-shape false y
+          pub said-other : q ≡ false → (own n : ℕ) → own ≡ recordGrids t → n ≡ begun own → n ≡ said
+          said-other y own n eo en = en ∙ ap begun (eo ∙ ap recordGrids is-record) ∙ by-shape false y
 
 -- what it reads of a tracked texture
 module _ (pool : Counts) (textures : List ℕ) (pages i id : ℕ) (k : Readable pool textures pages) (b : Bool) (has : b ≡ hasId textures (pool .tracked) i id)
@@ -119,8 +119,8 @@ module _ (pool : Counts) (textures : List ℕ) (pages i id : ℕ) (k : Readable 
   pub tracked-fits : textureStride * i + textureStride ≤ length textures
   tracked-fits = omega (arith, k .there, here)
 
-  pub own-pages : (t : TextureRecord) → t ≡ textureIn textures i → recordPages t ≤ mostPlaces
-  own-pages t e = omega (arith, ap recordPages e, claims-bound (textureIn textures i) (k .shapes i here))
+  pub own-pages : (t : TextureRecord) → t ≡ textureIn textures i → recordGrids t ≤ mostPlaces
+  own-pages t e = omega (arith, ap recordGrids e, claims-bound (textureIn textures i) (k .shapes i here))
 
 -- ---- the rule
 
@@ -139,7 +139,7 @@ module _ (l : Lent) (i id : ℕ) (shape : VersionShape) (records : Bool) (seq : 
   abbrev f : Fits l
   f = pool-fits l pool
 
-  begun-said : (own : ℕ) → trackingRefusal (length (l .newest)) own (l .pool .pages) (l .pool .trackings) shape records ≡ begunRefusal (modelOf l) shape records own
+  begun-said : (own : ℕ) → trackingRefusal (length (l .newest)) own (l .pool .grids) (l .pool .trackings) shape records ≡ begunRefusal (modelOf l) shape records own
   unfolding modelOf
   begun-said own = ap (λ (n : ℕ). trackingRefusal (length (l .newest)) own n (l .pool .trackings) shape records) (sym (pages-model l ∙ f .claimed))
 
@@ -153,7 +153,7 @@ module _ (l : Lent) (i id : ℕ) (shape : VersionShape) (records : Bool) (seq : 
   found-said true e =
       let h = ids.found (l .textures) (l .pool .tracked) i id e in
       ap₂ (λ (s : VersionShape) (n : ℕ). cond (sameShape s shape) 0 n) (sym (shape-at l i (h .0)))
-      (begun-said (recordPages (recordOf l i)) ∙ ap (begunRefusal (modelOf l) shape records) (sym (pages-at l i (h .0))))
+      (begun-said (recordGrids (recordOf l i)) ∙ ap (begunRefusal (modelOf l) shape records) (sym (pages-at l i (h .0))))
       ∙ ap (foundRefusal (modelOf l) shape records) (sym (found-there l f i (h .0) id at (h .1)))
   found-said false e =
       ap₂ (λ (n k : ℕ). cond (leb (length (l .textures) / textureStride) n) 5 k) (sym (tracked-model l)) (begun-said 0)

@@ -16,7 +16,7 @@ use Rattle.base_blocks.proofs.Listed.{getD-listed}
 use Rattle.base_tables.specs.Records.{recordAt}
 use Rattle.grid_shapes.specs.declared.shape.VersionShape.{VersionShape}
 use Rattle.grid_shapes.specs.Shapes.{sameShape, bytesOf}
-use Rattle.pool_rules.specs.Model.{Spare, VersionState, PoolModel, find, pagesUsed}
+use Rattle.pool_rules.specs.Model.{Spare, VersionState, PoolModel, find, gridsUsed}
 use Rattle.pool_rules.specs.Updates.{withSpares, withRename, withTextures, withParked, change}
 use Rattle.pool_rules.specs.TakeSpare.{newest, others, takenBytes, takeSpare}
 use Rattle.pool_rules.proofs.States.{length-change, total-change, total-unchanged}
@@ -187,16 +187,16 @@ module _ (l : Lent) (i id : ℕ) (shape : VersionShape) (records : Bool) (seq : 
   tracked-left : l .pool .tracked ≡ length (change id (renamedState seq) (modelOf l .textures))
   tracked-left = sym (length-change id (renamedState seq) (modelOf l .textures) ∙ tracked-model l)
 
-  pages-left : l .pool .pages ≡ total pagesUsed (change id (renamedState seq) (modelOf l .textures))
+  pages-left : l .pool .grids ≡ total gridsUsed (change id (renamedState seq) (modelOf l .textures))
   pages-left =
-      sym (total-unchanged pagesUsed id (renamedState seq) (λ (v : VersionState ℕ). refl) (modelOf l .textures) ∙ pages-model l ∙ f .claimed)
+      sym (total-unchanged gridsUsed id (renamedState seq) (λ (v : VersionState ℕ). refl) (modelOf l .textures) ∙ pages-model l ∙ f .claimed)
 
   counts-left : (kept parked : ℕ) → kept + (count - (count - 1)) ≡ l .pool .kept → parked ≡ after-take .parked
-      → counted (l .pool) (l .pool .tracked) kept (l .pool .pages) (l .pool .doomed) (l .pool .since) (l .pool .trackings) parked (l .pool .dooming) ≡ poolAfter after-take l
+      → counted (l .pool) (l .pool .tracked) kept (l .pool .grids) (l .pool .doomed) (l .pool .since) (l .pool .trackings) parked (l .pool .dooming) ≡ poolAfter after-take l
   unfolding modelOf
   counts-left kept parked e1 e2 =
-      ap (λ (n : ℕ). counted (l .pool) (l .pool .tracked) kept (l .pool .pages) (l .pool .doomed) (l .pool .since) (l .pool .trackings) n (l .pool .dooming)) e2
-      ∙ counts-after l f after-take refl refl refl refl (l .pool .tracked) kept (l .pool .pages) (l .pool .doomed) tracked-left (omega (arith, kept-left, e1)) pages-left
+      ap (λ (n : ℕ). counted (l .pool) (l .pool .tracked) kept (l .pool .grids) (l .pool .doomed) (l .pool .since) (l .pool .trackings) n (l .pool .dooming)) e2
+      ∙ counts-after l f after-take refl refl refl refl (l .pool .tracked) kept (l .pool .grids) (l .pool .doomed) tracked-left (omega (arith, kept-left, e1)) pages-left
       (sym (doomed-model l)) (omega arith)
 
   -- the parked bytes, less those of what is taken

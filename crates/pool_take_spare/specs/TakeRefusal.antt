@@ -11,7 +11,7 @@ use Rattle.grid_shapes.specs.Shapes.{isShape, sameShape}
 use Rattle.pool_rules.specs.Model.{limit}
 use Rattle.pool_rules.specs.RuleConstants.{mostPlaces}
 use Rattle.pool_records.specs.RecordConstants.{textureStride}
-use Rattle.pool_records.specs.Texture.{textureIn, texturesIn, recordPages}
+use Rattle.pool_records.specs.Texture.{textureIn, texturesIn, recordGrids}
 use Rattle.pool_records.specs.Find.{idOf, hasId}
 use Rattle.pool_memory.specs.declared.pool.Pool.{Pool}
 use Rattle.pool_tracking.specs.Refusal.{trackingRefusal}
@@ -31,5 +31,5 @@ refusalAt pool textures lentPages i id shape records seq =
     (cond (ltb limit seq) 3
     (cond (hasId textures (pool .tracked) i id)
     (cond (sameShape (textureIn textures i .shape) shape) 0
-    (trackingRefusal lentPages (recordPages (textureIn textures i)) (pool .pages) (pool .trackings) shape records))
+    (trackingRefusal lentPages (recordGrids (textureIn textures i)) (pool .pages) (pool .trackings) shape records))
     (cond (leb (length textures / textureStride) (pool .tracked)) 5 (trackingRefusal lentPages 0 (pool .pages) (pool .trackings) shape records))))

@@ -1,7 +1,7 @@
 // The number that take_spare is refused by.
 ghost use mathlib.Core.Path.{_≡_};
 ghost use Prim.Native.Nat.{_≤_};
-ghost use Rattle.pool_rules.specs.Model.{pagesOf};
+ghost use Rattle.pool_rules.specs.Model.{gridCount};
 ghost use Rattle.pool_rules.specs.RuleConstants.{mostPlaces};
 ghost use Rattle.pool_tracking.specs.Refusal.{trackingRefusal};
 ghost use Rattle.pool_take_spare.specs.TakeRefusal.{Readable, refusalAt};
@@ -24,10 +24,10 @@ fn tracking_refusal(
     shape: VersionShape,
     records: bool,
 ) -> u64
-    requires { ⌜ (places ≤ mostPlaces) × (own ≤ mostPlaces) × (pool .pages ≤ mostPlaces) × (pagesOf shape ≤ mostPlaces) ⌝ }
+    requires { ⌜ (places ≤ mostPlaces) × (own ≤ mostPlaces) × (pool .pages ≤ mostPlaces) × (gridCount shape ≤ mostPlaces) ⌝ }
     ensures { λ r. ⌜ r ≡ trackingRefusal places own (pool .pages) (pool .trackings) shape records ⌝ }
 {
-    if records & (places + own < pool.pages + shape_pages(shape)) {
+    if records & (places + own < pool.grids + shape_pages(shape)) {
         return 6;
     }
     if LIMIT <= pool.trackings {

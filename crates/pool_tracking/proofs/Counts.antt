@@ -4,7 +4,7 @@ use Prim.Native.Nat.{ℕ, _≤_}
 use native.Mathlib.Omega.{arith}
 use lib.ListN.{length}
 use Rattle.base_blocks.specs.Lists.{total}
-use Rattle.pool_rules.specs.Model.{PoolModel, pagesUsed, handCount}
+use Rattle.pool_rules.specs.Model.{PoolModel, gridsUsed, handCount}
 use Rattle.pool_memory.specs.declared.pool.Pool.{Pool as Counts}
 use Rattle.pool_memory.specs.Lent.{Lent}
 use Rattle.pool_memory.specs.Reading.{modelOf}
@@ -40,7 +40,7 @@ begunCounts c pages trackings = counted c (c .tracked) (c .kept) pages (c .doome
 module _ (l : Lent) (f : Fits l) (p : PoolModel ℕ) (hand : p .hand ≡ modelOf l .hand) (queue : p .retiring ≡ modelOf l .retiring)
     (cap : l .pool .cap ≡ p .budget .cap) (line : l .pool .line ≡ p .budget .line) where
   pub counts-after : (tracked kept pages doomed : ℕ) → tracked ≡ length (p .textures) → kept ≡ total spareCount (p .textures)
-      → pages ≡ total pagesUsed (p .textures) → doomed ≡ length (p .doomed) → l .pool .doomed ≤ doomed
+      → pages ≡ total gridsUsed (p .textures) → doomed ≡ length (p .doomed) → l .pool .doomed ≤ doomed
       → counted (l .pool) tracked kept pages doomed (p .since) (p .trackings) (p .parked) (p .dooming) ≡ poolAfter p l
   unfolding poolAfter
   counts-after tracked kept pages doomed e1 e2 e3 e4 more = λ j. record {

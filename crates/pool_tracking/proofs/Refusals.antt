@@ -10,7 +10,7 @@ use lib.ListN.{length}
 use Rattle.base_blocks.specs.Lists.{total}
 use Rattle.grid_shapes.specs.declared.shape.VersionShape.{VersionShape}
 use Rattle.grid_shapes.specs.Shapes.{isShape, sameShape, bytesOf}
-use Rattle.pool_rules.specs.Model.{Spare, VersionState, PoolModel, Out, refused, accepted, guard, find, limit, pagesOf, pagesUsed}
+use Rattle.pool_rules.specs.Model.{Spare, VersionState, PoolModel, Out, refused, accepted, guard, find, limit, gridCount, gridsUsed}
 use Rattle.pool_rules.specs.Updates.{withTextures, withTrackings, change, insert, asDoomed, doomSpares}
 use Rattle.pool_rules.specs.TakeSpare.{newState, historyFull, takeRenewed, takeTracked, takeFound, takeSpare}
 use Rattle.pool_memory.proofs.Asked.{guard-passed}
@@ -52,9 +52,9 @@ module _ (p : PoolModel ℕ) (id : ℕ) (shape : VersionShape) (records : Bool) 
         (begun-refused 0 _) e
     found-refused (some t) e = go (sameShape (t .shape) shape) e
       where
-        go : (b : Bool) → cond b 0 (begunRefusal p shape records (pagesUsed t)) ≡ n → cond b (takeTracked p id seq t) (takeRenewed p id shape records seq t) ≡ refused n
+        go : (b : Bool) → cond b 0 (begunRefusal p shape records (gridsUsed t)) ≡ n → cond b (takeTracked p id seq t) (takeRenewed p id shape records seq t) ≡ refused n
         go true q = nothing-said n other q
-        go false q = begun-refused (pagesUsed t) _ q
+        go false q = begun-refused (gridsUsed t) _ q
 
     pub take-refused : takeRefusal p id shape records seq ≡ n → takeSpare p id shape records seq ≡ refused n
     unfolding takeRefusal takeSpare
@@ -106,12 +106,12 @@ module _ (p : PoolModel ℕ) (id : ℕ) (shape : VersionShape) (records : Bool) 
       pub counter-left : p .trackings < limit
       counter-left = leb-false limit (p .trackings) (begun-passed .1)
 
-      pub pages-left : total pagesUsed (p .textures) ≤ p .places .pages + own → total pagesUsed (p .textures) + freshPages shape records ≤ p .places .pages + own
+      pub pages-left : total gridsUsed (p .textures) ≤ p .places .pages + own → total gridsUsed (p .textures) + freshPages shape records ≤ p .places .pages + own
       pages-left = go records (begun-passed .0)
         where
-          go : (r : Bool) → r && ltb (p .places .pages + own) (total pagesUsed (p .textures) + pagesOf shape) ≡ false → total pagesUsed (p .textures) ≤ p .places .pages + own
-              → total pagesUsed (p .textures) + freshPages shape r ≤ p .places .pages + own
-          go true q h = ltb-false (p .places .pages + own) (total pagesUsed (p .textures) + pagesOf shape) q
+          go : (r : Bool) → r && ltb (p .places .pages + own) (total gridsUsed (p .textures) + gridCount shape) ≡ false → total gridsUsed (p .textures) ≤ p .places .pages + own
+              → total gridsUsed (p .textures) + freshPages shape r ≤ p .places .pages + own
+          go true q h = ltb-false (p .places .pages + own) (total gridsUsed (p .textures) + gridCount shape) q
           go false q h = omega arith
 
     -- not tracked
@@ -137,9 +137,9 @@ module _ (p : PoolModel ℕ) (id : ℕ) (shape : VersionShape) (records : Bool) 
 
     -- tracked with another shape
     module _ (t : VersionState ℕ) (q : find id (p .textures) ≡ some t) (other : sameShape (t .shape) shape ≡ false) where
-      pub renewed-begun : begunRefusal p shape records (pagesUsed t) ≡ 0
+      pub renewed-begun : begunRefusal p shape records (gridsUsed t) ≡ 0
       renewed-begun =
-          sym (ap (λ (b : Bool). cond b 0 (begunRefusal p shape records (pagesUsed t))) other) ∙ ap (foundRefusal p shape records) (sym q) ∙ found-passed
+          sym (ap (λ (b : Bool). cond b 0 (begunRefusal p shape records (gridsUsed t))) other) ∙ ap (foundRefusal p shape records) (sym q) ∙ found-passed
 
       abbrev pub renewedPool : PoolModel ℕ
       renewedPool =
@@ -152,4 +152,4 @@ module _ (p : PoolModel ℕ) (id : ℕ) (shape : VersionShape) (records : Bool) 
           take-found
           ∙ ap (takeFound p id shape records seq) q
           ∙ ap (λ (b : Bool). cond b (takeTracked p id seq t) (takeRenewed p id shape records seq t)) other
-          ∙ begun-out (pagesUsed t) renewed-begun (accepted none renewedPool)
+          ∙ begun-out (gridsUsed t) renewed-begun (accepted none renewedPool)

@@ -15,14 +15,14 @@ use Rattle.base_tables.specs.Rings.{laid}
 use Rattle.grid_shapes.specs.declared.shape.VersionShape.{VersionShape}
 use Rattle.grid_shapes.specs.Shapes.{isShape, sameShape, bytesOf}
 use Rattle.grid_shapes.proofs.ShapeBytes.{bytes-bound}
-use Rattle.pool_rules.specs.Model.{Spare, Doomed, VersionState, PoolModel, find, limit, pagesOf, pagesUsed, doomedBytes}
+use Rattle.pool_rules.specs.Model.{Spare, Doomed, VersionState, PoolModel, find, limit, gridCount, gridsUsed, doomedBytes}
 use Rattle.pool_rules.specs.Updates.{withTextures, withTrackings, change, asDoomed, doomSpares}
 use Rattle.pool_rules.specs.TakeSpare.{takeSpare}
 use Rattle.pool_rules.proofs.States.{length-change, total-change}
 use Rattle.pool_rules.proofs.Moves.{as-doomed-bytes, as-doomed-length}
 use Rattle.pool_records.specs.declared.texture.TextureRecord.{TextureRecord}
 use Rattle.pool_records.specs.declared.doomed.DoomedRecord.{DoomedRecord}
-use Rattle.pool_records.specs.Texture.{writeTexture, texturesIn, recordPages}
+use Rattle.pool_records.specs.Texture.{writeTexture, texturesIn, recordGrids}
 use Rattle.pool_records.specs.Doomed.{writeDoomed}
 use Rattle.pool_memory.specs.declared.pool.Pool.{Pool as Counts}
 use Rattle.pool_memory.specs.Lent.{Lent, lent, versionPlaces}
@@ -31,13 +31,13 @@ use Rattle.pool_memory.specs.Writing.{doomedRecord, everySpare, firstPage, spar
 use Rattle.pool_memory.specs.Calls.{answer, takenOf, takeSpareOn}
 use Rattle.pool_memory.proofs.Fits.{Fits}
 use Rattle.pool_memory.proofs.FromPool.{pool-fits, page-places}
-use Rattle.pool_memory.proofs.Runs.{sparesOf, spareCount, firstSpare, firstPageOf, stateOf, tracked-model, kept-model, pages-model}
+use Rattle.pool_memory.proofs.Runs.{sparesOf, spareCount, firstSpare, firstGrid, stateOf, tracked-model, kept-model, pages-model}
 use Rattle.pool_memory.proofs.Same.{doomed-model}
 use Rattle.pool_memory.proofs.Rings.{doomed-pushed}
 use Rattle.pool_memory.proofs.Stays.{put-together, book-stays, ids-ascend, retiring-stay, doomed-fit, doomed-bound}
 use Rattle.pool_memory.proofs.Places.{changed}
 use Rattle.pool_memory.proofs.Changes.{textures-set, sparesBefore, every-emptied, spares-removed}
-use Rattle.pool_memory.proofs.Pages.{pagesAt, next-page, pages-in, set-parts}
+use Rattle.pool_memory.proofs.Pages.{gridCountAt, next-page, pages-in, set-parts}
 use Rattle.pool_memory.proofs.Fresh.{no-page-reshaped}
 use Rattle.pool_memory.proofs.Asked.{asked-accepted}
 use Rattle.pool_memory.proofs.Tracked.{record-read, spares-to, pages-to, bytes-at, shape-at, count-at, pages-at}
@@ -60,7 +60,7 @@ use Rattle.pool_rules.specs.RuleConstants.{mostPlaces}
 -- what the code asks of a pool in which a texture's tracking is renewed
 pub record Renewable (l : Lent) (hold : Holding) (shape : VersionShape) (records : Bool) : Type 0 where
   pub counter : l .pool .trackings < limit
-  pub few : pagesOf shape ≤ mostPlaces
+  pub few : gridCount shape ≤ mostPlaces
   pub ring : doomedStride * (length (l .retiring) / retiringStride) ≤ length (l .doomed)
   pub head : l .pool .first < length (l .retiring) / retiringStride
   pub doomed : l .pool .doomed + hold .spares ≤ length (l .retiring) / retiringStride
@@ -69,17 +69,17 @@ pub record Renewable (l : Lent) (hold : Holding) (shape : VersionShape) (records
   pub parked : hold .bytes * hold .spares ≤ l .pool .parked
   pub dooming : l .pool .dooming + hold .bytes * hold .spares < 2 ^ 64
   pub since : l .pool .since + hold .spares < 2 ^ 64
-  pub page : hold .page + hold .pages ≤ l .pool .pages
-  pub used : l .pool .pages ≤ length (l .newest)
-  pub room : l .pool .pages + freshPages shape records ≤ length (l .newest) + hold .pages
+  pub page : hold .page + hold .pages ≤ l .pool .grids
+  pub used : l .pool .grids ≤ length (l .newest)
+  pub room : l .pool .grids + freshPages shape records ≤ length (l .newest) + hold .pages
   pub newest : length (l .newest) ≤ mostPlaces
   pub stamps : pageStamps * length (l .newest) ≡ length (l .stamps)
 
 -- what it asks before it reads them
 pub record Readable (l : Lent) (i : ℕ) : Type 0 where
   pub spares : total sparesOf (texturesIn i (l .textures)) ≤ mostPlaces
-  pub pages : total recordPages (texturesIn i (l .textures)) ≤ mostPlaces
-  pub own : recordPages (recordOf l i) ≤ mostPlaces
+  pub pages : total recordGrids (texturesIn i (l .textures)) ≤ mostPlaces
+  pub own : recordGrids (recordOf l i) ≤ mostPlaces
 
 module _ (l : Lent) (i id : ℕ) (shape : VersionShape) (records : Bool) (seq : ℕ) (ok : Accepted l i id shape records seq) (h : TrackedAt l i id)
     (other : sameShape (recordOf l i .shape) shape ≡ false) where
@@ -131,8 +131,8 @@ module _ (l : Lent) (i id : ℕ) (shape : VersionShape) (records : Bool) (seq : 
   unfolding stateOf stateRead
   spares-listed = ap (λ (r : TextureRecord). listed (spareRead l) (firstSpare l i) (r .spares)) (record-read l i (h .0))
 
-  pages-there : pagesAt l i ≡ recordPages t
-  pages-there = ap recordPages (record-read l i (h .0))
+  pages-there : gridCountAt l i ≡ recordGrids t
+  pages-there = ap recordGrids (record-read l i (h .0))
 
   given-bytes : doomedBytes given ≡ bytesOf (t .shape) * t .spares
   given-bytes = as-doomed-bytes (bytesOf (u .shape)) (u .spares) ∙ ap₂ (λ (a b : ℕ). a * b) (ap bytesOf (shape-at l i (h .0))) spares-counted
@@ -158,11 +158,11 @@ module _ (l : Lent) (i id : ℕ) (shape : VersionShape) (records : Bool) (seq : 
   kept-then =
       omega (arith, total-change spareCount id (λ (v : VersionState ℕ). new) u (modelOf l .textures) (f .formed .ids) there, kept-model l, f .kept, spares-counted)
 
-  pages-then : l .pool .pages - recordPages t + freshPages shape records ≡ total pagesUsed (change id (λ (v : VersionState ℕ). new) (modelOf l .textures))
+  pages-then : l .pool .grids - recordGrids t + freshPages shape records ≡ total gridsUsed (change id (λ (v : VersionState ℕ). new) (modelOf l .textures))
   pages-then =
       omega (
         arith,
-        total-change pagesUsed id (λ (v : VersionState ℕ). new) u (modelOf l .textures) (f .formed .ids) there,
+        total-change gridsUsed id (λ (v : VersionState ℕ). new) u (modelOf l .textures) (f .formed .ids) there,
         pages-model l,
         f .claimed,
         pages-at l i (h .0),
@@ -174,23 +174,23 @@ module _ (l : Lent) (i id : ℕ) (shape : VersionShape) (records : Bool) (seq : 
   doomed-then : l .pool .doomed + t .spares ≡ length (modelOf l .doomed ++ given)
   doomed-then = omega (arith, length-append (modelOf l .doomed) given, doomed-model l, given-length)
 
-  counts-renewed : counted (l .pool) (l .pool .tracked) (l .pool .kept - t .spares) (l .pool .pages - recordPages t + freshPages shape records) (l .pool .doomed + t .spares)
+  counts-renewed : counted (l .pool) (l .pool .tracked) (l .pool .kept - t .spares) (l .pool .grids - recordGrids t + freshPages shape records) (l .pool .doomed + t .spares)
       (l .pool .since + t .spares) epoch (l .pool .parked - bytesOf (t .shape) * t .spares) (l .pool .dooming + bytesOf (t .shape) * t .spares) ≡ poolAfter renewed l
   unfolding modelOf
   counts-renewed =
-      ap₂ (λ (n b : ℕ). counted (l .pool) (l .pool .tracked) (l .pool .kept - t .spares) (l .pool .pages - recordPages t + freshPages shape records) (l .pool .doomed + t .spares)
+      ap₂ (λ (n b : ℕ). counted (l .pool) (l .pool .tracked) (l .pool .kept - t .spares) (l .pool .grids - recordGrids t + freshPages shape records) (l .pool .doomed + t .spares)
       (l .pool .since + n) epoch (l .pool .parked - b) (l .pool .dooming + b)) (sym given-length) (sym given-bytes)
-      ∙ counts-after l f renewed refl refl refl refl (l .pool .tracked) (l .pool .kept - t .spares) (l .pool .pages - recordPages t + freshPages shape records) (l .pool .doomed + t .spares)
+      ∙ counts-after l f renewed refl refl refl refl (l .pool .tracked) (l .pool .kept - t .spares) (l .pool .grids - recordGrids t + freshPages shape records) (l .pool .doomed + t .spares)
       tracked-then kept-then pages-then doomed-then (omega arith)
 
   shaped : isShape shape ≡ true
   shaped = shape-passed (modelOf l) id shape records seq (ok .1 .1)
 
-  page-room : l .pool .pages + freshPages shape records ≤ length (l .newest) + recordPages t
+  page-room : l .pool .grids + freshPages shape records ≤ length (l .newest) + recordGrids t
   page-room =
       omega (
         arith,
-        pages-left (modelOf l) id shape records seq (ok .1 .1) (pagesUsed u) (renewed-begun (modelOf l) id shape records seq (ok .1 .1) u there other-state)
+        pages-left (modelOf l) id shape records seq (ok .1 .1) (gridsUsed u) (renewed-begun (modelOf l) id shape records seq (ok .1 .1) u there other-state)
             (omega (arith, f .formed .pages)),
         pages-model l,
         f .claimed,
@@ -198,8 +198,8 @@ module _ (l : Lent) (i id : ℕ) (shape : VersionShape) (records : Bool) (seq : 
         pages-at l i (h .0),
       )
 
-  next : firstPageOf l (suc i) ≡ firstPageOf l i + recordPages t
-  next = next-page l i (h .0) ∙ ap (λ (k : ℕ). firstPageOf l i + k) pages-there
+  next : firstGrid l (suc i) ≡ firstGrid l i + recordGrids t
+  next = next-page l i (h .0) ∙ ap (λ (k : ℕ). firstGrid l i + k) pages-there
 
   no-page : firstPage id shape 0 (modelOf l .textures) ≡ none
   unfolding stateOf stateRead
@@ -232,11 +232,11 @@ module _ (l : Lent) (i id : ℕ) (shape : VersionShape) (records : Bool) (seq : 
     unfolding holdingAt
     bytes-is = ap (λ (a : Holding). a .bytes) is-held ∙ bytes-at l i (h .0) f
 
-    page-is : hold .page ≡ firstPageOf l i
+    page-is : hold .page ≡ firstGrid l i
     unfolding holdingAt
     page-is = ap (λ (a : Holding). a .page) is-held ∙ sym (pages-to l i (h .0))
 
-    pages-is : hold .pages ≡ recordPages t
+    pages-is : hold .pages ≡ recordGrids t
     unfolding holdingAt
     pages-is = ap (λ (a : Holding). a .pages) is-held
 
@@ -251,7 +251,7 @@ module _ (l : Lent) (i id : ℕ) (shape : VersionShape) (records : Bool) (seq : 
         let all : bytesOf (t .shape) * t .spares ≤ mostShapeBytes * mostPlaces =
         mul-le-mul (bytes-bound (t .shape) (k .shape)) (let q : t .spares ≤ mostPlaces = omega (arith, k .within, k .kept) in q) in
         record {
-          counter = counter-left (modelOf l) id shape records seq (ok .1 .1) (pagesUsed u) (renewed-begun (modelOf l) id shape records seq (ok .1 .1) u there other-state);
+          counter = counter-left (modelOf l) id shape records seq (ok .1 .1) (gridsUsed u) (renewed-begun (modelOf l) id shape records seq (ok .1 .1) u there other-state);
           few = omega (arith, pages-bound shape shaped);
           ring = omega (arith, f .doomed);
           head = f .first;
@@ -273,10 +273,10 @@ module _ (l : Lent) (i id : ℕ) (shape : VersionShape) (records : Bool) (seq : 
 
     -- the counts with the spares given up, and then the pages and the tracking's number
     counts-left : (fresh : ℕ) → fresh ≡ n → (g : Counts) → g ≡ givenUp (l .pool) (hold .spares) (hold .bytes)
-        → begunCounts g (l .pool .pages - hold .pages + fresh) (l .pool .trackings + 1) ≡ poolAfter renewed l
+        → begunCounts g (l .pool .grids - hold .pages + fresh) (l .pool .trackings + 1) ≡ poolAfter renewed l
     counts-left fresh e g q =
-        ap (λ (c : Counts). begunCounts c (l .pool .pages - hold .pages + fresh) (l .pool .trackings + 1)) q
-        ∙ (λ j. counted (l .pool) (l .pool .tracked) (l .pool .kept - spares-is j) (l .pool .pages - pages-is j + e j) (l .pool .doomed + spares-is j)
+        ap (λ (c : Counts). begunCounts c (l .pool .grids - hold .pages + fresh) (l .pool .trackings + 1)) q
+        ∙ (λ j. counted (l .pool) (l .pool .tracked) (l .pool .kept - spares-is j) (l .pool .grids - pages-is j + e j) (l .pool .doomed + spares-is j)
         (l .pool .since + spares-is j) (epoch-is j) (l .pool .parked - both-is j) (l .pool .dooming + both-is j))
         ∙ counts-renewed
 
@@ -303,21 +303,21 @@ module _ (l : Lent) (i id : ℕ) (shape : VersionShape) (records : Bool) (seq : 
         → doomed ≡ laid doomedStride writeDoomed places (l .pool .first) (l .pool .doomed) (givenRecords (l .spares) (hold .bytes) (hold .first) (hold .spares)) (l .doomed)
         → spares ≡ moved (l .spares) (spareStride * hold .first) (spareStride * hold .first + spareStride * hold .spares) (spareStride * (l .pool .kept - (hold .first + hold .spares)))
         → x ≡ newRecord id shape records (l .pool .trackings + 1) seq → textures ≡ sets (l .textures) (textureStride * i) (writeTexture x)
-        → newest ≡ newestRenewed (l .newest) (l .pool .pages) (hold .page) (hold .pages) fresh
-        → stamps ≡ stampsRenewed (l .stamps) (l .pool .pages) (hold .page) (hold .pages) fresh
-        → (answer none, lent (begunCounts g (l .pool .pages - hold .pages + fresh) (l .pool .trackings + 1)) (l .book) textures (l .retiring) doomed spares newest stamps)
+        → newest ≡ newestRenewed (l .newest) (l .pool .grids) (hold .page) (hold .pages) fresh
+        → stamps ≡ stampsRenewed (l .stamps) (l .pool .grids) (hold .page) (hold .pages) fresh
+        → (answer none, lent (begunCounts g (l .pool .grids - hold .pages + fresh) (l .pool .trackings + 1)) (l .book) textures (l .retiring) doomed spares newest stamps)
         ≡ takeSpareOn l id shape records seq
     left-renewed places fresh g x textures doomed spares newest stamps e1 e2 e3 e4 e5 e6 e7 e8 e9 =
         let parts = set-parts l renewed i (h .0) new changed-there in
         ap (λ (m : Lent). (answer none, m))
-        (put-together renewed l (begunCounts g (l .pool .pages - hold .pages + fresh) (l .pool .trackings + 1)) (l .book) textures (l .retiring) doomed spares newest stamps
+        (put-together renewed l (begunCounts g (l .pool .grids - hold .pages + fresh) (l .pool .trackings + 1)) (l .book) textures (l .retiring) doomed spares newest stamps
         (counts-left fresh e2 g e3) (book-stays l f renewed refl)
         (e7 ∙ ap (λ (y : TextureRecord). sets (l .textures) (textureStride * i) (writeTexture y))
         (e6 ∙ ap (λ (k : ℕ). newRecord id shape records k seq) epoch-is ∙ sym (begun-record id shape records epoch seq))
         ∙ textures-set l renewed f i new (h .0) changed-there)
         (retiring-stay l f renewed refl refl) (doomed-left places e1 doomed e4) (spares-left spares e5)
-        (e8 ∙ (λ j. newestRenewed (l .newest) (l .pool .pages) (page-is j) (pages-is j) (e2 j))
-        ∙ newest-begun id shape records epoch seq l f renewed i (suc i) (recordPages t) (omega arith) parts next shaped page-room)
-        (e9 ∙ (λ j. stampsRenewed (l .stamps) (l .pool .pages) (page-is j) (pages-is j) (e2 j))
-        ∙ stamps-begun id shape records epoch seq l f renewed i (suc i) (recordPages t) (omega arith) parts next shaped page-room no-page))
+        (e8 ∙ (λ j. newestRenewed (l .newest) (l .pool .grids) (page-is j) (pages-is j) (e2 j))
+        ∙ newest-begun id shape records epoch seq l f renewed i (suc i) (recordGrids t) (omega arith) parts next shaped page-room)
+        (e9 ∙ (λ j. stampsRenewed (l .stamps) (l .pool .grids) (page-is j) (pages-is j) (e2 j))
+        ∙ stamps-begun id shape records epoch seq l f renewed i (suc i) (recordGrids t) (omega arith) parts next shaped page-room no-page))
         ∙ sym ruled

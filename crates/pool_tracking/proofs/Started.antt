@@ -14,12 +14,12 @@ use Rattle.base_blocks.specs.Blocks.{moved}
 use Rattle.base_tables.proofs.Records.{take-table}
 use Rattle.grid_shapes.specs.declared.shape.VersionShape.{VersionShape}
 use Rattle.grid_shapes.specs.Shapes.{isShape}
-use Rattle.pool_rules.specs.Model.{VersionState, PoolModel, find, limit, pagesUsed}
+use Rattle.pool_rules.specs.Model.{VersionState, PoolModel, find, limit, gridsUsed}
 use Rattle.pool_rules.specs.Updates.{withTextures, withTrackings, insert}
 use Rattle.pool_rules.specs.TakeSpare.{takeSpare}
 use Rattle.pool_rules.proofs.States.{length-insert, total-insert}
 use Rattle.pool_records.specs.declared.texture.TextureRecord.{TextureRecord}
-use Rattle.pool_records.specs.Texture.{readTexture, writeTexture, texturesIn, recordPages}
+use Rattle.pool_records.specs.Texture.{readTexture, writeTexture, texturesIn, recordGrids}
 use Rattle.pool_records.proofs.Places.{below-length}
 use Rattle.pool_memory.specs.declared.pool.Pool.{Pool as Counts}
 use Rattle.pool_memory.specs.Lent.{Lent, lent}
@@ -28,7 +28,7 @@ use Rattle.pool_memory.specs.Writing.{everySpare, poolAfter, lentAfter}
 use Rattle.pool_memory.specs.Calls.{answer, takenOf, takeSpareOn}
 use Rattle.pool_memory.proofs.Fits.{Fits}
 use Rattle.pool_memory.proofs.FromPool.{pool-fits, page-places, enough}
-use Rattle.pool_memory.proofs.Runs.{spareCount, firstPageOf, tracked-records, tracked-model, kept-model, pages-model}
+use Rattle.pool_memory.proofs.Runs.{spareCount, firstGrid, tracked-records, tracked-model, kept-model, pages-model}
 use Rattle.pool_memory.proofs.Same.{doomed-model}
 use Rattle.pool_memory.proofs.Stays.{put-together, book-stays, ids-ascend, spares-stay, retiring-stay, doomed-stay}
 use Rattle.pool_memory.proofs.Places.{IsTracked, not-found, put-in}
@@ -53,7 +53,7 @@ Left = Counts × (List ℕ × (List ℕ × List ℕ))
 
 module _ (pool : Counts) (textures newest stamps : List ℕ) (i id : ℕ) (shape : VersionShape) (records : Bool) (seq : ℕ) where
   pub started-as : (x : TextureRecord) (textures′ newest′ stamps′ : List ℕ) (page fresh : ℕ) → x ≡ newRecord id shape records (pool .trackings + 1) seq
-      → page ≡ total recordPages (texturesIn i textures) → fresh ≡ freshPages shape records
+      → page ≡ total recordGrids (texturesIn i textures) → fresh ≡ freshPages shape records
       → textures′ ≡ sets (moved textures (textureStride * i + textureStride) (textureStride * i) (textureStride * (pool .tracked - i))) (textureStride * i) (writeTexture x)
       → newest′ ≡ newestRenewed newest (pool .pages) page 0 fresh → stamps′ ≡ stampsRenewed stamps (pool .pages) page 0 fresh
       → (oneTracked pool fresh, (textures′, (newest′, stamps′))) ≡ trackingStarted pool textures newest stamps i id shape records seq
@@ -116,7 +116,7 @@ module _ (l : Lent) (i id : ℕ) (shape : VersionShape) (records : Bool) (seq : 
   shaped : isShape shape ≡ true
   shaped = shape-passed (modelOf l) id shape records seq (ok .1 .1)
 
-  page-room : l .pool .pages + freshPages shape records ≤ length (l .newest)
+  page-room : l .pool .grids + freshPages shape records ≤ length (l .newest)
   page-room =
       omega (
         arith,
@@ -126,11 +126,11 @@ module _ (l : Lent) (i id : ℕ) (shape : VersionShape) (records : Bool) (seq : 
         page-places l,
       )
 
-  pages-there : total recordPages (texturesIn i (l .textures)) ≡ firstPageOf l i
-  unfolding firstPageOf
-  pages-there = ap (total recordPages) (sym (take-table textureStride readTexture i (l .pool .tracked) (l .textures) place-bound))
+  pages-there : total recordGrids (texturesIn i (l .textures)) ≡ firstGrid l i
+  unfolding firstGrid
+  pages-there = ap (total recordGrids) (sym (take-table textureStride readTexture i (l .pool .tracked) (l .textures) place-bound))
 
-  page-in : firstPageOf l i ≤ l .pool .pages
+  page-in : firstGrid l i ≤ l .pool .grids
   page-in = page-bound l (f .claimed) i
 
   pub start-fits : StartFits (l .pool) (l .textures) (l .newest) (l .stamps) i shape records
@@ -159,14 +159,14 @@ module _ (l : Lent) (i id : ℕ) (shape : VersionShape) (records : Bool) (seq : 
   kept-then : l .pool .kept ≡ total spareCount (insert new (modelOf l .textures))
   kept-then = omega (arith, total-insert spareCount new (modelOf l .textures), kept-model l, f .kept)
 
-  pages-then : l .pool .pages + freshPages shape records ≡ total pagesUsed (insert new (modelOf l .textures))
-  pages-then = omega (arith, total-insert pagesUsed new (modelOf l .textures), pages-model l, f .claimed, begun-pages id shape records epoch seq)
+  pages-then : l .pool .grids + freshPages shape records ≡ total gridsUsed (insert new (modelOf l .textures))
+  pages-then = omega (arith, total-insert gridsUsed new (modelOf l .textures), pages-model l, f .claimed, begun-pages id shape records epoch seq)
 
   counts-started : oneTracked (l .pool) (freshPages shape records) ≡ poolAfter started l
   unfolding modelOf
   counts-started =
-      ap (λ (k : ℕ). counted (l .pool) (l .pool .tracked + 1) (l .pool .kept) (l .pool .pages + freshPages shape records) (l .pool .doomed) (l .pool .since) k (l .pool .parked) (l .pool .dooming)) epoch-is
-      ∙ counts-after l f started refl refl refl refl (l .pool .tracked + 1) (l .pool .kept) (l .pool .pages + freshPages shape records) (l .pool .doomed)
+      ap (λ (k : ℕ). counted (l .pool) (l .pool .tracked + 1) (l .pool .kept) (l .pool .grids + freshPages shape records) (l .pool .doomed) (l .pool .since) k (l .pool .parked) (l .pool .dooming)) epoch-is
+      ∙ counts-after l f started refl refl refl refl (l .pool .tracked + 1) (l .pool .kept) (l .pool .grids + freshPages shape records) (l .pool .doomed)
       tracked-then kept-then pages-then (sym (doomed-model l)) (omega arith)
 
   pub left-started : (c : Counts) (textures newest stamps : List ℕ)
@@ -175,8 +175,8 @@ module _ (l : Lent) (i id : ℕ) (shape : VersionShape) (records : Bool) (seq : 
   unfolding trackingStarted
   left-started c textures newest stamps e =
       let n = freshPages shape records in
-      let same : firstPageOf l i ≡ firstPageOf l i + 0 = sym (add-zero (firstPageOf l i)) in
-      let room : l .pool .pages + n ≤ length (l .newest) + 0 = omega (arith, page-room) in
+      let same : firstGrid l i ≡ firstGrid l i + 0 = sym (add-zero (firstGrid l i)) in
+      let room : l .pool .grids + n ≤ length (l .newest) + 0 = omega (arith, page-room) in
       ap (λ (m : Lent). (answer none, m))
       (put-together started l c (l .book) textures (l .retiring) (l .doomed) (l .spares) newest stamps
       (ap (λ (q : Left). q .0) e ∙ counts-started)
@@ -187,8 +187,8 @@ module _ (l : Lent) (i id : ℕ) (shape : VersionShape) (records : Bool) (seq : 
       ∙ textures-inserted l started f i new record-room place-bound put-there)
       (retiring-stay l f started refl refl) (doomed-stay l f started refl)
       (spares-stay l f started (ap everySpare put-there ∙ every-inserted l i new refl))
-      (ap (λ (q : Left). q .1 .1 .0) e ∙ ap (λ (a : ℕ). newestRenewed (l .newest) (l .pool .pages) a 0 n) pages-there
+      (ap (λ (q : Left). q .1 .1 .0) e ∙ ap (λ (a : ℕ). newestRenewed (l .newest) (l .pool .grids) a 0 n) pages-there
       ∙ newest-begun id shape records epoch seq l f started i i 0 (omega arith) parts same shaped room)
-      (ap (λ (q : Left). q .1 .1 .1) e ∙ ap (λ (a : ℕ). stampsRenewed (l .stamps) (l .pool .pages) a 0 n) pages-there
+      (ap (λ (q : Left). q .1 .1 .1) e ∙ ap (λ (a : ℕ). stampsRenewed (l .stamps) (l .pool .grids) a 0 n) pages-there
       ∙ stamps-begun id shape records epoch seq l f started i i 0 (omega arith) parts same shaped room (no-page-new l (ids-ascend l f) id shape nowhere)))
       ∙ sym ruled

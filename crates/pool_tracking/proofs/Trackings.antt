@@ -10,7 +10,7 @@ use lib.Seq.{sets}
 use Rattle.base_blocks.specs.Blocks.{moved}
 use Rattle.grid_shapes.specs.declared.shape.VersionShape.{VersionShape}
 use Rattle.grid_shapes.specs.Shapes.{isShape, bytesOf}
-use Rattle.pool_rules.specs.Model.{VersionState, PoolModel, pagesUsed}
+use Rattle.pool_rules.specs.Model.{VersionState, PoolModel, gridsUsed}
 use Rattle.pool_rules.specs.Histories.{newHistory}
 use Rattle.pool_rules.specs.TakeSpare.{newState}
 use Rattle.pool_records.specs.declared.recorded.Recorded.{Recorded}
@@ -21,7 +21,7 @@ use Rattle.pool_memory.specs.Reading.{modelOf}
 use Rattle.pool_memory.specs.Writing.{textureRecord, newestOf, newestAfter, firstPage, pagesFrom, pageBefore, pagesAfter, stampsAfter}
 use Rattle.pool_memory.proofs.Fits.{Fits}
 use Rattle.pool_memory.proofs.Rewritten.{length-zeros}
-use Rattle.pool_memory.proofs.Runs.{firstPageOf}
+use Rattle.pool_memory.proofs.Runs.{firstGrid}
 use Rattle.pool_memory.proofs.Stays.{ids-ascend}
 use Rattle.pool_memory.proofs.Pages.{page-bound, newest-repacked, stamps-repacked}
 use Rattle.pool_memory.proofs.Fresh.{fresh-newest, fresh-stamps}
@@ -52,10 +52,10 @@ module _ (id : ℕ) (shape : VersionShape) (records : Bool) (epoch seq : ℕ) wh
       go true = omega arith
       go false = omega arith
 
-  pub begun-pages : pagesUsed begun ≡ freshPages shape records
+  pub begun-pages : gridsUsed begun ≡ freshPages shape records
   begun-pages = go records
     where
-      go : (b : Bool) → pagesUsed (newState {W = ℕ} id shape b epoch seq) ≡ freshPages shape b
+      go : (b : Bool) → gridsUsed (newState {W = ℕ} id shape b epoch seq) ≡ freshPages shape b
       go true = refl
       go false = refl
 
@@ -81,28 +81,28 @@ module _ (id : ℕ) (shape : VersionShape) (records : Bool) (epoch seq : ℕ) wh
 
   module _ (l : Lent) (f : Fits l) (p : PoolModel ℕ) (i j old : ℕ) (h : i ≤ j)
       (e : p .textures ≡ take i (modelOf l .textures) ++ ((begun ∷ []) ++ drop j (modelOf l .textures)))
-      (next : firstPageOf l j ≡ firstPageOf l i + old) (shaped : isShape shape ≡ true) (room : l .pool .pages + freshPages shape records ≤ length (l .newest) + old) where
+      (next : firstGrid l j ≡ firstGrid l i + old) (shaped : isShape shape ≡ true) (room : l .pool .grids + freshPages shape records ≤ length (l .newest) + old) where
     abbrev n : ℕ
     n = freshPages shape records
 
     abbrev page : ℕ
-    page = firstPageOf l i
+    page = firstGrid l i
 
     abbrev zeros : ℕ → List ℕ
     zeros k = replicate k 0
 
-    pub newest-begun : newestRenewed (l .newest) (l .pool .pages) page old n ≡ newestAfter p l
+    pub newest-begun : newestRenewed (l .newest) (l .pool .grids) page old n ≡ newestAfter p l
     newest-begun =
         let b = page-bound l (f .claimed) j in
-        ap₂ (λ (k m : ℕ). sets (moved (l .newest) (page + k) m (l .pool .pages - m)) page (zeros n)) (sym (length-zeros n)) (sym next)
+        ap₂ (λ (k m : ℕ). sets (moved (l .newest) (page + k) m (l .pool .grids - m)) page (zeros n)) (sym (length-zeros n)) (sym next)
         ∙ newest-repacked l p (f .claimed) i j (begun ∷ []) h e (zeros n) (begun-newest shaped) (f .pages) (omega (arith, length-zeros n))
 
     pub stamps-begun : firstPage id shape 0 (modelOf l .textures) ≡ none
-        → stampsRenewed (l .stamps) (l .pool .pages) page old n ≡ stampsAfter p l
+        → stampsRenewed (l .stamps) (l .pool .grids) page old n ≡ stampsAfter p l
     stamps-begun none-before =
         let b = page-bound l (f .claimed) j in
-        let m : pageStamps * page + pageStamps * old ≡ pageStamps * firstPageOf l j = omega arith in
-        ap₂ (λ (a c : ℕ). sets (moved (l .stamps) (pageStamps * page + a) c (pageStamps * (l .pool .pages - (page + old)))) (pageStamps * page) (zeros (pageStamps * n))) (sym (length-zeros (pageStamps * n))) m
-        ∙ ap (λ (c : ℕ). sets (moved (l .stamps) (pageStamps * page + length (zeros (pageStamps * n))) (pageStamps * firstPageOf l j) (pageStamps * (l .pool .pages - c))) (pageStamps * page) (zeros (pageStamps * n))) (sym next)
+        let m : pageStamps * page + pageStamps * old ≡ pageStamps * firstGrid l j = omega arith in
+        ap₂ (λ (a c : ℕ). sets (moved (l .stamps) (pageStamps * page + a) c (pageStamps * (l .pool .grids - (page + old)))) (pageStamps * page) (zeros (pageStamps * n))) (sym (length-zeros (pageStamps * n))) m
+        ∙ ap (λ (c : ℕ). sets (moved (l .stamps) (pageStamps * page + length (zeros (pageStamps * n))) (pageStamps * firstGrid l j) (pageStamps * (l .pool .grids - c))) (pageStamps * page) (zeros (pageStamps * n))) (sym next)
         ∙ stamps-repacked l p (f .claimed) i j (begun ∷ []) h e (ids-ascend l f) (zeros (pageStamps * n)) (begun-stamps l shaped none-before)
         (omega (arith, f .stamps, f .pages)) (omega (arith, length-zeros (pageStamps * n), f .stamps))

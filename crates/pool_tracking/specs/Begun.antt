@@ -8,7 +8,7 @@ use Rattle.base_blocks.specs.Blocks.{moved}
 use Rattle.grid_shapes.specs.declared.shape.VersionShape.{VersionShape}
 use Rattle.grid_shapes.specs.Shapes.{bytesOf}
 use Rattle.grid_stamps.specs.StampConstants.{pageStamps}
-use Rattle.pool_rules.specs.Model.{pagesOf}
+use Rattle.pool_rules.specs.Model.{gridCount}
 use Rattle.pool_records.specs.declared.recorded.Recorded.{Recorded}
 use Rattle.pool_records.specs.declared.recorded.Recorded.the-variants.{Writes, NoHistory}
 use Rattle.pool_records.specs.declared.texture.TextureRecord.{TextureRecord}
@@ -19,7 +19,7 @@ freshHistory records = cond records (Writes 0) NoHistory
 
 -- the pages of that history
 abbrev pub freshPages : VersionShape → Bool → ℕ
-freshPages shape records = cond records (pagesOf shape) 0
+freshPages shape records = cond records (gridCount shape) 0
 
 -- the texture's record: due starts at the creating submission
 abbrev pub newRecord : ℕ → VersionShape → Bool → ℕ → ℕ → TextureRecord

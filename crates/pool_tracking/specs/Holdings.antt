@@ -3,7 +3,7 @@ use Prim.Native.Nat.{ℕ, _+_, _*_, _-_}
 use mathlib.Core.List.{List}
 use Rattle.base_blocks.specs.Lists.{total}
 use Rattle.pool_records.specs.declared.texture.TextureRecord.{TextureRecord}
-use Rattle.pool_records.specs.Texture.{textureIn, texturesIn, recordPages}
+use Rattle.pool_records.specs.Texture.{textureIn, texturesIn, recordGrids}
 use Rattle.pool_memory.specs.declared.pool.Pool.{Pool}
 use Rattle.pool_tracking.specs.declared.holding.Holding.{Holding}
 
@@ -12,8 +12,8 @@ holdingAt textures i = record {
   first = total (λ (t : TextureRecord). t .spares) (texturesIn i textures);
   spares = textureIn textures i .spares;
   bytes = textureIn textures i .bytes;
-  page = total recordPages (texturesIn i textures);
-  pages = recordPages (textureIn textures i);
+  page = total recordGrids (texturesIn i textures);
+  pages = recordGrids (textureIn textures i);
 }
 
 -- k spares of those bytes are queued for destruction

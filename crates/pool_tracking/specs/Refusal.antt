@@ -7,19 +7,19 @@ use lib.ListN.{length}
 use Rattle.base_blocks.specs.Lists.{total}
 use Rattle.grid_shapes.specs.declared.shape.VersionShape.{VersionShape}
 use Rattle.grid_shapes.specs.Shapes.{isShape, sameShape}
-use Rattle.pool_rules.specs.Model.{VersionState, PoolModel, find, limit, pagesOf, pagesUsed}
+use Rattle.pool_rules.specs.Model.{VersionState, PoolModel, find, limit, gridCount, gridsUsed}
 
 -- a tracking begun: `places` pages are lent, `own` of the `used` ones are given up for it
 unfoldable pub trackingRefusal : ℕ → ℕ → ℕ → ℕ → VersionShape → Bool → ℕ
 trackingRefusal places own used trackings shape records =
-    cond (records && ltb (places + own) (used + pagesOf shape)) 6 (cond (leb limit trackings) 12 0)
+    cond (records && ltb (places + own) (used + gridCount shape)) 6 (cond (leb limit trackings) 12 0)
 
 abbrev pub begunRefusal : PoolModel ℕ → VersionShape → Bool → ℕ → ℕ
-begunRefusal p shape records own = trackingRefusal (p .places .pages) own (total pagesUsed (p .textures)) (p .trackings) shape records
+begunRefusal p shape records own = trackingRefusal (p .places .pages) own (total gridsUsed (p .textures)) (p .trackings) shape records
 
 abbrev pub foundRefusal : PoolModel ℕ → VersionShape → Bool → Option (VersionState ℕ) → ℕ
 foundRefusal p shape records none = cond (leb (p .places .textures) (length (p .textures))) 5 (begunRefusal p shape records 0)
-foundRefusal p shape records (some t) = cond (sameShape (t .shape) shape) 0 (begunRefusal p shape records (pagesUsed t))
+foundRefusal p shape records (some t) = cond (sameShape (t .shape) shape) 0 (begunRefusal p shape records (gridsUsed t))
 
 unfoldable pub takeRefusal : PoolModel ℕ → ℕ → VersionShape → Bool → ℕ → ℕ
 takeRefusal p id shape records seq =

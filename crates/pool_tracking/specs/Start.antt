@@ -13,7 +13,7 @@ use Rattle.grid_stamps.specs.StampConstants.{pageStamps}
 use Rattle.pool_rules.specs.Model.{limit}
 use Rattle.pool_rules.specs.RuleConstants.{mostPlaces}
 use Rattle.pool_records.specs.RecordConstants.{textureStride}
-use Rattle.pool_records.specs.Texture.{writeTexture, texturesIn, recordPages}
+use Rattle.pool_records.specs.Texture.{writeTexture, texturesIn, recordGrids}
 use Rattle.pool_memory.specs.declared.pool.Pool.{Pool}
 use Rattle.pool_tracking.specs.Begun.{freshPages, newRecord, newestRenewed, stampsRenewed}
 
@@ -24,7 +24,7 @@ pub record StartFits (pool : Pool) (textures newest stamps : List ℕ) (i : ℕ)
   pub room : textureStride * pool .tracked + textureStride ≤ length textures
   pub tracked : pool .tracked < mostPlaces
   pub counter : pool .trackings < limit
-  pub page : total recordPages (texturesIn i textures) ≤ pool .pages
+  pub page : total recordGrids (texturesIn i textures) ≤ pool .pages
   pub used : pool .pages ≤ length newest
   pub pages : pool .pages + freshPages shape records ≤ length newest
   pub most : length newest ≤ mostPlaces
@@ -57,8 +57,8 @@ trackingStarted pool textures newest stamps i id shape records seq = (
     sets (moved textures (textureStride * i + textureStride) (textureStride * i) (textureStride * (pool .tracked - i))) (textureStride * i)
         (writeTexture (newRecord id shape records (pool .trackings + 1) seq)),
     (
-      newestRenewed newest (pool .pages) (total recordPages (texturesIn i textures)) 0 (freshPages shape records),
-      stampsRenewed stamps (pool .pages) (total recordPages (texturesIn i textures)) 0 (freshPages shape records),
+      newestRenewed newest (pool .pages) (total recordGrids (texturesIn i textures)) 0 (freshPages shape records),
+      stampsRenewed stamps (pool .pages) (total recordGrids (texturesIn i textures)) 0 (freshPages shape records),
     ),
   ),
 )

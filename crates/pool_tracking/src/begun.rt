@@ -3,7 +3,7 @@ ghost use mathlib.Core.Path.{_≡_};
 ghost use mathlib.Core.Bool.{true};
 ghost use Prim.Native.Nat.{_≤_};
 ghost use Rattle.grid_shapes.specs.Shapes.{isShape};
-ghost use Rattle.pool_rules.specs.Model.{pagesOf};
+ghost use Rattle.pool_rules.specs.Model.{gridCount};
 ghost use Rattle.pool_tracking.specs.Begun.{freshHistory, freshPages, newRecord};
 ghost use Rattle.pool_rules.specs.RuleConstants.{mostPlaces};
 use grid_shapes::VersionShape;
@@ -26,7 +26,7 @@ fn fresh_history(records: bool) -> Recorded
 
 // Returns how many pages that history takes.
 pub fn fresh_pages(shape: VersionShape, records: bool) -> usize
-    requires { ⌜ pagesOf shape ≤ mostPlaces ⌝ }
+    requires { ⌜ gridCount shape ≤ mostPlaces ⌝ }
     ensures { λ r. ⌜ r ≡ freshPages shape records ⌝ }
 {
     if records { shape_pages(shape) } else { 0 }

@@ -3,7 +3,7 @@ ghost use mathlib.Core.Path.{_≡_};
 ghost use Prim.Native.Nat.{_+_, _*_, _≤_};
 ghost use lib.ListN.{length};
 ghost use Rattle.base_blocks.specs.Lists.{total};
-ghost use Rattle.pool_records.specs.Texture.{textureIn, texturesIn, recordPages};
+ghost use Rattle.pool_records.specs.Texture.{textureIn, texturesIn, recordGrids};
 ghost use Rattle.pool_tracking.specs.Holdings.{holdingAt};
 ghost use Rattle.pool_records.specs.RecordConstants.{textureStride};
 ghost use Rattle.pool_rules.specs.RuleConstants.{mostPlaces};
@@ -25,8 +25,8 @@ pub struct Holding {
 pub fn holding_at(textures: &[u64], i: usize) -> Holding
     requires { ⌜ (textureStride * i + textureStride ≤ length (now textures))
         × (total (λ t. t .spares) (texturesIn i (now textures)) ≤ mostPlaces)
-        × (total recordPages (texturesIn i (now textures)) ≤ mostPlaces)
-        × (recordPages (textureIn (now textures) i) ≤ mostPlaces) ⌝ }
+        × (total recordGrids (texturesIn i (now textures)) ≤ mostPlaces)
+        × (recordGrids (textureIn (now textures) i) ≤ mostPlaces) ⌝ }
     ensures { λ r. ⌜ r ≡ holdingAt (now (textures .entry)) i ⌝ }
 {
     let t = texture_at(textures, i);

@@ -106,8 +106,8 @@ pub fn renew_tracking(
         old.bytes,
     );
     put_texture(textures, i, new_record(id, shape, records, epoch, seq));
-    renew_pages(newest, stamps, pool.pages, old.page, old.pages, fresh);
-    after.pages = pool.pages - old.pages + fresh;
+    renew_pages(newest, stamps, pool.grids, old.page, old.pages, fresh);
+    after.pages = pool.grids - old.pages + fresh;
     after.trackings = epoch;
     after
 }

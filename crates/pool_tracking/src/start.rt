@@ -35,10 +35,10 @@ pub fn start_tracking(
         i,
         new_record(id, shape, records, epoch, seq),
     );
-    renew_pages(newest, stamps, pool.pages, page, 0, fresh);
+    renew_pages(newest, stamps, pool.grids, page, 0, fresh);
     let mut after = pool;
     after.tracked = pool.tracked + 1;
-    after.pages = pool.pages + fresh;
+    after.pages = pool.grids + fresh;
     after.trackings = epoch;
     after
 }

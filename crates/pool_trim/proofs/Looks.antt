@@ -33,7 +33,7 @@ use Rattle.pool_trim.specs.Pass.{givenOne}
 use Rattle.pool_forget_texture.proofs.TextureRuns.{spares-in}
 use Rattle.pool_trim.proofs.Ages.{aged-most}
 use Rattle.grid_shapes.specs.ShapeConstants.{mostShapeBytes}
-use Rattle.pool_records.specs.Texture.{textureIn, recordPages, sparesTo}
+use Rattle.pool_records.specs.Texture.{textureIn, recordGrids, sparesTo}
 
 -- ---- any state
 
@@ -174,7 +174,7 @@ module _ (l : Lent) (now i : ℕ) (h : i < l .pool .tracked) where
 
 -- ---- the look put together from its parts; b is whether the texture is dropped
 
-pub look-made : (now : ℕ) (t : TextureRecord) (n own aged claimed due bytes : ℕ) (b : Bool) → own ≡ t .spares → aged ≡ n → claimed ≡ recordPages t
+pub look-made : (now : ℕ) (t : TextureRecord) (n own aged claimed due bytes : ℕ) (b : Bool) → own ≡ t .spares → aged ≡ n → claimed ≡ recordGrids t
     → due ≡ dueAfter now t → bytes ≡ t .bytes → b ≡ isIdle now t (own - aged)
     → record { own = own; aged = aged; claimed = claimed; staying = cond b 0 1; paged = cond b 0 claimed; due = due; bytes = bytes } ≡ lookOf now t n
 unfolding lookOf

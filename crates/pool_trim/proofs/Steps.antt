@@ -12,11 +12,11 @@ use Rattle.base_blocks.specs.Blocks.{moved}
 use Rattle.base_blocks.proofs.Lists.{total-append}
 use Rattle.base_tables.specs.Records.{flat}
 use Rattle.base_tables.specs.Rings.{laid}
-use Rattle.pool_rules.specs.Model.{Doomed, VersionState, PoolModel, pagesUsed}
+use Rattle.pool_rules.specs.Model.{Doomed, VersionState, PoolModel, gridsUsed}
 use Rattle.pool_rules.specs.Trim.{idle, thinned}
 use Rattle.pool_records.specs.declared.texture.TextureRecord.{TextureRecord}
 use Rattle.pool_records.specs.declared.doomed.DoomedRecord.{DoomedRecord}
-use Rattle.pool_records.specs.Texture.{writeTexture, textureIn, recordPages, sparesTo}
+use Rattle.pool_records.specs.Texture.{writeTexture, textureIn, recordGrids, sparesTo}
 use Rattle.pool_records.specs.Spare.{writeSpare}
 use Rattle.pool_records.specs.Doomed.{writeDoomed}
 use Rattle.pool_memory.specs.Lent.{Lent}
@@ -25,7 +25,7 @@ use Rattle.pool_memory.specs.Writing.{textureRecord, spareRecord, doomedRecord,
 use Rattle.pool_memory.proofs.Fits.{Fits}
 use Rattle.pool_memory.proofs.Parts.{flat-append}
 use Rattle.pool_memory.proofs.Packed.{flat-step}
-use Rattle.pool_memory.proofs.Runs.{firstSpare, firstPageOf, stateOf, tracked-model, model-at}
+use Rattle.pool_memory.proofs.Runs.{firstSpare, firstGrid, stateOf, tracked-model, model-at}
 use Rattle.pool_memory.proofs.Rings.{laid-append}
 use Rattle.pool_memory.proofs.Kept.{used-paged}
 use Rattle.pool_memory.proofs.Changes.{spares-rest}
@@ -143,27 +143,27 @@ module _ (l : Lent) (now i : ℕ) (h : i < l .pool .tracked) where
           (omega (arith, at, first, low)) (omega (arith, first, fewer, within))
 
       module _ (used : ℕ) (low : used ≤ pagesTo (l .textures) i) where
-        before : used ≤ firstPageOf l i
+        before : used ≤ firstGrid l i
         before = omega (arith, pages-to l i h)
 
         pub newest-stays : length (flatMap newestOf (keptTo l now i)) ≡ used
-            → (moved (newestAfter p l) used (pagesTo (l .textures) i) (recordPages t₀) ≡ newestAfter q l)
-            × (length (flatMap newestOf (keptTo l now (i + 1))) ≡ used + recordPages t₀)
+            → (moved (newestAfter p l) used (pagesTo (l .textures) i) (recordGrids t₀) ≡ newestAfter q l)
+            × (length (flatMap newestOf (keptTo l now (i + 1))) ≡ used + recordGrids t₀)
         newest-stays n =
             let w = newest-packed l p q (looked now (stateOf l i)) more (f .claimed) i h (looked-paged now (stateOf l i)) used before (f .pages) n in (
-              ap₂ (λ (a b : ℕ). moved (newestAfter p l) used a b) (sym (pages-to l i h)) (sym (ap recordPages (record-read l i h))) ∙ w .0,
-              w .1 ∙ ap (λ (m : ℕ). used + m) (ap recordPages (record-read l i h)),
+              ap₂ (λ (a b : ℕ). moved (newestAfter p l) used a b) (sym (pages-to l i h)) (sym (ap recordGrids (record-read l i h))) ∙ w .0,
+              w .1 ∙ ap (λ (m : ℕ). used + m) (ap recordGrids (record-read l i h)),
             )
 
         pub stamps-stay : length (flatMap (pagesAfter l) (keptTo l now i)) ≡ pageStamps * used
-            → (moved (stampsAfter p l) (pageStamps * used) (pageStamps * pagesTo (l .textures) i) (pageStamps * recordPages t₀) ≡ stampsAfter q l)
-            × (length (flatMap (pagesAfter l) (keptTo l now (i + 1))) ≡ pageStamps * (used + recordPages t₀))
+            → (moved (stampsAfter p l) (pageStamps * used) (pageStamps * pagesTo (l .textures) i) (pageStamps * recordGrids t₀) ≡ stampsAfter q l)
+            × (length (flatMap (pagesAfter l) (keptTo l now (i + 1))) ≡ pageStamps * (used + recordGrids t₀))
         stamps-stay n =
             let w = stamps-packed l p q (looked now (stateOf l i)) more (f .claimed) i h (looked-paged now (stateOf l i)) used before
             (ids-ascend l f) (omega (arith, f .stamps, f .pages)) n in (
               ap₂ (λ (a b : ℕ). moved (stampsAfter p l) (pageStamps * used) (pageStamps * a) (pageStamps * b)) (sym (pages-to l i h))
-                  (sym (ap recordPages (record-read l i h))) ∙ w .0,
-              w .1 ∙ ap (λ (m : ℕ). pageStamps * (used + m)) (ap recordPages (record-read l i h)),
+                  (sym (ap recordGrids (record-read l i h))) ∙ w .0,
+              w .1 ∙ ap (λ (m : ℕ). pageStamps * (used + m)) (ap recordGrids (record-read l i h)),
             )
 
       -- ---- the counts
@@ -180,14 +180,14 @@ module _ (l : Lent) (now i : ℕ) (h : i < l .pool .tracked) where
           ∙ ap (λ (n : ℕ). length (everySpare (keptTo l now i)) + n)
           (ap length (append-nil (looked now (stateOf l i) .spares) ∙ looked-spares now (stateOf l i)) ∙ left-count l now i h)
 
-      one-used : (t : VersionState ℕ) → total pagesUsed (t ∷ []) ≡ pagesUsed t
+      one-used : (t : VersionState ℕ) → total gridsUsed (t ∷ []) ≡ gridsUsed t
       unfolding total
       one-used t = omega arith
 
-      pub pages-stay : total pagesUsed (keptTo l now (i + 1)) ≡ total pagesUsed (keptTo l now i) + recordPages t₀
+      pub pages-stay : total gridsUsed (keptTo l now (i + 1)) ≡ total gridsUsed (keptTo l now i) + recordGrids t₀
       pages-stay =
-          ap (total pagesUsed) more
-          ∙ total-append pagesUsed (keptTo l now i) (looked now (stateOf l i) ∷ [])
-          ∙ ap (λ (n : ℕ). total pagesUsed (keptTo l now i) + n)
+          ap (total gridsUsed) more
+          ∙ total-append gridsUsed (keptTo l now i) (looked now (stateOf l i) ∷ [])
+          ∙ ap (λ (n : ℕ). total gridsUsed (keptTo l now i) + n)
           (used-paged (looked now (stateOf l i) ∷ []) (stateOf l i ∷ []) (ap (λ x. x ∷ []) (looked-paged now (stateOf l i)))
           ∙ one-used (stateOf l i) ∙ pages-at l i h)

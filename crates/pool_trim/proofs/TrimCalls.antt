@@ -21,7 +21,7 @@ use Rattle.pool_records.specs.declared.recorded.Recorded.{Recorded}
 use Rattle.pool_records.specs.declared.recorded.Recorded.the-variants.{Writes, NoHistory}
 use Rattle.pool_records.specs.declared.texture.TextureRecord.{TextureRecord}
 use Rattle.pool_records.specs.Recorded.{RecordedFits}
-use Rattle.pool_records.specs.Texture.{readTexture, textureIn, recordPages}
+use Rattle.pool_records.specs.Texture.{readTexture, textureIn, recordGrids}
 use Rattle.pool_memory.specs.declared.pool.Pool.{Pool as Counts}
 use Rattle.pool_memory.specs.Lent.{Lent, lent, versionPlaces}
 use Rattle.pool_memory.specs.Reading.{trackedRecords, historyRead, stateRead, modelOf}
@@ -31,7 +31,7 @@ use Rattle.pool_memory.specs.Calls.{refusedWith, answer, trimOn}
 use Rattle.pool_memory.proofs.Fits.{Fits}
 use Rattle.pool_memory.proofs.FromPool.{enough, pool-fits}
 use Rattle.pool_memory.proofs.Asked.{guard-passed, guard-refused, asked-refused, asked-accepted}
-use Rattle.pool_memory.proofs.Runs.{firstPageOf, stateOf, tracked-model, model-at}
+use Rattle.pool_memory.proofs.Runs.{firstGrid, stateOf, tracked-model, model-at}
 use Rattle.pool_memory.proofs.Rings.{hand-model, head-stays, first-stays, doomed-pushed}
 use Rattle.pool_memory.proofs.Same.{book-same, queued-model, doomed-model}
 use Rattle.pool_memory.proofs.Stays.{put-together, textures-fit, doomed-fit, retiring-stay, doomed-bound}
@@ -67,16 +67,16 @@ module _ (l : Lent) (f : Fits l) (i : ℕ) (h : i < l .pool .tracked) where
       let formed = rw (model-at l i (stateOf l 0) h) at
       (all-at (modelOf l .textures) i (stateOf l 0) (omega (arith, tracked-model l)) (f .formed .textures)) in
       let t = getD (trackedRecords l) i (readTexture []) in
-      rw (sym (record-read l i h)) (counted l (t .shape) (firstPageOf l i) (t .history) (formed .history))
+      rw (sym (record-read l i h)) (counted l (t .shape) (firstGrid l i) (t .history) (formed .history))
 
   module _ (now : ℕ) (w : Pass) (T D S N P : List ℕ) (s : Sofar l now i w T D S N P) where
     pub look-fits : (textureStride * i + textureStride ≤ length T)
-        × (spareStride * (w .first + textureIn T i .spares) ≤ length S) × (recordPages (textureIn T i) ≤ mostPlaces)
+        × (spareStride * (w .first + textureIn T i .spares) ≤ length S) × (recordGrids (textureIn T i) ≤ mostPlaces)
     look-fits =
         let here = record-now l now i w T D S N P f h s in (
           omega (arith, s .T-long, textures-fit l f),
           omega (arith, s .S-long, s .first, ap (λ (t : TextureRecord). t .spares) here, spares-within l i h f, f .versions, f .spares),
-          omega (arith, ap recordPages here, pages-within l i h f, f .pages, f .newest),
+          omega (arith, ap recordGrids here, pages-within l i h f, f .pages, f .newest),
         )
 
     module _ (look : Look) (n : Seen l w look) where

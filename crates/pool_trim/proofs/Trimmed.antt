@@ -14,11 +14,11 @@ use Rattle.base_blocks.proofs.Blocks.{moved-none}
 use Rattle.base_blocks.proofs.Listed.{listed-same}
 use Rattle.base_tables.specs.Records.{recordAt}
 use Rattle.base_tables.specs.Rings.{laid}
-use Rattle.pool_rules.specs.Model.{Spare, Doomed, VersionState, pagesUsed, doomedBytes}
+use Rattle.pool_rules.specs.Model.{Spare, Doomed, VersionState, gridsUsed, doomedBytes}
 use Rattle.pool_rules.specs.Trim.{agedCount, thinned, idle}
 use Rattle.pool_records.specs.declared.texture.TextureRecord.{TextureRecord}
 use Rattle.pool_records.specs.declared.spare.SpareRecord.{SpareRecord}
-use Rattle.pool_records.specs.Texture.{readTexture, writeTexture, textureIn, recordPages, sparesTo}
+use Rattle.pool_records.specs.Texture.{readTexture, writeTexture, textureIn, recordGrids, sparesTo}
 use Rattle.pool_records.specs.Spare.{readSpare}
 use Rattle.pool_records.specs.Doomed.{writeDoomed}
 use Rattle.pool_records.specs.Views.{spareOf}
@@ -52,7 +52,7 @@ pub record Sofar (l : Lent) (now i : ℕ) (w : Pass) (T D S N P : List ℕ) : Ty
   -- what is left of it, and what was given up
   pub tracked : w .tracked ≡ length (keptTo l now i)
   pub kept : w .kept ≡ length (everySpare (keptTo l now i))
-  pub pages : w .pages ≡ total pagesUsed (keptTo l now i)
+  pub pages : w .pages ≡ total gridsUsed (keptTo l now i)
   pub count : w .count ≡ length (givenTo l now i)
   pub freed : w .freed ≡ doomedBytes (givenTo l now i)
   -- no more is written than was read
@@ -80,7 +80,7 @@ unfolding noPass trimmed flatMap total laid
 sofar-start l now w e = record {
   at = omega arith;
   first = ap (λ (x : Pass). x .first) e ∙ sym (total-none textureStride readTexture (λ t. t .spares) (l .textures));
-  page = ap (λ (x : Pass). x .page) e ∙ sym (total-none textureStride readTexture recordPages (l .textures));
+  page = ap (λ (x : Pass). x .page) e ∙ sym (total-none textureStride readTexture recordGrids (l .textures));
   tracked = ap (λ (x : Pass). x .tracked) e;
   kept = ap (λ (x : Pass). x .kept) e;
   pages = ap (λ (x : Pass). x .pages) e;
@@ -108,7 +108,7 @@ sofar-start l now w e = record {
 pub record Seen (l : Lent) (w : Pass) (look : Look) : Type 0 where
   pub few : look .aged ≤ look .own
   pub spares : w .first + look .own ≤ l .pool .kept
-  pub pages : w .page + look .claimed ≤ l .pool .pages
+  pub pages : w .page + look .claimed ≤ l .pool .grids
   pub paged : look .paged ≤ look .claimed
   pub staying : look .staying ≤ 1
   pub light : look .bytes * look .aged ≤ mostShapeBytes * look .aged
@@ -166,7 +166,7 @@ module _ (l : Lent) (now i : ℕ) (w : Pass) (T D S N P : List ℕ) (f : Fits l)
     unfolding lookOf
     aged-is = ap (λ (x : Look). x .aged) here
 
-    claimed-is : look .claimed ≡ recordPages t₀
+    claimed-is : look .claimed ≡ recordGrids t₀
     unfolding lookOf
     claimed-is = ap (λ (x : Look). x .claimed) here
 
@@ -174,9 +174,9 @@ module _ (l : Lent) (now i : ℕ) (w : Pass) (T D S N P : List ℕ) (f : Fits l)
     unfolding lookOf
     staying-is = ap (λ (x : Look). x .staying) here ∙ ap (λ (b : Bool). cond b 0 1) (sym (idle-here l now i h f))
 
-    paged-is : look .paged ≡ cond out 0 (recordPages t₀)
+    paged-is : look .paged ≡ cond out 0 (recordGrids t₀)
     unfolding lookOf
-    paged-is = ap (λ (x : Look). x .paged) here ∙ ap (λ (b : Bool). cond b 0 (recordPages t₀)) (sym (idle-here l now i h f))
+    paged-is = ap (λ (x : Look). x .paged) here ∙ ap (λ (b : Bool). cond b 0 (recordGrids t₀)) (sym (idle-here l now i h f))
 
     bytes-is : look .bytes * look .aged ≡ t₀ .bytes * k₀
     unfolding lookOf
@@ -191,7 +191,7 @@ module _ (l : Lent) (now i : ℕ) (w : Pass) (T D S N P : List ℕ) (f : Fits l)
       few = omega (arith, own-is, aged-is, few l now i h);
       spares = omega (arith, own-is, s .first, spares-within l i h f);
       pages = omega (arith, claimed-is, s .page, pages-within l i h f);
-      paged = omega (arith, paged-is, claimed-is, choice out (recordPages t₀));
+      paged = omega (arith, paged-is, claimed-is, choice out (recordGrids t₀));
       staying = omega (arith, staying-is, choice out 1);
       light = omega (arith, bytes-is, aged-is, bytes-few l now i h f);
     }
@@ -245,7 +245,7 @@ module _ (l : Lent) (now i : ℕ) (w : Pass) (T D S N P : List ℕ) (f : Fits l)
 
       -- what the two cases share
       further : (tracked : v .tracked ≡ length (keptTo l now (i + 1))) → v .kept ≡ length (everySpare (keptTo l now (i + 1)))
-          → v .pages ≡ total pagesUsed (keptTo l now (i + 1)) → T′ ≡ texturesAfter (trimmed l now (i + 1)) l
+          → v .pages ≡ total gridsUsed (keptTo l now (i + 1)) → T′ ≡ texturesAfter (trimmed l now (i + 1)) l
           → S′ ≡ sparesAfter (trimmed l now (i + 1)) l
           → N′ ≡ newestAfter (trimmed l now (i + 1)) l → P′ ≡ stampsAfter (trimmed l now (i + 1)) l
           → length (flatMap newestOf (keptTo l now (i + 1))) ≡ v .pages → length (flatMap (pagesAfter l) (keptTo l now (i + 1))) ≡ pageStamps * v .pages
@@ -253,7 +253,7 @@ module _ (l : Lent) (now i : ℕ) (w : Pass) (T D S N P : List ℕ) (f : Fits l)
       further tracked kept pages textures spares newest stamps newest-long stamps-long = record {
         at = omega arith;
         first = omega (arith, first-on, own-is, s .first, total-next textureStride readTexture (λ t. t .spares) (l .textures) i);
-        page = omega (arith, page-on, claimed-is, s .page, total-next textureStride readTexture recordPages (l .textures) i);
+        page = omega (arith, page-on, claimed-is, s .page, total-next textureStride readTexture recordGrids (l .textures) i);
         tracked = tracked;
         kept = kept;
         pages = pages;
@@ -300,13 +300,13 @@ module _ (l : Lent) (now i : ℕ) (w : Pass) (T D S N P : List ℕ) (f : Fits l)
       dropped b =
           let same = dropped-next l now i h b in
           let gone : look .staying ≡ 0 = staying-is ∙ ap (λ (c : Bool). cond c 0 1) b in
-          let unpaged : look .paged ≡ 0 = paged-is ∙ ap (λ (c : Bool). cond c 0 (recordPages t₀)) b in
+          let unpaged : look .paged ≡ 0 = paged-is ∙ ap (λ (c : Bool). cond c 0 (recordGrids t₀)) b in
           let empty : look .own - look .aged ≡ 0 = ap₂ (λ (m n : ℕ). m - n) own-is aged-is ∙ none-left l now i h f b in
           let back = sym same in
           further
           (omega (arith, tracked-on, gone, s .tracked, ap length same))
           (omega (arith, kept-on, empty, s .kept, ap (λ (ts : List (VersionState ℕ)). length (everySpare ts)) same))
-          (omega (arith, pages-on, unpaged, s .pages, ap (total pagesUsed) same))
+          (omega (arith, pages-on, unpaged, s .pages, ap (total gridsUsed) same))
           (eT
           ∙ ap (λ (c : Bool). cond c T (sets T (textureStride * w .tracked) (writeTexture (lookedRecord look (textureIn T i)))))
           (eq-eqb (look .staying) 0 gone)
@@ -330,7 +330,7 @@ module _ (l : Lent) (now i : ℕ) (w : Pass) (T D S N P : List ℕ) (f : Fits l)
       unfolding lookedPut
       stays b =
           let one : look .staying ≡ 1 = staying-is ∙ ap (λ (c : Bool). cond c 0 1) b in
-          let pages : look .paged ≡ recordPages t₀ = paged-is ∙ ap (λ (c : Bool). cond c 0 (recordPages t₀)) b in
+          let pages : look .paged ≡ recordGrids t₀ = paged-is ∙ ap (λ (c : Bool). cond c 0 (recordGrids t₀)) b in
           let p = trimmed l now i in
           let below : w .pages ≤ pagesTo (l .textures) i = omega (arith, s .low, s .page) in
           let new = newest-stays l now i h f b (w .pages) below (s .newest-long) in
@@ -360,8 +360,8 @@ module _ (l : Lent) (now i : ℕ) (w : Pass) (T D S N P : List ℕ) (f : Fits l)
           ∙ ap₂ (λ (m n : ℕ). moved (stampsAfter p l) (pageStamps * w .pages) m (pageStamps * n))
           (let z : pageStamps * w .pages + pageStamps * (w .page - w .pages) ≡ pageStamps * pagesTo (l .textures) i = omega (arith, s .low, s .page) in z) pages
           ∙ old .0)
-          (new .1 ∙ (let z : w .pages + recordPages t₀ ≡ v .pages = omega (arith, pages-on, pages) in z))
-          (old .1 ∙ (let z : pageStamps * (w .pages + recordPages t₀) ≡ pageStamps * v .pages = omega (arith, pages-on, pages) in z))
+          (new .1 ∙ (let z : w .pages + recordGrids t₀ ≡ v .pages = omega (arith, pages-on, pages) in z))
+          (old .1 ∙ (let z : pageStamps * (w .pages + recordGrids t₀) ≡ pageStamps * v .pages = omega (arith, pages-on, pages) in z))
 
       pub sofar-next : Sofar l now (i + 1) v T′ D′ S′ N′ P′
       sofar-next = go out refl

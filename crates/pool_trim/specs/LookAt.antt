@@ -8,7 +8,7 @@ use Rattle.base_blocks.specs.Lists.{listed}
 use Rattle.base_tables.specs.Records.{recordAt}
 use Rattle.pool_records.specs.declared.texture.TextureRecord.{TextureRecord}
 use Rattle.pool_records.specs.Spare.{readSpare}
-use Rattle.pool_records.specs.Texture.{writeTexture, textureIn, recordPages}
+use Rattle.pool_records.specs.Texture.{writeTexture, textureIn, recordGrids}
 use Rattle.pool_records.specs.Views.{spareOf}
 use Rattle.pool_rules.specs.Model.{Spare}
 use Rattle.pool_rules.specs.Trim.{aged, agedCount}
@@ -29,9 +29,9 @@ unfoldable pub lookOf : ℕ → TextureRecord → ℕ → Look
 lookOf now t count = record {
   own = t .spares;
   aged = count;
-  claimed = recordPages t;
+  claimed = recordGrids t;
   staying = cond (isIdle now t (t .spares - count)) 0 1;
-  paged = cond (isIdle now t (t .spares - count)) 0 (recordPages t);
+  paged = cond (isIdle now t (t .spares - count)) 0 (recordGrids t);
   due = dueAfter now t;
   bytes = t .bytes;
 }

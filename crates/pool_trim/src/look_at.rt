@@ -3,7 +3,7 @@ ghost use mathlib.Core.Path.{_≡_};
 ghost use Prim.Native.Nat.{_+_, _-_, _*_, _≤_};
 ghost use lib.ListN.{length};
 ghost use Rattle.base_blocks.specs.Lists.{listed};
-ghost use Rattle.pool_records.specs.Texture.{textureIn, recordPages};
+ghost use Rattle.pool_records.specs.Texture.{textureIn, recordGrids};
 ghost use Rattle.pool_rules.specs.Trim.{agedCount};
 ghost use Rattle.pool_trim.specs.LookAt.{spareIn, isIdle, dueAfter, lookAt};
 ghost use Rattle.pool_records.specs.RecordConstants.{spareStride, textureStride};
@@ -88,7 +88,7 @@ fn due_after(textures: &[u64], i: usize, current: u64) -> u64
 pub fn look_at(textures: &[u64], spares: &[u64], i: usize, first: usize, current: u64) -> Look
     requires { ⌜ (textureStride * i + textureStride ≤ length (now textures))
         × (spareStride * (first + textureIn (now textures) i .spares) ≤ length (now spares))
-        × (recordPages (textureIn (now textures) i) ≤ mostPlaces) ⌝ }
+        × (recordGrids (textureIn (now textures) i) ≤ mostPlaces) ⌝ }
     ensures { λ r. ⌜ r ≡ lookAt current (now (textures .entry)) (now (spares .entry)) i first ⌝ }
 {
     let own = textures[TEXTURE_STRIDE * i + TEXTURE_SPARES_AT] as usize;

@@ -7,7 +7,7 @@ pub fn counts_of(pool: Pool) -> [u64; 14] {
     [
         pool.tracked as u64,
         pool.kept as u64,
-        pool.pages as u64,
+        pool.grids as u64,
         pool.head as u64,
         pool.popped as u64,
         pool.queued as u64,

@@ -58,7 +58,7 @@ pub fn forget_texture(
         own.bytes,
     );
     remove_records(spares, SPARE_STRIDE, pool.kept, own.first, own.spares);
-    let later = pool.pages - (own.page + own.pages);
+    let later = pool.grids - (own.page + own.pages);
     move_pages(newest, stamps, own.page, own.pages, later);
     remove_texture(textures, tracked, i);
     DoneAnswer {

@@ -52,7 +52,7 @@ pub fn note_write(
     let t = texture_at(textures, i);
     if !in_shape(t.shape, slice, level) {
         let mut left = pool;
-        left.pages = drop_history(textures, newest, stamps, pool.pages, i);
+        left.pages = drop_history(textures, newest, stamps, pool.grids, i);
         set_history(textures, i, Recorded::NoHistory);
         return DoneAnswer {
             pool: left,

@@ -98,7 +98,7 @@ fn drained_counts(pool: Pool, places: usize) -> Pool
     Pool {
         tracked: pool.tracked,
         kept: 0,
-        pages: pool.pages,
+        pages: pool.grids,
         head: pool.head,
         popped: pool.popped,
         queued: 0,

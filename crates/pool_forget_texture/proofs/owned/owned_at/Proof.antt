@@ -2,7 +2,7 @@
 use borrow.Author.Needs.{needs}
 use mathlib.Core.Path.{ap, _∙_}
 use native.Mathlib.Omega.{arith}
-use Rattle.pool_records.specs.Texture.{readTexture, recordPages}
+use Rattle.pool_records.specs.Texture.{readTexture, recordGrids}
 use Rattle.pool_access.proofs.Totals.{total-next}
 use Rattle.pool_forget_texture.specs.Owned.{ownedAt}
 use Rattle.pool_forget_texture.proofs.owned.owned_at.Statement.{statement}
@@ -20,13 +20,13 @@ spares-before-requires c κs =
 pages-before-requires : tie.Need-pages-before-requires
 pages-before-requires c κs =
     let b = c .before .before .before in
-    (omega (arith, b .pre), omega (arith, b .pre, total-next textureStride readTexture recordPages (b .args .textures .now) (b .args .i)))
+    (omega (arith, b .pre), omega (arith, b .pre, total-next textureStride readTexture recordGrids (b .args .textures .now) (b .args .i)))
 
 history-pages-requires : tie.Need-history-pages-requires
 history-pages-requires c κs =
     let d = c .before .before in
     let b = d .before .before in
-    omega (arith, b .pre, total-next textureStride readTexture recordPages (b .args .textures .now) (b .args .i), ap recordPages (d .texture-at .ensures))
+    omega (arith, b .pre, total-next textureStride readTexture recordGrids (b .args .textures .now) (b .args .i), ap recordGrids (d .texture-at .ensures))
 
 returns : tie.Need-returns
 unfolding ownedAt
@@ -37,7 +37,7 @@ returns c =
       first = c .before .before .spares-before .ensures j;
       spares = t j .spares;
       page = c .before .pages-before .ensures j;
-      pages = (c .history-pages .ensures ∙ ap recordPages t) j;
+      pages = (c .history-pages .ensures ∙ ap recordGrids t) j;
       bytes = t j .bytes;
     }
 

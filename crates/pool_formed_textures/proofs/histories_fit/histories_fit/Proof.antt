@@ -7,7 +7,7 @@ use Rattle.base_blocks.specs.Lists.{total}
 use Rattle.base_blocks.proofs.Listed.{left, total-more}
 use Rattle.base_tables.proofs.Records.{table-left}
 use Rattle.pool_records.specs.declared.texture.TextureRecord.{TextureRecord}
-use Rattle.pool_records.specs.Texture.{readTexture, textureIn, recordPages, texturesIn}
+use Rattle.pool_records.specs.Texture.{readTexture, textureIn, recordGrids, texturesIn}
 use Rattle.pool_formed_textures.specs.Textures.{historyFits, historiesFit}
 use Rattle.pool_formed_textures.proofs.RecordTests.{texture-read, read-shape}
 use Rattle.pool_formed_textures.proofs.HistoryTests.{histories-more, histories-stop, histories-done}
@@ -18,7 +18,7 @@ use Rattle.pool_records.specs.RecordConstants.{textureStride}
 
 abbrev Inv-loop : tie.InvT-loop
 Inv-loop textures n newest stamps page₀ i₀ page i =
-    (i ≤ n) × (page + total recordPages (left (textureIn textures) n i) ≡ total recordPages (texturesIn n textures))
+    (i ≤ n) × (page + total recordGrids (left (textureIn textures) n i) ≡ total recordGrids (texturesIn n textures))
     × (historiesFit newest stamps page (left (textureIn textures) n i) ≡ historiesFit newest stamps 0 (texturesIn n textures))
 
 abbrev μ-loop : tie.MeasureT-loop
@@ -28,7 +28,7 @@ loop-holds : tie.Need-loop-holds Inv-loop μ-loop
 loop-holds c =
     let a = c .before .before .before .args in
     let e = table-left textureStride readTexture (a .n) (a .textures .now) in
-    (search needs, omega (arith, ap (total recordPages) e), ap (historiesFit (a .newest .now) (a .stamps .now) 0) e)
+    (search needs, omega (arith, ap (total recordGrids) e), ap (historiesFit (a .newest .now) (a .stamps .now) 0) e)
 
 record-at-requires : tie.Need-record-at-requires Inv-loop μ-loop
 record-at-requires c κs = search needs
@@ -40,10 +40,10 @@ history-fits-requires c κs =
     let s = z .args .textures .now in
     let r = c .record-at .ensures in
     let h = c .before .loop-test .taken in
-    let m = ap recordPages (texture-read s (b .loop .i) _ (r .1)) in (
+    let m = ap recordGrids (texture-read s (b .loop .i) _ (r .1)) in (
       omega (arith, r .0),
       read-shape s (b .loop .i) _ (r .1) (z .args .n) (z .pre .1) h,
-      omega (arith, m, z .pre .2, b .loop .inv .1, total-more (textureIn s) (z .args .n) recordPages (b .loop .i) h),
+      omega (arith, m, z .pre .2, b .loop .inv .1, total-more (textureIn s) (z .args .n) recordGrids (b .loop .i) h),
       z .pre .3,
     )
 
@@ -68,8 +68,8 @@ add-page c =
     let b = c .before .before .before .before .before in
     let z = b .before .before .before .before in
     let s = z .args .textures .now in
-    let m = c .record-pages .ensures .1 ∙ ap recordPages (texture-read s (b .loop .i) _ (c .before .before .before .record-at .ensures .1)) in
-    omega (arith, m, z .pre .2, b .loop .inv .1, total-more (textureIn s) (z .args .n) recordPages (b .loop .i) (c .before .before .before .before .loop-test .taken))
+    let m = c .record-pages .ensures .1 ∙ ap recordGrids (texture-read s (b .loop .i) _ (c .before .before .before .record-at .ensures .1)) in
+    omega (arith, m, z .pre .2, b .loop .inv .1, total-more (textureIn s) (z .args .n) recordGrids (b .loop .i) (c .before .before .before .before .loop-test .taken))
 
 add-i : tie.Need-add-i Inv-loop μ-loop
 add-i c = search needs
@@ -84,10 +84,10 @@ loop-again c =
     let s = a .textures .now in
     let t = texture-read s (b .loop .i) _ (c .before .before .before .record-at .ensures .1) in
     let h = c .before .before .before .before .loop-test .taken in
-    let m = c .record-pages .ensures .1 ∙ ap recordPages t in
+    let m = c .record-pages .ensures .1 ∙ ap recordGrids t in
     let e = sym (ap (λ (u : TextureRecord). historyFits (a .newest .now) (a .stamps .now) (u .shape) (b .loop .page) (u .history)) t) ∙ sym (c .before .before .history-fits .ensures) ∙ not-false _ (c .before .if1 .left) in (
       search needs,
-      omega (arith, m, b .loop .inv .1, total-more (textureIn s) (a .n) recordPages (b .loop .i) h),
+      omega (arith, m, b .loop .inv .1, total-more (textureIn s) (a .n) recordGrids (b .loop .i) h),
       sym (histories-more (a .newest .now) (a .stamps .now) s (a .n) (b .loop .i) (b .loop .page) h _ m e) ∙ b .loop .inv .2,
     )
 

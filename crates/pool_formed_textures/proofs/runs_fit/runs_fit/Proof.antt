@@ -6,7 +6,7 @@ use Rattle.base_blocks.proofs.Listed.{left}
 use Rattle.base_tables.proofs.Records.{table-left}
 use Rattle.pool_records.specs.declared.texture.TextureRecord.{TextureRecord}
 use mathlib.Core.List.{List}
-use Rattle.pool_records.specs.Texture.{readTexture, textureIn, recordPages, texturesIn}
+use Rattle.pool_records.specs.Texture.{readTexture, textureIn, recordGrids, texturesIn}
 use Rattle.pool_formed_textures.specs.Textures.{claim}
 use Rattle.pool_formed_textures.proofs.RecordTests.{texture-read, read-shape, read-spares}
 use Rattle.pool_formed_textures.proofs.Claims.{claim-more, claim-short, claim-cut, claim-done}
@@ -52,7 +52,7 @@ returns-2 c =
     let b = c .before .before .before .before .before .before in
     let a = b .before .before .args in
     let s = a .textures .now in
-    let m = c .before .record-pages .ensures .1 ∙ ap recordPages (texture-read s (b .loop .i) _ (c .before .before .before .before .record-at .ensures .1)) in
+    let m = c .before .record-pages .ensures .1 ∙ ap recordGrids (texture-read s (b .loop .i) _ (c .before .before .before .before .record-at .ensures .1)) in
     sym (claim-cut s (a .n) (b .loop .i) (b .loop .spares) (b .loop .free) (c .before .before .before .before .before .loop-test .taken) _ m (c .if2 .taken)) ∙ b .loop .inv .1
 
 add-i : tie.Need-add-i Inv-loop μ-loop
@@ -67,7 +67,7 @@ loop-again c =
     let a = b .before .before .args in
     let s = a .textures .now in
     let r = c .before .before .before .before .record-at .ensures .1 in
-    let m = c .before .record-pages .ensures .1 ∙ ap recordPages (texture-read s (b .loop .i) _ r) in
+    let m = c .before .record-pages .ensures .1 ∙ ap recordGrids (texture-read s (b .loop .i) _ r) in
     (search needs, sym (claim-more s (a .n) (b .loop .i) (b .loop .spares) (b .loop .free) (c .before .before .before .before .before .loop-test .taken) _ _ (read-spares s (b .loop .i) _ r) m (c .before .before .if1 .left) (c .if2 .left)) ∙ b .loop .inv .1)
 
 returns-3 : tie.Need-returns-3 Inv-loop μ-loop

@@ -5,7 +5,7 @@ use Rattle.pool_tracking.specs.Holdings.{holdingAt}
 use borrow.Author.Needs.{needs}
 use Rattle.pool_tracking.proofs.holding.holding_at.Statement.{statement}
 use Rattle.pool_tracking.proofs.holding.holding_at.Tie as tie
-use Rattle.pool_records.specs.Texture.{recordPages}
+use Rattle.pool_records.specs.Texture.{recordGrids}
 
 texture-at-requires : tie.Need-texture-at-requires
 texture-at-requires c κs = search needs
@@ -18,7 +18,7 @@ pages-before-requires c κs = search needs
 
 history-pages-requires : tie.Need-history-pages-requires
 history-pages-requires c κs =
-    omega (arith, ap recordPages (c .before .before .texture-at .ensures), c .before .before .before .before .pre .3)
+    omega (arith, ap recordGrids (c .before .before .texture-at .ensures), c .before .before .before .before .pre .3)
 
 returns : tie.Need-returns
 unfolding holdingAt
@@ -29,7 +29,7 @@ returns c =
       spares = t j .spares;
       bytes = t j .bytes;
       page = c .before .pages-before .ensures j;
-      pages = (c .history-pages .ensures ∙ ap recordPages t) j;
+      pages = (c .history-pages .ensures ∙ ap recordGrids t) j;
     }
 
 pub holding-at-spec : {M : Type 1} → statement M
