@@ -44,7 +44,7 @@ module _ {W : Type 0} where
     trackings = omega arith;
     places = omega arith;
     versions = omega arith;
-    pages = omega arith;
+    stamps = omega arith;
     parked = refl;
     dooming = refl;
     cap = omega arith;

@@ -22,7 +22,8 @@ use Rattle.grid_stamps.specs.Grids.{Tiling, TilingOk, tilingOf, columnsOf, rows
 use Rattle.grid_stamps.proofs.Tilings.{tiling-ok}
 use Rattle.grid_stamps.proofs.RowByRow.{tile-at, same-tiles}
 use Rattle.grid_stamps.proofs.Stamps.{InLevel, InRect, texel-column, texel-row, touches-texel, touches-cut, length-stamped, stamped-tile, new-length}
-use Rattle.pool_rules.specs.Model.{WriteHistory, limit, gridCount, hasHistory}
+use Rattle.pool_rules.specs.Model.{WriteHistory, limit, hasHistory}
+use Rattle.pool_rules.specs.HistorySizes.{historySize}
 use Rattle.pool_rules.specs.Histories.{inShape, gridAt, newHistory, stampWrite, stampRegeneration, written, regenerated, spent}
 use Rattle.pool_rules.specs.Formed.{Given, GridFormed, HistoryFormed}
 use Rattle.pool_rules.proofs.GridPlaces.{new-size, new-grid, write-size, write-each, regenerated-size, regenerate-each}
@@ -149,7 +150,7 @@ module _ (s : VersionShape) (shaped : isShape s ≡ true) (h : WriteHistory) (f 
         (stamped-formed (tilingOf s b) (tiling-ok s shaped b) _ (h .writes) (suc (h .writes)) (omega arith) (gridAt s h a b) (f .grids a b p q));
   }
 
--- ---- what a call makes of a state's history, and the pages that it keeps
+-- ---- what a call makes of a state's history, and the stamps that it keeps
 
 module _ (s : VersionShape) (shaped : isShape s ≡ true) where
   pub written-formed : (slice level : ℕ) (r : TexelRect) (o : Option WriteHistory) → (inShape s slice level && spent o) ≡ false
@@ -166,13 +167,13 @@ module _ (s : VersionShape) (shaped : isShape s ≡ true) where
   regenerated-formed (some h) e f = regeneration-formed s shaped h f (leb-false _ _ e)
 
 module _ (s : VersionShape) where
-  pub written-pages : (slice level : ℕ) (r : TexelRect) (o : Option WriteHistory)
-      → cond (hasHistory (written slice level r s o)) (gridCount s) 0 ≤ cond (hasHistory o) (gridCount s) 0
-  written-pages slice level r none = omega arith
-  written-pages slice level r (some h) =
-      either (λ (o : Option WriteHistory). cond (hasHistory o) (gridCount s) 0 ≤ gridCount s) (inShape s slice level) (some (stampWrite s slice level r h)) none
+  pub written-stamps : (slice level : ℕ) (r : TexelRect) (o : Option WriteHistory)
+      → cond (hasHistory (written slice level r s o)) (historySize s) 0 ≤ cond (hasHistory o) (historySize s) 0
+  written-stamps slice level r none = omega arith
+  written-stamps slice level r (some h) =
+      either (λ (o : Option WriteHistory). cond (hasHistory o) (historySize s) 0 ≤ historySize s) (inShape s slice level) (some (stampWrite s slice level r h)) none
       (λ q. omega arith) (λ q. omega arith)
 
-  pub regenerated-pages : (o : Option WriteHistory) → cond (hasHistory (regenerated s o)) (gridCount s) 0 ≤ cond (hasHistory o) (gridCount s) 0
-  regenerated-pages none = omega arith
-  regenerated-pages (some h) = omega arith
+  pub regenerated-stamps : (o : Option WriteHistory) → cond (hasHistory (regenerated s o)) (historySize s) 0 ≤ cond (hasHistory o) (historySize s) 0
+  regenerated-stamps none = omega arith
+  regenerated-stamps (some h) = omega arith

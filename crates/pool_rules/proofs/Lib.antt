@@ -3,6 +3,7 @@ pub mod Lists
 pub mod States
 pub mod GridPlaces
 pub mod GridsFormed
+pub mod HistorySizes
 pub mod Moves
 pub mod Relief
 pub mod Queues

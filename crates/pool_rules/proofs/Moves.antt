@@ -12,7 +12,8 @@ use Rattle.base_blocks.proofs.Lists.{total-append}
 use Rattle.base_blocks.proofs.All.{all-both, all-drop, all-map, all-flatMap}
 use Rattle.grid_shapes.specs.Shapes.{bytesOf}
 use Rattle.grid_shapes.proofs.ShapeBytes.{bytes-bound}
-use Rattle.pool_rules.specs.Model.{Spare, Doomed, VersionState, PoolModel, Out, guard, gridsUsed, spareBytes, doomedBytes}
+use Rattle.pool_rules.specs.Model.{Spare, Doomed, VersionState, PoolModel, Out, guard, spareBytes, doomedBytes}
+use Rattle.pool_rules.specs.HistorySizes.{stampsUsed}
 use Rattle.pool_rules.specs.Updates.{withSpares, withTextures, asDoomed, doomSpares}
 use Rattle.pool_rules.specs.Formed.{DoomedFormed, StateFormed, Ascending, Formed}
 use Rattle.pool_rules.specs.Closed.{OutFormed, refusalFormed}
@@ -46,10 +47,10 @@ module _ {W : Type 0} where
   -- ---- a pool whose states gave some of their spares, which may have gone themselves
 
   pub spares-doomed : (p : PoolModel W) → Formed p → (ts : List (VersionState W)) (ds : List (Doomed W)) → Ascending 0 ts → All StateFormed ts
-      → length ts ≤ length (p .textures) → total gridsUsed ts ≤ total gridsUsed (p .textures) → All DoomedFormed ds
+      → length ts ≤ length (p .textures) → total stampsUsed ts ≤ total stampsUsed (p .textures) → All DoomedFormed ds
       → total spareBytes ts + doomedBytes ds ≡ total spareBytes (p .textures) → total spareCount ts + length ds ≡ total spareCount (p .textures)
       → Formed (doomSpares ds (withTextures ts p))
-  spares-doomed p f ts ds up states fewer pages given bytes count = record {
+  spares-doomed p f ts ds up states fewer stamps given bytes count = record {
     ids = up;
     textures = states;
     retiring = f .retiring;
@@ -58,7 +59,7 @@ module _ {W : Type 0} where
     trackings = f .trackings;
     places = omega (arith, f .places);
     versions = omega (arith, f .versions, length-append (p .doomed) ds);
-    pages = omega (arith, f .pages);
+    stamps = omega (arith, f .stamps);
     parked = omega (arith, f .parked);
     dooming = omega (arith, f .dooming, total-append (λ (d : Doomed W). d .bytes) (p .doomed) ds);
     cap = omega (arith, f .cap);
@@ -117,5 +118,5 @@ module _ {W : Type 0} where
     oldest-doomed p f =
         spares-doomed p f (map lessened (p .textures)) (flatMap given (p .textures)) (ascending-map lessened (λ t. refl) (f .ids))
         (all-map lessened lessened-formed (f .textures)) (omega (arith, length-map (p .textures) lessened))
-        (omega (arith, total-map gridsUsed lessened (λ t. refl) (p .textures))) (given-formed (p .textures) (f .textures)) (given-bytes (p .textures))
+        (omega (arith, total-map stampsUsed lessened (λ t. refl) (p .textures))) (given-formed (p .textures) (f .textures)) (given-bytes (p .textures))
         (given-count (p .textures))

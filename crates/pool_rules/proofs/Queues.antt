@@ -18,7 +18,8 @@ use Rattle.grid_shapes.specs.declared.shape.VersionShape.{VersionShape}
 use Rattle.grid_shapes.specs.Shapes.{bytesOf}
 use Rattle.grid_shapes.proofs.ShapeBytes.{bytes-bound}
 use Rattle.pool_rules.specs.declared.held.Held.the-variants.{Known, Unknown}
-use Rattle.pool_rules.specs.Model.{WriteHistory, Spare, Retiring, Doomed, VersionState, PoolModel, accepted, find, limit, writesOf, gridsUsed, spareBytes, handCount, versionsUsed}
+use Rattle.pool_rules.specs.Model.{WriteHistory, Spare, Retiring, Doomed, VersionState, PoolModel, accepted, find, limit, writesOf, spareBytes, handCount, versionsUsed}
+use Rattle.pool_rules.specs.HistorySizes.{stampsUsed}
 use Rattle.pool_rules.specs.Updates.{withSpares, withBirth, withTextures, withRetiring, withParked, change, doom}
 use Rattle.pool_rules.specs.Retire.{retire, retired}
 use Rattle.pool_rules.specs.PopRetired.{popRetired, popFront, isHeld}
@@ -77,7 +78,7 @@ module _ {W : Type 0} where
           trackings = f .trackings;
           places = f .places;
           versions = omega (arith, f .versions, length-cut (batch p) (p .doomed));
-          pages = f .pages;
+          stamps = f .stamps;
           parked = f .parked;
           dooming = omega (arith, f .dooming, total-cut (λ (d : Doomed W). d .bytes) (batch p) (p .doomed));
           cap = f .cap;
@@ -100,7 +101,7 @@ module _ {W : Type 0} where
           trackings = f .trackings;
           places = omega (arith, f .places, length-map (p .textures) (withSpares []));
           versions = omega (arith, f .versions, none-spare (p .textures));
-          pages = omega (arith, f .pages, total-map gridsUsed (withSpares []) (λ t. refl) (p .textures));
+          stamps = omega (arith, f .stamps, total-map stampsUsed (withSpares []) (λ t. refl) (p .textures));
           parked = sym (none-parked (p .textures));
           dooming = refl;
           cap = omega arith;
@@ -126,7 +127,7 @@ module _ {W : Type 0} where
           trackings = f .trackings;
           places = f .places;
           versions = omega (arith, f .versions, ap (λ (l : List (Retiring W)). length l) e, ap handCount free);
-          pages = f .pages;
+          stamps = f .stamps;
           parked = f .parked;
           dooming = f .dooming;
           cap = f .cap;
@@ -186,7 +187,7 @@ module _ {W : Type 0} where
         length-append (p .retiring) (v ∷ []),
         total-unchanged spareCount id (withBirth seq) (λ t. refl) (p .textures),
       );
-      pages = omega (arith, f .pages, total-unchanged gridsUsed id (withBirth seq) (λ t. refl) (p .textures));
+      stamps = omega (arith, f .stamps, total-unchanged stampsUsed id (withBirth seq) (λ t. refl) (p .textures));
       parked = f .parked ∙ sym (total-unchanged spareBytes id (withBirth seq) (λ t. refl) (p .textures));
       dooming = f .dooming;
       cap = f .cap;
@@ -221,7 +222,7 @@ module _ {W : Type 0} where
       trackings = f .trackings;
       places = f .places;
       versions = omega (arith, f .versions, ap handCount held, length-append (p .doomed) (d ∷ []));
-      pages = f .pages;
+      stamps = f .stamps;
       parked = f .parked;
       dooming = omega (arith, f .dooming, total-append (λ (d : Doomed W). d .bytes) (p .doomed) (d ∷ []));
       cap = f .cap;
@@ -277,7 +278,7 @@ module _ {W : Type 0} where
           total-change spareCount (v .id) gains t (p .textures) (f .ids) found,
           length-append (t .spares) (spare ∷ []),
         );
-        pages = omega (arith, f .pages, total-unchanged gridsUsed (v .id) gains (λ u. refl) (p .textures));
+        stamps = omega (arith, f .stamps, total-unchanged stampsUsed (v .id) gains (λ u. refl) (p .textures));
         parked = omega (arith, f .parked, total-change spareBytes (v .id) gains t (p .textures) (f .ids) found, gained-bytes);
         dooming = f .dooming;
         cap = fits;

@@ -13,7 +13,8 @@ use Rattle.base_blocks.specs.All.{All, nil}
 use Rattle.base_blocks.proofs.Lists.{either, and-both, length-keep, total-append}
 use Rattle.base_blocks.proofs.All.{all-keep, all-map, all-flatMap}
 use Rattle.grid_shapes.specs.Shapes.{bytesOf}
-use Rattle.pool_rules.specs.Model.{Spare, Doomed, VersionState, PacingModel, PoolModel, limit, gridsUsed, spareBytes, doomedBytes}
+use Rattle.pool_rules.specs.Model.{Spare, Doomed, VersionState, PacingModel, PoolModel, limit, spareBytes, doomedBytes}
+use Rattle.pool_rules.specs.HistorySizes.{stampsUsed}
 use Rattle.pool_rules.specs.Updates.{withDue, withTextures, withPacing, asDoomed, doomSpares}
 use Rattle.pool_rules.specs.NoteAllocated.{noteAllocated, countOf, pickedIn, relieved}
 use Rattle.pool_rules.specs.Trim.{trim, aged, agedCount, thinned, isEmpty, idle, lookedAt}
@@ -39,7 +40,7 @@ module _ {W : Type 0} where
     trackings = f .trackings;
     places = f .places;
     versions = f .versions;
-    pages = f .pages;
+    stamps = f .stamps;
     parked = f .parked;
     dooming = f .dooming;
     cap = f .cap;
@@ -112,9 +113,9 @@ module _ {W : Type 0} where
           (omega (arith, length-map (keep stays thin) (lookedAt now), length-keep stays thin, length-map (p .textures) (thinned now)))
           (omega (
             arith,
-            total-map gridsUsed (lookedAt now) (looked-same gridsUsed (λ t d. refl)) (keep stays thin),
-            total-kept gridsUsed stays thin,
-            total-map gridsUsed (thinned now) (λ t. refl) (p .textures),
+            total-map stampsUsed (lookedAt now) (looked-same stampsUsed (λ t d. refl)) (keep stays thin),
+            total-kept stampsUsed stays thin,
+            total-map stampsUsed (thinned now) (λ t. refl) (p .textures),
           ))
           (given-formed old (p .textures) (f .textures))
           (omega (
@@ -179,7 +180,7 @@ module _ {W : Type 0} where
   unfolding forgetTexture
   forget-texture-formed p f id =
       formed (spares-doomed p f (keep (stays-tracked id) (p .textures)) (flatMap (forgotten id) (p .textures)) (ascending-keep (stays-tracked id) (f .ids))
-      (all-keep (stays-tracked id) (f .textures)) (length-keep (stays-tracked id) (p .textures)) (total-kept gridsUsed (stays-tracked id) (p .textures))
+      (all-keep (stays-tracked id) (f .textures)) (length-keep (stays-tracked id) (p .textures)) (total-kept stampsUsed (stays-tracked id) (p .textures))
       (all-flatMap (forgotten id)
       (λ t s. either (All DoomedFormed) (eqb (t .id) id) (asDoomed (bytesOf (t .shape)) (t .spares)) [] (λ e. as-doomed-formed t s (t .spares)) (λ e. nil)) (f .textures))
       (forgotten-bytes id (p .textures)) (forgotten-count id (p .textures)))

@@ -16,8 +16,10 @@ use Rattle.base_blocks.proofs.All.{all-both}
 use Rattle.grid_shapes.specs.declared.shape.VersionShape.{VersionShape}
 use Rattle.grid_shapes.specs.Shapes.{isShape, sameShape, bytesOf}
 use Rattle.grid_rects.specs.declared.rect.TexelRect.{TexelRect}
+use Rattle.grid_stamps.specs.StampConstants.{pageStamps}
 use Rattle.pool_rules.specs.declared.held.Held.{Held}
-use Rattle.pool_rules.specs.Model.{WriteHistory, Spare, Doomed, VersionState, PoolModel, UploadFootprint, find, limit, gridCount, hasHistory, gridsUsed, spareBytes}
+use Rattle.pool_rules.specs.Model.{WriteHistory, Spare, Doomed, VersionState, PoolModel, UploadFootprint, find, limit, hasHistory, spareBytes}
+use Rattle.pool_rules.specs.HistorySizes.{historySize, stampsUsed}
 use Rattle.pool_rules.specs.Updates.{withHistory, withSpares, withRename, withTextures, withParked, change, asDoomed}
 use Rattle.pool_rules.specs.Histories.{newHistory, inShape, written, regenerated, spent}
 use Rattle.pool_rules.specs.TakeSpare.{takeSpare, takeFound, takeNew, takeTracked, takeRenewed, newState, newest, others, takenBytes}
@@ -27,7 +29,8 @@ use Rattle.pool_rules.specs.Formed.{Given, HistoryFormed, SpareFormed, S
 use Rattle.pool_rules.specs.Closed.{OutFormed, formed}
 use Rattle.pool_rules.proofs.Lists.{all-pairs}
 use Rattle.pool_rules.proofs.States.{ascending-change, ascending-insert, all-insert, all-change, find-all, find-none, find-only, find-part, length-change, length-insert, total-insert, total-unchanged, total-not-raised, total-change}
-use Rattle.pool_rules.proofs.GridsFormed.{new-formed, written-formed, regenerated-formed, written-pages, regenerated-pages}
+use Rattle.pool_rules.proofs.GridsFormed.{new-formed, written-formed, regenerated-formed, written-stamps, regenerated-stamps}
+use Rattle.pool_rules.proofs.HistorySizes.{stamps-fit, new-stamps}
 use Rattle.pool_rules.proofs.Moves.{guarded, spareCount, as-doomed-bytes, as-doomed-length, as-doomed-formed}
 
 module _ {W : Type 0} (p : PoolModel W) (f : Formed p) where
@@ -46,10 +49,10 @@ module _ {W : Type 0} (p : PoolModel W) (f : Formed p) where
 
   -- histories change, and nothing else; q is what is known of the states besides
   histories-changed : (id : ℕ) (k : VersionState W → Option WriteHistory)
-      → ((t : VersionState W) → cond (hasHistory (k t)) (gridCount (t .shape)) 0 ≤ gridsUsed t) → (q : VersionState W → Type 0) → All q (p .textures)
+      → ((t : VersionState W) → cond (hasHistory (k t)) (historySize (t .shape)) 0 ≤ stampsUsed t) → (q : VersionState W → Type 0) → All q (p .textures)
       → ((t : VersionState W) → t .id ≡ id → q t → StateFormed t → Given (HistoryFormed (t .shape)) (k t))
       → Formed (withTextures (change id (λ (t : VersionState W). withHistory (k t) t) (p .textures)) p)
-  histories-changed id k pages q qs h =
+  histories-changed id k stamps q qs h =
       let g : VersionState W → VersionState W = λ t. withHistory (k t) t in
       record {
         ids = ascending-change id g (λ t e. refl) (f .ids);
@@ -60,7 +63,7 @@ module _ {W : Type 0} (p : PoolModel W) (f : Formed p) where
         trackings = f .trackings;
         places = omega (arith, f .places, length-change id g (p .textures));
         versions = omega (arith, f .versions, total-unchanged spareCount id g (λ t. refl) (p .textures));
-        pages = omega (arith, f .pages, total-not-raised gridsUsed id g pages (p .textures));
+        stamps = omega (arith, f .stamps, total-not-raised stampsUsed id g stamps (p .textures));
         parked = f .parked ∙ sym (total-unchanged spareBytes id g (λ t. refl) (p .textures));
         dooming = f .dooming;
         cap = f .cap;
@@ -89,10 +92,10 @@ module _ {W : Type 0} (p : PoolModel W) (f : Formed p) where
       go : (o : Option (VersionState W)) → find id (p .textures) ≡ o → writeSpent o slice level ≡ false
           → Formed (withTextures (change id (λ (t : VersionState W). withHistory (written slice level rect (t .shape) (t .history)) t) (p .textures)) p)
       go none found e =
-          histories-changed id (λ t. written slice level rect (t .shape) (t .history)) (λ t. written-pages (t .shape) slice level rect (t .history))
+          histories-changed id (λ t. written slice level rect (t .shape) (t .history)) (λ t. written-stamps (t .shape) slice level rect (t .history))
           (λ t. t .id ≡ id → ⊥) (find-none id (p .textures) found) (λ u same never x. absurd (never same))
       go (some t) found e =
-          histories-changed id (λ t. written slice level rect (t .shape) (t .history)) (λ t. written-pages (t .shape) slice level rect (t .history))
+          histories-changed id (λ t. written slice level rect (t .shape) (t .history)) (λ t. written-stamps (t .shape) slice level rect (t .history))
           (λ u. u .id ≡ id → u ≡ t) (find-only id t (p .textures) (f .ids) found)
           (λ u same only x. written-formed (u .shape) (x .shape) slice level rect (u .history)
           (subst (λ (z : VersionState W). (inShape (z .shape) slice level && spent (z .history)) ≡ false) (sym (only same)) e) (x .history))
@@ -104,10 +107,10 @@ module _ {W : Type 0} (p : PoolModel W) (f : Formed p) where
       go : (o : Option (VersionState W)) → find id (p .textures) ≡ o → spent (historyIn o) ≡ false
           → Formed (withTextures (change id (λ (t : VersionState W). withHistory (regenerated (t .shape) (t .history)) t) (p .textures)) p)
       go none found e =
-          histories-changed id (λ t. regenerated (t .shape) (t .history)) (λ t. regenerated-pages (t .shape) (t .history)) (λ t. t .id ≡ id → ⊥)
+          histories-changed id (λ t. regenerated (t .shape) (t .history)) (λ t. regenerated-stamps (t .shape) (t .history)) (λ t. t .id ≡ id → ⊥)
           (find-none id (p .textures) found) (λ u same never x. absurd (never same))
       go (some t) found e =
-          histories-changed id (λ t. regenerated (t .shape) (t .history)) (λ t. regenerated-pages (t .shape) (t .history)) (λ u. u .id ≡ id → u ≡ t)
+          histories-changed id (λ t. regenerated (t .shape) (t .history)) (λ t. regenerated-stamps (t .shape) (t .history)) (λ u. u .id ≡ id → u ≡ t)
           (find-only id t (p .textures) (f .ids) found)
           (λ u same only x. regenerated-formed (u .shape) (x .shape) (u .history)
           (subst (λ (z : VersionState W). spent (z .history) ≡ false) (sym (only same)) e) (x .history))
@@ -148,16 +151,6 @@ module _ {W : Type 0} (p : PoolModel W) (f : Formed p) (id : ℕ) (shape : Versi
     spares = nil;
   }
 
-  -- the pages of the new state fit beside the others', those of the state that it replaces given back
-  pages-fit : (own used : ℕ) → (records && ltb (p .places .pages + own) (used + gridCount shape)) ≡ false → used ≤ p .places .pages → own ≤ used
-      → used - own + gridsUsed fresh ≤ p .places .pages
-  pages-fit own used e h k = go records refl
-    where
-      go : (b : Bool) → records ≡ b
-          → used - own + cond (hasHistory (cond records (some (newHistory shape)) none)) (gridCount shape) 0 ≤ p .places .pages
-      go true q = rw q (omega (arith, ltb-false (p .places .pages + own) (used + gridCount shape) (rw q at e)))
-      go false q = rw q (omega arith)
-
   take-new : find id (p .textures) ≡ none → OutFormed (takeNew p id shape records seq)
   take-new away =
       guarded _ _ (λ a. guarded _ _ (λ b. guarded _ _ (λ c. formed (record {
@@ -169,10 +162,11 @@ module _ {W : Type 0} (p : PoolModel W) (f : Formed p) (id : ℕ) (shape : Versi
         trackings = leb-false _ _ c;
         places = omega (arith, leb-false (p .places .textures) (length (p .textures)) a, length-insert fresh (p .textures));
         versions = omega (arith, f .versions, total-insert spareCount fresh (p .textures));
-        pages = omega (
+        stamps = omega (
           arith,
-          total-insert gridsUsed fresh (p .textures),
-          pages-fit 0 (total gridsUsed (p .textures)) b (f .pages) (omega arith),
+          total-insert stampsUsed fresh (p .textures),
+          stamps-fit records (pageStamps * p .places .pages) 0 (total stampsUsed (p .textures)) (historySize shape) b (f .stamps) (omega arith),
+          new-stamps records shape,
         );
         parked = omega (arith, f .parked, total-insert spareBytes fresh (p .textures), mul-zero (bytesOf shape));
         dooming = f .dooming;
@@ -205,11 +199,12 @@ module _ {W : Type 0} (p : PoolModel W) (f : Formed p) (id : ℕ) (shape : Versi
           length-append (p .doomed) ds,
           as-doomed-length (bytesOf (t .shape)) (t .spares),
         );
-        pages = omega (
+        stamps = omega (
           arith,
-          total-change gridsUsed id g t (p .textures) (f .ids) found,
-          pages-fit (gridsUsed t) (total gridsUsed (p .textures)) b (f .pages) (find-part gridsUsed id t (p .textures) found),
-          find-part gridsUsed id t (p .textures) found,
+          total-change stampsUsed id g t (p .textures) (f .ids) found,
+          stamps-fit records (pageStamps * p .places .pages) (stampsUsed t) (total stampsUsed (p .textures)) (historySize shape) b (f .stamps) (find-part stampsUsed id t (p .textures) found),
+          new-stamps records shape,
+          find-part stampsUsed id t (p .textures) found,
         );
         parked = omega (
           arith,
@@ -252,7 +247,7 @@ module _ {W : Type 0} (p : PoolModel W) (f : Formed p) (id : ℕ) (shape : Versi
         trackings = f .trackings;
         places = omega (arith, f .places, length-change id yields (p .textures));
         versions = omega (arith, f .versions, total-change spareCount id yields t (p .textures) (f .ids) found, others-count (t .spares));
-        pages = omega (arith, f .pages, total-unchanged gridsUsed id yields (λ u. refl) (p .textures));
+        stamps = omega (arith, f .stamps, total-unchanged stampsUsed id yields (λ u. refl) (p .textures));
         parked = omega (arith, f .parked, total-change spareBytes id yields t (p .textures) (f .ids) found, others-bytes (t .shape) (t .spares));
         dooming = f .dooming;
         cap = omega (arith, f .cap);

@@ -1,5 +1,5 @@
 -- The cases of the rules that specs/RuleCases says hold. Assumes nothing.
-use Prim.Native.Nat.{ℕ, suc, _+_, _≤_, _<_}
+use Prim.Native.Nat.{ℕ, suc, _+_, _*_, _≤_, _<_}
 use mathlib.Core.Path.{_≡_, refl, sym, ap, _∙_}
 use mathlib.Core.Bool.{Bool, true, false, _&&_, not, true≢false}
 use mathlib.Core.Option.{Option, none, some}
@@ -13,8 +13,10 @@ use Rattle.base_blocks.proofs.Lists.{and-both}
 use Rattle.grid_shapes.specs.declared.shape.VersionShape.{VersionShape}
 use Rattle.grid_shapes.specs.Shapes.{isShape, sameShape, slicesOf}
 use Rattle.grid_shapes.proofs.Shapes.{same-shape, same-self}
+use Rattle.grid_stamps.specs.StampConstants.{pageStamps}
 use Rattle.pool_rules.specs.declared.held.Held.{Held}
-use Rattle.pool_rules.specs.Model.{WriteHistory, VersionState, PoolModel, Out, refused, accepted, UploadFootprint, guard, find, limit, gridCount, gridsUsed}
+use Rattle.pool_rules.specs.Model.{WriteHistory, VersionState, PoolModel, Out, refused, accepted, UploadFootprint, guard, find, limit}
+use Rattle.pool_rules.specs.HistorySizes.{historySize, stampsUsed}
 use Rattle.pool_rules.specs.Histories.{inShape, spent}
 use Rattle.pool_rules.specs.TakeSpare.{takeSpare}
 use Rattle.pool_rules.specs.PreservePlan.{copies, planFound, planWith, preservePlan}
@@ -63,28 +65,29 @@ module _ {W : Type 0} where
   pub take-full-before-spent : TakeFullBeforeSpent W
   unfolding takeSpare guard
   take-full-before-spent p id shape seq good le =
-      let kept = total gridsUsed (p .textures) + gridCount shape in
+      let lent = pageStamps * p .places .pages in
+      let kept = total stampsUsed (p .textures) + historySize shape in
       record {
         new-full = λ e free full.
-            rw (good, le-ltb limit seq le, e, lt-leb (p .places .textures) (length (p .textures)) free, lt-ltb (p .places .pages + 0) kept (omega (arith, full)));
+            rw (good, le-ltb limit seq le, e, lt-leb (p .places .textures) (length (p .textures)) free, lt-ltb (lent + 0) kept (omega (arith, full)));
         new-spent = λ records e free fits spent.
             rw (
               good,
               le-ltb limit seq le,
               e,
               lt-leb (p .places .textures) (length (p .textures)) free,
-              not-both records (ltb (p .places .pages + 0) kept) (le-ltb (p .places .pages + 0) kept (omega (arith, fits))),
+              not-both records (ltb (lent + 0) kept) (le-ltb (lent + 0) kept (omega (arith, fits))),
               le-leb limit (p .trackings) spent,
             );
         renewed-full = λ t e other full.
-            rw (good, le-ltb limit seq le, e, other-shape (t .shape) shape other, lt-ltb (p .places .pages + gridsUsed t) kept full);
+            rw (good, le-ltb limit seq le, e, other-shape (t .shape) shape other, lt-ltb (lent + stampsUsed t) kept full);
         renewed-spent = λ records t e other fits spent.
             rw (
               good,
               le-ltb limit seq le,
               e,
               other-shape (t .shape) shape other,
-              not-both records (ltb (p .places .pages + gridsUsed t) kept) (le-ltb (p .places .pages + gridsUsed t) kept fits),
+              not-both records (ltb (lent + stampsUsed t) kept) (le-ltb (lent + stampsUsed t) kept fits),
               le-leb limit (p .trackings) spent,
             );
       }

@@ -67,9 +67,15 @@ shared-slice-read-t19-2 c = search needs
 shared-slice-read-t17-2 : tie.Need-shared-slice-read-t17-2
 shared-slice-read-t17-2 c = search needs
 
+shared-slice-read-t15-2 : tie.Need-shared-slice-read-t15-2
+shared-slice-read-t15-2 c = search needs
+
+shared-slice-read-t13-2 : tie.Need-shared-slice-read-t13-2
+shared-slice-read-t13-2 c = search needs
+
 returns : tie.Need-returns
 unfolding readTexture
-returns c = rw (c .before .before .before .before .before .before .before .read-recorded .ensures)
+returns c = rw (c .before .before .before .before .before .before .before .before .before .read-recorded .ensures)
 
 pub read-texture-spec : {M : Type 1} → statement M
 read-texture-spec =
@@ -96,4 +102,6 @@ read-texture-spec =
     shared-slice-read-t21-2
     shared-slice-read-t19-2
     shared-slice-read-t17-2
+    shared-slice-read-t15-2
+    shared-slice-read-t13-2
     returns)
