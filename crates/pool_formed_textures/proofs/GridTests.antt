@@ -2,7 +2,7 @@
 use mathlib.Core.Path.{_≡_, sym, ap, ap₂, subst, _∙_}
 use mathlib.Core.Bool.{Bool, true, false, and-true, and-false}
 use mathlib.Core.List.{List}
-use Prim.Native.Nat.{ℕ, suc, _+_, _-_, _%_, _≤_, _<_}
+use Prim.Native.Nat.{ℕ, _+_, _-_, _%_, _≤_, _<_}
 use native.Mathlib.Numerals.{add-one}
 use native.Mathlib.Omega.{arith}
 use borrow.Author.Tests.{le-leb, lt-leb, eq-eqb, ne-eqb}
@@ -17,7 +17,7 @@ use Rattle.grid_shapes.specs.declared.shape.VersionShape.{VersionShape}
 use Rattle.grid_shapes.specs.Shapes.{isShape}
 use Rattle.grid_axes.specs.declared.axis.Axis.{Axis}
 use Rattle.grid_axes.specs.Axes.{AxisOk}
-use Rattle.grid_stamps.specs.Grids.{StampGrid, Tiling, tiled, tilingOf, stampCount, gridIn, largestStamp}
+use Rattle.grid_stamps.specs.Grids.{Tiling, tiled, tilingOf, stampCount, gridIn, largestStamp}
 use Rattle.grid_stamps.proofs.Tilings.{tiling-ok, count-pos}
 use Rattle.pool_rules.specs.Model.{gridCount}
 use Rattle.pool_rules.specs.HistorySizes.{gridSize, gridPlaces, gridStart, historySize}

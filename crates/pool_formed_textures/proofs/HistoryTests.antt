@@ -7,7 +7,7 @@ use native.Mathlib.Nat.{zero-add}
 use native.Mathlib.Omega.{arith}
 use borrow.Author.Tests.{eqb-true, eq-eqb}
 use lib.Dec.{eqb}
-use lib.ListN.{length, take, drop, getD, length-drop}
+use lib.ListN.{length, take, drop, length-drop}
 use lib.Seq.{getD-take, getD-drop, take-take, drop-drop, length-take-le}
 use Rattle.base_blocks.specs.All.{nil, cons}
 use Rattle.base_blocks.specs.Lists.{all, listed, total}

@@ -9,7 +9,7 @@ use borrow.Author.Tests.{eqb-true, leb-true, eq-eqb, le-leb, lt-ltb, le-ltb}
 use lib.Dec.{eqb}
 use lib.ListN.{length, take, drop}
 use Rattle.base_blocks.specs.All.{nil, cons}
-use Rattle.base_blocks.specs.Lists.{total, tests, after}
+use Rattle.base_blocks.specs.Lists.{tests, after}
 use Rattle.base_blocks.proofs.Lists.{and-both, passed}
 use Rattle.base_blocks.proofs.Listed.{left, left-step, left-none}
 use Rattle.pool_records.specs.declared.texture.TextureRecord.{TextureRecord}
@@ -17,7 +17,7 @@ use Rattle.pool_records.specs.Starts.{gridEnd, stampEnd}
 use Rattle.pool_records.specs.Texture.{textureIn, recordGrids, recordStamps}
 use Rattle.pool_formed_textures.specs.Textures.{historyFits, gridsHold, historyHolds, historiesFit, runFits}
 use Rattle.pool_formed_textures.proofs.Tests.{pass-all, fails-by}
-use Rattle.pool_formed_textures.proofs.HistoryTests.{part-size, part-holds, part-fits, Walked, walked}
+use Rattle.pool_formed_textures.proofs.HistoryTests.{part-size, part-holds, part-fits, walked}
 
 -- ---- one run
 
