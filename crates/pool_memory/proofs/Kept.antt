@@ -158,29 +158,29 @@ module _ (l : Lent) where
 -- ---- textures that keep their ids, shapes and histories
 
 -- what the pages of a texture depend on
-pub record Paged : Type 0 where
+pub record KeptHistory : Type 0 where
   pub id : ℕ
   pub shape : VersionShape
   pub history : Option WriteHistory
 
-abbrev pub pagedOf : VersionState ℕ → Paged
-pagedOf t = record { id = t .id; shape = t .shape; history = t .history }
+abbrev pub keptHistory : VersionState ℕ → KeptHistory
+keptHistory t = record { id = t .id; shape = t .shape; history = t .history }
 
-abbrev pagesIn : Lent → Paged → List ℕ
+abbrev pagesIn : Lent → KeptHistory → List ℕ
 pagesIn l t = pagesFrom (pageBefore l (firstPage (t .id) (t .shape) 0 (modelOf l .textures))) 0 (gridsOf (t .history))
 
-pub pages-paged : (l : Lent) (ts us : List (VersionState ℕ)) → map pagedOf ts ≡ map pagedOf us → flatMap (pagesAfter l) ts ≡ flatMap (pagesAfter l) us
+pub pages-paged : (l : Lent) (ts us : List (VersionState ℕ)) → map keptHistory ts ≡ map keptHistory us → flatMap (pagesAfter l) ts ≡ flatMap (pagesAfter l) us
 unfolding pagesAfter
-pages-paged l ts us e = flat-mapped pagedOf (pagesIn l) ts ∙ ap (flatMap (pagesIn l)) e ∙ sym (flat-mapped pagedOf (pagesIn l) us)
+pages-paged l ts us e = flat-mapped keptHistory (pagesIn l) ts ∙ ap (flatMap (pagesIn l)) e ∙ sym (flat-mapped keptHistory (pagesIn l) us)
 
-abbrev newestIn : Paged → List ℕ
+abbrev newestIn : KeptHistory → List ℕ
 newestIn t = map (λ (g : StampGrid). g .newest) (gridsOf (t .history))
 
-pub newest-paged : (ts us : List (VersionState ℕ)) → map pagedOf ts ≡ map pagedOf us → flatMap newestOf ts ≡ flatMap newestOf us
-newest-paged ts us e = flat-mapped pagedOf newestIn ts ∙ ap (flatMap newestIn) e ∙ sym (flat-mapped pagedOf newestIn us)
+pub newest-paged : (ts us : List (VersionState ℕ)) → map keptHistory ts ≡ map keptHistory us → flatMap newestOf ts ≡ flatMap newestOf us
+newest-paged ts us e = flat-mapped keptHistory newestIn ts ∙ ap (flatMap newestIn) e ∙ sym (flat-mapped keptHistory newestIn us)
 
-abbrev usedIn : Paged → ℕ
+abbrev usedIn : KeptHistory → ℕ
 usedIn t = cond (hasHistory (t .history)) (gridCount (t .shape)) 0
 
-pub used-paged : (ts us : List (VersionState ℕ)) → map pagedOf ts ≡ map pagedOf us → total gridsUsed ts ≡ total gridsUsed us
-used-paged ts us e = total-mapped pagedOf usedIn ts ∙ ap (total usedIn) e ∙ sym (total-mapped pagedOf usedIn us)
+pub used-paged : (ts us : List (VersionState ℕ)) → map keptHistory ts ≡ map keptHistory us → total gridsUsed ts ≡ total gridsUsed us
+used-paged ts us e = total-mapped keptHistory usedIn ts ∙ ap (total usedIn) e ∙ sym (total-mapped keptHistory usedIn us)

@@ -24,7 +24,7 @@ use Rattle.pool_memory.proofs.Parts.{flat-append, map-take, map-drop}
 use Rattle.base_blocks.proofs.Blocks.{over-moved}
 use Rattle.pool_memory.proofs.Packed.{packed-read, packed-put, packed-moved}
 use Rattle.pool_memory.proofs.Runs.{sparesOf, firstSpare, firstGrid, stateOf, newest-state}
-use Rattle.pool_memory.proofs.Kept.{Paged, pagedOf, pages-kept, pages-paged, newest-paged}
+use Rattle.pool_memory.proofs.Kept.{KeptHistory, keptHistory, pages-kept, pages-paged, newest-paged}
 use Rattle.pool_memory.proofs.Same.{listed-run}
 use Rattle.pool_memory.proofs.Changes.{sparesBefore, table-spares}
 use Rattle.pool_memory.proofs.Pages.{gridCountAt, pages-in}
@@ -104,14 +104,14 @@ module _ (l : Lent) (p q : PoolModel ℕ) (t : VersionState ℕ) (e : q .texture
 
   -- texture i, with its id, shape and history
   module _ (pages : total recordGrids (trackedRecords l) ≡ l .pool .grids) (i : ℕ) (h : i < l .pool .tracked)
-      (same : pagedOf t ≡ pagedOf (stateOf l i)) where
+      (same : keptHistory t ≡ keptHistory (stateOf l i)) where
     more : (f : VersionState ℕ → List ℕ) (xs : List ℕ) → flatMap f (t ∷ []) ≡ xs → flatMap f (q .textures) ≡ flatMap f (p .textures) ++ xs
     more f xs g = ap (flatMap f) e ∙ flat-append f (p .textures) (t ∷ []) ∙ ap (λ (ys : List ℕ). flatMap f (p .textures) ++ ys) g
 
     one-newest : l .pool .grids ≤ length (l .newest) → flatMap newestOf (t ∷ []) ≡ take (gridCountAt l i) (drop (firstGrid l i) (l .newest))
     unfolding flatMap stateOf
     one-newest fits =
-        newest-paged (t ∷ []) (stateOf l i ∷ []) (ap (λ (x : Paged). x ∷ []) same)
+        newest-paged (t ∷ []) (stateOf l i ∷ []) (ap (λ (x : KeptHistory). x ∷ []) same)
         ∙ append-nil (newestOf (stateOf l i))
         ∙ newest-state l (firstSpare l i) (firstGrid l i) (getD (trackedRecords l) i (readTexture []))
         ∙ listed-run 0 (l .newest) (firstGrid l i) (gridCountAt l i) (omega (arith, pages-in l pages i h))
@@ -120,7 +120,7 @@ module _ (l : Lent) (p q : PoolModel ℕ) (t : VersionState ℕ) (e : q .texture
         → flatMap (pagesAfter l) (t ∷ []) ≡ take (pageStamps * gridCountAt l i) (drop (pageStamps * firstGrid l i) (l .stamps))
     unfolding flatMap
     one-pages up =
-        pages-paged l (t ∷ []) (stateOf l i ∷ []) (ap (λ (x : Paged). x ∷ []) same)
+        pages-paged l (t ∷ []) (stateOf l i ∷ []) (ap (λ (x : KeptHistory). x ∷ []) same)
         ∙ append-nil (pagesAfter l (stateOf l i))
         ∙ pages-kept l up (stateOf l 0) i h
         ∙ ap (λ (n : ℕ). take (pageStamps * n) (drop (pageStamps * firstGrid l i) (l .stamps))) (used-at l i)

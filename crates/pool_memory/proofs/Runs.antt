@@ -1,11 +1,13 @@
--- The model's textures are what the slices say: run by run, their records, spares and pages stand one behind the other. Assumes nothing.
+-- The model's textures are what the slices say: run by run, their records, spares, grids and stamps stand one behind the other. Assumes nothing.
 use mathlib.Core.Path.{_≡_, refl, sym, ap, ap₂, _∙_}
 use mathlib.Core.Bool.{true, cond}
-use mathlib.Core.List.{List, [], _∷_, _++_, map, flatMap}
-use Prim.Native.Nat.{ℕ, zero, suc, _+_, _<_}
+use mathlib.Core.List.{List, [], _∷_, _++_, map, flatMap, append-nil}
+use Prim.Native.Nat.{ℕ, zero, suc, _+_, _≤_, _<_}
 use native.Mathlib.Nat.{add-zero, zero-add, add-assoc}
 use native.Mathlib.Omega.{arith}
+use lib.Dec.{eqb}
 use lib.ListN.{length, take, drop, getD}
+use lib.Seq.{take-add, drop-drop}
 use borrow.Author.Tests.{eqb-true}
 use Rattle.base_blocks.specs.Lists.{listed, all, total}
 use Rattle.base_blocks.proofs.Lists.{and-both}
@@ -13,16 +15,22 @@ use Rattle.base_blocks.proofs.Listed.{length-listed, listed-split, listed-same,
 use Rattle.base_tables.proofs.Records.{length-table}
 use Rattle.grid_shapes.specs.declared.shape.VersionShape.{VersionShape}
 use Rattle.grid_shapes.specs.Shapes.{bytesOf}
-use Rattle.grid_stamps.specs.Grids.{StampGrid, gridIn}
+use Rattle.grid_stamps.specs.Grids.{StampGrid, gridIn, tilingOf, stampCount}
+use Rattle.base_unequal.specs.Unequal.{startOf, startsFit}
+use Rattle.base_unequal.proofs.Readings.{start-held}
 use Rattle.pool_rules.specs.Model.{Spare, VersionState, gridCount, hasHistory, gridsUsed}
+use Rattle.pool_rules.specs.HistorySizes.{gridSize, gridPlaces, gridStart, historySize, stampsUsed}
+use Rattle.base_unequal.proofs.Starts.{start-none}
+use Rattle.pool_rules.proofs.HistorySizes.{grid-next, grid-last}
 use Rattle.pool_records.specs.declared.recorded.Recorded.{Recorded}
 use Rattle.pool_records.specs.declared.recorded.Recorded.the-variants.{Writes, NoHistory}
 use Rattle.pool_records.specs.declared.texture.TextureRecord.{TextureRecord}
-use Rattle.pool_records.specs.Texture.{readTexture, recordedGrids, recordGrids}
+use Rattle.pool_records.specs.Texture.{readTexture, recordedGrids, recordGrids, recordedStamps, recordStamps}
 use Rattle.pool_memory.specs.Lent.{Lent}
 use Rattle.pool_memory.specs.Reading.{trackedRecords, gridRead, historyRead, spareRead, stateRead, statesRead, modelOf}
-use Rattle.pool_memory.specs.IsPool.{bytesHold, bytesFit, stateId}
-use Rattle.pool_memory.specs.Writing.{recordedHistory, textureRecord, everySpare, gridsOf, newestOf}
+use Rattle.pool_memory.specs.IsPool.{bytesHold, bytesFit, startsHold, stateId}
+use Rattle.pool_memory.specs.Writing.{recordedHistory, textureRecord, textureRecords, everySpare, gridsOf, newestOf, stampsOf}
+use Rattle.pool_memory.proofs.Parts.{flat-append}
 use Rattle.pool_records.specs.RecordConstants.{textureStride}
 
 abbrev pub sparesOf : TextureRecord → ℕ
@@ -31,7 +39,7 @@ sparesOf t = t .spares
 abbrev pub spareCount : VersionState ℕ → ℕ
 spareCount t = length (t .spares)
 
--- the number that stands for a page in `newest`
+-- the number that stands for a grid in `newest`
 abbrev pub newestAt : Lent → ℕ → ℕ
 newestAt l k = getD (l .newest) k 0
 
@@ -39,172 +47,241 @@ pub bytes-held : (t : TextureRecord) → bytesHold t ≡ true → t .bytes ≡ b
 unfolding bytesHold
 bytes-held t e = eqb-true _ _ e
 
+-- the record's first grid and first stamp
+abbrev pub firstGridIn : TextureRecord → ℕ
+firstGridIn t = t .grid
+
+abbrev pub firstStampIn : TextureRecord → ℕ
+firstStampIn t = t .stamp
+
 module _ (l : Lent) where
   -- ---- one texture
 
-  recorded-read : (s : VersionShape) (page : ℕ) (h : Recorded) → recordedHistory (historyRead l s page h) ≡ h
-  recorded-read s page NoHistory = refl
-  recorded-read s page (Writes n) = refl
+  recorded-read : (s : VersionShape) (grid stamp : ℕ) (h : Recorded) → recordedHistory (historyRead l s grid stamp h) ≡ h
+  recorded-read s grid stamp NoHistory = refl
+  recorded-read s grid stamp (Writes n) = refl
 
   -- a texture that was read is written as its record, where the record's bytes are those of its shape
-  pub record-state : (first page : ℕ) (t : TextureRecord) → t .bytes ≡ bytesOf (t .shape) → textureRecord (stateRead l first page t) ≡ t
+  pub record-state : (first : ℕ) (t : TextureRecord) → t .bytes ≡ bytesOf (t .shape) → textureRecord (t .grid) (t .stamp) (stateRead l first t) ≡ t
   unfolding stateRead
-  record-state first page t e = λ j. record {
+  record-state first t e = λ j. record {
     id = t .id;
     shape = t .shape;
     epoch = t .epoch;
-    history = recorded-read (t .shape) page (t .history) j;
+    history = recorded-read (t .shape) (t .grid) (t .stamp) (t .history) j;
     birth = t .birth;
     rename = t .rename;
     due = t .due;
     spares = length-listed (spareRead l) first (t .spares) j;
     bytes = sym e j;
+    grid = t .grid;
+    stamp = t .stamp;
   }
 
-  used-read : (s : VersionShape) (page : ℕ) (h : Recorded) → cond (hasHistory (historyRead l s page h)) (gridCount s) 0 ≡ recordedGrids h s
-  used-read s page NoHistory = refl
-  used-read s page (Writes n) = refl
+  -- it uses what its record claims
+  used-read : (s : VersionShape) (grid stamp n : ℕ) (h : Recorded) (m : Recorded → ℕ) → m NoHistory ≡ 0 → ((k : ℕ) → m (Writes k) ≡ n)
+      → cond (hasHistory (historyRead l s grid stamp h)) n 0 ≡ m h
+  used-read s grid stamp n NoHistory m e f = sym e
+  used-read s grid stamp n (Writes k) m e f = sym (f k)
 
-  pub pages-state : (first page : ℕ) (t : TextureRecord) → gridsUsed (stateRead l first page t) ≡ recordGrids t
+  pub grids-state : (first : ℕ) (t : TextureRecord) → gridsUsed (stateRead l first t) ≡ recordGrids t
   unfolding stateRead
-  pages-state first page t = used-read (t .shape) page (t .history)
+  grids-state first t =
+      used-read (t .shape) (t .grid) (t .stamp) (gridCount (t .shape)) (t .history) (λ (h : Recorded). recordedGrids h (t .shape)) refl (λ k. refl)
 
-  newest-read : (s : VersionShape) (page : ℕ) (h : Recorded)
-      → map (λ (g : StampGrid). g .newest) (gridsOf (historyRead l s page h)) ≡ listed (newestAt l) page (recordedGrids h s)
+  pub stamps-used-state : (first : ℕ) (t : TextureRecord) → stampsUsed (stateRead l first t) ≡ recordStamps t
+  unfolding stateRead
+  stamps-used-state first t =
+      used-read (t .shape) (t .grid) (t .stamp) (historySize (t .shape)) (t .history) (λ (h : Recorded). recordedStamps h (t .shape)) refl (λ k. refl)
+
+  -- the newest stamps of its grids
+  newest-read : (s : VersionShape) (grid stamp : ℕ) (h : Recorded)
+      → map (λ (g : StampGrid). g .newest) (gridsOf (historyRead l s grid stamp h)) ≡ listed (newestAt l) grid (recordedGrids h s)
   unfolding listed gridRead gridIn
-  newest-read s page NoHistory = refl
-  newest-read s page (Writes n) =
-      map-listed (λ (g : StampGrid). g .newest) (gridRead l s page) 0 (gridCount s)
-      ∙ listed-same (λ k. getD (l .newest) (page + k) 0) (newestAt l) (gridCount s) 0 page
-      (λ j q. ap (λ (k : ℕ). getD (l .newest) (page + k) 0) (zero-add j))
+  newest-read s grid stamp NoHistory = refl
+  newest-read s grid stamp (Writes n) =
+      map-listed (λ (g : StampGrid). g .newest) (gridRead l s grid stamp) 0 (gridCount s)
+      ∙ listed-same (λ k. getD (l .newest) (grid + k) 0) (newestAt l) (gridCount s) 0 grid
+      (λ j q. ap (λ (k : ℕ). getD (l .newest) (grid + k) 0) (zero-add j))
 
-  pub newest-state : (first page : ℕ) (t : TextureRecord) → newestOf (stateRead l first page t) ≡ listed (newestAt l) page (recordGrids t)
+  pub newest-state : (first : ℕ) (t : TextureRecord) → newestOf (stateRead l first t) ≡ listed (newestAt l) (t .grid) (recordGrids t)
   unfolding stateRead
-  newest-state first page t = newest-read (t .shape) page (t .history)
+  newest-state first t = newest-read (t .shape) (t .grid) (t .stamp) (t .history)
+
+  none-before : (s : VersionShape) → gridStart s 0 ≡ 0
+  unfolding gridStart
+  none-before s = start-none (gridSize s) (gridPlaces s)
+
+  -- its stamps: those of its first k grids are as many as stand before the next
+  stamps-front : (s : VersionShape) (grid stamp k : ℕ) → k ≤ gridCount s
+      → flatMap (λ (g : StampGrid). g .stamps) (listed (gridRead l s grid stamp) 0 k) ≡ take (gridStart s k) (drop stamp (l .stamps))
+  unfolding flatMap listed gridRead gridIn gridSize
+  stamps-front s grid stamp zero h = sym (ap (λ (n : ℕ). take n (drop stamp (l .stamps))) (none-before s))
+  stamps-front s grid stamp (suc k) h =
+      let f : StampGrid → List ℕ = λ g. g .stamps in
+      let st = drop stamp (l .stamps) in
+      ap (λ (n : ℕ). flatMap f (listed (gridRead l s grid stamp) 0 n)) (let e : suc k ≡ k + 1 = omega arith in e)
+      ∙ ap (flatMap f) (listed-split (gridRead l s grid stamp) 0 k 1)
+      ∙ flat-append f (listed (gridRead l s grid stamp) 0 k) (listed (gridRead l s grid stamp) (0 + k) 1)
+      ∙ ap₂ (λ (a b : List ℕ). a ++ b) (stamps-front s grid stamp k (omega arith))
+      (append-nil (f (gridRead l s grid stamp (0 + k)))
+      ∙ ap (λ (n : ℕ). f (gridRead l s grid stamp n)) (zero-add k)
+      ∙ ap (take (gridSize s k)) (sym (drop-drop (gridStart s k) stamp (l .stamps))))
+      ∙ sym (take-add (gridStart s k) (gridSize s k) st)
+      ∙ ap (λ (n : ℕ). take n st) (sym (grid-next s k (omega arith)))
+
+  stamps-read : (s : VersionShape) (grid stamp : ℕ) (h : Recorded)
+      → flatMap (λ (g : StampGrid). g .stamps) (gridsOf (historyRead l s grid stamp h)) ≡ take (recordedStamps h s) (drop stamp (l .stamps))
+  unfolding flatMap
+  stamps-read s grid stamp NoHistory = refl
+  stamps-read s grid stamp (Writes n) =
+      stamps-front s grid stamp (gridCount s) (omega arith) ∙ ap (λ (k : ℕ). take k (drop stamp (l .stamps))) (grid-last s)
+
+  pub stamps-state : (first : ℕ) (t : TextureRecord) → stampsOf (stateRead l first t) ≡ take (recordStamps t) (drop (t .stamp) (l .stamps))
+  unfolding stateRead
+  stamps-state first t = stamps-read (t .shape) (t .grid) (t .stamp) (t .history)
 
   -- ---- textures in a row
 
-  pub length-states : (first page : ℕ) (ts : List TextureRecord) → length (statesRead l first page ts) ≡ length ts
+  pub length-states : (first : ℕ) (ts : List TextureRecord) → length (statesRead l first ts) ≡ length ts
   unfolding statesRead
-  length-states first page [] = refl
-  length-states first page (t ∷ ts) = ap suc (length-states (first + t .spares) (page + recordGrids t) ts)
+  length-states first [] = refl
+  length-states first (t ∷ ts) = ap suc (length-states (first + t .spares) ts)
 
-  -- their records
-  pub records-states : (first page : ℕ) (ts : List TextureRecord) → all bytesHold ts ≡ true → map textureRecord (statesRead l first page ts) ≡ ts
-  unfolding statesRead all
-  records-states first page [] e = refl
-  records-states first page (t ∷ ts) e =
+  -- their records, where these hold the bytes of their shapes and where their grids and stamps begin
+  pub records-states : (first grid stamp : ℕ) (ts : List TextureRecord) → all bytesHold ts ≡ true
+      → startsFit recordGrids firstGridIn grid ts ≡ true → startsFit recordStamps firstStampIn stamp ts ≡ true
+      → textureRecords grid stamp (statesRead l first ts) ≡ ts
+  unfolding statesRead all textureRecords startsFit
+  records-states first grid stamp [] e a b = refl
+  records-states first grid stamp (t ∷ ts) e a b =
       let q = and-both (bytesHold t) (all bytesHold ts) e in
-      ap₂ (λ (x : TextureRecord) (xs : List TextureRecord). x ∷ xs) (record-state first page t (bytes-held t (q .0)))
-      (records-states (first + t .spares) (page + recordGrids t) ts (q .1))
+      let u = and-both (eqb (t .grid) grid) (startsFit recordGrids firstGridIn (grid + recordGrids t) ts) a in
+      let v = and-both (eqb (t .stamp) stamp) (startsFit recordStamps firstStampIn (stamp + recordStamps t) ts) b in
+      ap₂ (λ (x : TextureRecord) (xs : List TextureRecord). x ∷ xs)
+      (ap₂ (λ (g n : ℕ). textureRecord g n (stateRead l first t)) (sym (eqb-true _ _ (u .0))) (sym (eqb-true _ _ (v .0)))
+      ∙ record-state first t (bytes-held t (q .0)))
+      (ap₂ (λ (g n : ℕ). textureRecords (grid + g) (stamp + n) (statesRead l (first + t .spares) ts)) (grids-state first t) (stamps-used-state first t)
+      ∙ records-states (first + t .spares) (grid + recordGrids t) (stamp + recordStamps t) ts (q .1) (u .1) (v .1))
 
   -- their spares
-  pub spares-states : (first page : ℕ) (ts : List TextureRecord)
-      → everySpare (statesRead l first page ts) ≡ listed (spareRead l) first (total sparesOf ts)
+  pub spares-states : (first : ℕ) (ts : List TextureRecord) → everySpare (statesRead l first ts) ≡ listed (spareRead l) first (total sparesOf ts)
   unfolding statesRead stateRead flatMap total listed
-  spares-states first page [] = refl
-  spares-states first page (t ∷ ts) =
-      ap (λ (xs : List (Spare ℕ)). listed (spareRead l) first (t .spares) ++ xs) (spares-states (first + t .spares) (page + recordGrids t) ts)
+  spares-states first [] = refl
+  spares-states first (t ∷ ts) =
+      ap (λ (xs : List (Spare ℕ)). listed (spareRead l) first (t .spares) ++ xs) (spares-states (first + t .spares) ts)
       ∙ sym (listed-split (spareRead l) first (t .spares) (total sparesOf ts))
 
-  pub kept-states : (first page : ℕ) (ts : List TextureRecord) → total spareCount (statesRead l first page ts) ≡ total sparesOf ts
+  pub kept-states : (first : ℕ) (ts : List TextureRecord) → total spareCount (statesRead l first ts) ≡ total sparesOf ts
   unfolding statesRead stateRead total
-  kept-states first page [] = refl
-  kept-states first page (t ∷ ts) =
-      ap₂ (λ (a b : ℕ). a + b) (length-listed (spareRead l) first (t .spares)) (kept-states (first + t .spares) (page + recordGrids t) ts)
+  kept-states first [] = refl
+  kept-states first (t ∷ ts) =
+      ap₂ (λ (a b : ℕ). a + b) (length-listed (spareRead l) first (t .spares)) (kept-states (first + t .spares) ts)
 
-  -- their pages
-  pub pages-states : (first page : ℕ) (ts : List TextureRecord) → total gridsUsed (statesRead l first page ts) ≡ total recordGrids ts
+  -- what they use: a number of each state that is a number of its record
+  pub used-states : (used : VersionState ℕ → ℕ) (size : TextureRecord → ℕ) → ((first : ℕ) (t : TextureRecord) → used (stateRead l first t) ≡ size t)
+      → (first : ℕ) (ts : List TextureRecord) → total used (statesRead l first ts) ≡ total size ts
   unfolding statesRead total
-  pages-states first page [] = refl
-  pages-states first page (t ∷ ts) =
-      ap₂ (λ (a b : ℕ). a + b) (pages-state first page t) (pages-states (first + t .spares) (page + recordGrids t) ts)
-
-  pub newest-states : (first page : ℕ) (ts : List TextureRecord)
-      → flatMap newestOf (statesRead l first page ts) ≡ listed (newestAt l) page (total recordGrids ts)
-  unfolding statesRead flatMap total listed
-  newest-states first page [] = refl
-  newest-states first page (t ∷ ts) =
-      ap₂ (λ (a b : List ℕ). a ++ b) (newest-state first page t) (newest-states (first + t .spares) (page + recordGrids t) ts)
-      ∙ sym (listed-split (newestAt l) page (recordGrids t) (total recordGrids ts))
+  used-states used size e first [] = refl
+  used-states used size e first (t ∷ ts) = ap₂ (λ (a b : ℕ). a + b) (e first t) (used-states used size e (first + t .spares) ts)
 
   -- ---- the first of them, the later ones, and one among them
 
-  pub take-states : (i first page : ℕ) (ts : List TextureRecord) → take i (statesRead l first page ts) ≡ statesRead l first page (take i ts)
+  pub take-states : (i first : ℕ) (ts : List TextureRecord) → take i (statesRead l first ts) ≡ statesRead l first (take i ts)
   unfolding statesRead
-  take-states zero first page ts = refl
-  take-states (suc i) first page [] = refl
-  take-states (suc i) first page (t ∷ ts) =
-      ap (λ (xs : List (VersionState ℕ)). stateRead l first page t ∷ xs) (take-states i (first + t .spares) (page + recordGrids t) ts)
+  take-states zero first ts = refl
+  take-states (suc i) first [] = refl
+  take-states (suc i) first (t ∷ ts) = ap (λ (xs : List (VersionState ℕ)). stateRead l first t ∷ xs) (take-states i (first + t .spares) ts)
 
-  pub drop-states : (i first page : ℕ) (ts : List TextureRecord)
-      → drop i (statesRead l first page ts) ≡ statesRead l (first + total sparesOf (take i ts)) (page + total recordGrids (take i ts)) (drop i ts)
+  pub drop-states : (i first : ℕ) (ts : List TextureRecord)
+      → drop i (statesRead l first ts) ≡ statesRead l (first + total sparesOf (take i ts)) (drop i ts)
   unfolding statesRead total
-  drop-states zero first page ts = ap₂ (λ (a b : ℕ). statesRead l a b ts) (sym (add-zero first)) (sym (add-zero page))
-  drop-states (suc i) first page [] = refl
-  drop-states (suc i) first page (t ∷ ts) =
-      drop-states i (first + t .spares) (page + recordGrids t) ts
-      ∙ ap₂ (λ (a b : ℕ). statesRead l a b (drop i ts))
-      (add-assoc first (t .spares) (total sparesOf (take i ts))) (add-assoc page (recordGrids t) (total recordGrids (take i ts)))
+  drop-states zero first ts = ap (λ (a : ℕ). statesRead l a ts) (sym (add-zero first))
+  drop-states (suc i) first [] = refl
+  drop-states (suc i) first (t ∷ ts) =
+      drop-states i (first + t .spares) ts
+      ∙ ap (λ (a : ℕ). statesRead l a (drop i ts)) (add-assoc first (t .spares) (total sparesOf (take i ts)))
 
-  pub state-at : (i first page : ℕ) (ts : List TextureRecord) (d : VersionState ℕ) (e : TextureRecord) → i < length ts
-      → getD (statesRead l first page ts) i d ≡ stateRead l (first + total sparesOf (take i ts)) (page + total recordGrids (take i ts)) (getD ts i e)
+  pub state-at : (i first : ℕ) (ts : List TextureRecord) (d : VersionState ℕ) (e : TextureRecord) → i < length ts
+      → getD (statesRead l first ts) i d ≡ stateRead l (first + total sparesOf (take i ts)) (getD ts i e)
   unfolding statesRead total
-  state-at i first page [] d e h = absurd (let y : ⊥ = omega arith in y)
-  state-at zero first page (t ∷ ts) d e h = ap₂ (λ (a b : ℕ). stateRead l a b t) (sym (add-zero first)) (sym (add-zero page))
-  state-at (suc i) first page (t ∷ ts) d e h =
-      state-at i (first + t .spares) (page + recordGrids t) ts d e (omega arith)
-      ∙ ap₂ (λ (a b : ℕ). stateRead l a b (getD ts i e))
-      (add-assoc first (t .spares) (total sparesOf (take i ts))) (add-assoc page (recordGrids t) (total recordGrids (take i ts)))
+  state-at i first [] d e h = absurd (let y : ⊥ = omega arith in y)
+  state-at zero first (t ∷ ts) d e h = ap (λ (a : ℕ). stateRead l a t) (sym (add-zero first))
+  state-at (suc i) first (t ∷ ts) d e h =
+      state-at i (first + t .spares) ts d e (omega arith)
+      ∙ ap (λ (a : ℕ). stateRead l a (getD ts i e)) (add-assoc first (t .spares) (total sparesOf (take i ts)))
 
   -- ---- the model
 
-  -- where the spares and the pages of texture i begin
+  -- where the spares, the grids and the stamps of texture i begin
   unfoldable pub firstSpare : ℕ → ℕ
   firstSpare i = total sparesOf (take i (trackedRecords l))
 
   unfoldable pub firstGrid : ℕ → ℕ
   firstGrid i = total recordGrids (take i (trackedRecords l))
 
+  unfoldable pub firstStamp : ℕ → ℕ
+  firstStamp i = total recordStamps (take i (trackedRecords l))
+
   -- texture i of the model
   unfoldable pub stateOf : ℕ → VersionState ℕ
-  stateOf i = stateRead l (firstSpare i) (firstGrid i) (getD (trackedRecords l) i (readTexture []))
+  stateOf i = stateRead l (firstSpare i) (getD (trackedRecords l) i (readTexture []))
 
   pub tracked-records : length (trackedRecords l) ≡ l .pool .tracked
   tracked-records = length-table textureStride readTexture (l .pool .tracked) (l .textures)
 
   pub tracked-model : length (modelOf l .textures) ≡ l .pool .tracked
   unfolding modelOf
-  tracked-model = length-states 0 0 (trackedRecords l) ∙ tracked-records
+  tracked-model = length-states 0 (trackedRecords l) ∙ tracked-records
 
-  pub records-model : bytesFit l ≡ true → map textureRecord (modelOf l .textures) ≡ trackedRecords l
+  -- both halves of the starts
+  pub grid-starts : startsHold l ≡ true → startsFit recordGrids firstGridIn 0 (trackedRecords l) ≡ true
+  unfolding startsHold
+  grid-starts e = and-both (startsFit recordGrids firstGridIn 0 (trackedRecords l)) (startsFit recordStamps firstStampIn 0 (trackedRecords l)) e .0
+
+  pub stamp-starts : startsHold l ≡ true → startsFit recordStamps firstStampIn 0 (trackedRecords l) ≡ true
+  unfolding startsHold
+  stamp-starts e = and-both (startsFit recordGrids firstGridIn 0 (trackedRecords l)) (startsFit recordStamps firstStampIn 0 (trackedRecords l)) e .1
+
+  pub records-model : bytesFit l ≡ true → startsHold l ≡ true → textureRecords 0 0 (modelOf l .textures) ≡ trackedRecords l
   unfolding modelOf bytesFit
-  records-model e = records-states 0 0 (trackedRecords l) e
+  records-model e f = records-states 0 0 0 (trackedRecords l) e (grid-starts f) (stamp-starts f)
 
   pub spares-model : everySpare (modelOf l .textures) ≡ listed (spareRead l) 0 (total sparesOf (trackedRecords l))
   unfolding modelOf
-  spares-model = spares-states 0 0 (trackedRecords l)
+  spares-model = spares-states 0 (trackedRecords l)
 
   pub kept-model : total spareCount (modelOf l .textures) ≡ total sparesOf (trackedRecords l)
   unfolding modelOf
-  kept-model = kept-states 0 0 (trackedRecords l)
+  kept-model = kept-states 0 (trackedRecords l)
 
-  pub pages-model : total gridsUsed (modelOf l .textures) ≡ total recordGrids (trackedRecords l)
+  pub grids-model : total gridsUsed (modelOf l .textures) ≡ total recordGrids (trackedRecords l)
   unfolding modelOf
-  pages-model = pages-states 0 0 (trackedRecords l)
+  grids-model = used-states gridsUsed recordGrids grids-state 0 (trackedRecords l)
 
-  pub newest-model : flatMap newestOf (modelOf l .textures) ≡ listed (newestAt l) 0 (total recordGrids (trackedRecords l))
+  pub stamps-used-model : total stampsUsed (modelOf l .textures) ≡ total recordStamps (trackedRecords l)
   unfolding modelOf
-  newest-model = newest-states 0 0 (trackedRecords l)
+  stamps-used-model = used-states stampsUsed recordStamps stamps-used-state 0 (trackedRecords l)
 
   pub model-at : (i : ℕ) (d : VersionState ℕ) → i < l .pool .tracked → getD (modelOf l .textures) i d ≡ stateOf i
-  unfolding modelOf stateOf firstSpare firstGrid
+  unfolding modelOf stateOf firstSpare
   model-at i d h =
-      state-at i 0 0 (trackedRecords l) d (readTexture []) (omega (arith, tracked-records))
-      ∙ ap₂ (λ (a b : ℕ). stateRead l a b (getD (trackedRecords l) i (readTexture [])))
-      (zero-add (total sparesOf (take i (trackedRecords l)))) (zero-add (total recordGrids (take i (trackedRecords l))))
+      state-at i 0 (trackedRecords l) d (readTexture []) (omega (arith, tracked-records))
+      ∙ ap (λ (a : ℕ). stateRead l a (getD (trackedRecords l) i (readTexture []))) (zero-add (total sparesOf (take i (trackedRecords l))))
 
   pub id-model : (i : ℕ) (d : VersionState ℕ) → i < l .pool .tracked
       → getD (modelOf l .textures) i d .id ≡ getD (trackedRecords l) i (readTexture []) .id
   unfolding stateOf stateRead
   id-model i d h = ap stateId (model-at i d h)
+
+  -- the record of texture i holds where its grids and its stamps begin
+  module _ (f : startsHold l ≡ true) (i : ℕ) (h : i < l .pool .tracked) where
+    pub grid-held-at : getD (trackedRecords l) i (readTexture []) .grid ≡ firstGrid i
+    unfolding firstGrid startOf
+    grid-held-at =
+        start-held recordGrids firstGridIn (trackedRecords l) 0 i (readTexture []) (grid-starts f) (omega (arith, tracked-records)) ∙ zero-add _
+
+    pub stamp-held-at : getD (trackedRecords l) i (readTexture []) .stamp ≡ firstStamp i
+    unfolding firstStamp startOf
+    stamp-held-at =
+        start-held recordStamps firstStampIn (trackedRecords l) 0 i (readTexture []) (stamp-starts f) (omega (arith, tracked-records)) ∙ zero-add _

@@ -24,7 +24,7 @@ use Rattle.pool_memory.specs.Reading.{trackedRecords, spareRead, retirin
 use Rattle.pool_memory.specs.Writing.{textureRecord, spareRecord, everySpare, texturesAfter, sparesAfter, newestAfter, stampsAfter, poolAfter, markOf, pacingAfter, lentAfter}
 use Rattle.pool_memory.specs.IsPool.{bytesFit}
 use Rattle.pool_memory.proofs.Runs.{sparesOf, stateOf, tracked-model, records-model, spares-model, kept-model, pages-model, newest-model}
-use Rattle.pool_memory.proofs.Kept.{pagedOf, pages-all, pages-paged, newest-paged}
+use Rattle.pool_memory.proofs.Kept.{keptHistory, pages-all, pages-paged, newest-paged}
 use Rattle.pool_memory.proofs.Rings.{head-stays, hand-model, retiring-same, first-stays, doomed-same}
 use Rattle.grid_stamps.specs.StampConstants.{pageStamps}
 use Rattle.pool_records.specs.RecordConstants.{doomedStride, retiringStride, spareStride, textureStride}
@@ -61,7 +61,7 @@ module _ (l : Lent) (p : PoolModel ℕ) where
       ∙ over-table spare-codec (total sparesOf (trackedRecords l)) (l .spares) fits
 
   -- textures that keep their ids, shapes and histories keep their pages
-  pub newest-same : total recordGrids (trackedRecords l) ≤ length (l .newest) → map pagedOf (p .textures) ≡ map pagedOf (modelOf l .textures)
+  pub newest-same : total recordGrids (trackedRecords l) ≤ length (l .newest) → map keptHistory (p .textures) ≡ map keptHistory (modelOf l .textures)
       → newestAfter p l ≡ l .newest
   unfolding newestAfter
   newest-same fits e =
@@ -70,7 +70,7 @@ module _ (l : Lent) (p : PoolModel ℕ) where
       ∙ listed-run 0 (l .newest) 0 (total recordGrids (trackedRecords l)) (omega arith))
       ∙ over-front (total recordGrids (trackedRecords l)) (l .newest)
 
-  pub stamps-same : ascending idOf (trackedRecords l) ≡ true → map pagedOf (p .textures) ≡ map pagedOf (modelOf l .textures)
+  pub stamps-same : ascending idOf (trackedRecords l) ≡ true → map keptHistory (p .textures) ≡ map keptHistory (modelOf l .textures)
       → stampsAfter p l ≡ l .stamps
   unfolding stampsAfter
   stamps-same up e =

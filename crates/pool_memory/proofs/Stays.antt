@@ -21,7 +21,7 @@ use Rattle.pool_memory.specs.IsPool.{stateId}
 use Rattle.pool_memory.proofs.FitsTests.{ascending-passes}
 use Rattle.pool_memory.proofs.Fits.{Fits}
 use Rattle.pool_memory.proofs.Runs.{records-model}
-use Rattle.pool_memory.proofs.Kept.{pagedOf}
+use Rattle.pool_memory.proofs.Kept.{keptHistory}
 use Rattle.pool_memory.proofs.Rings.{retiring-same, doomed-same}
 use Rattle.pool_memory.proofs.Same.{book-same, textures-same, spares-same, newest-same, stamps-same, after-same}
 use Rattle.grid_shapes.specs.ShapeConstants.{mostShapeBytes}
@@ -89,10 +89,10 @@ module _ (l : Lent) (f : Fits l) where
     spares-stay e = sym (spares-same l p spares-fit e)
 
     -- textures that keep their ids, shapes and histories
-    pub newest-stay : map pagedOf (p .textures) ≡ map pagedOf (modelOf l .textures) → l .newest ≡ newestAfter p l
+    pub newest-stay : map keptHistory (p .textures) ≡ map keptHistory (modelOf l .textures) → l .newest ≡ newestAfter p l
     newest-stay e = sym (newest-same l p pages-fit e)
 
-    pub stamps-stay : map pagedOf (p .textures) ≡ map pagedOf (modelOf l .textures) → l .stamps ≡ stampsAfter p l
+    pub stamps-stay : map keptHistory (p .textures) ≡ map keptHistory (modelOf l .textures) → l .stamps ≡ stampsAfter p l
     stamps-stay e = sym (stamps-same l p ids-ascend e)
 
     pub retiring-stay : p .hand ≡ modelOf l .hand → p .retiring ≡ modelOf l .retiring → l .retiring ≡ retiringAfter p l

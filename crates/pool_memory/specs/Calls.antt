@@ -42,7 +42,8 @@ unfoldable pub openedPool : ℕ → Counts
 openedPool working = record {
   tracked = 0;
   kept = 0;
-  pages = 0;
+  grids = 0;
+  stamps = 0;
   head = 0;
   popped = 0;
   queued = 0;
@@ -59,7 +60,7 @@ openedPool working = record {
 unfoldable pub openedBook : PacingBook
 openedBook = record { arrivals = replicate destroySpreadDrains 0; slot = 0; pressed = 0; excess = 0 }
 
--- 1 to 4,096 texture places, 1 to 4,096 version places, 0 to 4,096 pages; the slices keep what they hold
+-- 1 to 4,096 texture places, 1 to 4,096 version places, 0 to 4,096 pages of stamps; the slices keep what they hold
 unfoldable pub openNumber : Lent → ℕ
 openNumber l = cond (sizesFit l) 0 1
 

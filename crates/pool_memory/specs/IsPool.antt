@@ -1,5 +1,5 @@
 -- Rule: Whether lent memory forms a pool (01, "Outcomes"): what the packing needs, then 01's conditions in 01's order.
-use Prim.Native.Nat.{ℕ, _+_, _*_}
+use Prim.Native.Nat.{ℕ, _+_, _*_, min}
 use mathlib.Core.Bool.{Bool, true, _&&_}
 use mathlib.Core.Option.{Option, none, some}
 use mathlib.Core.List.{[], _∷_}
@@ -9,6 +9,7 @@ use Rattle.base_blocks.specs.Lists.{all, total, ascending, tests}
 use Rattle.grid_shapes.specs.Shapes.{isShape, bytesOf}
 use Rattle.grid_stamps.specs.Grids.{StampGrid}
 use Rattle.base_blocks.specs.Blocks.{largest}
+use Rattle.base_unequal.specs.Unequal.{startsFit}
 use Rattle.pool_rules.specs.declared.held.Held.{Held}
 use Rattle.pool_rules.specs.declared.held.Held.the-variants.{Known, Unknown}
 use Rattle.pool_rules.specs.Model.{WriteHistory, Spare, Retiring, Doomed, VersionState, PoolModel, limit, spareBytes, doomedBytes}
@@ -19,8 +20,8 @@ use Rattle.pool_memory.specs.Reading.{trackedRecords, modelOf}
 use Rattle.grid_shapes.specs.ShapeConstants.{mostShapeBytes}
 use Rattle.grid_stamps.specs.StampConstants.{pageStamps}
 use Rattle.pool_records.specs.RecordConstants.{doomedStride, retiringStride, spareStride, textureStride}
-use Rattle.pool_rules.specs.RuleConstants.{destroySpreadDrains, mostPlaces}
-use Rattle.pool_records.specs.Texture.{recordGrids}
+use Rattle.pool_rules.specs.RuleConstants.{destroySpreadDrains, mostGrids, mostPlaces}
+use Rattle.pool_records.specs.Texture.{recordGrids, recordStamps}
 
 -- the slices' lengths are those of whole places, as many as may be lent, and fit together
 unfoldable pub sizesFit : Lent → Bool
@@ -30,9 +31,10 @@ sizesFit l = tests (
     ∷ eqb (length (l .retiring)) (retiringStride * versionPlaces l)
     ∷ eqb (length (l .doomed)) (doomedStride * versionPlaces l)
     ∷ eqb (length (l .spares)) (spareStride * versionPlaces l)
-    ∷ eqb (length (l .stamps)) (pageStamps * length (l .newest)) ∷ [])
+    ∷ eqb (length (l .stamps)) (pageStamps * modelOf l .places .pages)
+    ∷ eqb (length (l .newest)) (min (mostGrids * modelOf l .places .textures) (length (l .stamps))) ∷ [])
 
--- the counts fit their places: no more textures, versions and pages than places, one version at most in the hand, and both rings begin inside theirs
+-- the counts fit their places: no more textures, versions, grids and stamps than places, one version at most in the hand, and both rings begin inside theirs
 unfoldable pub countsFit : Lent → Bool
 countsFit l = tests (
     leb (l .pool .tracked) (modelOf l .places .textures)
@@ -40,13 +42,21 @@ countsFit l = tests (
     ∷ ltb (l .pool .first) (versionPlaces l)
     ∷ leb (l .pool .popped) 1
     ∷ leb (l .pool .queued + l .pool .popped + l .pool .kept + l .pool .doomed) (versionPlaces l)
-    ∷ leb (l .pool .grids) (length (l .newest)) ∷ [])
+    ∷ leb (l .pool .grids) (length (l .newest))
+    ∷ leb (l .pool .stamps) (length (l .stamps)) ∷ [])
 
--- the records claim just the spares and pages that are counted
+-- the records claim just the spares, grids and stamps that are counted
 unfoldable pub runsFit : Lent → Bool
 runsFit l = tests (
     eqb (total (λ (t : TextureRecord). t .spares) (trackedRecords l)) (l .pool .kept)
-    ∷ eqb (total recordGrids (trackedRecords l)) (l .pool .grids) ∷ [])
+    ∷ eqb (total recordGrids (trackedRecords l)) (l .pool .grids)
+    ∷ eqb (total recordStamps (trackedRecords l)) (l .pool .stamps) ∷ [])
+
+-- every record holds where its grids and its stamps begin: where those of the textures before it end, so grids neither overlap nor leave a gap
+unfoldable pub startsHold : Lent → Bool
+startsHold l =
+    startsFit recordGrids (λ (t : TextureRecord). t .grid) 0 (trackedRecords l)
+    && startsFit recordStamps (λ (t : TextureRecord). t .stamp) 0 (trackedRecords l)
 
 -- every record's bytes are those of one version of its shape
 unfoldable pub bytesHold : TextureRecord → Bool
@@ -122,4 +132,4 @@ isFormed p = tests (
     ∷ leb (p .since) (length (p .doomed)) ∷ [])
 
 unfoldable pub isPool : Lent → Bool
-isPool l = tests (sizesFit l ∷ countsFit l ∷ runsFit l ∷ bytesFit l ∷ markFits l ∷ isFormed (modelOf l) ∷ [])
+isPool l = tests (sizesFit l ∷ countsFit l ∷ runsFit l ∷ startsHold l ∷ bytesFit l ∷ markFits l ∷ isFormed (modelOf l) ∷ [])

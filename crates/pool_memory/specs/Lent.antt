@@ -1,13 +1,14 @@
 -- Rule: What a caller lends a call: the counts, the pacing book and six slices.
 --
---   textures   a record of 20 numbers for each tracked texture, packed in ascending id
+--   textures   a record of 22 numbers for each tracked texture, packed in ascending id
 --   retiring   a ring of records of 7: the popped version if there is one, then the queue, the oldest first
 --   doomed     a ring of records of 2: the destroy queue, the oldest first
 --   spares     records of 3, packed texture by texture in ascending id, the oldest first
---   newest     one number for each page in use: the newest stamp of its grid
---   stamps     1,024 numbers a page, packed as `newest` is: texture by texture, slice by slice, level by level
+--   newest     one number for each grid in use, the newest of its stamps: texture by texture, slice by slice, level by level
+--   stamps     each grid's stamps, row by row, packed as `newest` is
 --
--- What stands past the counts, outside the rings and past a grid's stamps is free: it is never read.
+-- Stamps are lent by pages of 1,024; `newest` is as long as can be used: 90 for each texture place, or one for each stamp, whichever is less.
+-- What stands past the counts and outside the rings is free: it is never read.
 use Prim.Native.Nat.{ℕ, _/_}
 use mathlib.Core.List.{List}
 use lib.ListN.{length}

@@ -1,17 +1,16 @@
 -- Rule: What a call leaves in the lent memory: the pool after it, written over what stood there. Numbers that are free stay as they were.
-use Prim.Native.Nat.{ℕ, suc, _+_, _-_}
-use mathlib.Core.Bool.{Bool, true, false, cond, _&&_}
+use Prim.Native.Nat.{ℕ, _+_, _-_}
+use mathlib.Core.Bool.{Bool, true, false}
 use mathlib.Core.Option.{Option, none, some}
 use mathlib.Core.List.{List, [], _∷_, _++_, map, flatMap}
-use lib.Dec.{eqb}
-use lib.ListN.{length, replicate}
+use lib.ListN.{length}
 use Rattle.base_blocks.specs.Lists.{over, total}
 use Rattle.base_tables.specs.Records.{flat}
 use Rattle.base_tables.specs.Rings.{placeOf, laid}
-use Rattle.grid_shapes.specs.declared.shape.VersionShape.{VersionShape}
-use Rattle.grid_shapes.specs.Shapes.{sameShape, bytesOf}
+use Rattle.grid_shapes.specs.Shapes.{bytesOf}
 use Rattle.grid_stamps.specs.Grids.{StampGrid}
-use Rattle.pool_rules.specs.Model.{WriteHistory, Spare, Retiring, Doomed, VersionState, PoolModel, hasHistory, gridsUsed, handCount}
+use Rattle.pool_rules.specs.Model.{WriteHistory, Spare, Retiring, Doomed, VersionState, PoolModel, gridsUsed, handCount}
+use Rattle.pool_rules.specs.HistorySizes.{stampsUsed}
 use Rattle.pool_records.specs.declared.recorded.Recorded.{Recorded}
 use Rattle.pool_records.specs.declared.recorded.Recorded.the-variants.{Writes, NoHistory}
 use Rattle.pool_records.specs.declared.texture.TextureRecord.{TextureRecord}
@@ -25,8 +24,6 @@ use Rattle.pool_records.specs.Doomed.{writeDoomed}
 use Rattle.pool_memory.specs.declared.pool.Pool.{Pool as Counts}
 use Rattle.pool_memory.specs.declared.book.PacingBook.{PacingBook}
 use Rattle.pool_memory.specs.Lent.{Lent, lent, versionPlaces}
-use Rattle.pool_memory.specs.Reading.{pageAt, modelOf}
-use Rattle.grid_stamps.specs.StampConstants.{pageStamps}
 use Rattle.pool_records.specs.RecordConstants.{doomedStride, retiringStride}
 
 -- ---- records
@@ -35,8 +32,9 @@ abbrev pub recordedHistory : Option WriteHistory → Recorded
 recordedHistory none = NoHistory
 recordedHistory (some h) = Writes (h .writes)
 
-abbrev pub textureRecord : VersionState ℕ → TextureRecord
-textureRecord t = record {
+-- the record of a texture whose grids begin at `grid` and whose stamps at `stamp`
+abbrev pub textureRecord : ℕ → ℕ → VersionState ℕ → TextureRecord
+textureRecord grid stamp t = record {
   id = t .id;
   shape = t .shape;
   epoch = t .epoch;
@@ -46,7 +44,14 @@ textureRecord t = record {
   due = t .due;
   spares = length (t .spares);
   bytes = bytesOf (t .shape);
+  grid = grid;
+  stamp = stamp;
 }
+
+-- the records in ascending id: each texture's grids and stamps begin where those of the textures before it end
+unfoldable pub textureRecords : ℕ → ℕ → List (VersionState ℕ) → List TextureRecord
+textureRecords grid stamp [] = []
+textureRecords grid stamp (t ∷ ts) = textureRecord grid stamp t ∷ textureRecords (grid + gridsUsed t) (stamp + stampsUsed t) ts
 
 abbrev pub spareRecord : Spare ℕ → SpareRecord
 spareRecord s = record { view = s .view; held = s .held; parked = s .parked }
@@ -60,7 +65,7 @@ doomedRecord d = record { view = d .view; bytes = d .bytes }
 -- ---- packed slices
 
 unfoldable pub texturesAfter : PoolModel ℕ → Lent → List ℕ
-texturesAfter p l = over (flat writeTexture (map textureRecord (p .textures))) (l .textures)
+texturesAfter p l = over (flat writeTexture (textureRecords 0 0 (p .textures))) (l .textures)
 
 -- every texture's spares, in ascending id
 abbrev pub everySpare : List (VersionState ℕ) → List (Spare ℕ)
@@ -79,29 +84,12 @@ newestOf t = map (λ (g : StampGrid). g .newest) (gridsOf (t .history))
 unfoldable pub newestAfter : PoolModel ℕ → Lent → List ℕ
 newestAfter p l = over (flatMap newestOf (p .textures)) (l .newest)
 
--- ---- pages: a texture of the same id and shape that had a history has it still, and its pages keep what stands past the stamps; a fresh page is
--- all 0
-
--- the first page of the texture with that id, shape and a history
-unfoldable pub firstPage : ℕ → VersionShape → ℕ → List (VersionState ℕ) → Option ℕ
-firstPage id shape page [] = none
-firstPage id shape page (t ∷ ts) =
-    cond (eqb (t .id) id && sameShape (t .shape) shape && hasHistory (t .history)) (some page) (firstPage id shape (page + gridsUsed t) ts)
-
-unfoldable pub pageBefore : Lent → Option ℕ → ℕ → List ℕ
-pageBefore l none k = replicate pageStamps 0
-pageBefore l (some page) k = pageAt (l .stamps) (page + k)
-
--- the grids' stamps, each laid over its page as it stood
-unfoldable pub pagesFrom : (ℕ → List ℕ) → ℕ → List StampGrid → List ℕ
-pagesFrom before k [] = []
-pagesFrom before k (g ∷ gs) = over (g .stamps) (before k) ++ pagesFrom before (suc k) gs
-
-unfoldable pub pagesAfter : Lent → VersionState ℕ → List ℕ
-pagesAfter l t = pagesFrom (pageBefore l (firstPage (t .id) (t .shape) 0 (modelOf l .textures))) 0 (gridsOf (t .history))
+-- a texture's stamps, grid by grid
+abbrev pub stampsOf : VersionState ℕ → List ℕ
+stampsOf t = flatMap (λ (g : StampGrid). g .stamps) (gridsOf (t .history))
 
 unfoldable pub stampsAfter : PoolModel ℕ → Lent → List ℕ
-stampsAfter p l = over (flatMap (pagesAfter l) (p .textures)) (l .stamps)
+stampsAfter p l = over (flatMap stampsOf (p .textures)) (l .stamps)
 
 -- ---- rings: a head moves on by as many as left at the front, by parking and by a take of doomed versions
 
@@ -127,7 +115,8 @@ unfoldable pub poolAfter : PoolModel ℕ → Lent → Counts
 poolAfter p l = record {
   tracked = length (p .textures);
   kept = total (λ (t : VersionState ℕ). length (t .spares)) (p .textures);
-  pages = total gridsUsed (p .textures);
+  grids = total gridsUsed (p .textures);
+  stamps = total stampsUsed (p .textures);
   head = headAfter p l;
   popped = handCount (p .hand);
   queued = length (p .retiring);

@@ -1,14 +1,15 @@
 // The pool's counts.
 ghost use mathlib.Core.Path.{_≡_};
 
-// `tracked` textures, `kept` spares and `pages` in use stand packed at the front of their slices. The retiring ring begins at
+// `tracked` textures, `kept` spares, `grids` and their `stamps` in use stand packed at the front of their slices. The retiring ring begins at
 // place `head`: its first `popped` versions, one or none, are 01's hand, and `queued` versions follow. The destroy ring begins at
 // place `first` and has `doomed` versions, of which `since` arrived after the last take. `parked` and `dooming` are the bytes of
 // the spares and of the destroy queue; `cap` and `line` are the budget's. All are numbers: a bool leaves padding that slows copies.
 pub struct Pool {
     pub tracked: usize,
     pub kept: usize,
-    pub pages: usize,
+    pub grids: usize,
+    pub stamps: usize,
     pub head: usize,
     pub popped: usize,
     pub queued: usize,
@@ -29,7 +30,8 @@ pub fn same_counts(pool: Pool) -> Pool
     Pool {
         tracked: pool.tracked,
         kept: pool.kept,
-        pages: pool.grids,
+        grids: pool.grids,
+        stamps: pool.stamps,
         head: pool.head,
         popped: pool.popped,
         queued: pool.queued,

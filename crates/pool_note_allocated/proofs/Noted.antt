@@ -26,7 +26,7 @@ use Rattle.pool_memory.specs.IsPool.{isPool}
 use Rattle.pool_memory.specs.Calls.{answer, toldNumber, noteAllocatedOn}
 use Rattle.pool_memory.proofs.Fits.{Fits}
 use Rattle.pool_memory.proofs.Runs.{spareCount, tracked-model, kept-model, pages-model}
-use Rattle.pool_memory.proofs.Kept.{pagedOf}
+use Rattle.pool_memory.proofs.Kept.{keptHistory}
 use Rattle.pool_memory.proofs.Rings.{hand-model, head-stays, first-stays}
 use Rattle.pool_memory.proofs.Same.{queued-model, doomed-model}
 use Rattle.pool_memory.proofs.Stays.{put-together, nothing-changed, newest-stay, stamps-stay, retiring-stay}
@@ -38,9 +38,9 @@ use Rattle.grid_shapes.specs.ShapeConstants.{mostShapeBytes}
 use Rattle.pool_rules.specs.RuleConstants.{mostPlaces}
 
 -- textures that give up spares keep what their pages depend on
-paged-lessened : (k : VersionState ℕ → ℕ) (ts : List (VersionState ℕ)) → map pagedOf (map (lessened k) ts) ≡ map pagedOf ts
+paged-lessened : (k : VersionState ℕ → ℕ) (ts : List (VersionState ℕ)) → map keptHistory (map (lessened k) ts) ≡ map keptHistory ts
 paged-lessened k [] = refl
-paged-lessened k (t ∷ ts) = ap (λ xs. pagedOf t ∷ xs) (paged-lessened k ts)
+paged-lessened k (t ∷ ts) = ap (λ xs. keptHistory t ∷ xs) (paged-lessened k ts)
 
 spare-bytes-most : {ts : List (VersionState ℕ)} → All StateFormed ts → total spareBytes ts ≤ mostShapeBytes * total spareCount ts
 unfolding total

@@ -45,7 +45,7 @@ use Rattle.pool_memory.proofs.Asked.{asked-refused, asked-accepted}
 use Rattle.pool_memory.proofs.Runs.{sparesOf, firstSpare, stateOf, tracked-model, kept-model, pages-model}
 use Rattle.pool_memory.proofs.Rings.{head-parked, first-stays, retiring-parked, doomed-pushed}
 use Rattle.pool_memory.proofs.Same.{queued-model, doomed-model}
-use Rattle.pool_memory.proofs.Kept.{pagedOf}
+use Rattle.pool_memory.proofs.Kept.{keptHistory}
 use Rattle.pool_memory.proofs.Changes.{sparesBefore, sparesAt, every-appended, textures-set, spares-inserted}
 use Rattle.pool_memory.proofs.Counts.{kept-inserted}
 use Rattle.pool_memory.proofs.Stays.{put-together, textures-fit, ring-fits, doomed-fit, book-stays, textures-stay, spares-stay, newest-stay, stamps-stay, doomed-stay, doomed-bound}
@@ -335,8 +335,8 @@ module _ (l : Lent) (e : isPool l ≡ true) (failed current : ℕ) where
                 ap everySpare grown-is ∙ every-appended l i there (withOne spare (stateOf l i)) spare refl
                 ∙ ap (λ (k : ℕ). inserted k (spare ∷ []) (sparesBefore l)) end-is
 
-            paged : map pagedOf grown ≡ map pagedOf (modelOf l .textures)
-            paged = map-change pagedOf (x .id) (withOne spare) (λ t. refl) (modelOf l .textures)
+            paged : map keptHistory grown ≡ map keptHistory (modelOf l .textures)
+            paged = map-change keptHistory (x .id) (withOne spare) (λ t. refl) (modelOf l .textures)
 
             counts-kept : (head : ℕ) → head ≡ placeOf (places l) (l .pool .head) 1 → handKept head bytes (l .pool) ≡ poolAfter stays l
             unfolding poolAfter modelOf versionPlaces

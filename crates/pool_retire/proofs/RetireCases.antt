@@ -32,7 +32,7 @@ use Rattle.pool_memory.proofs.Parts.{flat-mapped}
 use Rattle.pool_memory.proofs.Runs.{spareCount, stateOf, tracked-model, kept-model, pages-model}
 use Rattle.pool_memory.proofs.Rings.{hand-model, head-stays, first-stays, retiring-pushed}
 use Rattle.pool_memory.proofs.Same.{queued-model, doomed-model}
-use Rattle.pool_memory.proofs.Kept.{pagedOf}
+use Rattle.pool_memory.proofs.Kept.{keptHistory}
 use Rattle.pool_memory.proofs.Changes.{textures-set}
 use Rattle.pool_memory.proofs.Stays.{put-together, book-stays, textures-stay, spares-stay, newest-stay, stamps-stay, doomed-stay}
 use Rattle.pool_memory.proofs.Tracked.{textureAt, record-at}
@@ -114,8 +114,8 @@ module _ (l : Lent) (e : isPool l ≡ true) (id view seq : ℕ) where
 
     -- ---- what is left, part by part
 
-    paged : map pagedOf born ≡ map pagedOf (modelOf l .textures)
-    paged = map-change pagedOf id (withBirth seq) (λ t. refl) (modelOf l .textures)
+    paged : map keptHistory born ≡ map keptHistory (modelOf l .textures)
+    paged = map-change keptHistory id (withBirth seq) (λ t. refl) (modelOf l .textures)
 
     spares-kept : everySpare born ≡ everySpare (modelOf l .textures)
     spares-kept =

@@ -30,7 +30,7 @@ use Rattle.pool_memory.specs.IsPool.{isPool}
 use Rattle.pool_memory.specs.Calls.{refusedWith, answer, viewNumbers, asked, drainVersionsOn}
 use Rattle.pool_memory.proofs.Fits.{Fits}
 use Rattle.pool_memory.proofs.Runs.{spareCount, tracked-model, records-model, spares-model, pages-model}
-use Rattle.pool_memory.proofs.Kept.{pagedOf, used-paged}
+use Rattle.pool_memory.proofs.Kept.{keptHistory, used-paged}
 use Rattle.pool_memory.proofs.Rings.{head-stays, hand-model, retiring-drained, first-taken, doomed-taken}
 use Rattle.pool_memory.proofs.Same.{mark-same}
 use Rattle.pool_memory.proofs.Stays.{put-together, ring-fits, doomed-fit, newest-stay, stamps-stay}
@@ -51,9 +51,9 @@ emptied-records [] = refl
 emptied-records (t ∷ ts) = ap (λ (rs : List TextureRecord). spareless (textureRecord t) ∷ rs) (emptied-records ts)
 
 -- ids, shapes and histories stay
-emptied-paged : (ts : List (VersionState ℕ)) → map pagedOf (emptied ts) ≡ map pagedOf ts
+emptied-paged : (ts : List (VersionState ℕ)) → map keptHistory (emptied ts) ≡ map keptHistory ts
 emptied-paged [] = refl
-emptied-paged (t ∷ ts) = ap (λ ps. pagedOf t ∷ ps) (emptied-paged ts)
+emptied-paged (t ∷ ts) = ap (λ ps. keptHistory t ∷ ps) (emptied-paged ts)
 
 emptied-spares : (ts : List (VersionState ℕ)) → everySpare (emptied ts) ≡ []
 unfolding flatMap

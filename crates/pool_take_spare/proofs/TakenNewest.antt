@@ -32,7 +32,7 @@ use Rattle.pool_memory.specs.Calls.{Told, answer, TakenVersion, takenOf, takeSp
 use Rattle.pool_memory.proofs.Fits.{Fits}
 use Rattle.pool_memory.proofs.FromPool.{pool-fits}
 use Rattle.pool_memory.proofs.Runs.{sparesOf, spareCount, firstSpare, stateOf, tracked-model, kept-model, pages-model}
-use Rattle.pool_memory.proofs.Kept.{pagedOf}
+use Rattle.pool_memory.proofs.Kept.{keptHistory}
 use Rattle.pool_memory.proofs.Same.{doomed-model}
 use Rattle.pool_memory.proofs.Stays.{put-together, book-stays, ids-ascend, spares-stay, newest-stay, stamps-stay, retiring-stay, doomed-stay}
 use Rattle.pool_memory.proofs.Places.{changed}
@@ -174,7 +174,7 @@ module _ (l : Lent) (i id : ℕ) (shape : VersionShape) (records : Bool) (seq : 
 
   left-as : (c : Counts) (spares : List ℕ) → c ≡ poolAfter after-take l → spares ≡ sparesAfter after-take l → left-with c spares ≡ lentAfter after-take l
   left-as c spares e1 e2 =
-      let kept = map-unchanged pagedOf id (renamedState seq) (λ (v : VersionState ℕ). refl) (modelOf l .textures) in
+      let kept = map-unchanged keptHistory id (renamedState seq) (λ (v : VersionState ℕ). refl) (modelOf l .textures) in
       put-together after-take l c (l .book) (renamedAt (l .textures) i seq) (l .retiring) (l .doomed) spares (l .newest) (l .stamps)
       e1 (book-stays l f after-take refl)
       (ap (λ (r : TextureRecord). sets (l .textures) (textureStride * i) (writeTexture r)) (sym record-left) ∙ textures-set l after-take f i (renamedState seq u) (h .0) changed-there)

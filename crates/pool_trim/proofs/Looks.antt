@@ -23,7 +23,7 @@ use Rattle.pool_memory.specs.Reading.{spareRead}
 use Rattle.pool_memory.specs.Writing.{textureRecord, doomedRecord}
 use Rattle.pool_memory.proofs.Fits.{Fits}
 use Rattle.pool_memory.proofs.Runs.{stateOf}
-use Rattle.pool_memory.proofs.Kept.{pagedOf}
+use Rattle.pool_memory.proofs.Kept.{keptHistory}
 use Rattle.pool_memory.proofs.Tracked.{bytes-at, record-at, shape-at, count-at, shape-passes}
 use Rattle.pool_take_doomed.specs.Given.{givenRecords}
 use Rattle.pool_take_doomed.proofs.Pushed.{given-spares}
@@ -52,8 +52,8 @@ module _ (now : ℕ) (t : VersionState ℕ) where
   abbrev pub looked : VersionState ℕ
   looked = lookedAt now (thinned now t)
 
-  pub looked-paged : pagedOf looked ≡ pagedOf t
-  looked-paged = either (λ (u : VersionState ℕ). pagedOf u ≡ pagedOf t) (aged now (t .due)) _ _ (λ q. refl) (λ q. refl)
+  pub looked-paged : keptHistory looked ≡ keptHistory t
+  looked-paged = either (λ (u : VersionState ℕ). keptHistory u ≡ keptHistory t) (aged now (t .due)) _ _ (λ q. refl) (λ q. refl)
 
   pub looked-spares : looked .spares ≡ drop count (t .spares)
   looked-spares = either (λ (u : VersionState ℕ). u .spares ≡ drop count (t .spares)) (aged now (t .due)) _ _ (λ q. refl) (λ q. refl)
