@@ -1,4 +1,4 @@
--- The textures' records and the spares after one texture is changed, put in or taken out. Assumes nothing.
+-- The spares after one texture is changed, put in or taken out. Assumes nothing.
 use mathlib.Core.Path.{_≡_, refl, sym, ap, ap₂, _∙_}
 use mathlib.Core.Option.{some}
 use mathlib.Core.List.{List, [], _∷_, _++_, map, flatMap}
@@ -12,55 +12,20 @@ use Rattle.base_blocks.specs.Blocks.{moved}
 use Rattle.base_blocks.proofs.Lists.{removed-none}
 use Rattle.base_blocks.proofs.Listed.{length-listed, drop-listed, take-listed}
 use Rattle.base_tables.specs.Records.{table, flat}
-use Rattle.base_tables.proofs.Records.{removed-records, inserted-records, replaced-record}
+use Rattle.base_tables.proofs.Records.{removed-records, inserted-records}
 use Rattle.pool_rules.specs.Model.{Spare, VersionState, PoolModel}
 use Rattle.pool_rules.specs.TakeSpare.{newest, others}
-use Rattle.pool_records.specs.declared.texture.TextureRecord.{TextureRecord}
 use Rattle.pool_records.specs.declared.spare.SpareRecord.{SpareRecord}
-use Rattle.pool_records.specs.Texture.{readTexture, writeTexture}
+use Rattle.pool_records.specs.Texture.{readTexture}
 use Rattle.pool_records.specs.Spare.{readSpare, writeSpare}
-use Rattle.pool_records.proofs.Codecs.{texture-codec, spare-codec}
+use Rattle.pool_records.proofs.Codecs.{spare-codec}
 use Rattle.pool_memory.specs.Lent.{Lent}
 use Rattle.pool_memory.specs.Reading.{trackedRecords, spareRead, stateRead, modelOf}
-use Rattle.pool_memory.specs.Writing.{textureRecord, spareRecord, everySpare, texturesAfter, sparesAfter}
-use Rattle.pool_memory.proofs.Fits.{Fits}
-use Rattle.pool_memory.proofs.Parts.{total-within, map-set, map-removed, map-inserted, upTo, flat-set, flat-removed, flat-inserted, run-longer, run-dropped, run-taken}
-use Rattle.pool_memory.proofs.Runs.{sparesOf, spareCount, firstSpare, stateOf, tracked-records, tracked-model, records-model, model-at, spares-model, kept-states, take-states}
+use Rattle.pool_memory.specs.Writing.{spareRecord, everySpare, sparesAfter}
+use Rattle.pool_memory.proofs.Parts.{total-within, map-removed, map-inserted, upTo, flat-set, flat-removed, flat-inserted, run-longer, run-dropped, run-taken}
+use Rattle.pool_memory.proofs.Runs.{sparesOf, spareCount, firstSpare, stateOf, tracked-records, tracked-model, model-at, spares-model, kept-states, take-states}
 use Rattle.pool_memory.proofs.Same.{spare-records}
-use Rattle.pool_records.specs.RecordConstants.{spareStride, textureStride}
-
--- ---- the textures' records
-
-module _ (l : Lent) (p : PoolModel ℕ) (f : Fits l) where
-  fits : textureStride * l .pool .tracked ≤ length (l .textures)
-  fits = omega (arith, f .textures, f .tracked)
-
-  pub textures-set : (i : ℕ) (t : VersionState ℕ) → i < l .pool .tracked → p .textures ≡ set (modelOf l .textures) i t
-      → sets (l .textures) (textureStride * i) (writeTexture (textureRecord t)) ≡ texturesAfter p l
-  unfolding texturesAfter
-  textures-set i t h e =
-      replaced-record texture-codec (l .pool .tracked) (l .textures) fits i (textureRecord t) h
-      ∙ sym (ap (λ (xs : List TextureRecord). over (flat writeTexture xs) (l .textures))
-      (ap (map textureRecord) e ∙ map-set textureRecord (modelOf l .textures) i t
-      ∙ ap (λ (xs : List TextureRecord). set xs i (textureRecord t)) (records-model l (f .bytes))))
-
-  pub textures-inserted : (i : ℕ) (t : VersionState ℕ) → textureStride * l .pool .tracked + textureStride ≤ length (l .textures) → i ≤ l .pool .tracked
-      → p .textures ≡ inserted i (t ∷ []) (modelOf l .textures)
-      → sets (moved (l .textures) (textureStride * i + textureStride) (textureStride * i) (textureStride * (l .pool .tracked - i))) (textureStride * i) (writeTexture (textureRecord t)) ≡ texturesAfter p l
-  unfolding texturesAfter
-  textures-inserted i t room h e =
-      inserted-records texture-codec (l .pool .tracked) (l .textures) fits i (textureRecord t) room h
-      ∙ sym (ap (λ (xs : List TextureRecord). over (flat writeTexture xs) (l .textures))
-      (ap (map textureRecord) e ∙ map-inserted textureRecord i (t ∷ []) (modelOf l .textures)
-      ∙ ap (inserted i (textureRecord t ∷ [])) (records-model l (f .bytes))))
-
-  pub textures-removed : (i k : ℕ) → i + k ≤ l .pool .tracked → p .textures ≡ removed i k (modelOf l .textures)
-      → moved (l .textures) (textureStride * i) (textureStride * i + textureStride * k) (textureStride * (l .pool .tracked - (i + k))) ≡ texturesAfter p l
-  unfolding texturesAfter
-  textures-removed i k h e =
-      removed-records texture-codec (l .pool .tracked) (l .textures) fits i k h
-      ∙ sym (ap (λ (xs : List TextureRecord). over (flat writeTexture xs) (l .textures))
-      (ap (map textureRecord) e ∙ map-removed textureRecord i k (modelOf l .textures) ∙ ap (removed i k) (records-model l (f .bytes))))
+use Rattle.pool_records.specs.RecordConstants.{spareStride}
 
 -- ---- every spare, after one texture is changed
 
@@ -77,7 +42,7 @@ module _ (l : Lent) where
 
   spares-upto : (i : ℕ) → upTo (λ (t : VersionState ℕ). t .spares) i (modelOf l .textures) ≡ firstSpare l i
   unfolding modelOf firstSpare
-  spares-upto i = ap (total spareCount) (take-states l i 0 0 (trackedRecords l)) ∙ kept-states l 0 0 (take i (trackedRecords l))
+  spares-upto i = ap (total spareCount) (take-states l i 0 (trackedRecords l)) ∙ kept-states l 0 (take i (trackedRecords l))
 
   pub count-state : (i : ℕ) → length (stateOf l i .spares) ≡ sparesAt i
   unfolding stateOf stateRead

@@ -1,10 +1,10 @@
 -- What each texture has in a slice, packed one texture behind the other: the newest stamps of its grids, and its stamps. A law of such a packing is
 -- said once, for both. Assumes nothing.
 use mathlib.Core.Path.{_≡_, refl, sym, ap, ap₂, _∙_}
-use mathlib.Core.Bool.{true}
+use mathlib.Core.Bool.{Bool, true, _&&_}
 use mathlib.Core.List.{List, [], _∷_, _++_, flatMap, append-nil}
-use Prim.Native.Nat.{ℕ, suc, _+_, _-_, _≤_, _<_}
-use native.Mathlib.Nat.{zero-add, add-zero}
+use Prim.Native.Nat.{ℕ, zero, suc, _+_, _-_, _≤_, _<_}
+use native.Mathlib.Nat.{zero-add, add-zero, add-assoc}
 use native.Mathlib.Numerals.{add-one}
 use native.Mathlib.Omega.{arith}
 use lib.ListN.{length, take, drop, getD, set, length-append, length-drop}
@@ -26,9 +26,8 @@ use Rattle.pool_memory.specs.Reading.{trackedRecords, stateRead, statesR
 use Rattle.pool_memory.specs.Writing.{newestOf, stampsOf}
 use Rattle.pool_memory.proofs.Fits.{Fits}
 use Rattle.pool_memory.proofs.Parts.{total-next, flat-append}
-use Rattle.pool_memory.proofs.Rewritten.{moved-self}
+use Rattle.pool_memory.proofs.Rewritten.{moved-self, listed-run, over-front}
 use Rattle.pool_memory.proofs.Runs.{sparesOf, newestAt, firstGridIn, firstStampIn, firstSpare, stateOf, tracked-records, tracked-model, grid-starts, stamp-starts, take-states, drop-states, newest-state, stamps-state}
-use Rattle.pool_memory.proofs.Listed.{listed-run}
 
 -- `wr` is what a texture has in the slice, `size` and `start` how much and from where on by its record; `count` is how much all of them have
 pub record Packing (l : Lent) : Type 0 where
@@ -115,11 +114,22 @@ module _ {l : Lent} (k : Packing l) where
       ∙ sym (take-add (k .size t) (total (k .size) ts) (drop n (k .slice)))
 
   starts-front : (n i : ℕ) (ts : List TextureRecord) → startsFit (k .size) (k .start) n ts ≡ true → startsFit (k .size) (k .start) n (take i ts) ≡ true
-  starts-front n i ts e = ?
+  unfolding startsFit
+  starts-front n zero ts e = refl
+  starts-front n (suc i) [] e = refl
+  starts-front n (suc i) (t ∷ ts) e =
+      let q = and-both (eqb (k .start t) n) (startsFit (k .size) (k .start) (n + k .size t) ts) e in
+      ap₂ (λ (a b : Bool). a && b) (q .0) (starts-front (n + k .size t) i ts (q .1))
 
   starts-rest : (n i : ℕ) (ts : List TextureRecord) → startsFit (k .size) (k .start) n ts ≡ true
       → startsFit (k .size) (k .start) (n + total (k .size) (take i ts)) (drop i ts) ≡ true
-  starts-rest n i ts e = ?
+  unfolding startsFit total
+  starts-rest n zero ts e = ap (λ (m : ℕ). startsFit (k .size) (k .start) m ts) (add-zero n) ∙ e
+  starts-rest n (suc i) [] e = refl
+  starts-rest n (suc i) (t ∷ ts) e =
+      let q = and-both (eqb (k .start t) n) (startsFit (k .size) (k .start) (n + k .size t) ts) e in
+      ap (λ (m : ℕ). startsFit (k .size) (k .start) m (drop i ts)) (sym (add-assoc n (k .size t) (total (k .size) (take i ts))))
+      ∙ starts-rest (n + k .size t) i ts (q .1)
 
   pub all-packed : flatMap (k .wr) (modelOf l .textures) ≡ take (k .count) (k .slice)
   unfolding modelOf
@@ -174,7 +184,7 @@ module _ {l : Lent} (k : Packing l) where
 
     -- textures that have what they had
     pub same-packed : flatMap (k .wr) (p .textures) ≡ flatMap (k .wr) (modelOf l .textures) → packed ≡ k .slice
-    same-packed e = ?
+    same-packed e = ap (λ (xs : List ℕ). over xs (k .slice)) (e ∙ all-packed) ∙ over-front (k .count) (k .slice)
 
     -- ---- texture i changed, put in or taken out
 
@@ -224,31 +234,25 @@ module _ {l : Lent} (k : Packing l) where
 
         pub removed-packed : p .textures ≡ removed i 1 (modelOf l .textures)
             → moved (k .slice) (from i) (from i + sizeAt i) (k .count - (from i + sizeAt i)) ≡ packed
-        removed-packed e = out-packed [] (removed-parts e) nothing
-          where
-            nothing : flatMap (k .wr) [] ≡ []
-            unfolding flatMap
-            nothing = refl
+        unfolding flatMap
+        removed-packed e = out-packed [] (removed-parts e) refl
 
   -- ---- a pass over all textures: p has those packed so far, q one more, which has what texture i had
 
   pub step-packed : (p q : PoolModel ℕ) (t : VersionState ℕ) → q .textures ≡ p .textures ++ (t ∷ []) → (i : ℕ) → i < l .pool .tracked
       → k .wr t ≡ k .wr (stateOf l i) → (used : ℕ) → used ≤ from i → length (flatMap (k .wr) (p .textures)) ≡ used
       → (moved (packed p) used (from i) (sizeAt i) ≡ packed q) × (length (flatMap (k .wr) (q .textures)) ≡ used + sizeAt i)
+  unfolding flatMap
   step-packed p q t e i h same used before n =
       let xs = flatMap (k .wr) (p .textures) in
       let run = take (sizeAt i) (drop (from i) (k .slice)) in
       let inside : from i + sizeAt i ≤ length (k .slice) = omega (arith, size-in i h, k .room) in
       let new : flatMap (k .wr) (q .textures) ≡ xs ++ run =
       ap (flatMap (k .wr)) e ∙ flat-append (k .wr) (p .textures) (t ∷ [])
-      ∙ ap (λ (ys : List ℕ). xs ++ ys) (alone ∙ same ∙ one-packed i h) in (
+      ∙ ap (λ (ys : List ℕ). xs ++ ys) (append-nil (k .wr t) ∙ same ∙ one-packed i h) in (
         ap (λ (m : ℕ). moved (over xs (k .slice)) m (from i) (sizeAt i)) (sym n)
             ∙ over-moved xs (k .slice) (from i) (sizeAt i) (omega arith) (omega arith)
             ∙ ap (λ (ys : List ℕ). over ys (k .slice)) (sym new),
         ap length new ∙ length-append xs run
             ∙ ap₂ (λ (a b : ℕ). a + b) n (length-take-le (sizeAt i) (drop (from i) (k .slice)) (omega (arith, length-drop (from i) (k .slice)))),
       )
-    where
-      alone : flatMap (k .wr) (t ∷ []) ≡ k .wr t
-      unfolding flatMap
-      alone = append-nil (k .wr t)

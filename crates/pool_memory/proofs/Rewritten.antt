@@ -1,12 +1,12 @@
 -- Part of a list of numbers written anew: a block replaced, a run set. Assumes nothing.
-use mathlib.Core.Path.{_≡_, sym, ap, ap₂, _∙_}
+use mathlib.Core.Path.{_≡_, refl, sym, ap, ap₂, _∙_}
 use mathlib.Core.List.{List, [], _∷_, _++_, append-assoc}
 use Prim.Native.Nat.{ℕ, zero, suc, _+_, _-_, _≤_, _<_}
 use native.Mathlib.Nat.{add-zero, zero-add, suc-add, add-assoc}
 use native.Mathlib.Omega.{arith}
-use lib.ListN.{length, take, drop, set, replicate, length-replicate, length-append, length-drop, length-set, take-append-drop}
-use lib.Seq.{sets, sets-eq, take-add, take-take, take-append-le, take-append-add, drop-at, drop-drop, drop-append-le, drop-append-add, length-take-le, set-append-left}
-use Rattle.base_blocks.specs.Lists.{over}
+use lib.ListN.{length, take, drop, getD, set, replicate, length-replicate, length-append, length-drop, length-set, take-append-drop}
+use lib.Seq.{sets, sets-eq, drop-cons, take-add, take-take, take-append-le, take-append-add, drop-at, drop-drop, drop-append-le, drop-append-add, length-take-le, set-append-left}
+use Rattle.base_blocks.specs.Lists.{listed, over}
 use Rattle.base_blocks.specs.Blocks.{moved}
 use Rattle.base_blocks.proofs.Lists.{over-self}
 
@@ -102,3 +102,16 @@ module _ {A : Type 0} (s : List A) (at : ℕ) where
         ∙ (let e : (take at s ++ take m ys) ++ (x ++ (drop (m + w) ys ++ rest)) ≡ take at s ++ new ++ rest = simp append-assoc in e)
         ∙ ap (λ (n : ℕ). take at s ++ new ++ drop (at + n) s) (sym long)
         ∙ sym (sets-eq new s at (omega arith))
+
+-- ---- runs and fronts
+
+-- a run of a list, element by element
+pub listed-run {ℓ} : {A : Type ℓ} (d : A) (xs : List A) (at n : ℕ) → at + n ≤ length xs → listed (λ k. getD xs k d) at n ≡ take n (drop at xs)
+unfolding listed
+listed-run d xs at zero h = refl
+listed-run {A = A} d xs at (suc n) h =
+    ap (λ (ys : List A). getD xs at d ∷ ys) (listed-run d xs (suc at) n (omega arith)) ∙ sym (ap (take (suc n)) (drop-cons xs at d (omega arith)))
+
+-- the front of a list laid over it
+pub over-front {ℓ} : {A : Type ℓ} (n : ℕ) (xs : List A) → over (take n xs) xs ≡ xs
+over-front n xs = over-self (take n xs) xs (drop n xs) (sym (take-append-drop n xs))

@@ -1,44 +1,29 @@
 -- What a call leaves of a pool whose parts are the model's: the slices, the counts and the book as they stood. Assumes nothing.
 use mathlib.Core.Path.{_≡_, refl, sym, ap, _∙_}
-use mathlib.Core.Bool.{true}
-use mathlib.Core.List.{List, _∷_, map}
-use Prim.Native.Nat.{ℕ, zero, suc, _+_, _*_, _≤_, _<_}
+use mathlib.Core.List.{List, map}
+use Prim.Native.Nat.{ℕ, zero, suc, _*_, _≤_}
 use native.Mathlib.Omega.{arith}
 use lib.Dec.{eqb}
-use lib.ListN.{length, take, drop, getD, take-append-drop}
-use lib.Seq.{drop-cons}
-use Rattle.base_blocks.specs.Lists.{listed, over, total, ascending}
-use Rattle.base_blocks.proofs.Lists.{over-self}
+use lib.ListN.{length}
+use Rattle.base_blocks.specs.Lists.{listed, over, total}
 use Rattle.base_blocks.proofs.Listed.{length-listed, map-listed}
 use Rattle.base_tables.specs.Records.{table, flat}
 use Rattle.base_tables.proofs.Records.{over-table}
-use Rattle.pool_rules.specs.Model.{PoolModel, gridsUsed}
+use Rattle.pool_rules.specs.Model.{PoolModel}
 use Rattle.pool_records.specs.declared.texture.TextureRecord.{TextureRecord}
 use Rattle.pool_records.specs.declared.spare.SpareRecord.{SpareRecord}
-use Rattle.pool_records.specs.Texture.{writeTexture, recordGrids}
+use Rattle.pool_records.specs.Texture.{writeTexture}
 use Rattle.pool_records.specs.Spare.{readSpare, writeSpare}
-use Rattle.pool_records.specs.Find.{idOf}
 use Rattle.pool_records.proofs.Codecs.{texture-codec, spare-codec}
-use Rattle.pool_memory.specs.Lent.{Lent, versionPlaces}
+use Rattle.pool_memory.specs.Lent.{Lent}
 use Rattle.pool_memory.specs.Reading.{trackedRecords, spareRead, retiringRead, doomedRead, modelOf}
-use Rattle.pool_memory.specs.Writing.{textureRecord, spareRecord, everySpare, texturesAfter, sparesAfter, newestAfter, stampsAfter, poolAfter, markOf, pacingAfter, lentAfter}
-use Rattle.pool_memory.specs.IsPool.{bytesFit}
-use Rattle.pool_memory.proofs.Runs.{sparesOf, stateOf, tracked-model, records-model, spares-model, kept-model, pages-model, newest-model}
-use Rattle.pool_memory.proofs.Kept.{keptHistory, pages-all, pages-paged, newest-paged}
+use Rattle.pool_memory.specs.Writing.{textureRecords, spareRecord, everySpare, texturesAfter, sparesAfter, newestAfter, stampsAfter, poolAfter, markOf, pacingAfter, lentAfter}
+use Rattle.pool_memory.proofs.Runs.{sparesOf, tracked-model, records-model, spares-model, kept-model, grids-model, stamps-used-model}
+use Rattle.pool_memory.proofs.Kept.{keptHistory, newest-kept, stamps-kept}
+use Rattle.pool_memory.proofs.Fits.{Fits}
+use Rattle.pool_memory.proofs.Packings.{newestPacking, stampsPacking, same-packed}
 use Rattle.pool_memory.proofs.Rings.{head-stays, hand-model, retiring-same, first-stays, doomed-same}
-use Rattle.grid_stamps.specs.StampConstants.{pageStamps}
-use Rattle.pool_records.specs.RecordConstants.{doomedStride, retiringStride, spareStride, textureStride}
-
--- a run of a list, element by element
-pub listed-run {ℓ} : {A : Type ℓ} (d : A) (xs : List A) (at n : ℕ) → at + n ≤ length xs → listed (λ k. getD xs k d) at n ≡ take n (drop at xs)
-unfolding listed
-listed-run d xs at zero h = refl
-listed-run {A = A} d xs at (suc n) h =
-    ap (λ (ys : List A). getD xs at d ∷ ys) (listed-run d xs (suc at) n (omega arith)) ∙ sym (ap (take (suc n)) (drop-cons xs at d (omega arith)))
-
--- the front of a list laid over it
-pub over-front {ℓ} : {A : Type ℓ} (n : ℕ) (xs : List A) → over (take n xs) xs ≡ xs
-over-front n xs = over-self (take n xs) xs (drop n xs) (sym (take-append-drop n xs))
+use Rattle.pool_records.specs.RecordConstants.{spareStride, textureStride}
 
 -- the spares' records
 pub spare-records : (l : Lent) (n : ℕ) → map spareRecord (listed (spareRead l) 0 n) ≡ table spareStride readSpare n (l .spares)
@@ -46,7 +31,7 @@ unfolding spareRead table
 spare-records l n = map-listed spareRecord (spareRead l) 0 n
 
 module _ (l : Lent) (p : PoolModel ℕ) where
-  pub textures-same : textureStride * l .pool .tracked ≤ length (l .textures) → map textureRecord (p .textures) ≡ trackedRecords l
+  pub textures-same : textureStride * l .pool .tracked ≤ length (l .textures) → textureRecords 0 0 (p .textures) ≡ trackedRecords l
       → texturesAfter p l ≡ l .textures
   unfolding texturesAfter
   textures-same fits e =
@@ -60,22 +45,15 @@ module _ (l : Lent) (p : PoolModel ℕ) where
       (ap (map spareRecord) (e ∙ spares-model l) ∙ spare-records l (total sparesOf (trackedRecords l)))
       ∙ over-table spare-codec (total sparesOf (trackedRecords l)) (l .spares) fits
 
-  -- textures that keep their ids, shapes and histories keep their pages
-  pub newest-same : total recordGrids (trackedRecords l) ≤ length (l .newest) → map keptHistory (p .textures) ≡ map keptHistory (modelOf l .textures)
-      → newestAfter p l ≡ l .newest
-  unfolding newestAfter
-  newest-same fits e =
-      ap (λ (xs : List ℕ). over xs (l .newest))
-      (newest-paged (p .textures) (modelOf l .textures) e ∙ newest-model l
-      ∙ listed-run 0 (l .newest) 0 (total recordGrids (trackedRecords l)) (omega arith))
-      ∙ over-front (total recordGrids (trackedRecords l)) (l .newest)
+  -- textures that keep their ids, shapes and histories keep their grids
+  module _ (f : Fits l) (e : map keptHistory (p .textures) ≡ map keptHistory (modelOf l .textures)) where
+    pub newest-same : newestAfter p l ≡ l .newest
+    unfolding newestAfter
+    newest-same = same-packed (newestPacking l f) p (newest-kept (p .textures) (modelOf l .textures) e)
 
-  pub stamps-same : ascending idOf (trackedRecords l) ≡ true → map keptHistory (p .textures) ≡ map keptHistory (modelOf l .textures)
-      → stampsAfter p l ≡ l .stamps
-  unfolding stampsAfter
-  stamps-same up e =
-      ap (λ (xs : List ℕ). over xs (l .stamps)) (pages-paged l (p .textures) (modelOf l .textures) e ∙ pages-all l up (stateOf l 0))
-      ∙ over-front (pageStamps * total gridsUsed (modelOf l .textures)) (l .stamps)
+    pub stamps-same : stampsAfter p l ≡ l .stamps
+    unfolding stampsAfter
+    stamps-same = same-packed (stampsPacking l f) p (stamps-kept (p .textures) (modelOf l .textures) e)
 
 -- ---- nothing changed at all
 
@@ -103,19 +81,18 @@ module _ (l : Lent) where
   unfolding modelOf
   doomed-model = length-listed (doomedRead l) 0 (l .pool .doomed)
 
-  -- what the packing needs
-  module _ (kept : total sparesOf (trackedRecords l) ≡ l .pool .kept) (pages : total recordGrids (trackedRecords l) ≡ l .pool .grids)
-      (head : l .pool .head < versionPlaces l) (first : l .pool .first < versionPlaces l) (hand : l .pool .popped ≤ 1) where
+  module _ (f : Fits l) where
     pub pool-same : poolAfter (modelOf l) l ≡ l .pool
     unfolding poolAfter modelOf
     pool-same = λ i. record {
       tracked = tracked-model l i;
-      kept = (kept-model l ∙ kept) i;
-      pages = (pages-model l ∙ pages) i;
-      head = head-stays l (modelOf l) head (omega (arith, hand-model l hand)) i;
-      popped = hand-model l hand i;
+      kept = (kept-model l ∙ f .kept) i;
+      grids = (grids-model l ∙ f .claimed) i;
+      stamps = (stamps-used-model l ∙ f .stamps-claimed) i;
+      head = head-stays l (modelOf l) (f .head) (omega (arith, hand-model l (f .hand))) i;
+      popped = hand-model l (f .hand) i;
       queued = queued-model i;
-      first = first-stays l (modelOf l) first (omega (arith, doomed-model)) i;
+      first = first-stays l (modelOf l) (f .first) (omega (arith, doomed-model)) i;
       doomed = doomed-model i;
       since = l .pool .since;
       trackings = l .pool .trackings;
@@ -126,20 +103,15 @@ module _ (l : Lent) where
     }
 
     -- the lent memory as it stood
-    module _ (textures : textureStride * l .pool .tracked ≤ length (l .textures)) (retiring : retiringStride * versionPlaces l ≤ length (l .retiring))
-        (doomed : doomedStride * versionPlaces l ≤ length (l .doomed)) (spares : spareStride * l .pool .kept ≤ length (l .spares))
-        (newest : l .pool .grids ≤ length (l .newest))
-        (queue : l .pool .popped + l .pool .queued ≤ versionPlaces l) (queued : l .pool .doomed ≤ versionPlaces l)
-        (bytes : bytesFit l ≡ true) (mark : l .book .pressed ≤ 1) (up : ascending idOf (trackedRecords l) ≡ true) where
-      pub after-same : lentAfter (modelOf l) l ≡ l
-      unfolding lentAfter
-      after-same = λ i. record {
-        pool = pool-same i;
-        book = book-same mark i;
-        textures = textures-same l (modelOf l) textures (records-model l bytes) i;
-        retiring = retiring-same l (modelOf l) head retiring hand queue refl refl i;
-        doomed = doomed-same l (modelOf l) first doomed queued refl i;
-        spares = spares-same l (modelOf l) (omega (arith, kept)) refl i;
-        newest = newest-same l (modelOf l) (omega (arith, pages)) refl i;
-        stamps = stamps-same l (modelOf l) up refl i;
-      }
+    pub after-same : lentAfter (modelOf l) l ≡ l
+    unfolding lentAfter
+    after-same = λ i. record {
+      pool = pool-same i;
+      book = book-same (f .mark) i;
+      textures = textures-same l (modelOf l) (omega (arith, f .textures, f .tracked)) (records-model l (f .bytes) (f .starts)) i;
+      retiring = retiring-same l (modelOf l) (f .head) (omega (arith, f .retiring)) (f .hand) (omega (arith, f .versions)) refl refl i;
+      doomed = doomed-same l (modelOf l) (f .first) (omega (arith, f .doomed)) (omega (arith, f .versions)) refl i;
+      spares = spares-same l (modelOf l) (omega (arith, f .spares, f .kept, f .versions)) refl i;
+      newest = newest-same l (modelOf l) f refl i;
+      stamps = stamps-same l (modelOf l) f refl i;
+    }

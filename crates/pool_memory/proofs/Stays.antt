@@ -8,7 +8,8 @@ use lib.Dec.{ltb}
 use lib.ListN.{length}
 use Rattle.base_blocks.specs.Lists.{ascending, total}
 use Rattle.base_blocks.specs.All.{All, nil, cons}
-use Rattle.pool_rules.specs.Model.{Doomed, VersionState, PoolModel, doomedBytes}
+use Rattle.pool_rules.specs.Model.{Doomed, VersionState, PoolModel, gridsUsed, doomedBytes}
+use Rattle.pool_rules.specs.HistorySizes.{stampsUsed}
 use Rattle.pool_rules.specs.Formed.{DoomedFormed}
 use Rattle.pool_records.specs.declared.texture.TextureRecord.{TextureRecord}
 use Rattle.pool_records.specs.Find.{idOf}
@@ -16,7 +17,7 @@ use Rattle.pool_memory.specs.declared.pool.Pool.{Pool as Counts}
 use Rattle.pool_memory.specs.declared.book.PacingBook.{PacingBook}
 use Rattle.pool_memory.specs.Lent.{Lent, lent, versionPlaces}
 use Rattle.pool_memory.specs.Reading.{trackedRecords, modelOf}
-use Rattle.pool_memory.specs.Writing.{textureRecord, everySpare, texturesAfter, sparesAfter, newestAfter, stampsAfter, retiringAfter, doomedAfter, poolAfter, markOf, pacingAfter, lentAfter}
+use Rattle.pool_memory.specs.Writing.{textureRecords, everySpare, texturesAfter, sparesAfter, newestAfter, stampsAfter, retiringAfter, doomedAfter, poolAfter, markOf, pacingAfter, lentAfter}
 use Rattle.pool_memory.specs.IsPool.{stateId}
 use Rattle.pool_memory.proofs.FitsTests.{ascending-passes}
 use Rattle.pool_memory.proofs.Fits.{Fits}
@@ -26,7 +27,6 @@ use Rattle.pool_memory.proofs.Rings.{retiring-same, doomed-same}
 use Rattle.pool_memory.proofs.Same.{book-same, textures-same, spares-same, newest-same, stamps-same, after-same}
 use Rattle.grid_shapes.specs.ShapeConstants.{mostShapeBytes}
 use Rattle.pool_records.specs.RecordConstants.{spareStride, textureStride}
-use Rattle.pool_records.specs.Texture.{recordGrids}
 
 -- what a call leaves, slice by slice
 pub put-together : (p : PoolModel ℕ) (l : Lent) (c : Counts) (b : PacingBook) (textures retiring doomed spares newest stamps : List ℕ)
@@ -38,11 +38,12 @@ put-together p l c b textures retiring doomed spares newest stamps e1 e2 e3 e4 e
     λ i. lent (e1 i) (e2 i) (e3 i) (e4 i) (e5 i) (e6 i) (e7 i) (e8 i)
 
 -- ids ascend along the records as they do along the states
-ascending-records : (ts : List (VersionState ℕ)) → ascending idOf (map textureRecord ts) ≡ ascending stateId ts
-unfolding ascending
-ascending-records [] = refl
-ascending-records (t ∷ []) = refl
-ascending-records (t ∷ u ∷ us) = ap (λ (b : Bool). ltb (t .id) (u .id) && b) (ascending-records (u ∷ us))
+ascending-records : (grid stamp : ℕ) (ts : List (VersionState ℕ)) → ascending idOf (textureRecords grid stamp ts) ≡ ascending stateId ts
+unfolding ascending textureRecords
+ascending-records grid stamp [] = refl
+ascending-records grid stamp (t ∷ []) = refl
+ascending-records grid stamp (t ∷ u ∷ us) =
+    ap (λ (b : Bool). ltb (t .id) (u .id) && b) (ascending-records (grid + gridsUsed t) (stamp + stampsUsed t) (u ∷ us))
 
 -- the bytes of formed versions
 pub doomed-bound : {ds : List (Doomed ℕ)} → All DoomedFormed ds → doomedBytes ds ≤ mostShapeBytes * length ds
@@ -52,16 +53,15 @@ doomed-bound (cons d ds) = omega (arith, d .bytes, doomed-bound ds)
 
 module _ (l : Lent) (f : Fits l) where
   pub ids-ascend : ascending idOf (trackedRecords l) ≡ true
-  ids-ascend = ap (ascending idOf) (sym (records-model l (f .bytes))) ∙ ascending-records (modelOf l .textures) ∙ ascending-passes (f .formed .ids)
+  ids-ascend =
+      ap (ascending idOf) (sym (records-model l (f .bytes) (f .starts))) ∙ ascending-records 0 0 (modelOf l .textures)
+      ∙ ascending-passes (f .formed .ids)
 
   pub textures-fit : textureStride * l .pool .tracked ≤ length (l .textures)
   textures-fit = omega (arith, f .textures, f .tracked)
 
   pub spares-fit : spareStride * total (λ (t : TextureRecord). t .spares) (trackedRecords l) ≤ length (l .spares)
   spares-fit = omega (arith, f .spares, f .kept, f .versions)
-
-  pub pages-fit : total recordGrids (trackedRecords l) ≤ length (l .newest)
-  pages-fit = omega (arith, f .claimed, f .pages)
 
   pub ring-fits : l .pool .popped + l .pool .queued ≤ versionPlaces l
   ring-fits = omega (arith, f .versions)
@@ -71,9 +71,7 @@ module _ (l : Lent) (f : Fits l) where
 
   -- nothing changed
   pub nothing-changed : lentAfter (modelOf l) l ≡ l
-  nothing-changed =
-      after-same l (f .kept) (f .claimed) (f .head) (f .first) (f .hand) textures-fit (omega (arith, f .retiring)) (omega (arith, f .doomed))
-      (omega (arith, f .spares, f .versions)) (f .pages) ring-fits doomed-fit (f .bytes) (f .mark) ids-ascend
+  nothing-changed = after-same l f
 
   module _ (p : PoolModel ℕ) where
     pub book-stays : p .pacing ≡ modelOf l .pacing → l .book ≡ pacingAfter p
@@ -82,18 +80,18 @@ module _ (l : Lent) (f : Fits l) where
         sym (book-same l (f .mark))
         ∙ (λ i. record { arrivals = sym e i .arrivals; slot = sym e i .slot; pressed = markOf (sym e i .pressed); excess = sym e i .excess })
 
-    pub textures-stay : map textureRecord (p .textures) ≡ map textureRecord (modelOf l .textures) → l .textures ≡ texturesAfter p l
-    textures-stay e = sym (textures-same l p textures-fit (e ∙ records-model l (f .bytes)))
+    pub textures-stay : textureRecords 0 0 (p .textures) ≡ textureRecords 0 0 (modelOf l .textures) → l .textures ≡ texturesAfter p l
+    textures-stay e = sym (textures-same l p textures-fit (e ∙ records-model l (f .bytes) (f .starts)))
 
     pub spares-stay : everySpare (p .textures) ≡ everySpare (modelOf l .textures) → l .spares ≡ sparesAfter p l
     spares-stay e = sym (spares-same l p spares-fit e)
 
     -- textures that keep their ids, shapes and histories
     pub newest-stay : map keptHistory (p .textures) ≡ map keptHistory (modelOf l .textures) → l .newest ≡ newestAfter p l
-    newest-stay e = sym (newest-same l p pages-fit e)
+    newest-stay e = sym (newest-same l p f e)
 
     pub stamps-stay : map keptHistory (p .textures) ≡ map keptHistory (modelOf l .textures) → l .stamps ≡ stampsAfter p l
-    stamps-stay e = sym (stamps-same l p ids-ascend e)
+    stamps-stay e = sym (stamps-same l p f e)
 
     pub retiring-stay : p .hand ≡ modelOf l .hand → p .retiring ≡ modelOf l .retiring → l .retiring ≡ retiringAfter p l
     retiring-stay e g = sym (retiring-same l p (f .head) (omega (arith, f .retiring)) (f .hand) ring-fits e g)

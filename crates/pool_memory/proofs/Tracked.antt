@@ -1,5 +1,5 @@
 -- Texture i of the model by its record, as the code reads it: where its runs begin, what it has, and what holds of it in a pool. Assumes nothing.
-use mathlib.Core.Path.{_≡_, ap, sym, _∙_, subst}
+use mathlib.Core.Path.{_≡_, ap, ap₂, sym, _∙_, subst}
 use mathlib.Core.Bool.{true}
 use mathlib.Core.Option.{Option, none, some}
 use mathlib.Core.List.{[]}
@@ -12,16 +12,18 @@ use Rattle.base_blocks.proofs.All.{all-at}
 use Rattle.base_tables.proofs.Records.{getD-table, take-table}
 use Rattle.grid_shapes.specs.Shapes.{isShape, bytesOf}
 use Rattle.pool_rules.specs.Model.{WriteHistory, gridsUsed}
+use Rattle.pool_rules.specs.HistorySizes.{stampsUsed}
 use Rattle.pool_rules.specs.Formed.{Given, HistoryFormed, StateFormed}
 use Rattle.pool_records.specs.declared.texture.TextureRecord.{TextureRecord}
 use Rattle.pool_records.specs.Recorded.{RecordedFits, recordedNumber}
-use Rattle.pool_records.specs.Texture.{readTexture, textureIn, texturesIn, recordGrids}
+use Rattle.pool_records.specs.Texture.{readTexture, textureIn, texturesIn, recordGrids, recordStamps}
 use Rattle.pool_memory.specs.Lent.{Lent}
 use Rattle.pool_memory.specs.Reading.{trackedRecords, stateRead, modelOf}
 use Rattle.pool_memory.specs.Writing.{recordedHistory, textureRecord}
 use Rattle.pool_memory.specs.IsPool.{bytesHold, bytesFit}
 use Rattle.pool_memory.proofs.Fits.{Fits}
-use Rattle.pool_memory.proofs.Runs.{sparesOf, firstSpare, firstGrid, stateOf, tracked-records, tracked-model, model-at, bytes-held, record-state, pages-state}
+use Rattle.pool_memory.proofs.Runs.{sparesOf, firstGridIn, firstStampIn, firstSpare, firstGrid, firstStamp, stateOf, tracked-records, tracked-model, model-at, bytes-held, record-state, grids-state, stamps-used-state, grid-held-at, stamp-held-at}
+use Rattle.pool_memory.proofs.Starts.{placedRecord}
 use Rattle.pool_memory.proofs.Changes.{count-state}
 use Rattle.pool_records.specs.RecordConstants.{textureStride}
 
@@ -33,14 +35,17 @@ module _ (l : Lent) (i : ℕ) (h : i < l .pool .tracked) where
   pub record-read : getD (trackedRecords l) i (readTexture []) ≡ textureAt l i
   record-read = getD-table textureStride readTexture (l .pool .tracked) i (l .textures) (readTexture []) h
 
-  -- its spares and its pages begin behind those of the textures before it
+  -- its spares begin behind those of the textures before it
   pub spares-to : firstSpare l i ≡ total sparesOf (texturesIn i (l .textures))
   unfolding firstSpare
   spares-to = ap (total sparesOf) (take-table textureStride readTexture i (l .pool .tracked) (l .textures) (omega arith))
 
-  pub pages-to : firstGrid l i ≡ total recordGrids (texturesIn i (l .textures))
-  unfolding firstGrid
-  pages-to = ap (total recordGrids) (take-table textureStride readTexture i (l .pool .tracked) (l .textures) (omega arith))
+  -- its record holds where its grids and its stamps begin
+  pub grid-at : Fits l → textureAt l i .grid ≡ firstGrid l i
+  grid-at f = ap firstGridIn (sym record-read) ∙ grid-held-at l (f .starts) i h
+
+  pub stamp-at : Fits l → textureAt l i .stamp ≡ firstStamp l i
+  stamp-at f = ap firstStampIn (sym record-read) ∙ stamp-held-at l (f .starts) i h
 
   -- the record's bytes are those of one version of its shape
   bytes-tracked : Fits l → getD (trackedRecords l) i (readTexture []) .bytes ≡ bytesOf (getD (trackedRecords l) i (readTexture []) .shape)
@@ -52,9 +57,11 @@ module _ (l : Lent) (i : ℕ) (h : i < l .pool .tracked) where
   pub bytes-at : Fits l → textureAt l i .bytes ≡ bytesOf (textureAt l i .shape)
   bytes-at f = subst (λ (t : TextureRecord). t .bytes ≡ bytesOf (t .shape)) record-read (bytes-tracked f)
 
-  pub record-at : Fits l → textureRecord (stateOf l i) ≡ textureAt l i
+  pub record-at : Fits l → placedRecord l i (stateOf l i) ≡ textureAt l i
   unfolding stateOf
-  record-at f = record-state l (firstSpare l i) (firstGrid l i) (getD (trackedRecords l) i (readTexture [])) (bytes-tracked f) ∙ record-read
+  record-at f =
+      ap₂ (λ (g n : ℕ). textureRecord g n (stateOf l i)) (sym (grid-held-at l (f .starts) i h)) (sym (stamp-held-at l (f .starts) i h))
+      ∙ record-state l (firstSpare l i) (getD (trackedRecords l) i (readTexture [])) (bytes-tracked f) ∙ record-read
 
   pub shape-at : stateOf l i .shape ≡ textureAt l i .shape
   unfolding stateOf stateRead
@@ -63,9 +70,13 @@ module _ (l : Lent) (i : ℕ) (h : i < l .pool .tracked) where
   pub count-at : length (stateOf l i .spares) ≡ textureAt l i .spares
   count-at = count-state l i ∙ ap sparesOf record-read
 
-  pub pages-at : gridsUsed (stateOf l i) ≡ recordGrids (textureAt l i)
+  pub grids-at : gridsUsed (stateOf l i) ≡ recordGrids (textureAt l i)
   unfolding stateOf
-  pages-at = pages-state l (firstSpare l i) (firstGrid l i) (getD (trackedRecords l) i (readTexture [])) ∙ ap recordGrids record-read
+  grids-at = grids-state l (firstSpare l i) (getD (trackedRecords l) i (readTexture [])) ∙ ap recordGrids record-read
+
+  pub stamps-at : stampsUsed (stateOf l i) ≡ recordStamps (textureAt l i)
+  unfolding stateOf
+  stamps-at = stamps-used-state l (firstSpare l i) (getD (trackedRecords l) i (readTexture [])) ∙ ap recordStamps record-read
 
   pub state-formed : Fits l → StateFormed (stateOf l i)
   state-formed f =

@@ -5,5 +5,6 @@ pub mod Spare
 pub mod Retiring
 pub mod Doomed
 pub mod Texture
+pub mod Starts
 pub mod Find
 pub mod Views

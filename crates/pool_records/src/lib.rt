@@ -6,6 +6,7 @@ mod find;
 mod held;
 mod recorded;
 mod retiring;
+mod shift;
 mod spare;
 mod texture;
 
@@ -33,6 +34,7 @@ pub use recorded::Recorded;
 pub use retiring::RetiringRecord;
 pub use retiring::read_retiring;
 pub use retiring::retiring_numbers;
+pub use shift::Shift;
 pub use spare::SpareRecord;
 pub use spare::read_spare;
 pub use spare::spare_numbers;
