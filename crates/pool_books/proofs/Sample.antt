@@ -40,7 +40,7 @@ formed-after : {A : Type 0} (f : A → Reply) (p : PoolModel ℕ) (o : Out ℕ A
 formed-after f p (refused n) k q = k
 formed-after f p (accepted a r) k (formed q) = q
 
-call-formed : (p : PoolModel ℕ) → Formed p → (c : Call) → Formed (call p c .1)
+pub call-formed : (p : PoolModel ℕ) → Formed p → (c : Call) → Formed (call p c .1)
 unfolding perform performBetween
 call-formed p k (takeCall id shape records seq) = formed-after _ p _ k (closed p k .take-spare id shape records seq)
 call-formed p k (planCall id shape held u buffer) = formed-after _ p _ k (closed p k .preserve-plan id shape held u buffer)
