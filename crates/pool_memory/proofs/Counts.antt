@@ -1,21 +1,18 @@
--- The counts after textures are taken out, and after spares are put in or taken out. Assumes nothing.
+-- The counts after a texture is changed, put in or taken out, and after spares are put in or taken out. Assumes nothing.
 use mathlib.Core.Path.{_≡_, refl, sym, ap, ap₂, _∙_}
 use mathlib.Core.List.{List, [], _∷_, _++_, flatMap}
 use Prim.Native.Nat.{ℕ, suc, _+_, _-_, _≤_, _<_}
 use native.Mathlib.Omega.{arith}
-use lib.ListN.{length, take, drop, length-append}
+use lib.ListN.{length, take, drop, set, length-append}
 use Rattle.base_blocks.specs.Lists.{total, removed, inserted}
 use Rattle.base_blocks.proofs.Lists.{length-removed, length-inserted, total-append}
-use Rattle.pool_rules.specs.Model.{Spare, VersionState, PoolModel, gridsUsed}
+use Rattle.pool_rules.specs.Model.{Spare, VersionState, PoolModel}
 use Rattle.pool_rules.proofs.Lists.{total-cut}
 use Rattle.pool_memory.specs.Lent.{Lent}
 use Rattle.pool_memory.specs.Reading.{trackedRecords, modelOf}
 use Rattle.pool_memory.specs.Writing.{everySpare}
-use Rattle.pool_memory.proofs.Runs.{sparesOf, spareCount, firstGrid, tracked-model, pages-model}
-use Rattle.pool_memory.proofs.Kept.{page-of}
+use Rattle.pool_memory.proofs.Runs.{sparesOf, spareCount, stateOf, tracked-model, model-at}
 use Rattle.pool_memory.proofs.Changes.{sparesBefore, length-spares}
-use Rattle.pool_memory.proofs.Pages.{gridCountAt, next-page, page-bound, removed-parts}
-use Rattle.pool_records.specs.Texture.{recordGrids}
 
 -- as many as all of them in a row
 pub count-spares : (ts : List (VersionState ℕ)) → total spareCount ts ≡ length (everySpare ts)
@@ -46,27 +43,20 @@ module _ (l : Lent) (p : PoolModel ℕ) where
         count-spares (p .textures) ∙ ap length e ∙ length-removed k (sparesBefore l) n (omega (arith, length-spares l))
         ∙ ap (λ (m : ℕ). m - n) (length-spares l ∙ kept)
 
-  -- ---- pages in use
+  -- ---- what the histories use: grids or stamps, whichever `used` counts
 
-  module _ (pages : total recordGrids (trackedRecords l) ≡ l .pool .grids) where
-    used-parts : (i j : ℕ) (between : List (VersionState ℕ)) → p .textures ≡ take i (modelOf l .textures) ++ (between ++ drop j (modelOf l .textures))
-        → total gridsUsed (p .textures) ≡ firstGrid l i + (total gridsUsed between + (l .pool .grids - firstGrid l j))
-    used-parts i j between e =
-        ap (total gridsUsed) e
-        ∙ total-append gridsUsed (take i (modelOf l .textures)) (between ++ drop j (modelOf l .textures))
-        ∙ ap₂ (λ (a b : ℕ). a + b) (page-of l i)
-        (total-append gridsUsed between (drop j (modelOf l .textures))
-        ∙ ap (λ (n : ℕ). total gridsUsed between + n)
-        (let q : total gridsUsed (drop j (modelOf l .textures)) ≡ l .pool .grids - firstGrid l j =
-        omega (arith, pages, pages-model l, page-of l j, total-cut gridsUsed j (modelOf l .textures)) in q))
+  module _ (used : VersionState ℕ → ℕ) (count : ℕ) (counted : total used (modelOf l .textures) ≡ count) where
+    -- texture i changed
+    pub used-set : (i : ℕ) (t : VersionState ℕ) → i < l .pool .tracked → p .textures ≡ set (modelOf l .textures) i t
+        → total used (p .textures) + used (stateOf l i) ≡ count + used t
+    used-set i t h e = ?
 
-    none-used : total (gridsUsed {W = ℕ}) [] ≡ 0
-    unfolding total
-    none-used = refl
-
+    -- taken out
     pub used-removed : (i : ℕ) → i < l .pool .tracked → p .textures ≡ removed i 1 (modelOf l .textures)
-        → total gridsUsed (p .textures) ≡ l .pool .grids - gridCountAt l i
-    used-removed i h e =
-        used-parts i (suc i) [] (removed-parts l p i e)
-        ∙ (let q : firstGrid l i + (total (gridsUsed {W = ℕ}) [] + (l .pool .grids - firstGrid l (suc i))) ≡ l .pool .grids - gridCountAt l i =
-        omega (arith, none-used, next-page l i h, page-bound l pages (suc i)) in q)
+        → total used (p .textures) + used (stateOf l i) ≡ count
+    used-removed i h e = ?
+
+    -- one put in
+    pub used-inserted : (i : ℕ) (t : VersionState ℕ) → p .textures ≡ inserted i (t ∷ []) (modelOf l .textures)
+        → total used (p .textures) ≡ count + used t
+    used-inserted i t e = ?

@@ -1,6 +1,8 @@
 -- Helper: Where textures' grids and stamps begin, moved: those behind a texture whose history was renewed or dropped, or that was put in or taken out.
 use Prim.Native.Nat.{ℕ, _+_, _-_, _^_, _≤_, _<_}
+use mathlib.Core.Bool.{cond}
 use mathlib.Core.List.{List, _++_, map}
+use lib.Dec.{ltb}
 use lib.ListN.{take, drop}
 use Rattle.base_blocks.specs.Lists.{over}
 use Rattle.base_tables.specs.Records.{flat}
@@ -41,3 +43,10 @@ pub record StartMoves (grids stamps : Shift) (t : TextureRecord) : Type 0 where
 -- those of the records from i on, up to n
 abbrev pub StartsMove : Shift → Shift → ℕ → ℕ → List ℕ → Type 0
 StartsMove grids stamps i n s = (j : ℕ) → i ≤ j → j < n → StartMoves grids stamps (textureIn s j)
+
+-- where the grids of texture i end, of n that have `used` in all: where the next one's begin, or past the last; and where its stamps do
+unfoldable pub gridEnd : List ℕ → ℕ → ℕ → ℕ → ℕ
+gridEnd s n used i = cond (ltb (i + 1) n) (textureIn s (i + 1) .grid) used
+
+unfoldable pub stampEnd : List ℕ → ℕ → ℕ → ℕ → ℕ
+stampEnd s n used i = cond (ltb (i + 1) n) (textureIn s (i + 1) .stamp) used
