@@ -181,11 +181,15 @@ impl Changes {
         }
     }
 
+    /// How often each sort occurred that did.
+    pub fn counts(&self) -> impl Iterator<Item = (&'static str, u64)> {
+        self.counts.iter().map(|(sort, times)| (*sort, *times))
+    }
+
     /// What can occur with these limits and did not.
     pub fn faults(&self, limits: &Limits) -> Vec<String> {
-        let can = |sort: &str| {
-            limits.pages > 0 && limits.textures >= if sort == NINE { 9 } else { 8 }
-        };
+        let can =
+            |sort: &str| limits.pages > 0 && limits.textures >= if sort == NINE { 9 } else { 8 };
         let missed = |sort: &&&str| can(sort) && !self.counts.contains_key(**sort);
         let faults = SORTS.iter().filter(missed);
         faults

@@ -77,7 +77,9 @@ pub fn trackings<V>(pool: &TextureVersions<V>) -> u64 {
 
 /// Grids of all histories, one for each slice and level.
 pub fn grids_used<V>(pool: &TextureVersions<V>) -> u64 {
-    histories(pool).map(|history| history.grids.len() as u64).sum()
+    histories(pool)
+        .map(|history| history.grids.len() as u64)
+        .sum()
 }
 
 /// Stamps of all histories, as many as the Rust has memory for.

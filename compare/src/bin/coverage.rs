@@ -40,7 +40,8 @@ fn counted(words: Vec<String>) -> Result<(Counts, Changes, Limits), String> {
     }
     for pair in files.chunks(2) {
         let list = read(&pair[0])?;
-        add(&mut counts, &list, &read(&pair[1])?).map_err(|fault| format!("{}: {fault}", pair[1]))?;
+        add(&mut counts, &list, &read(&pair[1])?)
+            .map_err(|fault| format!("{}: {fault}", pair[1]))?;
         changes.add(&list, limits);
     }
     Ok((counts, changes, limits))

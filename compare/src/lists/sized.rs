@@ -99,4 +99,3 @@ pub fn ninety(random: &mut Random) -> RawShape {
         compared: [0; 6],
     }
 }
-

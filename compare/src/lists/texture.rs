@@ -76,7 +76,9 @@ pub fn shape(random: &mut Random, most: u32, stamps: u64) -> RawShape {
         shrink(&mut shape, stamps);
     }
     let with = |levels: u32| RawShape { levels, ..shape };
-    let room = (1..=15).rev().find(|levels| with(*levels).stamps() <= stamps);
+    let room = (1..=15)
+        .rev()
+        .find(|levels| with(*levels).stamps() <= stamps);
     let room = u64::from(room.unwrap_or(1));
     let levels = match random.below(4) {
         0 => 1,
