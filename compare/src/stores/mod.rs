@@ -6,3 +6,4 @@ pub mod export;
 pub mod judge;
 pub mod lines;
 pub mod memory;
+mod moves;
