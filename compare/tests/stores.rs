@@ -256,3 +256,47 @@ fn lengths_of_newest() {
         }
     }
 }
+
+/// What `stored/pool.asked` has the program print of a packed pool, number by number, is what the Rust's pool is in our layout. Numbers
+/// that are free, which the Rust lacks, are left out.
+#[test]
+fn asked_dumps() {
+    let limits = Limits {
+        textures: 3,
+        versions: 1,
+        pages: 1,
+        answers: 2,
+    };
+    let asked = include_str!("../stored/pool.asked");
+    let list = asked
+        .split("\n=,")
+        .find(|list| list.starts_with("3,1,1,2,packed\n"));
+    let mut program = Program::new(limits, false);
+    let (mut expected, mut dumps) = (None, 0);
+    for line in list.expect("the list of a packed pool").lines().skip(1) {
+        if line.starts_with("put,") {
+            break;
+        }
+        if let Some(put) = line.strip_prefix(">> put,") {
+            let numbers: Vec<u64> = put
+                .split(',')
+                .map(|it| it.parse().expect("a number"))
+                .collect();
+            let memory = expected.get_or_insert_with(|| Memory::lent(3, 1, 1));
+            *memory.number_mut(numbers[0] as usize, numbers[1] as usize) = numbers[2];
+            continue;
+        }
+        if let Some(mut memory) = expected.take() {
+            let [grids, stamps] = [GRIDS, STAMPED].map(|at| memory.counts[at] as usize);
+            memory.slices[NEWEST][grids..].fill(0);
+            memory.slices[STAMPS][stamps..].fill(0);
+            assert_eq!(memory, program.pool().expect("open").memory(0, 0));
+            assert_eq!(faults(&memory), []);
+            dumps += 1;
+        }
+        if !line.starts_with(['>', '#']) && line != "dump" {
+            program.run(line.as_bytes(), &mut Vec::new());
+        }
+    }
+    assert_eq!(dumps, 3);
+}

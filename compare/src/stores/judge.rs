@@ -357,8 +357,16 @@ fn tiles(extent: u64, block: u64) -> u64 {
 
 /// Stamps of a level's grid. A format past 8 is taken for one with blocks of one texel.
 fn grid_stamps(record: &[u64], level: u64) -> u64 {
-    let edge = if matches!(record[1], 5 | 6) { 4 } else { 1 };
-    tiles(level_extent(record[2], level), edge) * tiles(level_extent(record[3], level), edge)
+    grid_columns(record, level) * tiles(level_extent(record[3], level), block_edge(record))
+}
+
+/// Columns of a level's grid.
+pub fn grid_columns(record: &[u64], level: u64) -> u64 {
+    tiles(level_extent(record[2], level), block_edge(record))
+}
+
+fn block_edge(record: &[u64]) -> u64 {
+    if matches!(record[1], 5 | 6) { 4 } else { 1 }
 }
 
 /// A grid where its texture's record has it: its number, its first stamp, how many there are, and the texture's writes.
