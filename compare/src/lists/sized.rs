@@ -35,8 +35,8 @@ impl Table {
 fn plain([columns, rows, levels, doubled]: [u8; 4]) -> RawShape {
     RawShape {
         format: 0,
-        width: 16 * u32::from(columns) << doubled,
-        height: 16 * u32::from(rows) << doubled,
+        width: (16 * u32::from(columns)) << doubled,
+        height: (16 * u32::from(rows)) << doubled,
         depth: 1,
         levels: levels.into(),
         kind: 0,

@@ -1,7 +1,8 @@
 //! What is asked of lent memory, and what document 01 has answered: 1 and nothing altered where it forms no pool.
 
-use super::judge::{Condition, faults, grid_columns, grids, stamp_count};
+use super::judge::{Condition, faults};
 use super::memory::*;
+use super::shapes::{grid_columns, grids, stamp_count};
 use crate::lists::sized;
 use crate::random::Random;
 

@@ -239,7 +239,7 @@ fn damage(memory: &mut Memory, condition: C, random: &mut Random) -> bool {
         C::StampPlaces => moves::claim(memory, 1 + random.below(2) * random.below(9), random),
         C::FirstGrid => moves::move_starts(memory, &[FIRST_GRID], random),
         C::FirstStamp => moves::move_starts(memory, &[FIRST_STAMP], random),
-        C::Stamps | C::Newest => misstamp(memory, condition, random),
+        C::Stamps | C::Newest => moves::misstamp(memory, condition, random),
         C::Cap if memory.counts[PARKED] > 0 => {
             memory.counts[CAP] = random.below(memory.counts[PARKED]);
             true
@@ -265,7 +265,7 @@ fn damage(memory: &mut Memory, condition: C, random: &mut Random) -> bool {
 }
 
 /// A number past the limit: mostly just past it.
-fn past(most: u64, random: &mut Random) -> u64 {
+pub fn past(most: u64, random: &mut Random) -> u64 {
     match random.below(4) {
         0 | 1 => most + 1,
         2 => most + 1 + random.below(1 << 20),
@@ -360,39 +360,6 @@ fn miscount(memory: &mut Memory, condition: C, random: &mut Random) -> bool {
             let record = memory.record_mut(TEXTURES, place);
             record[number] = step(record[number], up);
             settle(memory, condition);
-        }
-    }
-    true
-}
-
-/// A stamp past the write count, or a `newest` that is not the largest stamp.
-fn misstamp(memory: &mut Memory, condition: C, random: &mut Random) -> bool {
-    let grids = judge::grids(memory);
-    if grids.is_empty() {
-        return false;
-    }
-    let grid = &grids[random.below(grids.len() as u64) as usize];
-    // The first and the last tile more often than others: what stands beside them belongs to another grid, or is free.
-    let tile = match random.below(3) {
-        0 => grid.stamps - 1,
-        1 => 0,
-        _ => random.below(grid.stamps as u64) as usize,
-    };
-    let (at, newest) = (grid.first + tile, memory.slices[NEWEST][grid.number]);
-    if condition == C::Stamps {
-        let stamp = past(grid.writes, random);
-        memory.slices[STAMPS][at] = stamp;
-        memory.slices[NEWEST][grid.number] = stamp;
-        return true;
-    }
-    match random.below(4) {
-        0 => memory.slices[NEWEST][grid.number] = newest.wrapping_sub(1),
-        1 => memory.slices[NEWEST][grid.number] = newest + 1,
-        2 => memory.slices[STAMPS][at] = (newest + 1).min(grid.writes),
-        // The newest stamp of another grid.
-        _ => {
-            let other = &grids[random.below(grids.len() as u64) as usize];
-            memory.slices[NEWEST].swap(grid.number, other.number);
         }
     }
     true

@@ -7,3 +7,4 @@ pub mod judge;
 pub mod lines;
 pub mod memory;
 mod moves;
+mod shapes;

@@ -1,7 +1,10 @@
-//! Damage to where histories stand: gaps, overlaps, histories that end past what is lent, and one more or less of all that is counted.
+//! Damage to histories: stamps that do not fit their grids; gaps, overlaps, histories that end past what is lent, and one more or less of
+//! all that is counted.
 
+use super::damage::past;
 use super::judge::{self, Condition as C};
 use super::memory::*;
+use super::shapes;
 use crate::lists::sized;
 use crate::random::Random;
 
@@ -89,7 +92,7 @@ pub fn claim(memory: &mut Memory, past: u64, random: &mut Random) -> bool {
     record[5] = shape.levels.into();
     record[6] = shape.kind;
     record[HISTORY] = record[HISTORY].max(1);
-    record[BYTES] = judge::shape_bytes(record);
+    record[BYTES] = shapes::shape_bytes(record);
     memory.slices[NEWEST].fill(0);
     memory.slices[STAMPS].fill(0);
     let (mut grids, mut stamps) = (0, 0);
@@ -111,7 +114,7 @@ fn recount(memory: &mut Memory) {
 /// Where the record has its grids and its stamps end.
 fn claimed_ends(memory: &Memory, place: usize) -> (u64, u64) {
     let record = memory.record(TEXTURES, place);
-    let grids = judge::grid_count(record) as u64;
+    let grids = shapes::grid_count(record) as u64;
     (
         record[FIRST_GRID].wrapping_add(grids),
         record[FIRST_STAMP].wrapping_add(own_stamps(memory, place)),
@@ -119,7 +122,7 @@ fn claimed_ends(memory: &Memory, place: usize) -> (u64, u64) {
 }
 
 fn own_stamps(memory: &Memory, place: usize) -> u64 {
-    judge::stamp_count(memory.record(TEXTURES, place)) as u64
+    shapes::stamp_count(memory.record(TEXTURES, place)) as u64
 }
 
 /// Moves where histories begin, from one record on or of one alone, by the numbers of the record given: up or down, and mostly what
@@ -183,6 +186,39 @@ fn move_start(
     for place in places {
         let start = &mut memory.record_mut(TEXTURES, place)[number];
         *start = if up { *start + by } else { *start - by };
+    }
+    true
+}
+
+/// A stamp past the write count, or a `newest` that is not the largest stamp.
+pub fn misstamp(memory: &mut Memory, condition: C, random: &mut Random) -> bool {
+    let grids = shapes::grids(memory);
+    if grids.is_empty() {
+        return false;
+    }
+    let grid = &grids[random.below(grids.len() as u64) as usize];
+    // The first and the last tile more often than others: what stands beside them belongs to another grid, or is free.
+    let tile = match random.below(3) {
+        0 => grid.stamps - 1,
+        1 => 0,
+        _ => random.below(grid.stamps as u64) as usize,
+    };
+    let (at, newest) = (grid.first + tile, memory.slices[NEWEST][grid.number]);
+    if condition == C::Stamps {
+        let stamp = past(grid.writes, random);
+        memory.slices[STAMPS][at] = stamp;
+        memory.slices[NEWEST][grid.number] = stamp;
+        return true;
+    }
+    match random.below(4) {
+        0 => memory.slices[NEWEST][grid.number] = newest.wrapping_sub(1),
+        1 => memory.slices[NEWEST][grid.number] = newest + 1,
+        2 => memory.slices[STAMPS][at] = (newest + 1).min(grid.writes),
+        // The newest stamp of another grid.
+        _ => {
+            let other = &grids[random.below(grids.len() as u64) as usize];
+            memory.slices[NEWEST].swap(grid.number, other.number);
+        }
     }
     true
 }
