@@ -6,6 +6,7 @@ use compare::limited::Limits;
 use compare::lines::lines_of;
 use compare::lists::{self, KINDS};
 use compare::program::Program;
+use compare::shape::RawShape;
 use compare::stores::asks::ask;
 use compare::stores::damage::store;
 use compare::stores::judge::{CONDITIONS, Condition, NEVER_ALONE, faults};
@@ -299,4 +300,59 @@ fn asked_dumps() {
         }
     }
     assert_eq!(dumps, 3);
+}
+
+/// The shape that a record names, without what is only compared.
+fn shape_of(record: &[u64]) -> RawShape {
+    RawShape {
+        format: record[1],
+        width: record[2] as u32,
+        height: record[3] as u32,
+        depth: record[4] as u32,
+        levels: record[5] as u32,
+        kind: record[6],
+        compared: [0; 6],
+    }
+}
+
+/// Gaps, overlaps and numbers of textures without a history, each told by the two numbers of a record alone; and pools that are full.
+#[test]
+fn gaps_and_overlaps_in_the_gate() {
+    use Condition::{FirstGrid, FirstStamp};
+    let (mut gaps, mut overlaps, mut bare, mut full) = (0, 0, 0, 0);
+    for seed in GATE {
+        let memory = store(seed);
+        let broken = faults(&memory);
+        let stamps = memory.slices[STAMPS].len() as u64;
+        full += u32::from(broken.is_empty() && stamps > 0 && memory.counts[STAMPED] == stamps);
+        if ![&[FirstGrid][..], &[FirstStamp], &[FirstGrid, FirstStamp]].contains(&&broken[..]) {
+            continue;
+        }
+        let mut sums = [0, 0];
+        for place in 0..memory.counts[TRACKED] as usize {
+            let record = memory.record(TEXTURES, place);
+            let starts = [record[FIRST_GRID], record[FIRST_STAMP]];
+            if starts != sums {
+                let further = starts[0] > sums[0] || starts[1] > sums[1];
+                match record[HISTORY] {
+                    0 => bare += 1,
+                    _ if further => gaps += 1,
+                    _ => overlaps += 1,
+                }
+                break;
+            }
+            if record[HISTORY] != 0 {
+                let shape = shape_of(record);
+                sums = [sums[0] + shape.grids(), sums[1] + shape.stamps()];
+            }
+        }
+    }
+    for (what, times) in [
+        ("gaps", gaps),
+        ("overlaps", overlaps),
+        ("bare", bare),
+        ("full", full),
+    ] {
+        assert!(times >= 20, "{what}: {times}");
+    }
 }

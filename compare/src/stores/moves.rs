@@ -138,8 +138,9 @@ pub fn move_starts(memory: &mut Memory, numbers: &[usize], random: &mut Random) 
     } else {
         tracked - 1
     };
-    let up = random.once_in(2);
-    let fresh = random.once_in(3);
+    // An overlap is seldom read as it was.
+    let up = random.once_in(6);
+    let fresh = random.once_in(if up { 3 } else { 2 });
     if fresh {
         memory.slices[NEWEST].fill(0);
         memory.slices[STAMPS].fill(0);
