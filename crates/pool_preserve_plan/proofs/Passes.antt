@@ -11,16 +11,15 @@ use Rattle.base_blocks.proofs.Listed.{left, left-all, left-step, left-none}
 use Rattle.base_tables.specs.Records.{flat}
 use Rattle.base_tables.proofs.Records.{flat-append}
 use Rattle.grid_shapes.specs.declared.shape.VersionShape.{VersionShape}
-use Rattle.grid_shapes.specs.Shapes.{slicesOf}
 use Rattle.grid_rects.specs.declared.rect.Region.{Region}
 use Rattle.grid_rects.specs.declared.rect.Region.the-variants.{Whole, Part}
-use Rattle.pool_rules.specs.Model.{PreserveCopy, UploadFootprint}
+use Rattle.pool_rules.specs.Model.{PreserveCopy, UploadFootprint, gridCount}
 use Rattle.pool_memory.specs.Calls.{copyNumbers}
 use Rattle.pool_memory.proofs.Rewritten.{sets-append}
 use Rattle.pool_preserve_plan.specs.declared.copy.Planned.{Planned}
 use Rattle.pool_preserve_plan.specs.declared.copy.Planned.the-variants.{Skipped, Copied}
 use Rattle.pool_preserve_plan.specs.declared.since.Since.{Since}
-use Rattle.pool_preserve_plan.specs.Copies.{copyList, inOrder, sliceCopies, lentCopies, withCopies}
+use Rattle.pool_preserve_plan.specs.Copies.{copyList, inOrder, copiesAt, lentCopies, withCopies}
 use Rattle.pool_memory.specs.MemoryConstants.{copyStride}
 
 -- ---- of n, those from i on
@@ -52,12 +51,11 @@ module _ (f : ℕ → List PreserveCopy) (n : ℕ) where
   pub next-room : (i count t room : ℕ) → i < n → count + length (rest f n i) ≡ t → copyStride * t ≤ room → copyStride * (count + length (f i)) ≤ room
   next-room i count t room h inv fits = omega (arith, count-more i count t h inv)
 
--- the slices of a plan
-pub lent-all : (newest stamps : List ℕ) (s : VersionShape) (since : Since) (u : UploadFootprint) (all : ℕ) → all ≡ slicesOf s
-    → rest (sliceCopies newest stamps s since u) all 0 ≡ lentCopies newest stamps s since u
+-- all of a plan
+pub lent-all : (newest stamps : List ℕ) (s : VersionShape) (since : Since) (u : UploadFootprint) (all : ℕ) → all ≡ gridCount s
+    → rest (copiesAt newest stamps s since u) all 0 ≡ lentCopies newest stamps s since u
 unfolding lentCopies
-lent-all newest stamps s since u all e =
-    rest-all (sliceCopies newest stamps s since u) all ∙ ap (inOrder (sliceCopies newest stamps s since u)) e
+lent-all newest stamps s since u all e = rest-all (copiesAt newest stamps s since u) all ∙ ap (inOrder (copiesAt newest stamps s since u)) e
 
 -- ---- one subresource
 

@@ -1,15 +1,11 @@
 // One subresource's copy.
 ghost use mathlib.Core.Path.{_≡_};
 ghost use mathlib.Core.Bool.{true};
-ghost use Prim.Native.Nat.{_+_, _*_, _≤_, _<_};
 ghost use lib.ListN.{length};
-ghost use Rattle.grid_shapes.specs.Shapes.{isShape, slicesOf};
-ghost use Rattle.grid_stamps.specs.Grids.{tilingOf, boxSince};
-ghost use Rattle.pool_rules.specs.Model.{gridCount};
+ghost use Rattle.grid_shapes.specs.Shapes.{isShape};
+ghost use Rattle.grid_stamps.specs.Grids.{tilingOf, stampCount};
 ghost use Rattle.pool_rules.specs.PreservePlan.{sameRect};
-ghost use Rattle.pool_preserve_plan.specs.Copies.{boxPlanned, SinceFits, footprint, plannedAt, copyNumbersOf};
-ghost use Rattle.grid_stamps.specs.StampConstants.{pageStamps};
-ghost use Rattle.pool_memory.specs.Reading.{gridOn};
+ghost use Rattle.pool_preserve_plan.specs.Copies.{boxPlanned, GridFits, footprint, plannedAt, nextSince, copyNumbersOf};
 use crate::since::Since;
 use crate::since::Upload;
 use grid_rects::Region;
@@ -18,16 +14,23 @@ use grid_rects::level_rect;
 use grid_shapes::VersionShape;
 use grid_shapes::level_extent;
 use grid_stamps::Dirty;
-use grid_stamps::PAGE_STAMPS;
 use grid_stamps::across_axis;
 use grid_stamps::down_axis;
+use grid_stamps::stamp_count;
 use grid_views::written_since;
+use pool_access::level_stamps;
 use pool_memory::COPY_STRIDE;
 
 // A subresource of a plan: left out, or copied whole or in part.
 pub enum Planned {
     Skipped,
     Copied(Region),
+}
+
+// A subresource's copy, and what bounds the copies after it.
+pub struct Step {
+    pub planned: Planned,
+    pub since: Since,
 }
 
 // Tells whether two rectangles are equal.
@@ -52,28 +55,36 @@ fn box_planned(shape: VersionShape, level: u64, dirty: Dirty) -> Planned
     Planned::Copied(Region::Part(part))
 }
 
-// Returns the box of the tiles stamped after `held`, from the grid on page k.
-fn page_since(
+// Returns what bounds the copies after a level that is left out. Where none is to come, nothing is worked out.
+fn since_skipped(
     newest: &[u64],
     stamps: &[u64],
-    k: usize,
     shape: VersionShape,
+    since: Since,
     level: u64,
-    held: u64,
-) -> Dirty
-    requires { ⌜ (isShape shape ≡ true) × (k < length (now newest)) × (pageStamps * k + pageStamps ≤ length (now stamps)) ⌝ }
-    ensures { λ r. ⌜ r ≡ boxSince (tilingOf shape level) held (gridOn shape level (now (newest .entry)) (now (stamps .entry)) k) ⌝ }
+    more: bool,
+) -> Since
+    requires { ⌜ (isShape shape ≡ true) × GridFits since (stampCount (tilingOf shape level)) (length (now newest)) (length (now stamps)) ⌝ }
+    ensures { λ r. ⌜ more ≡ true → r ≡ nextSince shape level since ⌝ }
 {
-    let across = across_axis(shape, level);
-    let down = down_axis(shape, level);
-    let a = PAGE_STAMPS * k;
-    let e = a + PAGE_STAMPS;
-    written_since(&stamps[a..e], across, down, newest[k], held)
+    let Since::After { grid, stamp, held } = since else {
+        return Since::Nothing;
+    };
+    if !more {
+        return since;
+    }
+    let count = level_stamps(shape, level);
+    Since::After {
+        grid: grid + 1,
+        stamp: stamp + count,
+        held,
+    }
 }
 
 // Plans the copy of a slice's level: none where the upload rewrites it entirely, whole where nothing is known, otherwise the box of
 // what was written after the new version retired. A box that the upload's rectangle covers is copied still: the upload can decline
-// after the rename, and the version must be whole without it.
+// after the rename, and the version must be whole without it. `more` says whether a grid is to come: what bounds the copies after
+// this one is worked out by the same tiling, and for a last level that is left out not at all.
 pub fn copy_at(
     newest: &[u64],
     stamps: &[u64],
@@ -82,20 +93,38 @@ pub fn copy_at(
     upload: Upload,
     slice: u64,
     level: u64,
-) -> Planned
-    requires { ⌜ (isShape shape ≡ true) × (slice < slicesOf shape) × (level < shape .levels)
-        × SinceFits since (gridCount shape) (length (now newest)) (length (now stamps)) ⌝ }
-    ensures { λ r. ⌜ r ≡ plannedAt (now (newest .entry)) (now (stamps .entry)) shape since (footprint upload) slice level ⌝ }
+    more: bool,
+) -> Step
+    requires { ⌜ (isShape shape ≡ true) × GridFits since (stampCount (tilingOf shape level)) (length (now newest)) (length (now stamps)) ⌝ }
+    ensures { λ r. ⌜ (r .planned ≡ plannedAt (now (newest .entry)) (now (stamps .entry)) shape since (footprint upload) slice level)
+        × (more ≡ true → r .since ≡ nextSince shape level since) ⌝ }
 {
     if upload.cover & ((slice == upload.slice) & (level == upload.level)) {
-        return Planned::Skipped;
+        let next = since_skipped(newest, stamps, shape, since, level, more);
+        return Step {
+            planned: Planned::Skipped,
+            since: next,
+        };
     }
-    let Since::After { page, held } = since else {
-        return Planned::Copied(Region::Whole);
+    let Since::After { grid, stamp, held } = since else {
+        return Step {
+            planned: Planned::Copied(Region::Whole),
+            since: Since::Nothing,
+        };
     };
-    let k = page + (slice * shape.levels + level) as usize;
-    let dirty = page_since(newest, stamps, k, shape, level, held);
-    box_planned(shape, level, dirty)
+    let across = across_axis(shape, level);
+    let down = down_axis(shape, level);
+    let end = stamp + stamp_count(across, down) as usize;
+    let dirty = written_since(&stamps[stamp..end], across, down, newest[grid], held);
+    let planned = box_planned(shape, level, dirty);
+    Step {
+        planned,
+        since: Since::After {
+            grid: grid + 1,
+            stamp: end,
+            held,
+        },
+    }
 }
 
 // Returns the seven numbers of a copy: slice, level, whole or not, left, top, width, height.
