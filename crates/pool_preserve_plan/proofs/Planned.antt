@@ -158,3 +158,9 @@ module _ (levels k slice level : ℕ) (p : IsPlace levels k slice level) where
 
   pub level-of : level ≡ k % levels
   level-of = sym (place-level slice level levels (p .inside)) ∙ ap (λ (n : ℕ). n % levels) (p .place)
+
+  pub next-place : (a b : ℕ) → a ≤ slice + 1 → b < levels → a * levels + b ≡ slice * levels + level + 1 → IsPlace levels (k + 1) a b
+  next-place a b h q e = record { inside = q; below = omega (arith, p .below); place = omega (arith, e, p .place) }
+
+pub first-place : (levels : ℕ) → 1 ≤ levels → IsPlace levels 0 0 0
+first-place levels h = record { inside = omega arith; below = omega arith; place = omega (arith, zero-mul levels) }

@@ -65,7 +65,7 @@ fn since_skipped(
     more: bool,
 ) -> Since
     requires { ⌜ (isShape shape ≡ true) × GridFits since (stampCount (tilingOf shape level)) (length (now newest)) (length (now stamps)) ⌝ }
-    ensures { λ r. ⌜ more ≡ true → r ≡ nextSince shape level since ⌝ }
+    ensures { λ r. ⌜ (more ≡ true → r ≡ nextSince shape level since) ⌝ }
 {
     let Since::After { grid, stamp, held } = since else {
         return Since::Nothing;
