@@ -55,8 +55,9 @@ module _ (newest stamps : List ℕ) (s : VersionShape) (u : UploadFootprint) (sl
   unfolding plannedAt
   planned-open since e = ap (λ (b : Bool). cond b Skipped (plannedSince newest stamps s since level)) e
 
-  pub planned-unknown : (since : Since) → covers u slice level ≡ false → since ≡ Nothing → plannedAt newest stamps s since u slice level ≡ Copied Whole
-  planned-unknown since e f = planned-open since e ∙ ap (λ (x : Since). plannedSince newest stamps s x level) f
+  pub planned-unknown : (since : Since) → since ≡ Nothing → plannedAt newest stamps s since u slice level ≡ cond (covers u slice level) Skipped (Copied Whole)
+  unfolding plannedAt
+  planned-unknown since f = ap (λ (x : Since). plannedAt newest stamps s x u slice level) f
 
   pub planned-after : (since : Since) (grid stamp held : ℕ) → covers u slice level ≡ false → since ≡ After grid stamp held
       → plannedAt newest stamps s since u slice level ≡ boxPlanned s level (boxSince (tilingOf s level) held (gridOn s level newest stamps grid stamp))

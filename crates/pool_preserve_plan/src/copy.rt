@@ -1,10 +1,12 @@
 // One subresource's copy.
 ghost use mathlib.Core.Path.{_≡_};
-ghost use mathlib.Core.Bool.{true};
+ghost use mathlib.Core.Bool.{true, cond};
 ghost use lib.ListN.{length};
 ghost use Rattle.grid_shapes.specs.Shapes.{isShape};
+ghost use Rattle.grid_rects.specs.declared.rect.Region.the-variants.{Whole};
 ghost use Rattle.grid_stamps.specs.Grids.{tilingOf, stampCount};
 ghost use Rattle.pool_rules.specs.PreservePlan.{sameRect};
+ghost use Rattle.pool_preserve_plan.specs.declared.copy.Planned.the-variants.{Skipped, Copied};
 ghost use Rattle.pool_preserve_plan.specs.Copies.{boxPlanned, GridFits, footprint, plannedAt, nextSince, copyNumbersOf};
 use crate::since::Since;
 use crate::since::Upload;
@@ -18,7 +20,6 @@ use grid_stamps::across_axis;
 use grid_stamps::down_axis;
 use grid_stamps::stamp_count;
 use grid_views::written_since;
-use pool_access::level_stamps;
 use pool_memory::COPY_STRIDE;
 
 // A subresource of a plan: left out, or copied whole or in part.
@@ -55,36 +56,20 @@ fn box_planned(shape: VersionShape, level: u64, dirty: Dirty) -> Planned
     Planned::Copied(Region::Part(part))
 }
 
-// Returns what bounds the copies after a level that is left out. Where none is to come, nothing is worked out.
-fn since_skipped(
-    newest: &[u64],
-    stamps: &[u64],
-    shape: VersionShape,
-    since: Since,
-    level: u64,
-    more: bool,
-) -> Since
-    requires { ⌜ (isShape shape ≡ true) × GridFits since (stampCount (tilingOf shape level)) (length (now newest)) (length (now stamps)) ⌝ }
-    ensures { λ r. ⌜ (more ≡ true → r ≡ nextSince shape level since) ⌝ }
+// Plans the copy where nothing is known: whole, unless the upload rewrites the level entirely.
+fn copy_unknown(covered: bool) -> Planned
+    ensures { λ r. ⌜ r ≡ cond covered Skipped (Copied Whole) ⌝ }
 {
-    let Since::After { grid, stamp, held } = since else {
-        return Since::Nothing;
-    };
-    if !more {
-        return since;
+    if covered {
+        return Planned::Skipped;
     }
-    let count = level_stamps(shape, level);
-    Since::After {
-        grid: grid + 1,
-        stamp: stamp + count,
-        held,
-    }
+    Planned::Copied(Region::Whole)
 }
 
 // Plans the copy of a slice's level: none where the upload rewrites it entirely, whole where nothing is known, otherwise the box of
 // what was written after the new version retired. A box that the upload's rectangle covers is copied still: the upload can decline
-// after the rename, and the version must be whole without it. `more` says whether a grid is to come: what bounds the copies after
-// this one is worked out by the same tiling, and for a last level that is left out not at all.
+// after the rename, and the version must be whole without it. The next grid begins where this one ends, so one tiling serves both;
+// where no grid is to come (`more`), a level that is left out needs none.
 pub fn copy_at(
     newest: &[u64],
     stamps: &[u64],
@@ -99,31 +84,38 @@ pub fn copy_at(
     ensures { λ r. ⌜ (r .planned ≡ plannedAt (now (newest .entry)) (now (stamps .entry)) shape since (footprint upload) slice level)
         × (more ≡ true → r .since ≡ nextSince shape level since) ⌝ }
 {
-    if upload.cover & ((slice == upload.slice) & (level == upload.level)) {
-        let next = since_skipped(newest, stamps, shape, since, level, more);
+    let covered = upload.cover & ((slice == upload.slice) & (level == upload.level));
+    let Since::After { grid, stamp, held } = since else {
+        return Step {
+            planned: copy_unknown(covered),
+            since: Since::Nothing,
+        };
+    };
+    if covered & !more {
+        return Step {
+            planned: Planned::Skipped,
+            since,
+        };
+    }
+    let across = across_axis(shape, level);
+    let down = down_axis(shape, level);
+    let end = stamp + stamp_count(across, down) as usize;
+    let next = Since::After {
+        grid: grid + 1,
+        stamp: end,
+        held,
+    };
+    if covered {
         return Step {
             planned: Planned::Skipped,
             since: next,
         };
     }
-    let Since::After { grid, stamp, held } = since else {
-        return Step {
-            planned: Planned::Copied(Region::Whole),
-            since: Since::Nothing,
-        };
-    };
-    let across = across_axis(shape, level);
-    let down = down_axis(shape, level);
-    let end = stamp + stamp_count(across, down) as usize;
     let dirty = written_since(&stamps[stamp..end], across, down, newest[grid], held);
     let planned = box_planned(shape, level, dirty);
     Step {
         planned,
-        since: Since::After {
-            grid: grid + 1,
-            stamp: end,
-            held,
-        },
+        since: next,
     }
 }
 
