@@ -8,6 +8,7 @@ use native.Mathlib.Numerals.{add-one}
 use native.Mathlib.Omega.{arith}
 use borrow.Author.Tests.{ltb-true, ltb-false}
 use lib.Dec.{ltb}
+use lib.ListN.{length}
 use lib.Seq.{sets}
 use Rattle.base_blocks.specs.Lists.{total}
 use Rattle.base_blocks.proofs.Lists.{either}
@@ -33,6 +34,37 @@ use Rattle.pool_history.specs.declared.run.HistoryRun.{HistoryRun}
 use Rattle.pool_note_write.specs.Dropped.{runAt, fewer, recordDropped, recordsDropped, newestDropped, stampsDropped, CanDrop}
 use Rattle.pool_note_write.specs.Counts.{withUsed}
 use Rattle.pool_note_write.proofs.Left.{otherState, otherPool, other-record, grids-left, stamps-left, history-left}
+
+-- ---- the run that was read
+
+module _ (textures newest stamps : List ℕ) (n : ℕ) (used : Used) (i : ℕ) (d : CanDrop textures newest stamps n used i) (run : HistoryRun)
+    (e : run ≡ runAt textures n used i) where
+  run-within : (runAt textures n used i .grid + runAt textures n used i .grids ≤ used .grids)
+      × (runAt textures n used i .stamp + runAt textures n used i .stamps ≤ used .stamps)
+  unfolding runAt
+  run-within = (omega (arith, d .grids-begin, d .grids-end), omega (arith, d .stamps-begin, d .stamps-end))
+
+  -- it lies within those in use
+  pub run-in : (run .grid + run .grids ≤ used .grids) × (used .grids ≤ length newest) × (run .stamp + run .stamps ≤ used .stamps) × (used .stamps ≤ length stamps)
+  run-in = (
+    subst (λ (r : HistoryRun). r .grid + r .grids ≤ used .grids) (sym e) (run-within .0),
+    d .grids-fit,
+    subst (λ (r : HistoryRun). r .stamp + r .stamps ≤ used .stamps) (sym e) (run-within .1),
+    d .stamps-fit,
+  )
+
+  -- and those behind it can be moved down by it
+  pub run-moves : (s : List ℕ) → s ≡ recordDropped textures i → StartsMove (fewer (run .grids)) (fewer (run .stamps)) (i + 1) n s
+  run-moves s k =
+      subst (StartsMove (fewer (run .grids)) (fewer (run .stamps)) (i + 1) n) (sym k)
+      (subst (λ (r : HistoryRun). StartsMove (fewer (r .grids)) (fewer (r .stamps)) (i + 1) n (recordDropped textures i)) (sym e) (d .behind))
+
+  pub records-left : (s : List ℕ) → s ≡ recordDropped textures i
+      → startsMoved (fewer (run .grids)) (fewer (run .stamps)) (i + 1) n s ≡ recordsDropped textures n (runAt textures n used i) i
+  unfolding recordsDropped
+  records-left s k =
+      ap (startsMoved (fewer (run .grids)) (fewer (run .stamps)) (i + 1) n) k
+      ∙ ap (λ (r : HistoryRun). startsMoved (fewer (r .grids)) (fewer (r .stamps)) (i + 1) n (recordDropped textures i)) e
 
 -- ---- what is left
 
