@@ -27,6 +27,16 @@ pub fn remove_grids(newest: &mut [u64], stamps: &mut [u64], used: Used, run: His
         (now (newest .exit) ≡ moved (now (newest .entry)) (run .grid) (run .grid + run .grids) (used .grids - (run .grid + run .grids)))
         × (now (stamps .exit) ≡ moved (now (stamps .entry)) (run .stamp) (run .stamp + run .stamps) (used .stamps - (run .stamp + run .stamps))) ⌝ }
 {
-    shift_down(newest, run.grid, run.grids, used.grids - (run.grid + run.grids));
-    shift_down(stamps, run.stamp, run.stamps, used.stamps - (run.stamp + run.stamps));
+    shift_down(
+        newest,
+        run.grid,
+        run.grids,
+        used.grids - (run.grid + run.grids),
+    );
+    shift_down(
+        stamps,
+        run.stamp,
+        run.stamps,
+        used.stamps - (run.stamp + run.stamps),
+    );
 }

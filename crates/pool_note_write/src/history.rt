@@ -115,5 +115,12 @@ pub fn regenerate_history(
         (remadeAt (now (textures .entry)) i n (now (newest .entry)) (now (stamps .entry)))) ⌝ }
 {
     let t = texture_at(textures, i);
-    regenerate_grids(newest, stamps, t.grid as usize, t.stamp as usize, t.shape, n);
+    regenerate_grids(
+        newest,
+        stamps,
+        t.grid as usize,
+        t.stamp as usize,
+        t.shape,
+        n,
+    );
 }
