@@ -1,6 +1,5 @@
 -- A history dropped: where its grids and stamps end, what is left in the lent memory, and that all of it can be moved so. Assumes nothing.
 use mathlib.Core.Path.{_≡_, refl, sym, ap, ap₂, _∙_, subst}
-use mathlib.Core.Bool.{true, false}
 use mathlib.Core.Option.{none}
 use mathlib.Core.List.{List}
 use Prim.Native.Nat.{ℕ, suc, _+_, _*_, _-_, _≤_, _<_}
@@ -13,17 +12,15 @@ use lib.Seq.{sets}
 use Rattle.base_blocks.specs.Lists.{total}
 use Rattle.base_blocks.proofs.Lists.{either}
 use Rattle.base_tables.proofs.Records.{take-table}
-use Rattle.pool_rules.specs.Model.{PoolModel, gridsUsed}
-use Rattle.pool_rules.specs.HistorySizes.{stampsUsed}
+use Rattle.pool_rules.specs.Model.{PoolModel}
 use Rattle.pool_records.specs.declared.texture.TextureRecord.{TextureRecord}
 use Rattle.pool_records.specs.Texture.{readTexture, writeTexture, textureIn, recordGrids, recordStamps}
 use Rattle.pool_records.specs.Starts.{startsMoved, StartsMove, gridEnd, stampEnd}
 use Rattle.pool_records.specs.RecordConstants.{textureStride}
 use Rattle.pool_memory.specs.Lent.{Lent, lent}
-use Rattle.pool_memory.specs.Reading.{trackedRecords, modelOf}
 use Rattle.pool_memory.specs.Writing.{texturesAfter, lentAfter}
 use Rattle.pool_memory.proofs.Fits.{Fits}
-use Rattle.pool_memory.proofs.Runs.{firstGrid, firstStamp, stateOf}
+use Rattle.pool_memory.proofs.Runs.{firstGrid, firstStamp}
 use Rattle.pool_memory.proofs.Stays.{textures-fit}
 use Rattle.pool_memory.proofs.Starts.{placedRecord, textures-renewed, renewed-moves}
 use Rattle.pool_memory.proofs.HistoryRuns.{gridCountAt, stampCountAt, grid-next, stamp-next, grids-in, stamps-in, newest-dropped, stamps-dropped}

@@ -58,15 +58,16 @@ pub fn drop_history(
     let run = history_run(textures, n, used, i);
     remove_grids(newest, stamps, used, run);
     set_history(textures, i, Recorded::NoHistory);
-    let grids = Shift {
+    let by_grids = Shift {
         less: run.grids as u64,
         more: 0,
     };
-    let marks = Shift {
+    let by_stamps = Shift {
         less: run.stamps as u64,
         more: 0,
     };
-    move_starts(textures, i + 1, n, grids, marks);
+    let next = i + 1;
+    move_starts(textures, next, n, by_grids, by_stamps);
     Used {
         grids: used.grids - run.grids,
         stamps: used.stamps - run.stamps,

@@ -1,7 +1,6 @@
 -- `regenerate_grid` meets its contract: level 0 stays, any other is stamped whole. Assumes nothing.
 use mathlib.Core.Path.{sym, ap, _∙_}
 use Prim.Native.Nat.{ℕ, _+_}
-use native.Mathlib.Omega.{arith}
 use lib.ListN.{set}
 use lib.Seq.{sets}
 use borrow.Author.Needs.{needs}

@@ -1,8 +1,7 @@
 -- `stamp_grid` meets its contract: the grid is lent on as a part and put back. Assumes nothing.
 use mathlib.Core.Path.{_≡_, ap, ap₂}
-use Prim.Native.Nat.{ℕ, _+_, _-_, _≤_}
+use Prim.Native.Nat.{ℕ, _+_, _-_}
 use native.Mathlib.Omega.{arith}
-use lib.ListN.{length}
 use borrow.Author.Needs.{needs}
 use Rattle.grid_stamps.specs.Grids.{tiled, tilingOf, stampCount}
 use Rattle.pool_history.proofs.GridParts.{axes-ok, count-known, part-fits, newest-back, part-back}

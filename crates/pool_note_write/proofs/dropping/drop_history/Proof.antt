@@ -1,5 +1,5 @@
 -- `drop_history` meets its contract. Assumes nothing.
-use mathlib.Core.Path.{_≡_, ap, _∙_}
+use mathlib.Core.Path.{ap, _∙_}
 use Prim.Native.Nat.{_+_, _-_, _≤_}
 use native.Mathlib.Omega.{arith}
 use borrow.Author.Needs.{needs}
@@ -35,8 +35,8 @@ remove-grids-requires c κs =
 set-history-requires : tie.Need-set-history-requires
 set-history-requires c κs = search needs
 
-add-move-starts : tie.Need-add-move-starts
-add-move-starts c = search needs
+add-next : tie.Need-add-next
+add-next c = search needs
 
 move-starts-requires : tie.Need-move-starts-requires
 move-starts-requires c κs =
@@ -46,14 +46,15 @@ move-starts-requires c κs =
     let b = c .before .before .before in (
       omega (arith, s .pre .fit, b .set-history .kept .0),
       omega (arith, s .pre .there),
-      run-moves (a .textures .now) (a .newest .now) (a .stamps .now) (a .n) (a .used) (a .i) (s .pre) (run w) (w .history-run .ensures) _ (b .set-history .ensures),
+      (λ j from below. run-moves (a .textures .now) (a .newest .now) (a .stamps .now) (a .n) (a .used) (a .i) (s .pre) (run w) (w .history-run .ensures) _ (b .set-history .ensures) j
+          (omega (arith, from, s .pre .there)) below),
     )
 
-sub-t23 : tie.Need-sub-t23
-sub-t23 c = omega (arith, within (c .before .before .before .before .before .before .before .before .before .before .before .before .before .before .before .before .before) .0)
-
 sub-t24 : tie.Need-sub-t24
-sub-t24 c = omega (arith, within (c .before .before .before .before .before .before .before .before .before .before .before .before .before .before .before .before .before .before .before) .1)
+sub-t24 c = omega (arith, within (c .before .before .before .before .before .before .before .before .before .before .before .before .before .before .before .before .before) .0)
+
+sub-t25 : tie.Need-sub-t25
+sub-t25 c = omega (arith, within (c .before .before .before .before .before .before .before .before .before .before .before .before .before .before .before .before .before .before .before) .1)
 
 same-length : tie.Need-same-length
 same-length c = search needs
@@ -87,10 +88,10 @@ drop-history-spec =
     history-run-requires
     remove-grids-requires
     set-history-requires
-    add-move-starts
+    add-next
     move-starts-requires
-    sub-t23
     sub-t24
+    sub-t25
     same-length
     same-length-2
     same-length-3

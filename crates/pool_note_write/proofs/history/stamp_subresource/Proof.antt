@@ -1,11 +1,11 @@
 -- `stamp_subresource` meets its contract. Assumes nothing.
-use mathlib.Core.Path.{_≡_, ap, ap₂, _∙_}
+use mathlib.Core.Path.{ap, _∙_}
 use Prim.Native.Nat.{ℕ, _+_, _*_, _≤_, _<_}
 use native.Mathlib.Omega.{arith}
 use lib.ListN.{length, set}
 use lib.Seq.{sets}
 use borrow.Author.Needs.{needs}
-use Rattle.grid_stamps.specs.Grids.{StampGrid, tilingOf, stampCount, stampedBy}
+use Rattle.grid_stamps.specs.Grids.{tilingOf, stampCount, stampedBy}
 use Rattle.pool_rules.specs.Histories.{gridPlace}
 use Rattle.pool_rules.specs.HistorySizes.{gridStart}
 use Rattle.pool_rules.specs.RuleConstants.{mostGrids}
