@@ -8,10 +8,10 @@ use native.Mathlib.Nat.{zero-add, add-zero, add-assoc}
 use native.Mathlib.Numerals.{add-one}
 use native.Mathlib.Omega.{arith}
 use lib.ListN.{length, take, drop, getD, set, length-append, length-drop}
-use lib.Seq.{sets, set-split, take-take, take-add, drop-drop, length-take-le}
+use lib.Seq.{sets, set-split, take-all, take-take, take-add, drop-drop, length-take-le}
 use borrow.Author.Tests.{eqb-true}
 use lib.Dec.{eqb}
-use Rattle.base_blocks.specs.Lists.{listed, over, total, removed}
+use Rattle.base_blocks.specs.Lists.{over, total, removed, inserted}
 use Rattle.base_blocks.specs.Blocks.{moved}
 use Rattle.base_blocks.proofs.Lists.{and-both}
 use Rattle.base_blocks.proofs.Blocks.{repacked, over-moved}
@@ -85,6 +85,9 @@ module _ {l : Lent} (k : Packing l) where
 
   pub from-bound : (i : ℕ) → from i ≤ k .count
   from-bound i = omega (arith, k .counted, total-cut (k .size) i (trackedRecords l))
+
+  pub from-last : from (l .pool .tracked) ≡ k .count
+  from-last = ap (total (k .size)) (take-all (l .pool .tracked) (trackedRecords l) (omega (arith, tracked-records l))) ∙ k .counted
 
   pub from-order : (i j : ℕ) → i ≤ j → from i ≤ from j
   from-order i j h = omega (arith, total-cut (k .size) i (take j (trackedRecords l)), ap (total (k .size)) (take-take i j (trackedRecords l) h))
@@ -201,6 +204,13 @@ module _ {l : Lent} (k : Packing l) where
       one-alone : (t : VersionState ℕ) → flatMap (k .wr) (t ∷ []) ≡ k .wr t
       unfolding flatMap
       one-alone t = append-nil (k .wr t)
+
+      -- one put in before it
+      pub inserted-packed : (t : VersionState ℕ) → p .textures ≡ inserted i (t ∷ []) (modelOf l .textures)
+          → k .count + length (k .wr t) ≤ length (k .slice)
+          → sets (moved (k .slice) (from i + length (k .wr t)) (from i) (k .count - from i)) (from i) (k .wr t) ≡ packed
+      unfolding inserted
+      inserted-packed t e fits = between-packed i i (t ∷ []) (omega arith) e (k .wr t) (one-alone t) (omega (arith, from-bound i))
 
       module _ (h : i < l .pool .tracked) where
         -- it has something else: those behind it move

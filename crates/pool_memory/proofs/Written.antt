@@ -1,171 +1,190 @@
--- `newest` and the stamps after a texture's history was written, all of it or one grid. Assumes nothing.
+-- The grids of a texture's history, where they stand, and `newest` and the stamps after one of them was stamped. Assumes nothing.
 use mathlib.Core.Path.{_≡_, refl, sym, ap, ap₂, _∙_}
 use mathlib.Core.Bool.{true, cond}
 use mathlib.Core.Option.{Option, some}
-use mathlib.Core.List.{List, [], _∷_, _++_, map, flatMap, append-nil}
-use Prim.Native.Nat.{ℕ, suc, _+_, _*_, _-_, _≤_, _<_}
+use mathlib.Core.List.{List, [], _∷_, _++_, map, flatMap, append-assoc}
+use Prim.Native.Nat.{ℕ, zero, suc, _+_, _*_, _%_, _≤_, _<_}
 use native.Mathlib.Nat.{zero-add, mul-comm, mul-add-mod-self-right, mod-eq-of-lt}
-use native.Mathlib.Decide.{ℕ-discrete}
 use native.Mathlib.Omega.{arith}
-use borrow.Author.Tests.{eq-eqb}
-use lib.ListN.{length, take, drop, getD, set, length-set, length-drop, length-map}
-use lib.Seq.{sets, length-take-le, getD-set-same, getD-set-other}
-use Rattle.base_blocks.specs.Lists.{over, total, ascending}
-use Rattle.base_blocks.specs.Blocks.{moved}
-use Rattle.base_blocks.proofs.Lists.{length-over}
-use Rattle.grid_shapes.specs.Shapes.{slicesOf, sameShape}
-use Rattle.grid_shapes.proofs.Shapes.{same-self}
-use Rattle.grid_stamps.specs.Grids.{StampGrid, gridIn, tilingOf}
+use lib.ListN.{length, take, drop, getD, set, length-set, length-append, length-drop, length-map}
+use lib.Seq.{sets, sets-eq, length-take-le}
+use Rattle.base_blocks.specs.Lists.{listed, total}
+use Rattle.base_blocks.proofs.Listed.{length-listed, getD-listed}
+use Rattle.grid_shapes.specs.declared.shape.VersionShape.{VersionShape}
+use Rattle.grid_shapes.specs.Shapes.{slicesOf}
+use Rattle.grid_stamps.specs.Grids.{StampGrid, gridIn, tilingOf, stampCount}
 use Rattle.grid_stamps.proofs.RowByRow.{tile-place}
-use Rattle.pool_rules.specs.Model.{WriteHistory, VersionState, PoolModel, hasHistory, gridCount}
+use Rattle.pool_rules.specs.Model.{WriteHistory, VersionState, PoolModel, hasHistory, gridCount, gridsUsed}
 use Rattle.pool_rules.specs.Histories.{gridAt, gridPlace}
-use Rattle.pool_records.specs.Find.{idOf}
-use Rattle.pool_records.specs.Texture.{readTexture, recordGrids}
+use Rattle.pool_rules.specs.HistorySizes.{gridSize, gridStart, historySize, stampsUsed}
+use Rattle.pool_rules.proofs.HistorySizes.{grid-next, grid-end}
+use Rattle.pool_records.specs.declared.recorded.Recorded.{Recorded}
+use Rattle.pool_records.specs.declared.recorded.Recorded.the-variants.{Writes, NoHistory}
+use Rattle.pool_records.specs.Texture.{readTexture, recordedGrids, recordedStamps}
 use Rattle.pool_memory.specs.Lent.{Lent}
-use Rattle.pool_memory.specs.Reading.{trackedRecords, pageAt, gridRead, modelOf}
-use Rattle.pool_memory.specs.Writing.{gridsOf, newestOf, newestAfter, firstPage, pageBefore, pagesFrom, pagesAfter, stampsAfter}
-use Rattle.pool_memory.proofs.Parts.{map-set}
-use Rattle.pool_memory.proofs.Rewritten.{moved-self, sets-self, set-sets}
-use Rattle.pool_memory.proofs.Runs.{firstSpare, firstGrid, stateOf, newest-state, model-at}
-use Rattle.pool_memory.proofs.Kept.{isHere, found-at}
-use Rattle.pool_memory.proofs.Same.{listed-run}
-use Rattle.pool_memory.proofs.Pages.{gridCountAt, next-page, page-bound, pages-in, newest-repacked, stamps-repacked, set-parts}
-use Rattle.pool_memory.proofs.Stamped.{Whole, length-pages, page-stamped, gridsAt, pagesStood, used-at, length-grids, grid-of, has-pages, page-stood, length-stood, whole-read, stood}
-use Rattle.grid_stamps.specs.StampConstants.{pageStamps}
+use Rattle.pool_memory.specs.Reading.{trackedRecords, gridRead, historyRead, stateRead, modelOf}
+use Rattle.pool_memory.specs.Writing.{gridsOf, newestOf, newestAfter, stampsOf, stampsAfter}
+use Rattle.pool_memory.proofs.Fits.{Fits}
+use Rattle.pool_memory.proofs.Parts.{map-set, upTo, flat-set, total-next}
+use Rattle.pool_memory.proofs.Rewritten.{sets-self, set-sets, sets-part}
+use Rattle.pool_memory.proofs.Runs.{none-before, firstSpare, firstGrid, firstStamp, stateOf, grids-state, stamps-used-state, grid-held-at, stamp-held-at}
+use Rattle.pool_memory.proofs.Packings.{newestPacking, stampsPacking, one-packed}
+use Rattle.pool_memory.proofs.HistoryRuns.{gridCountAt, stampCountAt, grids-in, stamps-in, newest-rewritten, stamps-rewritten}
 
 -- what stands for a grid past the last
 abbrev pub noGrid : StampGrid
 noGrid = record { newest = 0; stamps = [] }
 
--- a grid of a texture's history is what its page holds
-module _ (l : Lent) (i : ℕ) (h : WriteHistory) (e : stateOf l i .history ≡ some h) where
-  pub all-pages : gridCountAt l i ≡ gridCount (stateOf l i .shape)
-  all-pages = sym (used-at l i) ∙ ap (λ (o : Option WriteHistory). cond (hasHistory o) (gridCount (stateOf l i .shape)) 0) e
+-- ---- the grids of texture i
 
-  module _ (slice level : ℕ) (p : slice < slicesOf (stateOf l i .shape)) (q : level < stateOf l i .shape .levels) where
-    pub place-page : gridPlace (stateOf l i .shape) slice level < gridCountAt l i
-    unfolding gridCount
-    place-page =
-        omega (
-          arith,
-          all-pages,
-          tile-place (stateOf l i .shape .levels) (slicesOf (stateOf l i .shape)) level slice q p,
-          mul-comm
-              (stateOf l i .shape .levels) (slicesOf (stateOf l i .shape)),
-        )
+module _ (l : Lent) (i : ℕ) where
+  abbrev pub gridsAt : List StampGrid
+  gridsAt = gridsOf (stateOf l i .history)
 
-    pub grid-held : gridAt (stateOf l i .shape) h slice level
-        ≡ gridIn (tilingOf (stateOf l i .shape) level) (getD (l .newest) (firstGrid l i + gridPlace (stateOf l i .shape) slice level) 0)
-        (pageAt (l .stamps) (firstGrid l i + gridPlace (stateOf l i .shape) slice level))
-    unfolding gridAt gridRead
-    grid-held =
-        let s = stateOf l i .shape in
-        let k = gridPlace s slice level in
-        sym (ap (λ (o : Option WriteHistory). getD (gridsOf o) k noGrid) e)
-        ∙ grid-of l i k noGrid place-page
-        ∙ ap (λ (m : ℕ). gridIn (tilingOf s m) (getD (l .newest) (firstGrid l i + k) 0) (pageAt (l .stamps) (firstGrid l i + k)))
-        (mul-add-mod-self-right slice (s .levels) level ∙ mod-eq-of-lt q)
+  pub used-at : gridsUsed (stateOf l i) ≡ gridCountAt l i
+  unfolding stateOf
+  used-at = grids-state l (firstSpare l i) (getD (trackedRecords l) i (readTexture []))
 
--- one grid changed, and its page whole
-pub whole-set : (before : ℕ → List ℕ) (d : StampGrid) (gs : List StampGrid) (k : ℕ) (g : StampGrid) → Whole before d 0 gs
-    → length (over (g .stamps) (before (0 + k))) ≡ pageStamps
-    → Whole before d 0 (set gs k g)
-whole-set before d gs k g w q j h = go (ℕ-discrete j k)
-  where
-    m : j < length gs
-    m = omega (arith, length-set gs k g)
+  pub stamps-used-at : stampsUsed (stateOf l i) ≡ stampCountAt l i
+  unfolding stateOf
+  stamps-used-at = stamps-used-state l (firstSpare l i) (getD (trackedRecords l) i (readTexture []))
 
-    go : Dec (j ≡ k) → length (over (getD (set gs k g) j d .stamps) (before (0 + j))) ≡ pageStamps
-    go (yes e) =
-        ap (λ (n : ℕ). length (over (getD (set gs k g) n d .stamps) (before (0 + n)))) e
-        ∙ ap (λ (x : StampGrid). length (over (x .stamps) (before (0 + k)))) (getD-set-same gs k g d (omega (arith, m))) ∙ q
-    go (no e) = ap (λ (x : StampGrid). length (over (x .stamps) (before (0 + j)))) (getD-set-other gs k j g d e) ∙ w j m
+  length-read : (s : VersionShape) (grid stamp : ℕ) (h : Recorded) → length (gridsOf (historyRead l s grid stamp h)) ≡ recordedGrids h s
+  length-read s grid stamp NoHistory = refl
+  length-read s grid stamp (Writes n) = length-listed (gridRead l s grid stamp) 0 (gridCount s)
 
-module _ (l : Lent) (p : PoolModel ℕ) (pages : total recordGrids (trackedRecords l) ≡ l .pool .grids) (i : ℕ) (h : i < l .pool .tracked)
-    (t : VersionState ℕ)
-    (e : p .textures ≡ set (modelOf l .textures) i t) where
-  -- ---- newest
+  pub length-grids : length gridsAt ≡ gridCountAt l i
+  unfolding stateOf stateRead
+  length-grids =
+      let t = getD (trackedRecords l) i (readTexture []) in
+      length-read (t .shape) (t .grid) (t .stamp) (t .history)
 
-  module _ (fits : l .pool .grids ≤ length (l .newest)) where
-    one-newest : flatMap newestOf (t ∷ []) ≡ newestOf t
-    unfolding flatMap
-    one-newest = append-nil (newestOf t)
+  grid-in : (s : VersionShape) (grid stamp : ℕ) (h : Recorded) (k : ℕ) (d : StampGrid) → k < recordedGrids h s
+      → getD (gridsOf (historyRead l s grid stamp h)) k d ≡ gridRead l s grid stamp k
+  grid-in s grid stamp NoHistory k d q = absurd (let y : ⊥ = omega arith in y)
+  grid-in s grid stamp (Writes n) k d q =
+      getD-listed (gridRead l s grid stamp) 0 (gridCount s) k d q ∙ ap (gridRead l s grid stamp) (zero-add k)
 
-    pub newest-rewritten : length (gridsOf (t .history)) ≡ gridCountAt l i → sets (l .newest) (firstGrid l i) (newestOf t) ≡ newestAfter p l
-    newest-rewritten n =
-        let a = firstGrid l i in
-        let b = firstGrid l (suc i) in
-        let r = l .pool .grids - b in
-        let long : length (newestOf t) ≡ gridCountAt l i = length-map (gridsOf (t .history)) (λ (g : StampGrid). g .newest) ∙ n in
-        let next : a + length (newestOf t) ≡ b = omega (arith, next-page l i h) in
-        ap (λ (s : List ℕ). sets s a (newestOf t)) (sym (moved-self (l .newest) b r))
-        ∙ ap (λ (m : ℕ). sets (moved (l .newest) m b r) a (newestOf t)) (sym next)
-        ∙ newest-repacked l p pages i (suc i) (t ∷ []) (omega arith) (set-parts l p i h t e) (newestOf t) one-newest fits
-        (omega (arith, page-bound l pages (suc i)))
+  module _ (f : Fits l) (h : i < l .pool .tracked) where
+    -- grid k is the one that stands there
+    pub grid-of : (k : ℕ) (d : StampGrid) → k < gridCountAt l i
+        → getD gridsAt k d ≡ gridRead l (stateOf l i .shape) (firstGrid l i) (firstStamp l i) k
+    unfolding stateOf stateRead
+    grid-of k d q =
+        let t = getD (trackedRecords l) i (readTexture []) in
+        grid-in (t .shape) (t .grid) (t .stamp) (t .history) k d q
+        ∙ ap₂ (λ (g n : ℕ). gridRead l (t .shape) g n k) (grid-held-at l (f .starts) i h) (stamp-held-at l (f .starts) i h)
 
-    pub newest-stamped : (k : ℕ) (g : StampGrid) → k < gridCountAt l i → gridsOf (t .history) ≡ set (gridsAt l i) k g
-        → set (l .newest) (firstGrid l i + k) (g .newest) ≡ newestAfter p l
-    unfolding stateOf
-    newest-stamped k g q f =
-        let a = firstGrid l i in
-        let n = gridCountAt l i in
-        let run = take n (drop a (l .newest)) in
-        let inside : a + n ≤ length (l .newest) = omega (arith, pages-in l pages i h) in
-        let lr : length run ≡ n = length-take-le n (drop a (l .newest)) (omega (arith, length-drop a (l .newest))) in
-        let old : newestOf (stateOf l i) ≡ run =
-        newest-state l (firstSpare l i) a (getD (trackedRecords l) i (readTexture [])) ∙ listed-run 0 (l .newest) a n inside in
-        let new : newestOf t ≡ set run k (g .newest) =
-        ap (map (λ (x : StampGrid). x .newest)) f ∙ map-set (λ (x : StampGrid). x .newest) (gridsAt l i) k g
-        ∙ ap (λ (xs : List ℕ). set xs k (g .newest)) old in
-        ap (λ (s : List ℕ). set s (a + k) (g .newest)) (sym (sets-self (l .newest) a n inside))
-        ∙ set-sets (l .newest) a run (omega arith) k (g .newest) (omega arith)
-        ∙ ap (sets (l .newest) a) (sym new)
-        ∙ newest-rewritten (ap length f ∙ length-set (gridsAt l i) k g ∙ length-grids l i)
+    module _ (w : WriteHistory) (e : stateOf l i .history ≡ some w) where
+      pub all-grids : gridCountAt l i ≡ gridCount (stateOf l i .shape)
+      all-grids = sym used-at ∙ ap (λ (o : Option WriteHistory). cond (hasHistory o) (gridCount (stateOf l i .shape)) 0) e
 
-  -- ---- stamps
+      pub all-stamps : stampCountAt l i ≡ historySize (stateOf l i .shape)
+      all-stamps = sym stamps-used-at ∙ ap (λ (o : Option WriteHistory). cond (hasHistory o) (historySize (stateOf l i .shape)) 0) e
 
-  module _ (up : ascending idOf (trackedRecords l) ≡ true) (id : t .id ≡ stateOf l i .id) (shape : t .shape ≡ stateOf l i .shape)
-      (fits : pageStamps * l .pool .grids ≤ length (l .stamps)) where
-    found-page : hasHistory (stateOf l i .history) ≡ true → firstPage (t .id) (t .shape) 0 (modelOf l .textures) ≡ some (firstGrid l i)
-    found-page has =
-        found-at l up (stateOf l 0) i h (t .id) (t .shape)
-        (ap (isHere (t .id) (t .shape)) (model-at l i (stateOf l 0) h)
-        ∙ rw (eq-eqb (stateOf l i .id) (t .id) (sym id), ap (sameShape (stateOf l i .shape)) shape ∙ same-self (stateOf l i .shape), has) refl)
+      module _ (slice level : ℕ) (p : slice < slicesOf (stateOf l i .shape)) (q : level < stateOf l i .shape .levels) where
+        pub place-grid : gridPlace (stateOf l i .shape) slice level < gridCountAt l i
+        unfolding gridCount
+        place-grid =
+            omega (
+              arith,
+              all-grids,
+              tile-place (stateOf l i .shape .levels) (slicesOf (stateOf l i .shape)) level slice q p,
+              mul-comm
+                  (stateOf l i .shape .levels) (slicesOf (stateOf l i .shape)),
+            )
 
-    one-pages : hasHistory (stateOf l i .history) ≡ true → flatMap (pagesAfter l) (t ∷ []) ≡ pagesFrom (pagesStood l i) 0 (gridsOf (t .history))
-    unfolding flatMap pagesAfter
-    one-pages has = append-nil (pagesAfter l t) ∙ ap (λ (o : Option ℕ). pagesFrom (pageBefore l o) 0 (gridsOf (t .history))) (found-page has)
+        pub grid-held : gridAt (stateOf l i .shape) w slice level
+            ≡ gridIn (tilingOf (stateOf l i .shape) level) (getD (l .newest) (firstGrid l i + gridPlace (stateOf l i .shape) slice level) 0)
+            (drop (firstStamp l i + gridStart (stateOf l i .shape) (gridPlace (stateOf l i .shape) slice level)) (l .stamps))
+        unfolding gridAt gridRead
+        grid-held =
+            let s = stateOf l i .shape in
+            let k = gridPlace s slice level in
+            sym (ap (λ (o : Option WriteHistory). getD (gridsOf o) k noGrid) e)
+            ∙ grid-of k noGrid place-grid
+            ∙ ap (λ (m : ℕ). gridIn (tilingOf s m) (getD (l .newest) (firstGrid l i + k) 0) (drop (firstStamp l i + gridStart s k) (l .stamps)))
+            (mul-add-mod-self-right slice (s .levels) level ∙ mod-eq-of-lt q)
 
-    pub stamps-rewritten : (d : StampGrid) → hasHistory (stateOf l i .history) ≡ true → length (gridsOf (t .history)) ≡ gridCountAt l i
-        → Whole (pagesStood l i) d 0 (gridsOf (t .history))
-        → sets (l .stamps) (pageStamps * firstGrid l i) (pagesFrom (pagesStood l i) 0 (gridsOf (t .history))) ≡ stampsAfter p l
-    stamps-rewritten d has n w =
-        let a = pageStamps * firstGrid l i in
-        let b = pageStamps * firstGrid l (suc i) in
-        let r = pageStamps * (l .pool .grids - firstGrid l (suc i)) in
-        let new = pagesFrom (pagesStood l i) 0 (gridsOf (t .history)) in
-        let long : length new ≡ pageStamps * gridCountAt l i = length-pages (pagesStood l i) d 0 (gridsOf (t .history)) w ∙ ap (λ (m : ℕ). pageStamps * m) n in
-        let next : a + length new ≡ b = omega (arith, next-page l i h) in
-        ap (λ (s : List ℕ). sets s a new) (sym (moved-self (l .stamps) b r))
-        ∙ ap (λ (m : ℕ). sets (moved (l .stamps) m b r) a new) (sym next)
-        ∙ stamps-repacked l p pages i (suc i) (t ∷ []) (omega arith) (set-parts l p i h t e) up new (one-pages has) fits
-        (omega (arith, page-bound l pages (suc i)))
+-- ---- grid k of texture i stamped
 
-    pub stamps-stamped : (k : ℕ) (g : StampGrid) → k < gridCountAt l i → gridsOf (t .history) ≡ set (gridsAt l i) k g → length (g .stamps) ≤ pageStamps
-        → take (pageStamps * (firstGrid l i + k)) (l .stamps)
-        ++ (over (g .stamps) (take pageStamps (drop (pageStamps * (firstGrid l i + k)) (l .stamps))) ++ drop (pageStamps * (firstGrid l i + k) + pageStamps) (l .stamps))
-        ≡ stampsAfter p l
-    stamps-stamped k g q f small =
-        let a = pageStamps * firstGrid l i in
-        let inside : pageStamps * (firstGrid l i + gridCountAt l i) ≤ length (l .stamps) = omega (arith, pages-in l pages i h) in
-        let n = length-grids l i in
-        let w = whole-read l i inside noGrid in
-        let lk = length-stood l i inside k q in
-        let page : length (over (g .stamps) (pagesStood l i k)) ≡ pageStamps = length-over (g .stamps) (pagesStood l i k) (omega arith) ∙ lk in
-        ap₂ (λ (m : ℕ) (x : List ℕ). take m (l .stamps) ++ (over (g .stamps) x ++ drop (m + pageStamps) (l .stamps)))
-        (let y : pageStamps * (firstGrid l i + k) ≡ a + pageStamps * k = omega arith in y) (sym (page-stood l i k))
-        ∙ ap (λ (s : List ℕ). take (a + pageStamps * k) s ++ (over (g .stamps) (pagesStood l i k) ++ drop (a + pageStamps * k + pageStamps) s)) (sym (stood l i inside))
-        ∙ page-stamped (l .stamps) a (pagesStood l i) noGrid (gridsAt l i) w (omega arith) k (omega arith) g page
-        ∙ ap (λ (gs : List StampGrid). sets (l .stamps) a (pagesFrom (pagesStood l i) 0 gs)) (sym f)
-        ∙ stamps-rewritten noGrid (has-pages l i k q) (ap length f ∙ length-set (gridsAt l i) k g ∙ n)
-        (rw f (whole-set (pagesStood l i) noGrid (gridsAt l i) k g w (rw (zero-add k) page)))
+module _ (l : Lent) (f : Fits l) (p : PoolModel ℕ) (i : ℕ) (h : i < l .pool .tracked) (t : VersionState ℕ) (e : p .textures ≡ set (modelOf l .textures) i t)
+    (k : ℕ) (g : StampGrid) (q : k < gridCountAt l i) (n : gridsOf (t .history) ≡ set (gridsAt l i) k g) where
+  pub newest-stamped : set (l .newest) (firstGrid l i + k) (g .newest) ≡ newestAfter p l
+  unfolding firstGrid
+  newest-stamped =
+      let a = firstGrid l i in
+      let m = gridCountAt l i in
+      let run = take m (drop a (l .newest)) in
+      let inside : a + m ≤ length (l .newest) = omega (arith, grids-in l f i h, f .grids) in
+      let lr : length run ≡ m = length-take-le m (drop a (l .newest)) (omega (arith, length-drop a (l .newest))) in
+      let old : newestOf (stateOf l i) ≡ run = one-packed (newestPacking l f) i h in
+      let new : newestOf t ≡ set run k (g .newest) =
+      ap (map (λ (x : StampGrid). x .newest)) n ∙ map-set (λ (x : StampGrid). x .newest) (gridsAt l i) k g
+      ∙ ap (λ (xs : List ℕ). set xs k (g .newest)) old in
+      ap (λ (s : List ℕ). set s (a + k) (g .newest)) (sym (sets-self (l .newest) a m inside))
+      ∙ set-sets (l .newest) a run (omega arith) k (g .newest) (omega arith)
+      ∙ ap (sets (l .newest) a) (sym new)
+      ∙ newest-rewritten l f p i h t e
+      (length-map (gridsOf (t .history)) (λ (x : StampGrid). x .newest) ∙ ap length n ∙ length-set (gridsAt l i) k g ∙ length-grids l i)
+
+  -- its history is recorded, for it has a grid
+  counts-read : (s : VersionShape) (o : Recorded) (j : ℕ) → j < recordedGrids o s → (recordedGrids o s ≡ gridCount s) × (recordedStamps o s ≡ historySize s)
+  counts-read s NoHistory j r = absurd (let y : ⊥ = omega arith in y)
+  counts-read s (Writes m) j r = (refl, refl)
+
+  counts : (gridCountAt l i ≡ gridCount (stateOf l i .shape)) × (stampCountAt l i ≡ historySize (stateOf l i .shape))
+  unfolding stateOf stateRead
+  counts = let r = getD (trackedRecords l) i (readTexture []) in counts-read (r .shape) (r .history) k q
+
+  -- each of its grids has the stamps of its place
+  length-grid : (j : ℕ) → j < gridCountAt l i → length (getD (gridsAt l i) j noGrid .stamps) ≡ gridSize (stateOf l i .shape) j
+  unfolding gridRead gridIn gridSize
+  length-grid j r =
+      let s = stateOf l i .shape in
+      let at = firstStamp l i + gridStart s j in
+      ap (λ (x : StampGrid). length (x .stamps)) (grid-of l i f h j noGrid r)
+      ∙ length-take-le (gridSize s j) (drop at (l .stamps))
+      (omega (arith, length-drop at (l .stamps), grid-end s j (omega (arith, r, counts .0)), counts .1, stamps-in l f i h, f .stamps-counted))
+
+  -- and begins where those before it end
+  start-of : (j : ℕ) → j ≤ gridCountAt l i → upTo (λ (x : StampGrid). x .stamps) j (gridsAt l i) ≡ gridStart (stateOf l i .shape) j
+  unfolding total
+  start-of zero r = sym (none-before l (stateOf l i .shape))
+  start-of (suc j) r =
+      let s = stateOf l i .shape in
+      let a = total-next (λ (x : StampGrid). length (x .stamps)) (gridsAt l i) j noGrid (omega (arith, r, length-grids l i)) in
+      omega (arith, a, start-of j (omega arith), length-grid j (omega arith), grid-next s j (omega (arith, r, counts .0)))
+
+  pub stamps-stamped : length (g .stamps) ≡ gridSize (stateOf l i .shape) k
+      → sets (l .stamps) (firstStamp l i + gridStart (stateOf l i .shape) k) (g .stamps) ≡ stampsAfter p l
+  unfolding firstStamp
+  stamps-stamped size =
+      let s = stateOf l i .shape in
+      let a = firstStamp l i in
+      let m = gridStart s k in
+      let w = gridSize s k in
+      let all = stampCountAt l i in
+      let run = take all (drop a (l .stamps)) in
+      let inside : a + all ≤ length (l .stamps) = omega (arith, stamps-in l f i h, f .stamps-counted) in
+      let lr : length run ≡ all = length-take-le all (drop a (l .stamps)) (omega (arith, length-drop a (l .stamps))) in
+      let ends : m + w ≤ all = omega (arith, grid-end s k (omega (arith, q, counts .0)), counts .1) in
+      let old : stampsOf (stateOf l i) ≡ run = one-packed (stampsPacking l f) i h in
+      let new : stampsOf t ≡ take m run ++ (g .stamps ++ drop (m + w) run) =
+      ap (flatMap (λ (x : StampGrid). x .stamps)) n
+      ∙ flat-set (λ (x : StampGrid). x .stamps) k (gridsAt l i) g noGrid (omega (arith, q, length-grids l i))
+      ∙ ap₂ (λ (u v : ℕ). take u (stampsOf (stateOf l i)) ++ (g .stamps ++ drop (u + v) (stampsOf (stateOf l i))))
+      (start-of k (omega arith)) (length-grid k q)
+      ∙ ap (λ (xs : List ℕ). take m xs ++ (g .stamps ++ drop (m + w) xs)) old in
+      let long : length (stampsOf t) ≡ all =
+      ap length new ∙ length-append (take m run) (g .stamps ++ drop (m + w) run)
+      ∙ ap (λ (u : ℕ). length (take m run) + u) (length-append (g .stamps) (drop (m + w) run))
+      ∙ (let z : length (take m run) + (length (g .stamps) + length (drop (m + w) run)) ≡ all =
+      omega (arith, length-take-le m run (omega arith), length-drop (m + w) run, size) in z) in
+      sets-eq (g .stamps) (l .stamps) (a + m) (omega (arith, size))
+      ∙ append-assoc (take (a + m) (l .stamps)) (g .stamps) (drop (a + m + length (g .stamps)) (l .stamps))
+      ∙ ap (λ (u : ℕ). take (a + m) (l .stamps) ++ (g .stamps ++ drop (a + m + u) (l .stamps))) size
+      ∙ ap (λ (xs : List ℕ). take (a + m) xs ++ (g .stamps ++ drop (a + m + w) xs)) (sym (sets-self (l .stamps) a all inside))
+      ∙ sets-part (l .stamps) a run (omega arith) (g .stamps) m w size (omega arith)
+      ∙ ap (sets (l .stamps) a) (sym new)
+      ∙ stamps-rewritten l f p i h t e long

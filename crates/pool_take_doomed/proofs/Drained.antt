@@ -18,19 +18,20 @@ use Rattle.pool_records.specs.Texture.{writeTexture}
 use Rattle.pool_records.specs.Spare.{readSpare, writeSpare}
 use Rattle.pool_records.specs.Retiring.{readRetiring}
 use Rattle.pool_records.specs.Doomed.{readDoomed}
-use Rattle.pool_rules.specs.Model.{Spare, Retiring, Doomed, VersionState, PoolModel, guard}
+use Rattle.pool_rules.specs.Model.{Spare, Retiring, Doomed, VersionState, PoolModel, gridsUsed, guard}
+use Rattle.pool_rules.specs.HistorySizes.{stampsUsed}
 use Rattle.pool_rules.specs.Updates.{withSpares, withTextures, withRetiring, withParked, withDoomed, withPacing}
 use Rattle.pool_rules.specs.DrainVersions.{everyView, drainVersions}
 use Rattle.pool_memory.specs.declared.pool.Pool.{Pool as Counts}
 use Rattle.pool_memory.specs.declared.book.PacingBook.{PacingBook}
 use Rattle.pool_memory.specs.Lent.{Lent, lent, versionPlaces}
 use Rattle.pool_memory.specs.Reading.{spareRead, retiringRead, doomedRead, modelOf}
-use Rattle.pool_memory.specs.Writing.{textureRecord, spareRecord, everySpare, texturesAfter, sparesAfter, pacingAfter, poolAfter, lentAfter}
+use Rattle.pool_memory.specs.Writing.{textureRecord, textureRecords, spareRecord, everySpare, texturesAfter, sparesAfter, pacingAfter, poolAfter, lentAfter}
 use Rattle.pool_memory.specs.IsPool.{isPool}
 use Rattle.pool_memory.specs.Calls.{refusedWith, answer, viewNumbers, asked, drainVersionsOn}
 use Rattle.pool_memory.proofs.Fits.{Fits}
-use Rattle.pool_memory.proofs.Runs.{spareCount, tracked-model, records-model, spares-model, pages-model}
-use Rattle.pool_memory.proofs.Kept.{keptHistory, used-paged}
+use Rattle.pool_memory.proofs.Runs.{spareCount, tracked-model, records-model, spares-model, grids-model, stamps-used-model}
+use Rattle.pool_memory.proofs.Kept.{keptHistory, grids-kept, stamps-used-kept}
 use Rattle.pool_memory.proofs.Rings.{head-stays, hand-model, retiring-drained, first-taken, doomed-taken}
 use Rattle.pool_memory.proofs.Same.{mark-same}
 use Rattle.pool_memory.proofs.Stays.{put-together, ring-fits, doomed-fit, newest-stay, stamps-stay}
@@ -46,14 +47,16 @@ use Rattle.pool_rules.specs.RuleConstants.{destroySpreadDrains}
 abbrev emptied : List (VersionState ℕ) → List (VersionState ℕ)
 emptied ts = map (withSpares []) ts
 
-emptied-records : (ts : List (VersionState ℕ)) → map textureRecord (emptied ts) ≡ map spareless (map textureRecord ts)
-emptied-records [] = refl
-emptied-records (t ∷ ts) = ap (λ (rs : List TextureRecord). spareless (textureRecord t) ∷ rs) (emptied-records ts)
+emptied-records : (grid stamp : ℕ) (ts : List (VersionState ℕ)) → textureRecords grid stamp (emptied ts) ≡ map spareless (textureRecords grid stamp ts)
+unfolding textureRecords
+emptied-records grid stamp [] = refl
+emptied-records grid stamp (t ∷ ts) =
+    ap (λ (rs : List TextureRecord). spareless (textureRecord grid stamp t) ∷ rs) (emptied-records (grid + gridsUsed t) (stamp + stampsUsed t) ts)
 
 -- ids, shapes and histories stay
-emptied-paged : (ts : List (VersionState ℕ)) → map keptHistory (emptied ts) ≡ map keptHistory ts
-emptied-paged [] = refl
-emptied-paged (t ∷ ts) = ap (λ ps. keptHistory t ∷ ps) (emptied-paged ts)
+emptied-histories : (ts : List (VersionState ℕ)) → map keptHistory (emptied ts) ≡ map keptHistory ts
+emptied-histories [] = refl
+emptied-histories (t ∷ ts) = ap (λ ps. keptHistory t ∷ ps) (emptied-histories ts)
 
 emptied-spares : (ts : List (VersionState ℕ)) → everySpare (emptied ts) ≡ []
 unfolding flatMap
@@ -151,7 +154,11 @@ module _ (l : Lent) (f : Fits l) where
   counts-drained = λ i. record {
     tracked = sym (length-map (modelOf l .textures) (withSpares []) ∙ tracked-model l) i;
     kept = sym (emptied-count (modelOf l .textures)) i;
-    pages = sym (used-paged (emptied (modelOf l .textures)) (modelOf l .textures) (emptied-paged (modelOf l .textures)) ∙ pages-model l ∙ f .claimed) i;
+    grids =
+        sym (grids-kept (emptied (modelOf l .textures)) (modelOf l .textures) (emptied-histories (modelOf l .textures)) ∙ grids-model l ∙ f .claimed) i;
+    stamps =
+        sym (stamps-used-kept (emptied (modelOf l .textures)) (modelOf l .textures) (emptied-histories (modelOf l .textures))
+        ∙ stamps-used-model l ∙ f .stamps-claimed) i;
     head = sym (head-stays l rest (f .head) (omega (arith, hand-model l (f .hand)))) i;
     popped = sym (hand-model l (f .hand)) i;
     queued = 0;
@@ -178,7 +185,7 @@ module _ (l : Lent) (f : Fits l) where
   unfolding cleared texturesAfter
   textures-drained =
       ap (λ (rs : List TextureRecord). over (flat writeTexture rs) (l .textures))
-      (sym (emptied-records (modelOf l .textures) ∙ ap (map spareless) (records-model l (f .bytes))))
+      (sym (emptied-records 0 0 (modelOf l .textures) ∙ ap (map spareless) (records-model l (f .bytes) (f .starts))))
 
   spares-drained : l .spares ≡ sparesAfter rest l
   unfolding sparesAfter over flat
@@ -195,7 +202,7 @@ module _ (l : Lent) (f : Fits l) where
       counts-drained book-drained textures-drained
       (sym (retiring-drained l rest (f .head) (omega (arith, f .retiring)) (f .hand) (ring-fits l f) refl refl))
       (sym (doomed-taken l rest (f .first) (omega (arith, f .doomed)) (doomed-fit l f) (l .pool .doomed) (omega arith) none-left))
-      spares-drained (newest-stay l f rest (emptied-paged (modelOf l .textures))) (stamps-stay l f rest (emptied-paged (modelOf l .textures)))
+      spares-drained (newest-stay l f rest (emptied-histories (modelOf l .textures))) (stamps-stay l f rest (emptied-histories (modelOf l .textures)))
 
   -- ---- the call
 

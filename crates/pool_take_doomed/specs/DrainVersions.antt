@@ -24,7 +24,8 @@ unfoldable pub drainedCounts : Pool → ℕ → Pool
 drainedCounts c places = record {
   tracked = c .tracked;
   kept = 0;
-  pages = c .pages;
+  grids = c .grids;
+  stamps = c .stamps;
   head = c .head;
   popped = c .popped;
   queued = 0;
@@ -54,6 +55,8 @@ spareless t = record {
   due = t .due;
   spares = 0;
   bytes = t .bytes;
+  grid = t .grid;
+  stamp = t .stamp;
 }
 
 -- the first n records without their spares
