@@ -2,8 +2,8 @@
 use native.Mathlib.Omega.{arith}
 use borrow.Author.Needs.{needs}
 use Rattle.pool_history.proofs.Regenerated.{level-next, level-wraps}
-use Rattle.pool_history.proofs.pages.next_level.Statement.{statement}
-use Rattle.pool_history.proofs.pages.next_level.Tie as tie
+use Rattle.pool_history.proofs.grids.next_level.Statement.{statement}
+use Rattle.pool_history.proofs.grids.next_level.Tie as tie
 
 add-if1 : tie.Need-add-if1
 add-if1 c = search needs
