@@ -1,21 +1,18 @@
 // The textures' records, each by itself.
 ghost use mathlib.Core.Path.{_≡_};
 ghost use mathlib.Core.Bool.{true};
-ghost use Prim.Native.Nat.{_+_, _*_, _≤_};
+ghost use Prim.Native.Nat.{_*_, _≤_};
 ghost use lib.ListN.{length};
 ghost use Rattle.base_blocks.specs.Lists.{all, ascending};
 ghost use Rattle.grid_shapes.specs.Shapes.{isShape, bytesOf};
-ghost use Rattle.pool_rules.specs.Model.{gridCount};
-ghost use Rattle.pool_records.specs.Texture.{readTexture, recordGrids, recordBytes, texturesIn};
+ghost use Rattle.pool_records.specs.Texture.{readTexture, recordBytes, texturesIn};
 ghost use Rattle.pool_records.specs.Find.{idOf};
 ghost use Rattle.pool_formed_textures.specs.Textures.{writesFit, isRecord};
 ghost use Rattle.pool_records.specs.RecordConstants.{textureStride};
 ghost use Rattle.pool_rules.specs.RuleConstants.{mostPlaces};
 use base_tables::record_at;
-use grid_shapes::VersionShape;
 use grid_shapes::is_shape;
 use grid_shapes::shape_bytes;
-use grid_shapes::slices;
 use pool_records::Recorded;
 use pool_records::TEXTURE_BYTES_AT;
 use pool_records::TEXTURE_SPARES_AT;
@@ -80,28 +77,6 @@ pub fn records_fit(textures: &[u64], n: usize) -> bool
         i += 1;
     }
     true
-}
-
-// One page for each slice and level.
-pub fn pages_of(s: VersionShape) -> u64
-    requires { ⌜ isShape s ≡ true ⌝ }
-    ensures { λ r. ⌜ (r ≤ 90) × (r ≡ gridCount s) ⌝ }
-{
-    slices(s) * s.levels
-}
-
-// How many pages a record claims.
-pub fn record_pages(p: &[u64]) -> usize
-    requires { ⌜ (textureStride ≤ length (now p)) × (isShape (readTexture (now p) .shape) ≡ true) ⌝ }
-    ensures { λ r. ⌜ (r ≤ 90) × (r ≡ recordGrids (readTexture (now (p .entry)))) ⌝ }
-{
-    let t = read_texture(p);
-    let shape = t.shape;
-    let history = t.history;
-    match history {
-        Recorded::Writes(_) => pages_of(shape) as usize,
-        Recorded::NoHistory => 0,
-    }
 }
 
 // The bytes of a record's spares.
