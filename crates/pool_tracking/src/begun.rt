@@ -48,17 +48,18 @@ pub fn new_record(new: NewTracking, epoch: u64, grid: usize, stamp: usize) -> Te
     requires { ⌜ isShape (new .shape) ≡ true ⌝ }
     ensures { λ r. ⌜ r ≡ newRecord new epoch grid stamp ⌝ }
 {
+    let shape = new.shape;
     let history = fresh_history(new.records);
     TextureRecord {
         id: new.id,
-        shape: new.shape,
+        shape,
         epoch,
         history,
         birth: 0,
         rename: new.seq,
         due: new.seq,
         spares: 0,
-        bytes: shape_bytes(new.shape),
+        bytes: shape_bytes(shape),
         grid: grid as u64,
         stamp: stamp as u64,
     }

@@ -124,7 +124,8 @@ pub fn renew_tracking(
     let places = retiring.len() / RETIRING_STRIDE;
     let old = holding_at(pool, textures, new.place);
     let epoch = pool.trackings + 1;
-    let fresh = fresh_grids(new.shape, new.records);
+    let shape = new.shape;
+    let fresh = fresh_grids(shape, new.records);
     let mut after = give_up(
         pool,
         doomed,

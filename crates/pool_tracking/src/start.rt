@@ -89,7 +89,8 @@ pub fn start_tracking(
         ≡ trackingStarted pool (now (textures .entry)) (now (newest .entry)) (now (stamps .entry)) new ⌝ }
 {
     let epoch = pool.trackings + 1;
-    let fresh = fresh_grids(new.shape, new.records);
+    let shape = new.shape;
+    let fresh = fresh_grids(shape, new.records);
     let first = first_at(pool, textures, new.place);
     start_record(textures, pool.tracked, new, epoch, fresh, first);
     renew_block(newest, first.grid, 0, fresh, pool.grids - first.grid);
