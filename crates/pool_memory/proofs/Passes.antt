@@ -38,7 +38,7 @@ length-records grid stamp [] = refl
 length-records grid stamp (t ∷ ts) = ap suc (length-records (grid + gridsUsed t) (stamp + stampsUsed t) ts)
 
 -- one more behind them
-records-more : (grid stamp : ℕ) (ts : List (VersionState ℕ)) (t : VersionState ℕ)
+pub records-more : (grid stamp : ℕ) (ts : List (VersionState ℕ)) (t : VersionState ℕ)
     → textureRecords grid stamp (ts ++ (t ∷ []))
     ≡ textureRecords grid stamp ts ++ (textureRecord (grid + total gridsUsed ts) (stamp + total stampsUsed ts) t ∷ [])
 unfolding textureRecords total
