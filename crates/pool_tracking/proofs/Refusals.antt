@@ -1,5 +1,5 @@
 -- The rule by the number that refuses it: a number other than 0 is what the rule says, and 0 leaves the three cases. Assumes nothing.
-use mathlib.Core.Path.{_≡_, refl, sym, ap, _∙_}
+use mathlib.Core.Path.{_≡_, refl, sym, ap, _∙_, subst}
 use mathlib.Core.Bool.{Bool, true, false, cond, not}
 use mathlib.Core.Option.{Option, none, some}
 use Prim.Native.Nat.{ℕ, suc}
@@ -13,6 +13,9 @@ use Rattle.pool_rules.specs.Model.{Spare, VersionState, PoolModel, Out, refused
 use Rattle.pool_rules.specs.HistorySizes.{stampsUsed}
 use Rattle.pool_rules.specs.Updates.{withTextures, withTrackings, change, insert, asDoomed, doomSpares}
 use Rattle.pool_rules.specs.TakeSpare.{newState, historyFull, takeRenewed, takeTracked, takeFound, takeSpare}
+use Rattle.pool_rules.specs.Formed.{Formed}
+use Rattle.pool_rules.specs.Closed.{OutFormed, formed}
+use Rattle.pool_rules.proofs.Renames.{take-spare-formed}
 use Rattle.pool_memory.proofs.Asked.{guard-passed}
 use Rattle.pool_tracking.specs.Refusal.{trackingRefusal, begunRefusal, foundRefusal, takeRefusal}
 
@@ -135,3 +138,12 @@ module _ (p : PoolModel ℕ) (id : ℕ) (shape : VersionShape) (records : Bool) 
           ∙ ap (takeFound p id shape records seq) q
           ∙ ap (λ (b : Bool). cond b (takeTracked p id seq t) (takeRenewed p id shape records seq t)) other
           ∙ begun-out (stampsUsed t) renewed-begun (accepted none renewedPool)
+
+-- ---- the pool after it is formed
+
+accepted-formed : {A : Type 0} {a : A} {p : PoolModel ℕ} → OutFormed (accepted a p) → Formed p
+accepted-formed (formed f) = f
+
+pub formed-then : (p q : PoolModel ℕ) (id : ℕ) (shape : VersionShape) (records : Bool) (seq : ℕ) (o : Option (Spare ℕ)) → Formed p
+    → takeSpare p id shape records seq ≡ accepted o q → Formed q
+formed-then p q id shape records seq o f e = accepted-formed (subst OutFormed e (take-spare-formed p f id shape records seq))

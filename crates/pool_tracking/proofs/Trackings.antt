@@ -1,10 +1,13 @@
 -- A tracking just begun: its record, and its grids and stamps, which are all 0. Assumes nothing.
 use mathlib.Core.Path.{_≡_, refl, sym, ap, _∙_}
 use mathlib.Core.Bool.{Bool, true, false}
-use mathlib.Core.List.{flatMap}
-use Prim.Native.Nat.{ℕ, _*_, _≤_}
+use mathlib.Core.List.{List, flatMap}
+use Prim.Native.Nat.{ℕ, _+_, _*_, _-_, _≤_}
+use native.Mathlib.Nat.{add-zero}
 use native.Mathlib.Omega.{arith}
 use lib.ListN.{length, replicate}
+use lib.Seq.{sets}
+use Rattle.base_blocks.specs.Blocks.{moved}
 use Rattle.grid_shapes.specs.declared.shape.VersionShape.{VersionShape}
 use Rattle.grid_shapes.specs.Shapes.{isShape, bytesOf}
 use Rattle.grid_stamps.specs.StampConstants.{pageStamps}
@@ -22,6 +25,7 @@ use Rattle.pool_memory.proofs.Rewritten.{length-zeros}
 use Rattle.pool_memory.proofs.Fresh.{fresh-newest, fresh-stamps}
 use Rattle.pool_tracking.specs.declared.begun.NewTracking.{NewTracking}
 use Rattle.pool_tracking.specs.Begun.{freshHistory, freshGrids, freshStamps, newRecord}
+use Rattle.pool_tracking.specs.Start.{zerosPut}
 
 module _ (new : NewTracking) (epoch : ℕ) where
   abbrev grids : ℕ
@@ -138,3 +142,19 @@ module _ (shape : VersionShape) (shaped : isShape shape ≡ true) where
   pub stamps-few : (records : Bool) → freshStamps shape records ≤ pageStamps * mostGrids
   stamps-few true = history-most shape shaped
   stamps-few false = omega arith
+
+-- ---- zeros in a packed slice, for what a texture has there
+
+module _ (s : List ℕ) (used : ℕ) {at at′ : ℕ} (e : at ≡ at′) (n : ℕ) (xs : List ℕ) (zeros : xs ≡ replicate n 0) where
+  counted : n ≡ length xs
+  counted = sym (ap length zeros ∙ length-zeros n)
+
+  -- put in
+  pub zeros-put : zerosPut s used at n ≡ sets (moved s (at′ + length xs) at′ (used - at′)) at′ xs
+  zeros-put = λ j. sets (moved s (e j + counted j) ((add-zero at ∙ e) j) (used - e j)) (e j) (sym zeros j)
+
+  -- in place of others
+  pub zeros-renewed : {old size : ℕ} → old ≡ size
+      → sets (moved s (at + n) (at + old) (used - (at + old))) at (replicate n 0)
+      ≡ sets (moved s (at′ + length xs) (at′ + size) (used - (at′ + size))) at′ xs
+  zeros-renewed q = λ j. sets (moved s (e j + counted j) (e j + q j) (used - (e j + q j))) (e j) (sym zeros j)

@@ -19,11 +19,13 @@ use Rattle.pool_tracking.specs.declared.begun.NewTracking.{NewTracking}
 use Rattle.pool_tracking.specs.declared.start.First.{First}
 use Rattle.pool_tracking.specs.Begun.{freshGrids, newRecord}
 
+abbrev pub firstOf : ℕ → ℕ → First
+firstOf grid stamp = record { grid = grid; stamp = stamp }
+
 -- where the grids and the stamps of a texture begin that is put in at place i: where those of the one that stands there do, or behind all of them
 unfoldable pub firstAt : Pool → List ℕ → ℕ → First
 firstAt pool textures i =
-    cond (ltb i (pool .tracked)) (record { grid = textureIn textures i .grid; stamp = textureIn textures i .stamp })
-    (record { grid = pool .grids; stamp = pool .stamps })
+    cond (ltb i (pool .tracked)) (firstOf (textureIn textures i .grid) (textureIn textures i .stamp)) (firstOf (pool .grids) (pool .stamps))
 
 -- what stands behind moves up
 abbrev pub moreBy : ℕ → Shift
@@ -39,6 +41,26 @@ recordStarted textures n new epoch first =
 -- a part of a packed slice with n times 0 put in at a place of the `used` numbers
 abbrev pub zerosPut : List ℕ → (used at n : ℕ) → List ℕ
 zerosPut s used at n = sets (moved s (at + n) (at + 0) (used - at)) at (replicate n 0)
+
+-- the counts with a texture more, and its grids and stamps
+abbrev pub oneTracked : Pool → (grids stamps : ℕ) → Pool
+oneTracked c grids stamps = record {
+  tracked = c .tracked + 1;
+  kept = c .kept;
+  grids = c .grids + grids;
+  stamps = c .stamps + stamps;
+  head = c .head;
+  popped = c .popped;
+  queued = c .queued;
+  first = c .first;
+  doomed = c .doomed;
+  since = c .since;
+  trackings = c .trackings + 1;
+  parked = c .parked;
+  dooming = c .dooming;
+  cap = c .cap;
+  line = c .line;
+}
 
 module _ (pool : Pool) (textures newest stamps : List ℕ) (new : NewTracking) where
   abbrev first : First
@@ -61,30 +83,10 @@ module _ (pool : Pool) (textures newest stamps : List ℕ) (new : NewTracking) w
     pub moves : StartsMove (moreBy grids) (moreBy (new .stamps)) (new .place + 1) (pool .tracked + 1)
         (recordStarted textures (pool .tracked) new (pool .trackings + 1) first)
 
-  -- the counts with a texture more, which has n grids
-  abbrev pub oneTracked : ℕ → Pool
-  oneTracked n = record {
-    tracked = pool .tracked + 1;
-    kept = pool .kept;
-    grids = pool .grids + n;
-    stamps = pool .stamps + new .stamps;
-    head = pool .head;
-    popped = pool .popped;
-    queued = pool .queued;
-    first = pool .first;
-    doomed = pool .doomed;
-    since = pool .since;
-    trackings = pool .trackings + 1;
-    parked = pool .parked;
-    dooming = pool .dooming;
-    cap = pool .cap;
-    line = pool .line;
-  }
-
   -- the counts, the textures, the newest stamps and the stamps after it
   unfoldable pub trackingStarted : Pool × (List ℕ × (List ℕ × List ℕ))
   trackingStarted = (
-    oneTracked grids,
+    oneTracked pool grids (new .stamps),
     (
       startsMoved (moreBy grids) (moreBy (new .stamps)) (new .place + 1) (pool .tracked + 1)
           (recordStarted textures (pool .tracked) new (pool .trackings + 1) first),
