@@ -1,4 +1,4 @@
--- Where a texture's grids and stamps begin and end, as the code reads it off the records. Assumes nothing.
+-- Where a texture's grids and stamps begin and end, as the code reads it off the records, and how many there can be. Assumes nothing.
 use mathlib.Core.Path.{_≡_, refl, sym, ap, ap₂, _∙_}
 use mathlib.Core.Bool.{Bool, true, false, cond}
 use mathlib.Core.List.{List}
@@ -21,6 +21,7 @@ use Rattle.pool_memory.proofs.Fits.{Fits}
 use Rattle.pool_memory.proofs.Runs.{firstGrid, firstStamp, tracked-records}
 use Rattle.pool_memory.proofs.HistoryRuns.{gridCountAt, stampCountAt, grid-next, stamp-next, grid-bound, stamp-bound}
 use Rattle.pool_memory.proofs.Tracked.{record-read, grid-at, stamp-at}
+use Rattle.pool_tracking.specs.Refusal.{mostStamps}
 use Rattle.pool_tracking.specs.Cases.{recordOf}
 use Rattle.pool_tracking.specs.Holdings.{gridsHeld, stampsHeld}
 use Rattle.pool_tracking.specs.Start.{firstOf, firstAt}
@@ -44,6 +45,12 @@ module _ (pool : Counts) (textures : List ℕ) (i : ℕ) where
 -- ---- in a pool
 
 module _ (l : Lent) (f : Fits l) where
+  pub stamps-most : length (l .stamps) ≤ mostStamps
+  stamps-most = omega (arith, f .stamps, f .most-pages)
+
+  pub newest-most : length (l .newest) ≤ mostStamps
+  newest-most = omega (arith, f .newest, stamps-most)
+
   -- behind the last one all of them are counted
   all-grids : (i : ℕ) → l .pool .tracked ≤ i → firstGrid l i ≡ l .pool .grids
   unfolding firstGrid

@@ -46,7 +46,7 @@ use Rattle.pool_tracking.specs.Start.{moreBy, firstOf, firstAt, recordSt
 use Rattle.pool_tracking.proofs.Refusals.{shape-passed, take-new, formed-then}
 use Rattle.pool_tracking.proofs.Counts.{counted, counts-after}
 use Rattle.pool_tracking.proofs.Tracked.{not-there}
-use Rattle.pool_tracking.proofs.Ends.{first-there}
+use Rattle.pool_tracking.proofs.Ends.{newest-most, stamps-most, first-there}
 use Rattle.pool_tracking.proofs.Trackings.{begun, begun-record, begun-grids, begun-stamps, newest-zeros, stamps-zeros, newest-count, stamps-count, grids-few, stamps-few, zeros-put}
 
 -- the counts and the three slices that change
@@ -76,6 +76,15 @@ module _ (pool : Counts) (textures newest stamps : List ℕ) (new : NewTracking)
       let newe = e4 ∙ ap₂ (λ (n : ℕ) (a : First). zerosPut newest (pool .grids) (a .grid) n) e2 e1 in
       let sta = e5 ∙ ap (λ (a : First). zerosPut stamps (pool .stamps) (a .stamp) (new .stamps)) e1 in
       λ j. (oneTracked pool (e2 j) (new .stamps), (tex j, (newe j, sta j)))
+
+  -- the starts behind it can be moved
+  pub moves-as : StartFits pool textures newest stamps new → (first : First) (fresh : ℕ) → first ≡ firstAt pool textures (new .place)
+      → fresh ≡ freshGrids (new .shape) (new .records)
+      → StartsMove (moreBy fresh) (moreBy (new .stamps)) (new .place + 1) (pool .tracked + 1) (recordStarted textures (pool .tracked) new (pool .trackings + 1) first)
+  moves-as k first fresh e1 e2 =
+      subst (λ (n : ℕ). StartsMove (moreBy n) (moreBy (new .stamps)) (new .place + 1) (pool .tracked + 1) (recordStarted textures (pool .tracked) new (pool .trackings + 1) first)) (sym e2)
+      (subst (λ (a : First). StartsMove (moreBy (freshGrids (new .shape) (new .records))) (moreBy (new .stamps)) (new .place + 1) (pool .tracked + 1) (recordStarted textures (pool .tracked) new (pool .trackings + 1) a)) (sym e1)
+      (k .moves))
 
 -- ---- the rule
 
@@ -202,6 +211,8 @@ module _ (l : Lent) (new : NewTracking) (ok : Begins l new) (untracked : Tracked
     stamp = omega (arith, stamp-is, stamp-bound l f i);
     grids-room = grids-room;
     stamps-room = stamps-room;
+    newest-most = newest-most l f;
+    stamps-most = stamps-most l f;
     moves = subst (StartsMove (moreBy grids) (moreBy (new .stamps)) (i + 1) (l .pool .tracked + 1)) (sym put-is) starts-move;
   }
 

@@ -18,6 +18,7 @@ use Rattle.pool_memory.specs.declared.pool.Pool.{Pool}
 use Rattle.pool_tracking.specs.declared.begun.NewTracking.{NewTracking}
 use Rattle.pool_tracking.specs.declared.start.First.{First}
 use Rattle.pool_tracking.specs.Begun.{freshGrids, newRecord}
+use Rattle.pool_tracking.specs.Refusal.{mostStamps}
 
 abbrev pub firstOf : ℕ → ℕ → First
 firstOf grid stamp = record { grid = grid; stamp = stamp }
@@ -80,6 +81,8 @@ module _ (pool : Pool) (textures newest stamps : List ℕ) (new : NewTracking) w
     pub stamp : first .stamp ≤ pool .stamps
     pub grids-room : pool .grids + grids ≤ length newest
     pub stamps-room : pool .stamps + new .stamps ≤ length stamps
+    pub newest-most : length newest ≤ mostStamps
+    pub stamps-most : length stamps ≤ mostStamps
     pub moves : StartsMove (moreBy grids) (moreBy (new .stamps)) (new .place + 1) (pool .tracked + 1)
         (recordStarted textures (pool .tracked) new (pool .trackings + 1) first)
 

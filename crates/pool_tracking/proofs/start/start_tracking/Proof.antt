@@ -1,89 +1,66 @@
+-- `start_tracking` meets its contract: the record put in, then the grids and their stamps. Assumes nothing.
+use mathlib.Core.Path.{ap}
+use native.Mathlib.Omega.{arith}
+use Rattle.pool_rules.proofs.HistorySizes.{grids-most}
+use Rattle.pool_tracking.specs.declared.start.First.{First}
+use Rattle.pool_tracking.proofs.Started.{started-as, moves-as}
 use borrow.Author.Needs.{needs}
 use Rattle.pool_tracking.proofs.start.start_tracking.Statement.{statement}
 use Rattle.pool_tracking.proofs.start.start_tracking.Tie as tie
-use Rattle.pool_tracking.proofs.start.start_tracking.Reads as reads
-use Rattle.pool_tracking.proofs.start.start_tracking.Lts as lts
-use Rattle.pool_tracking.proofs.begun.fresh_grids.Reads as fresh-grids-reads
-use Rattle.pool_tracking.proofs.blocks.renew_block.Reads as renew-block-reads
-use Rattle.pool_tracking.proofs.start.first_at.Reads as first-at-reads
-use Rattle.pool_tracking.proofs.start.start_record.Reads as start-record-reads
 
--- src/start.rt:91:17
 add-epoch : tie.Need-add-epoch
 add-epoch c = search needs
 
--- src/start.rt:93:9
 fresh-grids-requires : tie.Need-fresh-grids-requires
-fresh-grids-requires c κs = ?
+fresh-grids-requires c κs = omega (arith, grids-most _ (c .before .before .before .before .before .pre .shaped))
 
--- src/start.rt:94:9
 first-at-requires : tie.Need-first-at-requires
 first-at-requires c κs = search needs
 
--- src/start.rt:95:5
 start-record-requires : tie.Need-start-record-requires
-start-record-requires c κs = ?
+start-record-requires c κs =
+    let k = c .before .before .before .before .before .before .before .before .before .pre in
+    (k .room, k .place, k .shaped, moves-as _ _ _ _ (c .before .before .before .before .before .before .before .before .before .args .new) k _ _ (c .before .first-at .ensures) (c .before .before .before .fresh-grids .ensures))
 
--- src/start.rt:96:47
 sub-renew-block : tie.Need-sub-renew-block
-sub-renew-block c = ?
+sub-renew-block c = omega (arith, ap (λ (a : First). a .grid) (c .before .before .before .before .before .before .before .first-at .ensures), c .before .before .before .before .before .before .before .before .before .before .before .before .before .before .before .pre .grid)
 
--- src/start.rt:96:5
 renew-block-requires : tie.Need-renew-block-requires
-renew-block-requires c κs = ?
+renew-block-requires c κs =
+    let k = c .before .before .before .before .before .before .before .before .before .before .before .before .before .before .before .pre in
+    let e = ap (λ (a : First). a .grid) (c .before .before .before .before .before .before .before .first-at .ensures) in
+    (omega (arith, e, k .grid, k .grids-room), omega (arith, e, c .before .before .before .before .before .before .before .before .before .fresh-grids .ensures, k .grid, k .grids-room))
 
--- src/start.rt:97:53
 sub-renew-block-2 : tie.Need-sub-renew-block-2
-sub-renew-block-2 c = ?
+sub-renew-block-2 c = omega (arith, ap (λ (a : First). a .stamp) (c .before .before .before .before .before .before .before .before .before .before .before .before .before .first-at .ensures), c .before .before .before .before .before .before .before .before .before .before .before .before .before .before .before .before .before .before .before .before .before .pre .stamp)
 
--- src/start.rt:97:5
 renew-block-requires-2 : tie.Need-renew-block-requires-2
-renew-block-requires-2 c κs = ?
+renew-block-requires-2 c κs =
+    let k = c .before .before .before .before .before .before .before .before .before .before .before .before .before .before .before .before .before .before .before .before .before .pre in
+    let e = ap (λ (a : First). a .stamp) (c .before .before .before .before .before .before .before .before .before .before .before .before .before .first-at .ensures) in
+    (omega (arith, e, k .stamp, k .stamps-room), omega (arith, e, k .stamp, k .stamps-room))
 
--- src/start.rt:99:21
 add-after : tie.Need-add-after
-add-after c = ?
+add-after c = omega (arith, c .before .before .before .before .before .before .before .before .before .before .before .before .before .before .before .before .before .before .before .before .before .before .before .before .before .pre .tracked)
 
--- src/start.rt:100:19
 add-after-2 : tie.Need-add-after-2
-add-after-2 c = ?
+add-after-2 c = omega (arith, c .before .before .before .before .before .before .before .before .before .before .before .before .before .before .before .before .before .before .before .before .before .before .before .before .before .before .pre .grids-room, c .before .before .before .before .before .before .before .before .before .before .before .before .before .before .before .before .before .before .before .before .fresh-grids .ensures, c .before .before .before .before .before .before .before .before .before .before .before .before .before .before .before .before .before .before .before .before .before .before .before .before .before .before .pre .newest-most)
 
--- src/start.rt:101:20
 add-after-3 : tie.Need-add-after-3
-add-after-3 c = ?
+add-after-3 c = omega (arith, c .before .before .before .before .before .before .before .before .before .before .before .before .before .before .before .before .before .before .before .before .before .before .before .before .before .before .before .before .pre .stamps-room, c .before .before .before .before .before .before .before .before .before .before .before .before .before .before .before .before .before .before .before .before .before .before .before .before .before .before .before .before .pre .stamps-most)
 
--- src/start.rt:80:1
 same-length : tie.Need-same-length
-same-length c = ?
+same-length c = c .before .before .before .before .before .before .before .before .before .before .before .before .before .before .before .before .before .before .start-record .kept .0
 
--- src/start.rt:80:1
 same-length-2 : tie.Need-same-length-2
 same-length-2 c = search needs
 
--- src/start.rt:80:1
 same-length-3 : tie.Need-same-length-3
 same-length-3 c = search needs
 
--- src/start.rt:80:1
 returns : tie.Need-returns
-returns c = ?
+returns c =
+    started-as _ _ _ _ (c .before .before .before .before .before .before .before .before .before .before .before .before .before .before .before .before .before .before .before .before .before .before .before .before .before .before .before .before .args .new) _ _ _ _ _ (c .before .before .before .before .before .before .before .before .before .before .before .before .before .before .before .before .before .before .before .before .first-at .ensures) (c .before .before .before .before .before .before .before .before .before .before .before .before .before .before .before .before .before .before .before .before .before .before .fresh-grids .ensures) (c .before .before .before .before .before .before .before .before .before .before .before .before .before .before .before .before .before .before .start-record .ensures) (c .before .before .before .before .before .before .before .before .before .before .before .before .renew-block .ensures) (c .before .before .before .before .before .before .renew-block2 .ensures)
 
 pub start-tracking-spec : {M : Type 1} → statement M
-start-tracking-spec =
-    tie.close
-    (tie.spec
-    add-epoch
-    fresh-grids-requires
-    first-at-requires
-    start-record-requires
-    sub-renew-block
-    renew-block-requires
-    sub-renew-block-2
-    renew-block-requires-2
-    add-after
-    add-after-2
-    add-after-3
-    same-length
-    same-length-2
-    same-length-3
-    returns)
+start-tracking-spec = tie.close (tie.spec add-epoch fresh-grids-requires first-at-requires start-record-requires sub-renew-block renew-block-requires sub-renew-block-2 renew-block-requires-2 add-after add-after-2 add-after-3 same-length same-length-2 same-length-3 returns)
