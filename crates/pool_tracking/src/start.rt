@@ -94,7 +94,13 @@ pub fn start_tracking(
     let first = first_at(pool, textures, new.place);
     start_record(textures, pool.tracked, new, epoch, fresh, first);
     renew_block(newest, first.grid, 0, fresh, pool.grids - first.grid);
-    renew_block(stamps, first.stamp, 0, new.stamps, pool.stamps - first.stamp);
+    renew_block(
+        stamps,
+        first.stamp,
+        0,
+        new.stamps,
+        pool.stamps - first.stamp,
+    );
     let mut after = pool;
     after.tracked = pool.tracked + 1;
     after.grids = pool.grids + fresh;
