@@ -5,8 +5,8 @@ use Prim.Native.Nat.{ℕ}
 use lib.ListN.{replicate}
 use lib.Seq.{sets}
 use borrow.Author.Needs.{needs}
-use Rattle.pool_tracking.proofs.pages.renew_block.Statement.{statement}
-use Rattle.pool_tracking.proofs.pages.renew_block.Tie as tie
+use Rattle.pool_tracking.proofs.blocks.renew_block.Statement.{statement}
+use Rattle.pool_tracking.proofs.blocks.renew_block.Tie as tie
 
 add-move-block : tie.Need-add-move-block
 add-move-block c = search needs

@@ -5,8 +5,8 @@ use native.Mathlib.Omega.{arith}
 use Rattle.base_blocks.specs.Blocks.{moved}
 use Rattle.pool_memory.proofs.Rewritten.{moved-self}
 use borrow.Author.Needs.{needs}
-use Rattle.pool_tracking.proofs.pages.move_block.Statement.{statement}
-use Rattle.pool_tracking.proofs.pages.move_block.Tie as tie
+use Rattle.pool_tracking.proofs.blocks.move_block.Statement.{statement}
+use Rattle.pool_tracking.proofs.blocks.move_block.Tie as tie
 
 sub-shift-down : tie.Need-sub-shift-down
 sub-shift-down c = search needs
