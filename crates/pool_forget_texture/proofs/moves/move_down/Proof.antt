@@ -5,8 +5,8 @@ use Prim.Native.Nat.{ℕ, _+_}
 use native.Mathlib.Omega.{arith}
 use Rattle.base_blocks.specs.Blocks.{moved}
 use Rattle.pool_memory.proofs.Rewritten.{moved-self}
-use Rattle.pool_forget_texture.proofs.pages.move_down.Statement.{statement}
-use Rattle.pool_forget_texture.proofs.pages.move_down.Tie as tie
+use Rattle.pool_forget_texture.proofs.moves.move_down.Statement.{statement}
+use Rattle.pool_forget_texture.proofs.moves.move_down.Tie as tie
 
 returns : tie.Need-returns
 returns c =
