@@ -1,7 +1,7 @@
 -- The grids of a new history: nothing written, so all 0. Assumes nothing.
 use mathlib.Core.Path.{_≡_, refl, sym, ap, ap₂, _∙_}
 use mathlib.Core.List.{List, [], _∷_, _++_, map, flatMap}
-use Prim.Native.Nat.{ℕ, _+_}
+use Prim.Native.Nat.{ℕ, zero, suc, _+_, _*_}
 use lib.ListN.{length, replicate}
 use Rattle.base_blocks.specs.Lists.{listed, total}
 use Rattle.base_blocks.specs.All.{All, nil, cons}
@@ -11,7 +11,11 @@ use Rattle.grid_shapes.specs.Shapes.{slicesOf}
 use Rattle.grid_stamps.specs.Grids.{StampGrid, newGrid, tilingOf, stampCount}
 use Rattle.pool_rules.specs.Model.{gridCount}
 use Rattle.pool_rules.specs.Histories.{newHistory}
-use Rattle.pool_rules.specs.HistorySizes.{historySize}
+use Rattle.pool_rules.specs.HistorySizes.{historySize, levelStart}
+use Rattle.pool_rules.proofs.HistorySizes.{history-size}
+use Rattle.base_unequal.proofs.Starts.{total-inner, total-equal}
+use Rattle.base_blocks.proofs.Listed.{length-listed}
+use native.Mathlib.Nat.{mul-comm}
 use Rattle.pool_rules.proofs.GridPlaces.{new-size}
 use Rattle.pool_memory.proofs.Rewritten.{replicate-add, length-zeros}
 
@@ -49,9 +53,33 @@ new-grids : (s : VersionShape) → length (newHistory s .grids) ≡ gridCount s
 unfolding gridCount
 new-grids s = new-size s
 
+-- a sum over a run of numbers, said in two ways
+total-listed : {A : Type 0} (f : A → ℕ) (g : ℕ → A) (h : ℕ → ℕ) → ((k : ℕ) → f (g k) ≡ h k) → (i n : ℕ)
+    → total f (listed g i n) ≡ total h (listed (λ (k : ℕ). k) i n)
+unfolding total listed
+total-listed f g h e i zero = refl
+total-listed f g h e i (suc n) = ap₂ (λ (a b : ℕ). a + b) (e i) (total-listed f g h e (suc i) n)
+
+-- the stamps of one slice's grids
+slice-stamps : (s : VersionShape)
+    → total (λ (g : StampGrid). length (g .stamps)) (listed (λ (k : ℕ). newGrid (tilingOf s k)) 0 (s .levels)) ≡ levelStart s (s .levels)
+unfolding levelStart newGrid
+slice-stamps s =
+    total-listed (λ (g : StampGrid). length (g .stamps)) (λ (k : ℕ). newGrid (tilingOf s k)) (λ (k : ℕ). stampCount (tilingOf s k))
+    (λ k. length-zeros (stampCount (tilingOf s k))) 0 (s .levels)
+
 -- the stamps of its grids are those of a history of the shape
 new-stamps : (s : VersionShape) → total (λ (g : StampGrid). length (g .stamps)) (newHistory s .grids) ≡ historySize s
-new-stamps s = ?
+unfolding newHistory
+new-stamps s =
+    let gridStamps : StampGrid → ℕ = λ g. length (g .stamps) in
+    let level : ℕ → StampGrid = λ k. newGrid (tilingOf s k) in
+    total-inner gridStamps (λ (slice : ℕ). listed level 0 (s .levels)) (listed (λ (slice : ℕ). slice) 0 (slicesOf s))
+    ∙ total-equal (λ (slice : ℕ). total gridStamps (listed level 0 (s .levels))) (total gridStamps (listed level 0 (s .levels))) (λ slice. refl)
+    (listed (λ (slice : ℕ). slice) 0 (slicesOf s))
+    ∙ ap₂ (λ (a b : ℕ). a * b) (slice-stamps s) (length-listed (λ (slice : ℕ). slice) 0 (slicesOf s))
+    ∙ mul-comm (levelStart s (s .levels)) (slicesOf s)
+    ∙ sym (history-size s)
 
 pub fresh-newest : (s : VersionShape) → map (λ (g : StampGrid). g .newest) (newHistory s .grids) ≡ replicate (gridCount s) 0
 fresh-newest s = unwritten-newest (newHistory s .grids) (unwritten s) ∙ ap (λ (n : ℕ). replicate n 0) (new-grids s)

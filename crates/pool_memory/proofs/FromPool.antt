@@ -3,7 +3,7 @@ use mathlib.Core.Path.{_≡_, refl, sym, ap, ap₂, _∙_, subst}
 use mathlib.Core.Bool.{true}
 use mathlib.Core.Option.{Option, none, some}
 use mathlib.Core.List.{List, [], _∷_}
-use Prim.Native.Nat.{ℕ, _+_, _*_, _%_, _≤_, _<_}
+use Prim.Native.Nat.{ℕ, _+_, _*_, _/_, _%_, _≤_, _<_, min}
 use native.Mathlib.Nat.{zero-add, mul-comm}
 use native.Mathlib.Omega.{arith}
 use borrow.Author.Tests.{ltb-true, leb-true, eqb-true}
@@ -15,97 +15,95 @@ use Rattle.base_blocks.specs.All.{All, nil, cons}
 use Rattle.base_blocks.specs.Blocks.{largest}
 use Rattle.base_blocks.proofs.Lists.{passed, and-both, all-get}
 use Rattle.base_blocks.proofs.Listed.{length-listed, getD-listed}
+use Rattle.base_unequal.specs.Unequal.{startsFit}
 use Rattle.grid_shapes.specs.declared.shape.VersionShape.{VersionShape}
-use Rattle.grid_shapes.specs.Shapes.{isShape, slicesOf}
+use Rattle.grid_shapes.specs.Shapes.{slicesOf}
 use Rattle.grid_stamps.specs.Grids.{Tiling, tilingOf, stampCount, StampGrid, gridIn}
-use Rattle.grid_stamps.proofs.Tilings.{tiling-ok, count-bound}
 use Rattle.grid_stamps.proofs.RowByRow.{tile-place}
 use Rattle.pool_rules.specs.declared.held.Held.{Held}
 use Rattle.pool_rules.specs.declared.held.Held.the-variants.{Known, Unknown}
 use Rattle.pool_rules.specs.Model.{WriteHistory, Spare, Retiring, Doomed, Places, gridCount, versionsUsed, limit}
 use Rattle.pool_rules.specs.Histories.{gridAt, gridPlace}
+use Rattle.pool_rules.specs.HistorySizes.{gridSize, gridStart, historySize}
 use Rattle.pool_rules.specs.Open.{arePlaces}
 use Rattle.pool_rules.specs.Formed.{Given, HeldFormed, GridFormed, HistoryFormed, SpareFormed, RetiringFormed, DoomedFormed, StateFormed, Formed}
 use Rattle.pool_rules.proofs.GridPlaces.{place-level}
+use Rattle.pool_rules.proofs.HistorySizes.{grid-end}
 use Rattle.pool_records.specs.declared.recorded.Recorded.{Recorded}
 use Rattle.pool_records.specs.declared.recorded.Recorded.the-variants.{Writes, NoHistory}
 use Rattle.pool_records.specs.declared.texture.TextureRecord.{TextureRecord}
 use Rattle.pool_memory.specs.Lent.{Lent, versionPlaces}
-use Rattle.pool_memory.specs.Reading.{trackedRecords, pageAt, gridRead, historyRead, spareRead, stateRead, statesRead, retiringRead, doomedRead, modelOf}
-use Rattle.pool_memory.specs.IsPool.{sizesFit, countsFit, runsFit, bytesFit, markFits, isGrid, isHistory, isHeldCount, isSpare, isState, isRetiring, isHand, isDoomed, isArrival, isFormed, isPool}
+use Rattle.pool_memory.specs.Reading.{trackedRecords, gridRead, historyRead, spareRead, stateRead, statesRead, retiringRead, doomedRead, modelOf}
+use Rattle.pool_memory.specs.IsPool.{sizesFit, countsFit, runsFit, startsHold, bytesFit, markFits, isGrid, isHistory, isHeldCount, isSpare, isState, isRetiring, isHand, isDoomed, isArrival, isFormed, isPool}
 use Rattle.pool_memory.proofs.FitsTests.{all-holds, ascending-holds}
 use Rattle.pool_memory.proofs.Fits.{Fits}
-use Rattle.pool_memory.proofs.Runs.{kept-states, tracked-model, pages-model}
+use Rattle.pool_memory.proofs.Runs.{firstStampIn, kept-states, tracked-model, stamp-starts, stamps-used-model}
 use Rattle.pool_memory.proofs.Rings.{hand-model}
 use Rattle.grid_stamps.specs.StampConstants.{pageStamps}
 use Rattle.pool_records.specs.RecordConstants.{doomedStride, retiringStride, spareStride, textureStride}
-use Rattle.pool_rules.specs.RuleConstants.{mostPlaces}
-use Rattle.pool_records.specs.Texture.{recordedGrids, recordGrids}
+use Rattle.pool_rules.specs.RuleConstants.{mostGrids, mostPlaces}
+use Rattle.pool_records.specs.Texture.{recordGrids, recordedStamps, recordStamps}
 
 -- ---- 01's conditions of each part
 
-grid-formed : (g : Tiling) (writes newest : ℕ) (page : List ℕ) → stampCount g ≤ length page → isGrid writes (gridIn g newest page) ≡ true
-    → GridFormed g writes (gridIn g newest page)
+grid-formed : (g : Tiling) (writes newest : ℕ) (stamps : List ℕ) → stampCount g ≤ length stamps → isGrid writes (gridIn g newest stamps) ≡ true
+    → GridFormed g writes (gridIn g newest stamps)
 unfolding isGrid gridIn
-grid-formed g writes newest page h e =
-    let q = and-both (eqb (largest (take (stampCount g) page)) newest) (leb newest writes) e in
+grid-formed g writes newest stamps h e =
+    let q = and-both (eqb (largest (take (stampCount g) stamps)) newest) (leb newest writes) e in
     record {
-      size = length-take-le (stampCount g) page h;
+      size = length-take-le (stampCount g) stamps h;
       newest = eqb-true _ _ (q .0);
       below = leb-true _ _ (q .1);
     }
 
-pub length-page : (l : Lent) → pageStamps * length (l .newest) ≡ length (l .stamps) → (page : ℕ) → page < length (l .newest)
-    → length (pageAt (l .stamps) page) ≡ pageStamps
-length-page l paged page h = length-take-le pageStamps (drop (pageStamps * page) (l .stamps)) (omega (arith, length-drop (pageStamps * page) (l .stamps)))
-
-module _ (l : Lent) (paged : pageStamps * length (l .newest) ≡ length (l .stamps)) (s : VersionShape) (shaped : isShape s ≡ true)
-    (page : ℕ) (room : page + gridCount s ≤ length (l .newest)) where
+module _ (l : Lent) (s : VersionShape) (grid stamp : ℕ) where
   -- the history that is read there
   abbrev readHistory : ℕ → WriteHistory
-  readHistory writes = record { writes = writes; grids = listed (gridRead l s page) 0 (gridCount s) }
+  readHistory writes = record { writes = writes; grids = listed (gridRead l s grid stamp) 0 (gridCount s) }
 
-  -- the grid of a subresource is that of its page
+  -- the grid of a subresource is that of its place
   pub grid-place : (writes slice level : ℕ) → slice < slicesOf s → level < s .levels
       → (gridPlace s slice level < gridCount s)
-      × (gridAt s (readHistory writes) slice level ≡ gridRead l s page (gridPlace s slice level))
+      × (gridAt s (readHistory writes) slice level ≡ gridRead l s grid stamp (gridPlace s slice level))
   unfolding gridAt gridCount
   grid-place writes slice level p q =
       let h : gridPlace s slice level < slicesOf s * s .levels =
       omega (arith, tile-place (s .levels) (slicesOf s) level slice q p, mul-comm (s .levels) (slicesOf s)) in
       let k = gridPlace s slice level in
-      (h, getD-listed (gridRead l s page) 0 (slicesOf s * s .levels) k _ h ∙ ap (gridRead l s page) (zero-add k))
+      (h, getD-listed (gridRead l s grid stamp) 0 (slicesOf s * s .levels) k _ h ∙ ap (gridRead l s grid stamp) (zero-add k))
 
-  page-formed : (n k : ℕ) → k < gridCount s → isGrid n (gridRead l s page k) ≡ true → GridFormed (tilingOf s (k % s .levels)) n (gridRead l s page k)
-  unfolding gridRead
-  page-formed n k h e =
-      let c = count-bound (tilingOf s (k % s .levels)) (tiling-ok s shaped (k % s .levels)) in
-      grid-formed (tilingOf s (k % s .levels)) n (getD (l .newest) (page + k) 0) (pageAt (l .stamps) (page + k))
-      (omega (arith, c, length-page l paged (page + k) (omega arith))) e
-
-  length-grids : length (listed (gridRead l s page) 0 (gridCount s)) ≡ slicesOf s * s .levels
+  length-grids : length (listed (gridRead l s grid stamp) 0 (gridCount s)) ≡ slicesOf s * s .levels
   unfolding gridCount
-  length-grids = length-listed (gridRead l s page) 0 (slicesOf s * s .levels)
+  length-grids = length-listed (gridRead l s grid stamp) 0 (slicesOf s * s .levels)
 
-  history-formed : (h : Recorded) → isHistory (historyRead l s page h) ≡ true → Given (HistoryFormed s) (historyRead l s page h)
-  unfolding isHistory
-  history-formed NoHistory e = tt
-  history-formed (Writes n) e =
-      let q = and-both (leb n limit) (all (isGrid n) (listed (gridRead l s page) 0 (gridCount s))) e in
-      record { writes = leb-true _ _ (q .0); size = length-grids; grids = λ slice level a b. go slice level a b (q .1) }
-    where
-      go : (slice level : ℕ) → slice < slicesOf s → level < s .levels → all (isGrid n) (listed (gridRead l s page) 0 (gridCount s)) ≡ true
-          → GridFormed (tilingOf s level) n (gridAt s (readHistory n) slice level)
-      go slice level a b e =
-          let k = gridPlace s slice level in
-          let w = grid-place n slice level a b in
-          let d : StampGrid = record { newest = 0; stamps = [] } in
-          let f : getD (readHistory n .grids) k d ≡ gridRead l s page k =
-          getD-listed (gridRead l s page) 0 (gridCount s) k d (w .0) ∙ ap (gridRead l s page) (zero-add k) in
-          let g = all-get (isGrid n) (readHistory n .grids) k d e (omega (arith, w .0, length-listed (gridRead l s page) 0 (gridCount s))) in
-          subst (λ (m : ℕ). GridFormed (tilingOf s m) n (gridAt s (readHistory n) slice level)) (place-level slice level (s .levels) b)
-          (subst (λ (x : StampGrid). GridFormed (tilingOf s (k % s .levels)) n x) (sym (w .1))
-          (page-formed n k (w .0) (ap (isGrid n) (sym f) ∙ g)))
+  module _ (room : stamp + historySize s ≤ length (l .stamps)) where
+    read-formed : (n k : ℕ) → k < gridCount s → isGrid n (gridRead l s grid stamp k) ≡ true
+        → GridFormed (tilingOf s (k % s .levels)) n (gridRead l s grid stamp k)
+    unfolding gridRead gridSize
+    read-formed n k h e =
+        grid-formed (tilingOf s (k % s .levels)) n (getD (l .newest) (grid + k) 0) (drop (stamp + gridStart s k) (l .stamps))
+        (omega (arith, grid-end s k h, length-drop (stamp + gridStart s k) (l .stamps))) e
+
+    history-formed : (h : Recorded) → isHistory (historyRead l s grid stamp h) ≡ true → Given (HistoryFormed s) (historyRead l s grid stamp h)
+    unfolding isHistory
+    history-formed NoHistory e = tt
+    history-formed (Writes n) e =
+        let q = and-both (leb n limit) (all (isGrid n) (listed (gridRead l s grid stamp) 0 (gridCount s))) e in
+        record { writes = leb-true _ _ (q .0); size = length-grids; grids = λ slice level a b. go slice level a b (q .1) }
+      where
+        go : (slice level : ℕ) → slice < slicesOf s → level < s .levels → all (isGrid n) (listed (gridRead l s grid stamp) 0 (gridCount s)) ≡ true
+            → GridFormed (tilingOf s level) n (gridAt s (readHistory n) slice level)
+        go slice level a b e =
+            let k = gridPlace s slice level in
+            let w = grid-place n slice level a b in
+            let d : StampGrid = record { newest = 0; stamps = [] } in
+            let f : getD (readHistory n .grids) k d ≡ gridRead l s grid stamp k =
+            getD-listed (gridRead l s grid stamp) 0 (gridCount s) k d (w .0) ∙ ap (gridRead l s grid stamp) (zero-add k) in
+            let g = all-get (isGrid n) (readHistory n .grids) k d e (omega (arith, w .0, length-listed (gridRead l s grid stamp) 0 (gridCount s))) in
+            subst (λ (m : ℕ). GridFormed (tilingOf s m) n (gridAt s (readHistory n) slice level)) (place-level slice level (s .levels) b)
+            (subst (λ (x : StampGrid). GridFormed (tilingOf s (k % s .levels)) n x) (sym (w .1))
+            (read-formed n k (w .0) (ap (isGrid n) (sym f) ∙ g)))
 
 spare-formed : (s : Spare ℕ) → isSpare s ≡ true → SpareFormed s
 unfolding isSpare
@@ -138,11 +136,11 @@ arrival-formed : (n : ℕ) → isArrival n ≡ true → n ≤ mostPlaces
 unfolding isArrival
 arrival-formed n e = leb-true _ _ e
 
-module _ (l : Lent) (paged : pageStamps * length (l .newest) ≡ length (l .stamps)) where
-  state-formed : (first page : ℕ) (t : TextureRecord) → page + recordGrids t ≤ length (l .newest) → isState (stateRead l first page t) ≡ true
-      → StateFormed (stateRead l first page t)
+module _ (l : Lent) where
+  state-formed : (first : ℕ) (t : TextureRecord) → t .stamp + recordStamps t ≤ length (l .stamps) → isState (stateRead l first t) ≡ true
+      → StateFormed (stateRead l first t)
   unfolding isState stateRead
-  state-formed first page t room e = record {
+  state-formed first t room e = record {
     shape = passed _ e 0;
     epoch = leb-true _ _ (passed _ e 1);
     birth = leb-true _ _ (passed _ e 2);
@@ -152,20 +150,23 @@ module _ (l : Lent) (paged : pageStamps * length (l .newest) ≡ length (l .stam
     spares = all-holds isSpare spare-formed (listed (spareRead l) first (t .spares)) (passed _ e 6);
   }
     where
-      go : (h : Recorded) → page + recordedGrids h (t .shape) ≤ length (l .newest) → isHistory (historyRead l (t .shape) page h) ≡ true
-          → Given (HistoryFormed (t .shape)) (historyRead l (t .shape) page h)
+      go : (h : Recorded) → t .stamp + recordedStamps h (t .shape) ≤ length (l .stamps)
+          → isHistory (historyRead l (t .shape) (t .grid) (t .stamp) h) ≡ true
+          → Given (HistoryFormed (t .shape)) (historyRead l (t .shape) (t .grid) (t .stamp) h)
       go NoHistory room f = tt
-      go (Writes n) room f = history-formed l paged (t .shape) (passed _ e 0) page room (Writes n) f
+      go (Writes n) room f = history-formed l (t .shape) (t .grid) (t .stamp) room (Writes n) f
 
-  states-formed : (first page : ℕ) (ts : List TextureRecord) → page + total recordGrids ts ≤ length (l .newest)
-      → all isState (statesRead l first page ts) ≡ true
-      → All StateFormed (statesRead l first page ts)
-  unfolding statesRead total all
-  states-formed first page [] room e = nil
-  states-formed first page (t ∷ ts) room e =
-      let rest = statesRead l (first + t .spares) (page + recordGrids t) ts in
-      let q = and-both (isState (stateRead l first page t)) (all isState rest) e in
-      cons (state-formed first page t (omega arith) (q .0)) (states-formed (first + t .spares) (page + recordGrids t) ts (omega arith) (q .1))
+  -- each texture's stamps stand where its record says, so all of them end within the slice
+  states-formed : (first n : ℕ) (ts : List TextureRecord) → startsFit recordStamps firstStampIn n ts ≡ true
+      → n + total recordStamps ts ≤ length (l .stamps) → all isState (statesRead l first ts) ≡ true
+      → All StateFormed (statesRead l first ts)
+  unfolding statesRead total all startsFit
+  states-formed first n [] b room e = nil
+  states-formed first n (t ∷ ts) b room e =
+      let q = and-both (isState (stateRead l first t)) (all isState (statesRead l (first + t .spares) ts)) e in
+      let u = and-both (eqb (t .stamp) n) (startsFit recordStamps firstStampIn (n + recordStamps t) ts) b in
+      let at : t .stamp ≡ n = eqb-true (t .stamp) n (u .0) in
+      cons (state-formed first t (omega (arith, at)) (q .0)) (states-formed (first + t .spares) (n + recordStamps t) ts (u .1) (omega arith) (q .1))
 
 -- the counts of what is read
 module _ (l : Lent) where
@@ -176,14 +177,14 @@ module _ (l : Lent) where
       ap₂ (λ (a b : ℕ). a + b)
       (ap₂ (λ (a b : ℕ). a + b)
       (ap₂ (λ (a b : ℕ). a + b) (length-listed (retiringRead l) (l .pool .popped) (l .pool .queued)) (hand-model l h))
-      (kept-states l 0 0 (trackedRecords l)))
+      (kept-states l 0 (trackedRecords l)))
       (length-listed (doomedRead l) 0 (l .pool .doomed))
 
   pub version-places : modelOf l .places .versions ≡ versionPlaces l
   unfolding modelOf
   version-places = refl
 
-  pub page-places : modelOf l .places .pages ≡ length (l .newest)
+  pub page-places : modelOf l .places .pages ≡ length (l .stamps) / pageStamps
   unfolding modelOf
   page-places = refl
 
@@ -228,9 +229,13 @@ module _ (l : Lent) (e : sizesFit l ≡ true) where
   unfolding sizesFit
   whole-spares = sym (eqb-true _ _ (passed _ e 4))
 
-  pub whole-stamps : pageStamps * length (l .newest) ≡ length (l .stamps)
+  pub whole-stamps : pageStamps * modelOf l .places .pages ≡ length (l .stamps)
   unfolding sizesFit
   whole-stamps = sym (eqb-true _ _ (passed _ e 5))
+
+  pub whole-newest : length (l .newest) ≡ min (mostGrids * modelOf l .places .textures) (length (l .stamps))
+  unfolding sizesFit
+  whole-newest = eqb-true _ _ (passed _ e 6)
 
   pub some-version : 1 ≤ versionPlaces l
   some-version = omega (arith, enough (modelOf l .places) are-places .version, version-places l)
@@ -238,8 +243,8 @@ module _ (l : Lent) (e : sizesFit l ≡ true) where
   pub most-versions : versionPlaces l ≤ mostPlaces
   most-versions = omega (arith, enough (modelOf l .places) are-places .versions, version-places l)
 
-  pub most-pages : length (l .newest) ≤ mostPlaces
-  most-pages = omega (arith, enough (modelOf l .places) are-places .pages, page-places l)
+  pub most-pages : modelOf l .places .pages ≤ mostPlaces
+  most-pages = enough (modelOf l .places) are-places .pages
 
 -- ---- the whole
 
@@ -256,29 +261,41 @@ module _ (l : Lent) (e : isPool l ≡ true) where
   unfolding isPool
   claiming = passed _ e 2
 
+  starts-hold : startsHold l ≡ true
+  unfolding isPool
+  starts-hold = passed _ e 3
+
   bytes-hold : bytesFit l ≡ true
   unfolding isPool
-  bytes-hold = passed _ e 3
+  bytes-hold = passed _ e 4
 
   forming : isFormed (modelOf l) ≡ true
   unfolding isPool
-  forming = passed _ e 5
+  forming = passed _ e 6
 
   marked : l .book .pressed ≤ 1
   unfolding isPool markFits
-  marked = leb-true _ _ (passed _ e 4)
+  marked = leb-true _ _ (passed _ e 5)
 
-  pages-claimed : total recordGrids (trackedRecords l) ≡ l .pool .grids
+  grids-claimed : total recordGrids (trackedRecords l) ≡ l .pool .grids
   unfolding runsFit
-  pages-claimed = eqb-true _ _ (passed _ claiming 1)
+  grids-claimed = eqb-true _ _ (passed _ claiming 1)
+
+  stamps-claimed : total recordStamps (trackedRecords l) ≡ l .pool .stamps
+  unfolding runsFit
+  stamps-claimed = eqb-true _ _ (passed _ claiming 2)
 
   spares-claimed : total (λ (t : TextureRecord). t .spares) (trackedRecords l) ≡ l .pool .kept
   unfolding runsFit
   spares-claimed = eqb-true _ _ (passed _ claiming 0)
 
-  pages-counted : l .pool .grids ≤ length (l .newest)
+  grids-counted : l .pool .grids ≤ length (l .newest)
   unfolding countsFit
-  pages-counted = leb-true _ _ (passed _ counted 5)
+  grids-counted = leb-true _ _ (passed _ counted 5)
+
+  stamps-counted : l .pool .stamps ≤ length (l .stamps)
+  unfolding countsFit
+  stamps-counted = leb-true _ _ (passed _ counted 6)
 
   hand-counted : l .pool .popped ≤ 1
   unfolding countsFit
@@ -294,7 +311,8 @@ module _ (l : Lent) (e : isPool l ≡ true) where
 
   textures-formed : All StateFormed (modelOf l .textures)
   unfolding isFormed modelOf
-  textures-formed = states-formed l (whole-stamps l sized) 0 0 (trackedRecords l) (omega (arith, pages-claimed, pages-counted)) (passed _ forming 1)
+  textures-formed =
+      states-formed l 0 0 (trackedRecords l) (stamp-starts l starts-hold) (omega (arith, stamps-claimed, stamps-counted)) (passed _ forming 1)
 
   model-formed : Formed (modelOf l)
   unfolding isFormed
@@ -307,7 +325,7 @@ module _ (l : Lent) (e : isPool l ≡ true) where
     trackings = leb-true _ _ (passed _ forming 5);
     places = omega (arith, tracked-model l, tracked-counted);
     versions = omega (arith, versions-read l hand-counted, versions-counted, spares-claimed, version-places l);
-    pages = omega (arith, pages-model l, pages-claimed, pages-counted, page-places l);
+    stamps = omega (arith, stamps-used-model l, stamps-claimed, stamps-counted, whole-stamps l sized);
     parked = eqb-true _ _ (passed _ forming 6);
     dooming = eqb-true _ _ (passed _ forming 7);
     cap = leb-true _ _ (passed _ forming 8);
@@ -327,17 +345,21 @@ module _ (l : Lent) (e : isPool l ≡ true) where
     doomed = whole-doomed l sized;
     spares = whole-spares l sized;
     stamps = whole-stamps l sized;
+    newest = whole-newest l sized;
     least = some-version l sized;
     most = most-versions l sized;
-    newest = most-pages l sized;
+    most-pages = most-pages l sized;
     tracked = tracked-counted;
     head = ltb-true _ _ (passed _ counted 1);
     first = ltb-true _ _ (passed _ counted 2);
     hand = hand-counted;
     versions = versions-counted;
-    pages = pages-counted;
+    grids = grids-counted;
+    stamps-counted = stamps-counted;
     kept = spares-claimed;
-    claimed = pages-claimed;
+    claimed = grids-claimed;
+    stamps-claimed = stamps-claimed;
+    starts = starts-hold;
     bytes = bytes-hold;
     mark = marked;
     formed = model-formed;

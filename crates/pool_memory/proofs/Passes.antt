@@ -2,6 +2,7 @@
 use mathlib.Core.Path.{_≡_, refl, sym, ap, ap₂, _∙_}
 use mathlib.Core.List.{List, [], _∷_, _++_, map, flatMap, map-append, append-nil}
 use Prim.Native.Nat.{ℕ, suc, _+_, _*_, _≤_, _<_}
+use native.Mathlib.Nat.{add-zero, zero-add, add-assoc}
 use native.Mathlib.Omega.{arith}
 use lib.ListN.{length, take, drop, length-map}
 use lib.Seq.{sets}
@@ -35,6 +36,18 @@ pub length-records : (grid stamp : ℕ) (ts : List (VersionState ℕ)) → lengt
 unfolding textureRecords
 length-records grid stamp [] = refl
 length-records grid stamp (t ∷ ts) = ap suc (length-records (grid + gridsUsed t) (stamp + stampsUsed t) ts)
+
+-- one more behind them
+records-more : (grid stamp : ℕ) (ts : List (VersionState ℕ)) (t : VersionState ℕ)
+    → textureRecords grid stamp (ts ++ (t ∷ []))
+    ≡ textureRecords grid stamp ts ++ (textureRecord (grid + total gridsUsed ts) (stamp + total stampsUsed ts) t ∷ [])
+unfolding textureRecords total
+records-more grid stamp [] t = ap₂ (λ (g n : ℕ). textureRecord g n t ∷ []) (sym (add-zero grid)) (sym (add-zero stamp))
+records-more grid stamp (u ∷ us) t =
+    ap (λ (xs : List TextureRecord). textureRecord grid stamp u ∷ xs)
+    (records-more (grid + gridsUsed u) (stamp + stampsUsed u) us t
+    ∙ ap₂ (λ (g n : ℕ). textureRecords (grid + gridsUsed u) (stamp + stampsUsed u) us ++ (textureRecord g n t ∷ []))
+    (add-assoc grid (gridsUsed u) (total gridsUsed us)) (add-assoc stamp (stampsUsed u) (total stampsUsed us)))
 
 -- ---- at the start nothing is packed
 
@@ -78,7 +91,16 @@ module _ (l : Lent) (p q : PoolModel ℕ) (t : VersionState ℕ) (e : q .texture
       → sets (texturesAfter p l) (textureStride * length (p .textures))
       (writeTexture (textureRecord (total gridsUsed (p .textures)) (total stampsUsed (p .textures)) t))
       ≡ texturesAfter q l
-  texture-packed room = ?
+  unfolding texturesAfter
+  texture-packed room =
+      let n = length-records 0 0 (p .textures) in
+      let r = textureRecord (total gridsUsed (p .textures)) (total stampsUsed (p .textures)) t in
+      ap (λ (k : ℕ). sets (over (flat writeTexture (textureRecords 0 0 (p .textures))) (l .textures)) (textureStride * k) (writeTexture r)) (sym n)
+      ∙ packed-put texture-codec (l .textures) (textureRecords 0 0 (p .textures)) r (omega arith)
+      ∙ ap (λ (xs : List TextureRecord). over (flat writeTexture xs) (l .textures))
+      (sym (ap (textureRecords 0 0) e ∙ records-more 0 0 (p .textures) t
+      ∙ ap₂ (λ (g m : ℕ). textureRecords 0 0 (p .textures) ++ (textureRecord g m t ∷ []))
+      (zero-add (total gridsUsed (p .textures))) (zero-add (total stampsUsed (p .textures)))))
 
   more-spares : everySpare (q .textures) ≡ everySpare (p .textures) ++ t .spares
   unfolding flatMap

@@ -1,9 +1,9 @@
 -- What was written back is what is read, and it forms a pool again. Assumes nothing.
-use mathlib.Core.Path.{_≡_, refl, sym, ap, _∙_, subst}
-use mathlib.Core.Bool.{Bool, true, false}
+use mathlib.Core.Path.{_≡_, refl, sym, ap, ap₂, _∙_, subst}
+use mathlib.Core.Bool.{Bool, true, false, _&&_}
 use mathlib.Core.Option.{Option, none, some}
-use mathlib.Core.List.{_++_, map}
-use Prim.Native.Nat.{ℕ, _+_, _-_, _*_, _/_, _≤_, _<_}
+use mathlib.Core.List.{List, _++_, map}
+use Prim.Native.Nat.{ℕ, _+_, _-_, _*_, _/_, _≤_, _<_, min}
 use native.Mathlib.Omega.{arith}
 use lib.Dec.{eqb}
 use lib.ListN.{length, length-map}
@@ -13,27 +13,31 @@ use Rattle.base_tables.specs.Records.{flat}
 use Rattle.base_tables.specs.Rings.{laid}
 use Rattle.base_tables.proofs.Records.{length-flat, reread}
 use Rattle.base_tables.proofs.Rings.{place-in, length-laid}
+use Rattle.base_unequal.specs.Unequal.{startsFit}
 use Rattle.pool_rules.specs.Model.{Retiring, VersionState, Places, PoolModel, gridsUsed, handCount, versionsUsed}
 use Rattle.pool_rules.specs.Open.{arePlaces}
+use Rattle.pool_rules.specs.HistorySizes.{stampsUsed}
 use Rattle.pool_rules.specs.Formed.{Formed}
+use Rattle.pool_rules.proofs.HistorySizes.{newest-room}
 use Rattle.pool_records.specs.declared.texture.TextureRecord.{TextureRecord}
-use Rattle.pool_records.specs.Texture.{writeTexture, recordGrids}
+use Rattle.pool_records.specs.Texture.{writeTexture, recordGrids, recordStamps}
 use Rattle.pool_records.specs.Spare.{writeSpare}
 use Rattle.pool_records.specs.Retiring.{writeRetiring}
 use Rattle.pool_records.specs.Doomed.{writeDoomed}
 use Rattle.pool_records.proofs.Codecs.{texture-codec, spare-codec}
 use Rattle.pool_memory.specs.Lent.{Lent, versionPlaces}
 use Rattle.pool_memory.specs.Reading.{trackedRecords, statesRead, retiringRead, handRead, doomedRead, modelOf}
-use Rattle.pool_memory.specs.Writing.{textureRecord, spareRecord, retiringRecord, doomedRecord, texturesAfter, everySpare, sparesAfter, newestAfter, stampsAfter, headAfter, handList, retiringAfter, firstAfter, doomedAfter, poolAfter, markOf, pacingAfter, lentAfter}
-use Rattle.pool_memory.specs.IsPool.{bytesHold, bytesFit, isPool}
+use Rattle.pool_memory.specs.Writing.{textureRecords, spareRecord, retiringRecord, doomedRecord, texturesAfter, everySpare, sparesAfter, newestAfter, stampsAfter, headAfter, handList, retiringAfter, firstAfter, doomedAfter, poolAfter, markOf, pacingAfter, lentAfter}
+use Rattle.pool_memory.specs.IsPool.{startsHold, bytesHold, bytesFit, isPool}
 use Rattle.pool_memory.proofs.Fits.{Fits}
-use Rattle.pool_memory.proofs.FromPool.{version-places, page-places}
-use Rattle.pool_memory.proofs.Runs.{pages-model}
+use Rattle.pool_memory.proofs.FromPool.{version-places}
+use Rattle.pool_memory.proofs.Runs.{firstGridIn, firstStampIn}
 use Rattle.pool_memory.proofs.ToPool.{fits-pool}
-use Rattle.pool_memory.proofs.ReadStates.{states-back, length-every-spare, kept-recorded, pages-recorded, bytes-recorded, length-newests, length-new-pages}
+use Rattle.pool_memory.proofs.ReadStates.{states-back, length-every-spare, length-newests, length-stamps, length-recorded, kept-recorded, grids-recorded, stamps-recorded, bytes-recorded, grid-starts-recorded, stamp-starts-recorded}
 use Rattle.pool_memory.proofs.ReadRings.{hand-back, queue-back, doomed-back}
 use Rattle.grid_stamps.specs.StampConstants.{pageStamps}
 use Rattle.pool_records.specs.RecordConstants.{doomedStride, retiringStride, spareStride, textureStride}
+use Rattle.pool_rules.specs.RuleConstants.{mostGrids}
 
 -- one version at most in the hand, and a mark is 0 or 1, whatever they are read back from
 hand-few : (o : Option (Retiring ℕ)) → handCount o ≤ 1
@@ -57,16 +61,19 @@ module _ (l : Lent) (p : PoolModel ℕ) (fits : Fits l) (formed : Formed p) (sam
   version-room : versionsUsed p ≤ versionPlaces l
   version-room = omega (arith, formed .versions, ap (λ (n : Places). n .versions) same, version-places l)
 
-  page-room : total gridsUsed (p .textures) ≤ length (l .newest)
-  page-room = omega (arith, formed .pages, ap (λ (n : Places). n .pages) same, page-places l)
+  stamp-room : total stampsUsed (p .textures) ≤ length (l .stamps)
+  stamp-room = omega (arith, formed .stamps, ap (λ (n : Places). n .pages) same, fits .stamps)
 
-  pages-before : total gridsUsed (modelOf l .textures) ≤ length (l .newest)
-  pages-before = omega (arith, pages-model l, fits .claimed, fits .pages)
+  -- `newest` is as long as the places of textures and the stamps let it be used
+  grid-room : total gridsUsed (p .textures) ≤ length (l .newest)
+  grid-room =
+      newest-room (p .textures) (formed .textures) (modelOf l .places .textures) (length (l .stamps)) (length (l .newest)) texture-room stamp-room (fits .newest)
 
   -- ---- the slices keep their lengths
 
-  length-textures : length (flat writeTexture (map textureRecord (p .textures))) ≡ textureStride * length (p .textures)
-  length-textures = length-flat texture-codec (map textureRecord (p .textures)) ∙ ap (λ (n : ℕ). textureStride * n) (length-map (p .textures) textureRecord)
+  length-textures : length (flat writeTexture (textureRecords 0 0 (p .textures))) ≡ textureStride * length (p .textures)
+  length-textures =
+      length-flat texture-codec (textureRecords 0 0 (p .textures)) ∙ ap (λ (n : ℕ). textureStride * n) (length-recorded 0 0 (p .textures))
 
   textures-kept : length (texturesAfter p l) ≡ length (l .textures)
   unfolding texturesAfter
@@ -84,13 +91,11 @@ module _ (l : Lent) (p : PoolModel ℕ) (fits : Fits l) (formed : Formed p) (sam
 
   newest-kept : length (newestAfter p l) ≡ length (l .newest)
   unfolding newestAfter
-  newest-kept = length-over _ (l .newest) (omega (arith, length-newests (p .textures) (formed .textures), page-room))
+  newest-kept = length-over _ (l .newest) (omega (arith, length-newests (p .textures) (formed .textures), grid-room))
 
   stamps-kept : length (stampsAfter p l) ≡ length (l .stamps)
   unfolding stampsAfter
-  stamps-kept =
-      length-over _ (l .stamps)
-      (omega (arith, length-new-pages l (fits .stamps) pages-before (p .textures) (formed .textures), page-room, fits .stamps))
+  stamps-kept = length-over _ (l .stamps) (omega (arith, length-stamps (p .textures) (formed .textures), stamp-room))
 
   retiring-kept : length (retiringAfter p l) ≡ length (l .retiring)
   unfolding retiringAfter
@@ -106,7 +111,7 @@ module _ (l : Lent) (p : PoolModel ℕ) (fits : Fits l) (formed : Formed p) (sam
 
   pub places-kept : modelOf (lentAfter p l) .places ≡ modelOf l .places
   unfolding modelOf lentAfter
-  places-kept = λ i. record { textures = textures-kept i / textureStride; versions = versions-kept i; pages = newest-kept i }
+  places-kept = λ i. record { textures = textures-kept i / textureStride; versions = versions-kept i; pages = stamps-kept i / pageStamps }
 
   -- ---- both rings begin inside their places
 
@@ -120,13 +125,13 @@ module _ (l : Lent) (p : PoolModel ℕ) (fits : Fits l) (formed : Formed p) (sam
 
   -- ---- each part is read back
 
-  records-back : trackedRecords (lentAfter p l) ≡ map textureRecord (p .textures)
+  records-back : trackedRecords (lentAfter p l) ≡ textureRecords 0 0 (p .textures)
   unfolding lentAfter poolAfter texturesAfter
-  records-back = reread texture-codec (map textureRecord (p .textures)) (length (p .textures)) (l .textures) (length-map (p .textures) textureRecord)
+  records-back = reread texture-codec (textureRecords 0 0 (p .textures)) (length (p .textures)) (l .textures) (length-recorded 0 0 (p .textures))
 
-  textures-back : statesRead (lentAfter p l) 0 0 (map textureRecord (p .textures)) ≡ p .textures
+  textures-back : statesRead (lentAfter p l) 0 (textureRecords 0 0 (p .textures)) ≡ p .textures
   unfolding lentAfter sparesAfter newestAfter stampsAfter over
-  textures-back = states-back l (lentAfter p l) (fits .stamps) pages-before 0 0 (p .textures) (formed .textures) _ _ _ refl refl refl
+  textures-back = states-back (lentAfter p l) 0 0 0 (p .textures) (formed .textures) _ _ _ refl refl refl
 
   ring-laid-back : lentAfter p l .retiring
       ≡ laid retiringStride writeRetiring (versionPlaces (lentAfter p l)) (lentAfter p l .pool .head) 0 (map retiringRecord (handList (p .hand) ++ p .retiring)) (l .retiring)
@@ -166,8 +171,8 @@ module _ (l : Lent) (p : PoolModel ℕ) (fits : Fits l) (formed : Formed p) (sam
 
   -- ---- the whole pool
 
-  states-read-back : statesRead (lentAfter p l) 0 0 (trackedRecords (lentAfter p l)) ≡ p .textures
-  states-read-back = ap (statesRead (lentAfter p l) 0 0) records-back ∙ textures-back
+  states-read-back : statesRead (lentAfter p l) 0 (trackedRecords (lentAfter p l)) ≡ p .textures
+  states-read-back = ap (statesRead (lentAfter p l) 0) records-back ∙ textures-back
 
   places-read-back : modelOf (lentAfter p l) .places ≡ p .places
   places-read-back = places-kept ∙ sym same
@@ -197,7 +202,13 @@ module _ (l : Lent) (p : PoolModel ℕ) (fits : Fits l) (formed : Formed p) (sam
 
   bytes-back : bytesFit (lentAfter p l) ≡ true
   unfolding bytesFit
-  bytes-back = ap (all bytesHold) records-back ∙ bytes-recorded (p .textures)
+  bytes-back = ap (all bytesHold) records-back ∙ bytes-recorded 0 0 (p .textures)
+
+  starts-back : startsHold (lentAfter p l) ≡ true
+  unfolding startsHold
+  starts-back =
+      ap (λ (ts : List TextureRecord). startsFit recordGrids firstGridIn 0 ts && startsFit recordStamps firstStampIn 0 ts) records-back
+      ∙ ap₂ (λ (a b : Bool). a && b) (grid-starts-recorded 0 0 (p .textures)) (stamp-starts-recorded 0 0 (p .textures))
 
   pub after-fits : Fits (lentAfter p l)
   unfolding lentAfter poolAfter pacingAfter
@@ -207,18 +218,24 @@ module _ (l : Lent) (p : PoolModel ℕ) (fits : Fits l) (formed : Formed p) (sam
     retiring = ap (λ (n : ℕ). retiringStride * n) versions-kept ∙ fits .retiring ∙ sym retiring-kept;
     doomed = ap (λ (n : ℕ). doomedStride * n) versions-kept ∙ fits .doomed ∙ sym doomed-kept;
     spares = ap (λ (n : ℕ). spareStride * n) versions-kept ∙ fits .spares ∙ sym spares-kept;
-    stamps = ap (λ (n : ℕ). pageStamps * n) newest-kept ∙ fits .stamps ∙ sym stamps-kept;
+    stamps = ap (λ (n : Places). pageStamps * n .pages) places-kept ∙ fits .stamps ∙ sym stamps-kept;
+    newest =
+        newest-kept ∙ fits .newest
+        ∙ ap₂ (λ (n : Places) (k : ℕ). min (mostGrids * n .textures) k) (sym places-kept) (sym stamps-kept);
     least = omega (arith, fits .least, versions-kept);
     most = omega (arith, fits .most, versions-kept);
-    newest = omega (arith, fits .newest, newest-kept);
+    most-pages = omega (arith, fits .most-pages, ap (λ (n : Places). n .pages) places-kept);
     tracked = omega (arith, texture-room, ap (λ (n : Places). n .textures) places-kept);
     head = ring-head;
     first = ring-first;
     hand = hand-few (p .hand);
     versions = omega (arith, version-room, versions-kept);
-    pages = omega (arith, page-room, newest-kept);
-    kept = ap (total (λ (t : TextureRecord). t .spares)) records-back ∙ kept-recorded (p .textures);
-    claimed = ap (total recordGrids) records-back ∙ pages-recorded (p .textures);
+    grids = omega (arith, grid-room, newest-kept);
+    stamps-counted = omega (arith, stamp-room, stamps-kept);
+    kept = ap (total (λ (t : TextureRecord). t .spares)) records-back ∙ kept-recorded 0 0 (p .textures);
+    claimed = ap (total recordGrids) records-back ∙ grids-recorded 0 0 (p .textures);
+    stamps-claimed = ap (total recordStamps) records-back ∙ stamps-recorded 0 0 (p .textures);
+    starts = starts-back;
     bytes = bytes-back;
     mark = mark-few (p .pacing .pressed);
     formed = subst (λ (q : PoolModel ℕ). Formed q) (sym read-back) formed;

@@ -108,7 +108,7 @@ module _ (l : Lent) where
   unfolding stateRead
   newest-state first t = newest-read (t .shape) (t .grid) (t .stamp) (t .history)
 
-  none-before : (s : VersionShape) → gridStart s 0 ≡ 0
+  pub none-before : (s : VersionShape) → gridStart s 0 ≡ 0
   unfolding gridStart
   none-before s = start-none (gridSize s) (gridPlaces s)
 

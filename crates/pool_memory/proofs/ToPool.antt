@@ -75,17 +75,17 @@ module _ (l : Lent) (f : Fits l) where
   unfolding sizesFit
   sizes-pass =
       every (cons (f .places) (cons (eq-eqb _ _ (sym (f .textures))) (cons (eq-eqb _ _ (sym (f .retiring))) (cons (eq-eqb _ _ (sym (f .doomed)))
-      (cons (eq-eqb _ _ (sym (f .spares))) (cons (eq-eqb _ _ (sym (f .stamps))) nil))))))
+      (cons (eq-eqb _ _ (sym (f .spares))) (cons (eq-eqb _ _ (sym (f .stamps))) (cons (eq-eqb _ _ (f .newest)) nil)))))))
 
   counts-pass : countsFit l ≡ true
   unfolding countsFit
   counts-pass =
       every (cons (le-leb _ _ (f .tracked)) (cons (lt-ltb _ _ (f .head)) (cons (lt-ltb _ _ (f .first)) (cons (le-leb _ _ (f .hand))
-      (cons (le-leb _ _ (f .versions)) (cons (le-leb _ _ (f .pages)) nil))))))
+      (cons (le-leb _ _ (f .versions)) (cons (le-leb _ _ (f .grids)) (cons (le-leb _ _ (f .stamps-counted)) nil)))))))
 
   runs-pass : runsFit l ≡ true
   unfolding runsFit
-  runs-pass = every (cons (eq-eqb _ _ (f .kept)) (cons (eq-eqb _ _ (f .claimed)) nil))
+  runs-pass = every (cons (eq-eqb _ _ (f .kept)) (cons (eq-eqb _ _ (f .claimed)) (cons (eq-eqb _ _ (f .stamps-claimed)) nil)))
 
   mark-passes : markFits l ≡ true
   unfolding markFits
@@ -93,4 +93,6 @@ module _ (l : Lent) (f : Fits l) where
 
   pub fits-pool : isPool l ≡ true
   unfolding isPool
-  fits-pool = every (cons sizes-pass (cons counts-pass (cons runs-pass (cons (f .bytes) (cons mark-passes (cons (formed-passes (modelOf l) (f .formed)) nil))))))
+  fits-pool =
+      every (cons sizes-pass (cons counts-pass (cons runs-pass (cons (f .starts) (cons (f .bytes) (cons mark-passes
+      (cons (formed-passes (modelOf l) (f .formed)) nil)))))))

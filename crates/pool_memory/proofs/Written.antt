@@ -2,12 +2,12 @@
 use mathlib.Core.Path.{_≡_, refl, sym, ap, ap₂, _∙_}
 use mathlib.Core.Bool.{true, cond}
 use mathlib.Core.Option.{Option, some}
-use mathlib.Core.List.{List, [], _∷_, map, flatMap}
-use Prim.Native.Nat.{ℕ, suc, _+_, _*_, _%_, _≤_, _<_}
+use mathlib.Core.List.{List, [], _∷_, _++_, map, flatMap, append-assoc}
+use Prim.Native.Nat.{ℕ, zero, suc, _+_, _*_, _%_, _≤_, _<_}
 use native.Mathlib.Nat.{zero-add, mul-comm, mul-add-mod-self-right, mod-eq-of-lt}
 use native.Mathlib.Omega.{arith}
-use lib.ListN.{length, take, drop, getD, set, length-set, length-drop, length-map}
-use lib.Seq.{sets, length-take-le}
+use lib.ListN.{length, take, drop, getD, set, length-set, length-append, length-drop, length-map}
+use lib.Seq.{sets, sets-eq, length-take-le}
 use Rattle.base_blocks.specs.Lists.{listed, total}
 use Rattle.base_blocks.proofs.Listed.{length-listed, getD-listed}
 use Rattle.grid_shapes.specs.declared.shape.VersionShape.{VersionShape}
@@ -17,16 +17,17 @@ use Rattle.grid_stamps.proofs.RowByRow.{tile-place}
 use Rattle.pool_rules.specs.Model.{WriteHistory, VersionState, PoolModel, hasHistory, gridCount, gridsUsed}
 use Rattle.pool_rules.specs.Histories.{gridAt, gridPlace}
 use Rattle.pool_rules.specs.HistorySizes.{gridSize, gridStart, historySize, stampsUsed}
+use Rattle.pool_rules.proofs.HistorySizes.{grid-next, grid-end}
 use Rattle.pool_records.specs.declared.recorded.Recorded.{Recorded}
 use Rattle.pool_records.specs.declared.recorded.Recorded.the-variants.{Writes, NoHistory}
-use Rattle.pool_records.specs.Texture.{readTexture, recordedGrids}
+use Rattle.pool_records.specs.Texture.{readTexture, recordedGrids, recordedStamps}
 use Rattle.pool_memory.specs.Lent.{Lent}
 use Rattle.pool_memory.specs.Reading.{trackedRecords, gridRead, historyRead, stateRead, modelOf}
 use Rattle.pool_memory.specs.Writing.{gridsOf, newestOf, newestAfter, stampsOf, stampsAfter}
 use Rattle.pool_memory.proofs.Fits.{Fits}
-use Rattle.pool_memory.proofs.Parts.{map-set}
+use Rattle.pool_memory.proofs.Parts.{map-set, upTo, flat-set, total-next}
 use Rattle.pool_memory.proofs.Rewritten.{sets-self, set-sets, sets-part}
-use Rattle.pool_memory.proofs.Runs.{firstSpare, firstGrid, firstStamp, stateOf, grids-state, stamps-used-state, grid-held-at, stamp-held-at}
+use Rattle.pool_memory.proofs.Runs.{none-before, firstSpare, firstGrid, firstStamp, stateOf, grids-state, stamps-used-state, grid-held-at, stamp-held-at}
 use Rattle.pool_memory.proofs.Packings.{newestPacking, stampsPacking, one-packed}
 use Rattle.pool_memory.proofs.HistoryRuns.{gridCountAt, stampCountAt, grids-in, stamps-in, newest-rewritten, stamps-rewritten}
 
@@ -110,8 +111,80 @@ module _ (l : Lent) (i : ℕ) where
 module _ (l : Lent) (f : Fits l) (p : PoolModel ℕ) (i : ℕ) (h : i < l .pool .tracked) (t : VersionState ℕ) (e : p .textures ≡ set (modelOf l .textures) i t)
     (k : ℕ) (g : StampGrid) (q : k < gridCountAt l i) (n : gridsOf (t .history) ≡ set (gridsAt l i) k g) where
   pub newest-stamped : set (l .newest) (firstGrid l i + k) (g .newest) ≡ newestAfter p l
-  newest-stamped = ?
+  unfolding firstGrid
+  newest-stamped =
+      let a = firstGrid l i in
+      let m = gridCountAt l i in
+      let run = take m (drop a (l .newest)) in
+      let inside : a + m ≤ length (l .newest) = omega (arith, grids-in l f i h, f .grids) in
+      let lr : length run ≡ m = length-take-le m (drop a (l .newest)) (omega (arith, length-drop a (l .newest))) in
+      let old : newestOf (stateOf l i) ≡ run = one-packed (newestPacking l f) i h in
+      let new : newestOf t ≡ set run k (g .newest) =
+      ap (map (λ (x : StampGrid). x .newest)) n ∙ map-set (λ (x : StampGrid). x .newest) (gridsAt l i) k g
+      ∙ ap (λ (xs : List ℕ). set xs k (g .newest)) old in
+      ap (λ (s : List ℕ). set s (a + k) (g .newest)) (sym (sets-self (l .newest) a m inside))
+      ∙ set-sets (l .newest) a run (omega arith) k (g .newest) (omega arith)
+      ∙ ap (sets (l .newest) a) (sym new)
+      ∙ newest-rewritten l f p i h t e
+      (length-map (gridsOf (t .history)) (λ (x : StampGrid). x .newest) ∙ ap length n ∙ length-set (gridsAt l i) k g ∙ length-grids l i)
+
+  -- its history is recorded, for it has a grid
+  counts-read : (s : VersionShape) (o : Recorded) (j : ℕ) → j < recordedGrids o s → (recordedGrids o s ≡ gridCount s) × (recordedStamps o s ≡ historySize s)
+  counts-read s NoHistory j r = absurd (let y : ⊥ = omega arith in y)
+  counts-read s (Writes m) j r = (refl, refl)
+
+  counts : (gridCountAt l i ≡ gridCount (stateOf l i .shape)) × (stampCountAt l i ≡ historySize (stateOf l i .shape))
+  unfolding stateOf stateRead
+  counts = let r = getD (trackedRecords l) i (readTexture []) in counts-read (r .shape) (r .history) k q
+
+  -- each of its grids has the stamps of its place
+  length-grid : (j : ℕ) → j < gridCountAt l i → length (getD (gridsAt l i) j noGrid .stamps) ≡ gridSize (stateOf l i .shape) j
+  unfolding gridRead gridIn gridSize
+  length-grid j r =
+      let s = stateOf l i .shape in
+      let at = firstStamp l i + gridStart s j in
+      ap (λ (x : StampGrid). length (x .stamps)) (grid-of l i f h j noGrid r)
+      ∙ length-take-le (gridSize s j) (drop at (l .stamps))
+      (omega (arith, length-drop at (l .stamps), grid-end s j (omega (arith, r, counts .0)), counts .1, stamps-in l f i h, f .stamps-counted))
+
+  -- and begins where those before it end
+  start-of : (j : ℕ) → j ≤ gridCountAt l i → upTo (λ (x : StampGrid). x .stamps) j (gridsAt l i) ≡ gridStart (stateOf l i .shape) j
+  unfolding total
+  start-of zero r = sym (none-before l (stateOf l i .shape))
+  start-of (suc j) r =
+      let s = stateOf l i .shape in
+      let a = total-next (λ (x : StampGrid). length (x .stamps)) (gridsAt l i) j noGrid (omega (arith, r, length-grids l i)) in
+      omega (arith, a, start-of j (omega arith), length-grid j (omega arith), grid-next s j (omega (arith, r, counts .0)))
 
   pub stamps-stamped : length (g .stamps) ≡ gridSize (stateOf l i .shape) k
       → sets (l .stamps) (firstStamp l i + gridStart (stateOf l i .shape) k) (g .stamps) ≡ stampsAfter p l
-  stamps-stamped size = ?
+  unfolding firstStamp
+  stamps-stamped size =
+      let s = stateOf l i .shape in
+      let a = firstStamp l i in
+      let m = gridStart s k in
+      let w = gridSize s k in
+      let all = stampCountAt l i in
+      let run = take all (drop a (l .stamps)) in
+      let inside : a + all ≤ length (l .stamps) = omega (arith, stamps-in l f i h, f .stamps-counted) in
+      let lr : length run ≡ all = length-take-le all (drop a (l .stamps)) (omega (arith, length-drop a (l .stamps))) in
+      let ends : m + w ≤ all = omega (arith, grid-end s k (omega (arith, q, counts .0)), counts .1) in
+      let old : stampsOf (stateOf l i) ≡ run = one-packed (stampsPacking l f) i h in
+      let new : stampsOf t ≡ take m run ++ (g .stamps ++ drop (m + w) run) =
+      ap (flatMap (λ (x : StampGrid). x .stamps)) n
+      ∙ flat-set (λ (x : StampGrid). x .stamps) k (gridsAt l i) g noGrid (omega (arith, q, length-grids l i))
+      ∙ ap₂ (λ (u v : ℕ). take u (stampsOf (stateOf l i)) ++ (g .stamps ++ drop (u + v) (stampsOf (stateOf l i))))
+      (start-of k (omega arith)) (length-grid k q)
+      ∙ ap (λ (xs : List ℕ). take m xs ++ (g .stamps ++ drop (m + w) xs)) old in
+      let long : length (stampsOf t) ≡ all =
+      ap length new ∙ length-append (take m run) (g .stamps ++ drop (m + w) run)
+      ∙ ap (λ (u : ℕ). length (take m run) + u) (length-append (g .stamps) (drop (m + w) run))
+      ∙ (let z : length (take m run) + (length (g .stamps) + length (drop (m + w) run)) ≡ all =
+      omega (arith, length-take-le m run (omega arith), length-drop (m + w) run, size) in z) in
+      sets-eq (g .stamps) (l .stamps) (a + m) (omega (arith, size))
+      ∙ append-assoc (take (a + m) (l .stamps)) (g .stamps) (drop (a + m + length (g .stamps)) (l .stamps))
+      ∙ ap (λ (u : ℕ). take (a + m) (l .stamps) ++ (g .stamps ++ drop (a + m + u) (l .stamps))) size
+      ∙ ap (λ (xs : List ℕ). take (a + m) xs ++ (g .stamps ++ drop (a + m + w) xs)) (sym (sets-self (l .stamps) a all inside))
+      ∙ sets-part (l .stamps) a run (omega arith) (g .stamps) m w size (omega arith)
+      ∙ ap (sets (l .stamps) a) (sym new)
+      ∙ stamps-rewritten l f p i h t e long

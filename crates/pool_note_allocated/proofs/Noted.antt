@@ -25,7 +25,7 @@ use Rattle.pool_memory.specs.Writing.{texturesAfter, sparesAfter, newestAfter, 
 use Rattle.pool_memory.specs.IsPool.{isPool}
 use Rattle.pool_memory.specs.Calls.{answer, toldNumber, noteAllocatedOn}
 use Rattle.pool_memory.proofs.Fits.{Fits}
-use Rattle.pool_memory.proofs.Runs.{spareCount, tracked-model, kept-model, pages-model}
+use Rattle.pool_memory.proofs.Runs.{spareCount, tracked-model, kept-model, grids-model, stamps-used-model}
 use Rattle.pool_memory.proofs.Kept.{keptHistory}
 use Rattle.pool_memory.proofs.Rings.{hand-model, head-stays, first-stays}
 use Rattle.pool_memory.proofs.Same.{queued-model, doomed-model}
@@ -38,9 +38,9 @@ use Rattle.grid_shapes.specs.ShapeConstants.{mostShapeBytes}
 use Rattle.pool_rules.specs.RuleConstants.{mostPlaces}
 
 -- textures that give up spares keep what their pages depend on
-paged-lessened : (k : VersionState ℕ → ℕ) (ts : List (VersionState ℕ)) → map keptHistory (map (lessened k) ts) ≡ map keptHistory ts
-paged-lessened k [] = refl
-paged-lessened k (t ∷ ts) = ap (λ xs. keptHistory t ∷ xs) (paged-lessened k ts)
+histories-lessened : (k : VersionState ℕ → ℕ) (ts : List (VersionState ℕ)) → map keptHistory (map (lessened k) ts) ≡ map keptHistory ts
+histories-lessened k [] = refl
+histories-lessened k (t ∷ ts) = ap (λ xs. keptHistory t ∷ xs) (histories-lessened k ts)
 
 spare-bytes-most : {ts : List (VersionState ℕ)} → All StateFormed ts → total spareBytes ts ≤ mostShapeBytes * total spareCount ts
 unfolding total
@@ -124,7 +124,8 @@ module _ (l : Lent) (f : Fits l) (allocated : ℕ) where
     counts-left = sym (λ i. record {
       tracked = (length-map (modelOf l .textures) (lessened (share l excess)) ∙ tracked-model l) i;
       kept = sym (r .count) i;
-      pages = (total-map gridsUsed (lessened (share l excess)) (λ t. refl) (modelOf l .textures) ∙ pages-model l ∙ f .claimed) i;
+      grids = (total-map gridsUsed (lessened (share l excess)) (λ t. refl) (modelOf l .textures) ∙ grids-model l ∙ f .claimed) i;
+      stamps = (total-map stampsUsed (lessened (share l excess)) (λ t. refl) (modelOf l .textures) ∙ stamps-used-model l ∙ f .stamps-claimed) i;
       head = hand-same i;
       popped = hand-model l (f .hand) i;
       queued = queued-model l i;
@@ -155,7 +156,7 @@ module _ (l : Lent) (f : Fits l) (allocated : ℕ) where
         ≡ noteAllocatedOn l allocated
     unfolding noteAllocatedOn
     noted-relieved e =
-        let same = paged-lessened (share l excess) (modelOf l .textures) in
+        let same = histories-lessened (share l excess) (modelOf l .textures) in
         ap (λ (m : Lent). (answer tt, m))
         (put-together notedPool l (countsRelieved (l .pool) kept bytes) (notedBook (l .pool) (l .book) allocated) textures (l .retiring) doomed spares (l .newest) (l .stamps)
         counts-left book-noted records-left (retiring-stay l f notedPool refl refl) ring-left runs-left (newest-stay l f notedPool same) (stamps-stay l f notedPool same))

@@ -35,7 +35,8 @@ abbrev pub countsRelieved : Counts → ℕ → ℕ → Counts
 countsRelieved c kept bytes = record {
   tracked = c .tracked;
   kept = kept;
-  pages = c .pages;
+  grids = c .grids;
+  stamps = c .stamps;
   head = c .head;
   popped = c .popped;
   queued = c .queued;

@@ -42,7 +42,7 @@ use Rattle.pool_memory.specs.Calls.{refusedWith, answer, toldNumber, parkOn}
 use Rattle.pool_memory.proofs.Fits.{Fits}
 use Rattle.pool_memory.proofs.FromPool.{pool-fits}
 use Rattle.pool_memory.proofs.Asked.{asked-refused, asked-accepted}
-use Rattle.pool_memory.proofs.Runs.{sparesOf, firstSpare, stateOf, tracked-model, kept-model, pages-model}
+use Rattle.pool_memory.proofs.Runs.{sparesOf, firstSpare, stateOf, tracked-model, kept-model, grids-model, stamps-used-model}
 use Rattle.pool_memory.proofs.Rings.{head-parked, first-stays, retiring-parked, doomed-pushed}
 use Rattle.pool_memory.proofs.Same.{queued-model, doomed-model}
 use Rattle.pool_memory.proofs.Kept.{keptHistory}
@@ -250,7 +250,8 @@ module _ (l : Lent) (e : isPool l ≡ true) (failed current : ℕ) where
             counts-lost head q = λ j. record {
               tracked = sym (tracked-model l) j;
               kept = sym (kept-model l ∙ fits .kept) j;
-              pages = sym (pages-model l ∙ fits .claimed) j;
+              grids = sym (grids-model l ∙ fits .claimed) j;
+              stamps = sym (stamps-used-model l ∙ fits .stamps-claimed) j;
               head = (q ∙ sym (head-parked l lost (fits .head) held refl)) j;
               popped = 0;
               queued = sym (queued-model l) j;
@@ -343,7 +344,8 @@ module _ (l : Lent) (e : isPool l ≡ true) (failed current : ℕ) where
             counts-kept head q = λ j. record {
               tracked = sym (length-change (x .id) (withOne spare) (modelOf l .textures) ∙ tracked-model l) j;
               kept = sym (kept-inserted l stays (fits .kept) end spare end-within every-is) j;
-              pages = sym (total-unchanged gridsUsed (x .id) (withOne spare) (λ t. refl) (modelOf l .textures) ∙ pages-model l ∙ fits .claimed) j;
+              grids = sym (total-unchanged gridsUsed (x .id) (withOne spare) (λ t. refl) (modelOf l .textures) ∙ grids-model l ∙ fits .claimed) j;
+              stamps = sym (total-unchanged stampsUsed (x .id) (withOne spare) (λ t. refl) (modelOf l .textures) ∙ stamps-used-model l ∙ fits .stamps-claimed) j;
               head = (q ∙ sym (head-parked l stays (fits .head) held refl)) j;
               popped = 0;
               queued = sym (queued-model l) j;

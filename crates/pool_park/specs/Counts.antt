@@ -7,7 +7,8 @@ abbrev pub handKept : ℕ → ℕ → Pool → Pool
 handKept head bytes p = record {
   tracked = p .tracked;
   kept = p .kept + 1;
-  pages = p .pages;
+  grids = p .grids;
+  stamps = p .stamps;
   head = head;
   popped = 0;
   queued = p .queued;
@@ -26,7 +27,8 @@ abbrev pub handDoomed : ℕ → ℕ → Pool → Pool
 handDoomed head bytes p = record {
   tracked = p .tracked;
   kept = p .kept;
-  pages = p .pages;
+  grids = p .grids;
+  stamps = p .stamps;
   head = head;
   popped = 0;
   queued = p .queued;

@@ -25,7 +25,7 @@ use Rattle.pool_memory.specs.Calls.{refusedWith, answer, poppedOf, popRetiredOn
 use Rattle.pool_memory.proofs.Fits.{Fits}
 use Rattle.pool_memory.proofs.FromPool.{pool-fits}
 use Rattle.pool_memory.proofs.Asked.{guard-passed, guard-refused, asked-refused, asked-accepted}
-use Rattle.pool_memory.proofs.Runs.{tracked-model, kept-model, pages-model}
+use Rattle.pool_memory.proofs.Runs.{tracked-model, kept-model, grids-model, stamps-used-model}
 use Rattle.pool_memory.proofs.Rings.{head-stays, first-stays, retiring-popped}
 use Rattle.pool_memory.proofs.Same.{doomed-model}
 use Rattle.pool_memory.proofs.Stays.{put-together, nothing-changed, book-stays, textures-stay, spares-stay, newest-stay, stamps-stay, doomed-stay, ring-fits}
@@ -122,7 +122,8 @@ module _ (l : Lent) (e : isPool l ≡ true) (settled : ℕ) where
         counts = λ i. record {
           tracked = sym (tracked-model l) i;
           kept = sym (kept-model l ∙ fits .kept) i;
-          pages = sym (pages-model l ∙ fits .claimed) i;
+          grids = sym (grids-model l ∙ fits .claimed) i;
+          stamps = sym (stamps-used-model l ∙ fits .stamps-claimed) i;
           head = sym (head-stays l popped (fits .head) (omega (arith, q))) i;
           popped = 1;
           queued = sym (length-listed (retiringRead l) 1 (l .pool .queued - 1)) i;

@@ -29,7 +29,7 @@ use Rattle.pool_memory.proofs.Fits.{Fits}
 use Rattle.pool_memory.proofs.FromPool.{pool-fits, version-places}
 use Rattle.pool_memory.proofs.Asked.{asked-refused, asked-accepted}
 use Rattle.pool_memory.proofs.Parts.{flat-mapped}
-use Rattle.pool_memory.proofs.Runs.{spareCount, stateOf, tracked-model, kept-model, pages-model}
+use Rattle.pool_memory.proofs.Runs.{spareCount, stateOf, tracked-model, kept-model, grids-model, stamps-used-model}
 use Rattle.pool_memory.proofs.Rings.{hand-model, head-stays, first-stays, retiring-pushed}
 use Rattle.pool_memory.proofs.Same.{queued-model, doomed-model}
 use Rattle.pool_memory.proofs.Kept.{keptHistory}
@@ -128,7 +128,8 @@ module _ (l : Lent) (e : isPool l ≡ true) (id view seq : ℕ) where
     counts = λ i. record {
       tracked = sym (length-change id (withBirth seq) (modelOf l .textures) ∙ tracked-model l) i;
       kept = sym (total-unchanged spareCount id (withBirth seq) (λ t. refl) (modelOf l .textures) ∙ kept-model l ∙ fits .kept) i;
-      pages = sym (total-unchanged gridsUsed id (withBirth seq) (λ t. refl) (modelOf l .textures) ∙ pages-model l ∙ fits .claimed) i;
+      grids = sym (total-unchanged gridsUsed id (withBirth seq) (λ t. refl) (modelOf l .textures) ∙ grids-model l ∙ fits .claimed) i;
+      stamps = sym (total-unchanged stampsUsed id (withBirth seq) (λ t. refl) (modelOf l .textures) ∙ stamps-used-model l ∙ fits .stamps-claimed) i;
       head = sym (head-stays l queued (fits .head) (omega (arith, hand-model l (fits .hand)))) i;
       popped = sym (hand-model l (fits .hand)) i;
       queued = sym (length-append (modelOf l .retiring) (version ∷ []) ∙ ap (λ (n : ℕ). n + 1) (queued-model l)) i;

@@ -11,7 +11,8 @@ abbrev pub oneQueued : Pool → Pool
 oneQueued p = record {
   tracked = p .tracked;
   kept = p .kept;
-  pages = p .pages;
+  grids = p .grids;
+  stamps = p .stamps;
   head = p .head;
   popped = p .popped;
   queued = p .queued + 1;
@@ -30,7 +31,8 @@ abbrev pub frontPopped : Pool → Pool
 frontPopped p = record {
   tracked = p .tracked;
   kept = p .kept;
-  pages = p .pages;
+  grids = p .grids;
+  stamps = p .stamps;
   head = p .head;
   popped = 1;
   queued = p .queued - 1;

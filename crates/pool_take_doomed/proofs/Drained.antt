@@ -29,8 +29,8 @@ use Rattle.pool_memory.specs.Writing.{textureRecord, spareRecord, everySpare, t
 use Rattle.pool_memory.specs.IsPool.{isPool}
 use Rattle.pool_memory.specs.Calls.{refusedWith, answer, viewNumbers, asked, drainVersionsOn}
 use Rattle.pool_memory.proofs.Fits.{Fits}
-use Rattle.pool_memory.proofs.Runs.{spareCount, tracked-model, records-model, spares-model, pages-model}
-use Rattle.pool_memory.proofs.Kept.{keptHistory, used-paged}
+use Rattle.pool_memory.proofs.Runs.{spareCount, tracked-model, records-model, spares-model, grids-model, stamps-used-model}
+use Rattle.pool_memory.proofs.Kept.{keptHistory, grids-kept, stamps-used-kept}
 use Rattle.pool_memory.proofs.Rings.{head-stays, hand-model, retiring-drained, first-taken, doomed-taken}
 use Rattle.pool_memory.proofs.Same.{mark-same}
 use Rattle.pool_memory.proofs.Stays.{put-together, ring-fits, doomed-fit, newest-stay, stamps-stay}
@@ -51,9 +51,9 @@ emptied-records [] = refl
 emptied-records (t ∷ ts) = ap (λ (rs : List TextureRecord). spareless (textureRecord t) ∷ rs) (emptied-records ts)
 
 -- ids, shapes and histories stay
-emptied-paged : (ts : List (VersionState ℕ)) → map keptHistory (emptied ts) ≡ map keptHistory ts
-emptied-paged [] = refl
-emptied-paged (t ∷ ts) = ap (λ ps. keptHistory t ∷ ps) (emptied-paged ts)
+emptied-histories : (ts : List (VersionState ℕ)) → map keptHistory (emptied ts) ≡ map keptHistory ts
+emptied-histories [] = refl
+emptied-histories (t ∷ ts) = ap (λ ps. keptHistory t ∷ ps) (emptied-histories ts)
 
 emptied-spares : (ts : List (VersionState ℕ)) → everySpare (emptied ts) ≡ []
 unfolding flatMap
@@ -151,7 +151,11 @@ module _ (l : Lent) (f : Fits l) where
   counts-drained = λ i. record {
     tracked = sym (length-map (modelOf l .textures) (withSpares []) ∙ tracked-model l) i;
     kept = sym (emptied-count (modelOf l .textures)) i;
-    pages = sym (used-paged (emptied (modelOf l .textures)) (modelOf l .textures) (emptied-paged (modelOf l .textures)) ∙ pages-model l ∙ f .claimed) i;
+    grids =
+        sym (grids-kept (emptied (modelOf l .textures)) (modelOf l .textures) (emptied-histories (modelOf l .textures)) ∙ grids-model l ∙ f .claimed) i;
+    stamps =
+        sym (stamps-used-kept (emptied (modelOf l .textures)) (modelOf l .textures) (emptied-histories (modelOf l .textures))
+        ∙ stamps-used-model l ∙ f .stamps-claimed) i;
     head = sym (head-stays l rest (f .head) (omega (arith, hand-model l (f .hand)))) i;
     popped = sym (hand-model l (f .hand)) i;
     queued = 0;
@@ -195,7 +199,7 @@ module _ (l : Lent) (f : Fits l) where
       counts-drained book-drained textures-drained
       (sym (retiring-drained l rest (f .head) (omega (arith, f .retiring)) (f .hand) (ring-fits l f) refl refl))
       (sym (doomed-taken l rest (f .first) (omega (arith, f .doomed)) (doomed-fit l f) (l .pool .doomed) (omega arith) none-left))
-      spares-drained (newest-stay l f rest (emptied-paged (modelOf l .textures))) (stamps-stay l f rest (emptied-paged (modelOf l .textures)))
+      spares-drained (newest-stay l f rest (emptied-histories (modelOf l .textures))) (stamps-stay l f rest (emptied-histories (modelOf l .textures)))
 
   -- ---- the call
 

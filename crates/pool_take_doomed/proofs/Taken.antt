@@ -26,7 +26,7 @@ use Rattle.pool_memory.specs.Writing.{pacingAfter, poolAfter, lentAfter}
 use Rattle.pool_memory.specs.IsPool.{isPool}
 use Rattle.pool_memory.specs.Calls.{Told, refusedWith, answer, viewNumbers, asked, takeDoomedOn}
 use Rattle.pool_memory.proofs.Fits.{Fits}
-use Rattle.pool_memory.proofs.Runs.{tracked-model, kept-model, pages-model}
+use Rattle.pool_memory.proofs.Runs.{tracked-model, kept-model, grids-model, stamps-used-model}
 use Rattle.pool_memory.proofs.Rings.{head-stays, hand-model, first-taken, doomed-taken}
 use Rattle.pool_memory.proofs.Same.{mark-same, queued-model, doomed-model}
 use Rattle.pool_memory.proofs.Stays.{put-together, doomed-fit, textures-stay, retiring-stay, spares-stay, newest-stay, stamps-stay}
@@ -136,7 +136,8 @@ module _ (l : Lent) where
       counts-taken = λ i. record {
         tracked = sym (tracked-model l) i;
         kept = sym (kept-model l ∙ f .kept) i;
-        pages = sym (pages-model l ∙ f .claimed) i;
+        grids = sym (grids-model l ∙ f .claimed) i;
+        stamps = sym (stamps-used-model l ∙ f .stamps-claimed) i;
         head = sym (head-stays l rest (f .head) (omega (arith, hand-model l (f .hand)))) i;
         popped = sym (hand-model l (f .hand)) i;
         queued = sym (queued-model l) i;

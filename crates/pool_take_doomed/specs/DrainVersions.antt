@@ -24,7 +24,8 @@ unfoldable pub drainedCounts : Pool → ℕ → Pool
 drainedCounts c places = record {
   tracked = c .tracked;
   kept = 0;
-  pages = c .pages;
+  grids = c .grids;
+  stamps = c .stamps;
   head = c .head;
   popped = c .popped;
   queued = 0;

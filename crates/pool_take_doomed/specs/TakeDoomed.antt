@@ -11,7 +11,8 @@ unfoldable pub takenCounts : Pool → ℕ → ℕ → ℕ → Pool
 takenCounts c places n bytes = record {
   tracked = c .tracked;
   kept = c .kept;
-  pages = c .pages;
+  grids = c .grids;
+  stamps = c .stamps;
   head = c .head;
   popped = c .popped;
   queued = c .queued;

@@ -98,7 +98,8 @@ fn drained_counts(pool: Pool, places: usize) -> Pool
     Pool {
         tracked: pool.tracked,
         kept: 0,
-        pages: pool.grids,
+        grids: pool.grids,
+        stamps: pool.stamps,
         head: pool.head,
         popped: pool.popped,
         queued: 0,

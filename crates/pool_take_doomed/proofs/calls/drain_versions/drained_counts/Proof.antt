@@ -14,7 +14,8 @@ returns c =
     λ i. record {
       tracked = p .tracked;
       kept = 0;
-      pages = p .pages;
+      grids = p .grids;
+      stamps = p .stamps;
       head = p .head;
       popped = p .popped;
       queued = 0;

@@ -23,7 +23,8 @@ returns c =
     λ i. record {
       tracked = p .tracked;
       kept = p .kept;
-      pages = p .pages;
+      grids = p .grids;
+      stamps = p .stamps;
       head = p .head;
       popped = p .popped;
       queued = p .queued;
