@@ -24,8 +24,17 @@ use Rattle.pool_memory.proofs.HistoryRuns.{gridCountAt, stampCountAt, grid-next
 use Rattle.pool_memory.proofs.Tracked.{record-read, spares-to, grid-at, stamp-at, shape-passes}
 use Rattle.pool_access.proofs.Totals.{total-with}
 use Rattle.grid_shapes.specs.ShapeConstants.{mostShapeBytes}
+use Rattle.grid_stamps.specs.StampConstants.{pageStamps}
 use Rattle.pool_records.specs.RecordConstants.{textureStride}
 use Rattle.pool_rules.specs.RuleConstants.{mostPlaces}
+
+-- no more grids and stamps are in use than pages can be lent for
+module _ (l : Lent) (f : Fits l) where
+  pub stamps-few : l .pool .stamps ≤ pageStamps * mostPlaces
+  stamps-few = omega (arith, f .stamps-counted, f .stamps, f .most-pages)
+
+  pub grids-few : l .pool .grids ≤ pageStamps * mostPlaces
+  grids-few = omega (arith, f .grids, f .newest, f .stamps, f .most-pages)
 
 module _ (l : Lent) (i : ℕ) (h : i < l .pool .tracked) where
   pub spares-in : stateOf l i .spares ≡ listed (spareRead l) (sparesTo (l .textures) i) (textureIn (l .textures) i .spares)

@@ -5,14 +5,13 @@ ghost use lib.ListN.{length};
 ghost use Rattle.base_blocks.specs.Blocks.{moved};
 use base_blocks::shift_down;
 
-// Moves the n numbers from to + gap on down to `to`, and writes nothing where they stand there already. What stands past them
-// stays.
-pub fn move_down(s: &mut [u64], to: usize, gap: usize, n: usize)
-    requires { ⌜ to + gap + n ≤ length (now s) ⌝ }
-    ensures { λ _. ⌜ now (s .exit) ≡ moved (now (s .entry)) to (to + gap) n ⌝ }
+// Moves the n numbers from `from` on down to `to`, and writes nothing where they stand there already. What stands past them stays.
+pub fn move_down(s: &mut [u64], to: usize, from: usize, n: usize)
+    requires { ⌜ (to ≤ from) × (from + n ≤ length (now s)) ⌝ }
+    ensures { λ _. ⌜ now (s .exit) ≡ moved (now (s .entry)) to from n ⌝ }
 {
-    if gap == 0 {
+    if to == from {
         return;
     }
-    shift_down(s, to, gap, n);
+    shift_down(s, to, from - to, n);
 }

@@ -58,10 +58,10 @@ pub fn forget_texture(
         own.bytes,
     );
     remove_records(spares, SPARE_STRIDE, pool.kept, own.first, own.spares);
-    let later_grids = pool.grids - (own.grid + own.grids);
-    move_down(newest, own.grid, own.grids, later_grids);
-    let later_stamps = pool.stamps - (own.stamp + own.stamps);
-    move_down(stamps, own.stamp, own.stamps, later_stamps);
+    let grid_end = own.grid + own.grids;
+    move_down(newest, own.grid, grid_end, pool.grids - grid_end);
+    let stamp_end = own.stamp + own.stamps;
+    move_down(stamps, own.stamp, stamp_end, pool.stamps - stamp_end);
     remove_record(textures, tracked, i, own);
     DoneAnswer {
         pool: counts_without(pool, own),
