@@ -11,6 +11,7 @@ use Rattle.grid_axes.specs.Axes.{tileEdge, axisOf, tilesOf, cutEnd, isCut, touc
 use Rattle.grid_stamps.specs.Grids.{tilingOf, columnsOf, rowsOf, stampCount, newGrid, rowByRow, stampOf, touches, isCutRect, stampedBy, dirtyTiles, boxOf, boxAround, boxSince}
 use Rattle.pool_rules.specs.Budget.{budgetOf, resumeBelow}
 use Rattle.pool_rules.specs.Model.{guard, find, gridCount}
+use Rattle.pool_rules.specs.HistorySizes.{gridSize, historySize}
 use Rattle.pool_rules.specs.Updates.{change, insert}
 use Rattle.pool_rules.specs.Histories.{gridAt, newHistory, stampWrite, regenerateFrom, stampRegeneration}
 use Rattle.pool_rules.specs.TakeSpare.{takeSpare}
@@ -47,18 +48,18 @@ unfolding allCalls flatShape bytes flatMap allLines wholeLines inFirstLine lastL
 all-calls-events = refl
 
 all-calls-renames : InRenames programRoom none (eventsOf allCalls)
-unfolding InRenames allCalls noteMipRegeneration noteAllocated takeDoomed drainVersions trim forgetTexture coverMore agedCount insertAged byAge picked countOf resumeBelow regenerateFrom stampRegeneration put changeBook startBook bookWrite bookRegeneration takeSpare preservePlan retire noteWrite popRetired park guard find gridCount change insert gridAt newHistory stampWrite boxCopy copyOf copies budgetOf isShape sameShape slicesOf levelExtent levelWidth levelHeight levelDepth levelBytes bytesOf blockEdge blockBytes wholeLevel tileEdge axisOf tilesOf cutEnd isCut touched oneTile widened spanAround spanStart spanSize tilingOf columnsOf rowsOf stampCount newGrid rowByRow stampOf touches isCutRect stampedBy dirtyTiles boxOf boxAround boxSince listed total keep tests afterIf ceilDiv flatMap afterTake afterPlan afterRetire renameIn marking stepBetween step start callOf workingOf opening flatShape
+unfolding InRenames allCalls noteMipRegeneration noteAllocated takeDoomed drainVersions trim forgetTexture coverMore agedCount insertAged byAge picked countOf resumeBelow regenerateFrom stampRegeneration put changeBook startBook bookWrite bookRegeneration takeSpare preservePlan retire noteWrite popRetired park guard find gridCount gridSize historySize change insert gridAt newHistory stampWrite boxCopy copyOf copies budgetOf isShape sameShape slicesOf levelExtent levelWidth levelHeight levelDepth levelBytes bytesOf blockEdge blockBytes wholeLevel tileEdge axisOf tilesOf cutEnd isCut touched oneTile widened spanAround spanStart spanSize tilingOf columnsOf rowsOf stampCount newGrid rowByRow stampOf touches isCutRect stampedBy dirtyTiles boxOf boxAround boxSince listed total keep tests afterIf ceilDiv flatMap afterTake afterPlan afterRetire renameIn marking stepBetween step start callOf workingOf opening flatShape
 all-calls-renames = (tt, (tt, (tt, (tt, (tt, (tt, (tt, ((refl, refl, refl), (refl, (tt, (tt, ((refl, refl, refl), (refl, (tt, (tt, (tt, ((refl, refl, refl), (refl, (tt, (tt, (tt, (tt, (tt, ((refl, refl, refl), (refl, (tt, (tt, (tt, (tt, (tt, ((refl, refl, refl), (refl, (tt, (tt, (tt, ((refl, refl, refl), (refl, (tt, (tt, (tt, (tt, (tt, ((refl, refl, refl), (refl, (tt, (tt, (tt, (tt, tt))))))))))))))))))))))))))))))))))))))))))))))))
 
 all-calls-replies : repliesText 0 (replies programRoom none (eventsOf allCalls)) ≡ outputOf allCalls
-unfolding replies repliesText openingReply allCalls bytes perform performBetween printed row optional heldField regionFields copyRow viewRow replyRows digitsOf digits noteMipRegeneration noteAllocated takeDoomed drainVersions trim forgetTexture coverMore agedCount insertAged byAge picked countOf resumeBelow regenerateFrom stampRegeneration put changeBook startBook bookWrite bookRegeneration takeSpare preservePlan retire noteWrite popRetired park guard find gridCount change insert gridAt newHistory stampWrite boxCopy copyOf copies budgetOf isShape sameShape slicesOf levelExtent levelWidth levelHeight levelDepth levelBytes bytesOf blockEdge blockBytes wholeLevel tileEdge axisOf tilesOf cutEnd isCut touched oneTile widened spanAround spanStart spanSize tilingOf columnsOf rowsOf stampCount newGrid rowByRow stampOf touches isCutRect stampedBy dirtyTiles boxOf boxAround boxSince listed total keep tests afterIf ceilDiv flatMap afterTake afterPlan afterRetire renameIn marking stepBetween step start callOf workingOf opening flatShape
+unfolding replies repliesText openingReply allCalls bytes perform performBetween printed row optional heldField regionFields copyRow viewRow replyRows digitsOf digits noteMipRegeneration noteAllocated takeDoomed drainVersions trim forgetTexture coverMore agedCount insertAged byAge picked countOf resumeBelow regenerateFrom stampRegeneration put changeBook startBook bookWrite bookRegeneration takeSpare preservePlan retire noteWrite popRetired park guard find gridCount gridSize historySize change insert gridAt newHistory stampWrite boxCopy copyOf copies budgetOf isShape sameShape slicesOf levelExtent levelWidth levelHeight levelDepth levelBytes bytesOf blockEdge blockBytes wholeLevel tileEdge axisOf tilesOf cutEnd isCut touched oneTile widened spanAround spanStart spanSize tilingOf columnsOf rowsOf stampCount newGrid rowByRow stampOf touches isCutRect stampedBy dirtyTiles boxOf boxAround boxSince listed total keep tests afterIf ceilDiv flatMap afterTake afterPlan afterRetire renameIn marking stepBetween step start callOf workingOf opening flatShape
 all-calls-replies = refl
 
 pub all-calls-hold : AllCallsHold
 all-calls-hold = witness allCalls all-calls-events all-calls-renames all-calls-replies
 
 pub all-calls-numbers : AllCallsNumbers
-unfolding afterEvents allCalls copied inCopy skipped notCopied inRect inWrite isWhole noteMipRegeneration noteAllocated takeDoomed drainVersions trim forgetTexture coverMore agedCount insertAged byAge picked countOf resumeBelow regenerateFrom stampRegeneration put changeBook startBook bookWrite bookRegeneration takeSpare preservePlan retire noteWrite popRetired park guard find gridCount change insert gridAt newHistory stampWrite boxCopy copyOf copies budgetOf isShape sameShape slicesOf levelExtent levelWidth levelHeight levelDepth levelBytes bytesOf blockEdge blockBytes wholeLevel tileEdge axisOf tilesOf cutEnd isCut touched oneTile widened spanAround spanStart spanSize tilingOf columnsOf rowsOf stampCount newGrid rowByRow stampOf touches isCutRect stampedBy dirtyTiles boxOf boxAround boxSince listed total keep tests afterIf ceilDiv flatMap afterTake afterPlan afterRetire renameIn marking stepBetween step start callOf workingOf opening flatShape
+unfolding afterEvents allCalls copied inCopy skipped notCopied inRect inWrite isWhole noteMipRegeneration noteAllocated takeDoomed drainVersions trim forgetTexture coverMore agedCount insertAged byAge picked countOf resumeBelow regenerateFrom stampRegeneration put changeBook startBook bookWrite bookRegeneration takeSpare preservePlan retire noteWrite popRetired park guard find gridCount gridSize historySize change insert gridAt newHistory stampWrite boxCopy copyOf copies budgetOf isShape sameShape slicesOf levelExtent levelWidth levelHeight levelDepth levelBytes bytesOf blockEdge blockBytes wholeLevel tileEdge axisOf tilesOf cutEnd isCut touched oneTile widened spanAround spanStart spanSize tilingOf columnsOf rowsOf stampCount newGrid rowByRow stampOf touches isCutRect stampedBy dirtyTiles boxOf boxAround boxSince listed total keep tests afterIf ceilDiv flatMap afterTake afterPlan afterRetire renameIn marking stepBetween step start callOf workingOf opening flatShape
 all-calls-numbers = record {
   refused-rename = number-is allCalls 10 7 (flatTexel 0 7 7) 1 (record { slice = lit< tt; level = lit< tt; x = lit< tt; y = lit< tt; z = lit< tt }, refl) refl;
   copied-level = number-is allCalls 13 7 (flatTexel 1 0 0) 0 (record { slice = lit< tt; level = lit< tt; x = lit< tt; y = lit< tt; z = lit< tt }, refl) refl;

@@ -31,7 +31,7 @@ use Rattle.event_sessions.specs.Noted.{noShape, freshSession, takenAfter, shape
 
 same-places-by : (l m : Lent) → SameLengths l m → modelOf l .places ≡ modelOf m .places
 unfolding modelOf versionPlaces
-same-places-by l m h = rw (h .same-textures, h .same-retiring, h .same-newest)
+same-places-by l m h = rw (h .same-textures, h .same-retiring, h .same-stamps)
 
 same-fits-by : (l m : Lent) → SameLengths l m → sizesFit l ≡ sizesFit m
 unfolding sizesFit modelOf versionPlaces

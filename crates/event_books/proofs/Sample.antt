@@ -11,6 +11,7 @@ use Rattle.grid_axes.specs.Axes.{tileEdge, axisOf, tilesOf, cutEnd, isCut, touc
 use Rattle.grid_stamps.specs.Grids.{tilingOf, columnsOf, rowsOf, stampCount, newGrid, rowByRow, stampOf, touches, isCutRect, stampedBy, dirtyTiles, boxOf, boxAround, boxSince}
 use Rattle.pool_rules.specs.Budget.{budgetOf}
 use Rattle.pool_rules.specs.Model.{guard, find, gridCount}
+use Rattle.pool_rules.specs.HistorySizes.{gridSize, historySize}
 use Rattle.pool_rules.specs.Updates.{change, insert}
 use Rattle.pool_rules.specs.Histories.{gridAt, newHistory, stampWrite}
 use Rattle.pool_rules.specs.TakeSpare.{takeSpare}
@@ -42,18 +43,18 @@ unfolding sampleLines flatShape bytes flatMap allLines wholeLines inFirstLine la
 sample-events = refl
 
 sample-renames : InRenames programRoom none (eventsOf sampleLines)
-unfolding InRenames sampleLines takeSpare preservePlan retire noteWrite popRetired park guard find gridCount change insert gridAt newHistory stampWrite boxCopy copyOf copies budgetOf isShape sameShape slicesOf levelExtent levelWidth levelHeight levelDepth levelBytes bytesOf blockEdge blockBytes wholeLevel tileEdge axisOf tilesOf cutEnd isCut touched oneTile widened spanAround spanStart spanSize tilingOf columnsOf rowsOf stampCount newGrid rowByRow stampOf touches isCutRect stampedBy dirtyTiles boxOf boxAround boxSince listed total keep tests afterIf ceilDiv flatMap afterTake afterPlan afterRetire renameIn marking stepBetween step start callOf workingOf opening flatShape
+unfolding InRenames sampleLines takeSpare preservePlan retire noteWrite popRetired park guard find gridCount gridSize historySize change insert gridAt newHistory stampWrite boxCopy copyOf copies budgetOf isShape sameShape slicesOf levelExtent levelWidth levelHeight levelDepth levelBytes bytesOf blockEdge blockBytes wholeLevel tileEdge axisOf tilesOf cutEnd isCut touched oneTile widened spanAround spanStart spanSize tilingOf columnsOf rowsOf stampCount newGrid rowByRow stampOf touches isCutRect stampedBy dirtyTiles boxOf boxAround boxSince listed total keep tests afterIf ceilDiv flatMap afterTake afterPlan afterRetire renameIn marking stepBetween step start callOf workingOf opening flatShape
 sample-renames = (tt, (tt, ((refl, refl, refl), (refl, (tt, (tt, (tt, (tt, ((refl, refl, refl), tt)))))))))
 
 sample-replies : repliesText 0 (replies programRoom none (eventsOf sampleLines)) ≡ outputOf sampleLines
-unfolding replies repliesText openingReply sampleLines bytes perform performBetween printed row optional heldField regionFields copyRow viewRow replyRows digitsOf digits takeSpare preservePlan retire noteWrite popRetired park guard find gridCount change insert gridAt newHistory stampWrite boxCopy copyOf copies budgetOf isShape sameShape slicesOf levelExtent levelWidth levelHeight levelDepth levelBytes bytesOf blockEdge blockBytes wholeLevel tileEdge axisOf tilesOf cutEnd isCut touched oneTile widened spanAround spanStart spanSize tilingOf columnsOf rowsOf stampCount newGrid rowByRow stampOf touches isCutRect stampedBy dirtyTiles boxOf boxAround boxSince listed total keep tests afterIf ceilDiv flatMap afterTake afterPlan afterRetire renameIn marking stepBetween step start callOf workingOf opening flatShape
+unfolding replies repliesText openingReply sampleLines bytes perform performBetween printed row optional heldField regionFields copyRow viewRow replyRows digitsOf digits takeSpare preservePlan retire noteWrite popRetired park guard find gridCount gridSize historySize change insert gridAt newHistory stampWrite boxCopy copyOf copies budgetOf isShape sameShape slicesOf levelExtent levelWidth levelHeight levelDepth levelBytes bytesOf blockEdge blockBytes wholeLevel tileEdge axisOf tilesOf cutEnd isCut touched oneTile widened spanAround spanStart spanSize tilingOf columnsOf rowsOf stampCount newGrid rowByRow stampOf touches isCutRect stampedBy dirtyTiles boxOf boxAround boxSince listed total keep tests afterIf ceilDiv flatMap afterTake afterPlan afterRetire renameIn marking stepBetween step start callOf workingOf opening flatShape
 sample-replies = refl
 
 pub sample-holds : SampleHolds
 sample-holds = witness sampleLines sample-events sample-renames sample-replies
 
 pub sample-numbers : SampleNumbers
-unfolding afterEvents sampleLines put changeBook startBook bookWrite bookRegeneration copied inCopy skipped notCopied inRect inWrite isWhole takeSpare preservePlan retire noteWrite popRetired park guard find gridCount change insert gridAt newHistory stampWrite boxCopy copyOf copies budgetOf isShape sameShape slicesOf levelExtent levelWidth levelHeight levelDepth levelBytes bytesOf blockEdge blockBytes wholeLevel tileEdge axisOf tilesOf cutEnd isCut touched oneTile widened spanAround spanStart spanSize tilingOf columnsOf rowsOf stampCount newGrid rowByRow stampOf touches isCutRect stampedBy dirtyTiles boxOf boxAround boxSince listed total keep tests afterIf ceilDiv flatMap afterTake afterPlan afterRetire renameIn marking stepBetween step start callOf workingOf opening flatShape
+unfolding afterEvents sampleLines put changeBook startBook bookWrite bookRegeneration copied inCopy skipped notCopied inRect inWrite isWhole takeSpare preservePlan retire noteWrite popRetired park guard find gridCount gridSize historySize change insert gridAt newHistory stampWrite boxCopy copyOf copies budgetOf isShape sameShape slicesOf levelExtent levelWidth levelHeight levelDepth levelBytes bytesOf blockEdge blockBytes wholeLevel tileEdge axisOf tilesOf cutEnd isCut touched oneTile widened spanAround spanStart spanSize tilingOf columnsOf rowsOf stampCount newGrid rowByRow stampOf touches isCutRect stampedBy dirtyTiles boxOf boxAround boxSince listed total keep tests afterIf ceilDiv flatMap afterTake afterPlan afterRetire renameIn marking stepBetween step start callOf workingOf opening flatShape
 sample-numbers = record {
   inside = number-is sampleLines 5 7 (flatTexel 0 20 5) 1 (record { slice = lit< tt; level = lit< tt; x = lit< tt; y = lit< tt; z = lit< tt }, refl) refl;
   beside = number-is sampleLines 5 7 (flatTexel 0 19 5) 0 (record { slice = lit< tt; level = lit< tt; x = lit< tt; y = lit< tt; z = lit< tt }, refl) refl;

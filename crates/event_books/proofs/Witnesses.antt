@@ -6,6 +6,7 @@ use mathlib.Core.Option.{none, some}
 use mathlib.Core.List.{List}
 use lib.ListN.{take}
 use Rattle.base_blocks.specs.Lists.{tests}
+use Rattle.grid_stamps.specs.StampConstants.{pageStamps}
 use Rattle.pool_rules.specs.Open.{arePlaces}
 use Rattle.pool_records.specs.RecordConstants.{textureStride, retiringStride}
 use Rattle.pool_memory.specs.Lent.{versionPlaces}
@@ -23,7 +24,7 @@ use Rattle.event_books.proofs.Demand3Text.{demand3-text}
 module _ (textures retiring doomed spares newest stamps : List ℕ) (h : ProgramStores textures retiring doomed spares newest stamps) where
   places-are : modelOf (fresh textures retiring doomed spares newest stamps .lent) .places ≡ sampleLent
   unfolding modelOf versionPlaces
-  places-are = λ i. record { textures = h .textures-are i / textureStride; versions = h .retiring-are i / retiringStride; pages = h .newest-are i }
+  places-are = λ i. record { textures = h .textures-are i / textureStride; versions = h .retiring-are i / retiringStride; pages = h .stamps-are i / pageStamps }
 
   fits : sizesFit (fresh textures retiring doomed spares newest stamps .lent) ≡ true
   unfolding sizesFit modelOf versionPlaces arePlaces tests

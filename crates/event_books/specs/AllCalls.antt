@@ -54,9 +54,9 @@ allCalls =
     ∷ line "take,7,2,32,32,1,2,0,1,13\n" (Event.Take 7 twoLevelShape true 13) "23,0,901,1\n"
     ∷ line "plan,7,1,0,0,0\n" (Event.Plan 7 (Known 1) 0 0 false) "24,0,2\n24,0,0,-,-,-,-\n24,0,1,-,-,-,-\n"
     ∷ line "retire,7,903,13\n" (Event.Retire 7 903 13) "25,0\n"
-    -- line 26: a write to one tile, and a take refused with 6: a cube needs 6 pages, and 4 are free
+    -- line 26: a write to one tile, and a take refused with 6: a cube needs 6,144 stamps, all that are lent, and texture 7 has five
     ∷ line "write,7,0,0,20,5,4,4\n" (Event.Write 7 0 0 (record { x = 20; y = 5; width = 4; height = 4 })) "26,0\n"
-    ∷ line "take,9,2,16,16,1,1,1,1,13\n" (Event.Take 9 (flatShape 2 16 16 1 1 1) true 13) "27,6\n"
+    ∷ line "take,9,2,512,512,1,1,1,1,13\n" (Event.Take 9 (flatShape 2 512 512 1 1 1) true 13) "27,6\n"
     -- line 28: a rename onto a spare that lacks that one tile
     ∷ line "pop,13\n" (Event.Pop 13) "28,0,7,903\n"
     ∷ line "park,0,14\n" (Event.Park 0 14) "29,0\n"

@@ -1,3 +1,5 @@
 pub mod Totals
 pub mod Fields
+pub mod Levels
+pub mod Moves
 pub mod Ids

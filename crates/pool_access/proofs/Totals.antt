@@ -39,10 +39,6 @@ module _ {ℓ} {A : Type ℓ} (w : ℕ) (rd : List ℕ → A) (f : A → ℕ) (s
   pub total-with : (i n : ℕ) → i < n → total f (table w rd i s) + f (recordAt w rd s i) ≤ total f (table w rd n s)
   total-with i n h = omega (arith, total-split i n (omega arith), total-more (recordAt w rd s) n f i h)
 
-  -- one record is no more than all
-  pub total-one : (i n : ℕ) → i < n → f (recordAt w rd s i) ≤ total f (table w rd n s)
-  total-one i n h = omega (arith, total-with i n h)
-
   -- ---- the loop that sums the first n up: what it has, and what is left
 
   pub sum-start : (n : ℕ) → 0 + total f (left (recordAt w rd s) n 0) ≡ total f (table w rd n s)

@@ -14,6 +14,7 @@ use Rattle.pool_rules.specs.DrainVersions.{drainVersions}
 use Rattle.pool_rules.specs.ForgetTexture.{forgetTexture}
 use Rattle.pool_rules.specs.Histories.{gridAt, newHistory, stampWrite, regenerateFrom, stampRegeneration}
 use Rattle.pool_rules.specs.Model.{gridCount, guard, find}
+use Rattle.pool_rules.specs.HistorySizes.{gridSize, historySize}
 use Rattle.pool_rules.specs.NoteAllocated.{insertAged, byAge, picked, countOf, noteAllocated}
 use Rattle.pool_rules.specs.NoteWrite.{noteWrite, noteMipRegeneration}
 use Rattle.pool_rules.specs.Park.{park}
@@ -103,7 +104,7 @@ corners = record {
 }
 
 pub keep-to-renames : KeepToRenames
-unfolding ceilDiv listed keep total after tests blockEdge blockBytes isShape sameShape slicesOf levelExtent levelWidth levelHeight levelDepth levelBytes bytesOf wholeLevel tileEdge axisOf tilesOf cutEnd isCut touched oneTile widened spanAround spanStart spanSize tilingOf columnsOf rowsOf stampCount newGrid rowByRow stampOf touches isCutRect stampedBy dirtyTiles boxOf boxAround boxSince budgetOf drainVersions forgetTexture gridAt newHistory stampWrite regenerateFrom stampRegeneration gridCount guard find insertAged byAge picked countOf noteAllocated noteWrite noteMipRegeneration park popRetired boxCopy copyOf copies preservePlan retire coverMore takeDoomed takeSpare agedCount trim change insert performBetween perform afterTake afterPlan renameIn afterRetire marking stepBetween step run Renames start flatShape repliesOf sample inRect inWrite isWhole put changeBook startBook bookWrite bookRegeneration inCopy copied notCopied skipped flatMap
+unfolding ceilDiv listed keep total after tests blockEdge blockBytes isShape sameShape slicesOf levelExtent levelWidth levelHeight levelDepth levelBytes bytesOf wholeLevel tileEdge axisOf tilesOf cutEnd isCut touched oneTile widened spanAround spanStart spanSize tilingOf columnsOf rowsOf stampCount newGrid rowByRow stampOf touches isCutRect stampedBy dirtyTiles boxOf boxAround boxSince budgetOf drainVersions forgetTexture gridAt newHistory stampWrite regenerateFrom stampRegeneration gridCount gridSize historySize guard find insertAged byAge picked countOf noteAllocated noteWrite noteMipRegeneration park popRetired boxCopy copyOf copies preservePlan retire coverMore takeDoomed takeSpare agedCount trim change insert performBetween perform afterTake afterPlan renameIn afterRetire marking stepBetween step run Renames start flatShape repliesOf sample inRect inWrite isWhole put changeBook startBook bookWrite bookRegeneration inCopy copied notCopied skipped flatMap
 keep-to-renames = record {
   sample-keeps = (tt, ((refl, refl, refl), (refl, (tt, (tt, (tt, (tt, ((refl, refl, refl), tt))))))));
   sample-on-keeps = (tt, ((refl, refl, refl), (refl, (tt, (tt, (tt, (tt, ((refl, refl, refl), (refl, (tt, tt))))))))));
@@ -116,7 +117,7 @@ keep-to-renames = record {
 }
 
 pub computed-books : ComputedBooks
-unfolding ceilDiv listed keep total after tests blockEdge blockBytes isShape sameShape slicesOf levelExtent levelWidth levelHeight levelDepth levelBytes bytesOf wholeLevel tileEdge axisOf tilesOf cutEnd isCut touched oneTile widened spanAround spanStart spanSize tilingOf columnsOf rowsOf stampCount newGrid rowByRow stampOf touches isCutRect stampedBy dirtyTiles boxOf boxAround boxSince budgetOf drainVersions forgetTexture gridAt newHistory stampWrite regenerateFrom stampRegeneration gridCount guard find insertAged byAge picked countOf noteAllocated noteWrite noteMipRegeneration park popRetired boxCopy copyOf copies preservePlan retire coverMore takeDoomed takeSpare agedCount trim change insert performBetween perform afterTake afterPlan renameIn afterRetire marking stepBetween step run Renames start flatShape repliesOf sample inRect inWrite isWhole put changeBook startBook bookWrite bookRegeneration inCopy copied notCopied skipped flatMap
+unfolding ceilDiv listed keep total after tests blockEdge blockBytes isShape sameShape slicesOf levelExtent levelWidth levelHeight levelDepth levelBytes bytesOf wholeLevel tileEdge axisOf tilesOf cutEnd isCut touched oneTile widened spanAround spanStart spanSize tilingOf columnsOf rowsOf stampCount newGrid rowByRow stampOf touches isCutRect stampedBy dirtyTiles boxOf boxAround boxSince budgetOf drainVersions forgetTexture gridAt newHistory stampWrite regenerateFrom stampRegeneration gridCount gridSize historySize guard find insertAged byAge picked countOf noteAllocated noteWrite noteMipRegeneration park popRetired boxCopy copyOf copies preservePlan retire coverMore takeDoomed takeSpare agedCount trim change insert performBetween perform afterTake afterPlan renameIn afterRetire marking stepBetween step run Renames start flatShape repliesOf sample inRect inWrite isWhole put changeBook startBook bookWrite bookRegeneration inCopy copied notCopied skipped flatMap
 computed-books = record {
   no-book = refl;
   at-first = (refl, refl, refl);

@@ -40,7 +40,7 @@ use Rattle.pool_memory.specs.MemoryConstants.{copyStride}
 use Rattle.pool_books.specs.Lists.{between, doomedCall, drainCall, forgetCall, noteCall, parkCall, planCall, popCall, regenCall, retireCall, takeCall, trimCall, writeCall}
 
 -- the stores stand for the pool
-abbrev Represents : Lent → PoolModel ℕ → Type 0
+abbrev pub Represents : Lent → PoolModel ℕ → Type 0
 Represents l p = Fits l × (modelOf l ≡ p)
 
 abbrev number : ℕ → ℕ
@@ -50,7 +50,7 @@ abbrev carried : ℕ → ℕ → ℕ
 carried id n = n
 
 -- the same answer, and stores that stand for the pool that the model leaves
-abbrev Simulates : Reply × Lent → Reply × PoolModel ℕ → Type 0
+abbrev pub Simulates : Reply × Lent → Reply × PoolModel ℕ → Type 0
 Simulates x y = (x .0 ≡ y .0) × Represents (x .1) (y .1)
 
 module _ (l : Lent) (p : PoolModel ℕ) (represents : Represents l p) {A : Type 0} (rule : PoolModel ℕ → Out ℕ A) (kept : OutFormed (rule p))
@@ -104,7 +104,7 @@ popped-reply (some v) = refl
 views-reply : (buffer vs : List ℕ) → viewsFilled (length vs) (over (flat viewNumbers vs) buffer) ≡ handedReply number carried vs
 views-reply buffer vs = ap viewsHanded (views-read vs buffer ∙ sym (map-id vs))
 
-simulates : (l : Lent) (p : PoolModel ℕ) (c : LentCall) → Formed p → Represents l p → Simulates (lentCall l c) (call p (roomOf c))
+pub simulates : (l : Lent) (p : PoolModel ℕ) (c : LentCall) → Formed p → Represents l p → Simulates (lentCall l c) (call p (roomOf c))
 unfolding lentCall perform performBetween takeSpareOn retireOn noteWriteOn noteMipRegenerationOn popRetiredOn parkOn noteAllocatedOn trimOn forgetTextureOn preservePlanOn takeDoomedOn drainVersionsOn
 simulates l p (takeCall id shape records seq) k r =
     says l p r (λ q. takeSpare q id shape records seq) (closed p k .take-spare id shape records seq) (take-spare-places p id shape records seq)

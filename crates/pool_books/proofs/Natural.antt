@@ -1,5 +1,5 @@
 -- Every call only carries views: on a pool with other views it answers alike and leaves the pool with those views.
-use Prim.Native.Nat.{ℕ, suc, _+_, _-_}
+use Prim.Native.Nat.{ℕ, suc, _+_, _*_, _-_}
 use mathlib.Core.Path.{_≡_, refl, sym, _∙_, ap}
 use mathlib.Core.Bool.{Bool, true, false, cond, _&&_, _||_}
 use mathlib.Core.Option.{Option, none, some, Option·map}
@@ -9,8 +9,10 @@ use lib.Dec.{leb, ltb, eqb}
 use Rattle.grid_shapes.specs.declared.shape.VersionShape.{VersionShape}
 use Rattle.grid_shapes.specs.Shapes.{sameShape, bytesOf}
 use Rattle.grid_rects.specs.declared.rect.TexelRect.{TexelRect}
+use Rattle.grid_stamps.specs.StampConstants.{pageStamps}
 use Rattle.pool_rules.specs.declared.held.Held.{Held}
-use Rattle.pool_rules.specs.Model.{WriteHistory, Spare, Retiring, Doomed, VersionState, PoolModel, Out, refused, accepted, guard, find, handCount, versionsUsed, gridCount, gridsUsed, doomedBytes, PreserveCopy, UploadFootprint}
+use Rattle.pool_rules.specs.Model.{WriteHistory, Spare, Retiring, Doomed, VersionState, PoolModel, Out, refused, accepted, guard, find, handCount, versionsUsed, doomedBytes, PreserveCopy, UploadFootprint}
+use Rattle.pool_rules.specs.HistorySizes.{historySize, stampsUsed}
 use Rattle.pool_rules.specs.Updates.{withHistory, withSpares, withBirth, withRename, withTextures, withRetiring, withTrackings, withParked, withDoomed, change, insert, doom, asDoomed, doomSpares}
 use Rattle.pool_rules.specs.Histories.{written, regenerated, spent}
 use Rattle.pool_rules.specs.TakeSpare.{newState, historyFull, newest, others, takenBytes, takeNew, takeRenewed, takeTracked, takeFound, takeSpare}
@@ -98,7 +100,7 @@ module _ {W X : Type 0} (f : W → X) where
   module _ (p : PoolModel W) where
     full-map : (sh : VersionShape) (records : Bool) (own : ℕ) → historyFull (mapPool f p) sh records own ≡ historyFull p sh records own
     full-map sh records own =
-        λ i. records && ltb (p .places .pages + own) (map-total (mapState f) gridsUsed gridsUsed (λ t. refl) (p .textures) i + gridCount sh)
+        λ i. records && ltb (pageStamps * p .places .pages + own) (map-total (mapState f) stampsUsed stampsUsed (λ t. refl) (p .textures) i + historySize sh)
 
     pub take-map : (id : ℕ) (sh : VersionShape) (records : Bool) (seq : ℕ) → Carried spareOf (takeSpare p id sh records seq) (takeSpare (mapPool f p) id sh records seq)
     unfolding takeSpare
@@ -123,7 +125,7 @@ module _ {W X : Type 0} (f : W → X) where
 
         renewed : (t : VersionState W) → Carried spareOf (takeRenewed p id sh records seq t) (takeRenewed (mapPool f p) id sh records seq (mapState f t))
         renewed t =
-            guard-eq _ _ 6 (full-map sh records (gridsUsed t))
+            guard-eq _ _ 6 (full-map sh records (stampsUsed t))
             (guard-eq _ _ 12 refl
             (alike refl
             (λ i. withTrackings (suc (p .trackings))

@@ -10,6 +10,7 @@ use Rattle.grid_axes.specs.Axes.{tileEdge, axisOf, tilesOf, cutEnd, isCut, touc
 use Rattle.grid_stamps.specs.Grids.{tilingOf, columnsOf, rowsOf, stampCount, newGrid, rowByRow, stampOf, touches, isCutRect, stampedBy, dirtyTiles, boxOf, boxAround, boxSince}
 use Rattle.pool_rules.specs.Budget.{budgetOf}
 use Rattle.pool_rules.specs.Model.{PoolModel, Out, refused, accepted, guard, find, gridCount}
+use Rattle.pool_rules.specs.HistorySizes.{gridSize, historySize}
 use Rattle.pool_rules.specs.Updates.{change, insert}
 use Rattle.pool_rules.specs.Histories.{gridAt, newHistory, stampWrite}
 use Rattle.pool_rules.specs.TakeSpare.{takeSpare}
@@ -30,7 +31,7 @@ use Rattle.pool_books.specs.Demand3.{Reply, answered, call, perform, per
 use Rattle.pool_books.specs.Sample.{flatShape, sampleLent, repliesOf, reached, ReachedIsFormed, sample, sampleAnswers, parkedAt10, queued678, handedOut, bornIn5, Edges}
 
 pub sample-answers : repliesOf (opened sampleLent 0) sample ≡ sampleAnswers
-unfolding repliesOf sample flatShape perform performBetween takeSpare preservePlan retire noteWrite popRetired park guard find gridCount change insert gridAt newHistory stampWrite boxCopy copyOf copies budgetOf isShape sameShape slicesOf levelExtent levelWidth levelHeight levelDepth levelBytes bytesOf blockEdge blockBytes wholeLevel tileEdge axisOf tilesOf cutEnd isCut touched oneTile widened spanAround spanStart spanSize tilingOf columnsOf rowsOf stampCount newGrid rowByRow stampOf touches isCutRect stampedBy dirtyTiles boxOf boxAround boxSince listed total keep tests after ceilDiv flatMap
+unfolding repliesOf sample flatShape perform performBetween takeSpare preservePlan retire noteWrite popRetired park guard find gridCount gridSize historySize change insert gridAt newHistory stampWrite boxCopy copyOf copies budgetOf isShape sameShape slicesOf levelExtent levelWidth levelHeight levelDepth levelBytes bytesOf blockEdge blockBytes wholeLevel tileEdge axisOf tilesOf cutEnd isCut touched oneTile widened spanAround spanStart spanSize tilingOf columnsOf rowsOf stampCount newGrid rowByRow stampOf touches isCutRect stampedBy dirtyTiles boxOf boxAround boxSince listed total keep tests after ceilDiv flatMap
 sample-answers = refl
 
 -- ---- the pools that calls reach are formed
@@ -39,7 +40,7 @@ formed-after : {A : Type 0} (f : A → Reply) (p : PoolModel ℕ) (o : Out ℕ A
 formed-after f p (refused n) k q = k
 formed-after f p (accepted a r) k (formed q) = q
 
-call-formed : (p : PoolModel ℕ) → Formed p → (c : Call) → Formed (call p c .1)
+pub call-formed : (p : PoolModel ℕ) → Formed p → (c : Call) → Formed (call p c .1)
 unfolding perform performBetween
 call-formed p k (takeCall id shape records seq) = formed-after _ p _ k (closed p k .take-spare id shape records seq)
 call-formed p k (planCall id shape held u buffer) = formed-after _ p _ k (closed p k .preserve-plan id shape held u buffer)
@@ -77,7 +78,7 @@ unfolding bornIn5 arePlaces tests
 born-formed = reached-formed sampleLent refl 0 _
 
 pub edges : Edges
-unfolding repliesOf sample flatShape perform performBetween takeSpare preservePlan retire noteWrite popRetired park guard find gridCount change insert gridAt newHistory stampWrite boxCopy copyOf copies budgetOf isShape sameShape slicesOf levelExtent levelWidth levelHeight levelDepth levelBytes bytesOf blockEdge blockBytes wholeLevel tileEdge axisOf tilesOf cutEnd isCut touched oneTile widened spanAround spanStart spanSize tilingOf columnsOf rowsOf stampCount newGrid rowByRow stampOf touches isCutRect stampedBy dirtyTiles boxOf boxAround boxSince listed total keep tests after ceilDiv flatMap reached trim agedCount parkedAt10 queued678 bornIn5 handedOut takeDoomed coverMore forgetTexture
+unfolding repliesOf sample flatShape perform performBetween takeSpare preservePlan retire noteWrite popRetired park guard find gridCount gridSize historySize change insert gridAt newHistory stampWrite boxCopy copyOf copies budgetOf isShape sameShape slicesOf levelExtent levelWidth levelHeight levelDepth levelBytes bytesOf blockEdge blockBytes wholeLevel tileEdge axisOf tilesOf cutEnd isCut touched oneTile widened spanAround spanStart spanSize tilingOf columnsOf rowsOf stampCount newGrid rowByRow stampOf touches isCutRect stampedBy dirtyTiles boxOf boxAround boxSince listed total keep tests after ceilDiv flatMap reached trim agedCount parkedAt10 queued678 bornIn5 handedOut takeDoomed coverMore forgetTexture
 edges = record {
   edge = (refl, refl);
   edge-blocks = (refl, refl);

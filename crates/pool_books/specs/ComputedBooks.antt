@@ -54,7 +54,7 @@ pub record Corners : Type 0 where
 
 -- ---- lists
 
--- places enough for the cube's eighteen pages
+-- places enough for the cube's eighteen grids
 abbrev pub cubeLent : Places
 cubeLent = record { textures = 2; versions = 8; pages = 18 }
 

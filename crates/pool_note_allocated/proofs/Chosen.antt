@@ -16,13 +16,15 @@ use Rattle.base_blocks.proofs.Listed.{map-listed}
 use Rattle.base_tables.proofs.Records.{getD-table}
 use Rattle.grid_shapes.specs.Shapes.{isShape, bytesOf}
 use Rattle.grid_shapes.proofs.ShapeBytes.{bytes-bound}
-use Rattle.pool_rules.specs.Model.{VersionState}
+use Rattle.pool_rules.specs.Model.{VersionState, gridsUsed}
+use Rattle.pool_rules.specs.HistorySizes.{stampsUsed}
+use Rattle.pool_rules.specs.Formed.{StateFormed}
 use Rattle.pool_rules.specs.NoteAllocated.{Aged, picked, byAge, countOf, agedOf, pickedIn}
 use Rattle.pool_records.specs.declared.texture.TextureRecord.{TextureRecord}
 use Rattle.pool_records.specs.Texture.{readTexture, textureIn, recordGrids, recordSpares, recordBytes}
 use Rattle.pool_memory.specs.Lent.{Lent}
 use Rattle.pool_memory.specs.Reading.{trackedRecords, spareRead, stateRead, statesRead, modelOf}
-use Rattle.pool_memory.specs.Writing.{textureRecord}
+use Rattle.pool_memory.specs.Writing.{textureRecords}
 use Rattle.pool_memory.proofs.Fits.{Fits}
 use Rattle.pool_memory.proofs.Parts.{total-next, total-within}
 use Rattle.pool_memory.proofs.Runs.{firstSpare, stateOf, tracked-records, tracked-model, records-model, model-at}
@@ -82,31 +84,37 @@ module _ (l : Lent) where
   state-parkings i h =
       ap (map parkedOf) (state-spares l i h) ∙ run-parkings (firstSpare l i) (textureIn (l .textures) i .spares)
 
-  run-bytes : (line first page : ℕ) (t : TextureRecord)
-      → bytesOf (stateRead l first page t .shape) * countBefore line (map parkedOf (stateRead l first page t .spares))
+  run-bytes : (line first : ℕ) (t : TextureRecord)
+      → bytesOf (stateRead l first t .shape) * countBefore line (map parkedOf (stateRead l first t .spares))
       ≡ bytesOf (t .shape) * countBefore line (parkings (l .spares) first (t .spares))
   unfolding stateRead
-  run-bytes line first page t = ap (λ (ps : List ℕ). bytesOf (t .shape) * countBefore line ps) (run-parkings first (t .spares))
+  run-bytes line first t = ap (λ (ps : List ℕ). bytesOf (t .shape) * countBefore line ps) (run-parkings first (t .spares))
 
-  bytes-states : (line first page : ℕ) (ts : List TextureRecord) → bytesFrom (l .spares) line first ts ≡ bytesBefore line (agedAll (statesRead l first page ts))
+  bytes-states : (line first : ℕ) (ts : List TextureRecord) → bytesFrom (l .spares) line first ts ≡ bytesBefore line (agedAll (statesRead l first ts))
   unfolding bytesFrom bytesBefore statesRead flatMap keep total
-  bytes-states line first page [] = refl
-  bytes-states line first page (t ∷ ts) =
-      let s = stateRead l first page t in
-      let us = statesRead l (first + t .spares) (page + recordGrids t) ts in
+  bytes-states line first [] = refl
+  bytes-states line first (t ∷ ts) =
+      let s = stateRead l first t in
+      let us = statesRead l (first + t .spares) ts in
       sym (ap (total bytesOfAged) (keep-append (isBefore line) (agedOf s) (agedAll us))
       ∙ total-append bytesOfAged (keep (isBefore line) (agedOf s)) (keep (isBefore line) (agedAll us))
-      ∙ ap₂ (λ (a b : ℕ). a + b) (state-before s line ∙ run-bytes line first page t) (sym (bytes-states line (first + t .spares) (page + recordGrids t) ts)))
+      ∙ ap₂ (λ (a b : ℕ). a + b) (state-before s line ∙ run-bytes line first t) (sym (bytes-states line (first + t .spares) ts)))
 
   pub bytes-model : (line : ℕ) → bytesFrom (l .spares) line 0 (trackedRecords l) ≡ bytesBefore line (agedAll (modelOf l .textures))
   unfolding modelOf
-  bytes-model line = bytes-states line 0 0 (trackedRecords l)
+  bytes-model line = bytes-states line 0 (trackedRecords l)
 
   -- ---- bounds
 
+  shapes-recorded : (grid stamp : ℕ) {ts : List (VersionState ℕ)} → All StateFormed ts
+      → All (λ (t : TextureRecord). isShape (t .shape) ≡ true) (textureRecords grid stamp ts)
+  unfolding textureRecords
+  shapes-recorded grid stamp nil = nil
+  shapes-recorded grid stamp (cons {x = t} q qs) = cons (q .shape) (shapes-recorded (grid + gridsUsed t) (stamp + stampsUsed t) qs)
+
   module _ (f : Fits l) where
     records-shaped : All (λ (t : TextureRecord). isShape (t .shape) ≡ true) (trackedRecords l)
-    records-shaped = rw (records-model l (f .bytes)) at (all-map {Q = λ (t : TextureRecord). isShape (t .shape) ≡ true} textureRecord (λ t q. q .shape) (f .formed .textures))
+    records-shaped = rw (records-model l (f .bytes) (f .starts)) at (shapes-recorded 0 0 (f .formed .textures))
 
     bytes-most : {ts : List TextureRecord} → All (λ (t : TextureRecord). isShape (t .shape) ≡ true) ts → total recordBytes ts ≤ mostShapeBytes * total recordSpares ts
     unfolding total recordBytes

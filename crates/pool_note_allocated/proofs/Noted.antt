@@ -14,6 +14,7 @@ use Rattle.base_blocks.specs.All.{All, nil, cons}
 use Rattle.grid_shapes.specs.Shapes.{bytesOf}
 use Rattle.grid_shapes.proofs.ShapeBytes.{bytes-bound}
 use Rattle.pool_rules.specs.Model.{Doomed, VersionState, PoolModel, accepted, gridsUsed, spareBytes, doomedBytes}
+use Rattle.pool_rules.specs.HistorySizes.{stampsUsed}
 use Rattle.pool_rules.specs.Updates.{withPacing}
 use Rattle.pool_rules.specs.NoteAllocated.{pressedAfter, countOf, pickedIn, relieved, noteAllocated}
 use Rattle.pool_rules.specs.Formed.{StateFormed}

@@ -21,7 +21,7 @@ use Rattle.pool_records.specs.Spare.{writeSpare}
 use Rattle.pool_records.specs.Doomed.{writeDoomed}
 use Rattle.pool_memory.specs.Lent.{Lent, versionPlaces}
 use Rattle.pool_memory.specs.Reading.{trackedRecords, modelOf}
-use Rattle.pool_memory.specs.Writing.{textureRecord, spareRecord, doomedRecord, everySpare, texturesAfter, doomedAfter, sparesAfter, poolAfter}
+use Rattle.pool_memory.specs.Writing.{textureRecords, spareRecord, doomedRecord, everySpare, texturesAfter, doomedAfter, sparesAfter, poolAfter}
 use Rattle.pool_memory.proofs.Fits.{Fits}
 use Rattle.pool_memory.proofs.Rings.{doomed-pushed}
 use Rattle.pool_memory.proofs.Runs.{sparesOf, spareCount, firstSpare, stateOf}
@@ -199,7 +199,7 @@ module _ (l : Lent) (f : Fits l) (excess line : ℕ) {i from kept bytes sum : �
 
   textures-all : texturesTo l part i ≡ texturesAfter (relievedPool excess l) l
   unfolding texturesTo texturesAfter
-  textures-all = ap (λ (ts : List (VersionState ℕ)). over (flat writeTexture (map textureRecord (map (lessened part) ts))) (l .textures)) all-there
+  textures-all = ap (λ (ts : List (VersionState ℕ)). over (flat writeTexture (textureRecords 0 0 (map (lessened part) ts))) (l .textures)) all-there
 
   spares-all : sparesTo l part i ≡ sparesAfter (relievedPool excess l) l
   unfolding sparesTo sparesAfter

@@ -3,6 +3,7 @@
 use mathlib.Core.Path.{_≡_, refl, sym, ap, ap₂, _∙_}
 use mathlib.Core.List.{List, [], _∷_, _++_, map, flatMap, map-append, append-nil}
 use Prim.Native.Nat.{ℕ, suc, _+_, _-_, _*_, _≤_, _<_}
+use native.Mathlib.Nat.{zero-add}
 use native.Mathlib.Omega.{arith}
 use lib.ListN.{length, take, drop, set, length-map, length-drop}
 use lib.Seq.{take-suc, take-all, length-take-le}
@@ -13,25 +14,28 @@ use Rattle.base_blocks.proofs.Listed.{drop-listed, take-listed, map-listed, lis
 use Rattle.base_tables.specs.Records.{recordAt, flat}
 use Rattle.base_tables.specs.Rings.{laid}
 use Rattle.grid_shapes.specs.Shapes.{bytesOf}
-use Rattle.pool_rules.specs.Model.{Spare, Doomed, VersionState, doomedBytes}
+use Rattle.pool_rules.specs.Model.{Spare, Doomed, VersionState, gridsUsed, doomedBytes}
+use Rattle.pool_rules.specs.HistorySizes.{stampsUsed}
 use Rattle.pool_rules.specs.Updates.{asDoomed}
-use Rattle.pool_rules.proofs.Lists.{total-mapped}
+use Rattle.pool_rules.proofs.Lists.{total-map, total-mapped}
 use Rattle.pool_rules.proofs.Moves.{lessened, given, given-count, as-doomed-bytes}
 use Rattle.pool_records.specs.declared.texture.TextureRecord.{TextureRecord}
 use Rattle.pool_records.specs.declared.spare.SpareRecord.{SpareRecord}
 use Rattle.pool_records.specs.declared.doomed.DoomedRecord.{DoomedRecord}
-use Rattle.pool_records.specs.Texture.{readTexture, writeTexture, textureIn}
+use Rattle.pool_records.specs.Texture.{readTexture, writeTexture, textureIn, recordGrids, recordStamps}
 use Rattle.pool_records.specs.Spare.{readSpare, writeSpare}
 use Rattle.pool_records.specs.Doomed.{writeDoomed}
 use Rattle.pool_records.proofs.Codecs.{texture-codec, spare-codec}
 use Rattle.pool_memory.specs.Lent.{Lent, versionPlaces}
 use Rattle.pool_memory.specs.Reading.{trackedRecords, spareRead, stateRead, modelOf}
-use Rattle.pool_memory.specs.Writing.{textureRecord, spareRecord, doomedRecord, everySpare}
+use Rattle.pool_memory.specs.Writing.{textureRecord, textureRecords, spareRecord, doomedRecord, everySpare}
 use Rattle.pool_memory.proofs.Parts.{total-next, flat-append}
-use Rattle.pool_memory.proofs.Runs.{sparesOf, spareCount, firstSpare, firstGrid, stateOf, take-states, kept-states, tracked-model, tracked-records, model-at}
+use Rattle.pool_memory.proofs.Runs.{sparesOf, spareCount, firstSpare, firstGrid, firstStamp, stateOf, take-states, kept-states, used-states, grids-state, stamps-used-state, tracked-model, tracked-records, model-at}
 use Rattle.pool_memory.proofs.Rings.{laid-append}
 use Rattle.pool_memory.proofs.Counts.{count-spares}
 use Rattle.pool_memory.proofs.Fits.{Fits}
+use Rattle.pool_memory.proofs.Passes.{records-more}
+use Rattle.pool_memory.proofs.Starts.{placedRecord, length-records}
 use Rattle.pool_memory.proofs.Tracked.{record-read, record-at, shape-at, count-at}
 use Rattle.pool_take_doomed.specs.Given.{givenRecords}
 use Rattle.pool_take_doomed.proofs.Pushed.{given-spares}
@@ -43,10 +47,10 @@ module _ (l : Lent) where
   abbrev recordOf : ℕ → TextureRecord
   recordOf i = textureIn (l .textures) i
 
-  pub state-record : (i : ℕ) → i < l .pool .tracked → stateOf l i ≡ stateRead l (firstSpare l i) (firstGrid l i) (recordOf i)
+  pub state-record : (i : ℕ) → i < l .pool .tracked → stateOf l i ≡ stateRead l (firstSpare l i) (recordOf i)
   unfolding stateOf
   state-record i h =
-      ap (stateRead l (firstSpare l i) (firstGrid l i)) (record-read l i h)
+      ap (stateRead l (firstSpare l i)) (record-read l i h)
 
   pub state-spares : (i : ℕ) → i < l .pool .tracked → stateOf l i .spares ≡ listed (spareRead l) (firstSpare l i) (recordOf i .spares)
   unfolding stateRead
@@ -61,7 +65,7 @@ module _ (l : Lent) where
   -- how many spares the first i have
   pub first-count : (i : ℕ) → total spareCount (take i (modelOf l .textures)) ≡ firstSpare l i
   unfolding modelOf firstSpare
-  first-count i = ap (total spareCount) (take-states l i 0 0 (trackedRecords l)) ∙ kept-states l 0 0 (take i (trackedRecords l))
+  first-count i = ap (total spareCount) (take-states l i 0 (trackedRecords l)) ∙ kept-states l 0 (take i (trackedRecords l))
 
   -- texture i after the first i
   pub take-next : (i : ℕ) → i < l .pool .tracked → take (suc i) (modelOf l .textures) ≡ take i (modelOf l .textures) ++ (stateOf l i ∷ [])
@@ -75,7 +79,7 @@ module _ (l : Lent) where
     first i = take i (modelOf l .textures)
 
     unfoldable pub texturesTo : ℕ → List ℕ
-    texturesTo i = over (flat writeTexture (map textureRecord (map (lessened k) (first i)))) (l .textures)
+    texturesTo i = over (flat writeTexture (textureRecords 0 0 (map (lessened k) (first i)))) (l .textures)
 
     unfoldable pub sparesTo : ℕ → List ℕ
     sparesTo i = over (flat writeSpare (map spareRecord (everySpare (map (lessened k) (first i))))) (l .spares)
@@ -102,29 +106,49 @@ module _ (l : Lent) where
 
     -- ---- the textures' records
 
+    -- those before texture i have the grids and stamps that they had
+    used-before : (used : VersionState ℕ → ℕ) → ((t : VersionState ℕ) → used (lessened k t) ≡ used t) → (size : TextureRecord → ℕ)
+        → ((at : ℕ) (t : TextureRecord) → used (stateRead l at t) ≡ size t) → (i : ℕ)
+        → 0 + total used (map (lessened k) (first i)) ≡ total size (take i (trackedRecords l))
+    unfolding modelOf
+    used-before used same size reads i =
+        zero-add (total used (map (lessened k) (first i)))
+        ∙ total-map used (lessened k) same (first i)
+        ∙ ap (total used) (take-states l i 0 (trackedRecords l))
+        ∙ used-states l used size reads 0 (take i (trackedRecords l))
+
+    grids-before : (i : ℕ) → 0 + total gridsUsed (map (lessened k) (first i)) ≡ firstGrid l i
+    unfolding firstGrid
+    grids-before i = used-before gridsUsed (λ t. refl) recordGrids (grids-state l) i
+
+    stamps-before : (i : ℕ) → 0 + total stampsUsed (map (lessened k) (first i)) ≡ firstStamp l i
+    unfolding firstStamp
+    stamps-before i = used-before stampsUsed (λ t. refl) recordStamps (stamps-used-state l) i
+
     pub textures-next : (i : ℕ) → i < l .pool .tracked → Fits l
         → set (texturesTo i) (textureStride * i + textureSparesAt) (recordOf i .spares - gave i) ≡ texturesTo (suc i)
     unfolding texturesTo
     textures-next i h f =
-        let xs = map textureRecord (map (lessened k) (first i)) in
+        let xs = textureRecords 0 0 (map (lessened k) (first i)) in
         count-set xs (l .textures) i (recordOf i .spares - gave i)
-        (length-map (map (lessened k) (first i)) textureRecord ∙ length-map (first i) (lessened k) ∙ length-first i (omega arith)) (omega (arith, f .textures, f .tracked))
+        (length-records 0 0 (map (lessened k) (first i)) ∙ length-map (first i) (lessened k) ∙ length-first i (omega arith)) (omega (arith, f .textures, f .tracked))
         ∙ ap (λ (rs : List TextureRecord). over (flat writeTexture rs) (l .textures))
-        (sym (ap (map textureRecord) (thin-next i h) ∙ map-append textureRecord (map (lessened k) (first i)) (lessened k (stateOf l i) ∷ [])
+        (sym (ap (textureRecords 0 0) (thin-next i h) ∙ records-more 0 0 (map (lessened k) (first i)) (lessened k (stateOf l i))
+        ∙ ap₂ (λ (g n : ℕ). xs ++ (textureRecord g n (lessened k (stateOf l i)) ∷ [])) (grids-before i) (stamps-before i)
         ∙ ap (λ (t : TextureRecord). xs ++ (t ∷ [])) thinner))
       where
-        thinner : textureRecord (lessened k (stateOf l i)) ≡ withCount (recordOf i .spares - gave i) (recordOf i)
+        thinner : placedRecord l i (lessened k (stateOf l i)) ≡ withCount (recordOf i .spares - gave i) (recordOf i)
         thinner =
-            ap (λ (n : ℕ). withCount n (textureRecord (stateOf l i))) (length-drop (gave i) (stateOf l i .spares) ∙ ap (λ (n : ℕ). n - gave i) (count-at l i h))
+            ap (λ (n : ℕ). withCount n (placedRecord l i (stateOf l i))) (length-drop (gave i) (stateOf l i .spares) ∙ ap (λ (n : ℕ). n - gave i) (count-at l i h))
             ∙ ap (withCount (recordOf i .spares - gave i)) (record-at l i h f)
 
     -- the record of texture i, while those before it are written
     pub record-next : (i : ℕ) → i ≤ l .pool .tracked → textureIn (texturesTo i) i ≡ recordOf i
     unfolding texturesTo
     record-next i h =
-        let xs = map textureRecord (map (lessened k) (first i)) in
+        let xs = textureRecords 0 0 (map (lessened k) (first i)) in
         record-over texture-codec xs (l .textures) i
-        (omega (arith, length-map (map (lessened k) (first i)) textureRecord, length-map (first i) (lessened k), length-first i h))
+        (omega (arith, length-records 0 0 (map (lessened k) (first i)), length-map (first i) (lessened k), length-first i h))
 
     -- ---- the spares
 
@@ -240,7 +264,7 @@ module _ (l : Lent) where
     -- ---- none has given, and all have
 
     pub none-given : (texturesTo 0 ≡ l .textures) × ((sparesTo 0 ≡ l .spares) × (doomedTo 0 ≡ l .doomed))
-    unfolding texturesTo sparesTo doomedTo flat flatMap over laid
+    unfolding texturesTo sparesTo doomedTo flat flatMap over laid textureRecords
     none-given = (refl, (refl, refl))
 
     pub none-counted : (keptTo 0 ≡ 0) × (bytesTo 0 ≡ 0)

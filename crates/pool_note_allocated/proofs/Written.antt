@@ -66,7 +66,19 @@ set-past (x ∷ p) q j v = ap (λ (n : ℕ). set (x ∷ p ++ q) n v) (suc-add (l
 
 -- a texture's record with another number of spares
 abbrev pub withCount : ℕ → TextureRecord → TextureRecord
-withCount n t = record { id = t .id; shape = t .shape; epoch = t .epoch; history = t .history; birth = t .birth; rename = t .rename; due = t .due; spares = n; bytes = t .bytes }
+withCount n t = record {
+  id = t .id;
+  shape = t .shape;
+  epoch = t .epoch;
+  history = t .history;
+  birth = t .birth;
+  rename = t .rename;
+  due = t .due;
+  spares = n;
+  bytes = t .bytes;
+  grid = t .grid;
+  stamp = t .stamp;
+}
 
 count-front : (q : List ℕ) (v : ℕ) → textureStride ≤ length q → set q textureSparesAt v ≡ over (flat writeTexture (withCount v (readTexture q) ∷ [])) q
 unfolding writeTexture over flat

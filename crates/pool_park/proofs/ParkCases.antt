@@ -17,6 +17,7 @@ use Rattle.base_tables.proofs.Records.{take-table}
 use Rattle.grid_shapes.specs.Shapes.{bytesOf}
 use Rattle.grid_shapes.proofs.ShapeBytes.{bytes-bound}
 use Rattle.pool_rules.specs.Model.{Spare, Retiring, Doomed, VersionState, PoolModel, accepted, refused, guard, find, limit, gridsUsed}
+use Rattle.pool_rules.specs.HistorySizes.{stampsUsed}
 use Rattle.pool_rules.specs.Updates.{withSpares, withTextures, withRetiring, withParked, change, doom}
 use Rattle.pool_rules.specs.Park.{asSpare, parkFound, parkHand, park}
 use Rattle.pool_rules.specs.Formed.{Given, RetiringFormed}
@@ -36,17 +37,18 @@ use Rattle.pool_access.proofs.Totals.{total-with}
 use Rattle.pool_memory.specs.declared.pool.Pool.{Pool as Counts}
 use Rattle.pool_memory.specs.Lent.{Lent, lent, versionPlaces}
 use Rattle.pool_memory.specs.Reading.{trackedRecords, handRead, modelOf}
-use Rattle.pool_memory.specs.Writing.{textureRecord, everySpare, texturesAfter, doomedAfter, sparesAfter, poolAfter, lentAfter}
+use Rattle.pool_memory.specs.Writing.{recordedHistory, textureRecord, everySpare, texturesAfter, doomedAfter, sparesAfter, poolAfter, lentAfter}
 use Rattle.pool_memory.specs.IsPool.{isPool}
 use Rattle.pool_memory.specs.Calls.{refusedWith, answer, toldNumber, parkOn}
 use Rattle.pool_memory.proofs.Fits.{Fits}
 use Rattle.pool_memory.proofs.FromPool.{pool-fits}
 use Rattle.pool_memory.proofs.Asked.{asked-refused, asked-accepted}
-use Rattle.pool_memory.proofs.Runs.{sparesOf, firstSpare, stateOf, tracked-model, kept-model, grids-model, stamps-used-model}
+use Rattle.pool_memory.proofs.Runs.{sparesOf, firstSpare, firstGrid, firstStamp, stateOf, tracked-model, kept-model, grids-model, stamps-used-model}
 use Rattle.pool_memory.proofs.Rings.{head-parked, first-stays, retiring-parked, doomed-pushed}
 use Rattle.pool_memory.proofs.Same.{queued-model, doomed-model}
 use Rattle.pool_memory.proofs.Kept.{keptHistory}
-use Rattle.pool_memory.proofs.Changes.{sparesBefore, sparesAt, every-appended, textures-set, spares-inserted}
+use Rattle.pool_memory.proofs.Changes.{sparesBefore, sparesAt, every-appended, spares-inserted}
+use Rattle.pool_memory.proofs.Starts.{textures-set}
 use Rattle.pool_memory.proofs.Counts.{kept-inserted}
 use Rattle.pool_memory.proofs.Stays.{put-together, textures-fit, ring-fits, doomed-fit, book-stays, textures-stay, spares-stay, newest-stay, stamps-stay, doomed-stay, doomed-bound}
 use Rattle.pool_memory.proofs.Tracked.{textureAt, record-read, bytes-at, record-at, shape-passes}
@@ -69,17 +71,19 @@ places l = length (l .retiring) / retiringStride
 abbrev withOne : Spare ℕ → VersionState ℕ → VersionState ℕ
 withOne s t = withSpares (t .spares ++ (s ∷ [])) t
 
-record-one : (s : Spare ℕ) (t : VersionState ℕ) → oneMore (textureRecord t) ≡ textureRecord (withOne s t)
-record-one s t = λ i. record {
+record-one : (grid stamp : ℕ) (s : Spare ℕ) (t : VersionState ℕ) → oneMore (textureRecord grid stamp t) ≡ textureRecord grid stamp (withOne s t)
+record-one grid stamp s t = λ i. record {
   id = t .id;
   shape = t .shape;
   epoch = t .epoch;
-  history = textureRecord t .history;
+  history = recordedHistory (t .history);
   birth = t .birth;
   rename = t .rename;
   due = t .due;
   spares = sym (length-append (t .spares) (s ∷ [])) i;
-  bytes = textureRecord t .bytes;
+  bytes = bytesOf (t .shape);
+  grid = grid;
+  stamp = stamp;
 }
 
 -- the number of the first of two tests that holds
@@ -173,10 +177,10 @@ module _ (l : Lent) (e : isPool l ≡ true) (failed current : ℕ) where
         abbrev decided : Parking
         decided = parkingOf (l .pool) pressed here (textureAt l i) x
 
-        tracked-parks : (t : VersionState ℕ)
-            → parkFound emptied failed current v (some t) ≡ parked (parkingOf (l .pool) pressed true (textureRecord t) x)
+        tracked-parks : (grid stamp : ℕ) (t : VersionState ℕ)
+            → parkFound emptied failed current v (some t) ≡ parked (parkingOf (l .pool) pressed true (textureRecord grid stamp t) x)
         unfolding parkingOf modelOf
-        tracked-parks t = go (eqb (t .epoch) (x .epoch)) (pressed || ltb (l .pool .cap) (l .pool .parked + bytesOf (t .shape)))
+        tracked-parks grid stamp t = go (eqb (t .epoch) (x .epoch)) (pressed || ltb (l .pool .cap) (l .pool .parked + bytesOf (t .shape)))
           where
             go : (a b : Bool) → cond a (cond b (parked (Destroyed (bytesOf (t .shape)))) (parked (Kept (bytesOf (t .shape)))))
                 (parked (Destroyed (x .bytes)))
@@ -192,7 +196,7 @@ module _ (l : Lent) (e : isPool l ≡ true) (failed current : ℕ) where
         parks false q = ap (parkFound emptied failed current v) (found-nowhere l fits (x .id) i at q)
         parks true q =
             ap (parkFound emptied failed current v) (found-here l fits (x .id) i at q)
-            ∙ tracked-parks (stateOf l i)
+            ∙ tracked-parks (firstGrid l i) (firstStamp l i) (stateOf l i)
             ∙ ap (λ (t : TextureRecord). parked (parkingOf (l .pool) pressed true t x)) (record-at l i (inside l fits (x .id) i at q) fits)
 
         decides : (d : Parking) → decided ≡ d → (m : Lent) → m ≡ lentAfter (parked d) l → (answer tt, m) ≡ parkOn l failed current
@@ -362,8 +366,8 @@ module _ (l : Lent) (e : isPool l ≡ true) (failed current : ℕ) where
             textures-kept : sets (l .textures) (textureStride * i) (writeTexture (oneMore (textureAt l i))) ≡ texturesAfter stays l
             textures-kept =
                 ap (λ (t : TextureRecord). sets (l .textures) (textureStride * i) (writeTexture t))
-                (ap oneMore (sym (record-at l i there fits)) ∙ record-one spare (stateOf l i))
-                ∙ textures-set l stays fits i (withOne spare (stateOf l i)) there grown-is
+                (ap oneMore (sym (record-at l i there fits)) ∙ record-one (firstGrid l i) (firstStamp l i) spare (stateOf l i))
+                ∙ textures-set l stays fits i (withOne spare (stateOf l i)) there grown-is refl refl
 
             spares-kept : sets (moved (l .spares) (spareStride * end + spareStride) (spareStride * end) (spareStride * (l .pool .kept - end))) (spareStride * end)
                 (writeSpare (spareParked failed current x)) ≡ sparesAfter stays l

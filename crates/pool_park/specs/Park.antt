@@ -46,6 +46,8 @@ oneMore t = record {
   due = t .due;
   spares = t .spares + 1;
   bytes = t .bytes;
+  grid = t .grid;
+  stamp = t .stamp;
 }
 
 -- the place after the spares of texture i

@@ -1,3 +1,4 @@
 pub mod Counts
 pub mod Codecs
 pub mod Places
+pub mod Starts

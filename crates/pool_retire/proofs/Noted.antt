@@ -46,10 +46,10 @@ module _ (b : Bool) (s : List ℕ) (i seq : ℕ) (t : TextureRecord) where
 
 -- ---- as the model does
 
-pub model-tracked : (t : VersionState ℕ) (id view seq : ℕ) → retiringRecord (retired id view seq (some t))
-    ≡ retiredRecord true (textureRecord t) id view seq
+pub model-tracked : (grid stamp : ℕ) (t : VersionState ℕ) (id view seq : ℕ) → retiringRecord (retired id view seq (some t))
+    ≡ retiredRecord true (textureRecord grid stamp t) id view seq
 unfolding retiredRecord
-model-tracked t id view seq = λ i. record {
+model-tracked grid stamp t id view seq = λ i. record {
   id = id;
   view = view;
   seq = seq;

@@ -11,6 +11,7 @@ use lib.ListN.{length, length-append}
 use lib.Seq.{sets}
 use Rattle.base_tables.specs.Rings.{placeOf}
 use Rattle.pool_rules.specs.Model.{Retiring, VersionState, PoolModel, accepted, guard, find, limit, gridsUsed}
+use Rattle.pool_rules.specs.HistorySizes.{stampsUsed}
 use Rattle.pool_rules.specs.Updates.{withBirth, withTextures, withRetiring, change}
 use Rattle.pool_rules.specs.Retire.{retired, retire}
 use Rattle.pool_rules.proofs.States.{length-change, total-unchanged}
@@ -22,18 +23,18 @@ use Rattle.pool_records.specs.Find.{below, hasId}
 use Rattle.pool_memory.specs.declared.pool.Pool.{Pool as Counts}
 use Rattle.pool_memory.specs.Lent.{Lent, lent, versionPlaces}
 use Rattle.pool_memory.specs.Reading.{trackedRecords, modelOf}
-use Rattle.pool_memory.specs.Writing.{textureRecord, retiringRecord, everySpare, texturesAfter, retiringAfter, poolAfter}
+use Rattle.pool_memory.specs.Writing.{textureRecords, retiringRecord, everySpare, texturesAfter, retiringAfter, poolAfter}
 use Rattle.pool_memory.specs.IsPool.{isPool}
 use Rattle.pool_memory.specs.Calls.{refusedWith, answer, toldNumber, retireOn}
 use Rattle.pool_memory.proofs.Fits.{Fits}
 use Rattle.pool_memory.proofs.FromPool.{pool-fits, version-places}
 use Rattle.pool_memory.proofs.Asked.{asked-refused, asked-accepted}
 use Rattle.pool_memory.proofs.Parts.{flat-mapped}
-use Rattle.pool_memory.proofs.Runs.{spareCount, stateOf, tracked-model, kept-model, grids-model, stamps-used-model}
+use Rattle.pool_memory.proofs.Runs.{spareCount, firstGrid, firstStamp, stateOf, tracked-model, kept-model, grids-model, stamps-used-model}
 use Rattle.pool_memory.proofs.Rings.{hand-model, head-stays, first-stays, retiring-pushed}
 use Rattle.pool_memory.proofs.Same.{queued-model, doomed-model}
 use Rattle.pool_memory.proofs.Kept.{keptHistory}
-use Rattle.pool_memory.proofs.Changes.{textures-set}
+use Rattle.pool_memory.proofs.Starts.{textures-set}
 use Rattle.pool_memory.proofs.Stays.{put-together, book-stays, textures-stay, spares-stay, newest-stay, stamps-stay, doomed-stay}
 use Rattle.pool_memory.proofs.Tracked.{textureAt, record-at}
 use Rattle.pool_retire.specs.Counts.{ringCount, oneQueued}
@@ -150,11 +151,11 @@ module _ (l : Lent) (e : isPool l ≡ true) (id view seq : ℕ) where
 
       textures-left : (b : Bool) → here ≡ b
           → cond b (sets (l .textures) (textureStride * i) (writeTexture (bornAt seq (textureAt l i)))) (l .textures) ≡ texturesAfter queued l
-      textures-left false q = textures-stay l fits queued (ap (map textureRecord) (changed-nowhere l fits id i at q (withBirth seq)))
+      textures-left false q = textures-stay l fits queued (ap (textureRecords 0 0) (changed-nowhere l fits id i at q (withBirth seq)))
       textures-left true q =
           let h = inside l fits id i at q in
           ap (λ (t : TextureRecord). sets (l .textures) (textureStride * i) (writeTexture (bornAt seq t))) (sym (record-at l i h fits))
-          ∙ textures-set l queued fits i (withBirth seq (stateOf l i)) h (changed-here l fits id i at q (withBirth seq))
+          ∙ textures-set l queued fits i (withBirth seq (stateOf l i)) h (changed-here l fits id i at q (withBirth seq)) refl refl
 
       version-noted : (b : Bool) → here ≡ b → retiringRecord version ≡ retiredRecord b (textureAt l i) id view seq
       version-noted false q =
@@ -162,7 +163,7 @@ module _ (l : Lent) (e : isPool l ≡ true) (id view seq : ℕ) where
           ∙ model-untracked (textureAt l i) id view seq
       version-noted true q =
           ap (λ (o : Option (VersionState ℕ)). retiringRecord (retired id view seq o)) (found-here l fits id i at q)
-          ∙ model-tracked (stateOf l i) id view seq
+          ∙ model-tracked (firstGrid l i) (firstStamp l i) (stateOf l i) id view seq
           ∙ ap (λ (t : TextureRecord). retiredRecord true t id view seq) (record-at l i (inside l fits id i at q) fits)
 
       retiring-left : sets (l .retiring) (retiringStride * placeOf (places l) (l .pool .head) (ringCount (l .pool))) (writeRetiring (retiringRecord version))

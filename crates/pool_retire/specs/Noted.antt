@@ -56,4 +56,6 @@ bornAt seq t = record {
   due = t .due;
   spares = t .spares;
   bytes = t .bytes;
+  grid = t .grid;
+  stamp = t .stamp;
 }

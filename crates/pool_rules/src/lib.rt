@@ -2,6 +2,7 @@
 mod budget;
 mod constants;
 mod held;
+mod places;
 
 pub use budget::VersionBudget;
 pub use constants::DESTROY_SPREAD_DRAINS;
@@ -12,3 +13,4 @@ pub use constants::MOST_PLACES;
 pub use constants::SPARE_MAX_IDLE_SUBMITS;
 pub use constants::STATE_MAX_IDLE_SUBMITS;
 pub use held::Held;
+pub use places::grid_places;

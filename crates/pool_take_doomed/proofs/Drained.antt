@@ -18,14 +18,15 @@ use Rattle.pool_records.specs.Texture.{writeTexture}
 use Rattle.pool_records.specs.Spare.{readSpare, writeSpare}
 use Rattle.pool_records.specs.Retiring.{readRetiring}
 use Rattle.pool_records.specs.Doomed.{readDoomed}
-use Rattle.pool_rules.specs.Model.{Spare, Retiring, Doomed, VersionState, PoolModel, guard}
+use Rattle.pool_rules.specs.Model.{Spare, Retiring, Doomed, VersionState, PoolModel, gridsUsed, guard}
+use Rattle.pool_rules.specs.HistorySizes.{stampsUsed}
 use Rattle.pool_rules.specs.Updates.{withSpares, withTextures, withRetiring, withParked, withDoomed, withPacing}
 use Rattle.pool_rules.specs.DrainVersions.{everyView, drainVersions}
 use Rattle.pool_memory.specs.declared.pool.Pool.{Pool as Counts}
 use Rattle.pool_memory.specs.declared.book.PacingBook.{PacingBook}
 use Rattle.pool_memory.specs.Lent.{Lent, lent, versionPlaces}
 use Rattle.pool_memory.specs.Reading.{spareRead, retiringRead, doomedRead, modelOf}
-use Rattle.pool_memory.specs.Writing.{textureRecord, spareRecord, everySpare, texturesAfter, sparesAfter, pacingAfter, poolAfter, lentAfter}
+use Rattle.pool_memory.specs.Writing.{textureRecord, textureRecords, spareRecord, everySpare, texturesAfter, sparesAfter, pacingAfter, poolAfter, lentAfter}
 use Rattle.pool_memory.specs.IsPool.{isPool}
 use Rattle.pool_memory.specs.Calls.{refusedWith, answer, viewNumbers, asked, drainVersionsOn}
 use Rattle.pool_memory.proofs.Fits.{Fits}
@@ -46,9 +47,11 @@ use Rattle.pool_rules.specs.RuleConstants.{destroySpreadDrains}
 abbrev emptied : List (VersionState ℕ) → List (VersionState ℕ)
 emptied ts = map (withSpares []) ts
 
-emptied-records : (ts : List (VersionState ℕ)) → map textureRecord (emptied ts) ≡ map spareless (map textureRecord ts)
-emptied-records [] = refl
-emptied-records (t ∷ ts) = ap (λ (rs : List TextureRecord). spareless (textureRecord t) ∷ rs) (emptied-records ts)
+emptied-records : (grid stamp : ℕ) (ts : List (VersionState ℕ)) → textureRecords grid stamp (emptied ts) ≡ map spareless (textureRecords grid stamp ts)
+unfolding textureRecords
+emptied-records grid stamp [] = refl
+emptied-records grid stamp (t ∷ ts) =
+    ap (λ (rs : List TextureRecord). spareless (textureRecord grid stamp t) ∷ rs) (emptied-records (grid + gridsUsed t) (stamp + stampsUsed t) ts)
 
 -- ids, shapes and histories stay
 emptied-histories : (ts : List (VersionState ℕ)) → map keptHistory (emptied ts) ≡ map keptHistory ts
@@ -182,7 +185,7 @@ module _ (l : Lent) (f : Fits l) where
   unfolding cleared texturesAfter
   textures-drained =
       ap (λ (rs : List TextureRecord). over (flat writeTexture rs) (l .textures))
-      (sym (emptied-records (modelOf l .textures) ∙ ap (map spareless) (records-model l (f .bytes))))
+      (sym (emptied-records 0 0 (modelOf l .textures) ∙ ap (map spareless) (records-model l (f .bytes) (f .starts))))
 
   spares-drained : l .spares ≡ sparesAfter rest l
   unfolding sparesAfter over flat

@@ -55,6 +55,8 @@ spareless t = record {
   due = t .due;
   spares = 0;
   bytes = t .bytes;
+  grid = t .grid;
+  stamp = t .stamp;
 }
 
 -- the first n records without their spares

@@ -6,7 +6,7 @@ use Rattle.event_program.proofs.main.Statement.{statement}
 use Rattle.event_program.proofs.main.Tie as tie
 
 slice-aggregate-lends : tie.Need-slice-aggregate-lends
-slice-aggregate-lends c = zeros-count 160
+slice-aggregate-lends c = zeros-count 176
 
 slice-aggregate-lends-2 : tie.Need-slice-aggregate-lends-2
 slice-aggregate-lends-2 c = zeros-count 448
@@ -18,7 +18,7 @@ slice-aggregate-lends-4 : tie.Need-slice-aggregate-lends-4
 slice-aggregate-lends-4 c = zeros-count 192
 
 slice-aggregate-lends-5 : tie.Need-slice-aggregate-lends-5
-slice-aggregate-lends-5 c = zeros-count 6
+slice-aggregate-lends-5 c = zeros-count 720
 
 slice-aggregate-lends-6 : tie.Need-slice-aggregate-lends-6
 slice-aggregate-lends-6 c = zeros-count 6144
@@ -31,11 +31,11 @@ slice-aggregate-lends-8 c = zeros-count _
 
 lends-requires : tie.Need-lends-requires
 lends-requires c κs = record {
-  textures-are = sym (zeros-count 160);
+  textures-are = sym (zeros-count 176);
   retiring-are = sym (zeros-count 448);
   doomed-are = sym (zeros-count 128);
   spares-are = sym (zeros-count 192);
-  newest-are = sym (zeros-count 6);
+  newest-are = sym (zeros-count 720);
   stamps-are = sym (zeros-count 6144);
   copies-are = sym (zeros-count 630);
   views-are = sym (zeros-count 90);
@@ -51,7 +51,7 @@ slice-aggregate-run-all : tie.Need-slice-aggregate-run-all
 slice-aggregate-run-all c = search needs
 
 slice-aggregate-run-all-2 : tie.Need-slice-aggregate-run-all-2
-slice-aggregate-run-all-2 c = zeros-count 160
+slice-aggregate-run-all-2 c = zeros-count 176
 
 slice-aggregate-run-all-3 : tie.Need-slice-aggregate-run-all-3
 slice-aggregate-run-all-3 c = zeros-count 448
@@ -63,7 +63,7 @@ slice-aggregate-run-all-5 : tie.Need-slice-aggregate-run-all-5
 slice-aggregate-run-all-5 c = zeros-count 192
 
 slice-aggregate-run-all-6 : tie.Need-slice-aggregate-run-all-6
-slice-aggregate-run-all-6 c = zeros-count 6
+slice-aggregate-run-all-6 c = zeros-count 720
 
 slice-aggregate-run-all-7 : tie.Need-slice-aggregate-run-all-7
 slice-aggregate-run-all-7 c = zeros-count 6144

@@ -6,7 +6,7 @@ use Rattle.event_program_large.proofs.main.Statement.{statement}
 use Rattle.event_program_large.proofs.main.Tie as tie
 
 slice-aggregate-lends : tie.Need-slice-aggregate-lends
-slice-aggregate-lends c = zeros-count 1280
+slice-aggregate-lends c = zeros-count 1408
 
 slice-aggregate-lends-2 : tie.Need-slice-aggregate-lends-2
 slice-aggregate-lends-2 c = zeros-count 14000
@@ -18,7 +18,7 @@ slice-aggregate-lends-4 : tie.Need-slice-aggregate-lends-4
 slice-aggregate-lends-4 c = zeros-count 6000
 
 slice-aggregate-lends-5 : tie.Need-slice-aggregate-lends-5
-slice-aggregate-lends-5 c = zeros-count 256
+slice-aggregate-lends-5 c = zeros-count 5760
 
 slice-aggregate-lends-6 : tie.Need-slice-aggregate-lends-6
 slice-aggregate-lends-6 c = zeros-count 262144
@@ -31,11 +31,11 @@ slice-aggregate-lends-8 c = zeros-count _
 
 lends-requires : tie.Need-lends-requires
 lends-requires c κs = record {
-  textures-are = sym (zeros-count 1280);
+  textures-are = sym (zeros-count 1408);
   retiring-are = sym (zeros-count 14000);
   doomed-are = sym (zeros-count 4000);
   spares-are = sym (zeros-count 6000);
-  newest-are = sym (zeros-count 256);
+  newest-are = sym (zeros-count 5760);
   stamps-are = sym (zeros-count 262144);
   copies-are = sym (zeros-count 2100);
   views-are = sym (zeros-count 300);
@@ -51,7 +51,7 @@ slice-aggregate-run-all : tie.Need-slice-aggregate-run-all
 slice-aggregate-run-all c = search needs
 
 slice-aggregate-run-all-2 : tie.Need-slice-aggregate-run-all-2
-slice-aggregate-run-all-2 c = zeros-count 1280
+slice-aggregate-run-all-2 c = zeros-count 1408
 
 slice-aggregate-run-all-3 : tie.Need-slice-aggregate-run-all-3
 slice-aggregate-run-all-3 c = zeros-count 14000
@@ -63,7 +63,7 @@ slice-aggregate-run-all-5 : tie.Need-slice-aggregate-run-all-5
 slice-aggregate-run-all-5 c = zeros-count 6000
 
 slice-aggregate-run-all-6 : tie.Need-slice-aggregate-run-all-6
-slice-aggregate-run-all-6 c = zeros-count 256
+slice-aggregate-run-all-6 c = zeros-count 5760
 
 slice-aggregate-run-all-7 : tie.Need-slice-aggregate-run-all-7
 slice-aggregate-run-all-7 c = zeros-count 262144

@@ -1,0 +1,64 @@
+-- One record's starts moved as code does it, number by number: both numbers can be moved, and the rest is then what was left to do. Assumes nothing.
+use mathlib.Core.Path.{_≡_, refl, sym, ap, _∙_, subst}
+use mathlib.Core.List.{List}
+use Prim.Native.Nat.{ℕ, _+_, _*_, _-_, _^_, _≤_, _<_}
+use native.Mathlib.Omega.{arith}
+use lib.ListN.{length, getD, set, length-set}
+use lib.Seq.{sets, getD-set-other}
+use Rattle.pool_records.specs.declared.shift.Shift.{Shift}
+use Rattle.pool_records.specs.Texture.{writeTexture, textureIn}
+use Rattle.pool_records.specs.Starts.{shiftedBy, movedStart, startsMoved, StartsMove}
+use Rattle.pool_records.specs.RecordConstants.{textureStride, textureGridAt, textureStampAt}
+use Rattle.pool_records.proofs.Starts.{grid-number, stamp-number, start-written, moved-step, moves-behind}
+
+module _ (grids stamps : Shift) (n k : ℕ) (s : List ℕ) (fits : textureStride * n ≤ length s) (h : k < n) (can : StartsMove grids stamps k n s) where
+  abbrev gridAt : ℕ
+  gridAt = textureStride * k + textureGridAt
+
+  abbrev stampAt : ℕ
+  stampAt = textureStride * k + textureStampAt
+
+  -- after the first number, and after both
+  abbrev once : List ℕ
+  once = set s gridAt (getD s gridAt 0 - grids .less + grids .more)
+
+  abbrev twice : List ℕ
+  twice = set once stampAt (getD once stampAt 0 - stamps .less + stamps .more)
+
+  pub grid-least : grids .less ≤ getD s gridAt 0
+  grid-least = omega (arith, can k (omega arith) h .grid-less, grid-number s k)
+
+  pub grid-most : getD s gridAt 0 + grids .more < 2 ^ 64
+  grid-most = omega (arith, can k (omega arith) h .grid-more, grid-number s k)
+
+  -- the second number stands as it did
+  second-stands : getD once stampAt 0 ≡ textureIn s k .stamp
+  second-stands =
+      getD-set-other s gridAt stampAt (getD s gridAt 0 - grids .less + grids .more) 0 (λ e. let y : ⊥ = omega (arith, e) in y) ∙ stamp-number s k
+
+  pub stamp-inside : stampAt < length once
+  stamp-inside = omega (arith, length-set s gridAt (getD s gridAt 0 - grids .less + grids .more))
+
+  pub stamp-least : stamps .less ≤ getD once stampAt 0
+  stamp-least = omega (arith, can k (omega arith) h .stamp-less, second-stands)
+
+  pub stamp-most : getD once stampAt 0 + stamps .more < 2 ^ 64
+  stamp-most = omega (arith, can k (omega arith) h .stamp-more, second-stands)
+
+  written : twice ≡ sets s (textureStride * k) (writeTexture (movedStart grids stamps (textureIn s k)))
+  unfolding shiftedBy
+  written =
+      start-written grids stamps n k s fits h (getD s gridAt 0 - grids .less + grids .more) (getD once stampAt 0 - stamps .less + stamps .more)
+      (ap (shiftedBy grids) (grid-number s k)) (ap (shiftedBy stamps) second-stands)
+
+  pub next-long : length twice ≡ length s
+  next-long =
+      length-set once stampAt (getD once stampAt 0 - stamps .less + stamps .more)
+      ∙ length-set s gridAt (getD s gridAt 0 - grids .less + grids .more)
+
+  pub next-can : StartsMove grids stamps (k + 1) n twice
+  next-can =
+      subst (StartsMove grids stamps (k + 1) n) (sym written) (moves-behind grids stamps n k s fits h (movedStart grids stamps (textureIn s k)) can)
+
+  pub next-left : startsMoved grids stamps (k + 1) n twice ≡ startsMoved grids stamps k n s
+  next-left = ap (startsMoved grids stamps (k + 1) n) written ∙ moved-step grids stamps n k s fits h

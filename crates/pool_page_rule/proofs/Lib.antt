@@ -1,0 +1,4 @@
+pub mod Weaker
+pub mod Answers
+pub mod LentAnswers
+pub mod MoreHistories

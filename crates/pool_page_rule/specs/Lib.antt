@@ -1,0 +1,3 @@
+pub mod PageRule
+pub mod SameAnswers
+pub mod MoreHistories
