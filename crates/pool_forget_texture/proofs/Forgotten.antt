@@ -44,7 +44,7 @@ use Rattle.pool_take_doomed.proofs.Pushed.{given-spares}
 use Rattle.pool_access.proofs.Ids.{found, not-found}
 use Rattle.pool_forget_texture.specs.declared.owned.Owned.{Owned}
 use Rattle.pool_forget_texture.specs.Owned.{ownedAt, gridsOut, stampsOut, without, withoutRecord}
-use Rattle.pool_forget_texture.proofs.TextureRuns.{spares-in, spares-within, bytes-within, grid-end-at, stamp-end-at}
+use Rattle.pool_forget_texture.proofs.TextureRuns.{spares-in, spares-within, bytes-within, grids-end, stamps-end}
 use Rattle.grid_shapes.specs.ShapeConstants.{mostShapeBytes}
 use Rattle.pool_records.specs.RecordConstants.{doomedStride, retiringStride, spareStride, textureStride}
 use Rattle.pool_rules.specs.RuleConstants.{mostPlaces}
@@ -80,8 +80,8 @@ module _ (l : Lent) (f : Fits l) (i : ℕ) (h : i < l .pool .tracked) where
     h,
     f .kept,
     omega (arith, f .versions, f .most),
-    omega (arith, grid-at l i h f, grid-end-at l i h f),
-    omega (arith, stamp-at l i h f, stamp-end-at l i h f),
+    omega (arith, grid-at l i h f, grids-end l i h f),
+    omega (arith, stamp-at l i h f, stamps-end l i h f),
   )
 
   module _ (own : Owned) (e : own ≡ ownedAt (l .pool) T i) where
@@ -99,7 +99,7 @@ module _ (l : Lent) (f : Fits l) (i : ℕ) (h : i < l .pool .tracked) where
 
     grids-is : own .grids ≡ gridCountAt l i
     unfolding ownedAt
-    grids-is = omega (arith, ap (λ (o : Owned). o .grids) e, grid-at l i h f, grid-end-at l i h f)
+    grids-is = omega (arith, ap (λ (o : Owned). o .grids) e, grid-at l i h f, grids-end l i h f)
 
     stamp-is : own .stamp ≡ firstStamp l i
     unfolding ownedAt
@@ -107,7 +107,7 @@ module _ (l : Lent) (f : Fits l) (i : ℕ) (h : i < l .pool .tracked) where
 
     stamps-is : own .stamps ≡ stampCountAt l i
     unfolding ownedAt
-    stamps-is = omega (arith, ap (λ (o : Owned). o .stamps) e, stamp-at l i h f, stamp-end-at l i h f)
+    stamps-is = omega (arith, ap (λ (o : Owned). o .stamps) e, stamp-at l i h f, stamps-end l i h f)
 
     bytes-is : own .bytes * own .spares ≡ bytesOf (textureIn T i .shape) * textureIn T i .spares
     unfolding ownedAt

@@ -41,7 +41,7 @@ use Rattle.pool_trim.specs.declared.look_at.Look.{Look}
 use Rattle.pool_trim.specs.declared.pass.Pass.{Pass}
 use Rattle.pool_trim.specs.LookAt.{spareIn, lookOf, lookAt, lookedRecord, lookedPut}
 use Rattle.pool_trim.specs.Pass.{noPass, passOn, givenOne, trimmed}
-use Rattle.pool_forget_texture.proofs.TextureRuns.{spares-in, spares-within, grid-end-at, stamp-end-at}
+use Rattle.pool_forget_texture.proofs.TextureRuns.{spares-in, spares-within, grids-end, stamps-end}
 use Rattle.pool_trim.proofs.Looks.{count, lookHere, few, idle-here, none-left, given-count, given-bytes, bytes-few, given-records}
 use Rattle.pool_trim.proofs.Steps.{textures-as, spares-as, newest-as, stamps-as, givenTo, keptTo, given-next, dropped-next, doomed-next, textures-stay, spares-stay, newest-stays, stamps-stay, tracked-stays, kept-stay, grids-stay, stamps-used-stay}
 use Rattle.grid_shapes.specs.ShapeConstants.{mostShapeBytes}
@@ -156,13 +156,13 @@ module _ (l : Lent) (now i : ℕ) (w : Pass) (T D S N P : List ℕ) (f : Fits l)
   pub grid-end-now : gridEnd T (l .pool .tracked) (l .pool .grids) i ≡ textureIn T i .grid + gridCountAt l i
   unfolding gridEnd
   grid-end-now =
-      ap (λ (t : TextureRecord). cond (ltb (i + 1) (l .pool .tracked)) (t .grid) (l .pool .grids)) next-now ∙ grid-end-at l i h f
+      ap (λ (t : TextureRecord). cond (ltb (i + 1) (l .pool .tracked)) (t .grid) (l .pool .grids)) next-now ∙ grids-end l i h f
       ∙ ap (λ (n : ℕ). n + gridCountAt l i) (sym (ap (λ (t : TextureRecord). t .grid) record-now ∙ grid-at l i h f))
 
   pub stamp-end-now : stampEnd T (l .pool .tracked) (l .pool .stamps) i ≡ textureIn T i .stamp + stampCountAt l i
   unfolding stampEnd
   stamp-end-now =
-      ap (λ (t : TextureRecord). cond (ltb (i + 1) (l .pool .tracked)) (t .stamp) (l .pool .stamps)) next-now ∙ stamp-end-at l i h f
+      ap (λ (t : TextureRecord). cond (ltb (i + 1) (l .pool .tracked)) (t .stamp) (l .pool .stamps)) next-now ∙ stamps-end l i h f
       ∙ ap (λ (n : ℕ). n + stampCountAt l i) (sym (ap (λ (t : TextureRecord). t .stamp) record-now ∙ stamp-at l i h f))
 
   look-now : lookAt now (l .pool) T S i (w .first) ≡ lookHere l now i h

@@ -92,7 +92,14 @@ fn due_after(textures: &[u64], i: usize, current: u64) -> u64
 }
 
 // Looks at texture i, whose spares begin at place `first`.
-pub fn look_at(pool: Pool, textures: &[u64], spares: &[u64], i: usize, first: usize, current: u64) -> Look
+pub fn look_at(
+    pool: Pool,
+    textures: &[u64],
+    spares: &[u64],
+    i: usize,
+    first: usize,
+    current: u64,
+) -> Look
     requires { ⌜ (textureStride * pool .tracked ≤ length (now textures)) × (i < pool .tracked)
         × (spareStride * (first + textureIn (now textures) i .spares) ≤ length (now spares))
         × (textureIn (now textures) i .grid ≤ gridEnd (now textures) (pool .tracked) (pool .grids) i)
