@@ -6,7 +6,7 @@ use Prim.Native.Nat.{ℕ, _+_, _-_, _*_, _/_, _≤_, _<_, _^_}
 use native.Mathlib.Omega.{arith}
 use borrow.Author.Tests.{lt-ltb, le-ltb}
 use lib.Dec.{ltb}
-use lib.ListN.{length, take, getD, length-append}
+use lib.ListN.{length, take, length-append}
 use lib.Seq.{take-all}
 use Rattle.base_blocks.specs.Lists.{keep, total}
 use Rattle.pool_rules.specs.Model.{Doomed, VersionState, PoolModel, refused, accepted, limit, spareBytes, doomedBytes}
@@ -41,7 +41,8 @@ use Rattle.pool_trim.specs.Pass.{trimmedOne, givenOne, trimmed, countsTr
 use Rattle.pool_trim.specs.NothingAged.{allYoung}
 use Rattle.pool_forget_texture.proofs.TextureRuns.{spares-within, grids-few, stamps-few}
 use Rattle.pool_trim.proofs.Steps.{givenTo, keptTo}
-use Rattle.pool_trim.proofs.Trimmed.{Sofar, Seen, seen, record-now, grid-end-now, stamp-end-now, grid-read, stamp-read}
+use Rattle.pool_trim.proofs.Sofar.{Sofar}
+use Rattle.pool_trim.proofs.Trimmed.{Seen, seen, record-now, grid-end-now, stamp-end-now, grid-read, stamp-read}
 use Rattle.pool_trim.proofs.YoungTextures.{nothing-trimmed}
 use Rattle.grid_shapes.specs.ShapeConstants.{mostShapeBytes}
 use Rattle.grid_stamps.specs.StampConstants.{pageStamps}

@@ -8,7 +8,8 @@ use Rattle.pool_memory.specs.declared.book.PacingBook.{PacingBook}
 use Rattle.pool_memory.specs.Lent.{lent}
 use Rattle.pool_memory.specs.IsPool.{isPool}
 use Rattle.pool_memory.proofs.FromPool.{pool-fits}
-use Rattle.pool_trim.proofs.Trimmed.{Sofar, sofar-start, seen, sofar-next}
+use Rattle.pool_trim.proofs.Sofar.{Sofar, sofar-start}
+use Rattle.pool_trim.proofs.Trimmed.{seen, sofar-next}
 use Rattle.pool_trim.proofs.TrimCalls.{look-fits, push-fits, put-fits, history-moves, pass-fits, counts-fit, pass-done, textures-most}
 use Rattle.pool_trim.proofs.calls.trim.trim_textures.Statement.{statement}
 use Rattle.pool_trim.proofs.calls.trim.trim_textures.Tie as tie
