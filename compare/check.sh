@@ -1,6 +1,6 @@
 #!/usr/bin/env bash
 # The gate's share of the comparison with the Rust: the oracle's own tests, the leaf questions on fixed seeds, damaged stores, then
-# the event programs on lists of events from fixed seeds, with the coverage of outcomes and the two books.
+# the event programs on lists of events from fixed seeds, with the coverage of outcomes and the two books, and lists at other sizes.
 # Without the Rust's source, or without cargo, it says so and ends with 0: the stored answers are checked by rt ci all the same.
 #
 #   compare/check.sh          builds what is missing, tests and compares
@@ -40,14 +40,16 @@ if [ -x ../target/bin/test_pool ]; then
         cat -- "$log"
         exit 1
     }
-    if ./stores_live.sh --wrong Newest ../target/bin/test_pool 0 2000 >"$log" 2>&1; then
-        echo 'a judge without its condition Newest was not seen'
-        exit 1
-    fi
-    grep -q 'answers differ' "$log" || {
-        cat -- "$log"
-        exit 1
-    }
+    for condition in Newest FirstStamp; do
+        if ./stores_live.sh --wrong "$condition" ../target/bin/test_pool 0 2000 >"$log" 2>&1; then
+            printf 'a judge without its condition %s was not seen\n' "$condition"
+            exit 1
+        fi
+        grep -q 'answers differ' "$log" || {
+            cat -- "$log"
+            exit 1
+        }
+    done
 elif [ -d ../crates/test_pool ]; then
     echo '../target/bin/test_pool is missing: its crate is there, so build it first'
     exit 1
@@ -68,3 +70,11 @@ compare_program() {
 compare_program event_program 2500
 # It takes more lines to fill 2,000 places.
 compare_program event_program_large 8000 --large
+
+# Sizes that neither of them has.
+if [ -x ../target/bin/test_replay ]; then
+    LINES=${LINES:-600} ./replay_live.sh ../target/bin/test_replay 1 2 3 4 || exit 1
+elif [ -d ../crates/test_replay ]; then
+    echo '../target/bin/test_replay is missing: its crate is there, so build it first'
+    exit 1
+fi

@@ -21,5 +21,9 @@ seeded_list() { # KIND SEED LINES TEXTURES VERSIONS PAGES ANSWERS
         seeded_list "$kind" 2 400 64 2000 256 300
         seeded_list "$kind" 3 400 8 64 6 5
     done
+    # A page that more textures share than the event program has.
+    seeded_list stamps 4 800 16 64 1 90
+    seeded_list fills 4 400 12 64 1 90
+    seeded_list stamps 5 100 4 8 0 90
 } >"$replay/stdin"
 "$built/replay" <"$replay/stdin" >"$replay/stdout"

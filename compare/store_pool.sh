@@ -40,6 +40,8 @@ replayed_lists() {
         seeded_list "$kind" 2 200 64 2000 64 300
         seeded_list "$kind" 3 400 8 64 6 5
     done
+    seeded_list stamps 4 800 16 64 1 90
+    seeded_list stamps 5 100 4 8 0 90
 }
 
 # The same lists with the pacing book lent from the first line on.

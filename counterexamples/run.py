@@ -14,7 +14,7 @@ import sys
 
 root = os.path.dirname(os.path.dirname(os.path.abspath(__file__)))
 out = root + '/target/counterexamples'
-crates = ['base_blocks', 'grid_shapes', 'grid_rects', 'grid_axes', 'grid_stamps', 'pool_rules', 'pool_books']
+crates = ['base_blocks', 'base_unequal', 'grid_shapes', 'grid_rects', 'grid_axes', 'grid_stamps', 'pool_rules', 'pool_books']
 
 # the sample's shape, and those of specs/ComputedBooks.antt
 FLAT = '(flatShape 2 64 64 1 1 0)'

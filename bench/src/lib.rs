@@ -9,7 +9,7 @@ unsafe extern "C" {
     pub safe fn clock() -> i64;
 }
 
-/// 64 by 64 texels of four bytes, sixteen tiles; where the number of textures is odd, 512 by 512 of one byte, whose tiles fill a page.
+/// 64 by 64 texels of four bytes, sixteen tiles; where the number of textures is odd, 512 by 512 of one byte, with as many tiles as a page has stamps.
 pub fn bench_desc(n: u64, levels: u32) -> TextureCreateDesc {
     let (format, extent) = if n % 2 == 1 { (0, 512) } else { (2, 64) };
     TextureCreateDesc {

@@ -4,6 +4,7 @@ use std::collections::BTreeMap;
 use std::fmt::Write;
 
 use crate::limited::Limits;
+use crate::lists::sized::MOST_STAMPS;
 use crate::replies::Reply;
 
 /// The calls, as lines begin.
@@ -36,7 +37,7 @@ fn outcomes(call: &str, limits: &Limits) -> Vec<usize> {
         "trim" => vec![0, 3],
         _ => vec![0],
     };
-    if call == "take" && limits.pages < MOST_PARTS * limits.textures {
+    if call == "take" && limits.stamps() < MOST_STAMPS * limits.textures as u64 {
         outcomes.push(6);
     }
     let most = match call {
@@ -72,7 +73,7 @@ const ANSWERS: [&str; 14] = [
 /// The answer that only a pool with more than 64 versions can give, and a buffer that holds it.
 const LARGE_BATCH: &str = "doomed: more than 64";
 
-/// Levels of several slices, but not the first one of each: a history of at least twelve pages.
+/// Levels of several slices, but not the first one of each: a history of at least twelve grids.
 const SLICES: &str = "plan: regenerated slices";
 
 /// Counts over the lists that were read.
@@ -123,7 +124,7 @@ impl Counts {
         let can = |answer: &str| match answer {
             LARGE_BATCH => limits.versions.min(limits.answers) > 64,
             "plan: a box" => limits.pages > 0,
-            SLICES => limits.pages >= 12 && limits.answers >= 6,
+            SLICES => limits.pages > 0 && limits.answers >= 6,
             _ => true,
         };
         for answer in ANSWERS.iter().filter(|answer| can(answer)) {

@@ -6,6 +6,7 @@ use super::{
     DESTROY_SPREAD_DRAINS, MIN_DESTROYS_PER_DRAIN, Retiring, StampGrid, TexelRect, TextureVersions,
     UploadFootprint, VersionShape, VersionState, WriteHistory,
 };
+use crate::shape::RawShape;
 use crate::standins::TextureId;
 use crate::standins::mtl::{PixelFormat, TextureCreateFlags};
 
@@ -74,23 +75,72 @@ pub fn trackings<V>(pool: &TextureVersions<V>) -> u64 {
     pool.next_epoch - 1
 }
 
-/// Pages that the histories of all textures hold, one for each slice and level.
-pub fn pages_used<V>(pool: &TextureVersions<V>) -> usize {
-    pool.textures
-        .values()
-        .filter_map(|state| state.history.as_ref())
-        .map(|history| history.grids.len())
+/// Grids of all histories, one for each slice and level.
+pub fn grids_used<V>(pool: &TextureVersions<V>) -> u64 {
+    histories(pool)
+        .map(|history| history.grids.len() as u64)
         .sum()
 }
 
-/// Pages that the texture's history holds, if it has one.
-pub fn pages_of<V>(pool: &TextureVersions<V>, id: TextureId) -> usize {
-    history(pool, id).map_or(0, |history| history.grids.len())
+/// Stamps of all histories, as many as the Rust has memory for.
+pub fn stamps_used<V>(pool: &TextureVersions<V>) -> u64 {
+    histories(pool).map(stamps).sum()
 }
 
-/// Pages that a history of this shape needs.
-pub fn pages_needed(shape: &VersionShape) -> usize {
-    shape.slices() as usize * shape.levels as usize
+/// Stamps of the texture's history, if it has one.
+pub fn stamps_of<V>(pool: &TextureVersions<V>, id: TextureId) -> u64 {
+    history(pool, id).map_or(0, stamps)
+}
+
+fn histories<V>(pool: &TextureVersions<V>) -> impl Iterator<Item = &WriteHistory> {
+    let textures = pool.textures.values();
+    textures.filter_map(|state| state.history.as_ref())
+}
+
+fn stamps(history: &WriteHistory) -> u64 {
+    let grids = history.grids.iter();
+    grids.map(|grid| grid.stamps.len() as u64).sum()
+}
+
+/// A tracked texture: its id, the number of its tracking, the stamps of its history if it has one.
+pub struct Tracked {
+    pub id: u64,
+    pub tracking: u64,
+    pub stamps: Option<u64>,
+    pub grids: u64,
+}
+
+/// The tracked textures in ascending id.
+pub fn all_tracked<V>(pool: &TextureVersions<V>) -> Vec<Tracked> {
+    let row = |(id, state): (&TextureId, &VersionState<V>)| Tracked {
+        id: id.raw(),
+        tracking: state.epoch,
+        stamps: state.history.as_ref().map(stamps),
+        grids: (state.history.as_ref()).map_or(0, |history| history.grids.len() as u64),
+    };
+    pool.textures.iter().map(row).collect()
+}
+
+/// The shapes of the textures that have a history, with the stamps of these.
+pub fn shapes<V>(pool: &TextureVersions<V>) -> Vec<(RawShape, u64)> {
+    let textures = pool.textures.values();
+    let held = textures.filter_map(|state| Some((&state.shape, state.history.as_ref()?)));
+    held.map(|(shape, history)| (raw_shape(shape), stamps(history)))
+        .collect()
+}
+
+/// A shape without what is only compared.
+fn raw_shape(shape: &VersionShape) -> RawShape {
+    let numbers = shape_numbers(shape);
+    RawShape {
+        format: numbers[0],
+        width: shape.width,
+        height: shape.height,
+        depth: shape.depth,
+        levels: shape.levels,
+        kind: numbers[5],
+        compared: [0; 6],
+    }
 }
 
 /// Versions in the queue, among the spares and in the destroy queue: all but the one in the hand.

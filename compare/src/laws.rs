@@ -64,7 +64,10 @@ fn state_fault<V>(
 
 fn grid_fault(grid: &StampGrid, writes: u64) -> Option<&'static str> {
     if grid.columns > 32 || grid.rows > 32 {
-        return Some("a grid is more than a page");
+        return Some("a grid has more than 32 tiles along an axis");
+    }
+    if grid.stamps.len() as u64 != u64::from(grid.columns) * u64::from(grid.rows) {
+        return Some("a grid has not as many stamps as tiles");
     }
     let largest = grid.stamps.iter().copied().max().unwrap_or(0);
     if largest > writes {

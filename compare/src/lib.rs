@@ -6,6 +6,7 @@
 #![forbid(unsafe_code)]
 
 pub mod books;
+pub mod changes;
 pub mod coverage;
 pub mod event;
 #[cfg(feature = "hash_maps")]

@@ -18,11 +18,15 @@ use crate::texture_versions::{
 /// The largest submission, write count and tracking count: 2^48.
 pub const MOST: u64 = 1 << 48;
 
+/// Stamps of a lent page.
+pub const PAGE_STAMPS: u64 = 1_024;
+
 /// How many places of each sort are lent.
 #[derive(Clone, Copy)]
 pub struct Limits {
     pub textures: usize,
     pub versions: usize,
+    /// Pages of 1,024 stamps.
     pub pages: usize,
     /// Entries of an answer buffer.
     pub answers: usize,
@@ -37,6 +41,13 @@ impl Default for Limits {
             pages: 6,
             answers: 90,
         }
+    }
+}
+
+impl Limits {
+    /// Stamps lent.
+    pub const fn stamps(&self) -> u64 {
+        PAGE_STAMPS * self.pages as u64
     }
 }
 
@@ -72,21 +83,20 @@ impl LimitedPool {
         records: bool,
         seq: u64,
     ) -> Result<Option<TakenSpare>, Refusal> {
-        let shape = VersionShape::of(&shape.desc().ok_or(Refusal::BadShape)?);
+        let asked = VersionShape::of(&shape.desc().ok_or(Refusal::BadShape)?);
         Refusal::BadSubmission.when(seq > MOST)?;
         let id = TextureId::from_raw(id);
-        let tracking = inspect::tracking(&self.pool, id, &shape);
+        let tracking = inspect::tracking(&self.pool, id, &asked);
         let places_used = inspect::tracked(&self.pool) >= self.limits.textures;
         Refusal::TexturesFull.when(tracking == Tracking::Untracked && places_used)?;
         let begins = tracking != Tracking::SameShape;
         if begins && records {
-            // The id's old pages count as free.
-            let others = inspect::pages_used(&self.pool) - inspect::pages_of(&self.pool, id);
-            let pages = others + inspect::pages_needed(&shape);
-            Refusal::HistoryFull.when(pages > self.limits.pages)?;
+            // "more stamps needed than free, the same id's own counted as free"
+            let others = inspect::stamps_used(&self.pool) - inspect::stamps_of(&self.pool, id);
+            Refusal::HistoryFull.when(shape.stamps() > self.limits.stamps() - others)?;
         }
         Refusal::CounterSpent.when(begins && inspect::trackings(&self.pool) >= MOST)?;
-        let spare = self.pool.take_spare(id, shape, records, seq);
+        let spare = self.pool.take_spare(id, asked, records, seq);
         Ok(spare.map(|spare| spare.into_parts()))
     }
 
@@ -215,8 +225,11 @@ impl LimitedPool {
         if inspect::tracked(&self.pool) > self.limits.textures {
             return Some("more textures than places");
         }
-        if inspect::pages_used(&self.pool) > self.limits.pages {
-            return Some("more pages than lent");
+        if inspect::stamps_used(&self.pool) > self.limits.stamps() {
+            return Some("more stamps than lent");
+        }
+        if (inspect::shapes(&self.pool).iter()).any(|(shape, stamps)| shape.stamps() != *stamps) {
+            return Some("a history has not the stamps that document 01 gives its shape");
         }
         laws::fault(&self.pool)
     }

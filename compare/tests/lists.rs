@@ -1,9 +1,10 @@
-//! The lists at several sizes: the Rust never panics, after every line it is what document 01 calls a pool, and a seed
-//! gives the same list each time.
+//! The lists at several sizes: the Rust never panics, after every line it is what document 01 calls a pool, the stamps are filled
+//! and moved in each way, and a seed gives the same list each time.
 
 mod common;
 
 use common::{output, program};
+use compare::changes::Changes;
 use compare::coverage::Counts;
 use compare::limited::Limits;
 use compare::lines;
@@ -12,9 +13,9 @@ use compare::replies::Replies;
 
 const LINES: u64 = 5_000;
 
-/// Runs lists of all kinds with the conditions tested after every line, and counts outcomes.
-fn run(limits: Limits, seeds: std::ops::Range<u64>) -> Counts {
-    let mut counts = Counts::default();
+/// Runs lists of all kinds with the conditions tested after every line, and counts outcomes and what is done to the stamps.
+fn run(limits: Limits, seeds: std::ops::Range<u64>) -> (Counts, Changes) {
+    let (mut counts, mut changes) = (Counts::default(), Changes::default());
     for kind in KINDS {
         for seed in seeds.clone() {
             let list = lists::list(kind, seed, LINES, limits).expect("a kind");
@@ -25,16 +26,18 @@ fn run(limits: Limits, seeds: std::ops::Range<u64>) -> Counts {
                 counts.add(line, &reply);
             }
             assert!(replies.next().is_none());
+            changes.add(&list, limits);
         }
     }
-    counts
+    (counts, changes)
 }
 
 #[test]
 fn event_program_sizes() {
     let limits = Limits::default();
-    let counts = run(limits, 0..4);
+    let (counts, changes) = run(limits, 0..4);
     assert_eq!(counts.faults(&limits), Vec::<String>::new());
+    assert_eq!(changes.faults(&limits), Vec::<String>::new());
 }
 
 #[test]
@@ -50,10 +53,32 @@ fn other_sizes() {
         textures: 20,
         versions: 300,
         pages: 100,
-        answers: 70,
+        answers: 84,
     };
-    let counts = run(large, 0..4);
+    let (counts, changes) = run(large, 0..4);
     assert_eq!(counts.faults(&large), Vec::<String>::new());
+    assert_eq!(changes.faults(&large), Vec::<String>::new());
+}
+
+/// Lists of the kind `stamps` alone do to the stamps all that can be done, not just once.
+#[test]
+fn lists_of_stamps() {
+    let page = Limits {
+        textures: 16,
+        pages: 1,
+        ..Limits::default()
+    };
+    for limits in [Limits::default(), page] {
+        let mut changes = Changes::default();
+        for seed in 1..=8 {
+            let list = lists::list("stamps", seed, LINES, limits).expect("a kind");
+            changes.add(&list, limits);
+        }
+        assert_eq!(changes.faults(&limits), Vec::<String>::new());
+        for (sort, times) in changes.counts() {
+            assert!(times >= 5, "\"{sort}\" occurred {times} times");
+        }
+    }
 }
 
 #[test]

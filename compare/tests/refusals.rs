@@ -84,34 +84,100 @@ fn textures_full() {
 
 #[test]
 fn history_full() {
+    // 6,144 stamps are lent. 12,288 by 16,384 texels have 1,024 in each of their first five levels, and 6,144 in ten.
     talk_anew(&[
         ("open,0", "0"),
-        ("take,1,2,64,64,1,7,0,1,10", "6"),
-        ("take,1,2,64,64,1,2,1,1,10", "6"),
-        ("take,1,2,64,64,1,1,1,1,10", "0,-,-"),
-        ("take,2,2,64,64,1,1,0,1,10", "6"),
-        ("take,2,2,64,64,1,1,0,0,10", "0,-,-"),
+        ("take,1,2,12288,16384,1,11,0,1,10", "6"),
+        ("take,1,2,512,512,1,2,1,1,10", "6"),
+        // Six slices of 1,024 stamps.
+        ("take,1,2,512,512,1,1,1,1,10", "0,-,-"),
+        ("take,2,2,1,1,1,1,0,1,10", "6"),
+        ("take,2,2,1,1,1,1,0,0,10", "0,-,-"),
         // Known already: `records` is not looked at again.
-        ("take,2,2,64,64,1,1,0,1,10", "0,-,-"),
-        // Its own six pages are free for the new shape; one too many is refused and the old stays.
-        ("take,1,2,64,64,1,7,0,1,10", "6"),
+        ("take,2,2,1,1,1,1,0,1,10", "0,-,-"),
+        // Its own stamps are free for the new shape; one too many is refused and the old stays.
+        ("take,1,2,12288,16384,1,11,0,1,10", "6"),
         ("plan,1,0,0,0,0", "4"),
-        ("take,1,2,64,64,1,6,0,1,10", "0,-,-"),
-        ("take,1,2,64,64,1,5,0,1,10", "0,-,-"),
-        ("take,3,2,64,64,1,2,0,1,10", "6"),
-        ("take,3,2,64,64,1,1,0,1,10", "0,-,-"),
-        // Renewed without a history, it gives its pages back.
+        ("take,1,2,12288,16384,1,10,0,1,10", "0,-,-"),
+        ("take,1,2,16384,16384,1,5,0,1,10", "0,-,-"),
+        // 1,024 are free; 384 by 512 texels have as many in five levels.
+        ("take,3,2,384,512,1,6,0,1,10", "6"),
+        ("take,3,2,384,512,1,5,0,1,10", "0,-,-"),
+        // Renewed without a history, it gives its stamps back.
         ("take,1,2,64,64,1,6,0,0,10", "0,-,-"),
-        ("take,4,2,64,64,1,5,0,1,10", "0,-,-"),
+        ("take,4,2,16384,16384,1,5,0,1,10", "0,-,-"),
         // So does a dropped history, and a forgotten texture.
-        ("take,5,2,64,64,1,1,0,1,10", "6"),
+        ("take,5,2,1,1,1,1,0,1,10", "6"),
         ("write,3,1,0,0,0,1,1", "0"),
-        ("take,5,2,64,64,1,1,0,1,10", "0,-,-"),
+        ("take,5,2,512,512,1,1,0,1,10", "0,-,-"),
         ("forget,4", "0"),
-        ("take,6,2,64,64,1,5,0,1,10", "0,-,-"),
-        ("take,7,2,64,64,1,1,0,1,10", "6"),
+        ("take,6,2,16384,16384,1,5,0,1,10", "0,-,-"),
+        ("take,7,2,1,1,1,1,0,1,10", "6"),
         ("trim,131", "0"),
-        ("take,7,2,64,64,1,1,1,1,10", "0,-,-"),
+        ("take,7,2,512,512,1,1,1,1,10", "0,-,-"),
+    ]);
+}
+
+/// A cube of fifteen levels has ninety grids, and of at most 16 by 16 texels one stamp in each: a page holds eleven such histories.
+#[test]
+fn ninety_grids_of_one_stamp() {
+    let mut program = opened(Limits {
+        textures: 16,
+        pages: 1,
+        ..Limits::default()
+    });
+    let cube = |id: u64| format!("take,{id},2,16,16,1,15,1,1,10");
+    for id in 1..=11 {
+        talk(&mut program, &[(&cube(3 * id), "0,-,-")]);
+    }
+    talk(
+        &mut program,
+        &[
+            // 34 of 1,024 are free.
+            (&cube(36), "6"),
+            ("take,36,2,80,112,1,1,0,1,10", "6"),
+            ("take,36,2,32,272,1,1,0,1,10", "0,-,-"),
+            ("take,37,2,1,1,1,1,0,1,10", "6"),
+            // A grid of one stamp in the middle, read after those before it are gone.
+            ("write,18,5,14,0,0,1,1", "0"),
+            ("write,18,0,0,20,0,1,1", "0"),
+            ("forget,6", "0"),
+            ("write,9,6,0,0,0,1,1", "0"),
+            (&cube(18), "0,-,-"),
+            ("plan,18,0,0,0,0", "0,1 5,14,-,-,-,-"),
+            ("plan,18,1,0,0,0", "0,0"),
+            (&cube(5), "0,-,-"),
+            (&cube(7), "0,-,-"),
+            (&cube(37), "6"),
+            (&cube(18), "0,-,-"),
+            ("plan,18,0,0,0,0", "0,1 5,14,-,-,-,-"),
+        ],
+    );
+}
+
+/// Renewed to the same number of stamps, to fewer and to more, with all others full; they keep what was written.
+#[test]
+fn renewals_between_others() {
+    talk_anew(&[
+        ("open,0", "0"),
+        ("take,1,2,512,512,1,1,0,1,10", "0,-,-"),
+        ("take,3,2,16384,16384,1,4,0,1,10", "0,-,-"),
+        ("take,2,2,512,512,1,1,0,1,10", "0,-,-"),
+        ("write,1,0,0,500,500,1,1", "0"),
+        ("write,3,0,3,2047,2047,1,1", "0"),
+        ("write,3,0,0,0,0,1,1", "0"),
+        // Equal: 384 by 512 in five levels.
+        ("take,2,2,384,512,1,5,0,1,10", "0,-,-"),
+        ("take,2,2,384,512,1,6,0,1,10", "6"),
+        ("take,2,2,64,64,1,1,0,1,10", "0,-,-"),
+        ("take,4,2,384,512,1,5,0,1,10", "6"),
+        ("take,2,2,512,1024,1,1,0,1,10", "0,-,-"),
+        ("take,3,2,16384,16384,1,4,0,1,10", "0,-,-"),
+        ("plan,3,0,0,1,0", "0,2 0,0,0,0,512,512 0,3,1984,1984,64,64"),
+        ("take,1,2,512,512,1,1,0,1,10", "0,-,-"),
+        ("plan,1,0,0,0,0", "0,1 0,0,496,496,16,16"),
+        ("take,2,2,512,1024,1,1,0,1,10", "0,-,-"),
+        ("plan,2,0,0,0,0", "0,0"),
     ]);
 }
 
@@ -123,7 +189,7 @@ fn a_refused_take_leaves_the_spare() {
         ("retire,1,900,10", "0"),
         ("pop,10", "0,1,900"),
         ("park,0,10", "0"),
-        ("take,1,2,64,64,1,7,0,1,10", "6"),
+        ("take,1,2,12288,16384,1,11,0,1,10", "6"),
         ("take,1,2,16385,64,1,1,0,1,10", "2"),
         ("doomed", "0,0"),
         ("take,1,2,64,64,1,1,0,1,10", "0,900,0"),
@@ -286,7 +352,7 @@ fn spent_tracking_count() {
             ("take,1,2,64,64,1,2,0,1,10", "0,-,-"),
             ("take,2,2,64,64,1,1,0,1,10", "12"),
             ("take,1,2,64,64,1,1,0,1,10", "12"),
-            ("take,1,2,64,64,1,7,0,1,10", "6"),
+            ("take,1,2,12288,16384,1,11,0,1,10", "6"),
             ("take,1,2,64,64,1,2,0,1,10", "0,-,-"),
         ],
     );

@@ -58,7 +58,7 @@ fn edited(folder: &Path, edit: &str) -> PathBuf {
 fn shrunk(name: &str, edit: &str) -> (Output, Vec<u8>) {
     let folder = folder(name);
     let (list, short) = (folder.join("list"), folder.join("short"));
-    let text = lists::list("renames", 1, 3_000, Limits::default()).expect("a kind");
+    let text = lists::list("renames", 2, 3_000, Limits::default()).expect("a kind");
     fs::write(&list, text).expect("a file");
     let _ = fs::remove_file(&short);
     let output = Command::new(env!("CARGO_BIN_EXE_shrink"))

@@ -6,23 +6,26 @@ use compare::limited::Limits;
 use compare::lines::lines_of;
 use compare::lists::{self, KINDS};
 use compare::program::Program;
+use compare::shape::RawShape;
 use compare::stores::asks::ask;
 use compare::stores::damage::store;
-use compare::stores::judge::{CONDITIONS, Condition, faults};
+use compare::stores::judge::{CONDITIONS, Condition, NEVER_ALONE, faults};
 use compare::stores::memory::*;
 
 /// The seeds whose stores are in the gate.
 const GATE: std::ops::Range<u64> = 0..2_000;
 
-/// A judge without the condition that a store breaks alone takes it for a pool, and is found out by its answers.
+/// A judge without the condition that a store breaks alone takes it for a pool, and is found out by its answers. That the grids
+/// counted have room in `newest` cannot be broken alone: it follows from others (`NEVER_ALONE`), so it is looked for among these.
 #[test]
 fn each_condition_fails_alone_in_the_gate_and_is_missed() {
     let mut alone: BTreeMap<Condition, usize> = BTreeMap::new();
-    let mut pools = 0;
+    let (mut pools, mut never_alone) = (0, 0);
     for seed in GATE {
         let memory = store(seed);
         let [condition] = faults(&memory)[..] else {
             pools += usize::from(faults(&memory).is_empty());
+            never_alone += usize::from(faults(&memory).contains(&NEVER_ALONE));
             continue;
         };
         *alone.entry(condition).or_default() += 1;
@@ -35,7 +38,12 @@ fn each_condition_fails_alone_in_the_gate_and_is_missed() {
     }
     for condition in CONDITIONS {
         let times = alone.get(&condition).copied().unwrap_or(0);
-        assert!(times >= 10, "{condition:?} fails alone {times} times");
+        if condition == NEVER_ALONE {
+            assert_eq!(times, 0, "{condition:?}");
+            assert!(never_alone >= 10, "{condition:?}: {never_alone} times");
+        } else {
+            assert!(times >= 10, "{condition:?} fails alone {times} times");
+        }
     }
     assert!(pools >= 200, "{pools} stores form a pool");
 }
@@ -66,10 +74,10 @@ fn the_rusts_pools_form_pools() {
 
 /// One texture of 64 by 64 texels with a history of one write, one spare, one version in the queue and one in the destroy queue.
 fn small() -> Memory {
-    let mut memory = Memory::lent(2, 4, 2);
-    memory.counts = [1, 1, 1, 3, 0, 1, 2, 1, 1, 1, 16_384, 50, 20_000, 0];
-    memory.slices[TEXTURES][..20].copy_from_slice(&[
-        7, 2, 64, 64, 1, 1, 0, 0, 0, 0, 0, 0, 0, 1, 2, 0, 0, 0, 1, 16_384,
+    let mut memory = Memory::lent(2, 4, 1);
+    memory.counts = [1, 1, 1, 16, 3, 0, 1, 2, 1, 1, 1, 16_384, 50, 20_000, 0];
+    memory.slices[TEXTURES][..22].copy_from_slice(&[
+        7, 2, 64, 64, 1, 1, 0, 0, 0, 0, 0, 0, 0, 1, 2, 0, 0, 0, 1, 16_384, 0, 0,
     ]);
     memory
         .record_mut(RETIRING, 3)
@@ -115,13 +123,236 @@ fn a_small_pool_and_its_limits() {
     assert_eq!(told(0, CAP, 16_383), [Condition::Cap]);
     assert_eq!(told(0, PARKED, 16_383), [Condition::ParkedTotal]);
     assert_eq!(told(0, DOOMING, 51), [Condition::DestroyTotal]);
-    assert_eq!(told(2, 5, 0), [Condition::Levels, Condition::Pages]);
-    // Four by four tiles: the sixteenth stamp counts, the seventeenth number of the page is free.
+    assert_eq!(
+        told(2, 5, 0),
+        [Condition::Levels, Condition::Grids, Condition::GridStamps]
+    );
+    // Four by four tiles: the sixteenth stamp counts, the seventeenth number is free.
     assert_eq!(told(7, 15, 2), [Condition::Stamps, Condition::Newest]);
     assert_eq!(told(7, 15, 0), [Condition::Newest]);
     assert_eq!(told(7, 16, 9), []);
+    assert_eq!(told(6, 1, 9), []);
     // What is outside the rings and past the counts is free.
-    assert_eq!(told(2, 20, 7), []);
+    assert_eq!(told(2, 22, 7), []);
     assert_eq!(told(3, 2, u64::MAX), []);
     assert_eq!(told(4, 1, u64::MAX), []);
+}
+
+/// Three textures, the second of two levels (16 and 4 stamps), the third of one tile; the middle one may have no history.
+fn packed(middle: bool) -> Memory {
+    let mut memory = Memory::lent(3, 1, 1);
+    let shapes: [[u64; 6]; 3] = [
+        [0, 64, 64, 1, 1, 0],
+        [0, 64, 64, 1, 2, 0],
+        [0, 1, 1, 1, 1, 0],
+    ];
+    let starts = if middle {
+        [[0, 0], [1, 16], [3, 36]]
+    } else {
+        [[0, 0], [1, 16], [1, 16]]
+    };
+    let bytes = [4_096, 5_120, 1];
+    for place in 0..3 {
+        let record = memory.record_mut(TEXTURES, place);
+        record[0] = place as u64;
+        record[1..7].copy_from_slice(&shapes[place]);
+        record[HISTORY] = if place == 1 && !middle { 0 } else { 3 };
+        record[BYTES] = bytes[place];
+        [record[FIRST_GRID], record[FIRST_STAMP]] = starts[place];
+    }
+    memory.counts[TRACKED] = 3;
+    [memory.counts[GRIDS], memory.counts[STAMPED]] = if middle { [4, 37] } else { [2, 17] };
+    memory
+}
+
+#[test]
+fn where_histories_stand() {
+    use Condition::{FirstGrid, FirstStamp, GridPlaces, GridStamps, Grids, Newest, StampPlaces};
+    for middle in [true, false] {
+        assert_eq!(faults(&packed(middle)), []);
+        let told = |changes: &[(usize, usize, u64)]| {
+            let mut memory = packed(middle);
+            for (store, index, value) in changes {
+                *memory.number_mut(*store, *index) = *value;
+            }
+            faults(&memory)
+        };
+        let [grids, stamps] = [GRIDS, STAMPED].map(|at| packed(middle).counts[at]);
+        // Counts one off.
+        assert_eq!(told(&[(0, GRIDS, grids + 1)]), [Grids]);
+        assert_eq!(told(&[(0, STAMPED, stamps - 1)]), [GridStamps]);
+        assert_eq!(told(&[(0, GRIDS, 270)]), [Grids]);
+        assert_eq!(told(&[(0, GRIDS, 271)]), [GridPlaces, Grids]);
+        assert_eq!(told(&[(0, STAMPED, 1_024)]), [GridStamps]);
+        assert_eq!(told(&[(0, STAMPED, 1_025)]), [StampPlaces, GridStamps]);
+        // Of every record, with a history or without.
+        for place in 0..3 {
+            let first = STRIDES[TEXTURES] * place;
+            let [grid, stamp] =
+                [FIRST_GRID, FIRST_STAMP].map(|at| packed(middle).slices[TEXTURES][first + at]);
+            assert_eq!(told(&[(2, first + FIRST_GRID, grid + 1)]), [FirstGrid]);
+            assert_eq!(told(&[(2, first + FIRST_STAMP, stamp + 1)]), [FirstStamp]);
+            let huge = [
+                (2, first + FIRST_GRID, u64::MAX),
+                (2, first + FIRST_STAMP, u64::MAX),
+            ];
+            assert_eq!(told(&huge), [FirstGrid, FirstStamp]);
+        }
+        // The last texture one grid and one stamp further, and counted so: a gap.
+        let last = STRIDES[TEXTURES] * 2;
+        let starts = packed(middle);
+        let [grid, stamp] = [FIRST_GRID, FIRST_STAMP].map(|at| starts.slices[TEXTURES][last + at]);
+        let mut gap = vec![
+            (2, last + FIRST_GRID, grid + 1),
+            (2, last + FIRST_STAMP, stamp + 1),
+            // Its one stamp, where its record has it.
+            (6, grid as usize + 1, 2),
+            (7, stamp as usize + 1, 2),
+        ];
+        assert_eq!(told(&gap), [FirstGrid, FirstStamp]);
+        gap.extend([(0, GRIDS, grids + 1), (0, STAMPED, stamps + 1)]);
+        assert_eq!(told(&gap), [Grids, GridStamps, FirstGrid, FirstStamp]);
+        // One before: an overlap.
+        let overlap = [
+            (2, last + FIRST_GRID, grid - 1),
+            (2, last + FIRST_STAMP, stamp - 1),
+        ];
+        assert_eq!(told(&overlap), [FirstGrid, FirstStamp]);
+        // The newest stamps of two grids, changed for each other.
+        let (first, other) = (0, grid as usize);
+        assert_eq!(told(&[(7, 3, 2), (6, first, 2)]), []);
+        assert_eq!(told(&[(7, 3, 2), (6, other, 2)]), [Newest]);
+    }
+}
+
+/// `newest` is as long as ninety a texture place or one a stamp, whichever is less.
+#[test]
+fn lengths_of_newest() {
+    for (textures, pages, newest) in [
+        (1, 1, 90),
+        (3, 1, 270),
+        (11, 1, 990),
+        (12, 1, 1_024),
+        (2, 0, 0),
+    ] {
+        let memory = Memory::lent(textures, 1, pages);
+        assert_eq!(memory.slices[NEWEST].len(), newest);
+        assert_eq!(faults(&memory), []);
+        for other in [
+            newest.wrapping_sub(1),
+            newest + 1,
+            pages,
+            90 * textures,
+            1_024 * pages,
+        ] {
+            if other < 2_000 && other != newest {
+                let mut memory = memory.clone();
+                memory.slices[NEWEST].resize(other, 0);
+                assert_eq!(
+                    faults(&memory),
+                    [Condition::Lengths],
+                    "{textures} {pages} {other}"
+                );
+            }
+        }
+    }
+}
+
+/// What `stored/pool.asked` has the program print of a packed pool, number by number, is what the Rust's pool is in our layout. Numbers
+/// that are free, which the Rust lacks, are left out.
+#[test]
+fn asked_dumps() {
+    let limits = Limits {
+        textures: 3,
+        versions: 1,
+        pages: 1,
+        answers: 2,
+    };
+    let asked = include_str!("../stored/pool.asked");
+    let list = asked
+        .split("\n=,")
+        .find(|list| list.starts_with("3,1,1,2,packed\n"));
+    let mut program = Program::new(limits, false);
+    let (mut expected, mut dumps) = (None, 0);
+    for line in list.expect("the list of a packed pool").lines().skip(1) {
+        if line.starts_with("put,") {
+            break;
+        }
+        if let Some(put) = line.strip_prefix(">> put,") {
+            let numbers: Vec<u64> = put
+                .split(',')
+                .map(|it| it.parse().expect("a number"))
+                .collect();
+            let memory = expected.get_or_insert_with(|| Memory::lent(3, 1, 1));
+            *memory.number_mut(numbers[0] as usize, numbers[1] as usize) = numbers[2];
+            continue;
+        }
+        if let Some(mut memory) = expected.take() {
+            let [grids, stamps] = [GRIDS, STAMPED].map(|at| memory.counts[at] as usize);
+            memory.slices[NEWEST][grids..].fill(0);
+            memory.slices[STAMPS][stamps..].fill(0);
+            assert_eq!(memory, program.pool().expect("open").memory(0, 0));
+            assert_eq!(faults(&memory), []);
+            dumps += 1;
+        }
+        if !line.starts_with(['>', '#']) && line != "dump" {
+            program.run(line.as_bytes(), &mut Vec::new());
+        }
+    }
+    assert_eq!(dumps, 3);
+}
+
+/// The shape that a record names, without what is only compared.
+fn shape_of(record: &[u64]) -> RawShape {
+    RawShape {
+        format: record[1],
+        width: record[2] as u32,
+        height: record[3] as u32,
+        depth: record[4] as u32,
+        levels: record[5] as u32,
+        kind: record[6],
+        compared: [0; 6],
+    }
+}
+
+/// Gaps, overlaps and numbers of textures without a history, each told by the two numbers of a record alone; and pools that are full.
+#[test]
+fn gaps_and_overlaps_in_the_gate() {
+    use Condition::{FirstGrid, FirstStamp};
+    let (mut gaps, mut overlaps, mut bare, mut full) = (0, 0, 0, 0);
+    for seed in GATE {
+        let memory = store(seed);
+        let broken = faults(&memory);
+        let stamps = memory.slices[STAMPS].len() as u64;
+        full += u32::from(broken.is_empty() && stamps > 0 && memory.counts[STAMPED] == stamps);
+        if ![&[FirstGrid][..], &[FirstStamp], &[FirstGrid, FirstStamp]].contains(&&broken[..]) {
+            continue;
+        }
+        let mut sums = [0, 0];
+        for place in 0..memory.counts[TRACKED] as usize {
+            let record = memory.record(TEXTURES, place);
+            let starts = [record[FIRST_GRID], record[FIRST_STAMP]];
+            if starts != sums {
+                let further = starts[0] > sums[0] || starts[1] > sums[1];
+                match record[HISTORY] {
+                    0 => bare += 1,
+                    _ if further => gaps += 1,
+                    _ => overlaps += 1,
+                }
+                break;
+            }
+            if record[HISTORY] != 0 {
+                let shape = shape_of(record);
+                sums = [sums[0] + shape.grids(), sums[1] + shape.stamps()];
+            }
+        }
+    }
+    for (what, times) in [
+        ("gaps", gaps),
+        ("overlaps", overlaps),
+        ("bare", bare),
+        ("full", full),
+    ] {
+        assert!(times >= 20, "{what}: {times}");
+    }
 }

@@ -263,32 +263,33 @@ def draw_stores():
     d = Drawing("stores", 1080, 540, "The six lent slices")
     d.text(30, 38, "The six lent slices of u64: filled places, and free places that are never read", size=16, anchor="start", weight="bold")
     rows = (
-        ("textures", "20 a texture", ((3, BLUE, ("7", "9", "12")), (3, None, ())), "tracked textures, packed, ascending id"),
+        ("textures", "22 a texture", ((3, BLUE, ("7", "9", "12")), (3, None, ())), "tracked textures, packed, ascending id"),
         ("spares", "3 a version", ((2, GREEN, ("of 7", "of 12")), (4, None, ())), "packed texture by texture, the oldest first"),
         ("retiring", "7 a version", ((1, None, ()), (1, AMBER, ("hand",)), (1, AMBER, ("queue",)), (3, None, ())), "a ring from place `head`: the hand's, then the queue"),
         ("doomed", "2 a version", ((1, RED, ("second",)), (4, None, ()), (1, RED, ("first",))), "a ring from place `first`; this one has wrapped"),
-        ("newest", "1 a page", ((4, BLUE, ("7", "7", "9", "12")), (2, None, ())), "the largest stamp of each page in use"),
-        ("stamps", "1,024 a page", ((4, BLUE, ("7", "7", "9", "12")), (2, None, ())), "one grid a page: slice by slice, level by level"),
+        ("newest", "1 a grid", ((4, BLUE, ("7", "7", "9", "12")), (2, None, ())), "the largest stamp of each grid in use"),
+        ("stamps", "1,024 a page", ((4, BLUE, ("7", "7", "9", "12"), (176, 40, 112, 56)), (1, None, (), (96,))), "each grid on just its columns times rows"),
     )
     for k, (name, numbers, runs, words) in enumerate(rows):
         y = 66 + 70 * k
         d.text(30, y + 20, name, size=15, anchor="start", weight="bold", mono=True)
         d.text(30, y + 38, numbers, size=12, anchor="start", fill=GREY)
         x = 160
-        for count, fill, marks in runs:
+        for count, fill, marks, *widths in runs:
             for place in range(count):
-                d.rect(x, y, 80, 44, fill=fill or "#ffffff", stroke=LINE if fill else "#9ca3af", line=1.2, dashes=None if fill else "3 3")
+                wide = widths[0][place] if widths else 80
+                d.rect(x, y, wide, 44, fill=fill or "#ffffff", stroke=LINE if fill else "#9ca3af", line=1.2, dashes=None if fill else "3 3")
                 if fill:
-                    d.text(x + 40, y + 27, marks[place], size=13)
+                    d.text(x + wide / 2, y + 27, marks[place], size=13)
                 else:
-                    d.text(x + 40, y + 27, "free", size=11, fill="#9ca3af")
-                x += 80
+                    d.text(x + wide / 2, y + 27, "free", size=11, fill="#9ca3af")
+                x += wide
         d.lines(660, y + 26, (words,), size=12, anchor="start")
     d.lines(
         540,
         500,
         (
-            "Six places of each kind. Textures 7, 9 and 12 are tracked and keep histories; 7 has two levels, so two pages.",
+            "Six places of each kind. Textures 7, 9 and 12 are tracked and keep histories; 7 has two levels, so two grids.",
             "Six versions: two spares, one in the hand, one queued and two doomed, so every version place is used.",
         ),
         size=12,

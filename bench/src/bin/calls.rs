@@ -176,7 +176,8 @@ fn main() {
         println!("{phase} {time} {sum}");
     }
     println!("versions {}", inspect::versions(&work.pool));
-    println!("pages {}", inspect::pages_used(&work.pool));
+    println!("grids {}", inspect::grids_used(&work.pool));
+    println!("stamps {}", inspect::stamps_used(&work.pool));
     println!("tracked {}", inspect::tracked(&work.pool));
     println!("trackings {}", inspect::trackings(&work.pool));
     println!("id {}", work.ids[0].raw());

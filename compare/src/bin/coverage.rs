@@ -1,10 +1,12 @@
-//! Counts which outcomes each call had in lists and their outputs, and fails if one that can occur did not.
+//! Counts which outcomes each call had in lists and their outputs, and what the lists do to the stamps; fails if something that can
+//! occur did not.
 
 use std::env;
 use std::fs;
 use std::io::{self, Write};
 use std::process::ExitCode;
 
+use compare::changes::Changes;
 use compare::coverage::Counts;
 use compare::limited::Limits;
 use compare::options::{self, SIZES};
@@ -12,9 +14,10 @@ use compare::replies::Replies;
 
 fn main() -> ExitCode {
     match counted(env::args().skip(1).collect()) {
-        Ok((counts, limits)) => {
-            let faults = counts.faults(&limits);
-            let mut report = counts.table(&limits);
+        Ok((counts, changes, limits)) => {
+            let mut faults = counts.faults(&limits);
+            faults.extend(changes.faults(&limits));
+            let mut report = counts.table(&limits) + &changes.table();
             for fault in &faults {
                 report += &format!("coverage: {fault}\n");
             }
@@ -29,17 +32,19 @@ fn main() -> ExitCode {
     }
 }
 
-fn counted(words: Vec<String>) -> Result<(Counts, Limits), String> {
+fn counted(words: Vec<String>) -> Result<(Counts, Changes, Limits), String> {
     let (limits, files) = options::take_sizes(words)?;
-    let mut counts = Counts::default();
+    let (mut counts, mut changes) = (Counts::default(), Changes::default());
     if files.is_empty() || files.len() % 2 != 0 {
         return Err("lists and outputs go in pairs".to_string());
     }
     for pair in files.chunks(2) {
-        add(&mut counts, &read(&pair[0])?, &read(&pair[1])?)
+        let list = read(&pair[0])?;
+        add(&mut counts, &list, &read(&pair[1])?)
             .map_err(|fault| format!("{}: {fault}", pair[1]))?;
+        changes.add(&list, limits);
     }
-    Ok((counts, limits))
+    Ok((counts, changes, limits))
 }
 
 fn add(counts: &mut Counts, list: &[u8], output: &[u8]) -> Result<(), String> {

@@ -7,7 +7,7 @@ use std::process::ExitCode;
 
 use compare::stores::asks::ask;
 use compare::stores::damage::store;
-use compare::stores::judge::{CONDITIONS, Condition, faults};
+use compare::stores::judge::{CONDITIONS, Condition, NEVER_ALONE, faults};
 
 const USAGE: &str = "usage: stores lists FIRST COUNT
        stores answers [--wrong CONDITION] FIRST COUNT
@@ -60,23 +60,33 @@ fn write(first: &str, count: &str, text: impl Fn(u64) -> Vec<u8>) -> Result<(), 
     Ok(())
 }
 
-/// Counts stores by the conditions that they break; fails if one does not fail alone often enough.
+/// Counts stores by the conditions that they break; fails if one does not fail alone often enough, or, if it cannot, with others.
 fn table(first: u64, count: u64) -> Result<ExitCode, String> {
     let mut alone: BTreeMap<Condition, usize> = BTreeMap::new();
-    let (mut pools, mut several) = (0, 0);
+    let (mut pools, mut several, mut never_alone) = (0, 0, 0);
     for seed in first..first + count {
         match faults(&store(seed))[..] {
             [] => pools += 1,
             [condition] => *alone.entry(condition).or_default() += 1,
-            _ => several += 1,
+            ref broken => {
+                several += 1;
+                never_alone += usize::from(broken.contains(&NEVER_ALONE));
+            }
         }
     }
     println!("{pools} form a pool, {several} break several conditions; alone:");
     let mut enough = true;
     for condition in CONDITIONS {
         let times = alone.get(&condition).copied().unwrap_or(0);
-        println!("{times:5} {condition:?}");
-        enough &= times >= OFTEN;
+        if condition == NEVER_ALONE {
+            println!(
+                "{times:5} {condition:?}, which follows from others; with these {never_alone}"
+            );
+            enough &= times == 0 && never_alone >= OFTEN;
+        } else {
+            println!("{times:5} {condition:?}");
+            enough &= times >= OFTEN;
+        }
     }
     Ok(if enough {
         ExitCode::SUCCESS

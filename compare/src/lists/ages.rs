@@ -5,8 +5,8 @@ use super::driver::{Driver, MOST};
 use super::texture;
 
 pub fn fill(list: &mut List) {
-    let (places, pages) = (list.limits.textures as u64, list.limits.pages as u64);
-    let textures = texture::textures(&mut list.random, places + 1, pages, 100);
+    let (places, stamps) = (list.limits.textures as u64, list.limits.stamps());
+    let textures = texture::textures(&mut list.random, places + 1, stamps, 100);
     let mut driver = Driver::open(list, 0, textures);
     while !driver.list.is_full() {
         step(&mut driver);

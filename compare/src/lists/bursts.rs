@@ -6,8 +6,8 @@ use super::texture;
 
 pub fn fill(list: &mut List) {
     let places = (list.limits.textures as u64).min(20);
-    let pages = list.limits.pages as u64;
-    let textures = texture::textures(&mut list.random, places, pages, 40);
+    let stamps = list.limits.stamps();
+    let textures = texture::textures(&mut list.random, places, stamps, 40);
     // Caps of nothing, of some, of all.
     let working_set = [0, 7, 200_000, 4_000_000][list.seed as usize % 4];
     let mut driver = Driver::open(list, working_set, textures);

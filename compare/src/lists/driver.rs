@@ -4,6 +4,7 @@
 use super::List;
 use super::texture::{self, Texture};
 use crate::replies::Reply;
+use crate::shape::RawShape;
 
 /// The largest submission.
 pub const MOST: u64 = 1 << 48;
@@ -123,11 +124,17 @@ impl<'d, 'a> Driver<'d, 'a> {
 
     /// The next rename has this texture in another shape: its live version is then another one.
     pub fn reshape(&mut self, at: usize, most: u32) {
-        let all = self.list.limits.pages as u64;
-        let own = self.textures[at].shape.pages();
-        let pages = if self.once_in(4) { all } else { own };
+        let all = self.list.limits.stamps();
+        let own = self.textures[at].shape.stamps();
+        let stamps = if self.once_in(4) { all } else { own };
+        let shape = texture::shape(&mut self.list.random, most, stamps);
+        self.give_shape(at, shape);
+    }
+
+    /// The texture has that shape from here on, and a live version of it.
+    pub fn give_shape(&mut self, at: usize, shape: RawShape) {
         self.textures[at].writes = 0;
-        self.textures[at].shape = texture::shape(&mut self.list.random, most, pages);
+        self.textures[at].shape = shape;
         self.textures[at].live = self.fresh_view();
         self.owed.retain(|owed| owed.0 != at);
     }

@@ -1,24 +1,20 @@
-//! Textures, pages and versions filled up to their places and past them; answers up to their buffers and past them.
+//! Textures, stamps and versions filled up to their places and past them; answers up to their buffers and past them.
 
 use super::List;
 use super::driver::Driver;
+use super::sized;
 use super::texture::{self, Texture};
 use crate::shape::RawShape;
 
-/// A shape whose history needs `pages` pages, at most 15 unless it is a multiple of six.
-fn needing(pages: u64) -> RawShape {
-    let cube = pages > 15;
+/// A cube of small levels.
+const fn cube(levels: u32) -> RawShape {
     RawShape {
         format: 2,
         width: 64,
         height: 32,
         depth: 1,
-        levels: if cube {
-            pages.div_ceil(6).min(15)
-        } else {
-            pages
-        } as u32,
-        kind: u64::from(cube),
+        levels,
+        kind: 1,
         compared: [0; 6],
     }
 }
@@ -40,7 +36,7 @@ pub fn fill(list: &mut List) {
     while !driver.list.is_full() {
         match driver.below(8) {
             0 => fill_textures(&mut driver),
-            1 | 2 => fill_pages(&mut driver),
+            1 | 2 => fill_stamps(&mut driver),
             3..=5 => fill_versions(&mut driver),
             6 => fill_answers(&mut driver),
             _ => hand_over(&mut driver),
@@ -72,18 +68,19 @@ fn fill_textures(driver: &mut Driver) {
     }
 }
 
-/// Histories that use all pages but some, then one that needs just those or one more; and an id's own pages again.
-fn fill_pages(driver: &mut Driver) {
+/// Histories of any size up to all stamps and a little past them; an id's own stamps again.
+fn fill_stamps(driver: &mut Driver) {
     let tries = driver.below(30) + 3;
     for _ in 0..tries {
-        let pages = driver.list.limits.pages as u64;
+        let stamps = driver.list.limits.stamps();
         let need = match driver.below(6) {
-            0 => pages.max(1),
-            1 => pages + 1,
-            _ => driver.below(pages.max(1)) + 1,
+            0 => stamps.max(1),
+            1 => stamps + 1 + driver.below(40),
+            _ => driver.below(stamps.max(1)) + 1,
         };
         let at = driver.any();
-        let (id, shape) = (driver.textures[at].id, needing(need.min(90)));
+        let shape = sized::at_most(&mut driver.list.random, need);
+        let id = driver.textures[at].id;
         let records = !driver.once_in(6);
         if take(driver, id, &shape, records) == Some(6) && driver.once_in(2) {
             // The refused take left the texture as it was, and is the latest take line.
@@ -93,7 +90,7 @@ fn fill_pages(driver: &mut Driver) {
             driver.write(at);
         }
         if driver.once_in(8) {
-            // Outside every shape: frees the pages.
+            // Outside every shape: frees the stamps.
             driver.say(&format!("write,{id},9,0,0,0,1,1"));
         }
     }
@@ -135,8 +132,7 @@ fn fill_versions(driver: &mut Driver) {
 fn fill_answers(driver: &mut Driver) {
     let answers = driver.list.limits.answers as u64;
     for levels in [1, answers / 6, answers / 6 + 1, 15] {
-        let mut shape = needing(1);
-        (shape.kind, shape.levels) = (1, levels.clamp(1, 15) as u32);
+        let shape = cube(levels.clamp(1, 15) as u32);
         let at = driver.any();
         let id = driver.textures[at].id;
         take(driver, id, &shape, false);

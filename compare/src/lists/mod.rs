@@ -10,6 +10,8 @@ mod fills;
 mod pressure;
 mod renames;
 mod shapes;
+pub mod sized;
+mod stamps;
 mod texture;
 
 use crate::limited::Limits;
@@ -18,8 +20,8 @@ use crate::random::Random;
 use crate::replies::{Replies, Reply};
 
 /// The kinds of lists.
-pub const KINDS: [&str; 8] = [
-    "renames", "texels", "chaos", "pressure", "fills", "ages", "shapes", "bursts",
+pub const KINDS: [&str; 9] = [
+    "renames", "texels", "chaos", "pressure", "fills", "ages", "shapes", "bursts", "stamps",
 ];
 
 /// Answers one line, appending to the output. A test may put something else than the Rust here.
@@ -117,7 +119,8 @@ pub fn list_beside(
         "fills" => fills::fill(&mut list),
         "ages" => ages::fill(&mut list),
         "shapes" => shapes::fill(&mut list),
-        _ => bursts::fill(&mut list),
+        "bursts" => bursts::fill(&mut list),
+        _ => stamps::fill(&mut list),
     }
     Some(list.finish())
 }

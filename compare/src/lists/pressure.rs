@@ -94,8 +94,8 @@ fn sizes(list: &mut List) -> (Vec<Texture>, u64) {
 
 /// Shapes of any sort, and a cap that some versions of two textures just fill.
 fn any_shapes(list: &mut List) -> (Vec<Texture>, u64) {
-    let (places, pages) = (list.limits.textures as u64, list.limits.pages as u64);
-    let textures = texture::textures(&mut list.random, places, pages, 40);
+    let (places, stamps) = (list.limits.textures as u64, list.limits.stamps());
+    let textures = texture::textures(&mut list.random, places, stamps, 40);
     let filled = bytes(&textures[0]) * list.random.within(1, 6)
         + bytes(&textures[textures.len() - 1]) * list.random.below(6);
     (textures, 8 * filled)

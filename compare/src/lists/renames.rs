@@ -18,9 +18,9 @@ fn working_set(list: &mut List, most: u32) -> u64 {
 }
 
 pub fn fill(list: &mut List, most: u32) {
-    let (places, pages) = (list.limits.textures as u64, list.limits.pages as u64);
+    let (places, stamps) = (list.limits.textures as u64, list.limits.stamps());
     // A few more textures than there are places.
-    let textures = texture::textures(&mut list.random, places + 2, pages, most);
+    let textures = texture::textures(&mut list.random, places + 2, stamps, most);
     let working_set = working_set(list, most);
     let line = working_set / 4 * 3;
     let mut driver = Driver::open(list, working_set, textures);

@@ -10,8 +10,8 @@ use crate::shape::RawShape;
 const MOST_EXTENT: u32 = 16_384;
 
 pub fn fill(list: &mut List) {
-    let (places, pages) = (list.limits.textures as u64, list.limits.pages as u64);
-    let textures = texture::textures(&mut list.random, places, pages, MOST_EXTENT);
+    let (places, stamps) = (list.limits.textures as u64, list.limits.stamps());
+    let textures = texture::textures(&mut list.random, places, stamps, MOST_EXTENT);
     let working_set = list.random.one_of(&[0, 0, 1 << 33, 1 << 28]);
     let mut driver = Driver::open(list, working_set, textures);
     while !driver.list.is_full() {
@@ -36,7 +36,7 @@ fn step(driver: &mut Driver) {
         87 => change_one_field(driver, at),
         88..=90 => any_take(driver, at),
         91 | 92 => {
-            // Frees its pages for others.
+            // Frees its stamps for others.
             driver.forget(at);
         }
         93 => {

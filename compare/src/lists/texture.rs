@@ -16,29 +16,30 @@ pub struct Texture {
     pub calm: bool,
 }
 
-/// Textures of which the first few have histories of some pages, as long as there are pages, and the others
+/// Textures of which the first few have histories of some stamps, as long as there are stamps, and the others
 /// mostly none.
-pub fn textures(random: &mut Random, count: u64, pages: u64, most: u32) -> Vec<Texture> {
-    let mut left = pages;
+pub fn textures(random: &mut Random, count: u64, stamps: u64, most: u32) -> Vec<Texture> {
+    let mut left = stamps;
     (0..count)
         .map(|number| {
-            // Those without a history may have more levels and slices than there are pages.
+            // Those without a history may need more stamps than there are.
             let bare = number >= 3 && random.once_in(2);
             let room = match number {
-                _ if bare => 20,
+                _ if bare => u64::MAX,
                 0..3 => (left / 2).max(1),
-                _ => 1,
+                _ => (left / 4).max(1),
             };
             let mut shape = shape(random, most, room);
             if number == 2 && room >= 12 {
-                // Several slices with levels to regenerate, where the pages allow it.
+                // Several slices with levels to regenerate, where the stamps allow it.
                 shape.kind = 1;
                 shape.levels = random.within(2, (room / 6).min(15)) as u32;
+                shrink(&mut shape, room);
             }
-            let fits = shape.pages() <= left;
+            let fits = shape.stamps() <= left;
             let records = random.once_in(8) != (fits && !bare);
             if fits && records {
-                left -= shape.pages();
+                left -= shape.stamps();
             }
             Texture {
                 id: if number == 1 { u64::MAX } else { number * 3 },
@@ -52,20 +53,10 @@ pub fn textures(random: &mut Random, count: u64, pages: u64, most: u32) -> Vec<T
         .collect()
 }
 
-/// A shape that is not bad, with extents up to `most`, whose history needs at most `pages` pages if that can be.
-pub fn shape(random: &mut Random, most: u32, pages: u64) -> RawShape {
-    let mut kind = random.one_of(&[0, 0, 0, 0, 1, 2]);
-    if kind == 1 && pages < 6 && !random.once_in(5) {
-        kind = 0;
-    }
-    let slices = if kind == 1 { 6 } else { 1 };
-    let room = (pages / slices).clamp(1, 15);
-    let levels = match random.below(4) {
-        0 => 1,
-        1 => room,
-        _ => random.within(1, room),
-    };
-    RawShape {
+/// A shape that is not bad, with extents up to `most`, whose history mostly needs at most `stamps` stamps if that can be.
+pub fn shape(random: &mut Random, most: u32, stamps: u64) -> RawShape {
+    let kind = random.one_of(&[0, 0, 0, 0, 1, 2]);
+    let mut shape = RawShape {
         format: random.below(9),
         width: extent(random, most),
         height: extent(random, most),
@@ -74,9 +65,38 @@ pub fn shape(random: &mut Random, most: u32, pages: u64) -> RawShape {
         } else {
             1
         },
-        levels: levels as u32,
+        levels: 1,
         kind,
         compared: [0; 6],
+    };
+    if !random.once_in(8) {
+        if kind == 1 && stamps < 6 {
+            shape.kind = 0;
+        }
+        shrink(&mut shape, stamps);
+    }
+    let with = |levels: u32| RawShape { levels, ..shape };
+    let room = (1..=15)
+        .rev()
+        .find(|levels| with(*levels).stamps() <= stamps);
+    let room = u64::from(room.unwrap_or(1));
+    let levels = match random.below(4) {
+        0 => 1,
+        1 => room,
+        _ => random.within(1, room),
+    };
+    with(levels as u32)
+}
+
+/// Halves the larger extent until a history needs at most `stamps` stamps, or both extents are 1.
+fn shrink(shape: &mut RawShape, stamps: u64) {
+    while shape.stamps() > stamps && shape.width.max(shape.height) > 1 {
+        let larger = if shape.width > shape.height {
+            &mut shape.width
+        } else {
+            &mut shape.height
+        };
+        *larger /= 2;
     }
 }
 

@@ -2,6 +2,8 @@
 
 use super::judge::{Condition, faults};
 use super::memory::*;
+use super::shapes::{grid_columns, grids, stamp_count};
+use crate::lists::sized;
 use crate::random::Random;
 
 /// 2^48.
@@ -9,6 +11,9 @@ const MOST: u64 = 1 << 48;
 
 /// Entries of the answer buffers that are lent.
 const ANSWERS: usize = 8;
+
+/// A take that is accepted and finds no spare.
+const FRESH: &str = "0,-,-";
 
 /// A list for our program, and what it is to answer.
 pub struct Asked {
@@ -45,6 +50,10 @@ pub fn ask(memory: &Memory, seed: u64, unasked: Option<Condition>) -> Asked {
             say("shape,2,16385,1,1,1,0,0,0,0,0,0,0", "");
         }
         say(&call, &answer);
+        // What an accepted take leaves is a pool, and a full one may take no further stamp.
+        if call.starts_with("take") && answer == FRESH {
+            say("formed", "0\nsame");
+        }
     } else {
         let call = any_call(id, &mut random);
         if call.starts_with("plan") {
@@ -119,7 +128,7 @@ fn any_call(id: u64, random: &mut Random) -> String {
 fn settled_call(memory: &Memory, id: u64, random: &mut Random) -> (String, String) {
     let late = MOST + 1 + random.below(9);
     let refused = |outcome: u64| format!("{outcome}\nsame");
-    match random.below(13) {
+    match random.below(18) {
         0 => (format!("take,{id},2,16385,1,1,1,0,1,{late}"), refused(2)),
         1 => (format!("take,{id},2,1,1,1,1,0,1,{late}"), refused(3)),
         2 => (format!("plan,{id},-,0,0,1"), refused(2)),
@@ -141,15 +150,74 @@ fn settled_call(memory: &Memory, id: u64, random: &mut Random) -> (String, Strin
             format!("0,{}\nsame", u64::from(records(memory, id))),
         ),
         11 => (format!("note,{}", memory.counts[LINE]), "0".into()),
-        _ => ("drain".into(), drained(memory)),
+        12 => ("drain".into(), drained(memory)),
+        13 | 14 => taken(memory, id, random),
+        _ => dirty(memory, id, random),
     }
+}
+
+/// The texture's record, if it is tracked.
+fn tracked(memory: &Memory, id: u64) -> Option<&[u64]> {
+    (0..memory.counts[TRACKED] as usize)
+        .map(|place| memory.record(TEXTURES, place))
+        .find(|record| record[0] == id)
 }
 
 /// Whether the texture is tracked with a history.
 fn records(memory: &Memory, id: u64) -> bool {
-    (0..memory.counts[TRACKED] as usize)
-        .map(|place| memory.record(TEXTURES, place))
-        .any(|record| record[0] == id && record[HISTORY] != 0)
+    tracked(memory, id).is_some_and(|record| record[HISTORY] != 0)
+}
+
+/// A take that needs as many stamps as are free, the id's own counted as free, or one more: 6.
+fn taken(memory: &Memory, id: u64, random: &mut Random) -> (String, String) {
+    let record = tracked(memory, id);
+    let own = record.map_or(0, |record| stamp_count(record) as u64);
+    let room = memory.slices[STAMPS].len() as u64 - memory.counts[STAMPED] + own;
+    let size = room + random.below(2);
+    let found = sized::exactly(random, size.max(1));
+    let shape = found.unwrap_or_else(|| sized::at_most(random, size.max(1)));
+    // Storage 9 is another shape than any that is tracked here.
+    let call = format!("take,{id},{shape},9,0,0,0,0,0,1,7");
+    let answer = if record.is_none() && memory.counts[TRACKED] == memory.places(TEXTURES) as u64 {
+        "5\nsame"
+    } else if shape.stamps() > room {
+        "6\nsame"
+    } else if memory.counts[TRACKINGS] >= MOST {
+        "12\nsame"
+    } else {
+        FRESH
+    };
+    (call, answer.into())
+}
+
+/// The dirty tile of a grid of the texture, where one tile or none is stamped above the held count.
+fn dirty(memory: &Memory, id: u64, random: &mut Random) -> (String, String) {
+    let none = "0,-,-\nsame".to_string();
+    let Some(record) = tracked(memory, id).filter(|record| record[HISTORY] != 0) else {
+        return (format!("dirty,{id},0,0,0"), none);
+    };
+    let levels = record[5];
+    let slice = random.below(if record[6] == 1 { 6 } else { 1 });
+    let level = random.below(levels);
+    let before = u128::from(slice) * u128::from(levels) + u128::from(level);
+    let number = record[FIRST_GRID] as usize + before as usize;
+    let grids = grids(memory);
+    let grid = grids.iter().find(|grid| grid.number == number);
+    let stamps = grid.expect("a pool's grid").of(&memory.slices[STAMPS]);
+    let columns = grid_columns(record, level) as usize;
+    // From the largest stamp that stands there once on, one tile at most is above.
+    let mut sorted = stamps.to_vec();
+    sorted.sort_unstable();
+    let second = sorted.iter().rev().nth(1).copied().unwrap_or(0);
+    let held = random.one_of(&[second, sorted[sorted.len() - 1]]);
+    let call = format!("dirty,{id},{slice},{level},{held}");
+    match stamps.iter().position(|stamp| *stamp > held) {
+        Some(at) => {
+            let (column, row) = (at % columns, at / columns);
+            (call, format!("0,{column},{row}\nsame"))
+        }
+        None => (call, none),
+    }
 }
 
 /// "`drain_versions` hands out the queue, then the destroy queue, then the spares, and leaves the hand as it is."

@@ -2,6 +2,7 @@
 
 use super::judge::{self, CONDITIONS, Condition as C};
 use super::memory::*;
+use super::moves;
 use crate::limited::Limits;
 use crate::lines::lines_of;
 use crate::lists;
@@ -13,27 +14,36 @@ const MOST: u64 = 1 << 48;
 const MOST_BYTES: u64 = 1 << 44;
 
 /// The kinds of lists that make pools small enough.
-const KINDS: [&str; 5] = ["texels", "ages", "pressure", "fills", "bursts"];
+const KINDS: [&str; 7] = [
+    "texels", "ages", "pressure", "fills", "bursts", "stamps", "stamps",
+];
 
 /// The most numbers other than 0 in a pool that is taken.
 const HEAVIEST: usize = 110;
 
-/// Memory from a seed: a pool that one of the Rust's lists made, damaged in one of three ways.
+/// Sorts of damage, by which seeds go in turn: each condition alone, those of `moves`, numbers at their limit, any numbers.
+const SORTS: u64 = 80;
+const MOVES: usize = CONDITIONS.len();
+const LIMITS: usize = MOVES + 7;
+const ANY: usize = LIMITS + 12;
+
+/// Memory from a seed: a pool that one of the Rust's lists made, damaged in one of four ways.
 pub fn store(seed: u64) -> Memory {
     let mut random = Random::new(seed.wrapping_mul(0x2545_f491_4f6c_dd1d));
-    let sort = (seed % 64) as usize;
+    let sort = (seed % SORTS) as usize;
     loop {
         let pool = pool(&mut random);
         let mut memory = pool.clone();
         let done = match sort {
             // Each condition in turn is broken alone.
-            0..41 => {
+            ..MOVES => {
                 let target = CONDITIONS[sort];
-                damage(&mut memory, target, &mut random) && judge::faults(&memory) == [target]
+                damage(&mut memory, target, &mut random) && is_alone(&memory, target)
             }
+            MOVES..LIMITS => moves::move_histories(&mut memory, sort - MOVES, &mut random),
             // A number is put at its limit, and the memory is a pool still.
-            41..52 => {
-                let target = CONDITIONS[random.below(41) as usize];
+            LIMITS..ANY => {
+                let target = CONDITIONS[random.below(CONDITIONS.len() as u64) as usize];
                 to_the_limit(&mut memory, target, &mut random) && judge::faults(&memory).is_empty()
             }
             _ => {
@@ -49,13 +59,19 @@ pub fn store(seed: u64) -> Memory {
     }
 }
 
+/// Whether the condition alone is broken, or is the one that cannot be.
+fn is_alone(memory: &Memory, condition: C) -> bool {
+    let broken = judge::faults(memory);
+    broken == [condition] || (condition == judge::NEVER_ALONE && broken.contains(&condition))
+}
+
 /// A pool as a list left it, with some numbers in the places that are free.
 fn pool(random: &mut Random) -> Memory {
     loop {
         let limits = Limits {
             textures: random.within(1, 4) as usize,
             versions: random.within(1, 8) as usize,
-            pages: random.below(8) as usize,
+            pages: random.one_of(&[0, 1, 1, 1, 2, 3, 7]) as usize,
             answers: 8,
         };
         let kind = KINDS[random.below(KINDS.len() as u64) as usize];
@@ -74,7 +90,7 @@ fn pool(random: &mut Random) -> Memory {
     }
 }
 
-/// Puts numbers where nothing is read: past the counts, outside the rings, past a grid's stamps.
+/// Puts numbers where nothing is read: past the counts, outside the rings.
 fn fill_free(memory: &mut Memory, random: &mut Random) {
     for _ in 0..random.below(4) {
         let slice = random.below(6) as usize;
@@ -88,8 +104,8 @@ fn fill_free(memory: &mut Memory, random: &mut Random) {
 
 fn free_indexes(memory: &Memory, slice: usize) -> Vec<usize> {
     let counts = &memory.counts;
-    let packed = |count: usize| {
-        (STRIDES[slice] * counts[count] as usize..memory.slices[slice].len()).collect()
+    let packed = |stride: usize, count: usize| {
+        (stride * counts[count] as usize..memory.slices[slice].len()).collect()
     };
     let ring = |head: usize, count: u64| {
         let used: Vec<usize> = memory.ring(slice, counts[head], count).collect();
@@ -97,18 +113,12 @@ fn free_indexes(memory: &Memory, slice: usize) -> Vec<usize> {
         (0..memory.slices[slice].len()).filter(free).collect()
     };
     match slice {
-        TEXTURES => packed(TRACKED),
+        TEXTURES => packed(STRIDES[TEXTURES], TRACKED),
         RETIRING => ring(HEAD, counts[POPPED] + counts[QUEUED]),
         DOOMED => ring(FIRST, counts[WAITING]),
-        SPARES => packed(KEPT),
-        NEWEST => packed(PAGES),
-        _ => {
-            let mut free: Vec<usize> = packed(PAGES);
-            for (page, (_, tiles)) in judge::grids(memory).into_iter().enumerate() {
-                free.extend(1_024 * page + tiles..1_024 * (page + 1));
-            }
-            free
-        }
+        SPARES => packed(STRIDES[SPARES], KEPT),
+        NEWEST => packed(1, GRIDS),
+        _ => packed(1, STAMPED),
     }
 }
 
@@ -166,7 +176,7 @@ fn limited(memory: &Memory, condition: C, random: &mut Random) -> Option<Limited
         C::SpareHeld => return spare(1, MOST + 1),
         C::Parking => return spare(2, MOST),
         C::TexturePlaces => (0, TRACKED, places(TEXTURES)),
-        C::PagePlaces => (0, PAGES, places(NEWEST)),
+        C::GridPlaces => (0, GRIDS, places(NEWEST)),
         C::VersionPlaces => (0, QUEUED, places(RETIRING) - (used - counts[QUEUED])),
         C::Head => (0, HEAD, places(RETIRING) - 1),
         C::First => (0, FIRST, places(DOOMED) - 1),
@@ -183,6 +193,9 @@ fn limited(memory: &Memory, condition: C, random: &mut Random) -> Option<Limited
 
 /// Puts a number that the condition limits at its limit.
 fn to_the_limit(memory: &mut Memory, condition: C, random: &mut Random) -> bool {
+    if condition == C::StampPlaces {
+        return moves::claim(memory, 0, random);
+    }
     let Some((store, index, most)) = limited(memory, condition, random) else {
         return false;
     };
@@ -220,10 +233,13 @@ fn damage(memory: &mut Memory, condition: C, random: &mut Random) -> bool {
         C::Places => lend_nothing(memory, random),
         C::Lengths => lend_odd(memory, random),
         C::Ids => mix_ids(memory, random),
-        C::Pages | C::Spares | C::Bytes | C::ParkedTotal | C::DestroyTotal => {
+        C::Grids | C::GridStamps | C::Spares | C::Bytes | C::ParkedTotal | C::DestroyTotal => {
             miscount(memory, condition, random)
         }
-        C::Stamps | C::Newest => misstamp(memory, condition, random),
+        C::StampPlaces => moves::claim(memory, 1 + random.below(2) * random.below(9), random),
+        C::FirstGrid => moves::move_starts(memory, &[FIRST_GRID], random),
+        C::FirstStamp => moves::move_starts(memory, &[FIRST_STAMP], random),
+        C::Stamps | C::Newest => moves::misstamp(memory, condition, random),
         C::Cap if memory.counts[PARKED] > 0 => {
             memory.counts[CAP] = random.below(memory.counts[PARKED]);
             true
@@ -249,7 +265,7 @@ fn damage(memory: &mut Memory, condition: C, random: &mut Random) -> bool {
 }
 
 /// A number past the limit: mostly just past it.
-fn past(most: u64, random: &mut Random) -> u64 {
+pub fn past(most: u64, random: &mut Random) -> u64 {
     match random.below(4) {
         0 | 1 => most + 1,
         2 => most + 1 + random.below(1 << 20),
@@ -260,6 +276,7 @@ fn past(most: u64, random: &mut Random) -> u64 {
 fn lend_nothing(memory: &mut Memory, random: &mut Random) -> bool {
     if random.once_in(2) {
         memory.slices[TEXTURES].clear();
+        memory.slices[NEWEST].clear();
     } else {
         for slice in [RETIRING, DOOMED, SPARES] {
             memory.slices[slice].clear();
@@ -272,12 +289,21 @@ fn lend_nothing(memory: &mut Memory, random: &mut Random) -> bool {
 fn lend_odd(memory: &mut Memory, random: &mut Random) -> bool {
     let slice = random.below(6) as usize;
     let numbers = memory.slices[slice].len();
+    if slice == NEWEST && random.once_in(2) {
+        // One a page, ninety a texture, one a stamp: where that is another number.
+        let other = [
+            memory.places(STAMPS),
+            90 * memory.places(TEXTURES),
+            memory.slices[STAMPS].len(),
+        ];
+        memory.slices[NEWEST].resize(other[random.below(3) as usize], 0);
+        return true;
+    }
     let by = match random.below(3) {
-        // A whole place: of textures alone it would be well.
-        0 if slice != TEXTURES => STRIDES[slice],
+        // A whole place: well where the others still fit.
+        0 => STRIDES[slice],
         1 if STRIDES[slice] > 1 => 1 + random.below(STRIDES[slice] as u64 - 1) as usize,
-        _ if STRIDES[slice] > 1 => 1,
-        _ => return false,
+        _ => 1,
     };
     if random.once_in(2) && numbers >= by {
         memory.slices[slice].truncate(numbers - by);
@@ -320,11 +346,8 @@ fn miscount(memory: &mut Memory, condition: C, random: &mut Random) -> bool {
     let place = random.below(memory.counts[TRACKED].max(1)) as usize;
     let whole = random.once_in(2);
     match condition {
-        C::Pages if whole => memory.counts[PAGES] = step(memory.counts[PAGES], up),
-        C::Pages => {
-            let history = &mut memory.record_mut(TEXTURES, place)[HISTORY];
-            *history = u64::from(*history == 0);
-        }
+        C::Grids => memory.counts[GRIDS] = step(memory.counts[GRIDS], up),
+        C::GridStamps => memory.counts[STAMPED] = step(memory.counts[STAMPED], up),
         C::Spares if whole => memory.counts[KEPT] = step(memory.counts[KEPT], up),
         C::ParkedTotal => memory.counts[PARKED] = step(memory.counts[PARKED], up),
         C::DestroyTotal => memory.counts[DOOMING] = step(memory.counts[DOOMING], up),
@@ -338,35 +361,6 @@ fn miscount(memory: &mut Memory, condition: C, random: &mut Random) -> bool {
             record[number] = step(record[number], up);
             settle(memory, condition);
         }
-    }
-    true
-}
-
-/// A stamp past the write count, or a `newest` that is not the largest stamp.
-fn misstamp(memory: &mut Memory, condition: C, random: &mut Random) -> bool {
-    let grids = judge::grids(memory);
-    if grids.is_empty() {
-        return false;
-    }
-    let page = random.below(grids.len() as u64) as usize;
-    let (writes, tiles) = grids[page];
-    // The last tile more often than others: what is behind it is free.
-    let tile = if random.once_in(2) {
-        tiles - 1
-    } else {
-        random.below(tiles as u64) as usize
-    };
-    let newest = memory.slices[NEWEST][page];
-    if condition == C::Stamps {
-        let stamp = past(writes, random);
-        memory.record_mut(STAMPS, page)[tile] = stamp;
-        memory.slices[NEWEST][page] = stamp;
-        return true;
-    }
-    match random.below(3) {
-        0 => memory.slices[NEWEST][page] = newest.wrapping_sub(1),
-        1 => memory.slices[NEWEST][page] = newest + 1,
-        _ => memory.record_mut(STAMPS, page)[tile] = (newest + 1).min(writes),
     }
     true
 }

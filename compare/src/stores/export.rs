@@ -42,7 +42,7 @@ pub fn write_pool(
     memory.book = inspect::book(pool);
 }
 
-/// Writes one texture: its record, its spares and its pages after those of the textures before it.
+/// Writes one texture: its record, its spares and its grids after those of the textures before it.
 fn write_texture(memory: &mut Memory, place: usize, row: &TextureRow) {
     for (view, held, parked) in &row.spares {
         let at = memory.counts[KEPT] as usize;
@@ -52,11 +52,16 @@ fn write_texture(memory: &mut Memory, place: usize, row: &TextureRow) {
             .copy_from_slice(&[*view, held, *parked]);
         memory.counts[KEPT] += 1;
     }
+    let (first_grid, first_stamp) = (memory.counts[GRIDS], memory.counts[STAMPED]);
     for (newest, stamps) in row.history.iter().flat_map(|(_, grids)| grids) {
-        let page = memory.counts[PAGES] as usize;
-        memory.slices[NEWEST][page] = *newest;
-        memory.record_mut(STAMPS, page)[..stamps.len()].copy_from_slice(stamps);
-        memory.counts[PAGES] += 1;
+        let (grid, at) = (
+            memory.counts[GRIDS] as usize,
+            memory.counts[STAMPED] as usize,
+        );
+        memory.slices[NEWEST][grid] = *newest;
+        memory.slices[STAMPS][at..][..stamps.len()].copy_from_slice(stamps);
+        memory.counts[GRIDS] += 1;
+        memory.counts[STAMPED] += stamps.len() as u64;
     }
     let record = memory.record_mut(TEXTURES, place);
     record[0] = row.id;
@@ -68,4 +73,6 @@ fn write_texture(memory: &mut Memory, place: usize, row: &TextureRow) {
     record[DUE] = row.due;
     record[OWN_SPARES] = row.spares.len() as u64;
     record[BYTES] = row.bytes;
+    record[FIRST_GRID] = first_grid;
+    record[FIRST_STAMP] = first_stamp;
 }

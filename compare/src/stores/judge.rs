@@ -1,11 +1,13 @@
-//! Whether lent memory forms a pool: document 01's paragraph "Stores form a pool when", read over numbers, and what our
-//! layout asks so that they can be read (docs/DECISIONS.md, "What `isPool` asks beyond 01's words").
+//! Whether lent memory forms a pool: document 01's paragraph "Stores form a pool when", read over numbers, with 02's grids "without
+//! overlap or gap" (W-201) in place of pages, and what our layout asks so that they can be read (docs/DECISIONS.md, "What `isPool`
+//! asks beyond 01's words").
 //!
 //! Written from the text, to be held against the test that the program makes. Sums are of 128 bits: nothing wraps.
 
 use std::collections::BTreeSet;
 
 use super::memory::*;
+use super::shapes::{grid_count, grids, passes_2, shape_bytes, stamp_count, tracked};
 
 /// 2^48: no count and no submission is larger.
 const MOST: u64 = 1 << 48;
@@ -25,7 +27,8 @@ pub enum Condition {
     // What lets the numbers be read.
     TexturePlaces,
     VersionPlaces,
-    PagePlaces,
+    GridPlaces,
+    StampPlaces,
     Head,
     First,
     Hand,
@@ -51,8 +54,11 @@ pub enum Condition {
     RetiredTracking,
     RetiredBirth,
     RetiredHeld,
-    // "each page is free or belongs to one subresource".
-    Pages,
+    // "grids without overlap or gap": as many as are counted, and each history begins where those before it end.
+    Grids,
+    GridStamps,
+    FirstGrid,
+    FirstStamp,
     // "no stamp passes its texture's write count", "each grid's newest is its largest stamp".
     Stamps,
     Newest,
@@ -77,12 +83,13 @@ pub enum Condition {
 use Condition as C;
 
 /// All of them.
-pub const CONDITIONS: [Condition; 41] = [
+pub const CONDITIONS: [Condition; 45] = [
     C::Places,
     C::Lengths,
     C::TexturePlaces,
     C::VersionPlaces,
-    C::PagePlaces,
+    C::GridPlaces,
+    C::StampPlaces,
     C::Head,
     C::First,
     C::Hand,
@@ -105,7 +112,10 @@ pub const CONDITIONS: [Condition; 41] = [
     C::RetiredTracking,
     C::RetiredBirth,
     C::RetiredHeld,
-    C::Pages,
+    C::Grids,
+    C::GridStamps,
+    C::FirstGrid,
+    C::FirstStamp,
     C::Stamps,
     C::Newest,
     C::Spares,
@@ -121,6 +131,11 @@ pub const CONDITIONS: [Condition; 41] = [
     C::Mark,
 ];
 
+/// The one that is never broken alone. `newest` has ninety numbers a texture place, or one a stamp. As many grids as the records
+/// have are at most ninety a texture, and none has no stamp: where they are those counted, and their stamps within those lent, they
+/// have room.
+pub const NEVER_ALONE: Condition = C::GridPlaces;
+
 impl Condition {
     /// The condition of that name.
     pub fn named(name: &str) -> Option<Self> {
@@ -135,11 +150,18 @@ pub fn faults(memory: &Memory) -> Vec<Condition> {
     lent_faults(memory, &mut broken);
     if broken.is_empty() {
         count_faults(memory, &mut broken);
-    }
-    if broken.is_empty() {
-        texture_faults(memory, &mut broken);
-        version_faults(memory, &mut broken);
-        total_faults(memory, &mut broken);
+        let textures = !broken.contains(&C::TexturePlaces);
+        let versions = [C::VersionPlaces, C::Head, C::First, C::Hand];
+        let versions = versions.iter().all(|at| !broken.contains(at));
+        if textures {
+            texture_faults(memory, &mut broken);
+        }
+        if versions {
+            version_faults(memory, &mut broken);
+        }
+        if textures && versions {
+            total_faults(memory, &mut broken);
+        }
     }
     if !broken.contains(&C::Places) && !broken.contains(&C::Lengths) {
         book_faults(memory, &mut broken);
@@ -160,12 +182,12 @@ fn lent_faults(memory: &Memory, broken: &mut BTreeSet<Condition>) {
     let whole = (0..6).all(|at| memory.slices[at].len() % STRIDES[at] == 0);
     let fit = memory.places(DOOMED) == versions
         && memory.places(SPARES) == versions
-        && memory.places(STAMPS) == memory.places(NEWEST);
+        && memory.slices[NEWEST].len() == memory.newest_places();
     ask(broken, C::Lengths, whole && fit);
     let places = 1..=MOST_PLACES;
     let lent = places.contains(&memory.places(TEXTURES))
         && places.contains(&versions)
-        && memory.places(NEWEST) <= MOST_PLACES;
+        && memory.places(STAMPS) <= MOST_PLACES;
     ask(broken, C::Places, !(whole && fit) || lent);
 }
 
@@ -177,7 +199,9 @@ fn count_faults(memory: &Memory, broken: &mut BTreeSet<Condition>) {
         C::TexturePlaces,
         counts[TRACKED] <= places(TEXTURES),
     );
-    ask(broken, C::PagePlaces, counts[PAGES] <= places(NEWEST));
+    ask(broken, C::GridPlaces, counts[GRIDS] <= places(NEWEST));
+    let stamps = memory.slices[STAMPS].len() as u64;
+    ask(broken, C::StampPlaces, counts[STAMPED] <= stamps);
     ask(broken, C::Head, counts[HEAD] < places(RETIRING));
     ask(broken, C::First, counts[FIRST] < places(DOOMED));
     ask(broken, C::Hand, counts[POPPED] <= 1);
@@ -188,24 +212,6 @@ fn count_faults(memory: &Memory, broken: &mut BTreeSet<Condition>) {
         C::VersionPlaces,
         versions.iter().sum::<u128>() <= u128::from(places(RETIRING)),
     );
-}
-
-/// The records of the tracked textures.
-fn tracked(memory: &Memory) -> impl Iterator<Item = &[u64]> {
-    (0..memory.counts[TRACKED] as usize).map(|place| memory.record(TEXTURES, place))
-}
-
-/// Slices of a shape's kind: six of a cube.
-fn slices(record: &[u64]) -> u64 {
-    if record[6] == 1 { 6 } else { 1 }
-}
-
-/// Pages of a texture's history: one for each slice and level, if it has one.
-fn pages(record: &[u64]) -> u128 {
-    if record[HISTORY] == 0 {
-        return 0;
-    }
-    u128::from(slices(record)) * u128::from(record[5])
 }
 
 fn texture_faults(memory: &Memory, broken: &mut BTreeSet<Condition>) {
@@ -233,92 +239,49 @@ fn texture_faults(memory: &Memory, broken: &mut BTreeSet<Condition>) {
         }
     }
     ask(broken, C::Trackings, memory.counts[TRACKINGS] <= MOST);
-    let used: u128 = tracked(memory).map(pages).sum();
-    ask(broken, C::Pages, used == u128::from(memory.counts[PAGES]));
+    start_faults(memory, broken);
     let kept: u128 = tracked(memory)
         .map(|record| u128::from(record[OWN_SPARES]))
         .sum();
     ask(broken, C::Spares, kept == u128::from(memory.counts[KEPT]));
-    if !broken.contains(&C::Pages) && tracked(memory).all(passes_2) {
+    if tracked(memory).all(passes_2) {
         grid_faults(memory, broken);
     }
 }
 
-/// Whether a record's shape passes refusal 2.
-fn passes_2(record: &[u64]) -> bool {
-    record[1] <= 8
-        && record[2] <= 16_384
-        && record[3] <= 16_384
-        && record[4] <= 2_048
-        && (1..=15).contains(&record[5])
-        && record[6] <= 2
-}
-
-/// "(base, at least 1) shifted right by the level, at least 1".
-fn level_extent(base: u64, level: u64) -> u64 {
-    (base.max(1) >> level).max(1)
-}
-
-/// "Formats 0 to 4: 1 by 1 blocks of 1, 2, 4, 8, 16 bytes. 5 and 6: 4 by 4 blocks of 8 and 16 bytes. 7 .. 8 ..: 1 by 1, 4 and 8 bytes."
-fn block(format: u64) -> (u64, u64) {
-    [
-        (1, 1),
-        (1, 2),
-        (1, 4),
-        (1, 8),
-        (1, 16),
-        (4, 8),
-        (4, 16),
-        (1, 4),
-        (1, 8),
-    ][format as usize]
-}
-
-/// "per level, whole blocks across times down times depth (volumes only) times block bytes; summed; times slices".
-fn shape_bytes(record: &[u64]) -> u64 {
-    let (edge, bytes) = block(record[1]);
-    let level_bytes = |level| {
-        let across = level_extent(record[2], level).div_ceil(edge);
-        let down = level_extent(record[3], level).div_ceil(edge);
-        let deep = if record[6] == 2 {
-            level_extent(record[4], level)
-        } else {
-            1
-        };
-        across * down * deep * bytes
-    };
-    (0..record[5]).map(level_bytes).sum::<u64>() * slices(record)
-}
-
-/// "extent / 32 rounded up, at least 16, raised to a multiple of the block edge"; tiles of that edge along the extent.
-fn tiles(extent: u64, block: u64) -> u64 {
-    let edge = extent.div_ceil(32).max(16).next_multiple_of(block);
-    extent.div_ceil(edge)
-}
-
-/// The grids of all histories, packed texture by texture, slice by slice, level by level: a grid's write count and tiles, on
-/// its page. All shapes pass 2.
-pub fn grids(memory: &Memory) -> Vec<(u64, usize)> {
-    let mut grids = Vec::new();
-    for record in tracked(memory).filter(|record| record[HISTORY] != 0) {
-        for _ in 0..slices(record) {
-            for level in 0..record[5] {
-                let (edge, _) = block(record[1]);
-                let across = tiles(level_extent(record[2], level), edge);
-                let down = tiles(level_extent(record[3], level), edge);
-                grids.push((record[HISTORY] - 1, (across * down) as usize));
-            }
-        }
+/// The grids and stamps of the histories stand one behind the other in the order of the records, and a record has how many stand
+/// before its own, also where it has none.
+fn start_faults(memory: &Memory, broken: &mut BTreeSet<Condition>) {
+    let (mut grids, mut stamps) = (0, 0);
+    for record in tracked(memory) {
+        ask(
+            broken,
+            C::FirstGrid,
+            u128::from(record[FIRST_GRID]) == grids,
+        );
+        ask(
+            broken,
+            C::FirstStamp,
+            u128::from(record[FIRST_STAMP]) == stamps,
+        );
+        grids += grid_count(record);
+        stamps += stamp_count(record);
     }
-    grids
+    ask(broken, C::Grids, u128::from(memory.counts[GRIDS]) == grids);
+    ask(
+        broken,
+        C::GridStamps,
+        u128::from(memory.counts[STAMPED]) == stamps,
+    );
 }
 
 fn grid_faults(memory: &Memory, broken: &mut BTreeSet<Condition>) {
-    for (page, (writes, tiles)) in grids(memory).into_iter().enumerate() {
-        let stamps = &memory.record(STAMPS, page)[..tiles];
+    for grid in grids(memory) {
+        let stamps = grid.of(&memory.slices[STAMPS]);
         let largest = *stamps.iter().max().expect("a level has a tile");
-        ask(broken, C::Stamps, largest <= writes);
-        ask(broken, C::Newest, memory.slices[NEWEST][page] == largest);
+        ask(broken, C::Stamps, largest <= grid.writes);
+        let newest = memory.slices[NEWEST][grid.number];
+        ask(broken, C::Newest, newest == largest);
     }
 }
 

@@ -2,8 +2,11 @@
 
 use crate::text::push_field;
 
-/// Numbers that a place has in each of the six slices.
-pub const STRIDES: [usize; 6] = [20, 7, 2, 3, 1, 1_024];
+/// Numbers that a place has in each of the six slices; stamps are lent by the page.
+pub const STRIDES: [usize; 6] = [22, 7, 2, 3, 1, 1_024];
+
+/// The most grids of a history: six slices of fifteen levels.
+const MOST_GRIDS: usize = 90;
 
 /// The six slices, by their place in `Memory::slices`.
 pub const TEXTURES: usize = 0;
@@ -16,18 +19,19 @@ pub const STAMPS: usize = 5;
 /// The counts, by their place in `Memory::counts`.
 pub const TRACKED: usize = 0;
 pub const KEPT: usize = 1;
-pub const PAGES: usize = 2;
-pub const HEAD: usize = 3;
-pub const POPPED: usize = 4;
-pub const QUEUED: usize = 5;
-pub const FIRST: usize = 6;
-pub const WAITING: usize = 7;
-pub const SINCE: usize = 8;
-pub const TRACKINGS: usize = 9;
-pub const PARKED: usize = 10;
-pub const DOOMING: usize = 11;
-pub const CAP: usize = 12;
-pub const LINE: usize = 13;
+pub const GRIDS: usize = 2;
+pub const STAMPED: usize = 3;
+pub const HEAD: usize = 4;
+pub const POPPED: usize = 5;
+pub const QUEUED: usize = 6;
+pub const FIRST: usize = 7;
+pub const WAITING: usize = 8;
+pub const SINCE: usize = 9;
+pub const TRACKINGS: usize = 10;
+pub const PARKED: usize = 11;
+pub const DOOMING: usize = 12;
+pub const CAP: usize = 13;
+pub const LINE: usize = 14;
 
 /// The pacing book behind its eight arrivals, by place in `Memory::book`.
 pub const SLOT: usize = 8;
@@ -42,6 +46,8 @@ pub const RENAME: usize = 16;
 pub const DUE: usize = 17;
 pub const OWN_SPARES: usize = 18;
 pub const BYTES: usize = 19;
+pub const FIRST_GRID: usize = 20;
+pub const FIRST_STAMP: usize = 21;
 
 /// The most values that one put line has behind its store and index.
 const MOST_VALUES: usize = 14;
@@ -49,7 +55,7 @@ const MOST_VALUES: usize = 14;
 /// Everything that is lent but the answer buffers.
 #[derive(Clone, Debug, PartialEq, Eq)]
 pub struct Memory {
-    pub counts: [u64; 14],
+    pub counts: [u64; 15],
     pub book: [u64; 11],
     pub slices: [Vec<u64>; 6],
 }
@@ -57,13 +63,19 @@ pub struct Memory {
 impl Memory {
     /// Zeros, with this many places.
     pub fn lent(textures: usize, versions: usize, pages: usize) -> Self {
-        let places = [textures, versions, versions, versions, pages, pages];
+        let newest = newest_places(textures, STRIDES[STAMPS] * pages);
+        let places = [textures, versions, versions, versions, newest, pages];
         let slices = std::array::from_fn(|at| vec![0; STRIDES[at] * places[at]]);
         Self {
-            counts: [0; 14],
+            counts: [0; 15],
             book: [0; 11],
             slices,
         }
+    }
+
+    /// Numbers that `newest` is to have, by the textures and stamps that are lent.
+    pub fn newest_places(&self) -> usize {
+        newest_places(self.places(TEXTURES), self.slices[STAMPS].len())
     }
 
     /// Whole places of a slice.
@@ -112,7 +124,7 @@ impl Memory {
 
     /// The line that a list on this memory begins with: places if the lengths are those of places, else lengths.
     pub fn header(&self, answers: usize, name: &str) -> String {
-        let [textures, versions, pages] = [TEXTURES, RETIRING, NEWEST].map(|at| self.places(at));
+        let [textures, versions, pages] = [TEXTURES, RETIRING, STAMPS].map(|at| self.places(at));
         let whole = Self::lent(textures, versions, pages);
         let same = (0..6).all(|at| self.slices[at].len() == whole.slices[at].len());
         if same {
@@ -147,6 +159,11 @@ impl Memory {
         }
         lines
     }
+}
+
+/// One number for each grid that there can be: no more than ninety a texture, nor than stamps.
+fn newest_places(textures: usize, stamps: usize) -> usize {
+    (MOST_GRIDS * textures).min(stamps)
 }
 
 /// Where the numbers of one line end that begins at `start`: not with 0, and with no more than three zeros in a row.

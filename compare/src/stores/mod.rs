@@ -6,3 +6,5 @@ pub mod export;
 pub mod judge;
 pub mod lines;
 pub mod memory;
+mod moves;
+mod shapes;

@@ -16,7 +16,7 @@ use Rattle.pool_memory.specs.Reading.{trackedRecords, modelOf}
 use Rattle.pool_memory.specs.Writing.{gridsOf, newestOf, newestAfter, stampsOf, stampsAfter}
 use Rattle.pool_memory.proofs.Fits.{Fits}
 use Rattle.pool_memory.proofs.Runs.{firstGrid, firstStamp}
-use Rattle.pool_memory.proofs.Packings.{newestPacking, stampsPacking, from-next, from-bound, from-order, size-in, inserted-packed, renewed-packed, rewritten-packed, dropped-packed, removed-packed}
+use Rattle.pool_memory.proofs.Packings.{newestPacking, stampsPacking, from-next, from-bound, from-last, from-order, size-in, inserted-packed, renewed-packed, rewritten-packed, dropped-packed, removed-packed}
 
 -- how many grids and stamps texture i has
 abbrev pub gridCountAt : Lent → ℕ → ℕ
@@ -43,6 +43,15 @@ module _ (l : Lent) (f : Fits l) where
   pub stamp-bound : (i : ℕ) → firstStamp l i ≤ l .pool .stamps
   unfolding firstStamp
   stamp-bound i = from-bound (stampsPacking l f) i
+
+  -- past the last texture there are none
+  pub grid-last : firstGrid l (l .pool .tracked) ≡ l .pool .grids
+  unfolding firstGrid
+  grid-last = from-last (newestPacking l f)
+
+  pub stamp-last : firstStamp l (l .pool .tracked) ≡ l .pool .stamps
+  unfolding firstStamp
+  stamp-last = from-last (stampsPacking l f)
 
   pub grid-order : (i j : ℕ) → i ≤ j → firstGrid l i ≤ firstGrid l j
   unfolding firstGrid

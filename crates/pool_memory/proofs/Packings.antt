@@ -8,7 +8,7 @@ use native.Mathlib.Nat.{zero-add, add-zero, add-assoc}
 use native.Mathlib.Numerals.{add-one}
 use native.Mathlib.Omega.{arith}
 use lib.ListN.{length, take, drop, getD, set, length-append, length-drop}
-use lib.Seq.{sets, set-split, take-take, take-add, drop-drop, length-take-le}
+use lib.Seq.{sets, set-split, take-all, take-take, take-add, drop-drop, length-take-le}
 use borrow.Author.Tests.{eqb-true}
 use lib.Dec.{eqb}
 use Rattle.base_blocks.specs.Lists.{over, total, removed, inserted}
@@ -85,6 +85,9 @@ module _ {l : Lent} (k : Packing l) where
 
   pub from-bound : (i : ℕ) → from i ≤ k .count
   from-bound i = omega (arith, k .counted, total-cut (k .size) i (trackedRecords l))
+
+  pub from-last : from (l .pool .tracked) ≡ k .count
+  from-last = ap (total (k .size)) (take-all (l .pool .tracked) (trackedRecords l) (omega (arith, tracked-records l))) ∙ k .counted
 
   pub from-order : (i j : ℕ) → i ≤ j → from i ≤ from j
   from-order i j h = omega (arith, total-cut (k .size) i (take j (trackedRecords l)), ap (total (k .size)) (take-take i j (trackedRecords l) h))

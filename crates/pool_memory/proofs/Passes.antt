@@ -2,7 +2,7 @@
 use mathlib.Core.Path.{_≡_, refl, sym, ap, ap₂, _∙_}
 use mathlib.Core.List.{List, [], _∷_, _++_, map, flatMap, map-append, append-nil}
 use Prim.Native.Nat.{ℕ, suc, _+_, _*_, _≤_, _<_}
-use native.Mathlib.Nat.{add-zero, zero-add, add-assoc}
+use native.Mathlib.Nat.{zero-add}
 use native.Mathlib.Omega.{arith}
 use lib.ListN.{length, take, drop, length-map}
 use lib.Seq.{sets}
@@ -27,27 +27,17 @@ use Rattle.pool_memory.proofs.Packed.{packed-read, packed-put, packed-m
 use Rattle.pool_memory.proofs.Runs.{sparesOf, firstGrid, firstStamp, stateOf}
 use Rattle.pool_memory.proofs.Kept.{KeptHistory, keptHistory}
 use Rattle.pool_memory.proofs.Packings.{newestPacking, stampsPacking, step-packed}
+use Rattle.pool_memory.proofs.Starts.{length-records, records-append}
 use Rattle.pool_memory.proofs.Changes.{sparesBefore, table-spares}
 use Rattle.pool_memory.proofs.HistoryRuns.{gridCountAt, stampCountAt}
 use Rattle.pool_records.specs.RecordConstants.{spareStride, textureStride}
-
--- as many records as textures
-pub length-records : (grid stamp : ℕ) (ts : List (VersionState ℕ)) → length (textureRecords grid stamp ts) ≡ length ts
-unfolding textureRecords
-length-records grid stamp [] = refl
-length-records grid stamp (t ∷ ts) = ap suc (length-records (grid + gridsUsed t) (stamp + stampsUsed t) ts)
 
 -- one more behind them
 pub records-more : (grid stamp : ℕ) (ts : List (VersionState ℕ)) (t : VersionState ℕ)
     → textureRecords grid stamp (ts ++ (t ∷ []))
     ≡ textureRecords grid stamp ts ++ (textureRecord (grid + total gridsUsed ts) (stamp + total stampsUsed ts) t ∷ [])
-unfolding textureRecords total
-records-more grid stamp [] t = ap₂ (λ (g n : ℕ). textureRecord g n t ∷ []) (sym (add-zero grid)) (sym (add-zero stamp))
-records-more grid stamp (u ∷ us) t =
-    ap (λ (xs : List TextureRecord). textureRecord grid stamp u ∷ xs)
-    (records-more (grid + gridsUsed u) (stamp + stampsUsed u) us t
-    ∙ ap₂ (λ (g n : ℕ). textureRecords (grid + gridsUsed u) (stamp + stampsUsed u) us ++ (textureRecord g n t ∷ []))
-    (add-assoc grid (gridsUsed u) (total gridsUsed us)) (add-assoc stamp (stampsUsed u) (total stampsUsed us)))
+unfolding textureRecords
+records-more grid stamp ts t = records-append grid stamp ts (t ∷ [])
 
 -- ---- at the start nothing is packed
 

@@ -34,8 +34,8 @@ use Rattle.pool_memory.proofs.Runs.{sparesOf, spareCount, firstSpare, firstGrid
 use Rattle.pool_memory.proofs.Rings.{laid-append}
 use Rattle.pool_memory.proofs.Counts.{count-spares}
 use Rattle.pool_memory.proofs.Fits.{Fits}
-use Rattle.pool_memory.proofs.Passes.{length-records, records-more}
-use Rattle.pool_memory.proofs.Starts.{placedRecord}
+use Rattle.pool_memory.proofs.Passes.{records-more}
+use Rattle.pool_memory.proofs.Starts.{placedRecord, length-records}
 use Rattle.pool_memory.proofs.Tracked.{record-read, record-at, shape-at, count-at}
 use Rattle.pool_take_doomed.specs.Given.{givenRecords}
 use Rattle.pool_take_doomed.proofs.Pushed.{given-spares}

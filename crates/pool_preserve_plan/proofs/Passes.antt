@@ -1,5 +1,5 @@
 -- Laws of the two passes over a plan: those that are left, and copies written one after the other. Assumes nothing.
-use mathlib.Core.Path.{_≡_, refl, sym, ap, _∙_}
+use mathlib.Core.Path.{_≡_, refl, sym, ap, ap₂, _∙_}
 use mathlib.Core.List.{List, [], _∷_, _++_, append-nil, flatMap}
 use Prim.Native.Nat.{ℕ, _+_, _*_, _≤_, _<_}
 use native.Mathlib.Nat.{zero-add}
@@ -11,16 +11,16 @@ use Rattle.base_blocks.proofs.Listed.{left, left-all, left-step, left-none}
 use Rattle.base_tables.specs.Records.{flat}
 use Rattle.base_tables.proofs.Records.{flat-append}
 use Rattle.grid_shapes.specs.declared.shape.VersionShape.{VersionShape}
-use Rattle.grid_shapes.specs.Shapes.{slicesOf}
 use Rattle.grid_rects.specs.declared.rect.Region.{Region}
 use Rattle.grid_rects.specs.declared.rect.Region.the-variants.{Whole, Part}
-use Rattle.pool_rules.specs.Model.{PreserveCopy, UploadFootprint}
+use Rattle.pool_rules.specs.Model.{PreserveCopy, UploadFootprint, gridCount}
 use Rattle.pool_memory.specs.Calls.{copyNumbers}
 use Rattle.pool_memory.proofs.Rewritten.{sets-append}
 use Rattle.pool_preserve_plan.specs.declared.copy.Planned.{Planned}
 use Rattle.pool_preserve_plan.specs.declared.copy.Planned.the-variants.{Skipped, Copied}
 use Rattle.pool_preserve_plan.specs.declared.since.Since.{Since}
-use Rattle.pool_preserve_plan.specs.Copies.{copyList, inOrder, sliceCopies, lentCopies, withCopies}
+use Rattle.pool_preserve_plan.specs.Copies.{sinceAt, plannedAt, copyList, inOrder, copiesAt, lentCopies, withCopies}
+use Rattle.pool_preserve_plan.proofs.Planned.{IsPlace, slice-of, level-of}
 use Rattle.pool_memory.specs.MemoryConstants.{copyStride}
 
 -- ---- of n, those from i on
@@ -52,12 +52,11 @@ module _ (f : ℕ → List PreserveCopy) (n : ℕ) where
   pub next-room : (i count t room : ℕ) → i < n → count + length (rest f n i) ≡ t → copyStride * t ≤ room → copyStride * (count + length (f i)) ≤ room
   next-room i count t room h inv fits = omega (arith, count-more i count t h inv)
 
--- the slices of a plan
-pub lent-all : (newest stamps : List ℕ) (s : VersionShape) (since : Since) (u : UploadFootprint) (all : ℕ) → all ≡ slicesOf s
-    → rest (sliceCopies newest stamps s since u) all 0 ≡ lentCopies newest stamps s since u
+-- all of a plan
+pub lent-all : (newest stamps : List ℕ) (s : VersionShape) (since : Since) (u : UploadFootprint) (all : ℕ) → all ≡ gridCount s
+    → rest (copiesAt newest stamps s since u) all 0 ≡ lentCopies newest stamps s since u
 unfolding lentCopies
-lent-all newest stamps s since u all e =
-    rest-all (sliceCopies newest stamps s since u) all ∙ ap (inOrder (sliceCopies newest stamps s since u)) e
+lent-all newest stamps s since u all e = rest-all (copiesAt newest stamps s since u) all ∙ ap (inOrder (copiesAt newest stamps s since u)) e
 
 -- ---- one subresource
 
@@ -79,6 +78,15 @@ list-none p a b e = ap (λ (x : Planned). copyList x a b) e
 pub list-one : (p : Planned) (region : Region) (a b : ℕ) → p ≡ Copied region → copyList p a b ≡ record { slice = a; level = b; region = region } ∷ []
 unfolding copyList
 list-one p region a b e = ap (λ (x : Planned). copyList x a b) e
+
+-- what the code has planned at place k are the k-th subresource's copies
+pub list-at : (newest stamps : List ℕ) (s : VersionShape) (since from : Since) (u : UploadFootprint) (k slice level : ℕ) (p : Planned)
+    → IsPlace (s .levels) k slice level → from ≡ sinceAt s since k → p ≡ plannedAt newest stamps s from u slice level
+    → copyList p slice level ≡ copiesAt newest stamps s since u k
+unfolding copiesAt
+list-at newest stamps s since from u k slice level p at e f =
+    ap (λ (x : Planned). copyList x slice level) (f ∙ ap (λ (x : Since). plannedAt newest stamps s x u slice level) e)
+    ∙ ap₂ (λ (a b : ℕ). copyList (plannedAt newest stamps s (sinceAt s since k) u a b) a b) (slice-of (s .levels) k slice level at) (level-of (s .levels) k slice level at)
 
 -- ---- copies written
 

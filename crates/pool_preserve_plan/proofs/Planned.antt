@@ -2,16 +2,14 @@
 use mathlib.Core.Path.{_≡_, refl, sym, ap, ap₂, subst, _∙_}
 use mathlib.Core.Bool.{Bool, true, false, cond}
 use mathlib.Core.List.{List}
-use Prim.Native.Nat.{ℕ, _+_, _-_, _*_, _≤_, _<_}
-use native.Mathlib.Nat.{mul-comm, mul-le-mul}
+use Prim.Native.Nat.{ℕ, _+_, _-_, _*_, _/_, _%_, _≤_, _<_}
+use native.Mathlib.Nat.{add-zero, add-assoc, zero-mul, mul-add-div-right, div-eq-of-lt}
+use native.Mathlib.Numerals.{add-one}
 use native.Mathlib.Omega.{arith}
 use lib.ListN.{length, take, drop, getD, length-drop}
-use lib.Seq.{length-take-le}
-use lib.Dec.{eqb}
-use Rattle.base_blocks.proofs.Lists.{either}
+use lib.Seq.{length-take-le, take-take}
 use Rattle.grid_shapes.specs.declared.shape.VersionShape.{VersionShape}
-use Rattle.grid_shapes.specs.Shapes.{isShape, slicesOf, levelWidth, levelHeight}
-use Rattle.grid_shapes.proofs.Shapes.{shape-bounds}
+use Rattle.grid_shapes.specs.Shapes.{isShape, levelWidth, levelHeight}
 use Rattle.grid_rects.specs.declared.rect.TexelRect.{TexelRect}
 use Rattle.grid_rects.specs.declared.rect.Region.the-variants.{Whole, Part}
 use Rattle.grid_rects.specs.Rects.{wholeLevel}
@@ -19,17 +17,17 @@ use Rattle.grid_axes.specs.declared.axis.Axis.{Axis}
 use Rattle.grid_axes.specs.Axes.{AxisOk}
 use Rattle.grid_stamps.specs.declared.since.Dirty.the-variants.{Box, Clean}
 use Rattle.grid_stamps.specs.Grids.{Tiling, tiled, tilingOf, stampCount, gridIn, boxSince}
-use Rattle.grid_stamps.proofs.Tilings.{tiling-ok, count-bound}
-use Rattle.grid_stamps.proofs.RowByRow.{tile-place}
+use Rattle.grid_stamps.proofs.Tilings.{tiling-ok}
 use Rattle.pool_rules.specs.Model.{UploadFootprint, gridCount}
-use Rattle.pool_rules.specs.Histories.{gridPlace}
+use Rattle.pool_rules.specs.HistorySizes.{gridSize, gridStart, levelStart}
 use Rattle.pool_rules.specs.PreservePlan.{sameRect, covers}
-use Rattle.pool_memory.specs.Reading.{pageAt, gridOn}
+use Rattle.pool_rules.proofs.GridPlaces.{place-level}
+use Rattle.pool_rules.proofs.HistorySizes.{grid-next, grid-end, grid-start, level-none}
+use Rattle.pool_memory.specs.Reading.{gridOn}
 use Rattle.pool_preserve_plan.specs.declared.copy.Planned.the-variants.{Skipped, Copied}
 use Rattle.pool_preserve_plan.specs.declared.since.Since.{Since}
 use Rattle.pool_preserve_plan.specs.declared.since.Since.the-variants.{After, Nothing}
-use Rattle.pool_preserve_plan.specs.Copies.{SinceFits, boxPlanned, plannedSince, plannedAt}
-use Rattle.grid_stamps.specs.StampConstants.{pageStamps}
+use Rattle.pool_preserve_plan.specs.Copies.{SinceFits, GridFits, sinceAt, nextSince, boxPlanned, plannedSince, plannedAt}
 
 -- ---- a box
 
@@ -51,85 +49,119 @@ box-clean s level = refl
 module _ (newest stamps : List ℕ) (s : VersionShape) (u : UploadFootprint) (slice level : ℕ) where
   pub planned-covered : (since : Since) → covers u slice level ≡ true → plannedAt newest stamps s since u slice level ≡ Skipped
   unfolding plannedAt
-  planned-covered since e = ap (λ (b : Bool). cond b Skipped (plannedSince newest stamps s since slice level)) e
+  planned-covered since e = ap (λ (b : Bool). cond b Skipped (plannedSince newest stamps s since level)) e
 
-  planned-open : (since : Since) → covers u slice level ≡ false
-      → plannedAt newest stamps s since u slice level ≡ plannedSince newest stamps s since slice level
+  planned-open : (since : Since) → covers u slice level ≡ false → plannedAt newest stamps s since u slice level ≡ plannedSince newest stamps s since level
   unfolding plannedAt
-  planned-open since e = ap (λ (b : Bool). cond b Skipped (plannedSince newest stamps s since slice level)) e
+  planned-open since e = ap (λ (b : Bool). cond b Skipped (plannedSince newest stamps s since level)) e
 
-  pub planned-unknown : (since : Since) → covers u slice level ≡ false → since ≡ Nothing → plannedAt newest stamps s since u slice level ≡ Copied Whole
-  planned-unknown since e f = planned-open since e ∙ ap (λ (x : Since). plannedSince newest stamps s x slice level) f
+  pub planned-unknown : (since : Since) → since ≡ Nothing → plannedAt newest stamps s since u slice level ≡ cond (covers u slice level) Skipped (Copied Whole)
+  unfolding plannedAt
+  planned-unknown since f = ap (λ (x : Since). plannedAt newest stamps s x u slice level) f
 
-  pub planned-after : (since : Since) (page held : ℕ) → covers u slice level ≡ false → since ≡ After page held
-      → plannedAt newest stamps s since u slice level
-      ≡ boxPlanned s level (boxSince (tilingOf s level) held (gridOn s level newest stamps (page + gridPlace s slice level)))
-  planned-after since page held e f = planned-open since e ∙ ap (λ (x : Since). plannedSince newest stamps s x slice level) f
+  pub planned-after : (since : Since) (grid stamp held : ℕ) → covers u slice level ≡ false → since ≡ After grid stamp held
+      → plannedAt newest stamps s since u slice level ≡ boxPlanned s level (boxSince (tilingOf s level) held (gridOn s level newest stamps grid stamp))
+  planned-after since grid stamp held e f = planned-open since e ∙ ap (λ (x : Since). plannedSince newest stamps s x level) f
 
--- ---- a page
+-- ---- one grid among the stamps
 
-module _ (stamps : List ℕ) (k : ℕ) where
-  -- the part that the code cuts out is the page
-  page-cut : take (pageStamps * k + pageStamps - pageStamps * k) (drop (pageStamps * k) stamps) ≡ pageAt stamps k
-  page-cut = ap (λ (n : ℕ). take n (drop (pageStamps * k) stamps)) (let e : pageStamps * k + pageStamps - pageStamps * k ≡ pageStamps = omega arith in e)
+pub grid-fits : (since : Since) (grid stamp held count n m : ℕ) → since ≡ After grid stamp held → GridFits since count n m → (grid < n) × (stamp + count ≤ m)
+grid-fits since grid stamp held count n m e f = rw e at f
 
-  module _ (s : VersionShape) (level : ℕ) (across down : Axis) (a : across ≡ tilingOf s level .across) (d : down ≡ tilingOf s level .down) where
-    tiling : tiled across down ≡ tilingOf s level
-    unfolding tilingOf
-    tiling = ap₂ tiled a d
+module _ (s : VersionShape) (shaped : isShape s ≡ true) (level : ℕ) (across down : Axis) (a : across ≡ tilingOf s level .across)
+    (d : down ≡ tilingOf s level .down) where
+  tiling : tiled across down ≡ tilingOf s level
+  unfolding tilingOf
+  tiling = ap₂ tiled a d
 
-    -- it has room for the level's stamps
-    pub page-ready : isShape s ≡ true → pageStamps * k + pageStamps ≤ length stamps
-        → AxisOk across × AxisOk down × (stampCount (tiled across down) ≤ length (take (pageStamps * k + pageStamps - pageStamps * k) (drop (pageStamps * k) stamps)))
-    page-ready shaped room =
-        let ok = tiling-ok s shaped level in
-        let long : length (pageAt stamps k) ≡ pageStamps = length-take-le pageStamps (drop (pageStamps * k) stamps) (omega (arith, length-drop (pageStamps * k) stamps)) in (
-          subst AxisOk (sym a) (ok .across),
-          subst AxisOk (sym d) (ok .down),
-          omega (arith, ap stampCount tiling, count-bound (tilingOf s level) ok, ap length page-cut, long),
-        )
+  pub axes-ok : AxisOk across × AxisOk down
+  axes-ok = let ok = tiling-ok s shaped level in (subst AxisOk (sym a) (ok .across), subst AxisOk (sym d) (ok .down))
 
-    -- and holds the level's grid
-    pub page-grid : (newest : List ℕ) (held : ℕ)
-        → boxSince (tiled across down) held (gridIn (tiled across down) (getD newest k 0) (take (pageStamps * k + pageStamps - pageStamps * k) (drop (pageStamps * k) stamps)))
-        ≡ boxSince (tilingOf s level) held (gridOn s level newest stamps k)
-    unfolding gridOn
-    page-grid newest held = ap₂ (λ (g : Tiling) (page : List ℕ). boxSince g held (gridIn g (getD newest k 0) page)) tiling page-cut
+  pub count-known : (n : ℕ) → n ≡ stampCount (tiled across down) → n ≡ stampCount (tilingOf s level)
+  count-known n e = e ∙ ap stampCount tiling
 
--- ---- places
+  module _ (stamps : List ℕ) (stamp n : ℕ) (e : n ≡ stampCount (tiled across down)) (room : stamp + stampCount (tilingOf s level) ≤ length stamps) where
+    abbrev part : List ℕ
+    part = take (stamp + n - stamp) (drop stamp stamps)
 
-pub slices-most : (s : VersionShape) → slicesOf s ≤ 6
-unfolding slicesOf
-slices-most s = either (λ (n : ℕ). n ≤ 6) (eqb (s .kind) 1) 6 1 (λ e. omega arith) (λ e. omega arith)
+    part-size : stamp + n - stamp ≡ stampCount (tilingOf s level)
+    part-size = omega (arith, count-known n e)
 
--- a subresource's page is one of the history's
-pub place-in : (s : VersionShape) (slice level : ℕ) → slice < slicesOf s → level < s .levels → gridPlace s slice level < gridCount s
-unfolding gridCount
-place-in s slice level p q = omega (arith, tile-place (s .levels) (slicesOf s) level slice q p, mul-comm (s .levels) (slicesOf s))
+    -- the part that the code cuts out has the level's stamps
+    pub part-ready : AxisOk across × AxisOk down × (stampCount (tiled across down) ≤ length part)
+    part-ready =
+        let long = length-take-le (stamp + n - stamp) (drop stamp stamps) (omega (arith, part-size, length-drop stamp stamps)) in
+        (axes-ok .0, axes-ok .1, omega (arith, long, part-size, ap stampCount tiling))
 
-pub pages-most : (s : VersionShape) → isShape s ≡ true → gridCount s ≤ 90
-unfolding gridCount
-pages-most s e = omega (arith, mul-le-mul (slices-most s) (shape-bounds s e .levels-bound))
+    -- and so the level's grid
+    pub part-box : (newest : List ℕ) (grid held : ℕ)
+        → boxSince (tiled across down) held (gridIn (tiled across down) (getD newest grid 0) part)
+        ≡ boxSince (tilingOf s level) held (gridOn s level newest stamps grid stamp)
+    unfolding gridOn gridIn
+    part-box newest grid held =
+        ap₂ (λ (g : Tiling) (k : ℕ). boxSince g held (gridIn g (getD newest grid 0) (take k (drop stamp stamps)))) tiling part-size
+        ∙ ap (boxSince (tilingOf s level) held)
+        (λ i. record { newest = getD newest grid 0; stamps = take-take (stampCount (tilingOf s level)) (stampCount (tilingOf s level)) (drop stamp stamps) (omega arith) i })
 
-pub since-fits : (since : Since) (page held pages n m : ℕ) → since ≡ After page held → SinceFits since pages n m → (page + pages ≤ n) × (pageStamps * n ≤ m)
-since-fits since page held pages n m e f = rw e at f
+-- ---- from grid to grid
 
--- where a subresource's page stands in the lent slices
-pub record PageIn (s : VersionShape) (slice level page n m : ℕ) : Type 0 where
-  pub product : slice * s .levels ≤ 90
-  pub levels : level ≤ 15
-  pub place : page + gridPlace s slice level < n
-  pub room : pageStamps * (page + gridPlace s slice level) + pageStamps ≤ m
+pub next-after : (s : VersionShape) (level : ℕ) (since : Since) (grid stamp held n : ℕ) → since ≡ After grid stamp held → n ≡ stampCount (tilingOf s level)
+    → After (grid + 1) (stamp + n) held ≡ nextSince s level since
+next-after s level since grid stamp held n e f =
+    ap (λ (k : ℕ). After (grid + 1) (stamp + k) held) f ∙ sym (ap (nextSince s level) e)
 
-pub page-in : (s : VersionShape) (slice level : ℕ) (since : Since) (page held n m : ℕ) → isShape s ≡ true → slice < slicesOf s → level < s .levels
-    → SinceFits since (gridCount s) n m → since ≡ After page held → PageIn s slice level page n m
-page-in s slice level since page held n m shaped p q fits e =
-    let f = since-fits since page held (gridCount s) n m e fits in
-    let i = place-in s slice level p q in
-    let most = pages-most s shaped in
-    record {
-      product = omega arith;
-      levels = omega (arith, shape-bounds s shaped .levels-bound);
-      place = omega arith;
-      room = omega arith;
-    }
+pub next-nothing : (s : VersionShape) (level : ℕ) (since : Since) → since ≡ Nothing → Nothing ≡ nextSince s level since
+next-nothing s level since e = sym (ap (nextSince s level) e)
+
+module _ (s : VersionShape) where
+  first-start : gridStart s 0 ≡ 0
+  first-start =
+      let a : 0 * s .levels + 0 ≡ 0 = omega (arith, zero-mul (s .levels)) in
+      let b = grid-start s 0 0 (omega arith) (omega (arith, a)) in
+      omega (arith, ap (gridStart s) a, b, zero-mul (levelStart s (s .levels)), level-none s)
+
+  pub since-first : (since : Since) → sinceAt s since 0 ≡ since
+  since-first Nothing = refl
+  since-first (After grid stamp held) =
+      ap₂ (λ (g n : ℕ). After g n held) (add-zero grid) (ap (λ (n : ℕ). stamp + n) first-start ∙ add-zero stamp)
+
+  pub since-next : (since : Since) (k level : ℕ) → k < gridCount s → level ≡ k % s .levels → nextSince s level (sinceAt s since k) ≡ sinceAt s since (k + 1)
+  unfolding gridSize
+  since-next Nothing k level h e = refl
+  since-next (After grid stamp held) k level h e =
+      ap₂ (λ (g n : ℕ). After g n held) (add-assoc grid k 1)
+      (let a = ap (λ (m : ℕ). stampCount (tilingOf s m)) e in
+      let b = grid-next s k h in
+      let c = ap (gridStart s) (add-one k) in
+      let d : stamp + gridStart s k + stampCount (tilingOf s level) ≡ stamp + gridStart s (k + 1) = omega (arith, a, b, c) in d)
+
+  pub since-fits : (since : Since) (n m k level : ℕ) → SinceFits since s n m → k < gridCount s → level ≡ k % s .levels
+      → GridFits (sinceAt s since k) (stampCount (tilingOf s level)) n m
+  unfolding gridSize
+  since-fits Nothing n m k level f h e = tt
+  since-fits (After grid stamp held) n m k level f h e =
+      (omega (arith, f .0), omega (arith, f .1, grid-end s k h, ap (λ (m : ℕ). stampCount (tilingOf s m)) e))
+
+-- ---- from subresource to subresource
+
+pub place-slice : (slice level n : ℕ) → level < n → (slice * n + level) / n ≡ slice
+place-slice slice level n h = mul-add-div-right (omega arith) slice level ∙ ap (λ (q : ℕ). slice + q) (div-eq-of-lt h) ∙ add-zero slice
+
+-- the k-th subresource, by slice and level
+pub record IsPlace (levels k slice level : ℕ) : Type 0 where
+  pub inside : level < levels
+  pub below : slice ≤ k
+  pub place : slice * levels + level ≡ k
+
+module _ (levels k slice level : ℕ) (p : IsPlace levels k slice level) where
+  pub slice-of : slice ≡ k / levels
+  slice-of = sym (place-slice slice level levels (p .inside)) ∙ ap (λ (n : ℕ). n / levels) (p .place)
+
+  pub level-of : level ≡ k % levels
+  level-of = sym (place-level slice level levels (p .inside)) ∙ ap (λ (n : ℕ). n % levels) (p .place)
+
+  pub next-place : (a b : ℕ) → a ≤ slice + 1 → b < levels → a * levels + b ≡ slice * levels + level + 1 → IsPlace levels (k + 1) a b
+  next-place a b h q e = record { inside = q; below = omega (arith, p .below); place = omega (arith, e, p .place) }
+
+pub first-place : (levels : ℕ) → 1 ≤ levels → IsPlace levels 0 0 0
+first-place levels h = record { inside = omega arith; below = omega arith; place = omega (arith, zero-mul levels) }

@@ -2,57 +2,80 @@
 use mathlib.Core.Path.{_≡_, refl, sym, ap, ap₂, _∙_}
 use mathlib.Core.Bool.{Bool, true, false, cond, not, _&&_}
 use mathlib.Core.List.{List, [], _++_, flatMap}
-use Prim.Native.Nat.{ℕ, zero, suc, _+_, _*_, _/_, _≤_, _<_}
-use native.Mathlib.Nat.{add-zero, zero-add, suc-mul, zero-mul, mul-one, mul-add-mod-self-right, mod-eq-of-lt}
+use Prim.Native.Nat.{ℕ, zero, suc, _+_, _*_, _/_, _%_, _≤_, _<_}
+use native.Mathlib.Nat.{add-zero, zero-add, suc-mul, zero-mul, mul-one, mul-comm}
 use native.Mathlib.Omega.{arith}
 use borrow.Author.Tests.{not-false, ltb-false}
 use lib.Dec.{ltb}
-use lib.ListN.{length, getD, length-append}
+use lib.ListN.{length, drop, getD, length-append}
 use Rattle.base_blocks.specs.Lists.{listed}
+use Rattle.base_blocks.proofs.Listed.{listed-split, getD-listed}
 use Rattle.grid_shapes.specs.declared.shape.VersionShape.{VersionShape}
 use Rattle.grid_shapes.specs.Shapes.{isShape, slicesOf}
 use Rattle.grid_stamps.specs.declared.since.Dirty.{Dirty}
 use Rattle.grid_stamps.specs.declared.since.Dirty.the-variants.{Box, Clean}
 use Rattle.grid_stamps.specs.Grids.{StampGrid, tilingOf, gridIn, boxSince}
+use Rattle.grid_stamps.proofs.RowByRow.{tile-place}
 use Rattle.pool_rules.specs.declared.held.Held.{Held}
 use Rattle.pool_rules.specs.declared.held.Held.the-variants.{Known, Unknown}
 use Rattle.pool_rules.specs.Model.{PoolModel, Out, refused, accepted, guard, find, PreserveCopy, UploadFootprint, gridCount}
 use Rattle.pool_rules.specs.Histories.{inShape, gridPlace, gridAt}
+use Rattle.pool_rules.specs.HistorySizes.{gridStart}
 use Rattle.pool_rules.specs.PreservePlan.{covers, boxCopy, copyOf, copies, planFound, preservePlan}
+use Rattle.pool_rules.proofs.GridPlaces.{place-level}
 use Rattle.pool_memory.specs.Lent.{Lent}
-use Rattle.pool_memory.specs.Reading.{pageAt, gridRead, modelOf, gridOn}
+use Rattle.pool_memory.specs.Reading.{gridRead, modelOf, gridOn}
 use Rattle.pool_memory.specs.IsPool.{isPool}
 use Rattle.pool_memory.specs.Calls.{refusedWith, answer, copyNumbers, inBuffer, preservePlanOn}
 use Rattle.pool_memory.proofs.Fits.{Fits}
-use Rattle.pool_memory.proofs.FromPool.{pool-fits, grid-place}
+use Rattle.pool_memory.proofs.FromPool.{pool-fits}
+use Rattle.pool_memory.proofs.Parts.{flat-append}
 use Rattle.pool_memory.proofs.Stays.{nothing-changed}
+use Rattle.pool_memory.proofs.Written.{noGrid}
 use Rattle.pool_memory.proofs.Asked.{asked-refused, asked-accepted}
 use Rattle.pool_preserve_plan.specs.declared.copy.Planned.the-variants.{Skipped}
 use Rattle.pool_preserve_plan.specs.declared.since.Since.{Since}
 use Rattle.pool_preserve_plan.specs.declared.history.Found.{Found}
 use Rattle.pool_preserve_plan.specs.declared.history.Found.the-variants.{OtherShape, NothingRecorded, History}
-use Rattle.pool_preserve_plan.specs.Copies.{SinceFits, boxPlanned, plannedSince, plannedAt, copyList, inOrder, copiesAt, sliceCopies, lentCopies, withCopies}
+use Rattle.pool_preserve_plan.specs.Copies.{sinceAt, boxPlanned, plannedSince, plannedAt, copyList, inOrder, copiesAt, lentCopies, withCopies}
+use Rattle.pool_preserve_plan.proofs.Planned.{place-slice}
 use Rattle.pool_preserve_plan.proofs.Passes.{list-most, with-front}
-use Rattle.pool_preserve_plan.proofs.Finding.{historyIn, spent-found, foundIn, plan-found, found-fits}
-use Rattle.grid_stamps.specs.StampConstants.{pageStamps}
+use Rattle.pool_preserve_plan.proofs.Finding.{historyIn, spent-found, foundIn, plan-found}
 use Rattle.pool_memory.specs.MemoryConstants.{copyStride}
 use Rattle.pool_preserve_plan.specs.PlanRefusal.{sinceOf, isOther, skipsSpent, planRefusal}
 
 -- ---- in order
 
--- two that agree
-in-order-same : (f g : ℕ → List PreserveCopy) (n : ℕ) → ((k : ℕ) → k < n → f k ≡ g k) → inOrder f n ≡ flatMap g (listed (λ (k : ℕ). k) 0 n)
-unfolding inOrder flatMap listed
-in-order-same f g n h = go n 0 (λ j q. ap f (zero-add j) ∙ h j q ∙ ap g (sym (zero-add j)))
+-- two that agree, each from its own place on
+each-same : (f g : ℕ → List PreserveCopy) (n i k : ℕ) → ((j : ℕ) → j < n → f (i + j) ≡ g (k + j))
+    → flatMap f (listed (λ (m : ℕ). m) i n) ≡ flatMap g (listed (λ (m : ℕ). m) k n)
+unfolding flatMap listed
+each-same f g zero i k h = refl
+each-same f g (suc n) i k h =
+    ap₂ (λ (a b : List PreserveCopy). a ++ b) (ap f (sym (add-zero i)) ∙ h 0 (omega arith) ∙ ap g (add-zero k))
+    (each-same f g n (suc i) (suc k) (λ j q. ap f (next i j) ∙ h (suc j) (omega arith) ∙ ap g (sym (next k j))))
   where
-    go : (n i : ℕ) → ((j : ℕ) → j < n → f (i + j) ≡ g (i + j)) → flatMap f (listed (λ (k : ℕ). k) i n) ≡ flatMap g (listed (λ (k : ℕ). k) i n)
-    go zero i h = refl
+    next : (i j : ℕ) → suc i + j ≡ i + suc j
+    next i j = omega arith
+
+-- n rows of m, one behind the other
+rows-same : (f : ℕ → List PreserveCopy) (g : ℕ → ℕ → List PreserveCopy) (n m : ℕ) → ((i j : ℕ) → i < n → j < m → f (i * m + j) ≡ g i j)
+    → inOrder f (n * m) ≡ flatMap (λ (i : ℕ). flatMap (g i) (listed (λ (k : ℕ). k) 0 m)) (listed (λ (k : ℕ). k) 0 n)
+unfolding inOrder flatMap listed
+rows-same f g n m h =
+    ap (λ (k : ℕ). flatMap f (listed (λ (k : ℕ). k) k (n * m))) (sym (zero-mul m)) ∙ go n 0 (λ i j p q. h i j (omega (arith, p)) q)
+  where
+    go : (n i : ℕ) → ((a j : ℕ) → a < i + n → j < m → f (a * m + j) ≡ g a j)
+        → flatMap f (listed (λ (k : ℕ). k) (i * m) (n * m)) ≡ flatMap (λ (i : ℕ). flatMap (g i) (listed (λ (k : ℕ). k) 0 m)) (listed (λ (k : ℕ). k) i n)
+    go zero i h = ap (λ (k : ℕ). flatMap f (listed (λ (k : ℕ). k) (i * m) k)) (zero-mul m)
     go (suc n) i h =
-        ap₂ (λ (a b : List PreserveCopy). a ++ b) (ap f (sym (add-zero i)) ∙ h 0 (omega arith) ∙ ap g (add-zero i))
-        (go n (suc i) (λ j q. ap f (next i j) ∙ h (suc j) (omega arith) ∙ ap g (sym (next i j))))
-      where
-        next : (i j : ℕ) → suc i + j ≡ i + suc j
-        next i j = omega arith
+        ap (λ (k : ℕ). flatMap f (listed (λ (k : ℕ). k) (i * m) k)) (let e : suc n * m ≡ m + n * m = omega (arith, suc-mul n m) in e)
+        ∙ ap (flatMap f) (listed-split (λ (k : ℕ). k) (i * m) m (n * m))
+        ∙ flat-append f (listed (λ (k : ℕ). k) (i * m) m) (listed (λ (k : ℕ). k) (i * m + m) (n * m))
+        ∙ ap₂ (λ (a b : List PreserveCopy). a ++ b)
+        (each-same f (g i) m (i * m) 0 (λ j q. h i j (omega arith) q ∙ ap (g i) (sym (zero-add j))))
+        (ap (λ (k : ℕ). flatMap f (listed (λ (k : ℕ). k) k (n * m))) (let e : i * m + m ≡ suc i * m = omega (arith, suc-mul i m) in e)
+        ∙ go n (suc i) (λ a j p q. h a j (omega (arith, p)) q))
 
 -- at most m of each
 in-order-most : (f : ℕ → List PreserveCopy) (m : ℕ) → ((k : ℕ) → length (f k) ≤ m) → (n : ℕ) → length (inOrder f n) ≤ n * m
@@ -63,21 +86,16 @@ in-order-most f m h n = go 0 n
     go i zero = omega (arith, zero-mul m)
     go i (suc n) = omega (arith, go (suc i) n, h i, suc-mul n m, length-append (f i) (flatMap f (listed (λ (k : ℕ). k) (suc i) n)))
 
-slice-most : (newest stamps : List ℕ) (s : VersionShape) (since : Since) (u : UploadFootprint) (slice : ℕ)
-    → length (sliceCopies newest stamps s since u slice) ≤ s .levels
-unfolding sliceCopies copiesAt
-slice-most newest stamps s since u slice =
-    omega (
-      arith,
-      in-order-most (copiesAt newest stamps s since u slice) 1 (λ level. list-most (plannedAt newest stamps s since u slice level) slice level) (s .levels),
-      mul-one (s .levels),
-    )
-
 pub copies-most : (newest stamps : List ℕ) (s : VersionShape) (since : Since) (u : UploadFootprint)
     → length (lentCopies newest stamps s since u) ≤ gridCount s
-unfolding lentCopies gridCount
+unfolding lentCopies copiesAt
 copies-most newest stamps s since u =
-    in-order-most (sliceCopies newest stamps s since u) (s .levels) (slice-most newest stamps s since u) (slicesOf s)
+    omega (
+      arith,
+      in-order-most (copiesAt newest stamps s since u) 1
+          (λ k. list-most (plannedAt newest stamps s (sinceAt s since k) u (k / s .levels) (k % s .levels)) (k / s .levels) (k % s .levels)) (gridCount s),
+      mul-one (gridCount s),
+    )
 
 -- ---- one subresource
 
@@ -86,46 +104,54 @@ unfolding copyList boxPlanned boxCopy
 box-list s slice level Clean = refl
 box-list s slice level (Box r) = refl
 
-module _ (l : Lent) (paged : pageStamps * length (l .newest) ≡ length (l .stamps)) (s : VersionShape) (shaped : isShape s ≡ true) where
-  -- the grid on the page is the model's
-  grid-same : (page n slice level : ℕ) → page + gridCount s ≤ length (l .newest) → slice < slicesOf s → level < s .levels
-      → gridOn s level (l .newest) (l .stamps) (page + gridPlace s slice level)
-      ≡ gridAt s (record { writes = n; grids = listed (gridRead l s page) 0 (gridCount s) }) slice level
-  unfolding gridOn gridRead
-  grid-same page n slice level room p q =
+module _ (l : Lent) (s : VersionShape) where
+  -- the grid that stands there is the model's
+  grid-same : (grid stamp n slice level : ℕ) → slice < slicesOf s → level < s .levels
+      → gridOn s level (l .newest) (l .stamps) (grid + gridPlace s slice level) (stamp + gridStart s (gridPlace s slice level))
+      ≡ gridAt s (record { writes = n; grids = listed (gridRead l s grid stamp) 0 (gridCount s) }) slice level
+  unfolding gridOn gridRead gridAt gridCount
+  grid-same grid stamp n slice level p q =
       let k = gridPlace s slice level in
-      ap (λ (m : ℕ). gridIn (tilingOf s m) (getD (l .newest) (page + k) 0) (pageAt (l .stamps) (page + k)))
-      (sym (mul-add-mod-self-right slice (s .levels) level ∙ mod-eq-of-lt q))
-      ∙ sym (grid-place l paged s shaped page room n slice level p q .1)
+      let inside : k < slicesOf s * s .levels = omega (arith, tile-place (s .levels) (slicesOf s) level slice q p, mul-comm (s .levels) (slicesOf s)) in
+      ap (λ (m : ℕ). gridIn (tilingOf s m) (getD (l .newest) (grid + k) 0) (drop (stamp + gridStart s k) (l .stamps))) (sym (place-level slice level (s .levels) q))
+      ∙ ap (gridRead l s grid stamp) (sym (zero-add k))
+      ∙ sym (getD-listed (gridRead l s grid stamp) 0 (slicesOf s * s .levels) k noGrid inside)
 
-  since-list : (f : Found) (held : Held) (slice level : ℕ) → SinceFits (sinceOf f held) (gridCount s) (length (l .newest)) (length (l .stamps))
-      → slice < slicesOf s → level < s .levels
-      → copyList (plannedSince (l .newest) (l .stamps) s (sinceOf f held) slice level) slice level ≡ copyOf s (historyIn l s f) held slice level
+  since-list : (f : Found) (held : Held) (slice level : ℕ) → slice < slicesOf s → level < s .levels
+      → copyList (plannedSince (l .newest) (l .stamps) s (sinceAt s (sinceOf f held) (gridPlace s slice level)) level) slice level
+      ≡ copyOf s (historyIn l s f) held slice level
   unfolding copyList copyOf
-  since-list OtherShape held slice level fits p q = refl
-  since-list NothingRecorded held slice level fits p q = refl
-  since-list (History page n) Unknown slice level fits p q = refl
-  since-list (History page n) (Known k) slice level fits p q =
-      box-list s slice level (boxSince (tilingOf s level) k (gridOn s level (l .newest) (l .stamps) (page + gridPlace s slice level)))
-      ∙ ap (λ (g : StampGrid). boxCopy s slice level (boxSince (tilingOf s level) k g)) (grid-same page n slice level (fits .0) p q)
+  since-list OtherShape held slice level p q = refl
+  since-list NothingRecorded held slice level p q = refl
+  since-list (History grid stamp n) Unknown slice level p q = refl
+  since-list (History grid stamp n) (Known k) slice level p q =
+      let at = gridPlace s slice level in
+      box-list s slice level (boxSince (tilingOf s level) k (gridOn s level (l .newest) (l .stamps) (grid + at) (stamp + gridStart s at)))
+      ∙ ap (λ (g : StampGrid). boxCopy s slice level (boxSince (tilingOf s level) k g)) (grid-same grid stamp n slice level p q)
 
-  module _ (f : Found) (held : Held) (u : UploadFootprint) (fits : SinceFits (sinceOf f held) (gridCount s) (length (l .newest)) (length (l .stamps))) where
+  module _ (f : Found) (held : Held) (u : UploadFootprint) where
+    abbrev from : ℕ → Since
+    from k = sinceAt s (sinceOf f held) k
+
     at-list : (slice level : ℕ) → slice < slicesOf s → level < s .levels
-        → copiesAt (l .newest) (l .stamps) s (sinceOf f held) u slice level ≡ cond (covers u slice level) [] (copyOf s (historyIn l s f) held slice level)
+        → copiesAt (l .newest) (l .stamps) s (sinceOf f held) u (slice * s .levels + level) ≡ cond (covers u slice level) [] (copyOf s (historyIn l s f) held slice level)
     unfolding copiesAt plannedAt copyList
-    at-list slice level p q = go (covers u slice level)
+    at-list slice level p q =
+        ap₂ (λ (a b : ℕ). copyList (plannedAt (l .newest) (l .stamps) s (from (slice * s .levels + level)) u a b) a b)
+        (place-slice slice level (s .levels) q) (place-level slice level (s .levels) q)
+        ∙ go (covers u slice level)
       where
-        go : (b : Bool) → copyList (cond b Skipped (plannedSince (l .newest) (l .stamps) s (sinceOf f held) slice level)) slice level
+        go : (b : Bool) → copyList (cond b Skipped (plannedSince (l .newest) (l .stamps) s (from (slice * s .levels + level)) level)) slice level
             ≡ cond b [] (copyOf s (historyIn l s f) held slice level)
         go true = refl
-        go false = since-list f held slice level fits p q
+        go false = since-list f held slice level p q
 
     -- the copies are the model's
     pub copies-same : lentCopies (l .newest) (l .stamps) s (sinceOf f held) u ≡ copies s (historyIn l s f) held u
-    unfolding lentCopies sliceCopies copies
+    unfolding lentCopies copies gridCount
     copies-same =
-        in-order-same (sliceCopies (l .newest) (l .stamps) s (sinceOf f held) u) _ (slicesOf s)
-        (λ slice p. in-order-same (copiesAt (l .newest) (l .stamps) s (sinceOf f held) u slice) _ (s .levels) (λ level q. at-list slice level p q))
+        rows-same (copiesAt (l .newest) (l .stamps) s (sinceOf f held) u)
+        (λ slice level. cond (covers u slice level) [] (copyOf s (historyIn l s f) held slice level)) (slicesOf s) (s .levels) at-list
 
 -- ---- the rule
 
@@ -189,7 +215,7 @@ module _ (l : Lent) (pool : isPool l ≡ true) (id : ℕ) (shape : VersionShape)
           plan-found l fits id shape held u room
           ∙ ap₂ (λ (cs : List PreserveCopy) (b : Bool).
           guard (isOther found) 4 (guard (ltb room (length cs)) 11 (guard (u .cover && inShape shape (u .slice) (u .level) && b) 12 (accepted cs (modelOf l)))))
-          (sym (copies-same l (fits .stamps) shape e found held u (found-fits l fits id shape held))) (spent-found l shape found)
+          (sym (copies-same l shape found held u)) (spent-found l shape found)
 
   -- a plan that is not refused has room
   pub plan-room : (room : ℕ) → number-of room ≡ 0 → (isShape shape ≡ true) × (length planned ≤ room)

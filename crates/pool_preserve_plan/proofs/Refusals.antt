@@ -1,19 +1,18 @@
 -- The number that a plan is refused by, test by test. Assumes nothing.
-use mathlib.Core.Path.{_≡_, ap}
+use mathlib.Core.Path.{_≡_}
 use mathlib.Core.Bool.{true, false}
 use mathlib.Core.List.{List}
-use Prim.Native.Nat.{ℕ, _*_, _≤_}
+use Prim.Native.Nat.{ℕ, _≤_}
 use native.Mathlib.Omega.{arith}
 use borrow.Author.Tests.{le-ltb}
 use lib.Dec.{ltb}
 use lib.ListN.{length}
 use Rattle.grid_shapes.specs.declared.shape.VersionShape.{VersionShape}
-use Rattle.grid_shapes.specs.Shapes.{isShape, slicesOf}
+use Rattle.grid_shapes.specs.Shapes.{isShape}
 use Rattle.pool_rules.specs.Model.{UploadFootprint, gridCount}
 use Rattle.pool_preserve_plan.specs.declared.since.Since.{Since}
 use Rattle.pool_preserve_plan.specs.declared.history.Found.{Found}
 use Rattle.pool_preserve_plan.specs.Copies.{lentCopies}
-use Rattle.pool_preserve_plan.proofs.Planned.{pages-most}
 use Rattle.pool_preserve_plan.proofs.Planning.{copies-most}
 use Rattle.pool_preserve_plan.specs.PlanRefusal.{isOther, skipsSpent, planRefusal}
 
@@ -42,12 +41,7 @@ module _ (s : VersionShape) (f : Found) (u : UploadFootprint) (count room : ℕ)
 
 -- ---- the room that always suffices
 
-pub most-product : (s : VersionShape) (n : ℕ) → n ≡ slicesOf s → isShape s ≡ true → n * s .levels ≤ 90
-unfolding gridCount
-most-product s n e shaped = omega (arith, pages-most s shaped, ap (λ (k : ℕ). k * s .levels) e)
-
-pub room-for-all : (newest stamps : List ℕ) (s : VersionShape) (since : Since) (u : UploadFootprint) (n room : ℕ) → n ≡ slicesOf s
-    → n * s .levels ≤ room → ltb room (length (lentCopies newest stamps s since u)) ≡ false
-unfolding gridCount
+pub room-for-all : (newest stamps : List ℕ) (s : VersionShape) (since : Since) (u : UploadFootprint) (n room : ℕ) → n ≡ gridCount s
+    → n ≤ room → ltb room (length (lentCopies newest stamps s since u)) ≡ false
 room-for-all newest stamps s since u n room e h =
-    le-ltb room (length (lentCopies newest stamps s since u)) (omega (arith, copies-most newest stamps s since u, ap (λ (k : ℕ). k * s .levels) e))
+    le-ltb room (length (lentCopies newest stamps s since u)) (omega (arith, copies-most newest stamps s since u, e))

@@ -3,7 +3,6 @@ use Prim.Native.Nat.{ℕ}
 use mathlib.Core.Bool.{Bool, true, false, cond, _&&_, not}
 use mathlib.Core.List.{List}
 use lib.Dec.{leb, ltb}
-use Rattle.base_blocks.specs.Lists.{total}
 use Rattle.grid_shapes.specs.declared.shape.VersionShape.{VersionShape}
 use Rattle.grid_shapes.specs.Shapes.{isShape, sameShape}
 use Rattle.pool_rules.specs.declared.held.Held.{Held}
@@ -13,7 +12,7 @@ use Rattle.pool_rules.specs.Histories.{inShape}
 use Rattle.pool_records.specs.declared.recorded.Recorded.{Recorded}
 use Rattle.pool_records.specs.declared.recorded.Recorded.the-variants.{Writes, NoHistory}
 use Rattle.pool_records.specs.declared.texture.TextureRecord.{TextureRecord}
-use Rattle.pool_records.specs.Texture.{textureIn, texturesIn, recordGrids}
+use Rattle.pool_records.specs.Texture.{textureIn, texturesIn}
 use Rattle.pool_records.specs.Find.{below, hasId}
 use Rattle.pool_preserve_plan.specs.declared.since.Since.{Since}
 use Rattle.pool_preserve_plan.specs.declared.since.Since.the-variants.{After, Nothing}
@@ -22,30 +21,28 @@ use Rattle.pool_preserve_plan.specs.declared.history.Found.the-variants.
 
 -- ---- the texture
 
-abbrev pub recordedFound : ℕ → Recorded → Found
-recordedFound page NoHistory = NothingRecorded
-recordedFound page (Writes n) = History page n
+abbrev pub recordedFound : ℕ → ℕ → Recorded → Found
+recordedFound grid stamp NoHistory = NothingRecorded
+recordedFound grid stamp (Writes n) = History grid stamp n
 
--- what the record of a texture whose pages begin at `page` says
-unfoldable pub foundOf : ℕ → VersionShape → TextureRecord → Found
-foundOf page shape t = cond (sameShape (t .shape) shape) (recordedFound page (t .history)) OtherShape
+-- what the record of a texture says
+unfoldable pub foundOf : VersionShape → TextureRecord → Found
+foundOf shape t = cond (sameShape (t .shape) shape) (recordedFound (t .grid) (t .stamp) (t .history)) OtherShape
 
 -- record i, if it is there and has the id
 unfoldable pub foundAt : List ℕ → ℕ → ℕ → VersionShape → ℕ → Found
-foundAt textures tracked id shape i =
-    cond (hasId textures tracked i id)
-    (foundOf (total recordGrids (texturesIn i textures)) shape (textureIn textures i)) NothingRecorded
+foundAt textures tracked id shape i = cond (hasId textures tracked i id) (foundOf shape (textureIn textures i)) NothingRecorded
 
 unfoldable pub historyFound : List ℕ → ℕ → ℕ → VersionShape → Found
 historyFound textures tracked id shape = foundAt textures tracked id shape (below id (texturesIn tracked textures))
 
 -- the copies are bounded where both are known
-abbrev pub sinceHeld : ℕ → Held → Since
-sinceHeld page (Known n) = After page n
-sinceHeld page Unknown = Nothing
+abbrev pub sinceHeld : ℕ → ℕ → Held → Since
+sinceHeld grid stamp (Known n) = After grid stamp n
+sinceHeld grid stamp Unknown = Nothing
 
 abbrev pub sinceOf : Found → Held → Since
-sinceOf (History page n) held = sinceHeld page held
+sinceOf (History grid stamp n) held = sinceHeld grid stamp held
 sinceOf NothingRecorded held = Nothing
 sinceOf OtherShape held = Nothing
 
@@ -54,10 +51,10 @@ sinceOf OtherShape held = Nothing
 abbrev pub isOther : Found → Bool
 isOther OtherShape = true
 isOther NothingRecorded = false
-isOther (History page n) = false
+isOther (History grid stamp n) = false
 
 abbrev pub isSpent : Found → Bool
-isSpent (History page n) = leb limit n
+isSpent (History grid stamp n) = leb limit n
 isSpent NothingRecorded = false
 isSpent OtherShape = false
 

@@ -1,15 +1,13 @@
 // One subresource's copy.
 ghost use mathlib.Core.Path.{_≡_};
-ghost use mathlib.Core.Bool.{true};
-ghost use Prim.Native.Nat.{_+_, _*_, _≤_, _<_};
+ghost use mathlib.Core.Bool.{true, cond};
 ghost use lib.ListN.{length};
-ghost use Rattle.grid_shapes.specs.Shapes.{isShape, slicesOf};
-ghost use Rattle.grid_stamps.specs.Grids.{tilingOf, boxSince};
-ghost use Rattle.pool_rules.specs.Model.{gridCount};
+ghost use Rattle.grid_shapes.specs.Shapes.{isShape};
+ghost use Rattle.grid_rects.specs.declared.rect.Region.the-variants.{Whole};
+ghost use Rattle.grid_stamps.specs.Grids.{tilingOf, stampCount};
 ghost use Rattle.pool_rules.specs.PreservePlan.{sameRect};
-ghost use Rattle.pool_preserve_plan.specs.Copies.{boxPlanned, SinceFits, footprint, plannedAt, copyNumbersOf};
-ghost use Rattle.grid_stamps.specs.StampConstants.{pageStamps};
-ghost use Rattle.pool_memory.specs.Reading.{gridOn};
+ghost use Rattle.pool_preserve_plan.specs.declared.copy.Planned.the-variants.{Skipped, Copied};
+ghost use Rattle.pool_preserve_plan.specs.Copies.{boxPlanned, GridFits, footprint, plannedAt, nextSince, copyNumbersOf};
 use crate::since::Since;
 use crate::since::Upload;
 use grid_rects::Region;
@@ -18,9 +16,9 @@ use grid_rects::level_rect;
 use grid_shapes::VersionShape;
 use grid_shapes::level_extent;
 use grid_stamps::Dirty;
-use grid_stamps::PAGE_STAMPS;
 use grid_stamps::across_axis;
 use grid_stamps::down_axis;
+use grid_stamps::stamp_count;
 use grid_views::written_since;
 use pool_memory::COPY_STRIDE;
 
@@ -28,6 +26,12 @@ use pool_memory::COPY_STRIDE;
 pub enum Planned {
     Skipped,
     Copied(Region),
+}
+
+// A subresource's copy, and what bounds the copies after it.
+pub struct Step {
+    pub planned: Planned,
+    pub since: Since,
 }
 
 // Tells whether two rectangles are equal.
@@ -52,28 +56,20 @@ fn box_planned(shape: VersionShape, level: u64, dirty: Dirty) -> Planned
     Planned::Copied(Region::Part(part))
 }
 
-// Returns the box of the tiles stamped after `held`, from the grid on page k.
-fn page_since(
-    newest: &[u64],
-    stamps: &[u64],
-    k: usize,
-    shape: VersionShape,
-    level: u64,
-    held: u64,
-) -> Dirty
-    requires { ⌜ (isShape shape ≡ true) × (k < length (now newest)) × (pageStamps * k + pageStamps ≤ length (now stamps)) ⌝ }
-    ensures { λ r. ⌜ r ≡ boxSince (tilingOf shape level) held (gridOn shape level (now (newest .entry)) (now (stamps .entry)) k) ⌝ }
+// Plans the copy where nothing is known: whole, unless the upload rewrites the level entirely.
+fn copy_unknown(covered: bool) -> Planned
+    ensures { λ r. ⌜ r ≡ cond covered Skipped (Copied Whole) ⌝ }
 {
-    let across = across_axis(shape, level);
-    let down = down_axis(shape, level);
-    let a = PAGE_STAMPS * k;
-    let e = a + PAGE_STAMPS;
-    written_since(&stamps[a..e], across, down, newest[k], held)
+    if covered {
+        return Planned::Skipped;
+    }
+    Planned::Copied(Region::Whole)
 }
 
 // Plans the copy of a slice's level: none where the upload rewrites it entirely, whole where nothing is known, otherwise the box of
 // what was written after the new version retired. A box that the upload's rectangle covers is copied still: the upload can decline
-// after the rename, and the version must be whole without it.
+// after the rename, and the version must be whole without it. The next grid begins where this one ends, so one tiling serves both;
+// where no grid is to come (`more`), a level that is left out needs none.
 pub fn copy_at(
     newest: &[u64],
     stamps: &[u64],
@@ -82,20 +78,45 @@ pub fn copy_at(
     upload: Upload,
     slice: u64,
     level: u64,
-) -> Planned
-    requires { ⌜ (isShape shape ≡ true) × (slice < slicesOf shape) × (level < shape .levels)
-        × SinceFits since (gridCount shape) (length (now newest)) (length (now stamps)) ⌝ }
-    ensures { λ r. ⌜ r ≡ plannedAt (now (newest .entry)) (now (stamps .entry)) shape since (footprint upload) slice level ⌝ }
+    more: bool,
+) -> Step
+    requires { ⌜ (isShape shape ≡ true) × GridFits since (stampCount (tilingOf shape level)) (length (now newest)) (length (now stamps)) ⌝ }
+    ensures { λ r. ⌜ (r .planned ≡ plannedAt (now (newest .entry)) (now (stamps .entry)) shape since (footprint upload) slice level)
+        × (more ≡ true → r .since ≡ nextSince shape level since) ⌝ }
 {
-    if upload.cover & ((slice == upload.slice) & (level == upload.level)) {
-        return Planned::Skipped;
-    }
-    let Since::After { page, held } = since else {
-        return Planned::Copied(Region::Whole);
+    let covered = upload.cover & ((slice == upload.slice) & (level == upload.level));
+    let Since::After { grid, stamp, held } = since else {
+        return Step {
+            planned: copy_unknown(covered),
+            since: Since::Nothing,
+        };
     };
-    let k = page + (slice * shape.levels + level) as usize;
-    let dirty = page_since(newest, stamps, k, shape, level, held);
-    box_planned(shape, level, dirty)
+    if covered & !more {
+        return Step {
+            planned: Planned::Skipped,
+            since,
+        };
+    }
+    let across = across_axis(shape, level);
+    let down = down_axis(shape, level);
+    let end = stamp + stamp_count(across, down) as usize;
+    let next = Since::After {
+        grid: grid + 1,
+        stamp: end,
+        held,
+    };
+    if covered {
+        return Step {
+            planned: Planned::Skipped,
+            since: next,
+        };
+    }
+    let dirty = written_since(&stamps[stamp..end], across, down, newest[grid], held);
+    let planned = box_planned(shape, level, dirty);
+    Step {
+        planned,
+        since: next,
+    }
 }
 
 // Returns the seven numbers of a copy: slice, level, whole or not, left, top, width, height.

@@ -1,17 +1,18 @@
 // How many copies a plan has, counted before any is written: a refusal leaves the buffer as it was.
 ghost use mathlib.Core.Path.{_≡_};
 ghost use mathlib.Core.Bool.{true};
-ghost use Prim.Native.Nat.{_≤_, _<_};
+ghost use Prim.Native.Nat.{_≤_};
 ghost use lib.ListN.{length};
-ghost use Rattle.grid_shapes.specs.Shapes.{isShape, slicesOf};
-ghost use Rattle.pool_rules.specs.Model.{gridCount};
-ghost use Rattle.pool_preserve_plan.specs.Copies.{SinceFits, footprint, copyList, sliceCopies, lentCopies};
+ghost use Rattle.grid_shapes.specs.Shapes.{isShape};
+ghost use Rattle.pool_preserve_plan.specs.Copies.{SinceFits, footprint, copyList, lentCopies};
 use crate::copy::Planned;
 use crate::copy::copy_at;
 use crate::since::Since;
 use crate::since::Upload;
+use crate::subresource::Subresource;
+use crate::subresource::next_subresource;
 use grid_shapes::VersionShape;
-use grid_shapes::slices;
+use pool_access::shape_grids;
 
 // Counts a subresource's copy: 1, or 0 if it is left out.
 fn copy_count(planned: Planned) -> usize
@@ -23,29 +24,7 @@ fn copy_count(planned: Planned) -> usize
     }
 }
 
-// Counts the copies of one slice.
-fn count_slice(
-    newest: &[u64],
-    stamps: &[u64],
-    shape: VersionShape,
-    since: Since,
-    upload: Upload,
-    slice: u64,
-) -> usize
-    requires { ⌜ (isShape shape ≡ true) × (slice < slicesOf shape) × SinceFits since (gridCount shape) (length (now newest)) (length (now stamps)) ⌝ }
-    ensures { λ r. ⌜ (r ≤ 15) × (r ≡ length (sliceCopies (now (newest .entry)) (now (stamps .entry)) shape since (footprint upload) slice)) ⌝ }
-{
-    let mut count = 0;
-    let mut level = 0;
-    while level < shape.levels {
-        let planned = copy_at(newest, stamps, shape, since, upload, slice, level);
-        count += copy_count(planned);
-        level += 1;
-    }
-    count
-}
-
-// Counts the copies of every slice.
+// Counts the copies of every slice and level.
 pub fn count_copies(
     newest: &[u64],
     stamps: &[u64],
@@ -53,15 +32,31 @@ pub fn count_copies(
     since: Since,
     upload: Upload,
 ) -> usize
-    requires { ⌜ (isShape shape ≡ true) × SinceFits since (gridCount shape) (length (now newest)) (length (now stamps)) ⌝ }
+    requires { ⌜ (isShape shape ≡ true) × SinceFits since shape (length (now newest)) (length (now stamps)) ⌝ }
     ensures { λ r. ⌜ r ≡ length (lentCopies (now (newest .entry)) (now (stamps .entry)) shape since (footprint upload)) ⌝ }
 {
-    let all = slices(shape);
+    let all = shape_grids(shape);
+    let levels = shape.levels;
+    let mut from = since;
+    let mut at = Subresource { slice: 0, level: 0 };
     let mut count = 0;
-    let mut slice = 0;
-    while slice < all {
-        count += count_slice(newest, stamps, shape, since, upload, slice);
-        slice += 1;
+    let mut k = 0;
+    while k < all {
+        let step = copy_at(
+            newest,
+            stamps,
+            shape,
+            from,
+            upload,
+            at.slice,
+            at.level,
+            k + 1 < all,
+        );
+        let planned = step.planned;
+        count += copy_count(planned);
+        from = step.since;
+        at = next_subresource(at, levels);
+        k += 1;
     }
     count
 }

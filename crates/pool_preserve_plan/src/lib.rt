@@ -6,6 +6,7 @@ mod history;
 mod plan_refusal;
 mod put_copies;
 mod since;
+mod subresource;
 
 pub use calls::preserve_plan::PlanAnswer;
 pub use calls::preserve_plan::preserve_plan;

@@ -4,7 +4,6 @@ ghost use mathlib.Core.Bool.{true};
 ghost use lib.Dec.{ltb};
 ghost use lib.ListN.{length};
 ghost use Rattle.grid_shapes.specs.Shapes.{isShape};
-ghost use Rattle.pool_rules.specs.Model.{gridCount};
 ghost use Rattle.pool_preserve_plan.specs.Copies.{SinceFits, footprint, lentCopies};
 ghost use Rattle.pool_preserve_plan.specs.PlanRefusal.{skipsSpent, planRefusal};
 use crate::count_copies::count_copies;
@@ -16,6 +15,7 @@ use crate::since::Upload;
 use grid_shapes::VersionShape;
 use grid_shapes::is_shape;
 use grid_shapes::slices;
+use pool_access::shape_grids;
 
 // Tells whether there are more copies than the buffer has room for. They are counted only where that could be: a plan has at most
 // one for each slice and level.
@@ -27,11 +27,10 @@ fn is_short(
     upload: Upload,
     room: usize,
 ) -> bool
-    requires { ⌜ (isShape shape ≡ true) × SinceFits since (gridCount shape) (length (now newest)) (length (now stamps)) ⌝ }
+    requires { ⌜ (isShape shape ≡ true) × SinceFits since shape (length (now newest)) (length (now stamps)) ⌝ }
     ensures { λ r. ⌜ r ≡ ltb room (length (lentCopies (now (newest .entry)) (now (stamps .entry)) shape since (footprint upload))) ⌝ }
 {
-    let most = (slices(shape) * shape.levels) as usize;
-    if most <= room {
+    if shape_grids(shape) <= room {
         return false;
     }
     room < count_copies(newest, stamps, shape, since, upload)
@@ -56,7 +55,7 @@ pub fn plan_refusal(
     upload: Upload,
     room: usize,
 ) -> u64
-    requires { ⌜ SinceFits since (gridCount shape) (length (now newest)) (length (now stamps)) ⌝ }
+    requires { ⌜ SinceFits since shape (length (now newest)) (length (now stamps)) ⌝ }
     ensures { λ r. ⌜ r ≡ planRefusal shape found (footprint upload)
         (length (lentCopies (now (newest .entry)) (now (stamps .entry)) shape since (footprint upload))) room ⌝ }
 {

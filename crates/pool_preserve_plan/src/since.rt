@@ -1,8 +1,13 @@
 // What a plan goes by.
 
-// What bounds the copies, where both are known: the first page of the texture's history, and the writes that the new version holds.
+// What bounds the copies, where both are known: where the next grid of the texture's history stands in `newest` and where its
+// stamps begin, and the writes that the new version holds.
 pub enum Since {
-    After { page: usize, held: u64 },
+    After {
+        grid: usize,
+        stamp: usize,
+        held: u64,
+    },
     Nothing,
 }
 

@@ -1,12 +1,12 @@
 -- `find_history` meets its contract. Assumes nothing.
-use mathlib.Core.Path.{_≡_, refl, sym, _∙_}
+use mathlib.Core.Path.{_≡_, sym, _∙_}
 use mathlib.Core.Bool.{true}
 use Prim.Native.Nat.{ℕ, _<_}
 use native.Mathlib.Omega.{arith}
 use borrow.Author.Tests.{not-true, not-false}
 use Rattle.pool_records.specs.declared.recorded.Recorded.the-variants.{Writes, NoHistory}
 use Rattle.pool_access.proofs.Ids as ids
-use Rattle.pool_preserve_plan.proofs.Finding.{found-none, found-other, found-recorded, found-place, pages-part}
+use Rattle.pool_preserve_plan.proofs.Finding.{found-none, found-other, found-recorded, found-place}
 use borrow.Author.Needs.{needs}
 use Rattle.pool_preserve_plan.proofs.history.find_history.Statement.{statement}
 use Rattle.pool_preserve_plan.proofs.history.find_history.Tie as tie
@@ -69,29 +69,21 @@ returns-3 c =
     let k = x .before .before in
     let a = entry k .args in
     sym (found-recorded (a .textures .now) (a .tracked) (a .id) (a .shape) (at k) (x .texture-at .result) (x .texture-at .ensures)
-    (sym (k .has-id .ensures) ∙ not-false _ (x .before .if1 .left)) NoHistory _
+    (sym (k .has-id .ensures) ∙ not-false _ (x .before .if1 .left)) NoHistory
     (sym (c .before .before .before .same-shape .ensures) ∙ not-false _ (c .before .before .if2 .left))
-    (c .enum-told .given .1) refl)
+    (c .enum-told .given .1))
     ∙ placed k
-
-pages-before-requires : tie.Need-pages-before-requires
-pages-before-requires c κs =
-    let x = c .before .before .before .before .before in
-    let k = x .before .before in
-    let a = entry k .args in
-    let i = within k (sym (k .has-id .ensures) ∙ not-false _ (x .before .if1 .left)) in
-    (omega (arith, entry k .pre .0, i), omega (arith, entry k .pre .2, pages-part (a .textures .now) (a .tracked) (at k) (omega (arith, i))))
 
 returns-4 : tie.Need-returns-4
 returns-4 c =
-    let x = c .before .before .before .before .before .before in
+    let x = c .before .before .before .before .before in
     let k = x .before .before in
     let a = entry k .args in
-    let h = c .before .before .history .given in
+    let h = c .before .history .given in
     sym (found-recorded (a .textures .now) (a .tracked) (a .id) (a .shape) (at k) (x .texture-at .result) (x .texture-at .ensures)
-    (sym (k .has-id .ensures) ∙ not-false _ (x .before .if1 .left)) (Writes (h .0 .0)) (c .pages-before .result)
-    (sym (c .before .before .before .before .before .same-shape .ensures) ∙ not-false _ (c .before .before .before .before .if2 .left))
-    (h .1) (c .pages-before .ensures))
+    (sym (k .has-id .ensures) ∙ not-false _ (x .before .if1 .left)) (Writes (h .0 .0))
+    (sym (c .before .before .before .before .same-shape .ensures) ∙ not-false _ (c .before .before .before .if2 .left))
+    (h .1))
     ∙ placed k
 
 pub find-history-spec : {M : Type 1} → statement M
@@ -107,5 +99,4 @@ find-history-spec =
     enum-known-history
     enum-told
     returns-3
-    pages-before-requires
     returns-4)

@@ -12,7 +12,9 @@ enum-told : tie.Need-enum-told
 enum-told c = search needs
 
 returns : tie.Need-returns
-returns c = sym (ap (sinceHeld (c .before .before .before .args .page)) (c .before .held .given .1))
+returns c =
+    let a = c .before .before .before .args in
+    sym (ap (sinceHeld (a .grid) (a .stamp)) (c .before .held .given .1))
 
 returns-2 : tie.Need-returns-2
 returns-2 c = search needs

@@ -1,5 +1,4 @@
 -- `preserve_plan` meets its contract: the number, the copies and their count are the rule's. Assumes nothing.
-use native.Mathlib.Omega.{arith}
 use Rattle.pool_memory.specs.Lent.{Lent, lent}
 use Rattle.pool_memory.proofs.Fits.{Fits}
 use Rattle.pool_memory.proofs.FromPool.{pool-fits}
@@ -28,7 +27,7 @@ find-history-requires : tie.Need-find-history-requires
 find-history-requires c κs =
     let s = c .before .before .before .before .before .before .before in
     let f = fit s in
-    (textures-fit (memory s) f, ids-ascend (memory s) f, omega (arith, f .claimed, f .pages, f .newest))
+    (textures-fit (memory s) f, ids-ascend (memory s) f)
 
 since-of-requires : tie.Need-since-of-requires
 since-of-requires c κs = search needs
