@@ -31,6 +31,8 @@ renamedRecord seq left t = record {
   due = t .due;
   spares = left;
   bytes = t .bytes;
+  grid = t .grid;
+  stamp = t .stamp;
 }
 
 -- what is asked: texture i and its spares are there, and their bytes are part of the parked ones
@@ -47,7 +49,8 @@ abbrev pub oneTaken : Pool → ℕ → Pool
 oneTaken c bytes = record {
   tracked = c .tracked;
   kept = c .kept - 1;
-  pages = c .pages;
+  grids = c .grids;
+  stamps = c .stamps;
   head = c .head;
   popped = c .popped;
   queued = c .queued;
