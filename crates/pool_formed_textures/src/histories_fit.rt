@@ -28,7 +28,7 @@ use pool_records::TEXTURE_STAMP_AT;
 use pool_records::TEXTURE_STRIDE;
 use pool_records::read_texture;
 
-// A grid of so many columns and rows, whose stamps stand at the front.
+// Tests a grid of so many columns and rows, whose stamps stand at the front.
 fn grid_fits(across: Axis, down: Axis, writes: u64, newest: u64, stamps: &[u64]) -> bool
     requires { ⌜ AxisOk across × AxisOk down × (stampCount (tiled across down) ≤ length (now stamps)) × (0 < stampCount (tiled across down)) ⌝ }
     ensures { λ r. ⌜ r ≡ isGrid writes (gridIn (tiled across down) newest (now (stamps .entry))) ⌝ }
@@ -39,8 +39,8 @@ fn grid_fits(across: Axis, down: Axis, writes: u64, newest: u64, stamps: &[u64])
     is_largest_stamp(stamps, across, down, newest)
 }
 
-// The grids of a history, which has just these newest and just these stamps. A level's tiles are worked out once, for where the next
-// grid begins and for the test.
+// Tests the grids of a history that has just these newest and just these stamps. Works out a level's tiles once, for the test and for where
+// the next grid begins.
 fn grids_fit(s: VersionShape, writes: u64, newest: &[u64], stamps: &[u64]) -> bool
     requires { ⌜ isShape s ≡ true ⌝ }
     ensures { λ r. ⌜ r ≡ gridsFit s writes (now (newest .entry)) (now (stamps .entry)) ⌝ }
@@ -68,7 +68,7 @@ fn grids_fit(s: VersionShape, writes: u64, newest: &[u64], stamps: &[u64]) -> bo
     stamps.len() == at
 }
 
-// The history of a record, which has just these newest and just these stamps: none without a history.
+// Tests the history of a record that has just these newest and just these stamps: none of either without a history.
 fn history_fits(p: &[u64], newest: &[u64], stamps: &[u64]) -> bool
     requires { ⌜ (textureStride ≤ length (now p)) × (isShape (readTexture (now p) .shape) ≡ true) ⌝ }
     ensures { λ r. ⌜ r ≡ historyFits (readTexture (now (p .entry)) .shape) (readTexture (now (p .entry)) .history) (now (newest .entry)) (now (stamps .entry)) ⌝ }
@@ -82,15 +82,15 @@ fn history_fits(p: &[u64], newest: &[u64], stamps: &[u64]) -> bool
     }
 }
 
-// A run that should begin at `at` and that ends at `end`, of which `used` are in use.
+// Tests that a run begins at `at`, and that its end is not before that nor past those in use.
 fn run_fits(start: u64, at: usize, end: usize, used: usize) -> bool
     ensures { λ r. ⌜ r ≡ runFits start at end used ⌝ }
 {
     (start == at as u64) & (at <= end) & (end <= used)
 }
 
-// The histories of the first n records, which have `grids` grids and `used` stamps. Each ends where the next record says that its own
-// begins, so that nothing is read before it is known to be in use.
+// Tests the histories of the first n records, which have `grids` grids and `used` stamps together. Takes each to end where the next record
+// says that its own begins, and tests that before it reads, so that nothing past those in use is read and no sum is needed.
 pub fn histories_fit(
     textures: &[u64],
     n: usize,

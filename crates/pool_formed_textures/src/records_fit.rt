@@ -20,7 +20,7 @@ use pool_records::TEXTURE_STRIDE;
 use pool_records::read_texture;
 use pool_rules::LIMIT;
 
-// The ids of the first n records ascend.
+// Tests that the ids of the first n records ascend.
 pub fn ids_ascend(textures: &[u64], n: usize) -> bool
     requires { ⌜ textureStride * n ≤ length (now textures) ⌝ }
     ensures { λ r. ⌜ r ≡ ascending idOf (texturesIn n (now (textures .entry))) ⌝ }
@@ -35,7 +35,7 @@ pub fn ids_ascend(textures: &[u64], n: usize) -> bool
     true
 }
 
-// A write count, if there is a history, is at most 2^48.
+// Tests that a write count, if there is a history, is at most 2^48.
 fn writes_fit(h: Recorded) -> bool
     ensures { λ r. ⌜ r ≡ writesFit h ⌝ }
 {
@@ -45,7 +45,7 @@ fn writes_fit(h: Recorded) -> bool
     }
 }
 
-// The record's shape passes refusal 2, its bytes are that shape's, and its other numbers are at most 2^48.
+// Tests that the record's shape passes refusal 2, its bytes are that shape's, and its other numbers are at most 2^48.
 fn is_record(p: &[u64]) -> bool
     requires { ⌜ textureStride ≤ length (now p) ⌝ }
     ensures { λ r. ⌜ r ≡ isRecord (readTexture (now (p .entry))) ⌝ }
@@ -64,7 +64,7 @@ fn is_record(p: &[u64]) -> bool
         & (t.bytes == shape_bytes(shape))
 }
 
-// Every one of the first n records does.
+// Tests every one of the first n records.
 pub fn records_fit(textures: &[u64], n: usize) -> bool
     requires { ⌜ textureStride * n ≤ length (now textures) ⌝ }
     ensures { λ r. ⌜ r ≡ all isRecord (texturesIn n (now (textures .entry))) ⌝ }
@@ -79,7 +79,7 @@ pub fn records_fit(textures: &[u64], n: usize) -> bool
     true
 }
 
-// The bytes of a record's spares.
+// Returns the bytes of a record's spares.
 pub fn record_bytes(p: &[u64]) -> u64
     requires { ⌜ (textureStride ≤ length (now p)) × (isShape (readTexture (now p) .shape) ≡ true) × (readTexture (now p) .spares ≤ mostPlaces)
         × (readTexture (now p) .bytes ≡ bytesOf (readTexture (now p) .shape)) ⌝ }

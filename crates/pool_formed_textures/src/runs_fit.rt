@@ -14,7 +14,7 @@ use base_tables::record_at;
 use pool_records::TEXTURE_SPARES_AT;
 use pool_records::TEXTURE_STRIDE;
 
-// The first n records claim just `kept` spares. What is left of them goes down, so that no sum can pass a word.
+// Tests that the first n records claim just `kept` spares. Counts down what is left of them, so that no sum can pass a word.
 pub fn runs_fit(textures: &[u64], n: usize, kept: usize) -> bool
     requires { ⌜ textureStride * n ≤ length (now textures) ⌝ }
     ensures { λ r. ⌜ r ≡ eqb kept (total recordSpares (texturesIn n (now (textures .entry)))) ⌝ }
@@ -33,7 +33,7 @@ pub fn runs_fit(textures: &[u64], n: usize, kept: usize) -> bool
     spares == 0
 }
 
-// The bytes of the first n textures' spares.
+// Returns the bytes of the first n textures' spares.
 pub fn parked_bytes(textures: &[u64], n: usize) -> u64
     requires { ⌜ (textureStride * n ≤ length (now textures)) × (all isRecord (texturesIn n (now textures)) ≡ true)
         × (total recordSpares (texturesIn n (now textures)) ≤ mostPlaces) ⌝ }
