@@ -17,6 +17,7 @@ use Rattle.base_tables.specs.Records.{recordAt}
 use Rattle.grid_shapes.specs.declared.shape.VersionShape.{VersionShape}
 use Rattle.grid_shapes.specs.Shapes.{sameShape, bytesOf}
 use Rattle.pool_rules.specs.Model.{Spare, VersionState, PoolModel, find, gridsUsed}
+use Rattle.pool_rules.specs.HistorySizes.{stampsUsed}
 use Rattle.pool_rules.specs.Updates.{withSpares, withRename, withTextures, withParked, change}
 use Rattle.pool_rules.specs.TakeSpare.{newest, others, takenBytes, takeSpare}
 use Rattle.pool_rules.proofs.States.{length-change, total-change, total-unchanged}
@@ -31,12 +32,13 @@ use Rattle.pool_memory.specs.Writing.{textureRecord, everySpare, poolAfter, spa
 use Rattle.pool_memory.specs.Calls.{Told, answer, TakenVersion, takenOf, takeSpareOn}
 use Rattle.pool_memory.proofs.Fits.{Fits}
 use Rattle.pool_memory.proofs.FromPool.{pool-fits}
-use Rattle.pool_memory.proofs.Runs.{sparesOf, spareCount, firstSpare, stateOf, tracked-model, kept-model, pages-model}
+use Rattle.pool_memory.proofs.Runs.{sparesOf, spareCount, firstSpare, firstGrid, firstStamp, stateOf, tracked-model, kept-model, grids-model, stamps-used-model}
 use Rattle.pool_memory.proofs.Kept.{keptHistory}
 use Rattle.pool_memory.proofs.Same.{doomed-model}
 use Rattle.pool_memory.proofs.Stays.{put-together, book-stays, ids-ascend, spares-stay, newest-stay, stamps-stay, retiring-stay, doomed-stay}
 use Rattle.pool_memory.proofs.Places.{changed}
-use Rattle.pool_memory.proofs.Changes.{textures-set, sparesBefore, sparesAt, every-taken, every-kept, spares-removed, newest-at, others-taken}
+use Rattle.pool_memory.proofs.Changes.{sparesBefore, sparesAt, every-taken, every-kept, spares-removed, newest-at, others-taken}
+use Rattle.pool_memory.proofs.Starts.{placedRecord, textures-set}
 use Rattle.pool_memory.proofs.Asked.{asked-accepted}
 use Rattle.pool_memory.proofs.Tracked.{record-read, spares-to, bytes-at, record-at, shape-at, count-at}
 use Rattle.pool_tracking.specs.Cases.{Accepted, recordOf, TrackedAt}
@@ -70,8 +72,9 @@ fewer [] = refl
 fewer (s ∷ []) = refl
 fewer (s ∷ t ∷ ts) = ap suc (fewer (t ∷ ts)) ∙ (let e : suc (suc (length ts) - 1) ≡ suc (suc (length ts)) - 1 = omega arith in e)
 
-renamed-record : (seq : ℕ) (u : VersionState ℕ) → textureRecord (renamedState seq u) ≡ renamedRecord seq (length (u .spares) - 1) (textureRecord u)
-renamed-record seq u = ap (λ (n : ℕ). renamedRecord seq n (textureRecord u)) (fewer (u .spares))
+renamed-record : (grid stamp seq : ℕ) (u : VersionState ℕ)
+    → textureRecord grid stamp (renamedState seq u) ≡ renamedRecord seq (length (u .spares) - 1) (textureRecord grid stamp u)
+renamed-record grid stamp seq u = ap (λ (n : ℕ). renamedRecord seq n (textureRecord grid stamp u)) (fewer (u .spares))
 
 -- a renamed record has its history still
 pub renamed-fits : (x t u : TextureRecord) (seq left : ℕ) → RecordedFits (u .history) → x ≡ renamedRecord seq left t → t ≡ u → RecordedFits (x .history)
@@ -162,9 +165,9 @@ module _ (l : Lent) (i id : ℕ) (shape : VersionShape) (records : Bool) (seq : 
   spares-counted : length (u .spares) ≡ count
   spares-counted = count-at l i (h .0)
 
-  record-left : textureRecord (renamedState seq u) ≡ renamedRecord seq (count - 1) t
+  record-left : placedRecord l i (renamedState seq u) ≡ renamedRecord seq (count - 1) t
   record-left =
-      renamed-record seq u
+      renamed-record (firstGrid l i) (firstStamp l i) seq u
       ∙ ap₂ (λ (n : ℕ) (r : TextureRecord). renamedRecord seq (n - 1) r) spares-counted
       (record-at l i (h .0) f)
 
@@ -177,7 +180,7 @@ module _ (l : Lent) (i id : ℕ) (shape : VersionShape) (records : Bool) (seq : 
       let kept = map-unchanged keptHistory id (renamedState seq) (λ (v : VersionState ℕ). refl) (modelOf l .textures) in
       put-together after-take l c (l .book) (renamedAt (l .textures) i seq) (l .retiring) (l .doomed) spares (l .newest) (l .stamps)
       e1 (book-stays l f after-take refl)
-      (ap (λ (r : TextureRecord). sets (l .textures) (textureStride * i) (writeTexture r)) (sym record-left) ∙ textures-set l after-take f i (renamedState seq u) (h .0) changed-there)
+      (ap (λ (r : TextureRecord). sets (l .textures) (textureStride * i) (writeTexture r)) (sym record-left) ∙ textures-set l after-take f i (renamedState seq u) (h .0) changed-there refl refl)
       (retiring-stay l f after-take refl refl) (doomed-stay l f after-take refl) e2 (newest-stay l f after-take kept) (stamps-stay l f after-take kept)
 
   kept-left : total spareCount (change id (renamedState seq) (modelOf l .textures)) + (count - (count - 1)) ≡ l .pool .kept
@@ -187,16 +190,19 @@ module _ (l : Lent) (i id : ℕ) (shape : VersionShape) (records : Bool) (seq : 
   tracked-left : l .pool .tracked ≡ length (change id (renamedState seq) (modelOf l .textures))
   tracked-left = sym (length-change id (renamedState seq) (modelOf l .textures) ∙ tracked-model l)
 
-  pages-left : l .pool .grids ≡ total gridsUsed (change id (renamedState seq) (modelOf l .textures))
-  pages-left =
-      sym (total-unchanged gridsUsed id (renamedState seq) (λ (v : VersionState ℕ). refl) (modelOf l .textures) ∙ pages-model l ∙ f .claimed)
+  grids-left : l .pool .grids ≡ total gridsUsed (change id (renamedState seq) (modelOf l .textures))
+  grids-left = sym (total-unchanged gridsUsed id (renamedState seq) (λ (v : VersionState ℕ). refl) (modelOf l .textures) ∙ grids-model l ∙ f .claimed)
+
+  stamps-left : l .pool .stamps ≡ total stampsUsed (change id (renamedState seq) (modelOf l .textures))
+  stamps-left =
+      sym (total-unchanged stampsUsed id (renamedState seq) (λ (v : VersionState ℕ). refl) (modelOf l .textures) ∙ stamps-used-model l ∙ f .stamps-claimed)
 
   counts-left : (kept parked : ℕ) → kept + (count - (count - 1)) ≡ l .pool .kept → parked ≡ after-take .parked
-      → counted (l .pool) (l .pool .tracked) kept (l .pool .grids) (l .pool .doomed) (l .pool .since) (l .pool .trackings) parked (l .pool .dooming) ≡ poolAfter after-take l
+      → counted (l .pool) (l .pool .tracked) kept (l .pool .grids) (l .pool .stamps) (l .pool .doomed) (l .pool .since) (l .pool .trackings) parked (l .pool .dooming) ≡ poolAfter after-take l
   unfolding modelOf
   counts-left kept parked e1 e2 =
-      ap (λ (n : ℕ). counted (l .pool) (l .pool .tracked) kept (l .pool .grids) (l .pool .doomed) (l .pool .since) (l .pool .trackings) n (l .pool .dooming)) e2
-      ∙ counts-after l f after-take refl refl refl refl (l .pool .tracked) kept (l .pool .grids) (l .pool .doomed) tracked-left (omega (arith, kept-left, e1)) pages-left
+      ap (λ (n : ℕ). counted (l .pool) (l .pool .tracked) kept (l .pool .grids) (l .pool .stamps) (l .pool .doomed) (l .pool .since) (l .pool .trackings) n (l .pool .dooming)) e2
+      ∙ counts-after l f after-take refl refl refl refl (l .pool .tracked) kept (l .pool .grids) (l .pool .stamps) (l .pool .doomed) tracked-left (omega (arith, kept-left, e1)) grids-left stamps-left
       (sym (doomed-model l)) (omega arith)
 
   -- the parked bytes, less those of what is taken

@@ -7,7 +7,6 @@ use lib.Dec.{eqb}
 use lib.ListN.{length}
 use lib.Seq.{sets}
 use Rattle.base_blocks.specs.Blocks.{moved}
-use Rattle.base_blocks.specs.Lists.{total}
 use Rattle.base_tables.specs.Records.{recordAt}
 use Rattle.pool_rules.specs.RuleConstants.{mostPlaces}
 use Rattle.pool_records.specs.declared.texture.TextureRecord.{TextureRecord}
@@ -15,7 +14,7 @@ use Rattle.pool_records.specs.declared.spare.SpareRecord.{SpareRecord}
 use Rattle.pool_records.specs.RecordConstants.{spareStride, textureStride}
 use Rattle.pool_records.specs.Recorded.{RecordedFits}
 use Rattle.pool_records.specs.Spare.{readSpare}
-use Rattle.pool_records.specs.Texture.{writeTexture, textureIn, texturesIn, sparesTo}
+use Rattle.pool_records.specs.Texture.{writeTexture, textureIn, sparesTo}
 use Rattle.pool_memory.specs.declared.pool.Pool.{Pool}
 use Rattle.pool_memory.specs.Calls.{Told, answer, TakenVersion}
 
@@ -31,6 +30,8 @@ renamedRecord seq left t = record {
   due = t .due;
   spares = left;
   bytes = t .bytes;
+  grid = t .grid;
+  stamp = t .stamp;
 }
 
 -- what is asked: texture i and its spares are there, and their bytes are part of the parked ones
@@ -47,7 +48,8 @@ abbrev pub oneTaken : Pool → ℕ → Pool
 oneTaken c bytes = record {
   tracked = c .tracked;
   kept = c .kept - 1;
-  pages = c .pages;
+  grids = c .grids;
+  stamps = c .stamps;
   head = c .head;
   popped = c .popped;
   queued = c .queued;

@@ -5,6 +5,7 @@ use native.Mathlib.Omega.{arith}
 use lib.ListN.{length}
 use Rattle.base_blocks.specs.Lists.{total}
 use Rattle.pool_rules.specs.Model.{PoolModel, gridsUsed, handCount}
+use Rattle.pool_rules.specs.HistorySizes.{stampsUsed}
 use Rattle.pool_memory.specs.declared.pool.Pool.{Pool as Counts}
 use Rattle.pool_memory.specs.Lent.{Lent}
 use Rattle.pool_memory.specs.Reading.{modelOf}
@@ -15,11 +16,12 @@ use Rattle.pool_memory.proofs.Same.{queued-model}
 use Rattle.pool_memory.proofs.Rings.{head-stays, hand-model, first-stays}
 
 -- the other counts set again
-abbrev pub counted : Counts → (tracked kept pages doomed since trackings parked dooming : ℕ) → Counts
-counted c tracked kept pages doomed since trackings parked dooming = record {
+abbrev pub counted : Counts → (tracked kept grids stamps doomed since trackings parked dooming : ℕ) → Counts
+counted c tracked kept grids stamps doomed since trackings parked dooming = record {
   tracked = tracked;
   kept = kept;
-  pages = pages;
+  grids = grids;
+  stamps = stamps;
   head = c .head;
   popped = c .popped;
   queued = c .queued;
@@ -33,25 +35,26 @@ counted c tracked kept pages doomed since trackings parked dooming = record {
   line = c .line;
 }
 
--- of them, the pages and the trackings
-abbrev pub begunCounts : Counts → (pages trackings : ℕ) → Counts
-begunCounts c pages trackings = counted c (c .tracked) (c .kept) pages (c .doomed) (c .since) trackings (c .parked) (c .dooming)
+-- of them, the grids, the stamps and the trackings
+abbrev pub begunCounts : Counts → (grids stamps trackings : ℕ) → Counts
+begunCounts c grids stamps trackings = counted c (c .tracked) (c .kept) grids stamps (c .doomed) (c .since) trackings (c .parked) (c .dooming)
 
 module _ (l : Lent) (f : Fits l) (p : PoolModel ℕ) (hand : p .hand ≡ modelOf l .hand) (queue : p .retiring ≡ modelOf l .retiring)
     (cap : l .pool .cap ≡ p .budget .cap) (line : l .pool .line ≡ p .budget .line) where
-  pub counts-after : (tracked kept pages doomed : ℕ) → tracked ≡ length (p .textures) → kept ≡ total spareCount (p .textures)
-      → pages ≡ total gridsUsed (p .textures) → doomed ≡ length (p .doomed) → l .pool .doomed ≤ doomed
-      → counted (l .pool) tracked kept pages doomed (p .since) (p .trackings) (p .parked) (p .dooming) ≡ poolAfter p l
+  pub counts-after : (tracked kept grids stamps doomed : ℕ) → tracked ≡ length (p .textures) → kept ≡ total spareCount (p .textures)
+      → grids ≡ total gridsUsed (p .textures) → stamps ≡ total stampsUsed (p .textures) → doomed ≡ length (p .doomed) → l .pool .doomed ≤ doomed
+      → counted (l .pool) tracked kept grids stamps doomed (p .since) (p .trackings) (p .parked) (p .dooming) ≡ poolAfter p l
   unfolding poolAfter
-  counts-after tracked kept pages doomed e1 e2 e3 e4 more = λ j. record {
+  counts-after tracked kept grids stamps doomed e1 e2 e3 e4 e5 more = λ j. record {
     tracked = e1 j;
     kept = e2 j;
-    pages = e3 j;
+    grids = e3 j;
+    stamps = e4 j;
     head = sym (head-stays l p (f .head) (omega (arith, hand-model l (f .hand), ap handCount hand))) j;
     popped = sym (ap handCount hand ∙ hand-model l (f .hand)) j;
     queued = sym (ap length queue ∙ queued-model l) j;
-    first = sym (first-stays l p (f .first) (omega (arith, e4))) j;
-    doomed = e4 j;
+    first = sym (first-stays l p (f .first) (omega (arith, e5))) j;
+    doomed = e5 j;
     since = p .since;
     trackings = p .trackings;
     parked = p .parked;

@@ -1,6 +1,7 @@
 pub mod Refusals
 pub mod Counts
 pub mod Tracked
+pub mod Ends
 pub mod Trackings
 pub mod Started
 pub mod Renewed

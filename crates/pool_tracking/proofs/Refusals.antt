@@ -1,20 +1,22 @@
 -- The rule by the number that refuses it: a number other than 0 is what the rule says, and 0 leaves the three cases. Assumes nothing.
-use mathlib.Core.Path.{_≡_, refl, sym, ap, _∙_}
-use mathlib.Core.Bool.{Bool, true, false, cond, _&&_, not}
+use mathlib.Core.Path.{_≡_, refl, sym, ap, _∙_, subst}
+use mathlib.Core.Bool.{Bool, true, false, cond, not}
 use mathlib.Core.Option.{Option, none, some}
-use Prim.Native.Nat.{ℕ, suc, _+_, _≤_, _<_}
+use Prim.Native.Nat.{ℕ, suc}
 use native.Mathlib.Omega.{arith}
-use borrow.Author.Tests.{ltb-false, leb-false, not-false}
+use borrow.Author.Tests.{not-false}
 use lib.Dec.{leb, ltb}
 use lib.ListN.{length}
-use Rattle.base_blocks.specs.Lists.{total}
 use Rattle.grid_shapes.specs.declared.shape.VersionShape.{VersionShape}
 use Rattle.grid_shapes.specs.Shapes.{isShape, sameShape, bytesOf}
-use Rattle.pool_rules.specs.Model.{Spare, VersionState, PoolModel, Out, refused, accepted, guard, find, limit, gridCount, gridsUsed}
+use Rattle.pool_rules.specs.Model.{Spare, VersionState, PoolModel, Out, refused, accepted, guard, find, limit}
+use Rattle.pool_rules.specs.HistorySizes.{stampsUsed}
 use Rattle.pool_rules.specs.Updates.{withTextures, withTrackings, change, insert, asDoomed, doomSpares}
 use Rattle.pool_rules.specs.TakeSpare.{newState, historyFull, takeRenewed, takeTracked, takeFound, takeSpare}
+use Rattle.pool_rules.specs.Formed.{Formed}
+use Rattle.pool_rules.specs.Closed.{OutFormed, formed}
+use Rattle.pool_rules.proofs.Renames.{take-spare-formed}
 use Rattle.pool_memory.proofs.Asked.{guard-passed}
-use Rattle.pool_tracking.specs.Begun.{freshPages}
 use Rattle.pool_tracking.specs.Refusal.{trackingRefusal, begunRefusal, foundRefusal, takeRefusal}
 
 -- ---- a refusal before others
@@ -52,9 +54,9 @@ module _ (p : PoolModel ℕ) (id : ℕ) (shape : VersionShape) (records : Bool) 
         (begun-refused 0 _) e
     found-refused (some t) e = go (sameShape (t .shape) shape) e
       where
-        go : (b : Bool) → cond b 0 (begunRefusal p shape records (gridsUsed t)) ≡ n → cond b (takeTracked p id seq t) (takeRenewed p id shape records seq t) ≡ refused n
+        go : (b : Bool) → cond b 0 (begunRefusal p shape records (stampsUsed t)) ≡ n → cond b (takeTracked p id seq t) (takeRenewed p id shape records seq t) ≡ refused n
         go true q = nothing-said n other q
-        go false q = begun-refused (gridsUsed t) _ q
+        go false q = begun-refused (stampsUsed t) _ q
 
     pub take-refused : takeRefusal p id shape records seq ≡ n → takeSpare p id shape records seq ≡ refused n
     unfolding takeRefusal takeSpare
@@ -90,7 +92,7 @@ module _ (p : PoolModel ℕ) (id : ℕ) (shape : VersionShape) (records : Bool) 
     take-tracked t q same =
         take-found ∙ ap (takeFound p id shape records seq) q ∙ ap (λ (b : Bool). cond b (takeTracked p id seq t) (takeRenewed p id shape records seq t)) same
 
-    -- a tracking begun: its number is not spent, and its pages are free
+    -- a tracking begun: neither stamps nor the count of trackings refuse it
     module _ (own : ℕ) (b : begunRefusal p shape records own ≡ 0) where
       begun-passed : (historyFull p shape records own ≡ false) × (leb limit (p .trackings) ≡ false)
       unfolding trackingRefusal
@@ -103,28 +105,11 @@ module _ (p : PoolModel ℕ) (id : ℕ) (shape : VersionShape) (records : Bool) 
           guard-passed (historyFull p shape records own) 6 (guard (leb limit (p .trackings)) 12 out) (begun-passed .0)
           ∙ guard-passed (leb limit (p .trackings)) 12 out (begun-passed .1)
 
-      pub counter-left : p .trackings < limit
-      counter-left = leb-false limit (p .trackings) (begun-passed .1)
-
-      pub pages-left : total gridsUsed (p .textures) ≤ p .places .pages + own → total gridsUsed (p .textures) + freshPages shape records ≤ p .places .pages + own
-      pages-left = go records (begun-passed .0)
-        where
-          go : (r : Bool) → r && ltb (p .places .pages + own) (total gridsUsed (p .textures) + gridCount shape) ≡ false → total gridsUsed (p .textures) ≤ p .places .pages + own
-              → total gridsUsed (p .textures) + freshPages shape r ≤ p .places .pages + own
-          go true q h = ltb-false (p .places .pages + own) (total gridsUsed (p .textures) + gridCount shape) q
-          go false q h = omega arith
-
     -- not tracked
     module _ (q : find id (p .textures) ≡ none) where
       new-passed : (leb (p .places .textures) (length (p .textures)) ≡ false) × (begunRefusal p shape records 0 ≡ 0)
       new-passed =
           passed-both (leb (p .places .textures) (length (p .textures))) 4 (begunRefusal p shape records 0) (ap (foundRefusal p shape records) (sym q) ∙ found-passed)
-
-      pub new-room : length (p .textures) < p .places .textures
-      new-room = leb-false (p .places .textures) (length (p .textures)) (new-passed .0)
-
-      pub new-begun : begunRefusal p shape records 0 ≡ 0
-      new-begun = new-passed .1
 
       pub take-new : takeSpare p id shape records seq
           ≡ accepted none (withTrackings (suc (p .trackings)) (withTextures (insert (newState id shape records (suc (p .trackings)) seq) (p .textures)) p))
@@ -133,13 +118,13 @@ module _ (p : PoolModel ℕ) (id : ℕ) (shape : VersionShape) (records : Bool) 
           take-found
           ∙ ap (takeFound p id shape records seq) q
           ∙ guard-passed (leb (p .places .textures) (length (p .textures))) 5 (guard (historyFull p shape records 0) 6 (guard (leb limit (p .trackings)) 12 out)) (new-passed .0)
-          ∙ begun-out 0 new-begun out
+          ∙ begun-out 0 (new-passed .1) out
 
     -- tracked with another shape
     module _ (t : VersionState ℕ) (q : find id (p .textures) ≡ some t) (other : sameShape (t .shape) shape ≡ false) where
-      pub renewed-begun : begunRefusal p shape records (gridsUsed t) ≡ 0
+      renewed-begun : begunRefusal p shape records (stampsUsed t) ≡ 0
       renewed-begun =
-          sym (ap (λ (b : Bool). cond b 0 (begunRefusal p shape records (gridsUsed t))) other) ∙ ap (foundRefusal p shape records) (sym q) ∙ found-passed
+          sym (ap (λ (b : Bool). cond b 0 (begunRefusal p shape records (stampsUsed t))) other) ∙ ap (foundRefusal p shape records) (sym q) ∙ found-passed
 
       abbrev pub renewedPool : PoolModel ℕ
       renewedPool =
@@ -152,4 +137,13 @@ module _ (p : PoolModel ℕ) (id : ℕ) (shape : VersionShape) (records : Bool) 
           take-found
           ∙ ap (takeFound p id shape records seq) q
           ∙ ap (λ (b : Bool). cond b (takeTracked p id seq t) (takeRenewed p id shape records seq t)) other
-          ∙ begun-out (gridsUsed t) renewed-begun (accepted none renewedPool)
+          ∙ begun-out (stampsUsed t) renewed-begun (accepted none renewedPool)
+
+-- ---- the pool after it is formed
+
+accepted-formed : {A : Type 0} {a : A} {p : PoolModel ℕ} → OutFormed (accepted a p) → Formed p
+accepted-formed (formed f) = f
+
+pub formed-then : (p q : PoolModel ℕ) (id : ℕ) (shape : VersionShape) (records : Bool) (seq : ℕ) (o : Option (Spare ℕ)) → Formed p
+    → takeSpare p id shape records seq ≡ accepted o q → Formed q
+formed-then p q id shape records seq o f e = accepted-formed (subst OutFormed e (take-spare-formed p f id shape records seq))

@@ -1,66 +1,73 @@
 -- take_spare for a texture tracked with another shape: what the rule leaves, slice by slice. Assumes nothing.
-use mathlib.Core.Path.{_≡_, refl, sym, ap, ap₂, _∙_}
-use mathlib.Core.Bool.{Bool, true, false}
+use mathlib.Core.Path.{_≡_, refl, sym, ap, ap₂, _∙_, subst}
+use mathlib.Core.Bool.{true, false}
 use mathlib.Core.Option.{none, some}
 use mathlib.Core.List.{List, _++_, map}
 use Prim.Native.Nat.{ℕ, suc, _+_, _*_, _-_, _^_, _/_, _≤_, _<_}
 use native.Mathlib.Nat.{mul-le-mul}
 use native.Mathlib.Numerals.{add-one}
 use native.Mathlib.Omega.{arith}
-use lib.ListN.{length, set, length-append}
+use lib.ListN.{length, set, replicate, length-append}
 use lib.Seq.{sets}
 use Rattle.base_blocks.specs.Lists.{listed, total, removed}
 use Rattle.base_blocks.specs.Blocks.{moved}
 use Rattle.base_tables.specs.Rings.{laid}
 use Rattle.grid_shapes.specs.declared.shape.VersionShape.{VersionShape}
 use Rattle.grid_shapes.specs.Shapes.{isShape, sameShape, bytesOf}
+use Rattle.grid_shapes.specs.ShapeConstants.{mostShapeBytes}
 use Rattle.grid_shapes.proofs.ShapeBytes.{bytes-bound}
-use Rattle.pool_rules.specs.Model.{Spare, Doomed, VersionState, PoolModel, find, limit, gridCount, gridsUsed, doomedBytes}
+use Rattle.pool_rules.specs.Model.{Spare, Doomed, VersionState, PoolModel, find, limit, gridCount, gridsUsed, doomedBytes, accepted}
+use Rattle.pool_rules.specs.RuleConstants.{mostPlaces}
+use Rattle.pool_rules.specs.HistorySizes.{stampsUsed}
+use Rattle.pool_rules.specs.Formed.{Formed}
 use Rattle.pool_rules.specs.Updates.{withTextures, withTrackings, change, asDoomed, doomSpares}
 use Rattle.pool_rules.specs.TakeSpare.{takeSpare}
+use Rattle.pool_rules.proofs.HistorySizes.{grids-most, newest-room}
 use Rattle.pool_rules.proofs.States.{length-change, total-change}
 use Rattle.pool_rules.proofs.Moves.{as-doomed-bytes, as-doomed-length}
 use Rattle.pool_records.specs.declared.texture.TextureRecord.{TextureRecord}
 use Rattle.pool_records.specs.declared.doomed.DoomedRecord.{DoomedRecord}
-use Rattle.pool_records.specs.Texture.{writeTexture, texturesIn, recordGrids}
+use Rattle.pool_records.specs.RecordConstants.{doomedStride, retiringStride, spareStride, textureStride}
+use Rattle.pool_records.specs.Texture.{writeTexture, recordGrids, recordStamps}
+use Rattle.pool_records.specs.Starts.{startsMoved, StartsMove}
 use Rattle.pool_records.specs.Doomed.{writeDoomed}
 use Rattle.pool_memory.specs.declared.pool.Pool.{Pool as Counts}
 use Rattle.pool_memory.specs.Lent.{Lent, lent, versionPlaces}
 use Rattle.pool_memory.specs.Reading.{spareRead, stateRead, modelOf}
-use Rattle.pool_memory.specs.Writing.{doomedRecord, everySpare, firstPage, sparesAfter, doomedAfter, poolAfter, lentAfter}
+use Rattle.pool_memory.specs.Writing.{doomedRecord, everySpare, newestOf, stampsOf, texturesAfter, sparesAfter, doomedAfter, newestAfter, stampsAfter, poolAfter, lentAfter}
 use Rattle.pool_memory.specs.Calls.{answer, takenOf, takeSpareOn}
 use Rattle.pool_memory.proofs.Fits.{Fits}
-use Rattle.pool_memory.proofs.FromPool.{pool-fits, page-places}
-use Rattle.pool_memory.proofs.Runs.{sparesOf, spareCount, firstSpare, firstGrid, stateOf, tracked-model, kept-model, pages-model}
+use Rattle.pool_memory.proofs.FromPool.{pool-fits}
+use Rattle.pool_memory.proofs.Runs.{sparesOf, spareCount, firstSpare, firstGrid, firstStamp, stateOf, tracked-model, kept-model, grids-model, stamps-used-model}
 use Rattle.pool_memory.proofs.Same.{doomed-model}
 use Rattle.pool_memory.proofs.Rings.{doomed-pushed}
-use Rattle.pool_memory.proofs.Stays.{put-together, book-stays, ids-ascend, retiring-stay, doomed-fit, doomed-bound}
+use Rattle.pool_memory.proofs.Stays.{put-together, book-stays, ids-ascend, textures-fit, retiring-stay, doomed-fit, doomed-bound}
 use Rattle.pool_memory.proofs.Places.{changed}
-use Rattle.pool_memory.proofs.Changes.{textures-set, sparesBefore, every-emptied, spares-removed}
-use Rattle.pool_memory.proofs.Pages.{gridCountAt, next-page, pages-in, set-parts}
-use Rattle.pool_memory.proofs.Fresh.{no-page-reshaped}
+use Rattle.pool_memory.proofs.Changes.{sparesBefore, every-emptied, spares-removed}
+use Rattle.pool_memory.proofs.HistoryRuns.{gridCountAt, stampCountAt, grids-in, stamps-in, newest-renewed, stamps-renewed}
+use Rattle.pool_memory.proofs.Starts.{placedRecord, textures-renewed, renewed-moves}
 use Rattle.pool_memory.proofs.Asked.{asked-accepted}
-use Rattle.pool_memory.proofs.Tracked.{record-read, spares-to, pages-to, bytes-at, shape-at, count-at, pages-at}
-use Rattle.pool_access.proofs.Fields.{pages-bound, claims-bound}
+use Rattle.pool_memory.proofs.Tracked.{record-read, spares-to, bytes-at, shape-at, count-at, grid-at, stamp-at, grids-at, stamps-at}
 use Rattle.pool_take_doomed.specs.Given.{givenRecords}
 use Rattle.pool_take_doomed.proofs.Pushed.{given-spares}
+use Rattle.pool_tracking.specs.declared.begun.NewTracking.{NewTracking}
 use Rattle.pool_tracking.specs.declared.holding.Holding.{Holding}
-use Rattle.pool_tracking.specs.Begun.{freshPages, newRecord, newestRenewed, stampsRenewed}
-use Rattle.pool_tracking.specs.Cases.{Accepted, recordOf, TrackedAt}
-use Rattle.pool_tracking.specs.Holdings.{holdingAt, givenUp}
-use Rattle.pool_tracking.proofs.Refusals.{shape-passed, counter-left, pages-left, renewed-begun, take-renewed}
+use Rattle.pool_tracking.specs.Begun.{freshGrids, newRecord}
+use Rattle.pool_tracking.specs.Refusal.{mostStamps}
+use Rattle.pool_tracking.specs.Cases.{Begins, recordOf, TrackedAt}
+use Rattle.pool_tracking.specs.Holdings.{HoldingReads, holdingAt, givenUp, gridShift, stampShift, recordRenewed}
+use Rattle.pool_tracking.proofs.Refusals.{shape-passed, take-renewed, formed-then}
 use Rattle.pool_tracking.proofs.Counts.{counted, begunCounts, counts-after}
 use Rattle.pool_tracking.proofs.Tracked.{spares-within, kept-fits, is-there, found-there, here}
-use Rattle.pool_tracking.proofs.Trackings.{begun, begun-record, begun-pages, newest-begun, stamps-begun}
-use Rattle.grid_shapes.specs.ShapeConstants.{mostShapeBytes}
-use Rattle.grid_stamps.specs.StampConstants.{pageStamps}
-use Rattle.pool_records.specs.RecordConstants.{doomedStride, retiringStride, spareStride, textureStride}
-use Rattle.pool_rules.specs.RuleConstants.{mostPlaces}
+use Rattle.pool_tracking.proofs.Ends.{newest-most, stamps-most, grid-begins, stamp-begins, grids-held, stamps-held}
+use Rattle.pool_tracking.proofs.Trackings.{begun, begun-record, begun-grids, begun-stamps, newest-zeros, stamps-zeros, newest-count, stamps-count, grids-few, stamps-few, zeros-renewed}
 
 -- what the code asks of a pool in which a texture's tracking is renewed
-pub record Renewable (l : Lent) (hold : Holding) (shape : VersionShape) (records : Bool) : Type 0 where
+pub record Renewable (l : Lent) (new : NewTracking) (hold : Holding) : Type 0 where
   pub counter : l .pool .trackings < limit
-  pub few : gridCount shape ≤ mostPlaces
+  pub shaped : isShape (new .shape) ≡ true
+  pub few : gridCount (new .shape) ≤ mostPlaces
+  pub textures : textureStride * l .pool .tracked ≤ length (l .textures)
   pub ring : doomedStride * (length (l .retiring) / retiringStride) ≤ length (l .doomed)
   pub head : l .pool .first < length (l .retiring) / retiringStride
   pub doomed : l .pool .doomed + hold .spares ≤ length (l .retiring) / retiringStride
@@ -69,22 +76,33 @@ pub record Renewable (l : Lent) (hold : Holding) (shape : VersionShape) (records
   pub parked : hold .bytes * hold .spares ≤ l .pool .parked
   pub dooming : l .pool .dooming + hold .bytes * hold .spares < 2 ^ 64
   pub since : l .pool .since + hold .spares < 2 ^ 64
-  pub page : hold .page + hold .pages ≤ l .pool .grids
-  pub used : l .pool .grids ≤ length (l .newest)
-  pub room : l .pool .grids + freshPages shape records ≤ length (l .newest) + hold .pages
-  pub newest : length (l .newest) ≤ mostPlaces
-  pub stamps : pageStamps * length (l .newest) ≡ length (l .stamps)
+  pub grids : hold .grid + hold .grids ≤ l .pool .grids
+  pub grids-used : l .pool .grids ≤ length (l .newest)
+  pub grids-room : l .pool .grids + freshGrids (new .shape) (new .records) ≤ length (l .newest) + hold .grids
+  pub stamps : hold .stamp + hold .stamps ≤ l .pool .stamps
+  pub stamps-used : l .pool .stamps ≤ length (l .stamps)
+  pub stamps-room : l .pool .stamps + new .stamps ≤ length (l .stamps) + hold .stamps
+  pub newest-most : length (l .newest) ≤ mostStamps
+  pub stamps-most : length (l .stamps) ≤ mostStamps
+  pub moves : (fresh : ℕ) → fresh ≡ freshGrids (new .shape) (new .records)
+      → StartsMove (gridShift hold fresh) (stampShift hold new) (new .place + 1) (l .pool .tracked) (recordRenewed (l .textures) new (l .pool .trackings + 1) hold)
 
--- what it asks before it reads them
-pub record Readable (l : Lent) (i : ℕ) : Type 0 where
-  pub spares : total sparesOf (texturesIn i (l .textures)) ≤ mostPlaces
-  pub pages : total recordGrids (texturesIn i (l .textures)) ≤ mostPlaces
-  pub own : recordGrids (recordOf l i) ≤ mostPlaces
+-- the record written over, as the code has it
+pub record-written : (textures textures′ : List ℕ) (new : NewTracking) (epoch : ℕ) (old : Holding) (x : TextureRecord)
+    → x ≡ newRecord new epoch (old .grid) (old .stamp) → textures′ ≡ sets textures (textureStride * new .place) (writeTexture x)
+    → textures′ ≡ recordRenewed textures new epoch old
+record-written textures textures′ new epoch old x e q = q ∙ ap (λ (y : TextureRecord). sets textures (textureStride * new .place) (writeTexture y)) e
 
-module _ (l : Lent) (i id : ℕ) (shape : VersionShape) (records : Bool) (seq : ℕ) (ok : Accepted l i id shape records seq) (h : TrackedAt l i id)
-    (other : sameShape (recordOf l i .shape) shape ≡ false) where
+module _ (l : Lent) (new : NewTracking) (ok : Begins l new) (h : TrackedAt l (new .place) (new .id))
+    (other : sameShape (recordOf l (new .place) .shape) (new .shape) ≡ false) where
   abbrev f : Fits l
-  f = pool-fits l (ok .0)
+  f = pool-fits l (ok .0 .0)
+
+  abbrev i : ℕ
+  i = new .place
+
+  abbrev grids : ℕ
+  grids = freshGrids (new .shape) (new .records)
 
   abbrev u : VersionState ℕ
   u = stateOf l i
@@ -92,35 +110,45 @@ module _ (l : Lent) (i id : ℕ) (shape : VersionShape) (records : Bool) (seq : 
   abbrev t : TextureRecord
   t = recordOf l i
 
-  there : find id (modelOf l .textures) ≡ some u
-  there = found-there l f i (h .0) id (ok .1 .0) (h .1)
+  there : find (new .id) (modelOf l .textures) ≡ some u
+  there = found-there l f i (h .0) (new .id) (ok .0 .1 .0) (h .1)
 
   abbrev epoch : ℕ
   epoch = suc (modelOf l .trackings)
 
-  abbrev new : VersionState ℕ
-  new = begun id shape records epoch seq
+  abbrev state : VersionState ℕ
+  state = begun new epoch
 
   -- the spares in the destroy queue
   abbrev given : List (Doomed ℕ)
   given = asDoomed (bytesOf (u .shape)) (u .spares)
 
+  abbrev textures-then : List (VersionState ℕ)
+  textures-then = change (new .id) (λ (v : VersionState ℕ). state) (modelOf l .textures)
+
   abbrev renewed : PoolModel ℕ
-  renewed = withTrackings epoch (withTextures (change id (λ (v : VersionState ℕ). new) (modelOf l .textures)) (doomSpares given (modelOf l)))
+  renewed = withTrackings epoch (withTextures textures-then (doomSpares given (modelOf l)))
 
-  other-state : sameShape (u .shape) shape ≡ false
-  other-state = ap (λ (s : VersionShape). sameShape s shape) (shape-at l i (h .0)) ∙ other
+  other-state : sameShape (u .shape) (new .shape) ≡ false
+  other-state = ap (λ (s : VersionShape). sameShape s (new .shape)) (shape-at l i (h .0)) ∙ other
 
-  ruled : takeSpareOn l id shape records seq ≡ (answer none, lentAfter renewed l)
+  rule : takeSpare (modelOf l) (new .id) (new .shape) (new .records) (new .seq) ≡ accepted none renewed
+  rule = take-renewed (modelOf l) (new .id) (new .shape) (new .records) (new .seq) (ok .0 .1 .1) u there other-state
+
+  ruled : takeSpareOn l (new .id) (new .shape) (new .records) (new .seq) ≡ (answer none, lentAfter renewed l)
   unfolding takeSpareOn
-  ruled =
-      asked-accepted takenOf l (λ (p : PoolModel ℕ). takeSpare p id shape records seq) (ok .0) none renewed
-      (take-renewed (modelOf l) id shape records seq (ok .1 .1) u there other-state)
+  ruled = asked-accepted takenOf l (λ (p : PoolModel ℕ). takeSpare p (new .id) (new .shape) (new .records) (new .seq)) (ok .0 .0) none renewed rule
 
-  changed-there : change id (λ (v : VersionState ℕ). new) (modelOf l .textures) ≡ set (modelOf l .textures) i new
+  after-formed : Formed renewed
+  after-formed = formed-then (modelOf l) renewed (new .id) (new .shape) (new .records) (new .seq) none (f .formed) rule
+
+  changed-there : textures-then ≡ set (modelOf l .textures) i state
   changed-there =
-      changed l id (ids-ascend l f) (is-there l f i (h .0) id (ok .1 .0) (h .1)) (λ (v : VersionState ℕ). new)
-      ∙ ap (λ (k : ℕ). set (modelOf l .textures) k new) (sym (ok .1 .0))
+      changed l (new .id) (ids-ascend l f) (is-there l f i (h .0) (new .id) (ok .0 .1 .0) (h .1)) (λ (v : VersionState ℕ). state)
+      ∙ ap (λ (k : ℕ). set (modelOf l .textures) k state) (sym (ok .0 .1 .0))
+
+  shaped : isShape (new .shape) ≡ true
+  shaped = shape-passed (modelOf l) (new .id) (new .shape) (new .records) (new .seq) (ok .0 .1 .1)
 
   -- ---- what the texture has
 
@@ -131,8 +159,11 @@ module _ (l : Lent) (i id : ℕ) (shape : VersionShape) (records : Bool) (seq : 
   unfolding stateOf stateRead
   spares-listed = ap (λ (r : TextureRecord). listed (spareRead l) (firstSpare l i) (r .spares)) (record-read l i (h .0))
 
-  pages-there : gridCountAt l i ≡ recordGrids t
-  pages-there = ap recordGrids (record-read l i (h .0))
+  grids-there : gridCountAt l i ≡ recordGrids t
+  grids-there = ap recordGrids (record-read l i (h .0))
+
+  stamps-there : stampCountAt l i ≡ recordStamps t
+  stamps-there = ap recordStamps (record-read l i (h .0))
 
   given-bytes : doomedBytes given ≡ bytesOf (t .shape) * t .spares
   given-bytes = as-doomed-bytes (bytesOf (u .shape)) (u .spares) ∙ ap₂ (λ (a b : ℕ). a * b) (ap bytesOf (shape-at l i (h .0))) spares-counted
@@ -145,81 +176,93 @@ module _ (l : Lent) (i id : ℕ) (shape : VersionShape) (records : Bool) (seq : 
       given-spares l (bytesOf (t .shape)) (firstSpare l i) (t .spares)
       ∙ sym (ap₂ (λ (b : ℕ) (ss : List (Spare ℕ)). map doomedRecord (asDoomed b ss)) (ap bytesOf (shape-at l i (h .0))) spares-listed)
 
-  -- ---- what is left
+  -- ---- the counts then
 
   epoch-is : l .pool .trackings + 1 ≡ epoch
   unfolding modelOf
   epoch-is = add-one (l .pool .trackings)
 
-  tracked-then : l .pool .tracked ≡ length (change id (λ (v : VersionState ℕ). new) (modelOf l .textures))
-  tracked-then = sym (length-change id (λ (v : VersionState ℕ). new) (modelOf l .textures) ∙ tracked-model l)
+  tracked-then : l .pool .tracked ≡ length textures-then
+  tracked-then = sym (length-change (new .id) (λ (v : VersionState ℕ). state) (modelOf l .textures) ∙ tracked-model l)
 
-  kept-then : l .pool .kept - t .spares ≡ total spareCount (change id (λ (v : VersionState ℕ). new) (modelOf l .textures))
+  kept-then : l .pool .kept - t .spares ≡ total spareCount textures-then
   kept-then =
-      omega (arith, total-change spareCount id (λ (v : VersionState ℕ). new) u (modelOf l .textures) (f .formed .ids) there, kept-model l, f .kept, spares-counted)
-
-  pages-then : l .pool .grids - recordGrids t + freshPages shape records ≡ total gridsUsed (change id (λ (v : VersionState ℕ). new) (modelOf l .textures))
-  pages-then =
       omega (
         arith,
-        total-change gridsUsed id (λ (v : VersionState ℕ). new) u (modelOf l .textures) (f .formed .ids) there,
-        pages-model l,
-        f .claimed,
-        pages-at l i (h .0),
-        begun-pages id shape records epoch seq,
-        pages-in l (f .claimed) i (h .0),
-        pages-there,
+        total-change spareCount (new .id) (λ (v : VersionState ℕ). state) u (modelOf l .textures) (f .formed .ids) there,
+        kept-model l,
+        f .kept,
+        spares-counted,
       )
+
+  -- its own go out, those of the new history come in
+  grids-changed : total gridsUsed textures-then + recordGrids t ≡ l .pool .grids + grids
+  grids-changed =
+      omega (
+        arith,
+        total-change gridsUsed (new .id) (λ (v : VersionState ℕ). state) u (modelOf l .textures) (f .formed .ids) there,
+        grids-model l,
+        f .claimed,
+        grids-at l i (h .0),
+        begun-grids new epoch,
+      )
+
+  stamps-changed : total stampsUsed textures-then + recordStamps t ≡ l .pool .stamps + new .stamps
+  stamps-changed =
+      omega (
+        arith,
+        total-change stampsUsed (new .id) (λ (v : VersionState ℕ). state) u (modelOf l .textures) (f .formed .ids) there,
+        stamps-used-model l,
+        f .stamps-claimed,
+        stamps-at l i (h .0),
+        begun-stamps new epoch,
+        ok .1,
+      )
+
+  grids-within : firstGrid l i + recordGrids t ≤ l .pool .grids
+  grids-within = omega (arith, grids-in l f i (h .0), grids-there)
+
+  stamps-within : firstStamp l i + recordStamps t ≤ l .pool .stamps
+  stamps-within = omega (arith, stamps-in l f i (h .0), stamps-there)
+
+  grids-then : l .pool .grids - recordGrids t + grids ≡ total gridsUsed textures-then
+  grids-then = omega (arith, grids-changed, grids-within)
+
+  stamps-then : l .pool .stamps - recordStamps t + new .stamps ≡ total stampsUsed textures-then
+  stamps-then = omega (arith, stamps-changed, stamps-within)
 
   doomed-then : l .pool .doomed + t .spares ≡ length (modelOf l .doomed ++ given)
   doomed-then = omega (arith, length-append (modelOf l .doomed) given, doomed-model l, given-length)
 
-  counts-renewed : counted (l .pool) (l .pool .tracked) (l .pool .kept - t .spares) (l .pool .grids - recordGrids t + freshPages shape records) (l .pool .doomed + t .spares)
-      (l .pool .since + t .spares) epoch (l .pool .parked - bytesOf (t .shape) * t .spares) (l .pool .dooming + bytesOf (t .shape) * t .spares) ≡ poolAfter renewed l
-  unfolding modelOf
-  counts-renewed =
-      ap₂ (λ (n b : ℕ). counted (l .pool) (l .pool .tracked) (l .pool .kept - t .spares) (l .pool .grids - recordGrids t + freshPages shape records) (l .pool .doomed + t .spares)
-      (l .pool .since + n) epoch (l .pool .parked - b) (l .pool .dooming + b)) (sym given-length) (sym given-bytes)
-      ∙ counts-after l f renewed refl refl refl refl (l .pool .tracked) (l .pool .kept - t .spares) (l .pool .grids - recordGrids t + freshPages shape records) (l .pool .doomed + t .spares)
-      tracked-then kept-then pages-then doomed-then (omega arith)
+  -- ---- room
 
-  shaped : isShape shape ≡ true
-  shaped = shape-passed (modelOf l) id shape records seq (ok .1 .1)
+  stamps-room : l .pool .stamps + new .stamps ≤ length (l .stamps) + recordStamps t
+  stamps-room = omega (arith, stamps-changed, after-formed .stamps, f .stamps)
 
-  page-room : l .pool .grids + freshPages shape records ≤ length (l .newest) + recordGrids t
-  page-room =
+  -- room in `newest` is not tested, since it follows
+  grids-room : l .pool .grids + grids ≤ length (l .newest) + recordGrids t
+  grids-room =
       omega (
         arith,
-        pages-left (modelOf l) id shape records seq (ok .1 .1) (gridsUsed u) (renewed-begun (modelOf l) id shape records seq (ok .1 .1) u there other-state)
-            (omega (arith, f .formed .pages)),
-        pages-model l,
-        f .claimed,
-        page-places l,
-        pages-at l i (h .0),
+        grids-changed,
+        newest-room (renewed .textures) (after-formed .textures) (modelOf l .places .textures) (length (l .stamps)) (length (l .newest)) (after-formed .places)
+            (omega (arith, after-formed .stamps, f .stamps)) (f .newest),
       )
 
-  next : firstGrid l (suc i) ≡ firstGrid l i + recordGrids t
-  next = next-page l i (h .0) ∙ ap (λ (k : ℕ). firstGrid l i + k) pages-there
+  -- ---- as the code reads the texture
 
-  no-page : firstPage id shape 0 (modelOf l .textures) ≡ none
-  unfolding stateOf stateRead
-  no-page =
-      ap (λ (k : ℕ). firstPage k shape 0 (modelOf l .textures)) (sym (ap (λ (r : TextureRecord). r .id) (record-read l i (h .0)) ∙ h .1))
-      ∙ no-page-reshaped l (ids-ascend l f) i shape (h .0) other-state
-
-  pub readable : Readable l i
+  pub readable : HoldingReads (l .pool) (l .textures) i
   readable =
-      let k = here l i id shape records seq ok h in
-      let b = pages-in l (f .claimed) i (h .0) in
+      let k = here l i (new .id) (new .shape) (new .records) (new .seq) (ok .0) h in
       record {
+        there = textures-fit l f;
+        place = h .0;
         spares = omega (arith, k .first, k .within, k .kept);
-        pages = omega (arith, pages-to l i (h .0), b, f .pages, f .newest);
-        own = omega (arith, claims-bound t (k .shape));
+        grids = grid-begins l f i (h .0);
+        stamps = stamp-begins l f i (h .0);
       }
 
-  -- ---- by what the code reads of the texture
-
-  module _ (hold : Holding) (is-held : hold ≡ holdingAt (l .textures) i) where
+  module _ (hold : Holding) (is-held : hold ≡ holdingAt (l .pool) (l .textures) i) where
     first-is : hold .first ≡ firstSpare l i
     unfolding holdingAt
     first-is = ap (λ (a : Holding). a .first) is-held ∙ sym (spares-to l i (h .0))
@@ -232,27 +275,66 @@ module _ (l : Lent) (i id : ℕ) (shape : VersionShape) (records : Bool) (seq : 
     unfolding holdingAt
     bytes-is = ap (λ (a : Holding). a .bytes) is-held ∙ bytes-at l i (h .0) f
 
-    page-is : hold .page ≡ firstGrid l i
+    grid-is : hold .grid ≡ firstGrid l i
     unfolding holdingAt
-    page-is = ap (λ (a : Holding). a .page) is-held ∙ sym (pages-to l i (h .0))
+    grid-is = ap (λ (a : Holding). a .grid) is-held ∙ grid-at l i (h .0) f
 
-    pages-is : hold .pages ≡ recordGrids t
+    grids-is : hold .grids ≡ recordGrids t
     unfolding holdingAt
-    pages-is = ap (λ (a : Holding). a .pages) is-held
+    grids-is = ap (λ (a : Holding). a .grids) is-held ∙ grids-held l f i (h .0)
+
+    stamp-is : hold .stamp ≡ firstStamp l i
+    unfolding holdingAt
+    stamp-is = ap (λ (a : Holding). a .stamp) is-held ∙ stamp-at l i (h .0) f
+
+    stamps-is : hold .stamps ≡ recordStamps t
+    unfolding holdingAt
+    stamps-is = ap (λ (a : Holding). a .stamps) is-held ∙ stamps-held l f i (h .0)
 
     both-is : hold .bytes * hold .spares ≡ bytesOf (t .shape) * t .spares
     both-is = ap₂ (λ (a b : ℕ). a * b) bytes-is spares-is
 
-    pub renewable : Renewable l hold shape records
+    -- the record written over
+    abbrev written : List ℕ
+    written = sets (l .textures) (textureStride * i) (writeTexture (placedRecord l i state))
+
+    written-is : recordRenewed (l .textures) new (l .pool .trackings + 1) hold ≡ written
+    written-is =
+        ap (λ (x : TextureRecord). sets (l .textures) (textureStride * i) (writeTexture x))
+        ((λ j. newRecord new (epoch-is j) (grid-is j) (stamp-is j)) ∙ sym (begun-record new epoch (firstGrid l i) (firstStamp l i)))
+
+    module _ (fresh : ℕ) (fresh-is : fresh ≡ grids) where
+      grids-out : gridShift hold fresh .less ≡ gridsUsed u
+      grids-out = grids-is ∙ sym (grids-at l i (h .0))
+
+      stamps-out : stampShift hold new .less ≡ stampsUsed u
+      stamps-out = stamps-is ∙ sym (stamps-at l i (h .0))
+
+      starts-move : StartsMove (gridShift hold fresh) (stampShift hold new) (i + 1) (l .pool .tracked) written
+      starts-move j a b =
+          renewed-moves l renewed f (gridShift hold fresh) (stampShift hold new) (omega (arith, grids-few (new .shape) shaped (new .records), fresh-is))
+          (omega (arith, stamps-few (new .shape) shaped (new .records), ok .1)) i state (h .0) grids-out stamps-out j (omega (arith, a)) b
+
+      textures-left : (textures : List ℕ)
+          → textures ≡ startsMoved (gridShift hold fresh) (stampShift hold new) (i + 1) (l .pool .tracked) (recordRenewed (l .textures) new (l .pool .trackings + 1) hold)
+          → textures ≡ texturesAfter renewed l
+      textures-left textures q =
+          q ∙ (λ j. startsMoved (gridShift hold fresh) (stampShift hold new) (add-one i j) (l .pool .tracked) (written-is j))
+          ∙ textures-renewed l renewed f (gridShift hold fresh) (stampShift hold new) i state (h .0) changed-there grids-out (fresh-is ∙ sym (begun-grids new epoch))
+          stamps-out (ok .1 ∙ sym (begun-stamps new epoch))
+
+    pub renewable : Renewable l new hold
     unfolding versionPlaces modelOf
     renewable =
-        let k = here l i id shape records seq ok h in
+        let k = here l i (new .id) (new .shape) (new .records) (new .seq) (ok .0) h in
         let dooming : l .pool .dooming ≤ mostShapeBytes * length (modelOf l .doomed) = omega (arith, f .formed .dooming, doomed-bound (f .formed .doomed)) in
         let all : bytesOf (t .shape) * t .spares ≤ mostShapeBytes * mostPlaces =
         mul-le-mul (bytes-bound (t .shape) (k .shape)) (let q : t .spares ≤ mostPlaces = omega (arith, k .within, k .kept) in q) in
         record {
-          counter = counter-left (modelOf l) id shape records seq (ok .1 .1) (gridsUsed u) (renewed-begun (modelOf l) id shape records seq (ok .1 .1) u there other-state);
-          few = omega (arith, pages-bound shape shaped);
+          counter = after-formed .trackings;
+          shaped = shaped;
+          few = omega (arith, grids-most (new .shape) shaped);
+          textures = textures-fit l f;
           ring = omega (arith, f .doomed);
           head = f .first;
           doomed = omega (arith, f .versions, spares-is, k .within);
@@ -261,23 +343,36 @@ module _ (l : Lent) (i id : ℕ) (shape : VersionShape) (records : Bool) (seq : 
           parked = omega (arith, both-is, k .parked);
           dooming = omega (arith, dooming, all, both-is, doomed-model l, f .versions, f .most);
           since = omega (arith, f .formed .since, doomed-model l, f .versions, f .most, spares-is, k .within, k .kept);
-          page = omega (arith, page-is, pages-is, pages-there, pages-in l (f .claimed) i (h .0));
-          used = f .pages;
-          room = omega (arith, page-room, pages-is);
-          newest = f .newest;
-          stamps = f .stamps;
+          grids = omega (arith, grid-is, grids-is, grids-within);
+          grids-used = f .grids;
+          grids-room = omega (arith, grids-room, grids-is);
+          stamps = omega (arith, stamp-is, stamps-is, stamps-within);
+          stamps-used = f .stamps-counted;
+          stamps-room = omega (arith, stamps-room, stamps-is);
+          newest-most = newest-most l f;
+          stamps-most = stamps-most l f;
+          moves = λ fresh e. subst (StartsMove (gridShift hold fresh) (stampShift hold new) (i + 1) (l .pool .tracked)) (sym written-is) (starts-move fresh e);
         }
 
-    abbrev n : ℕ
-    n = freshPages shape records
+    -- ---- what is left
 
-    -- the counts with the spares given up, and then the pages and the tracking's number
-    counts-left : (fresh : ℕ) → fresh ≡ n → (g : Counts) → g ≡ givenUp (l .pool) (hold .spares) (hold .bytes)
-        → begunCounts g (l .pool .grids - hold .pages + fresh) (l .pool .trackings + 1) ≡ poolAfter renewed l
+    counts-renewed : counted (l .pool) (l .pool .tracked) (l .pool .kept - t .spares) (l .pool .grids - recordGrids t + grids) (l .pool .stamps - recordStamps t + new .stamps)
+        (l .pool .doomed + t .spares) (l .pool .since + t .spares) epoch (l .pool .parked - bytesOf (t .shape) * t .spares) (l .pool .dooming + bytesOf (t .shape) * t .spares)
+        ≡ poolAfter renewed l
+    unfolding modelOf
+    counts-renewed =
+        ap₂ (λ (n b : ℕ). counted (l .pool) (l .pool .tracked) (l .pool .kept - t .spares) (l .pool .grids - recordGrids t + grids) (l .pool .stamps - recordStamps t + new .stamps)
+        (l .pool .doomed + t .spares) (l .pool .since + n) epoch (l .pool .parked - b) (l .pool .dooming + b)) (sym given-length) (sym given-bytes)
+        ∙ counts-after l f renewed refl refl refl refl (l .pool .tracked) (l .pool .kept - t .spares) (l .pool .grids - recordGrids t + grids) (l .pool .stamps - recordStamps t + new .stamps)
+        (l .pool .doomed + t .spares) tracked-then kept-then grids-then stamps-then doomed-then (omega arith)
+
+    -- the counts with the spares given up, and then the grids, the stamps and the tracking's number
+    counts-left : (fresh : ℕ) → fresh ≡ grids → (g : Counts) → g ≡ givenUp (l .pool) (hold .spares) (hold .bytes)
+        → begunCounts g (l .pool .grids - hold .grids + fresh) (l .pool .stamps - hold .stamps + new .stamps) (l .pool .trackings + 1) ≡ poolAfter renewed l
     counts-left fresh e g q =
-        ap (λ (c : Counts). begunCounts c (l .pool .grids - hold .pages + fresh) (l .pool .trackings + 1)) q
-        ∙ (λ j. counted (l .pool) (l .pool .tracked) (l .pool .kept - spares-is j) (l .pool .grids - pages-is j + e j) (l .pool .doomed + spares-is j)
-        (l .pool .since + spares-is j) (epoch-is j) (l .pool .parked - both-is j) (l .pool .dooming + both-is j))
+        ap (λ (c : Counts). begunCounts c (l .pool .grids - hold .grids + fresh) (l .pool .stamps - hold .stamps + new .stamps) (l .pool .trackings + 1)) q
+        ∙ (λ j. counted (l .pool) (l .pool .tracked) (l .pool .kept - spares-is j) (l .pool .grids - grids-is j + e j) (l .pool .stamps - stamps-is j + new .stamps)
+        (l .pool .doomed + spares-is j) (l .pool .since + spares-is j) (epoch-is j) (l .pool .parked - both-is j) (l .pool .dooming + both-is j))
         ∙ counts-renewed
 
     doomed-left : (places : ℕ) → places ≡ length (l .retiring) / retiringStride → (doomed : List ℕ)
@@ -296,28 +391,37 @@ module _ (l : Lent) (i id : ℕ) (shape : VersionShape) (records : Bool) (seq : 
         q
         ∙ ap₂ (λ (a b : ℕ). moved (l .spares) (spareStride * a) (spareStride * a + spareStride * b) (spareStride * (l .pool .kept - (a + b)))) first-is spares-is
         ∙ spares-removed l renewed (f .kept) (kept-fits l f i (h .0)) (firstSpare l i) (t .spares) (spares-within l f i (h .0))
-        (ap everySpare changed-there ∙ every-emptied l i (h .0) new refl ∙ ap (λ (k : ℕ). removed (firstSpare l i) k (sparesBefore l)) (ap sparesOf (record-read l i (h .0))))
+        (ap everySpare changed-there ∙ every-emptied l i (h .0) state refl ∙ ap (λ (k : ℕ). removed (firstSpare l i) k (sparesBefore l)) (ap sparesOf (record-read l i (h .0))))
 
-    pub left-renewed : (places fresh : ℕ) (g : Counts) (x : TextureRecord) (textures doomed spares newest stamps : List ℕ)
-        → places ≡ length (l .retiring) / retiringStride → fresh ≡ n → g ≡ givenUp (l .pool) (hold .spares) (hold .bytes)
+    newest-left : (fresh : ℕ) → fresh ≡ grids → (newest : List ℕ)
+        → newest ≡ sets (moved (l .newest) (hold .grid + fresh) (hold .grid + hold .grids) (l .pool .grids - (hold .grid + hold .grids))) (hold .grid) (replicate fresh 0)
+        → newest ≡ newestAfter renewed l
+    newest-left fresh e newest q =
+        q ∙ zeros-renewed (l .newest) (l .pool .grids) grid-is fresh (newestOf state) (newest-zeros new epoch ∙ ap (λ (n : ℕ). replicate n 0) (sym e)) (grids-is ∙ sym grids-there)
+        ∙ newest-renewed l f renewed i (h .0) state changed-there (omega (arith, newest-count new epoch, grids-room, grids-within, grids-there))
+
+    stamps-left : (stamps : List ℕ)
+        → stamps ≡ sets (moved (l .stamps) (hold .stamp + new .stamps) (hold .stamp + hold .stamps) (l .pool .stamps - (hold .stamp + hold .stamps))) (hold .stamp) (replicate (new .stamps) 0)
+        → stamps ≡ stampsAfter renewed l
+    stamps-left stamps q =
+        q ∙ zeros-renewed (l .stamps) (l .pool .stamps) stamp-is (new .stamps) (stampsOf state) (stamps-zeros new epoch ∙ ap (λ (n : ℕ). replicate n 0) (sym (ok .1))) (stamps-is ∙ sym stamps-there)
+        ∙ stamps-renewed l f renewed i (h .0) state changed-there (omega (arith, stamps-count new epoch, ok .1, stamps-room, stamps-within, stamps-there))
+
+    pub left-renewed : (places fresh : ℕ) (g : Counts) (textures doomed spares newest stamps : List ℕ)
+        → places ≡ length (l .retiring) / retiringStride → fresh ≡ grids → g ≡ givenUp (l .pool) (hold .spares) (hold .bytes)
         → doomed ≡ laid doomedStride writeDoomed places (l .pool .first) (l .pool .doomed) (givenRecords (l .spares) (hold .bytes) (hold .first) (hold .spares)) (l .doomed)
         → spares ≡ moved (l .spares) (spareStride * hold .first) (spareStride * hold .first + spareStride * hold .spares) (spareStride * (l .pool .kept - (hold .first + hold .spares)))
-        → x ≡ newRecord id shape records (l .pool .trackings + 1) seq → textures ≡ sets (l .textures) (textureStride * i) (writeTexture x)
-        → newest ≡ newestRenewed (l .newest) (l .pool .grids) (hold .page) (hold .pages) fresh
-        → stamps ≡ stampsRenewed (l .stamps) (l .pool .grids) (hold .page) (hold .pages) fresh
-        → (answer none, lent (begunCounts g (l .pool .grids - hold .pages + fresh) (l .pool .trackings + 1)) (l .book) textures (l .retiring) doomed spares newest stamps)
-        ≡ takeSpareOn l id shape records seq
-    left-renewed places fresh g x textures doomed spares newest stamps e1 e2 e3 e4 e5 e6 e7 e8 e9 =
-        let parts = set-parts l renewed i (h .0) new changed-there in
+        → textures ≡ startsMoved (gridShift hold fresh) (stampShift hold new) (i + 1) (l .pool .tracked) (recordRenewed (l .textures) new (l .pool .trackings + 1) hold)
+        → newest ≡ sets (moved (l .newest) (hold .grid + fresh) (hold .grid + hold .grids) (l .pool .grids - (hold .grid + hold .grids))) (hold .grid) (replicate fresh 0)
+        → stamps ≡ sets (moved (l .stamps) (hold .stamp + new .stamps) (hold .stamp + hold .stamps) (l .pool .stamps - (hold .stamp + hold .stamps))) (hold .stamp) (replicate (new .stamps) 0)
+        → (
+          answer none,
+          lent (begunCounts g (l .pool .grids - hold .grids + fresh) (l .pool .stamps - hold .stamps + new .stamps) (l .pool .trackings + 1)) (l .book) textures (l .retiring) doomed spares newest stamps,
+        )
+        ≡ takeSpareOn l (new .id) (new .shape) (new .records) (new .seq)
+    left-renewed places fresh g textures doomed spares newest stamps e1 e2 e3 e4 e5 e6 e7 e8 =
         ap (λ (m : Lent). (answer none, m))
-        (put-together renewed l (begunCounts g (l .pool .grids - hold .pages + fresh) (l .pool .trackings + 1)) (l .book) textures (l .retiring) doomed spares newest stamps
-        (counts-left fresh e2 g e3) (book-stays l f renewed refl)
-        (e7 ∙ ap (λ (y : TextureRecord). sets (l .textures) (textureStride * i) (writeTexture y))
-        (e6 ∙ ap (λ (k : ℕ). newRecord id shape records k seq) epoch-is ∙ sym (begun-record id shape records epoch seq))
-        ∙ textures-set l renewed f i new (h .0) changed-there)
-        (retiring-stay l f renewed refl refl) (doomed-left places e1 doomed e4) (spares-left spares e5)
-        (e8 ∙ (λ j. newestRenewed (l .newest) (l .pool .grids) (page-is j) (pages-is j) (e2 j))
-        ∙ newest-begun id shape records epoch seq l f renewed i (suc i) (recordGrids t) (omega arith) parts next shaped page-room)
-        (e9 ∙ (λ j. stampsRenewed (l .stamps) (l .pool .grids) (page-is j) (pages-is j) (e2 j))
-        ∙ stamps-begun id shape records epoch seq l f renewed i (suc i) (recordGrids t) (omega arith) parts next shaped page-room no-page))
+        (put-together renewed l (begunCounts g (l .pool .grids - hold .grids + fresh) (l .pool .stamps - hold .stamps + new .stamps) (l .pool .trackings + 1)) (l .book) textures (l .retiring) doomed spares newest stamps
+        (counts-left fresh e2 g e3) (book-stays l f renewed refl) (textures-left fresh e2 textures e6) (retiring-stay l f renewed refl refl)
+        (doomed-left places e1 doomed e4) (spares-left spares e5) (newest-left fresh e2 newest e7) (stamps-left stamps e8))
         ∙ sym ruled

@@ -1,108 +1,160 @@
--- A tracking just begun: its record and its pages, which are all 0. Assumes nothing.
-use mathlib.Core.Path.{_≡_, refl, sym, ap, ap₂, _∙_}
+-- A tracking just begun: its record, and its grids and stamps, which are all 0. Assumes nothing.
+use mathlib.Core.Path.{_≡_, refl, sym, ap, _∙_}
 use mathlib.Core.Bool.{Bool, true, false}
-use mathlib.Core.Option.{Option, none}
-use mathlib.Core.List.{List, [], _∷_, _++_, flatMap, append-nil}
+use mathlib.Core.List.{List, flatMap}
 use Prim.Native.Nat.{ℕ, _+_, _*_, _-_, _≤_}
+use native.Mathlib.Nat.{add-zero}
 use native.Mathlib.Omega.{arith}
-use lib.ListN.{length, take, drop, replicate}
+use lib.ListN.{length, replicate}
 use lib.Seq.{sets}
 use Rattle.base_blocks.specs.Blocks.{moved}
 use Rattle.grid_shapes.specs.declared.shape.VersionShape.{VersionShape}
 use Rattle.grid_shapes.specs.Shapes.{isShape, bytesOf}
-use Rattle.pool_rules.specs.Model.{VersionState, PoolModel, gridsUsed}
+use Rattle.grid_stamps.specs.StampConstants.{pageStamps}
+use Rattle.pool_rules.specs.Model.{VersionState, gridsUsed}
+use Rattle.pool_rules.specs.HistorySizes.{stampsUsed}
 use Rattle.pool_rules.specs.Histories.{newHistory}
 use Rattle.pool_rules.specs.TakeSpare.{newState}
+use Rattle.pool_rules.specs.RuleConstants.{mostGrids}
+use Rattle.pool_rules.proofs.HistorySizes.{grids-most, history-most}
 use Rattle.pool_records.specs.declared.recorded.Recorded.{Recorded}
 use Rattle.pool_records.specs.declared.texture.TextureRecord.{TextureRecord}
 use Rattle.pool_records.specs.Recorded.{RecordedFits}
-use Rattle.pool_memory.specs.Lent.{Lent}
-use Rattle.pool_memory.specs.Reading.{modelOf}
-use Rattle.pool_memory.specs.Writing.{textureRecord, newestOf, newestAfter, firstPage, pagesFrom, pageBefore, pagesAfter, stampsAfter}
-use Rattle.pool_memory.proofs.Fits.{Fits}
+use Rattle.pool_memory.specs.Writing.{textureRecord, newestOf, stampsOf}
 use Rattle.pool_memory.proofs.Rewritten.{length-zeros}
-use Rattle.pool_memory.proofs.Runs.{firstGrid}
-use Rattle.pool_memory.proofs.Stays.{ids-ascend}
-use Rattle.pool_memory.proofs.Pages.{page-bound, newest-repacked, stamps-repacked}
 use Rattle.pool_memory.proofs.Fresh.{fresh-newest, fresh-stamps}
-use Rattle.pool_tracking.specs.Begun.{freshHistory, freshPages, newRecord, newestRenewed, stampsRenewed}
-use Rattle.grid_stamps.specs.StampConstants.{pageStamps}
+use Rattle.pool_tracking.specs.declared.begun.NewTracking.{NewTracking}
+use Rattle.pool_tracking.specs.Begun.{freshHistory, freshGrids, freshStamps, newRecord}
+use Rattle.pool_tracking.specs.Start.{zerosPut}
 
-module _ (id : ℕ) (shape : VersionShape) (records : Bool) (epoch seq : ℕ) where
-  pub record-made : (h : Recorded) (bytes : ℕ) → h ≡ freshHistory records → bytes ≡ bytesOf shape
-      → record { id = id; shape = shape; epoch = epoch; history = h; birth = 0; rename = seq; due = seq; spares = 0; bytes = bytes }
-      ≡ newRecord id shape records epoch seq
-  record-made h bytes e q = λ j. record { id = id; shape = shape; epoch = epoch; history = e j; birth = 0; rename = seq; due = seq; spares = 0; bytes = q j }
+module _ (new : NewTracking) (epoch : ℕ) where
+  abbrev grids : ℕ
+  grids = freshGrids (new .shape) (new .records)
+
+  abbrev stamps : ℕ
+  stamps = freshStamps (new .shape) (new .records)
+
+  pub record-made : (grid stamp : ℕ) (h : Recorded) (bytes : ℕ) → h ≡ freshHistory (new .records) → bytes ≡ bytesOf (new .shape)
+      → record {
+        id = new .id;
+        shape = new .shape;
+        epoch = epoch;
+        history = h;
+        birth = 0;
+        rename = new .seq;
+        due = new .seq;
+        spares = 0;
+        bytes = bytes;
+        grid = grid;
+        stamp = stamp;
+      }
+      ≡ newRecord new epoch grid stamp
+  record-made grid stamp h bytes e q = λ j. record {
+    id = new .id;
+    shape = new .shape;
+    epoch = epoch;
+    history = e j;
+    birth = 0;
+    rename = new .seq;
+    due = new .seq;
+    spares = 0;
+    bytes = q j;
+    grid = grid;
+    stamp = stamp;
+  }
 
   abbrev pub begun : VersionState ℕ
-  begun = newState id shape records epoch seq
+  begun = newState (new .id) (new .shape) (new .records) epoch (new .seq)
 
-  pub begun-record : textureRecord begun ≡ newRecord id shape records epoch seq
+  abbrev begun-as : Bool → VersionState ℕ
+  begun-as b = newState (new .id) (new .shape) b epoch (new .seq)
+
+  pub begun-record : (grid stamp : ℕ) → textureRecord grid stamp begun ≡ newRecord new epoch grid stamp
   unfolding newHistory
-  begun-record = go records
+  begun-record grid stamp = go (new .records)
     where
-      go : (b : Bool) → textureRecord (newState {W = ℕ} id shape b epoch seq) ≡ newRecord id shape b epoch seq
+      go : (b : Bool) → textureRecord grid stamp (begun-as b) ≡ record {
+        id = new .id;
+        shape = new .shape;
+        epoch = epoch;
+        history = freshHistory b;
+        birth = 0;
+        rename = new .seq;
+        due = new .seq;
+        spares = 0;
+        bytes = bytesOf (new .shape);
+        grid = grid;
+        stamp = stamp;
+      }
       go true = refl
       go false = refl
 
-  pub begun-fits : (x : TextureRecord) → x ≡ newRecord id shape records epoch seq → RecordedFits (x .history)
-  begun-fits x e = rw (sym (ap (λ (r : TextureRecord). r .history) e)) at (go records)
+  pub begun-fits : (grid stamp : ℕ) (x : TextureRecord) → x ≡ newRecord new epoch grid stamp → RecordedFits (x .history)
+  begun-fits grid stamp x e = rw (sym (ap (λ (r : TextureRecord). r .history) e)) at (go (new .records))
     where
       go : (b : Bool) → RecordedFits (freshHistory b)
       go true = omega arith
       go false = omega arith
 
-  pub begun-pages : gridsUsed begun ≡ freshPages shape records
-  begun-pages = go records
+  -- ---- what its history has
+
+  pub begun-grids : gridsUsed begun ≡ grids
+  begun-grids = go (new .records)
     where
-      go : (b : Bool) → gridsUsed (newState {W = ℕ} id shape b epoch seq) ≡ freshPages shape b
+      go : (b : Bool) → gridsUsed (begun-as b) ≡ freshGrids (new .shape) b
       go true = refl
       go false = refl
 
-  begun-newest : isShape shape ≡ true → flatMap newestOf (begun ∷ []) ≡ replicate (freshPages shape records) 0
+  pub begun-stamps : stampsUsed begun ≡ stamps
+  begun-stamps = go (new .records)
+    where
+      go : (b : Bool) → stampsUsed (begun-as b) ≡ freshStamps (new .shape) b
+      go true = refl
+      go false = refl
+
+  pub newest-zeros : newestOf begun ≡ replicate grids 0
+  newest-zeros = go (new .records)
+    where
+      go : (b : Bool) → newestOf (begun-as b) ≡ replicate (freshGrids (new .shape) b) 0
+      go true = fresh-newest (new .shape)
+      go false = refl
+
+  pub stamps-zeros : stampsOf begun ≡ replicate stamps 0
   unfolding flatMap
-  begun-newest shaped = go records
+  stamps-zeros = go (new .records)
     where
-      go : (b : Bool) → newestOf (newState id shape b epoch seq) ++ [] ≡ replicate (freshPages shape b) 0
-      go true = append-nil (newestOf (newState id shape true epoch seq)) ∙ fresh-newest shape shaped
+      go : (b : Bool) → stampsOf (begun-as b) ≡ replicate (freshStamps (new .shape) b) 0
+      go true = fresh-stamps (new .shape)
       go false = refl
 
-  begun-stamps : (l : Lent) → isShape shape ≡ true → firstPage id shape 0 (modelOf l .textures) ≡ none
-      → flatMap (pagesAfter l) (begun ∷ []) ≡ replicate (pageStamps * freshPages shape records) 0
-  unfolding flatMap pagesAfter pagesFrom
-  begun-stamps l shaped e = go records
-    where
-      go : (b : Bool) → pagesAfter l (newState id shape b epoch seq) ++ [] ≡ replicate (pageStamps * freshPages shape b) 0
-      go true =
-          append-nil (pagesAfter l (newState id shape true epoch seq)) ∙ ap (λ (o : Option ℕ). pagesFrom (pageBefore l o) 0 (newHistory shape .grids)) e ∙ fresh-stamps l shape shaped
-      go false = refl
+  pub newest-count : length (newestOf begun) ≡ grids
+  newest-count = ap length newest-zeros ∙ length-zeros grids
 
-  -- ---- put in for the textures from i up to j, which have `old` pages
+  pub stamps-count : length (stampsOf begun) ≡ stamps
+  stamps-count = ap length stamps-zeros ∙ length-zeros stamps
 
-  module _ (l : Lent) (f : Fits l) (p : PoolModel ℕ) (i j old : ℕ) (h : i ≤ j)
-      (e : p .textures ≡ take i (modelOf l .textures) ++ ((begun ∷ []) ++ drop j (modelOf l .textures)))
-      (next : firstGrid l j ≡ firstGrid l i + old) (shaped : isShape shape ≡ true) (room : l .pool .grids + freshPages shape records ≤ length (l .newest) + old) where
-    abbrev n : ℕ
-    n = freshPages shape records
+-- no more than a shape that passes 2 may have
+module _ (shape : VersionShape) (shaped : isShape shape ≡ true) where
+  pub grids-few : (records : Bool) → freshGrids shape records ≤ mostGrids
+  grids-few true = grids-most shape shaped
+  grids-few false = omega arith
 
-    abbrev page : ℕ
-    page = firstGrid l i
+  pub stamps-few : (records : Bool) → freshStamps shape records ≤ pageStamps * mostGrids
+  stamps-few true = history-most shape shaped
+  stamps-few false = omega arith
 
-    abbrev zeros : ℕ → List ℕ
-    zeros k = replicate k 0
+-- ---- zeros in a packed slice, for what a texture has there
 
-    pub newest-begun : newestRenewed (l .newest) (l .pool .grids) page old n ≡ newestAfter p l
-    newest-begun =
-        let b = page-bound l (f .claimed) j in
-        ap₂ (λ (k m : ℕ). sets (moved (l .newest) (page + k) m (l .pool .grids - m)) page (zeros n)) (sym (length-zeros n)) (sym next)
-        ∙ newest-repacked l p (f .claimed) i j (begun ∷ []) h e (zeros n) (begun-newest shaped) (f .pages) (omega (arith, length-zeros n))
+module _ (s : List ℕ) (used : ℕ) {at at′ : ℕ} (e : at ≡ at′) (n : ℕ) (xs : List ℕ) (zeros : xs ≡ replicate n 0) where
+  counted : n ≡ length xs
+  counted = sym (ap length zeros ∙ length-zeros n)
 
-    pub stamps-begun : firstPage id shape 0 (modelOf l .textures) ≡ none
-        → stampsRenewed (l .stamps) (l .pool .grids) page old n ≡ stampsAfter p l
-    stamps-begun none-before =
-        let b = page-bound l (f .claimed) j in
-        let m : pageStamps * page + pageStamps * old ≡ pageStamps * firstGrid l j = omega arith in
-        ap₂ (λ (a c : ℕ). sets (moved (l .stamps) (pageStamps * page + a) c (pageStamps * (l .pool .grids - (page + old)))) (pageStamps * page) (zeros (pageStamps * n))) (sym (length-zeros (pageStamps * n))) m
-        ∙ ap (λ (c : ℕ). sets (moved (l .stamps) (pageStamps * page + length (zeros (pageStamps * n))) (pageStamps * firstGrid l j) (pageStamps * (l .pool .grids - c))) (pageStamps * page) (zeros (pageStamps * n))) (sym next)
-        ∙ stamps-repacked l p (f .claimed) i j (begun ∷ []) h e (ids-ascend l f) (zeros (pageStamps * n)) (begun-stamps l shaped none-before)
-        (omega (arith, f .stamps, f .pages)) (omega (arith, length-zeros (pageStamps * n), f .stamps))
+  -- put in
+  pub zeros-put : zerosPut s used at n ≡ sets (moved s (at′ + length xs) at′ (used - at′)) at′ xs
+  zeros-put = λ j. sets (moved s (e j + counted j) ((add-zero at ∙ e) j) (used - e j)) (e j) (sym zeros j)
+
+  -- in place of others
+  pub zeros-renewed : {old size : ℕ} → old ≡ size
+      → sets (moved s (at + n) (at + old) (used - (at + old))) at (replicate n 0)
+      ≡ sets (moved s (at′ + length xs) (at′ + size) (used - (at′ + size))) at′ xs
+  zeros-renewed q = λ j. sets (moved s (e j + counted j) (e j + q j) (used - (e j + q j))) (e j) (sym zeros j)

@@ -9,11 +9,17 @@ use Rattle.pool_records.specs.Find.{below}
 use Rattle.pool_memory.specs.Lent.{Lent}
 use Rattle.pool_memory.specs.Reading.{trackedRecords, modelOf}
 use Rattle.pool_memory.specs.IsPool.{isPool}
+use Rattle.pool_tracking.specs.declared.begun.NewTracking.{NewTracking}
+use Rattle.pool_tracking.specs.Begun.{freshStamps}
 use Rattle.pool_tracking.specs.Refusal.{takeRefusal}
 
 -- a pool, the place i of the id among its textures, and nothing to refuse
 abbrev pub Accepted : Lent → ℕ → ℕ → VersionShape → Bool → ℕ → Type 0
 Accepted l i id shape records seq = (isPool l ≡ true) × ((i ≡ below id (trackedRecords l)) × (takeRefusal (modelOf l) id shape records seq ≡ 0))
+
+-- a tracking that begins so, and its history's stamps are added up
+abbrev pub Begins : Lent → NewTracking → Type 0
+Begins l new = Accepted l (new .place) (new .id) (new .shape) (new .records) (new .seq) × (new .stamps ≡ freshStamps (new .shape) (new .records))
 
 -- record i
 abbrev pub recordOf : Lent → ℕ → TextureRecord

@@ -1,27 +1,53 @@
--- Helper: What a tracked texture holds in the lent slices, and the counts once its spares are given up.
-use Prim.Native.Nat.{ℕ, _+_, _*_, _-_}
+-- Helper: What a tracked texture holds in the lent slices, the counts once its spares are given up, and its record renewed.
+use Prim.Native.Nat.{ℕ, _+_, _*_, _-_, _≤_, _<_}
 use mathlib.Core.List.{List}
+use lib.ListN.{length}
+use lib.Seq.{sets}
 use Rattle.base_blocks.specs.Lists.{total}
+use Rattle.pool_rules.specs.RuleConstants.{mostPlaces}
+use Rattle.pool_records.specs.RecordConstants.{textureStride}
+use Rattle.pool_records.specs.declared.shift.Shift.{Shift}
 use Rattle.pool_records.specs.declared.texture.TextureRecord.{TextureRecord}
-use Rattle.pool_records.specs.Texture.{textureIn, texturesIn, recordGrids}
+use Rattle.pool_records.specs.Texture.{writeTexture, textureIn, texturesIn}
+use Rattle.pool_records.specs.Starts.{gridEnd, stampEnd}
 use Rattle.pool_memory.specs.declared.pool.Pool.{Pool}
+use Rattle.pool_tracking.specs.declared.begun.NewTracking.{NewTracking}
 use Rattle.pool_tracking.specs.declared.holding.Holding.{Holding}
+use Rattle.pool_tracking.specs.Begun.{newRecord}
 
-unfoldable pub holdingAt : List ℕ → ℕ → Holding
-holdingAt textures i = record {
+-- how many grids and stamps texture i has: from where they begin up to where they end
+abbrev pub gridsHeld : Pool → List ℕ → ℕ → ℕ
+gridsHeld pool textures i = gridEnd textures (pool .tracked) (pool .grids) i - textureIn textures i .grid
+
+abbrev pub stampsHeld : Pool → List ℕ → ℕ → ℕ
+stampsHeld pool textures i = stampEnd textures (pool .tracked) (pool .stamps) i - textureIn textures i .stamp
+
+unfoldable pub holdingAt : Pool → List ℕ → ℕ → Holding
+holdingAt pool textures i = record {
   first = total (λ (t : TextureRecord). t .spares) (texturesIn i textures);
   spares = textureIn textures i .spares;
   bytes = textureIn textures i .bytes;
-  page = total recordGrids (texturesIn i textures);
-  pages = recordGrids (textureIn textures i);
+  grid = textureIn textures i .grid;
+  grids = gridsHeld pool textures i;
+  stamp = textureIn textures i .stamp;
+  stamps = stampsHeld pool textures i;
 }
+
+-- what is asked to read it: texture i is there, its grids and stamps end behind where they begin, and there are no more spares than can be
+pub record HoldingReads (pool : Pool) (textures : List ℕ) (i : ℕ) : Type 0 where
+  pub there : textureStride * pool .tracked ≤ length textures
+  pub place : i < pool .tracked
+  pub spares : total (λ (t : TextureRecord). t .spares) (texturesIn i textures) ≤ mostPlaces
+  pub grids : textureIn textures i .grid ≤ gridEnd textures (pool .tracked) (pool .grids) i
+  pub stamps : textureIn textures i .stamp ≤ stampEnd textures (pool .tracked) (pool .stamps) i
 
 -- k spares of those bytes are queued for destruction
 abbrev pub givenUp : Pool → ℕ → ℕ → Pool
 givenUp c k bytes = record {
   tracked = c .tracked;
   kept = c .kept - k;
-  pages = c .pages;
+  grids = c .grids;
+  stamps = c .stamps;
   head = c .head;
   popped = c .popped;
   queued = c .queued;
@@ -34,3 +60,14 @@ givenUp c k bytes = record {
   cap = c .cap;
   line = c .line;
 }
+
+-- how far the grids and the stamps behind it move
+abbrev pub gridShift : Holding → ℕ → Shift
+gridShift old fresh = record { less = old .grids; more = fresh }
+
+abbrev pub stampShift : Holding → NewTracking → Shift
+stampShift old new = record { less = old .stamps; more = new .stamps }
+
+-- its record written over: its own grids and stamps begin where they began
+abbrev pub recordRenewed : List ℕ → NewTracking → ℕ → Holding → List ℕ
+recordRenewed textures new epoch old = sets textures (textureStride * new .place) (writeTexture (newRecord new epoch (old .grid) (old .stamp)))

@@ -1,5 +1,5 @@
 -- Helper: The number that take_spare is refused by; 0 if it is accepted.
-use Prim.Native.Nat.{ℕ, _+_}
+use Prim.Native.Nat.{ℕ, _+_, _*_}
 use mathlib.Core.Bool.{Bool, cond, _&&_, not}
 use mathlib.Core.Option.{Option, none, some}
 use lib.Dec.{leb, ltb}
@@ -7,19 +7,27 @@ use lib.ListN.{length}
 use Rattle.base_blocks.specs.Lists.{total}
 use Rattle.grid_shapes.specs.declared.shape.VersionShape.{VersionShape}
 use Rattle.grid_shapes.specs.Shapes.{isShape, sameShape}
-use Rattle.pool_rules.specs.Model.{VersionState, PoolModel, find, limit, gridCount, gridsUsed}
+use Rattle.pool_rules.specs.Model.{VersionState, PoolModel, find, limit}
+use Rattle.pool_rules.specs.RuleConstants.{mostPlaces}
+use Rattle.pool_rules.specs.HistorySizes.{historySize, stampsUsed}
+use Rattle.grid_stamps.specs.StampConstants.{pageStamps}
 
--- a tracking begun: `places` pages are lent, `own` of the `used` ones are given up for it
-unfoldable pub trackingRefusal : ℕ → ℕ → ℕ → ℕ → VersionShape → Bool → ℕ
-trackingRefusal places own used trackings shape records =
-    cond (records && ltb (places + own) (used + gridCount shape)) 6 (cond (leb limit trackings) 12 0)
+-- the most stamps that may be lent
+abbrev pub mostStamps : ℕ
+mostStamps = pageStamps * mostPlaces
+
+-- a tracking begun: of the `lent` stamps some are used, and `own` of these are given up for it
+unfoldable pub trackingRefusal : (lent own used trackings : ℕ) → VersionShape → Bool → ℕ
+trackingRefusal lent own used trackings shape records =
+    cond (records && ltb (lent + own) (used + historySize shape)) 6 (cond (leb limit trackings) 12 0)
 
 abbrev pub begunRefusal : PoolModel ℕ → VersionShape → Bool → ℕ → ℕ
-begunRefusal p shape records own = trackingRefusal (p .places .pages) own (total gridsUsed (p .textures)) (p .trackings) shape records
+begunRefusal p shape records own =
+    trackingRefusal (pageStamps * p .places .pages) own (total stampsUsed (p .textures)) (p .trackings) shape records
 
 abbrev pub foundRefusal : PoolModel ℕ → VersionShape → Bool → Option (VersionState ℕ) → ℕ
 foundRefusal p shape records none = cond (leb (p .places .textures) (length (p .textures))) 5 (begunRefusal p shape records 0)
-foundRefusal p shape records (some t) = cond (sameShape (t .shape) shape) 0 (begunRefusal p shape records (gridsUsed t))
+foundRefusal p shape records (some t) = cond (sameShape (t .shape) shape) 0 (begunRefusal p shape records (stampsUsed t))
 
 unfoldable pub takeRefusal : PoolModel ℕ → ℕ → VersionShape → Bool → ℕ → ℕ
 takeRefusal p id shape records seq =

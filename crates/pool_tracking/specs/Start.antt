@@ -1,41 +1,55 @@
 -- Helper: A texture tracked for the first time: what is asked of the slices that it takes a part in, and what they hold then.
 use Prim.Native.Nat.{ℕ, _+_, _*_, _-_, _≤_, _<_}
 use mathlib.Core.Path.{_≡_}
-use mathlib.Core.Bool.{Bool, true}
+use mathlib.Core.Bool.{true, cond}
 use mathlib.Core.List.{List}
-use lib.ListN.{length}
+use lib.Dec.{ltb}
+use lib.ListN.{length, replicate}
 use lib.Seq.{sets}
 use Rattle.base_blocks.specs.Blocks.{moved}
-use Rattle.base_blocks.specs.Lists.{total}
-use Rattle.grid_shapes.specs.declared.shape.VersionShape.{VersionShape}
 use Rattle.grid_shapes.specs.Shapes.{isShape}
-use Rattle.grid_stamps.specs.StampConstants.{pageStamps}
 use Rattle.pool_rules.specs.Model.{limit}
 use Rattle.pool_rules.specs.RuleConstants.{mostPlaces}
 use Rattle.pool_records.specs.RecordConstants.{textureStride}
-use Rattle.pool_records.specs.Texture.{writeTexture, texturesIn, recordGrids}
+use Rattle.pool_records.specs.declared.shift.Shift.{Shift}
+use Rattle.pool_records.specs.Texture.{writeTexture, textureIn}
+use Rattle.pool_records.specs.Starts.{startsMoved, StartsMove}
 use Rattle.pool_memory.specs.declared.pool.Pool.{Pool}
-use Rattle.pool_tracking.specs.Begun.{freshPages, newRecord, newestRenewed, stampsRenewed}
+use Rattle.pool_tracking.specs.declared.begun.NewTracking.{NewTracking}
+use Rattle.pool_tracking.specs.declared.start.First.{First}
+use Rattle.pool_tracking.specs.Begun.{freshGrids, newRecord}
+use Rattle.pool_tracking.specs.Refusal.{mostStamps}
 
--- a place for the record and for the pages, and counts that may grow
-pub record StartFits (pool : Pool) (textures newest stamps : List ℕ) (i : ℕ) (shape : VersionShape) (records : Bool) : Type 0 where
-  pub shaped : isShape shape ≡ true
-  pub place : i ≤ pool .tracked
-  pub room : textureStride * pool .tracked + textureStride ≤ length textures
-  pub tracked : pool .tracked < mostPlaces
-  pub counter : pool .trackings < limit
-  pub page : total recordGrids (texturesIn i textures) ≤ pool .pages
-  pub used : pool .pages ≤ length newest
-  pub pages : pool .pages + freshPages shape records ≤ length newest
-  pub most : length newest ≤ mostPlaces
-  pub paged : pageStamps * length newest ≡ length stamps
+abbrev pub firstOf : ℕ → ℕ → First
+firstOf grid stamp = record { grid = grid; stamp = stamp }
 
--- the counts with a texture more, which takes n pages
-abbrev pub oneTracked : Pool → ℕ → Pool
-oneTracked c n = record {
+-- where the grids and the stamps of a texture begin that is put in at place i: where those of the one that stands there do, or behind all of them
+unfoldable pub firstAt : Pool → List ℕ → ℕ → First
+firstAt pool textures i =
+    cond (ltb i (pool .tracked)) (firstOf (textureIn textures i .grid) (textureIn textures i .stamp)) (firstOf (pool .grids) (pool .stamps))
+
+-- what stands behind moves up
+abbrev pub moreBy : ℕ → Shift
+moreBy n = record { less = 0; more = n }
+
+-- n records and one more, the texture's
+abbrev pub recordStarted : List ℕ → ℕ → NewTracking → ℕ → First → List ℕ
+recordStarted textures n new epoch first =
+    let i = new .place in
+    sets (moved textures (textureStride * i + textureStride) (textureStride * i) (textureStride * (n - i))) (textureStride * i)
+    (writeTexture (newRecord new epoch (first .grid) (first .stamp)))
+
+-- a part of a packed slice with n times 0 put in at a place of the `used` numbers
+abbrev pub zerosPut : List ℕ → (used at n : ℕ) → List ℕ
+zerosPut s used at n = sets (moved s (at + n) (at + 0) (used - at)) at (replicate n 0)
+
+-- the counts with a texture more, and its grids and stamps
+abbrev pub oneTracked : Pool → (grids stamps : ℕ) → Pool
+oneTracked c grids stamps = record {
   tracked = c .tracked + 1;
   kept = c .kept;
-  pages = c .pages + n;
+  grids = c .grids + grids;
+  stamps = c .stamps + stamps;
   head = c .head;
   popped = c .popped;
   queued = c .queued;
@@ -49,16 +63,36 @@ oneTracked c n = record {
   line = c .line;
 }
 
--- the counts, the textures, the newest stamps and the stamps after it
-unfoldable pub trackingStarted : Pool → List ℕ → List ℕ → List ℕ → ℕ → ℕ → VersionShape → Bool → ℕ → Pool × (List ℕ × (List ℕ × List ℕ))
-trackingStarted pool textures newest stamps i id shape records seq = (
-  oneTracked pool (freshPages shape records),
-  (
-    sets (moved textures (textureStride * i + textureStride) (textureStride * i) (textureStride * (pool .tracked - i))) (textureStride * i)
-        (writeTexture (newRecord id shape records (pool .trackings + 1) seq)),
+module _ (pool : Pool) (textures newest stamps : List ℕ) (new : NewTracking) where
+  abbrev first : First
+  first = firstAt pool textures (new .place)
+
+  abbrev grids : ℕ
+  grids = freshGrids (new .shape) (new .records)
+
+  -- a place for the record, for the grids and for the stamps, and counts that may grow
+  pub record StartFits : Type 0 where
+    pub shaped : isShape (new .shape) ≡ true
+    pub place : new .place ≤ pool .tracked
+    pub room : textureStride * pool .tracked + textureStride ≤ length textures
+    pub tracked : pool .tracked < mostPlaces
+    pub counter : pool .trackings < limit
+    pub grid : first .grid ≤ pool .grids
+    pub stamp : first .stamp ≤ pool .stamps
+    pub grids-room : pool .grids + grids ≤ length newest
+    pub stamps-room : pool .stamps + new .stamps ≤ length stamps
+    pub newest-most : length newest ≤ mostStamps
+    pub stamps-most : length stamps ≤ mostStamps
+    pub moves : StartsMove (moreBy grids) (moreBy (new .stamps)) (new .place + 1) (pool .tracked + 1)
+        (recordStarted textures (pool .tracked) new (pool .trackings + 1) first)
+
+  -- the counts, the textures, the newest stamps and the stamps after it
+  unfoldable pub trackingStarted : Pool × (List ℕ × (List ℕ × List ℕ))
+  trackingStarted = (
+    oneTracked pool grids (new .stamps),
     (
-      newestRenewed newest (pool .pages) (total recordGrids (texturesIn i textures)) 0 (freshPages shape records),
-      stampsRenewed stamps (pool .pages) (total recordGrids (texturesIn i textures)) 0 (freshPages shape records),
+      startsMoved (moreBy grids) (moreBy (new .stamps)) (new .place + 1) (pool .tracked + 1)
+          (recordStarted textures (pool .tracked) new (pool .trackings + 1) first),
+      (zerosPut newest (pool .grids) (first .grid) grids, zerosPut stamps (pool .stamps) (first .stamp) (new .stamps)),
     ),
-  ),
-)
+  )

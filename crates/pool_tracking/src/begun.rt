@@ -1,16 +1,27 @@
-// A tracking just begun: its history, its pages and its record.
+// A tracking just begun: its history, the grids of it and its record.
 ghost use mathlib.Core.Path.{_≡_};
 ghost use mathlib.Core.Bool.{true};
 ghost use Prim.Native.Nat.{_≤_};
 ghost use Rattle.grid_shapes.specs.Shapes.{isShape};
 ghost use Rattle.pool_rules.specs.Model.{gridCount};
-ghost use Rattle.pool_tracking.specs.Begun.{freshHistory, freshPages, newRecord};
 ghost use Rattle.pool_rules.specs.RuleConstants.{mostPlaces};
+ghost use Rattle.pool_tracking.specs.Begun.{freshHistory, freshGrids, newRecord};
 use grid_shapes::VersionShape;
 use grid_shapes::shape_bytes;
-use pool_access::shape_pages;
+use pool_access::shape_grids;
 use pool_records::Recorded;
 use pool_records::TextureRecord;
+
+// A tracking that begins: the texture's place among the tracked ones, its id and its shape, whether its writes are recorded, the
+// submission that it begins with, and how many stamps its history takes, which the test for a refusal has added up.
+pub struct NewTracking {
+    pub place: usize,
+    pub id: u64,
+    pub shape: VersionShape,
+    pub records: bool,
+    pub seq: u64,
+    pub stamps: usize,
+}
 
 // Returns an empty write history, or none where writes are not recorded. It starts empty, since every version from here on holds
 // whatever was written before: only later writes are stamped.
@@ -24,35 +35,32 @@ fn fresh_history(records: bool) -> Recorded
     }
 }
 
-// Returns how many pages that history takes.
-pub fn fresh_pages(shape: VersionShape, records: bool) -> usize
+// Returns how many grids that history has.
+pub fn fresh_grids(shape: VersionShape, records: bool) -> usize
     requires { ⌜ gridCount shape ≤ mostPlaces ⌝ }
-    ensures { λ r. ⌜ r ≡ freshPages shape records ⌝ }
+    ensures { λ r. ⌜ r ≡ freshGrids shape records ⌝ }
 {
-    if records { shape_pages(shape) } else { 0 }
+    if records { shape_grids(shape) } else { 0 }
 }
 
-// Returns the texture's record.
-pub fn new_record(
-    id: u64,
-    shape: VersionShape,
-    records: bool,
-    epoch: u64,
-    seq: u64,
-) -> TextureRecord
-    requires { ⌜ isShape shape ≡ true ⌝ }
-    ensures { λ r. ⌜ r ≡ newRecord id shape records epoch seq ⌝ }
+// Returns the texture's record: its grids and its stamps begin at these places.
+pub fn new_record(new: NewTracking, epoch: u64, grid: usize, stamp: usize) -> TextureRecord
+    requires { ⌜ isShape (new .shape) ≡ true ⌝ }
+    ensures { λ r. ⌜ r ≡ newRecord new epoch grid stamp ⌝ }
 {
-    let history = fresh_history(records);
+    let shape = new.shape;
+    let history = fresh_history(new.records);
     TextureRecord {
-        id,
+        id: new.id,
         shape,
         epoch,
         history,
         birth: 0,
-        rename: seq,
-        due: seq,
+        rename: new.seq,
+        due: new.seq,
         spares: 0,
         bytes: shape_bytes(shape),
+        grid: grid as u64,
+        stamp: stamp as u64,
     }
 }

@@ -1,31 +1,35 @@
 // A texture that is tracked with another shape: the spares made for the old shape cannot serve it, so that they are queued for
 // destruction and its tracking is renewed.
 ghost use mathlib.Core.Path.{_≡_};
-ghost use mathlib.Core.Bool.{false};
+ghost use mathlib.Core.Bool.{true, false};
 ghost use mathlib.Core.Option.{none};
 ghost use Prim.Native.Nat.{_+_, _*_, _-_, _^_, _≤_, _<_};
 ghost use lib.ListN.{length};
 ghost use Rattle.base_blocks.specs.Blocks.{moved};
 ghost use Rattle.base_tables.specs.Rings.{laid};
-ghost use Rattle.grid_shapes.specs.Shapes.{sameShape};
+ghost use Rattle.grid_shapes.specs.Shapes.{isShape, sameShape};
 ghost use Rattle.pool_records.specs.Doomed.{writeDoomed};
+ghost use Rattle.pool_records.specs.Starts.{startsMoved, StartsMove};
 ghost use Rattle.pool_memory.specs.Lent.{lentBy, atEntry, atExit};
 ghost use Rattle.pool_memory.specs.Calls.{answer, takeSpareOn};
 ghost use Rattle.pool_take_doomed.specs.Given.{givenRecords};
-ghost use Rattle.pool_tracking.specs.Cases.{Accepted, recordOf, TrackedAt};
-ghost use Rattle.pool_tracking.specs.Holdings.{givenUp};
-ghost use Rattle.pool_records.specs.RecordConstants.{doomedStride, spareStride};
-use crate::begun::fresh_pages;
+ghost use Rattle.pool_tracking.specs.Cases.{Begins, recordOf, TrackedAt};
+ghost use Rattle.pool_tracking.specs.Holdings.{givenUp, gridShift, stampShift, recordRenewed};
+ghost use Rattle.pool_records.specs.RecordConstants.{doomedStride, spareStride, textureStride};
+use crate::begun::NewTracking;
+use crate::begun::fresh_grids;
 use crate::begun::new_record;
+use crate::blocks::renew_block;
+use crate::holding::Holding;
 use crate::holding::holding_at;
-use crate::pages::renew_pages;
 use base_tables::remove_records;
-use grid_shapes::VersionShape;
+use pool_access::move_starts;
 use pool_access::put_texture;
 use pool_memory::PacingBook;
 use pool_memory::Pool;
 use pool_records::RETIRING_STRIDE;
 use pool_records::SPARE_STRIDE;
+use pool_records::Shift;
 use pool_take_doomed::push_spares;
 
 // Queues the k spares from place `from` on for destruction and takes them out of their slice. The destroy ring has `places` places.
@@ -69,8 +73,37 @@ fn give_up(
     after
 }
 
-// Renews the tracking of texture i under the new shape. Versions of the old one that are still retiring are destroyed when they are
-// parked, since the tracking's number differs. Returns the counts after it.
+// Writes the texture's record over, of n. Its grids and its stamps begin where they began; those of the textures behind it move by
+// what its history has now and had before.
+fn renew_record(
+    textures: &mut [u64],
+    n: usize,
+    new: NewTracking,
+    epoch: u64,
+    fresh: usize,
+    old: Holding,
+)
+    requires { ⌜ (textureStride * n ≤ length (now textures)) × (new .place < n) × (isShape (new .shape) ≡ true)
+        × StartsMove (gridShift old fresh) (stampShift old new) (new .place + 1) n (recordRenewed (now textures) new epoch old) ⌝ }
+    ensures { λ _. ⌜ now (textures .exit)
+        ≡ startsMoved (gridShift old fresh) (stampShift old new) (new .place + 1) n (recordRenewed (now (textures .entry)) new epoch old) ⌝ }
+{
+    let i = new.place;
+    put_texture(textures, i, new_record(new, epoch, old.grid, old.stamp));
+    let grids = Shift {
+        less: old.grids as u64,
+        more: fresh as u64,
+    };
+    let stamps = Shift {
+        less: old.stamps as u64,
+        more: new.stamps as u64,
+    };
+    move_starts(textures, i + 1, n, grids, stamps);
+}
+
+// Renews a texture's tracking under the new shape: its history's grids begin where they began, and those behind it move. Versions of
+// the old one that are still retiring are destroyed when they are parked, since the tracking's number differs. Returns the counts
+// after it.
 pub fn renew_tracking(
     pool: Pool,
     book: PacingBook,
@@ -80,22 +113,19 @@ pub fn renew_tracking(
     spares: &mut [u64],
     newest: &mut [u64],
     stamps: &mut [u64],
-    i: usize,
-    id: u64,
-    shape: VersionShape,
-    records: bool,
-    seq: u64,
+    new: NewTracking,
 ) -> Pool
-    requires { ⌜ Accepted (lentBy pool book textures retiring doomed spares newest stamps) i id shape records seq
-        × TrackedAt (lentBy pool book textures retiring doomed spares newest stamps) i id
-        × (sameShape (recordOf (lentBy pool book textures retiring doomed spares newest stamps) i .shape) shape ≡ false) ⌝ }
+    requires { ⌜ Begins (lentBy pool book textures retiring doomed spares newest stamps) new
+        × TrackedAt (lentBy pool book textures retiring doomed spares newest stamps) (new .place) (new .id)
+        × (sameShape (recordOf (lentBy pool book textures retiring doomed spares newest stamps) (new .place) .shape) (new .shape) ≡ false) ⌝ }
     ensures { λ r. ⌜ (answer none, atExit r book textures retiring doomed spares newest stamps)
-        ≡ takeSpareOn (atEntry pool book textures retiring doomed spares newest stamps) id shape records seq ⌝ }
+        ≡ takeSpareOn (atEntry pool book textures retiring doomed spares newest stamps) (new .id) (new .shape) (new .records) (new .seq) ⌝ }
 {
     let places = retiring.len() / RETIRING_STRIDE;
-    let old = holding_at(textures, i);
+    let old = holding_at(pool, textures, new.place);
     let epoch = pool.trackings + 1;
-    let fresh = fresh_pages(shape, records);
+    let shape = new.shape;
+    let fresh = fresh_grids(shape, new.records);
     let mut after = give_up(
         pool,
         doomed,
@@ -105,9 +135,23 @@ pub fn renew_tracking(
         old.spares,
         old.bytes,
     );
-    put_texture(textures, i, new_record(id, shape, records, epoch, seq));
-    renew_pages(newest, stamps, pool.grids, old.page, old.pages, fresh);
-    after.pages = pool.grids - old.pages + fresh;
+    renew_record(textures, pool.tracked, new, epoch, fresh, old);
+    renew_block(
+        newest,
+        old.grid,
+        old.grids,
+        fresh,
+        pool.grids - (old.grid + old.grids),
+    );
+    renew_block(
+        stamps,
+        old.stamp,
+        old.stamps,
+        new.stamps,
+        pool.stamps - (old.stamp + old.stamps),
+    );
+    after.grids = pool.grids - old.grids + fresh;
+    after.stamps = pool.stamps - old.stamps + new.stamps;
     after.trackings = epoch;
     after
 }

@@ -13,6 +13,7 @@ use grid_shapes::VersionShape;
 use pool_memory::PacingBook;
 use pool_memory::Pool;
 use pool_memory::same_counts;
+use pool_tracking::NewTracking;
 use pool_tracking::renew_tracking;
 use pool_tracking::start_tracking;
 
@@ -36,23 +37,30 @@ pub fn take_spare(
     ensures { λ r. ⌜ (takenTold (r .taken), atExit (r .pool) book textures retiring doomed spares newest stamps)
         ≡ takeSpareOn (atEntry pool book textures retiring doomed spares newest stamps) id shape records seq ⌝ }
 {
-    let look = look_up(pool, textures, newest.len(), id, shape, records, seq);
+    let look = look_up(pool, textures, stamps.len(), id, shape, records, seq);
     if look.outcome != 0 {
         return TakeAnswer {
             pool: same_counts(pool),
             taken: Taken::Refused(look.outcome),
         };
     }
-    let i = look.place;
+    if look.same {
+        return take_newest(pool, textures, spares, look.place, seq);
+    }
+    let new = NewTracking {
+        place: look.place,
+        id,
+        shape,
+        records,
+        seq,
+        stamps: look.stamps,
+    };
     if !look.tracked {
-        let after = start_tracking(pool, textures, newest, stamps, i, id, shape, records, seq);
+        let after = start_tracking(pool, textures, newest, stamps, new);
         return TakeAnswer {
             pool: after,
             taken: Taken::NoSpare,
         };
-    }
-    if look.same {
-        return take_newest(pool, textures, spares, i, seq);
     }
     let after = renew_tracking(
         pool,
@@ -63,11 +71,7 @@ pub fn take_spare(
         spares,
         newest,
         stamps,
-        i,
-        id,
-        shape,
-        records,
-        seq,
+        new,
     );
     TakeAnswer {
         pool: after,

@@ -17,31 +17,16 @@ has-id-requires : tie.Need-has-id-requires
 has-id-requires c κs = c .before .before .before .pre .there
 
 returns : tie.Need-returns
-returns c =
-    let b = c .before .before .before .before .before in
-    looked-out _ _ _ _ _ (b .args .records) _ _ _ (c .before .before .before .find-texture .ensures) (c .before .before .take-refusal .ensures) _ (c .before .has-id .ensures) (c .if1 .taken)
+returns c = looked-out _ _ _ _ _ (c .before .before .before .before .before .args .records) _ _ _ (c .before .before .before .find-texture .ensures) (c .before .before .take-refusal .ensures) _ (c .before .has-id .ensures) (c .if1 .taken)
 
 texture-at-requires : tie.Need-texture-at-requires
-texture-at-requires c κs =
-    let b = c .before .before .before .before .before in
-    tracked-fits _ _ _ _ _ (b .pre) _ (c .before .has-id .ensures) (c .if1 .left)
+texture-at-requires c κs = tracked-fits _ _ _ _ _ (c .before .before .before .before .before .pre) _ (c .before .has-id .ensures) (c .if1 .left)
 
 same-shape-requires : tie.Need-same-shape-requires
 same-shape-requires c κs = search needs
 
 returns-2 : tie.Need-returns-2
-returns-2 c =
-    let b = c .before .before .before .before .before .before .before in
-    looked-in _ _ _ _ _ (b .args .records) _ _ _ (c .before .before .before .before .before .find-texture .ensures) (c .before .before .before .before .take-refusal .ensures) _ (c .before .before .before .has-id .ensures) (c .before .before .if1 .left) _ (c .before .texture-at .ensures) _ (c .same-shape .ensures)
+returns-2 c = looked-in _ _ _ _ _ (c .before .before .before .before .before .before .before .args .records) _ _ _ (c .before .before .before .before .before .find-texture .ensures) (c .before .before .before .before .take-refusal .ensures) _ (c .before .before .before .has-id .ensures) (c .before .before .if1 .left) _ (c .before .texture-at .ensures) _ (c .same-shape .ensures)
 
 pub look-up-spec : {M : Type 1} → statement M
-look-up-spec =
-    tie.close
-    (tie.spec
-    find-texture-requires
-    take-refusal-requires
-    has-id-requires
-    returns
-    texture-at-requires
-    same-shape-requires
-    returns-2)
+look-up-spec = tie.close (tie.spec find-texture-requires take-refusal-requires has-id-requires returns texture-at-requires same-shape-requires returns-2)

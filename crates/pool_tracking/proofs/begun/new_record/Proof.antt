@@ -11,8 +11,7 @@ shape-bytes-requires : tie.Need-shape-bytes-requires
 shape-bytes-requires c κs = search needs
 
 returns : tie.Need-returns
-returns c =
-    record-made _ _ (c .before .before .args .records) _ _ _ _ (c .before .fresh-history .ensures) (c .shape-bytes .ensures)
+returns c = record-made (c .before .before .before .args .new) _ _ _ _ _ (c .before .fresh-history .ensures) (c .shape-bytes .ensures)
 
 pub new-record-spec : {M : Type 1} → statement M
 new-record-spec = tie.close (tie.spec fresh-history-requires shape-bytes-requires returns)

@@ -1,53 +1,61 @@
--- `start_tracking` meets its contract: the record put in, then the pages. Assumes nothing.
+-- `start_tracking` meets its contract: the record put in, then the grids and their stamps. Assumes nothing.
+use mathlib.Core.Path.{ap}
 use native.Mathlib.Omega.{arith}
+use Rattle.pool_rules.proofs.HistorySizes.{grids-most}
+use Rattle.pool_tracking.specs.declared.start.First.{First}
+use Rattle.pool_tracking.proofs.Started.{started-as, moves-as}
 use borrow.Author.Needs.{needs}
-use Rattle.pool_access.proofs.Fields.{pages-bound}
-use Rattle.pool_tracking.proofs.Trackings.{begun-fits}
-use Rattle.pool_tracking.proofs.Started.{started-as}
 use Rattle.pool_tracking.proofs.start.start_tracking.Statement.{statement}
 use Rattle.pool_tracking.proofs.start.start_tracking.Tie as tie
 
 add-epoch : tie.Need-add-epoch
-add-epoch c =
-    let k = c .before .before .before .before .pre in
-    omega (arith, k .counter)
+add-epoch c = search needs
 
-fresh-pages-requires : tie.Need-fresh-pages-requires
-fresh-pages-requires c κs =
-    let k = c .before .before .before .before .pre in
-    omega (arith, pages-bound _ (k .shaped))
+fresh-grids-requires : tie.Need-fresh-grids-requires
+fresh-grids-requires c κs = omega (arith, grids-most _ (c .before .before .before .before .before .pre .shaped))
 
-pages-before-requires : tie.Need-pages-before-requires
-pages-before-requires c κs =
-    let k = c .before .before .before .before .before .before .pre in
-    (omega (arith, k .room, k .place), omega (arith, k .page, k .used, k .most))
+first-at-requires : tie.Need-first-at-requires
+first-at-requires c κs = search needs
 
-new-record-requires : tie.Need-new-record-requires
-new-record-requires c κs = c .before .before .before .before .before .before .before .before .pre .shaped
-
-insert-texture-requires : tie.Need-insert-texture-requires
-insert-texture-requires c κs =
+start-record-requires : tie.Need-start-record-requires
+start-record-requires c κs =
     let b = c .before .before .before .before .before .before .before .before .before in
     let k = b .pre in
-    (k .room, k .place, begun-fits _ _ (b .args .records) _ _ _ (c .new-record .ensures))
+    (k .room, k .place, k .shaped, moves-as _ _ _ _ (b .args .new) k _ _ (c .before .first-at .ensures) (c .before .before .before .fresh-grids .ensures))
 
-renew-pages-requires : tie.Need-renew-pages-requires
-renew-pages-requires c κs =
-    let k = c .before .before .before .before .before .before .before .before .before .before .before .before .before .before .pre in
-    (omega (arith, c .before .before .before .before .before .before .before .pages-before .ensures, k .page), k .used, omega (arith, k .pages, c .before .before .before .before .before .before .before .before .before .fresh-pages .ensures), k .most, k .paged)
+sub-renew-block : tie.Need-sub-renew-block
+sub-renew-block c = omega (arith, ap (λ (a : First). a .grid) (c .before .before .before .before .before .before .before .first-at .ensures), c .before .before .before .before .before .before .before .before .before .before .before .before .before .before .before .pre .grid)
+
+renew-block-requires : tie.Need-renew-block-requires
+renew-block-requires c κs =
+    let k = c .before .before .before .before .before .before .before .before .before .before .before .before .before .before .before .pre in
+    let e = ap (λ (a : First). a .grid) (c .before .before .before .before .before .before .before .first-at .ensures) in
+    (omega (arith, e, c .before .before .before .before .before .before .before .before .before .fresh-grids .ensures, k .grid, k .grids-room), omega (arith, e, c .before .before .before .before .before .before .before .before .before .fresh-grids .ensures, k .grid, k .grids-room))
+
+sub-renew-block-2 : tie.Need-sub-renew-block-2
+sub-renew-block-2 c = omega (arith, ap (λ (a : First). a .stamp) (c .before .before .before .before .before .before .before .before .before .before .before .before .before .first-at .ensures), c .before .before .before .before .before .before .before .before .before .before .before .before .before .before .before .before .before .before .before .before .before .pre .stamp)
+
+renew-block-requires-2 : tie.Need-renew-block-requires-2
+renew-block-requires-2 c κs =
+    let k = c .before .before .before .before .before .before .before .before .before .before .before .before .before .before .before .before .before .before .before .before .before .pre in
+    let e = ap (λ (a : First). a .stamp) (c .before .before .before .before .before .before .before .before .before .before .before .before .before .first-at .ensures) in
+    (omega (arith, e, k .stamp, k .stamps-room), omega (arith, e, k .stamp, k .stamps-room))
 
 add-after : tie.Need-add-after
-add-after c =
-    let k = c .before .before .before .before .before .before .before .before .before .before .before .before .before .before .before .before .before .before .before .before .pre in
-    omega (arith, k .tracked)
+add-after c = omega (arith, c .before .before .before .before .before .before .before .before .before .before .before .before .before .before .before .before .before .before .before .before .before .before .before .before .before .pre .tracked)
 
 add-after-2 : tie.Need-add-after-2
 add-after-2 c =
-    let k = c .before .before .before .before .before .before .before .before .before .before .before .before .before .before .before .before .before .before .before .before .before .pre in
-    omega (arith, k .pages, k .most, c .before .before .before .before .before .before .before .before .before .before .before .before .before .before .before .before .fresh-pages .ensures)
+    let b = c .before .before .before .before .before .before .before .before .before .before .before .before .before .before .before .before .before .before .before .before .before .before .before .before .before .before in
+    omega (arith, b .pre .grids-room, c .before .before .before .before .before .before .before .before .before .before .before .before .before .before .before .before .before .before .before .before .fresh-grids .ensures, b .pre .newest-most)
+
+add-after-3 : tie.Need-add-after-3
+add-after-3 c =
+    let b = c .before .before .before .before .before .before .before .before .before .before .before .before .before .before .before .before .before .before .before .before .before .before .before .before .before .before .before .before in
+    omega (arith, b .pre .stamps-room, b .pre .stamps-most)
 
 same-length : tie.Need-same-length
-same-length c = search needs
+same-length c = c .before .before .before .before .before .before .before .before .before .before .before .before .before .before .before .before .before .before .start-record .kept .0
 
 same-length-2 : tie.Need-same-length-2
 same-length-2 c = search needs
@@ -57,22 +65,7 @@ same-length-3 c = search needs
 
 returns : tie.Need-returns
 returns c =
-    let b = c .before .before .before .before .before .before .before .before .before .before .before .before .before .before .before .before .before .before .before .before .before in
-    started-as _ _ _ _ _ _ _ (b .args .records) _ _ _ _ _ _ _ (c .before .before .before .before .before .before .before .before .before .before .before .before .new-record .ensures) (c .before .before .before .before .before .before .before .before .before .before .before .before .before .before .pages-before .ensures) (c .before .before .before .before .before .before .before .before .before .before .before .before .before .before .before .before .fresh-pages .ensures) (c .before .before .before .before .before .before .before .before .before .before .before .insert-texture .ensures) (c .before .before .before .before .before .before .renew-pages .ensures .0) (c .before .before .before .before .before .before .renew-pages .ensures .1)
+    started-as _ _ _ _ (c .before .before .before .before .before .before .before .before .before .before .before .before .before .before .before .before .before .before .before .before .before .before .before .before .before .before .before .before .args .new) _ _ _ _ _ (c .before .before .before .before .before .before .before .before .before .before .before .before .before .before .before .before .before .before .before .before .first-at .ensures) (c .before .before .before .before .before .before .before .before .before .before .before .before .before .before .before .before .before .before .before .before .before .before .fresh-grids .ensures) (c .before .before .before .before .before .before .before .before .before .before .before .before .before .before .before .before .before .before .start-record .ensures) (c .before .before .before .before .before .before .before .before .before .before .before .before .renew-block .ensures) (c .before .before .before .before .before .before .renew-block2 .ensures)
 
 pub start-tracking-spec : {M : Type 1} → statement M
-start-tracking-spec =
-    tie.close
-    (tie.spec
-    add-epoch
-    fresh-pages-requires
-    pages-before-requires
-    new-record-requires
-    insert-texture-requires
-    renew-pages-requires
-    add-after
-    add-after-2
-    same-length
-    same-length-2
-    same-length-3
-    returns)
+start-tracking-spec = tie.close (tie.spec add-epoch fresh-grids-requires first-at-requires start-record-requires sub-renew-block renew-block-requires sub-renew-block-2 renew-block-requires-2 add-after add-after-2 add-after-3 same-length same-length-2 same-length-3 returns)

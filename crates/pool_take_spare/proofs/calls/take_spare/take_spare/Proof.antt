@@ -1,9 +1,9 @@
--- `take_spare` meets its contract: each case is done by one function, and leaves what the rule leaves. Assumes nothing.
+-- `take_spare` meets its contract: each case leaves what the rule leaves. Assumes nothing.
 use mathlib.Core.Path.{sym, _∙_}
 use borrow.Author.Tests.{not-true, not-false}
 use Rattle.pool_tracking.proofs.Started.{start-fits, left-started}
 use Rattle.pool_take_spare.proofs.Said.{readable, refused-call}
-use Rattle.pool_take_spare.proofs.LookedUp.{look-accepted, look-tracked, look-untracked}
+use Rattle.pool_take_spare.proofs.LookedUp.{look-accepted, look-tracked, look-untracked, look-new, look-other}
 use Rattle.pool_take_spare.proofs.TakenNewest.{newest-fits, left-taken}
 use borrow.Author.Needs.{needs}
 use Rattle.pool_take_spare.proofs.calls.take_spare.take_spare.Statement.{statement}
@@ -25,9 +25,10 @@ returns c =
 
 start-tracking-requires : tie.Need-start-tracking-requires
 start-tracking-requires c κs =
-    let pool = c .before .before .before .before .before .before .before .before .before .before .before .before .before .before .before .pre in
+    let b = c .before .before .before .before .before .before .before .before .before .before .before .before .before .before .before in
     let look = c .before .before .before .before .before .before .before .look-up .ensures in
-    start-fits _ _ _ _ _ _ (look-accepted _ _ _ _ _ _ pool look (c .before .before .before .before .before .if1 .left)) (look-untracked _ _ _ _ _ _ pool look (not-true _ (c .before .before .before .if2 .taken)))
+    let y = not-true _ (c .before .before .before .if2 .taken) in
+    start-fits _ _ (look-new _ _ _ _ _ _ (b .pre) look (c .before .before .before .before .before .if1 .left) y) (look-untracked _ _ _ _ _ _ (b .pre) look y)
 
 same-length-2 : tie.Need-same-length-2
 same-length-2 c = search needs
@@ -40,15 +41,16 @@ same-length-4 c = search needs
 
 returns-2 : tie.Need-returns-2
 returns-2 c =
-    let pool = c .before .before .before .before .before .before .before .before .before .before .before .before .before .before .before .before .before .before .before .before .before .before .pre in
+    let b = c .before .before .before .before .before .before .before .before .before .before .before .before .before .before .before .before .before .before .before .before .before .before in
     let look = c .before .before .before .before .before .before .before .before .before .before .before .before .before .before .look-up .ensures in
-    left-started _ _ _ _ _ _ (look-accepted _ _ _ _ _ _ pool look (c .before .before .before .before .before .before .before .before .before .before .before .before .if1 .left)) (look-untracked _ _ _ _ _ _ pool look (not-true _ (c .before .before .before .before .before .before .before .before .before .before .if2 .taken))) _ _ _ _ (c .before .before .before .before .before .before .start-tracking .ensures)
+    let y = not-true _ (c .before .before .before .before .before .before .before .before .before .before .if2 .taken) in
+    left-started _ _ (look-new _ _ _ _ _ _ (b .pre) look (c .before .before .before .before .before .before .before .before .before .before .before .before .if1 .left) y) (look-untracked _ _ _ _ _ _ (b .pre) look y) _ _ _ _ (c .before .before .before .before .before .before .start-tracking .ensures)
 
 take-newest-requires : tie.Need-take-newest-requires
 take-newest-requires c κs =
-    let pool = c .before .before .before .before .before .before .before .before .before .before .before .before .before .before .before .pre in
+    let b = c .before .before .before .before .before .before .before .before .before .before .before .before .before .before .before in
     let look = c .before .before .before .before .before .before .before .look-up .ensures in
-    newest-fits _ _ _ _ _ _ (look-accepted _ _ _ _ _ _ pool look (c .before .before .before .before .before .if1 .left)) (look-tracked _ _ _ _ _ _ pool look (not-false _ (c .before .before .before .if2 .left)))
+    newest-fits _ _ _ _ _ _ (look-accepted _ _ _ _ _ _ (b .pre) look (c .before .before .before .before .before .if1 .left)) (look-tracked _ _ _ _ _ _ (b .pre) look (not-false _ (c .before .before .before .if2 .left)))
 
 same-length-5 : tie.Need-same-length-5
 same-length-5 c = search needs
@@ -58,17 +60,17 @@ same-length-6 c = search needs
 
 returns-3 : tie.Need-returns-3
 returns-3 c =
-    let pool = c .before .before .before .before .before .before .before .before .before .before .before .before .before .before .before .before .before .before .before .before .pre in
+    let b = c .before .before .before .before .before .before .before .before .before .before .before .before .before .before .before .before .before .before .before .before in
     let look = c .before .before .before .before .before .before .before .before .before .before .before .before .look-up .ensures in
     let y = not-false _ (c .before .before .before .before .before .before .before .before .if2 .left) in
-    left-taken _ _ _ _ _ _ (look-accepted _ _ _ _ _ _ pool look (c .before .before .before .before .before .before .before .before .before .before .if1 .left)) (look-tracked _ _ _ _ _ _ pool look y) (sym (look .same y) ∙ c .before .before .before .before .before .before .before .if3 .taken) _ _ _ _ (c .before .before .before .before .take-newest .ensures)
+    left-taken _ _ _ _ _ _ (look-accepted _ _ _ _ _ _ (b .pre) look (c .before .before .before .before .before .before .before .before .before .before .if1 .left)) (look-tracked _ _ _ _ _ _ (b .pre) look y) (sym (look .same y) ∙ c .before .before .before .before .before .before .before .if3 .taken) _ _ _ _ (c .before .before .before .before .take-newest .ensures)
 
 renew-tracking-requires : tie.Need-renew-tracking-requires
 renew-tracking-requires c κs =
-    let pool = c .before .before .before .before .before .before .before .before .before .before .before .before .before .before .before .before .before .before .pre in
+    let b = c .before .before .before .before .before .before .before .before .before .before .before .before .before .before .before .before .before .before in
     let look = c .before .before .before .before .before .before .before .before .before .before .look-up .ensures in
     let y = not-false _ (c .before .before .before .before .before .before .if2 .left) in
-    (look-accepted _ _ _ _ _ _ pool look (c .before .before .before .before .before .before .before .before .if1 .left), look-tracked _ _ _ _ _ _ pool look y, sym (look .same y) ∙ c .before .before .before .before .before .if3 .left)
+    (look-other _ _ _ _ _ _ (b .pre) look (c .before .before .before .before .before .before .before .before .if1 .left) (c .before .before .before .before .before .if3 .left), look-tracked _ _ _ _ _ _ (b .pre) look y, sym (look .same y) ∙ c .before .before .before .before .before .if3 .left)
 
 same-length-7 : tie.Need-same-length-7
 same-length-7 c = search needs
@@ -89,26 +91,4 @@ returns-4 : tie.Need-returns-4
 returns-4 c = c .before .before .before .before .before .before .before .before .before .before .renew-tracking .ensures
 
 pub take-spare-spec : {M : Type 1} → statement M
-take-spare-spec =
-    tie.close
-    (tie.spec
-    look-up-requires
-    same-counts-requires
-    same-length
-    returns
-    start-tracking-requires
-    same-length-2
-    same-length-3
-    same-length-4
-    returns-2
-    take-newest-requires
-    same-length-5
-    same-length-6
-    returns-3
-    renew-tracking-requires
-    same-length-7
-    same-length-8
-    same-length-9
-    same-length-10
-    same-length-11
-    returns-4)
+take-spare-spec = tie.close (tie.spec look-up-requires same-counts-requires same-length returns start-tracking-requires same-length-2 same-length-3 same-length-4 returns-2 take-newest-requires same-length-5 same-length-6 returns-3 renew-tracking-requires same-length-7 same-length-8 same-length-9 same-length-10 same-length-11 returns-4)
