@@ -34,6 +34,7 @@ module _ (pool : Counts) (textures : List ℕ) (lent id : ℕ) (shape : VersionS
         outcome = said .outcome;
         tracked = sym gone;
         same = λ e. absurd (true≢false (sym e));
+        only = λ e. absurd (true≢false (sym e));
         fresh = λ e other. said .fresh e (λ y. absurd (true≢false (sym y ∙ gone)));
       }
 
@@ -46,6 +47,7 @@ module _ (pool : Counts) (textures : List ℕ) (lent id : ℕ) (shape : VersionS
         outcome = said .outcome;
         tracked = sym (not-false b into) ∙ has;
         same = λ y. same-is;
+        only = λ y. refl;
         fresh = λ z other. said .fresh z (λ y. sym same-is ∙ other refl);
       }
 

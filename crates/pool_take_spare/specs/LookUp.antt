@@ -17,4 +17,5 @@ pub record Looked (pool : Pool) (textures : List ℕ) (lent id : ℕ) (shape : V
   pub outcome : r .outcome ≡ refusalAt pool textures lent (r .place) id shape records seq
   pub tracked : r .tracked ≡ hasId textures (pool .tracked) (r .place) id
   pub same : r .tracked ≡ true → r .same ≡ sameShape (textureIn textures (r .place) .shape) shape
+  pub only : r .same ≡ true → r .tracked ≡ true
   pub fresh : r .outcome ≡ 0 → (r .tracked ≡ true → r .same ≡ false) → r .stamps ≡ freshStamps shape records

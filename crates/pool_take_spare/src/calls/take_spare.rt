@@ -44,6 +44,9 @@ pub fn take_spare(
             taken: Taken::Refused(look.outcome),
         };
     }
+    if look.same {
+        return take_newest(pool, textures, spares, look.place, seq);
+    }
     let new = NewTracking {
         place: look.place,
         id,
@@ -58,9 +61,6 @@ pub fn take_spare(
             pool: after,
             taken: Taken::NoSpare,
         };
-    }
-    if look.same {
-        return take_newest(pool, textures, spares, look.place, seq);
     }
     let after = renew_tracking(
         pool,

@@ -42,7 +42,9 @@ returns-5 : tie.Need-returns-5
 returns-5 c = said-same _ _ _ _ _ _ (c .before .before .before .before .before .before .before .before .before .args .records) _ _ (c .before .before .before .before .before .before .before .is-shape .ensures) (c .before .before .before .before .before .before .if1 .left) (c .before .before .before .before .before .if2 .left) _ (c .before .before .before .before .has-id .ensures) (c .before .before .before .if3 .left) _ (c .before .before .texture-at .ensures) _ (c .before .same-shape .ensures) (c .if5 .taken)
 
 stamp-end-requires : tie.Need-stamp-end-requires
-stamp-end-requires c κs = (c .before .before .before .before .before .before .before .before .before .pre .there, is-place _ _ _ _ _ (c .before .before .before .before .before .before .before .before .before .pre) _ (c .before .before .before .before .has-id .ensures) (c .before .before .before .if3 .left))
+stamp-end-requires c κs =
+    let b = c .before .before .before .before .before .before .before .before .before in
+    (b .pre .there, is-place _ _ _ _ _ (b .pre) _ (c .before .before .before .before .has-id .ensures) (c .before .before .before .if3 .left))
 
 sub-own : tie.Need-sub-own
 sub-own c = own-begins _ _ _ _ _ (c .before .before .before .before .before .before .before .before .before .before .pre) _ (c .before .before .before .before .before .has-id .ensures) (c .before .before .before .before .if3 .left) _ (c .before .before .before .texture-at .ensures) _ (c .stamp-end .ensures)

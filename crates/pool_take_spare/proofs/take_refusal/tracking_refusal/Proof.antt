@@ -13,7 +13,9 @@ add-if1 : tie.Need-add-if1
 add-if1 c = search needs
 
 add-if1-2 : tie.Need-add-if1-2
-add-if1-2 c = omega (arith, c .before .fresh-stamps .ensures, stamps-few _ (c .before .before .pre .0) (c .before .before .args .records), c .before .before .pre .3)
+add-if1-2 c =
+    let b = c .before .before in
+    omega (arith, c .before .fresh-stamps .ensures, stamps-few _ (b .pre .0) (b .args .records), b .pre .3)
 
 returns : tie.Need-returns
 returns c =

@@ -19,15 +19,27 @@ add-move-starts c = search needs
 
 move-starts-requires : tie.Need-move-starts-requires
 move-starts-requires c κs =
-    let put = record-written _ _ (c .before .before .before .before .before .before .before .args .new) _ (c .before .before .before .before .before .before .before .args .old) _ (c .before .before .before .before .new-record .ensures) (c .before .before .before .put-texture .ensures) in
-    (search needs, search needs, subst (StartsMove _ _ _ _) (sym put) (c .before .before .before .before .before .before .before .pre .3))
+    let b = c .before .before .before .before .before .before .before in
+    let put = record-written _ _ (b .args .new) _ (b .args .old) _ (c .before .before .before .before .new-record .ensures) (c .before .before .before .put-texture .ensures) in (
+      search needs,
+      search needs,
+      λ j from to.
+          let m = subst (StartsMove _ _ _ _) (sym put) (b .pre .3) j from to in
+          record {
+            grid-less = omega (arith, m .grid-less);
+            grid-more = omega (arith, m .grid-more);
+            stamp-less = omega (arith, m .stamp-less);
+            stamp-more = omega (arith, m .stamp-more);
+          },
+    )
 
 same-length : tie.Need-same-length
 same-length c = search needs
 
 returns : tie.Need-returns
 returns c =
-    let put = record-written _ _ (c .before .before .before .before .before .before .before .before .before .before .args .new) _ (c .before .before .before .before .before .before .before .before .before .before .args .old) _ (c .before .before .before .before .before .before .before .new-record .ensures) (c .before .before .before .before .before .before .put-texture .ensures) in
+    let b = c .before .before .before .before .before .before .before .before .before .before in
+    let put = record-written _ _ (b .args .new) _ (b .args .old) _ (c .before .before .before .before .before .before .before .new-record .ensures) (c .before .before .before .before .before .before .put-texture .ensures) in
     c .before .before .move-starts .ensures ∙ ap (startsMoved _ _ _ _) put
 
 pub renew-record-spec : {M : Type 1} → statement M

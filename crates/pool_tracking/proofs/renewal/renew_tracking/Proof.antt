@@ -2,81 +2,96 @@
 use mathlib.Core.Path.{refl}
 use native.Mathlib.Omega.{arith}
 use Rattle.pool_tracking.proofs.Renewed.{readable, renewable, left-renewed}
-use borrow.Author.Needs.{needs}
 use Rattle.pool_tracking.proofs.renewal.renew_tracking.Statement.{statement}
 use Rattle.pool_tracking.proofs.renewal.renew_tracking.Tie as tie
 
 holding-at-requires : tie.Need-holding-at-requires
-holding-at-requires c κs = readable _ (c .before .before .before .before .before .before .before .args .new) (c .before .before .before .before .before .before .before .pre .0) (c .before .before .before .before .before .before .before .pre .1) (c .before .before .before .before .before .before .before .pre .2)
+holding-at-requires c κs =
+    let b = c .before .before .before .before .before .before .before in
+    readable _ (b .args .new) (b .pre .0) (b .pre .1) (b .pre .2)
 
 add-epoch : tie.Need-add-epoch
 add-epoch c =
-    let k = renewable _ (c .before .before .before .before .before .before .before .before .before .args .new) (c .before .before .before .before .before .before .before .before .before .pre .0) (c .before .before .before .before .before .before .before .before .before .pre .1) (c .before .before .before .before .before .before .before .before .before .pre .2) _ (c .before .holding-at .ensures) in
+    let b = c .before .before .before .before .before .before .before .before .before in
+    let k = renewable _ (b .args .new) (b .pre .0) (b .pre .1) (b .pre .2) _ (c .before .holding-at .ensures) in
     omega (arith, k .counter)
 
 fresh-grids-requires : tie.Need-fresh-grids-requires
 fresh-grids-requires c κs =
-    let k = renewable _ (c .before .before .before .before .before .before .before .before .before .before .args .new) (c .before .before .before .before .before .before .before .before .before .before .pre .0) (c .before .before .before .before .before .before .before .before .before .before .pre .1) (c .before .before .before .before .before .before .before .before .before .before .pre .2) _ (c .before .before .holding-at .ensures) in
+    let b = c .before .before .before .before .before .before .before .before .before .before in
+    let k = renewable _ (b .args .new) (b .pre .0) (b .pre .1) (b .pre .2) _ (c .before .before .holding-at .ensures) in
     k .few
 
 give-up-requires : tie.Need-give-up-requires
 give-up-requires c κs =
-    let k = renewable _ (c .before .before .before .before .before .before .before .before .before .before .before .before .before .args .new) (c .before .before .before .before .before .before .before .before .before .before .before .before .before .pre .0) (c .before .before .before .before .before .before .before .before .before .before .before .before .before .pre .1) (c .before .before .before .before .before .before .before .before .before .before .before .before .before .pre .2) _ (c .before .before .before .before .before .holding-at .ensures) in
+    let b = c .before .before .before .before .before .before .before .before .before .before .before .before .before in
+    let k = renewable _ (b .args .new) (b .pre .0) (b .pre .1) (b .pre .2) _ (c .before .before .before .before .before .holding-at .ensures) in
     (k .ring, k .head, k .doomed, k .within, k .spares, k .parked, k .dooming, k .since)
 
 renew-record-requires : tie.Need-renew-record-requires
 renew-record-requires c κs =
-    let k = renewable _ (c .before .before .before .before .before .before .before .before .before .before .before .before .before .before .before .before .before .before .before .args .new) (c .before .before .before .before .before .before .before .before .before .before .before .before .before .before .before .before .before .before .before .pre .0) (c .before .before .before .before .before .before .before .before .before .before .before .before .before .before .before .before .before .before .before .pre .1) (c .before .before .before .before .before .before .before .before .before .before .before .before .before .before .before .before .before .before .before .pre .2) _ (c .before .before .before .before .before .before .before .before .before .before .before .holding-at .ensures) in
-    (k .textures, c .before .before .before .before .before .before .before .before .before .before .before .before .before .before .before .before .before .before .before .pre .1 .0, k .shaped, k .moves _ (c .before .before .before .before .before .before .before .before .fresh-grids .ensures))
+    let b = c .before .before .before .before .before .before .before .before .before .before .before .before .before .before .before .before .before .before .before in
+    let k = renewable _ (b .args .new) (b .pre .0) (b .pre .1) (b .pre .2) _ (c .before .before .before .before .before .before .before .before .before .before .before .holding-at .ensures) in
+    (k .textures, b .pre .1 .0, k .shaped, k .moves _ (c .before .before .before .before .before .before .before .before .fresh-grids .ensures))
 
 add-renew-block : tie.Need-add-renew-block
 add-renew-block c =
-    let k = renewable _ (c .before .before .before .before .before .before .before .before .before .before .before .before .before .before .before .before .before .before .before .before .before .before .before .before .args .new) (c .before .before .before .before .before .before .before .before .before .before .before .before .before .before .before .before .before .before .before .before .before .before .before .before .pre .0) (c .before .before .before .before .before .before .before .before .before .before .before .before .before .before .before .before .before .before .before .before .before .before .before .before .pre .1) (c .before .before .before .before .before .before .before .before .before .before .before .before .before .before .before .before .before .before .before .before .before .before .before .before .pre .2) _ (c .before .before .before .before .before .before .before .before .before .before .before .before .before .before .before .before .holding-at .ensures) in
+    let b = c .before .before .before .before .before .before .before .before .before .before .before .before .before .before .before .before .before .before .before .before .before .before .before .before in
+    let k = renewable _ (b .args .new) (b .pre .0) (b .pre .1) (b .pre .2) _ (c .before .before .before .before .before .before .before .before .before .before .before .before .before .before .before .before .holding-at .ensures) in
     omega (arith, k .grids, k .grids-used, k .newest-most)
 
 sub-renew-block : tie.Need-sub-renew-block
 sub-renew-block c =
-    let k = renewable _ (c .before .before .before .before .before .before .before .before .before .before .before .before .before .before .before .before .before .before .before .before .before .before .before .before .before .args .new) (c .before .before .before .before .before .before .before .before .before .before .before .before .before .before .before .before .before .before .before .before .before .before .before .before .before .pre .0) (c .before .before .before .before .before .before .before .before .before .before .before .before .before .before .before .before .before .before .before .before .before .before .before .before .before .pre .1) (c .before .before .before .before .before .before .before .before .before .before .before .before .before .before .before .before .before .before .before .before .before .before .before .before .before .pre .2) _ (c .before .before .before .before .before .before .before .before .before .before .before .before .before .before .before .before .before .holding-at .ensures) in
+    let b = c .before .before .before .before .before .before .before .before .before .before .before .before .before .before .before .before .before .before .before .before .before .before .before .before .before in
+    let k = renewable _ (b .args .new) (b .pre .0) (b .pre .1) (b .pre .2) _ (c .before .before .before .before .before .before .before .before .before .before .before .before .before .before .before .before .before .holding-at .ensures) in
     k .grids
 
 renew-block-requires : tie.Need-renew-block-requires
 renew-block-requires c κs =
-    let k = renewable _ (c .before .before .before .before .before .before .before .before .before .before .before .before .before .before .before .before .before .before .before .before .before .before .before .before .before .args .new) (c .before .before .before .before .before .before .before .before .before .before .before .before .before .before .before .before .before .before .before .before .before .before .before .before .before .pre .0) (c .before .before .before .before .before .before .before .before .before .before .before .before .before .before .before .before .before .before .before .before .before .before .before .before .before .pre .1) (c .before .before .before .before .before .before .before .before .before .before .before .before .before .before .before .before .before .before .before .before .before .before .before .before .before .pre .2) _ (c .before .before .before .before .before .before .before .before .before .before .before .before .before .before .before .before .before .holding-at .ensures) in
+    let b = c .before .before .before .before .before .before .before .before .before .before .before .before .before .before .before .before .before .before .before .before .before .before .before .before .before in
+    let k = renewable _ (b .args .new) (b .pre .0) (b .pre .1) (b .pre .2) _ (c .before .before .before .before .before .before .before .before .before .before .before .before .before .before .before .before .before .holding-at .ensures) in
     (omega (arith, k .grids, k .grids-used), omega (arith, k .grids, k .grids-room, c .before .before .before .before .before .before .before .before .before .before .before .before .before .before .fresh-grids .ensures))
 
 add-renew-block-2 : tie.Need-add-renew-block-2
 add-renew-block-2 c =
-    let k = renewable _ (c .before .before .before .before .before .before .before .before .before .before .before .before .before .before .before .before .before .before .before .before .before .before .before .before .before .before .before .before .before .before .args .new) (c .before .before .before .before .before .before .before .before .before .before .before .before .before .before .before .before .before .before .before .before .before .before .before .before .before .before .before .before .before .before .pre .0) (c .before .before .before .before .before .before .before .before .before .before .before .before .before .before .before .before .before .before .before .before .before .before .before .before .before .before .before .before .before .before .pre .1) (c .before .before .before .before .before .before .before .before .before .before .before .before .before .before .before .before .before .before .before .before .before .before .before .before .before .before .before .before .before .before .pre .2) _ (c .before .before .before .before .before .before .before .before .before .before .before .before .before .before .before .before .before .before .before .before .before .before .holding-at .ensures) in
+    let b = c .before .before .before .before .before .before .before .before .before .before .before .before .before .before .before .before .before .before .before .before .before .before .before .before .before .before .before .before .before .before in
+    let k = renewable _ (b .args .new) (b .pre .0) (b .pre .1) (b .pre .2) _ (c .before .before .before .before .before .before .before .before .before .before .before .before .before .before .before .before .before .before .before .before .before .before .holding-at .ensures) in
     omega (arith, k .stamps, k .stamps-used, k .stamps-most)
 
 sub-renew-block-2 : tie.Need-sub-renew-block-2
 sub-renew-block-2 c =
-    let k = renewable _ (c .before .before .before .before .before .before .before .before .before .before .before .before .before .before .before .before .before .before .before .before .before .before .before .before .before .before .before .before .before .before .before .args .new) (c .before .before .before .before .before .before .before .before .before .before .before .before .before .before .before .before .before .before .before .before .before .before .before .before .before .before .before .before .before .before .before .pre .0) (c .before .before .before .before .before .before .before .before .before .before .before .before .before .before .before .before .before .before .before .before .before .before .before .before .before .before .before .before .before .before .before .pre .1) (c .before .before .before .before .before .before .before .before .before .before .before .before .before .before .before .before .before .before .before .before .before .before .before .before .before .before .before .before .before .before .before .pre .2) _ (c .before .before .before .before .before .before .before .before .before .before .before .before .before .before .before .before .before .before .before .before .before .before .before .holding-at .ensures) in
+    let b = c .before .before .before .before .before .before .before .before .before .before .before .before .before .before .before .before .before .before .before .before .before .before .before .before .before .before .before .before .before .before .before in
+    let k = renewable _ (b .args .new) (b .pre .0) (b .pre .1) (b .pre .2) _ (c .before .before .before .before .before .before .before .before .before .before .before .before .before .before .before .before .before .before .before .before .before .before .before .holding-at .ensures) in
     k .stamps
 
 renew-block-requires-2 : tie.Need-renew-block-requires-2
 renew-block-requires-2 c κs =
-    let k = renewable _ (c .before .before .before .before .before .before .before .before .before .before .before .before .before .before .before .before .before .before .before .before .before .before .before .before .before .before .before .before .before .before .before .args .new) (c .before .before .before .before .before .before .before .before .before .before .before .before .before .before .before .before .before .before .before .before .before .before .before .before .before .before .before .before .before .before .before .pre .0) (c .before .before .before .before .before .before .before .before .before .before .before .before .before .before .before .before .before .before .before .before .before .before .before .before .before .before .before .before .before .before .before .pre .1) (c .before .before .before .before .before .before .before .before .before .before .before .before .before .before .before .before .before .before .before .before .before .before .before .before .before .before .before .before .before .before .before .pre .2) _ (c .before .before .before .before .before .before .before .before .before .before .before .before .before .before .before .before .before .before .before .before .before .before .before .holding-at .ensures) in
+    let b = c .before .before .before .before .before .before .before .before .before .before .before .before .before .before .before .before .before .before .before .before .before .before .before .before .before .before .before .before .before .before .before in
+    let k = renewable _ (b .args .new) (b .pre .0) (b .pre .1) (b .pre .2) _ (c .before .before .before .before .before .before .before .before .before .before .before .before .before .before .before .before .before .before .before .before .before .before .before .holding-at .ensures) in
     (omega (arith, k .stamps, k .stamps-used), omega (arith, k .stamps, k .stamps-room))
 
 sub-after : tie.Need-sub-after
 sub-after c =
-    let k = renewable _ (c .before .before .before .before .before .before .before .before .before .before .before .before .before .before .before .before .before .before .before .before .before .before .before .before .before .before .before .before .before .before .before .before .before .before .before .before .args .new) (c .before .before .before .before .before .before .before .before .before .before .before .before .before .before .before .before .before .before .before .before .before .before .before .before .before .before .before .before .before .before .before .before .before .before .before .before .pre .0) (c .before .before .before .before .before .before .before .before .before .before .before .before .before .before .before .before .before .before .before .before .before .before .before .before .before .before .before .before .before .before .before .before .before .before .before .before .pre .1) (c .before .before .before .before .before .before .before .before .before .before .before .before .before .before .before .before .before .before .before .before .before .before .before .before .before .before .before .before .before .before .before .before .before .before .before .before .pre .2) _ (c .before .before .before .before .before .before .before .before .before .before .before .before .before .before .before .before .before .before .before .before .before .before .before .before .before .before .before .before .holding-at .ensures) in
+    let b = c .before .before .before .before .before .before .before .before .before .before .before .before .before .before .before .before .before .before .before .before .before .before .before .before .before .before .before .before .before .before .before .before .before .before .before .before in
+    let k = renewable _ (b .args .new) (b .pre .0) (b .pre .1) (b .pre .2) _ (c .before .before .before .before .before .before .before .before .before .before .before .before .before .before .before .before .before .before .before .before .before .before .before .before .before .before .before .before .holding-at .ensures) in
     omega (arith, k .grids)
 
 add-after : tie.Need-add-after
 add-after c =
-    let k = renewable _ (c .before .before .before .before .before .before .before .before .before .before .before .before .before .before .before .before .before .before .before .before .before .before .before .before .before .before .before .before .before .before .before .before .before .before .before .before .args .new) (c .before .before .before .before .before .before .before .before .before .before .before .before .before .before .before .before .before .before .before .before .before .before .before .before .before .before .before .before .before .before .before .before .before .before .before .before .pre .0) (c .before .before .before .before .before .before .before .before .before .before .before .before .before .before .before .before .before .before .before .before .before .before .before .before .before .before .before .before .before .before .before .before .before .before .before .before .pre .1) (c .before .before .before .before .before .before .before .before .before .before .before .before .before .before .before .before .before .before .before .before .before .before .before .before .before .before .before .before .before .before .before .before .before .before .before .before .pre .2) _ (c .before .before .before .before .before .before .before .before .before .before .before .before .before .before .before .before .before .before .before .before .before .before .before .before .before .before .before .before .holding-at .ensures) in
+    let b = c .before .before .before .before .before .before .before .before .before .before .before .before .before .before .before .before .before .before .before .before .before .before .before .before .before .before .before .before .before .before .before .before .before .before .before .before in
+    let k = renewable _ (b .args .new) (b .pre .0) (b .pre .1) (b .pre .2) _ (c .before .before .before .before .before .before .before .before .before .before .before .before .before .before .before .before .before .before .before .before .before .before .before .before .before .before .before .before .holding-at .ensures) in
     omega (arith, k .grids-room, k .newest-most, k .grids, k .grids-used, c .before .before .before .before .before .before .before .before .before .before .before .before .before .before .before .before .before .before .before .before .before .before .before .before .before .fresh-grids .ensures)
 
 sub-after-2 : tie.Need-sub-after-2
 sub-after-2 c =
-    let k = renewable _ (c .before .before .before .before .before .before .before .before .before .before .before .before .before .before .before .before .before .before .before .before .before .before .before .before .before .before .before .before .before .before .before .before .before .before .before .before .before .before .args .new) (c .before .before .before .before .before .before .before .before .before .before .before .before .before .before .before .before .before .before .before .before .before .before .before .before .before .before .before .before .before .before .before .before .before .before .before .before .before .before .pre .0) (c .before .before .before .before .before .before .before .before .before .before .before .before .before .before .before .before .before .before .before .before .before .before .before .before .before .before .before .before .before .before .before .before .before .before .before .before .before .before .pre .1) (c .before .before .before .before .before .before .before .before .before .before .before .before .before .before .before .before .before .before .before .before .before .before .before .before .before .before .before .before .before .before .before .before .before .before .before .before .before .before .pre .2) _ (c .before .before .before .before .before .before .before .before .before .before .before .before .before .before .before .before .before .before .before .before .before .before .before .before .before .before .before .before .before .before .holding-at .ensures) in
+    let b = c .before .before .before .before .before .before .before .before .before .before .before .before .before .before .before .before .before .before .before .before .before .before .before .before .before .before .before .before .before .before .before .before .before .before .before .before .before .before in
+    let k = renewable _ (b .args .new) (b .pre .0) (b .pre .1) (b .pre .2) _ (c .before .before .before .before .before .before .before .before .before .before .before .before .before .before .before .before .before .before .before .before .before .before .before .before .before .before .before .before .before .before .holding-at .ensures) in
     omega (arith, k .stamps)
 
 add-after-2 : tie.Need-add-after-2
 add-after-2 c =
-    let k = renewable _ (c .before .before .before .before .before .before .before .before .before .before .before .before .before .before .before .before .before .before .before .before .before .before .before .before .before .before .before .before .before .before .before .before .before .before .before .before .before .before .before .args .new) (c .before .before .before .before .before .before .before .before .before .before .before .before .before .before .before .before .before .before .before .before .before .before .before .before .before .before .before .before .before .before .before .before .before .before .before .before .before .before .before .pre .0) (c .before .before .before .before .before .before .before .before .before .before .before .before .before .before .before .before .before .before .before .before .before .before .before .before .before .before .before .before .before .before .before .before .before .before .before .before .before .before .before .pre .1) (c .before .before .before .before .before .before .before .before .before .before .before .before .before .before .before .before .before .before .before .before .before .before .before .before .before .before .before .before .before .before .before .before .before .before .before .before .before .before .before .pre .2) _ (c .before .before .before .before .before .before .before .before .before .before .before .before .before .before .before .before .before .before .before .before .before .before .before .before .before .before .before .before .before .before .before .holding-at .ensures) in
+    let b = c .before .before .before .before .before .before .before .before .before .before .before .before .before .before .before .before .before .before .before .before .before .before .before .before .before .before .before .before .before .before .before .before .before .before .before .before .before .before .before in
+    let k = renewable _ (b .args .new) (b .pre .0) (b .pre .1) (b .pre .2) _ (c .before .before .before .before .before .before .before .before .before .before .before .before .before .before .before .before .before .before .before .before .before .before .before .before .before .before .before .before .before .before .before .holding-at .ensures) in
     omega (arith, k .stamps-room, k .stamps-most, k .stamps, k .stamps-used)
 
 same-length : tie.Need-same-length
@@ -96,8 +111,9 @@ same-length-5 c = c .before .before .before .before .before .before .before .ren
 
 returns : tie.Need-returns
 returns c =
+    let b = c .before .before .before .before .before .before .before .before .before .before .before .before .before .before .before .before .before .before .before .before .before .before .before .before .before .before .before .before .before .before .before .before .before .before .before .before .before .before .before in
     let g = c .before .before .before .before .before .before .before .before .before .before .before .before .before .before .before .before .before .before .before .before .before .before .before .before .before .give-up .ensures in
-    left-renewed _ (c .before .before .before .before .before .before .before .before .before .before .before .before .before .before .before .before .before .before .before .before .before .before .before .before .before .before .before .before .before .before .before .before .before .before .before .before .before .before .before .args .new) (c .before .before .before .before .before .before .before .before .before .before .before .before .before .before .before .before .before .before .before .before .before .before .before .before .before .before .before .before .before .before .before .before .before .before .before .before .before .before .before .pre .0) (c .before .before .before .before .before .before .before .before .before .before .before .before .before .before .before .before .before .before .before .before .before .before .before .before .before .before .before .before .before .before .before .before .before .before .before .before .before .before .before .pre .1) (c .before .before .before .before .before .before .before .before .before .before .before .before .before .before .before .before .before .before .before .before .before .before .before .before .before .before .before .before .before .before .before .before .before .before .before .before .before .before .before .pre .2) _ (c .before .before .before .before .before .before .before .before .before .before .before .before .before .before .before .before .before .before .before .before .before .before .before .before .before .before .before .before .before .before .before .holding-at .ensures) _ _ _ _ _ _ _ _ refl (c .before .before .before .before .before .before .before .before .before .before .before .before .before .before .before .before .before .before .before .before .before .before .before .before .before .before .before .before .fresh-grids .ensures) (g .0) (g .1) (g .2) (c .before .before .before .before .before .before .before .before .before .before .before .before .before .before .before .before .before .before .before .renew-record .ensures) (c .before .before .before .before .before .before .before .before .before .before .before .before .before .renew-block .ensures) (c .before .before .before .before .before .before .before .renew-block2 .ensures)
+    left-renewed _ (b .args .new) (b .pre .0) (b .pre .1) (b .pre .2) _ (c .before .before .before .before .before .before .before .before .before .before .before .before .before .before .before .before .before .before .before .before .before .before .before .before .before .before .before .before .before .before .before .holding-at .ensures) _ _ _ _ _ _ _ _ refl (c .before .before .before .before .before .before .before .before .before .before .before .before .before .before .before .before .before .before .before .before .before .before .before .before .before .before .before .before .fresh-grids .ensures) (g .0) (g .1) (g .2) (c .before .before .before .before .before .before .before .before .before .before .before .before .before .before .before .before .before .before .before .renew-record .ensures) (c .before .before .before .before .before .before .before .before .before .before .before .before .before .renew-block .ensures) (c .before .before .before .before .before .before .before .renew-block2 .ensures)
 
 pub renew-tracking-spec : {M : Type 1} → statement M
 renew-tracking-spec = tie.close (tie.spec holding-at-requires add-epoch fresh-grids-requires give-up-requires renew-record-requires add-renew-block sub-renew-block renew-block-requires add-renew-block-2 sub-renew-block-2 renew-block-requires-2 sub-after add-after sub-after-2 add-after-2 same-length same-length-2 same-length-3 same-length-4 same-length-5 returns)

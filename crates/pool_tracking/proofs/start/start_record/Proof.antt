@@ -12,7 +12,9 @@ new-record-requires : tie.Need-new-record-requires
 new-record-requires c κs = search needs
 
 insert-texture-requires : tie.Need-insert-texture-requires
-insert-texture-requires c κs = (c .before .before .before .pre .0, c .before .before .before .pre .1, begun-fits (c .before .before .before .args .new) _ _ _ _ (c .new-record .ensures))
+insert-texture-requires c κs =
+    let b = c .before .before .before in
+    (b .pre .0, b .pre .1, begun-fits (b .args .new) _ _ _ _ (c .new-record .ensures))
 
 add-move-starts : tie.Need-add-move-starts
 add-move-starts c = search needs
@@ -22,8 +24,19 @@ add-move-starts-2 c = search needs
 
 move-starts-requires : tie.Need-move-starts-requires
 move-starts-requires c κs =
-    let put = record-put _ _ _ (c .before .before .before .before .before .before .before .args .new) _ _ _ (c .before .before .before .before .new-record .ensures) (c .before .before .before .insert-texture .ensures) in
-    (search needs, search needs, subst (StartsMove _ _ _ _) (sym put) (c .before .before .before .before .before .before .before .pre .3))
+    let b = c .before .before .before .before .before .before .before in
+    let put = record-put _ _ _ (b .args .new) _ _ _ (c .before .before .before .before .new-record .ensures) (c .before .before .before .insert-texture .ensures) in (
+      search needs,
+      search needs,
+      λ j from to.
+          let m = subst (StartsMove _ _ _ _) (sym put) (b .pre .3) j from to in
+          record {
+            grid-less = omega (arith, m .grid-less);
+            grid-more = omega (arith, m .grid-more);
+            stamp-less = omega (arith, m .stamp-less);
+            stamp-more = omega (arith, m .stamp-more);
+          },
+    )
 
 same-length : tie.Need-same-length
 same-length c = search needs

@@ -19,8 +19,9 @@ first-at-requires c κs = search needs
 
 start-record-requires : tie.Need-start-record-requires
 start-record-requires c κs =
-    let k = c .before .before .before .before .before .before .before .before .before .pre in
-    (k .room, k .place, k .shaped, moves-as _ _ _ _ (c .before .before .before .before .before .before .before .before .before .args .new) k _ _ (c .before .first-at .ensures) (c .before .before .before .fresh-grids .ensures))
+    let b = c .before .before .before .before .before .before .before .before .before in
+    let k = b .pre in
+    (k .room, k .place, k .shaped, moves-as _ _ _ _ (b .args .new) k _ _ (c .before .first-at .ensures) (c .before .before .before .fresh-grids .ensures))
 
 sub-renew-block : tie.Need-sub-renew-block
 sub-renew-block c = omega (arith, ap (λ (a : First). a .grid) (c .before .before .before .before .before .before .before .first-at .ensures), c .before .before .before .before .before .before .before .before .before .before .before .before .before .before .before .pre .grid)
@@ -29,7 +30,7 @@ renew-block-requires : tie.Need-renew-block-requires
 renew-block-requires c κs =
     let k = c .before .before .before .before .before .before .before .before .before .before .before .before .before .before .before .pre in
     let e = ap (λ (a : First). a .grid) (c .before .before .before .before .before .before .before .first-at .ensures) in
-    (omega (arith, e, k .grid, k .grids-room), omega (arith, e, c .before .before .before .before .before .before .before .before .before .fresh-grids .ensures, k .grid, k .grids-room))
+    (omega (arith, e, c .before .before .before .before .before .before .before .before .before .fresh-grids .ensures, k .grid, k .grids-room), omega (arith, e, c .before .before .before .before .before .before .before .before .before .fresh-grids .ensures, k .grid, k .grids-room))
 
 sub-renew-block-2 : tie.Need-sub-renew-block-2
 sub-renew-block-2 c = omega (arith, ap (λ (a : First). a .stamp) (c .before .before .before .before .before .before .before .before .before .before .before .before .before .first-at .ensures), c .before .before .before .before .before .before .before .before .before .before .before .before .before .before .before .before .before .before .before .before .before .pre .stamp)
@@ -44,10 +45,14 @@ add-after : tie.Need-add-after
 add-after c = omega (arith, c .before .before .before .before .before .before .before .before .before .before .before .before .before .before .before .before .before .before .before .before .before .before .before .before .before .pre .tracked)
 
 add-after-2 : tie.Need-add-after-2
-add-after-2 c = omega (arith, c .before .before .before .before .before .before .before .before .before .before .before .before .before .before .before .before .before .before .before .before .before .before .before .before .before .before .pre .grids-room, c .before .before .before .before .before .before .before .before .before .before .before .before .before .before .before .before .before .before .before .before .fresh-grids .ensures, c .before .before .before .before .before .before .before .before .before .before .before .before .before .before .before .before .before .before .before .before .before .before .before .before .before .before .pre .newest-most)
+add-after-2 c =
+    let b = c .before .before .before .before .before .before .before .before .before .before .before .before .before .before .before .before .before .before .before .before .before .before .before .before .before .before in
+    omega (arith, b .pre .grids-room, c .before .before .before .before .before .before .before .before .before .before .before .before .before .before .before .before .before .before .before .before .fresh-grids .ensures, b .pre .newest-most)
 
 add-after-3 : tie.Need-add-after-3
-add-after-3 c = omega (arith, c .before .before .before .before .before .before .before .before .before .before .before .before .before .before .before .before .before .before .before .before .before .before .before .before .before .before .before .before .pre .stamps-room, c .before .before .before .before .before .before .before .before .before .before .before .before .before .before .before .before .before .before .before .before .before .before .before .before .before .before .before .before .pre .stamps-most)
+add-after-3 c =
+    let b = c .before .before .before .before .before .before .before .before .before .before .before .before .before .before .before .before .before .before .before .before .before .before .before .before .before .before .before .before in
+    omega (arith, b .pre .stamps-room, b .pre .stamps-most)
 
 same-length : tie.Need-same-length
 same-length c = c .before .before .before .before .before .before .before .before .before .before .before .before .before .before .before .before .before .before .start-record .kept .0

@@ -25,9 +25,10 @@ returns c =
 
 start-tracking-requires : tie.Need-start-tracking-requires
 start-tracking-requires c κs =
+    let b = c .before .before .before .before .before .before .before .before .before .before .before .before .before .before .before in
     let look = c .before .before .before .before .before .before .before .look-up .ensures in
     let y = not-true _ (c .before .before .before .if2 .taken) in
-    start-fits _ _ (look-new _ _ _ _ _ _ (c .before .before .before .before .before .before .before .before .before .before .before .before .before .before .before .pre) look (c .before .before .before .before .before .if1 .left) y) (look-untracked _ _ _ _ _ _ (c .before .before .before .before .before .before .before .before .before .before .before .before .before .before .before .pre) look y)
+    start-fits _ _ (look-new _ _ _ _ _ _ (b .pre) look (c .before .before .before .before .before .if1 .left) y) (look-untracked _ _ _ _ _ _ (b .pre) look y)
 
 same-length-2 : tie.Need-same-length-2
 same-length-2 c = search needs
@@ -40,14 +41,16 @@ same-length-4 c = search needs
 
 returns-2 : tie.Need-returns-2
 returns-2 c =
+    let b = c .before .before .before .before .before .before .before .before .before .before .before .before .before .before .before .before .before .before .before .before .before .before in
     let look = c .before .before .before .before .before .before .before .before .before .before .before .before .before .before .look-up .ensures in
     let y = not-true _ (c .before .before .before .before .before .before .before .before .before .before .if2 .taken) in
-    left-started _ _ (look-new _ _ _ _ _ _ (c .before .before .before .before .before .before .before .before .before .before .before .before .before .before .before .before .before .before .before .before .before .before .pre) look (c .before .before .before .before .before .before .before .before .before .before .before .before .if1 .left) y) (look-untracked _ _ _ _ _ _ (c .before .before .before .before .before .before .before .before .before .before .before .before .before .before .before .before .before .before .before .before .before .before .pre) look y) _ _ _ _ (c .before .before .before .before .before .before .start-tracking .ensures)
+    left-started _ _ (look-new _ _ _ _ _ _ (b .pre) look (c .before .before .before .before .before .before .before .before .before .before .before .before .if1 .left) y) (look-untracked _ _ _ _ _ _ (b .pre) look y) _ _ _ _ (c .before .before .before .before .before .before .start-tracking .ensures)
 
 take-newest-requires : tie.Need-take-newest-requires
 take-newest-requires c κs =
+    let b = c .before .before .before .before .before .before .before .before .before .before .before .before .before .before .before in
     let look = c .before .before .before .before .before .before .before .look-up .ensures in
-    newest-fits _ _ _ _ _ _ (look-accepted _ _ _ _ _ _ (c .before .before .before .before .before .before .before .before .before .before .before .before .before .before .before .pre) look (c .before .before .before .before .before .if1 .left)) (look-tracked _ _ _ _ _ _ (c .before .before .before .before .before .before .before .before .before .before .before .before .before .before .before .pre) look (not-false _ (c .before .before .before .if2 .left)))
+    newest-fits _ _ _ _ _ _ (look-accepted _ _ _ _ _ _ (b .pre) look (c .before .before .before .before .before .if1 .left)) (look-tracked _ _ _ _ _ _ (b .pre) look (not-false _ (c .before .before .before .if2 .left)))
 
 same-length-5 : tie.Need-same-length-5
 same-length-5 c = search needs
@@ -57,15 +60,17 @@ same-length-6 c = search needs
 
 returns-3 : tie.Need-returns-3
 returns-3 c =
+    let b = c .before .before .before .before .before .before .before .before .before .before .before .before .before .before .before .before .before .before .before .before in
     let look = c .before .before .before .before .before .before .before .before .before .before .before .before .look-up .ensures in
     let y = not-false _ (c .before .before .before .before .before .before .before .before .if2 .left) in
-    left-taken _ _ _ _ _ _ (look-accepted _ _ _ _ _ _ (c .before .before .before .before .before .before .before .before .before .before .before .before .before .before .before .before .before .before .before .before .pre) look (c .before .before .before .before .before .before .before .before .before .before .if1 .left)) (look-tracked _ _ _ _ _ _ (c .before .before .before .before .before .before .before .before .before .before .before .before .before .before .before .before .before .before .before .before .pre) look y) (sym (look .same y) ∙ c .before .before .before .before .before .before .before .if3 .taken) _ _ _ _ (c .before .before .before .before .take-newest .ensures)
+    left-taken _ _ _ _ _ _ (look-accepted _ _ _ _ _ _ (b .pre) look (c .before .before .before .before .before .before .before .before .before .before .if1 .left)) (look-tracked _ _ _ _ _ _ (b .pre) look y) (sym (look .same y) ∙ c .before .before .before .before .before .before .before .if3 .taken) _ _ _ _ (c .before .before .before .before .take-newest .ensures)
 
 renew-tracking-requires : tie.Need-renew-tracking-requires
 renew-tracking-requires c κs =
+    let b = c .before .before .before .before .before .before .before .before .before .before .before .before .before .before .before .before .before .before in
     let look = c .before .before .before .before .before .before .before .before .before .before .look-up .ensures in
     let y = not-false _ (c .before .before .before .before .before .before .if2 .left) in
-    (look-other _ _ _ _ _ _ (c .before .before .before .before .before .before .before .before .before .before .before .before .before .before .before .before .before .before .pre) look (c .before .before .before .before .before .before .before .before .if1 .left) (c .before .before .before .before .before .if3 .left), look-tracked _ _ _ _ _ _ (c .before .before .before .before .before .before .before .before .before .before .before .before .before .before .before .before .before .before .pre) look y, sym (look .same y) ∙ c .before .before .before .before .before .if3 .left)
+    (look-other _ _ _ _ _ _ (b .pre) look (c .before .before .before .before .before .before .before .before .if1 .left) (c .before .before .before .before .before .if3 .left), look-tracked _ _ _ _ _ _ (b .pre) look y, sym (look .same y) ∙ c .before .before .before .before .before .if3 .left)
 
 same-length-7 : tie.Need-same-length-7
 same-length-7 c = search needs
