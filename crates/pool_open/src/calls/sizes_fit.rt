@@ -5,17 +5,16 @@ ghost use Rattle.pool_memory.specs.declared.book.PacingBook.{PacingBook};
 ghost use Rattle.pool_memory.specs.Lent.{atEntry};
 ghost use Rattle.pool_memory.specs.IsPool.{sizesFit};
 ghost use Rattle.pool_open.specs.Lengths.{lengthsFit};
-use base_blocks::smaller;
 use grid_stamps::PAGE_STAMPS;
 use pool_records::DOOMED_STRIDE;
 use pool_records::RETIRING_STRIDE;
 use pool_records::SPARE_STRIDE;
 use pool_records::TEXTURE_STRIDE;
-use pool_rules::MOST_GRIDS;
 use pool_rules::MOST_PLACES;
+use pool_rules::grid_places;
 
 // Tests that slices of these lengths are of whole places, as many as may be lent, and fit together: `newest` has a number for each grid
-// that can be, 90 a texture and no more than there are stamps. The textures are tested first, so that their grids cannot pass a word.
+// that can be in use. The textures are tested first, so that their grids cannot pass a word.
 pub fn lengths_fit(
     textures: usize,
     retiring: usize,
@@ -32,7 +31,7 @@ pub fn lengths_fit(
     }
     let versions = retiring / RETIRING_STRIDE;
     let pages = stamps / PAGE_STAMPS;
-    let most = smaller((MOST_GRIDS * places) as u64, stamps as u64);
+    let grids = grid_places(places, stamps);
     (1 <= places)
         & (places <= MOST_PLACES)
         & (1 <= versions)
@@ -43,7 +42,7 @@ pub fn lengths_fit(
         & (doomed == DOOMED_STRIDE * versions)
         & (spares == SPARE_STRIDE * versions)
         & (stamps == PAGE_STAMPS * pages)
-        & (newest as u64 == most)
+        & (newest == grids)
 }
 
 // Tests that the lent slices have the sizes that a pool needs, whatever its counts are.
