@@ -293,20 +293,26 @@ def check(program, pairs):
 
 
 def places(program, small):
-    """Textures, versions and pages: as many as 01 or the large program's own comment has are accepted, one more is refused. The history of a flat
-    texture has a page for each level."""
-    textures, versions, pages, levels = (8, 64, 6, 3) if small else (64, 2000, 256, 8)
+    """Textures, versions and stamps: as many as 01 or the large program's own comment has are accepted, one more is refused. A level of 512 by 512 texels
+    has 32 by 32 tiles, as many as a page has stamps; a cube has it six times. A level of one texel has one tile."""
+    textures, versions, pages = (8, 64, 6) if small else (64, 2000, 256)
 
-    def take(id, levels, records):
-        return 'take,%d,2,64,64,1,%d,0,%d,1' % (id, levels, records)
+    def take(id, extent, kind, records):
+        return 'take,%d,2,%d,%d,1,1,%d,%d,1' % (id, extent, extent, kind, records)
 
-    some = [(take(id, 1, 0), '0,-,-') for id in range(textures)]
-    check(program, [('open,0', '0')] + some + [(take(textures, 1, 0), '5'), some[0]])
+    some = [(take(id, 64, 0, 0), '0,-,-') for id in range(textures)]
+    check(program, [('open,0', '0')] + some + [(take(textures, 64, 0, 0), '5'), some[0]])
     some = [('retire,1,%d,5' % view, '0') for view in range(versions)]
     check(program, [('open,0', '0')] + some + [('retire,1,0,5', '7')])
-    histories = pages // levels
-    some = [(take(id, levels, 1), '0,-,-') for id in range(histories)]
-    check(program, [('open,0', '0')] + some + [(take(histories, 1, 1), '6'), (take(histories, 1, 0), '0,-,-')])
+    cubes, flat = divmod(pages, 6)
+    some = [(take(id, 512, int(id < cubes), 1), '0,-,-') for id in range(cubes + flat)]
+    check(program, [('open,0', '0')] + some + [(take(len(some), 1, 0, 1), '6'), (take(len(some), 1, 0, 0), '0,-,-')])
+
+
+def most_grids(program, small):
+    """Six slices of 15 levels for every texture, each of one tile: as many grids as there can be."""
+    textures = 8 if small else 64
+    check(program, [('open,0', '0')] + [('take,%d,2,1,1,1,15,1,1,1' % id, '0,-,-') for id in range(textures)])
 
 
 def longest_plan(program, small):
@@ -354,7 +360,7 @@ def longest_batch(program, small):
 
 TESTS = (
     whole_text, empty_input, last_line_without_its_feed, long_lines, parts_of_every_size, many_reads, conversation, many_lines,
-    output_closes, output_fills, no_input, places, longest_plan, longest_drain, longest_batch,
+    output_closes, output_fills, no_input, places, most_grids, longest_plan, longest_drain, longest_batch,
 )
 
 

@@ -1,4 +1,5 @@
 // What the calls are asked: flat textures that record their writes.
+ghost use Prim.Native.Nat.{_≤_};
 use grid_rects::TexelRect;
 use grid_shapes::VersionShape;
 
@@ -20,13 +21,23 @@ fn square(format: u64, extent: u64, levels: u64) -> VersionShape {
     }
 }
 
-// Returns the shape of n textures: 64 by 64 texels of four bytes, sixteen tiles; where n is odd, 512 by 512 of one byte, whose
-// tiles fill a page.
+// Returns the shape of n textures: 64 by 64 texels of four bytes, sixteen tiles; where n is odd, 512 by 512 of one byte, with as many
+// tiles as a page has stamps.
 pub fn bench_shape(n: usize, levels: u64) -> VersionShape {
     if n % 2 == 1 {
         return square(0, 512, levels);
     }
     square(2, 64, levels)
+}
+
+// Returns the stamps that one of n textures takes. The tiles of levels 1 to 3 are 4, 1 and 1, or 256, 64 and 16.
+pub fn bench_stamps(n: usize, levels: u64) -> usize
+    ensures { λ r. ⌜ r ≤ 1360 ⌝ }
+{
+    if n % 2 == 1 {
+        return if levels == 1 { 1024 } else { 1360 };
+    }
+    if levels == 1 { 16 } else { 22 }
 }
 
 // Returns ten by ten texels, at another place for each texture and in each round.

@@ -16,6 +16,8 @@ mod testing;
 mod totals;
 
 use arguments::argument;
+use asked::bench_stamps;
+use grid_stamps::PAGE_STAMPS;
 use phases::Task;
 
 // Runs the rounds on memory for as many places as may be lent.
@@ -33,7 +35,7 @@ fn bench(t: usize, v: usize, p: usize, task: Task) {
     let mut retiring = room::retiring_places();
     let mut doomed = room::doomed_places();
     let mut spares = room::spare_places();
-    let mut newest = room::page_places();
+    let mut newest = room::newest_places();
     let mut stamps = room::stamp_places();
     let mut notes = room::note_places();
     run::run_part(
@@ -51,7 +53,7 @@ fn bench(t: usize, v: usize, p: usize, task: Task) {
     );
 }
 
-// Returns the levels of a texture: four in lifetimes where the pages are enough, else one.
+// Returns the levels of a texture: four in lifetimes of few textures, as bench/src/bin/calls.rs has it, else one.
 fn levels_of(workload: u64, t: usize) -> u64 {
     if workload != 2 {
         return 1;
@@ -62,12 +64,10 @@ fn levels_of(workload: u64, t: usize) -> u64 {
     4
 }
 
-// Returns as many pages as all levels need.
+// Returns as many pages as the stamps of all textures need.
 fn pages_of(levels: u64, t: usize) -> usize {
-    if levels == 1 {
-        return t;
-    }
-    4 * (t % 65536)
+    let stamps = bench_stamps(t, levels) * (t % 65536);
+    (stamps + (PAGE_STAMPS - 1)) / PAGE_STAMPS
 }
 
 // Takes four arguments, for as many versions as textures and the pages that they need, or six.

@@ -10,7 +10,8 @@ pub fn report(t: Totals, pool: Pool, id: u64) {
     line(b"clock ", idle_time(100000));
     total_lines(t);
     line(b"versions ", pool.kept as u64);
-    line(b"pages ", pool.grids as u64);
+    line(b"grids ", pool.grids as u64);
+    line(b"stamps ", pool.stamps as u64);
     line(b"tracked ", pool.tracked as u64);
     line(b"trackings ", pool.trackings);
     line(b"id ", id);

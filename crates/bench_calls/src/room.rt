@@ -1,8 +1,8 @@
 // Memory for 4,096 places of each kind.
 
 // Returns places for textures.
-pub fn texture_places() -> [u64; 81920] {
-    [0; 81920]
+pub fn texture_places() -> [u64; 90112] {
+    [0; 90112]
 }
 
 // Returns places for retiring versions.
@@ -25,9 +25,9 @@ pub fn stamp_places() -> [u64; 4194304] {
     [0; 4194304]
 }
 
-// Returns places for the newest stamps of all pages.
-pub fn page_places() -> [u64; 4096] {
-    [0; 4096]
+// Returns places for the newest stamps of as many grids as the textures can have.
+pub fn newest_places() -> [u64; 368640] {
+    [0; 368640]
 }
 
 // Returns places for the program's own numbers (notes.rt).

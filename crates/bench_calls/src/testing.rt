@@ -1,4 +1,5 @@
 // The test that memory forms a pool, and a plain read of the same memory.
+ghost use Prim.Native.Nat.{_≤_};
 use crate::clock::elapsed;
 use crate::clock::reading;
 use crate::printing::line;
@@ -49,27 +50,41 @@ fn test_all(
     }
 }
 
-// Adds up a slice.
-fn sum_of(s: &[u64], from: u64) -> u64 {
+fn least(a: usize, b: usize) -> usize
+    ensures { λ r. ⌜ (r ≤ a) × (r ≤ b) ⌝ }
+{
+    if a < b { a } else { b }
+}
+
+// Adds up the first n numbers of a slice, or all where it has fewer.
+fn sum_of(s: &[u64], n: usize, from: u64) -> u64 {
+    let end = least(n, s.len());
     let mut sum = from;
     let mut i = 0;
-    while i < s.len() {
+    while i < end {
         sum = wrapping_add_u64(sum, s[i]);
         i += 1;
     }
     sum
 }
 
-// Adds up the same memory k times.
-fn read_all(textures: &[u64], spares: &[u64], newest: &[u64], stamps: &[u64], k: u64) -> Timed {
+// Adds up the memory that the test reads k times: of the newest stamps and the stamps, those in use.
+fn read_all(
+    pool: Pool,
+    textures: &[u64],
+    spares: &[u64],
+    newest: &[u64],
+    stamps: &[u64],
+    k: u64,
+) -> Timed {
     let start = reading();
     let mut sum = 0;
     let mut i = 0;
     while i < k {
-        sum = sum_of(textures, sum);
-        sum = sum_of(spares, sum);
-        sum = sum_of(newest, sum);
-        sum = sum_of(stamps, sum);
+        sum = sum_of(textures, textures.len(), sum);
+        sum = sum_of(spares, spares.len(), sum);
+        sum = sum_of(newest, pool.grids, sum);
+        sum = sum_of(stamps, pool.stamps, sum);
         i += 1;
     }
     Timed {
@@ -101,7 +116,7 @@ pub fn test_lines(
         stamps,
         k,
     );
-    let read = read_all(textures, spares, newest, stamps, k);
+    let read = read_all(pool, textures, spares, newest, stamps, k);
     line(b"passed ", tested.sum);
     line(b"is_pool ", tested.time);
     line(b"read ", read.time);

@@ -1,44 +1,15 @@
--- Laws of the numbers of a texture's record, each read by itself, and of the grids and stamps that it claims. Assumes nothing.
-use mathlib.Core.Path.{_≡_, sym, ap}
-use mathlib.Core.Bool.{Bool, true, cond}
+-- Laws of the numbers of a texture's record, each read by itself, and of where its grids and stamps end. Assumes nothing.
+use mathlib.Core.Path.{_≡_, sym}
 use mathlib.Core.List.{List}
 use Prim.Native.Nat.{ℕ, _+_, _*_, _≤_, _<_}
-use native.Mathlib.Omega.{arith}
 use borrow.Author.Tests.{lt-ltb, le-ltb}
-use lib.Dec.{ltb}
-use lib.ListN.{getD, drop}
+use lib.ListN.{getD}
 use lib.Seq.{getD-drop}
-use Rattle.grid_shapes.specs.Shapes.{isShape}
-use Rattle.grid_stamps.specs.StampConstants.{pageStamps}
-use Rattle.pool_rules.specs.RuleConstants.{mostGrids}
-use Rattle.pool_rules.proofs.HistorySizes.{grids-most, history-most}
 use Rattle.base_tables.specs.Records.{recordAt}
-use Rattle.pool_records.specs.declared.recorded.Recorded.{Recorded}
-use Rattle.pool_records.specs.declared.recorded.Recorded.the-variants.{Writes, NoHistory}
-use Rattle.pool_records.specs.declared.texture.TextureRecord.{TextureRecord}
-use Rattle.pool_records.specs.Texture.{readTexture, textureIn, recordedGrids, recordGrids, recordedStamps, recordStamps}
+use Rattle.pool_records.specs.Texture.{readTexture, textureIn}
 use Rattle.pool_records.specs.Starts.{gridEnd, stampEnd}
 use Rattle.pool_records.specs.RecordConstants.{textureStride, textureGridAt, textureStampAt, textureSparesAt}
 use Rattle.pool_records.proofs.Starts.{grid-number, stamp-number}
-
--- ---- what a record claims: no more than six slices of fifteen levels have
-
-module _ (t : TextureRecord) (shaped : isShape (t .shape) ≡ true) where
-  pub claims-bound : recordGrids t ≤ mostGrids
-  claims-bound = go (t .history)
-    where
-      go : (h : Recorded) → recordedGrids h (t .shape) ≤ mostGrids
-      go (Writes n) = grids-most (t .shape) shaped
-      go NoHistory = omega arith
-
-  pub claimed-stamps : recordStamps t ≤ pageStamps * mostGrids
-  claimed-stamps = go (t .history)
-    where
-      go : (h : Recorded) → recordedStamps h (t .shape) ≤ pageStamps * mostGrids
-      go (Writes n) = history-most (t .shape) shaped
-      go NoHistory = omega arith
-
--- ---- record i
 
 pub spares-number : (s : List ℕ) (i : ℕ) → getD s (textureStride * i + textureSparesAt) 0 ≡ textureIn s i .spares
 unfolding recordAt readTexture

@@ -1,7 +1,6 @@
 -- What specs/ComputedBooks.antt has with numbers, by computation.
-use Prim.Native.Nat.{ℕ}
-use mathlib.Core.Path.{_≡_, refl}
-use mathlib.Core.List.{List, [], _∷_, flatMap}
+use mathlib.Core.Path.{refl}
+use mathlib.Core.List.{flatMap}
 use native.Mathlib.Omega.{arith}
 use Rattle.base_blocks.specs.Lists.{ceilDiv, listed, keep, total, after, tests}
 use Rattle.grid_shapes.specs.Formats.{blockEdge, blockBytes}

@@ -11,40 +11,41 @@ use Rattle.base_blocks.specs.Blocks.{moved}
 use Rattle.base_blocks.proofs.Lists.{total-get}
 use Rattle.base_tables.specs.Rings.{laid}
 use Rattle.grid_shapes.specs.Shapes.{bytesOf}
-use Rattle.pool_rules.specs.Model.{Spare, Doomed, VersionState, PoolModel, accepted, spareBytes, doomedBytes}
+use Rattle.pool_rules.specs.Model.{Spare, Doomed, VersionState, PoolModel, accepted, spareBytes, doomedBytes, gridsUsed}
+use Rattle.pool_rules.specs.HistorySizes.{stampsUsed}
 use Rattle.pool_rules.specs.Updates.{withTextures, asDoomed, doomSpares}
 use Rattle.pool_rules.specs.ForgetTexture.{forgetTexture}
 use Rattle.pool_rules.proofs.Moves.{as-doomed-bytes, as-doomed-length}
 use Rattle.pool_records.specs.Doomed.{writeDoomed}
-use Rattle.pool_records.specs.Texture.{readTexture, textureIn, recordGrids, sparesTo}
+use Rattle.pool_records.specs.Starts.{StartsMove, gridEnd, stampEnd}
+use Rattle.pool_records.specs.Texture.{readTexture, textureIn, recordGrids, recordStamps, sparesTo}
 use Rattle.pool_records.specs.Find.{idOf, hasId}
 use Rattle.pool_memory.specs.declared.pool.Pool.{Pool as Counts}
 use Rattle.pool_memory.specs.Lent.{Lent, lent, versionPlaces}
 use Rattle.pool_memory.specs.Reading.{trackedRecords, modelOf}
-use Rattle.pool_memory.specs.Writing.{doomedRecord, poolAfter, pacingAfter, doomedAfter, sparesAfter, newestAfter, stampsAfter, lentAfter}
+use Rattle.pool_memory.specs.Writing.{doomedRecord, poolAfter, pacingAfter, doomedAfter, texturesAfter, sparesAfter, newestAfter, stampsAfter, lentAfter}
 use Rattle.pool_memory.specs.IsPool.{isPool}
 use Rattle.pool_memory.specs.Calls.{answer, forgetTextureOn}
 use Rattle.pool_memory.proofs.Fits.{Fits}
 use Rattle.pool_memory.proofs.FromPool.{pool-fits}
 use Rattle.pool_memory.proofs.Asked.{asked-accepted}
-use Rattle.pool_memory.proofs.Runs.{firstSpare, stateOf, tracked-model, model-at}
+use Rattle.pool_memory.proofs.Runs.{firstSpare, firstGrid, firstStamp, stateOf, tracked-model, grids-model, stamps-used-model, model-at}
 use Rattle.pool_memory.proofs.Rings.{hand-model, head-stays, first-stays, doomed-pushed}
 use Rattle.pool_memory.proofs.Same.{book-same, queued-model, doomed-model}
 use Rattle.pool_memory.proofs.Places.{IsTracked, place, taken-out, given as given′, not-taken-out, not-given}
 use Rattle.pool_memory.proofs.Stays.{put-together, ids-ascend, textures-fit, doomed-fit, nothing-changed, retiring-stay, doomed-bound}
 use Rattle.pool_memory.proofs.Counts.{tracked-removed, kept-removed, used-removed}
-use Rattle.pool_memory.proofs.Changes.{sparesAt, every-removed, textures-removed, spares-removed}
-use Rattle.pool_memory.proofs.Pages.{newest-removed, stamps-removed}
-use Rattle.pool_memory.proofs.Tracked.{record-read, spares-to, pages-to, bytes-at, shape-at, count-at}
+use Rattle.pool_memory.proofs.Changes.{sparesAt, every-removed, spares-removed}
+use Rattle.pool_memory.proofs.HistoryRuns.{gridCountAt, stampCountAt, grids-in, stamps-in, newest-removed, stamps-removed}
+use Rattle.pool_memory.proofs.Starts.{textures-removed, removed-moves}
+use Rattle.pool_memory.proofs.Tracked.{record-read, spares-to, grid-at, stamp-at, grids-at, stamps-at, bytes-at, shape-at, count-at}
 use Rattle.pool_take_doomed.specs.Given.{givenRecords}
 use Rattle.pool_take_doomed.proofs.Pushed.{given-spares}
-use Rattle.pool_access.proofs.Totals.{total-next}
 use Rattle.pool_access.proofs.Ids.{found, not-found}
 use Rattle.pool_forget_texture.specs.declared.owned.Owned.{Owned}
-use Rattle.pool_forget_texture.specs.Owned.{pagesTo, ownedAt, without}
-use Rattle.pool_forget_texture.proofs.TextureRuns.{spares-in, spares-within, pages-within, bytes-within}
+use Rattle.pool_forget_texture.specs.Owned.{ownedAt, gridsOut, stampsOut, without, withoutRecord}
+use Rattle.pool_forget_texture.proofs.TextureRuns.{spares-in, spares-within, bytes-within, grids-end, stamps-end}
 use Rattle.grid_shapes.specs.ShapeConstants.{mostShapeBytes}
-use Rattle.grid_stamps.specs.StampConstants.{pageStamps}
 use Rattle.pool_records.specs.RecordConstants.{doomedStride, retiringStride, spareStride, textureStride}
 use Rattle.pool_rules.specs.RuleConstants.{mostPlaces}
 
@@ -71,14 +72,19 @@ module _ (l : Lent) (f : Fits l) (i : ℕ) (h : i < l .pool .tracked) where
 
   -- ---- what the calls of its parts ask for
 
-  pub owned-fits : (textureStride * i + textureStride ≤ length T) × (sparesTo T (i + 1) ≤ mostPlaces) × (pagesTo T (i + 1) ≤ mostPlaces)
+  pub owned-fits : (textureStride * l .pool .tracked ≤ length T) × (i < l .pool .tracked) × (sparesTo T (l .pool .tracked) ≡ l .pool .kept)
+      × (l .pool .kept ≤ mostPlaces) × (textureIn T i .grid ≤ gridEnd T (l .pool .tracked) (l .pool .grids) i)
+      × (textureIn T i .stamp ≤ stampEnd T (l .pool .tracked) (l .pool .stamps) i)
   owned-fits = (
-    omega (arith, textures-fit l f),
-    omega (arith, total-next textureStride readTexture (λ t. t .spares) T i, spares-within l i h f, f .versions, f .most),
-    omega (arith, total-next textureStride readTexture recordGrids T i, pages-within l i h f, f .pages, f .newest),
+    textures-fit l f,
+    h,
+    f .kept,
+    omega (arith, f .versions, f .most),
+    omega (arith, grid-at l i h f, grids-end l i h f),
+    omega (arith, stamp-at l i h f, stamps-end l i h f),
   )
 
-  module _ (own : Owned) (e : own ≡ ownedAt T i) where
+  module _ (own : Owned) (e : own ≡ ownedAt (l .pool) T i) where
     first-is : own .first ≡ sparesTo T i
     unfolding ownedAt
     first-is = ap (λ (o : Owned). o .first) e
@@ -87,13 +93,21 @@ module _ (l : Lent) (f : Fits l) (i : ℕ) (h : i < l .pool .tracked) where
     unfolding ownedAt
     spares-is = ap (λ (o : Owned). o .spares) e
 
-    page-is : own .page ≡ pagesTo T i
+    grid-is : own .grid ≡ firstGrid l i
     unfolding ownedAt
-    page-is = ap (λ (o : Owned). o .page) e
+    grid-is = ap (λ (o : Owned). o .grid) e ∙ grid-at l i h f
 
-    pages-is : own .pages ≡ recordGrids (textureIn T i)
+    grids-is : own .grids ≡ gridCountAt l i
     unfolding ownedAt
-    pages-is = ap (λ (o : Owned). o .pages) e
+    grids-is = omega (arith, ap (λ (o : Owned). o .grids) e, grid-at l i h f, grids-end l i h f)
+
+    stamp-is : own .stamp ≡ firstStamp l i
+    unfolding ownedAt
+    stamp-is = ap (λ (o : Owned). o .stamp) e ∙ stamp-at l i h f
+
+    stamps-is : own .stamps ≡ stampCountAt l i
+    unfolding ownedAt
+    stamps-is = omega (arith, ap (λ (o : Owned). o .stamps) e, stamp-at l i h f, stamps-end l i h f)
 
     bytes-is : own .bytes * own .spares ≡ bytesOf (textureIn T i .shape) * textureIn T i .spares
     unfolding ownedAt
@@ -102,8 +116,23 @@ module _ (l : Lent) (f : Fits l) (i : ℕ) (h : i < l .pool .tracked) where
     pub own-spares : own .first + own .spares ≤ l .pool .kept
     own-spares = omega (arith, first-is, spares-is, spares-within l i h f)
 
-    pub own-pages : own .page + own .pages ≤ l .pool .grids
-    own-pages = omega (arith, page-is, pages-is, pages-within l i h f)
+    pub own-grids : own .grid + own .grids ≤ l .pool .grids
+    own-grids = omega (arith, grid-is, grids-is, grids-in l f i h)
+
+    pub own-stamps : own .stamp + own .stamps ≤ l .pool .stamps
+    own-stamps = omega (arith, stamp-is, stamps-is, stamps-in l f i h)
+
+    -- as many as the texture's state has
+    grids-used : gridsOut own .less ≡ gridsUsed (stateOf l i)
+    grids-used = grids-is ∙ ap recordGrids (record-read l i h) ∙ sym (grids-at l i h)
+
+    stamps-used : stampsOut own .less ≡ stampsUsed (stateOf l i)
+    stamps-used = stamps-is ∙ ap recordStamps (record-read l i h) ∙ sym (stamps-at l i h)
+
+    pub record-fits : (textureStride * l .pool .tracked ≤ length T) × (i < l .pool .tracked)
+        × StartsMove (gridsOut own) (stampsOut own) i (l .pool .tracked - 1)
+        (moved T (textureStride * i) (textureStride * i + textureStride * 1) (textureStride * (l .pool .tracked - (i + 1))))
+    record-fits = (textures-fit l f, h, removed-moves l left f (gridsOut own) (stampsOut own) (omega arith) (omega arith) i h grids-used stamps-used)
 
     pub push-fits : (doomedStride * places l ≤ length (l .doomed)) × (l .pool .first < places l) × (l .pool .doomed + own .spares ≤ places l)
         × (spareStride * (own .first + own .spares) ≤ length (l .spares))
@@ -118,7 +147,8 @@ module _ (l : Lent) (f : Fits l) (i : ℕ) (h : i < l .pool .tracked) where
         let least = total-get spareBytes (modelOf l .textures) i (stateOf l 0) (omega (arith, tracked-model l)) in
         omega (arith, same, ap spareBytes (model-at l i (stateOf l 0) h), least, f .formed .parked)
 
-    pub counts-fit : (1 ≤ l .pool .tracked) × (own .spares ≤ l .pool .kept) × (own .pages ≤ l .pool .grids) × (l .pool .doomed + own .spares ≤ mostPlaces)
+    pub counts-fit : (1 ≤ l .pool .tracked) × (own .spares ≤ l .pool .kept) × (own .grids ≤ l .pool .grids) × (own .stamps ≤ l .pool .stamps)
+        × (l .pool .doomed + own .spares ≤ mostPlaces)
         × (l .pool .since ≤ mostPlaces) × (own .bytes * own .spares ≤ l .pool .parked) × (l .pool .dooming + own .bytes * own .spares < 2 ^ 64)
     unfolding modelOf
     counts-fit =
@@ -126,7 +156,8 @@ module _ (l : Lent) (f : Fits l) (i : ℕ) (h : i < l .pool .tracked) where
         omega (arith, f .formed .dooming, doomed-bound (f .formed .doomed)) in (
           omega arith,
           omega (arith, own-spares),
-          omega (arith, own-pages),
+          omega (arith, own-grids),
+          omega (arith, own-stamps),
           omega (arith, own-spares, f .versions, f .most),
           omega (arith, f .formed .since, doomed-model l, doomed-fit l f, f .most),
           spare-bytes,
@@ -157,22 +188,28 @@ module _ (l : Lent) (f : Fits l) (i : ℕ) (h : i < l .pool .tracked) where
   spares-there : firstSpare l i + sparesAt l i ≤ l .pool .kept
   spares-there = omega (arith, spares-to l i h, own-spares-are, spares-within l i h f)
 
-  counts-left : without (l .pool) (ownedAt T i) ≡ poolAfter left l
+  -- what the histories of the others use
+  less : (used : VersionState ℕ → ℕ) (count n : ℕ) → total used (modelOf l .textures) ≡ count → n ≡ used (stateOf l i)
+      → count - n ≡ total used (left .textures)
+  less used count n e u = omega (arith, used-removed l left used count e i h refl, u)
+
+  counts-left : (own : Owned) → own ≡ ownedAt (l .pool) T i → without (l .pool) own ≡ poolAfter left l
   unfolding without ownedAt poolAfter modelOf
-  counts-left = λ j. record {
+  counts-left own e = λ j. record {
     tracked = sym (tracked-removed l left i 1 (omega arith) refl) j;
     kept = sym (kept-removed l left (f .kept) (firstSpare l i) (sparesAt l i) spares-there (every-removed l i h)
-        ∙ ap (λ (n : ℕ). l .pool .kept - n) own-spares-are) j;
-    pages = sym (used-removed l left (f .claimed) i h refl ∙ ap (λ (n : ℕ). l .pool .grids - n) (ap recordGrids (record-read l i h))) j;
+        ∙ ap (λ (n : ℕ). l .pool .kept - n) (own-spares-are ∙ sym (spares-is own e))) j;
+    grids = less gridsUsed (l .pool .grids) (own .grids) (grids-model l ∙ f .claimed) (grids-used own e) j;
+    stamps = less stampsUsed (l .pool .stamps) (own .stamps) (stamps-used-model l ∙ f .stamps-claimed) (stamps-used own e) j;
     head = sym (head-stays l left (f .head) (omega (arith, hand-model l (f .hand)))) j;
     popped = sym (hand-model l (f .hand)) j;
     queued = sym (queued-model l) j;
     first = sym (first-stays l left (f .first) (omega (arith, doomed-model l, length-append (modelOf l .doomed) out))) j;
-    doomed = sym (length-append (modelOf l .doomed) out ∙ ap₂ (λ (m n : ℕ). m + n) (doomed-model l) out-count) j;
-    since = sym (ap (λ (n : ℕ). l .pool .since + n) out-count) j;
+    doomed = sym (length-append (modelOf l .doomed) out ∙ ap₂ (λ (m n : ℕ). m + n) (doomed-model l) (out-count ∙ sym (spares-is own e))) j;
+    since = sym (ap (λ (n : ℕ). l .pool .since + n) (out-count ∙ sym (spares-is own e))) j;
     trackings = l .pool .trackings;
-    parked = sym (ap (λ (n : ℕ). l .pool .parked - n) out-bytes) j;
-    dooming = sym (ap (λ (n : ℕ). l .pool .dooming + n) out-bytes) j;
+    parked = sym (ap (λ (n : ℕ). l .pool .parked - n) (out-bytes ∙ sym (ap (λ (o : Owned). o .bytes * o .spares) e))) j;
+    dooming = sym (ap (λ (n : ℕ). l .pool .dooming + n) (out-bytes ∙ sym (ap (λ (o : Owned). o .bytes * o .spares) e))) j;
     cap = l .pool .cap;
     line = l .pool .line;
   }
@@ -191,48 +228,45 @@ module _ (l : Lent) (f : Fits l) (i : ℕ) (h : i < l .pool .tracked) where
       ∙ spares-removed l left (f .kept) (omega (arith, f .spares, f .versions)) (firstSpare l i) (sparesAt l i)
       spares-there (every-removed l i h)
 
-  newest-left : moved (l .newest) (pagesTo T i) (pagesTo T i + recordGrids (textureIn T i))
-      (l .pool .grids - (pagesTo T i + recordGrids (textureIn T i)))
-      ≡ newestAfter left l
-  newest-left =
-      sym (ap₂ (λ (k n : ℕ). moved (l .newest) k (k + n) (l .pool .grids - (k + n))) (pages-to l i h) (ap recordGrids (record-read l i h)))
-      ∙ newest-removed l left (f .claimed) i h refl (f .pages)
+  newest-left : moved (l .newest) (firstGrid l i) (firstGrid l i + gridCountAt l i) (l .pool .grids - (firstGrid l i + gridCountAt l i)) ≡ newestAfter left l
+  newest-left = newest-removed l f left i h refl
 
-  stamps-left : moved (l .stamps) (pageStamps * pagesTo T i) (pageStamps * pagesTo T i + pageStamps * recordGrids (textureIn T i))
-      (pageStamps * (l .pool .grids - (pagesTo T i + recordGrids (textureIn T i)))) ≡ stampsAfter left l
-  stamps-left =
-      sym (ap₂ (λ (k n : ℕ). moved (l .stamps) (pageStamps * k) (pageStamps * k + pageStamps * n) (pageStamps * (l .pool .grids - (k + n)))) (pages-to l i h)
-      (ap recordGrids (record-read l i h)))
-      ∙ stamps-removed l left (f .claimed) i h refl (ids-ascend l f) (omega (arith, f .stamps, f .pages))
+  stamps-left : moved (l .stamps) (firstStamp l i) (firstStamp l i + stampCountAt l i) (l .pool .stamps - (firstStamp l i + stampCountAt l i))
+      ≡ stampsAfter left l
+  stamps-left = stamps-removed l f left i h refl
+
+  textures-left : (own : Owned) → own ≡ ownedAt (l .pool) T i → withoutRecord T (l .pool .tracked) i own ≡ texturesAfter left l
+  unfolding withoutRecord
+  textures-left own e =
+      textures-removed l left f (gridsOut own) (stampsOut own) i h refl (grids-used own e) refl (stamps-used own e) refl
 
   book-left : l .book ≡ pacingAfter left
   unfolding pacingAfter
   book-left = sym (book-same l (f .mark))
 
-  pub left-behind : (own : Owned) → own ≡ ownedAt T i → (c : Counts) (textures doomed spares newest stamps : List ℕ)
+  pub left-behind : (own : Owned) → own ≡ ownedAt (l .pool) T i → (c : Counts) (textures doomed spares newest stamps : List ℕ)
       → c ≡ without (l .pool) own
-      → textures ≡ moved T (textureStride * i) (textureStride * i + textureStride * 1) (textureStride * (l .pool .tracked - (i + 1)))
+      → textures ≡ withoutRecord T (l .pool .tracked) i own
       → doomed ≡ laid doomedStride writeDoomed (places l) (l .pool .first) (l .pool .doomed) (givenRecords (l .spares) (own .bytes) (own .first) (own .spares))
       (l .doomed)
       → spares ≡ moved (l .spares) (spareStride * own .first) (spareStride * own .first + spareStride * own .spares) (spareStride * (l .pool .kept - (own .first + own .spares)))
-      → newest ≡ moved (l .newest) (own .page) (own .page + own .pages) (l .pool .grids - (own .page + own .pages))
-      → stamps ≡ moved (l .stamps) (pageStamps * own .page) (pageStamps * own .page + pageStamps * own .pages) (pageStamps * (l .pool .grids - (own .page + own .pages)))
+      → newest ≡ moved (l .newest) (own .grid) (own .grid + own .grids) (l .pool .grids - (own .grid + own .grids))
+      → stamps ≡ moved (l .stamps) (own .stamp) (own .stamp + own .stamps) (l .pool .stamps - (own .stamp + own .stamps))
       → lent c (l .book) textures (l .retiring) doomed spares newest stamps ≡ lentAfter left l
   unfolding ownedAt versionPlaces
   left-behind own e c textures doomed spares newest stamps e1 e2 e3 e4 e5 e6 =
       put-together left l c (l .book) textures (l .retiring) doomed spares newest stamps
-      (e1 ∙ ap (without (l .pool)) e ∙ counts-left)
+      (e1 ∙ counts-left own e)
       book-left
-      (e2 ∙ textures-removed l left f i 1 (omega arith) refl)
+      (e2 ∙ textures-left own e)
       (retiring-stay l f left refl refl)
       (e3 ∙ ap (λ (o : Owned). laid doomedStride writeDoomed (versionPlaces l) (l .pool .first) (l .pool .doomed)
       (givenRecords (l .spares) (o .bytes) (o .first) (o .spares)) (l .doomed)) e
       ∙ doomed-left)
       (e4 ∙ ap (λ (o : Owned). moved (l .spares) (spareStride * o .first) (spareStride * o .first + spareStride * o .spares) (spareStride * (l .pool .kept - (o .first + o .spares)))) e
       ∙ spares-left)
-      (e5 ∙ ap (λ (o : Owned). moved (l .newest) (o .page) (o .page + o .pages) (l .pool .grids - (o .page + o .pages))) e ∙ newest-left)
-      (e6 ∙ ap (λ (o : Owned). moved (l .stamps) (pageStamps * o .page) (pageStamps * o .page + pageStamps * o .pages)
-      (pageStamps * (l .pool .grids - (o .page + o .pages)))) e ∙ stamps-left)
+      (e5 ∙ ap₂ (λ (k n : ℕ). moved (l .newest) k (k + n) (l .pool .grids - (k + n))) (grid-is own e) (grids-is own e) ∙ newest-left)
+      (e6 ∙ ap₂ (λ (k n : ℕ). moved (l .stamps) k (k + n) (l .pool .stamps - (k + n))) (stamp-is own e) (stamps-is own e) ∙ stamps-left)
 
 -- ---- the call
 

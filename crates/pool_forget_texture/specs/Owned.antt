@@ -1,29 +1,44 @@
--- Helper: What one texture owns, as its record and those before it say, and the pool's counts without it.
+-- Helper: What one texture owns, as the records say, and the pool without it: its counts, and the records of the others.
 use Prim.Native.Nat.{ℕ, _+_, _-_, _*_}
 use mathlib.Core.List.{List}
-use Rattle.base_blocks.specs.Lists.{total}
-use Rattle.pool_records.specs.declared.texture.TextureRecord.{TextureRecord}
-use Rattle.pool_records.specs.Texture.{textureIn, texturesIn, recordGrids, sparesTo}
+use Rattle.base_blocks.specs.Blocks.{moved}
+use Rattle.pool_records.specs.declared.shift.Shift.{Shift}
+use Rattle.pool_records.specs.RecordConstants.{textureStride}
+use Rattle.pool_records.specs.Starts.{startsMoved, gridEnd, stampEnd}
+use Rattle.pool_records.specs.Texture.{textureIn, sparesTo}
 use Rattle.pool_memory.specs.declared.pool.Pool.{Pool as Counts}
 use Rattle.pool_forget_texture.specs.declared.owned.Owned.{Owned}
 
-abbrev pub pagesTo : List ℕ → ℕ → ℕ
-pagesTo textures i = total recordGrids (texturesIn i textures)
-
-unfoldable pub ownedAt : List ℕ → ℕ → Owned
-ownedAt textures i = record {
+unfoldable pub ownedAt : Counts → List ℕ → ℕ → Owned
+ownedAt c textures i = record {
   first = sparesTo textures i;
   spares = textureIn textures i .spares;
-  page = pagesTo textures i;
-  pages = recordGrids (textureIn textures i);
+  grid = textureIn textures i .grid;
+  grids = gridEnd textures (c .tracked) (c .grids) i - textureIn textures i .grid;
+  stamp = textureIn textures i .stamp;
+  stamps = stampEnd textures (c .tracked) (c .stamps) i - textureIn textures i .stamp;
   bytes = textureIn textures i .bytes;
 }
+
+-- how far the grids and the stamps behind it move
+abbrev pub gridsOut : Owned → Shift
+gridsOut own = record { less = own .grids; more = 0 }
+
+abbrev pub stampsOut : Owned → Shift
+stampsOut own = record { less = own .stamps; more = 0 }
+
+-- the n records without record i
+unfoldable pub withoutRecord : List ℕ → ℕ → ℕ → Owned → List ℕ
+withoutRecord textures n i own =
+    startsMoved (gridsOut own) (stampsOut own) i (n - 1)
+    (moved textures (textureStride * i) (textureStride * i + textureStride * 1) (textureStride * (n - (i + 1))))
 
 unfoldable pub without : Counts → Owned → Counts
 without c own = record {
   tracked = c .tracked - 1;
   kept = c .kept - own .spares;
-  pages = c .pages - own .pages;
+  grids = c .grids - own .grids;
+  stamps = c .stamps - own .stamps;
   head = c .head;
   popped = c .popped;
   queued = c .queued;

@@ -1,9 +1,8 @@
-// The call `forget_texture`, and what it takes to leave a texture out of the lent slices: what it owns, and the pages after its own
+// The call `forget_texture`, and what it takes to leave a texture out of the lent slices: what it owns, and what stands behind it
 // moved down.
 mod calls;
+mod moves;
 mod owned;
-mod pages;
 
 pub use calls::forget_texture::forget_texture;
-pub use pages::move_down;
-pub use pages::move_pages;
+pub use moves::move_down;

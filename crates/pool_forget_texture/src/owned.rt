@@ -1,50 +1,83 @@
-// What one texture owns, and the pool's counts without it.
+// What one texture owns, and the pool without it: its counts, and the records of the others.
 ghost use mathlib.Core.Path.{_≡_};
-ghost use Prim.Native.Nat.{_+_, _*_, _≤_, _<_, _^_};
+ghost use Prim.Native.Nat.{_+_, _*_, _-_, _≤_, _<_, _^_};
 ghost use lib.ListN.{length};
-ghost use Rattle.base_blocks.specs.Lists.{total};
-ghost use Rattle.pool_records.specs.Texture.{texturesIn, recordGrids};
-ghost use Rattle.pool_forget_texture.specs.Owned.{ownedAt, without};
+ghost use Rattle.base_blocks.specs.Blocks.{moved};
 ghost use Rattle.pool_records.specs.RecordConstants.{textureStride};
+ghost use Rattle.pool_records.specs.Starts.{StartsMove, gridEnd, stampEnd};
+ghost use Rattle.pool_records.specs.Texture.{sparesTo, textureIn};
 ghost use Rattle.pool_rules.specs.RuleConstants.{mostPlaces};
-use pool_access::history_pages;
-use pool_access::pages_before;
-use pool_access::spares_before;
+ghost use Rattle.pool_forget_texture.specs.Owned.{ownedAt, without, gridsOut, stampsOut, withoutRecord};
+use pool_access::first_spare;
+use pool_access::grid_end;
+use pool_access::move_starts;
+use pool_access::remove_texture;
+use pool_access::stamp_end;
 use pool_access::texture_at;
 use pool_memory::Pool;
+use pool_records::Shift;
 
-// Its spares begin at place `first` and its pages at `page`; `bytes` is what each of its versions takes.
+// Its spares begin at place `first`, its grids at `grid` and their stamps at `stamp`; `bytes` is what each of its versions takes.
 pub struct Owned {
     pub first: usize,
     pub spares: usize,
-    pub page: usize,
-    pub pages: usize,
+    pub grid: usize,
+    pub grids: usize,
+    pub stamp: usize,
+    pub stamps: usize,
     pub bytes: u64,
 }
 
-// Returns what texture i owns.
-pub fn owned_at(textures: &[u64], i: usize) -> Owned
-    requires { ⌜ (textureStride * i + textureStride ≤ length (now textures))
-        × (total (λ t. t .spares) (texturesIn (i + 1) (now textures)) ≤ mostPlaces)
-        × (total recordGrids (texturesIn (i + 1) (now textures)) ≤ mostPlaces) ⌝ }
-    ensures { λ r. ⌜ r ≡ ownedAt (now (textures .entry)) i ⌝ }
+// Returns what texture i owns. Where its grids and stamps begin stands in its record, and where they end in the next one's.
+pub fn owned_at(pool: Pool, textures: &[u64], i: usize) -> Owned
+    requires { ⌜ (textureStride * pool .tracked ≤ length (now textures)) × (i < pool .tracked)
+        × (sparesTo (now textures) (pool .tracked) ≡ pool .kept) × (pool .kept ≤ mostPlaces)
+        × (textureIn (now textures) i .grid ≤ gridEnd (now textures) (pool .tracked) (pool .grids) i)
+        × (textureIn (now textures) i .stamp ≤ stampEnd (now textures) (pool .tracked) (pool .stamps) i) ⌝ }
+    ensures { λ r. ⌜ r ≡ ownedAt pool (now (textures .entry)) i ⌝ }
 {
+    let tracked = pool.tracked;
     let t = texture_at(textures, i);
-    let first = spares_before(textures, i);
-    let page = pages_before(textures, i);
-    let pages = history_pages(t);
+    let first = first_spare(textures, tracked, pool.kept, i);
+    let grid = t.grid as usize;
+    let grids = grid_end(textures, tracked, pool.grids, i) - grid;
+    let stamp = t.stamp as usize;
+    let stamps = stamp_end(textures, tracked, pool.stamps, i) - stamp;
     Owned {
         first,
         spares: t.spares as usize,
-        page,
-        pages,
+        grid,
+        grids,
+        stamp,
+        stamps,
         bytes: t.bytes,
     }
 }
 
+// Takes record i out of the n that there are. The later ones move down, and their grids and stamps begin lower by what the texture
+// owned.
+pub fn remove_record(textures: &mut [u64], n: usize, i: usize, own: Owned)
+    requires { ⌜ (textureStride * n ≤ length (now textures)) × (i < n)
+        × StartsMove (gridsOut own) (stampsOut own) i (n - 1)
+        (moved (now textures) (textureStride * i) (textureStride * i + textureStride * 1) (textureStride * (n - (i + 1)))) ⌝ }
+    ensures { λ _. ⌜ now (textures .exit) ≡ withoutRecord (now (textures .entry)) n i own ⌝ }
+{
+    remove_texture(textures, n, i);
+    let grids = Shift {
+        less: own.grids as u64,
+        more: 0,
+    };
+    let stamps = Shift {
+        less: own.stamps as u64,
+        more: 0,
+    };
+    move_starts(textures, i, n - 1, grids, stamps);
+}
+
 // Returns the counts without the texture. Its spares wait to be destroyed.
 pub fn counts_without(pool: Pool, own: Owned) -> Pool
-    requires { ⌜ (1 ≤ pool .tracked) × (own .spares ≤ pool .kept) × (own .pages ≤ pool .pages) × (pool .doomed + own .spares ≤ mostPlaces)
+    requires { ⌜ (1 ≤ pool .tracked) × (own .spares ≤ pool .kept) × (own .grids ≤ pool .grids) × (own .stamps ≤ pool .stamps)
+        × (pool .doomed + own .spares ≤ mostPlaces)
         × (pool .since ≤ mostPlaces) × (own .bytes * own .spares ≤ pool .parked) × (pool .dooming + own .bytes * own .spares < 2 ^ 64) ⌝ }
     ensures { λ r. ⌜ r ≡ without pool own ⌝ }
 {
@@ -53,7 +86,8 @@ pub fn counts_without(pool: Pool, own: Owned) -> Pool
     Pool {
         tracked: pool.tracked - 1,
         kept: pool.kept - own.spares,
-        pages: pool.grids - own.pages,
+        grids: pool.grids - own.grids,
+        stamps: pool.stamps - own.stamps,
         head: pool.head,
         popped: pool.popped,
         queued: pool.queued,

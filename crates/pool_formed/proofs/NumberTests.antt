@@ -32,25 +32,25 @@ numbers-test pool book w e =
 
 -- ---- the counts
 
-pub too-full : (pool : Pool) (places versions pages : ℕ) → 1 < pool .popped → placesHold pool places versions pages ≡ false
+pub too-full : (pool : Pool) (places versions grids stamps : ℕ) → 1 < pool .popped → placesHold pool places versions grids stamps ≡ false
 unfolding placesHold
-too-full pool places versions pages h = fails _ 3 (lt-leb _ _ h)
+too-full pool places versions grids stamps h = fails _ 3 (lt-leb _ _ h)
 
-pub too-many : (pool : Pool) (places versions pages : ℕ) → versions < pool .queued + pool .popped + pool .kept + pool .doomed
-    → placesHold pool places versions pages ≡ false
+pub too-many : (pool : Pool) (places versions grids stamps : ℕ) → versions < pool .queued + pool .popped + pool .kept + pool .doomed
+    → placesHold pool places versions grids stamps ≡ false
 unfolding placesHold
-too-many pool places versions pages h = fails _ 4 (lt-leb _ _ h)
+too-many pool places versions grids stamps h = fails _ 4 (lt-leb _ _ h)
 
 and-true : (a : Bool) → a && true ≡ a
 and-true true = refl
 and-true false = refl
 
 -- the hand's count is tested before the others
-pub counts-test : (pool : Pool) (places versions pages : ℕ) → pool .popped ≤ 1
-    → leb (pool .tracked) places && ltb (pool .head) versions && ltb (pool .first) versions && leb (pool .queued + pool .popped + pool .kept + pool .doomed) versions && leb (pool .pages) pages
-    ≡ placesHold pool places versions pages
+pub counts-test : (pool : Pool) (places versions grids stamps : ℕ) → pool .popped ≤ 1
+    → leb (pool .tracked) places && ltb (pool .head) versions && ltb (pool .first) versions && leb (pool .queued + pool .popped + pool .kept + pool .doomed) versions && leb (pool .grids) grids && leb (pool .stamps) stamps
+    ≡ placesHold pool places versions grids stamps
 unfolding placesHold tests after
-counts-test pool places versions pages h =
+counts-test pool places versions grids stamps h =
     let a = leb (pool .tracked) places && ltb (pool .head) versions && ltb (pool .first) versions in
-    ap (λ (b : Bool). b && leb (pool .queued + pool .popped + pool .kept + pool .doomed) versions && leb (pool .pages) pages)
+    ap (λ (b : Bool). b && leb (pool .queued + pool .popped + pool .kept + pool .doomed) versions && leb (pool .grids) grids && leb (pool .stamps) stamps)
     (sym (and-true a) ∙ ap (λ (b : Bool). a && b) (sym (le-leb (pool .popped) 1 h)))

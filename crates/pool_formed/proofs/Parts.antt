@@ -3,32 +3,33 @@ use mathlib.Core.Path.{_≡_, refl, sym, ap, ap₂, _∙_}
 use mathlib.Core.Bool.{Bool, true, _&&_}
 use mathlib.Core.List.{List, [], _∷_}
 use Prim.Native.Nat.{ℕ, _+_, _*_, _/_, _≤_, _<_}
+use native.Mathlib.Nat.{zero-add}
 use native.Mathlib.Omega.{arith}
 use borrow.Author.Tests.{leb-true, ltb-true, eqb-true, le-leb, eq-eqb}
 use lib.Dec.{leb, ltb, eqb}
 use lib.ListN.{length}
 use Rattle.base_blocks.specs.Lists.{all, listed, total, ascending, tests, after}
-use Rattle.base_blocks.specs.All.{All, nil, cons}
-use Rattle.base_blocks.proofs.Lists.{and-both, passed, pass}
-use Rattle.base_blocks.proofs.All.{all-at}
+use Rattle.base_blocks.specs.All.{nil, cons}
+use Rattle.base_blocks.proofs.Lists.{and-both, passed}
 use Rattle.base_blocks.proofs.Listed.{length-listed}
 use Rattle.pool_rules.specs.Model.{Places, limit, spareBytes, doomedBytes}
 use Rattle.pool_rules.specs.Open.{arePlaces}
 use Rattle.pool_records.specs.declared.texture.TextureRecord.{TextureRecord}
 use Rattle.pool_memory.specs.Lent.{Lent, versionPlaces}
 use Rattle.pool_memory.specs.Reading.{trackedRecords, statesRead, retiringRead, handRead, doomedRead, modelOf}
-use Rattle.pool_memory.specs.IsPool.{sizesFit, countsFit, runsFit, bytesHold, bytesFit, markFits, stateId, isSpare, isState, isRetiring, isHand, isDoomed, isArrival, isFormed, isPool}
+use Rattle.pool_memory.proofs.Runs.{grid-starts, stamp-starts}
+use Rattle.pool_memory.specs.IsPool.{sizesFit, countsFit, runsFit, startsHold, bytesHold, bytesFit, markFits, stateId, isSpare, isState, isRetiring, isHand, isDoomed, isArrival, isFormed, isPool}
 use Rattle.pool_formed.specs.Parts.{placesHold, retiringAt, retiringFit, doomedAt, doomedFit, ringsFit, numbersFit}
-use Rattle.pool_formed_textures.specs.Textures.{isRecord, claim, modelSpareAt, historiesFit, texturesFit}
-use Rattle.pool_formed_textures.proofs.Tests.{same-test}
+use Rattle.pool_formed_textures.specs.Textures.{isRecord, modelSpareAt, historyHolds, historiesFit, texturesFit}
+use Rattle.pool_formed_textures.proofs.Tests.{same-test, pass-all}
 use Rattle.pool_formed_textures.proofs.States.{states-ids, states-bytes, states-test}
+use Rattle.pool_formed_textures.proofs.HistoryTests.{Walked, walked, walks}
 use Rattle.pool_formed.proofs.RingTests.{hand-test}
-use Rattle.grid_stamps.specs.StampConstants.{pageStamps}
 use Rattle.pool_records.specs.RecordConstants.{doomedStride, retiringStride, spareStride, textureStride}
 use Rattle.pool_rules.specs.RuleConstants.{destroySpreadDrains, mostPlaces}
-use Rattle.pool_records.specs.Texture.{recordGrids, recordSpares}
+use Rattle.pool_records.specs.Texture.{recordGrids, recordStamps, recordSpares}
 
-pub counts-places : (l : Lent) → countsFit l ≡ placesHold (l .pool) (length (l .textures) / textureStride) (length (l .retiring) / retiringStride) (length (l .newest))
+pub counts-places : (l : Lent) → countsFit l ≡ placesHold (l .pool) (length (l .textures) / textureStride) (length (l .retiring) / retiringStride) (length (l .newest)) (length (l .stamps))
 unfolding countsFit placesHold modelOf versionPlaces
 counts-places l = refl
 
@@ -43,24 +44,21 @@ ringsOf l = ringsFit (l .pool) (versionPlaces l) (l .retiring) (l .doomed)
 abbrev pub texturesOf : Lent → Bool
 texturesOf l = texturesFit (l .pool) (l .textures) (l .spares) (l .newest) (l .stamps)
 
+abbrev historiesOf : Lent → Bool
+historiesOf l = historiesFit (l .newest) (l .stamps) (l .pool .grids) (l .pool .stamps) 0 0 (trackedRecords l)
+
 abbrev pub partsOf : Lent → List Bool
 partsOf l = sizesFit l ∷ countsFit l ∷ numbersOf l ∷ ringsOf l ∷ texturesOf l ∷ []
 
-pass-all : (bs : List Bool) → All (λ (b : Bool). b ≡ true) bs → tests bs ≡ true
-pass-all bs ps = pass bs (λ k h. all-at bs k true h ps)
-
-flip : (a b : ℕ) → eqb a b ≡ true → eqb b a ≡ true
-flip a b e = eq-eqb b a (sym (eqb-true a b e))
-
 -- 01's conditions, each by its name
 record Conditions (l : Lent) : Type 0 where
-  ids : ascending stateId (statesRead l 0 0 (trackedRecords l)) ≡ true
-  states : all isState (statesRead l 0 0 (trackedRecords l)) ≡ true
+  ids : ascending stateId (statesRead l 0 (trackedRecords l)) ≡ true
+  states : all isState (statesRead l 0 (trackedRecords l)) ≡ true
   queue : all isRetiring (listed (retiringRead l) (l .pool .popped) (l .pool .queued)) ≡ true
   hand : isHand (handRead l (l .pool .popped)) ≡ true
   doomed : all isDoomed (listed (doomedRead l) 0 (l .pool .doomed)) ≡ true
   trackings : leb (l .pool .trackings) limit ≡ true
-  parked : eqb (l .pool .parked) (total spareBytes (statesRead l 0 0 (trackedRecords l))) ≡ true
+  parked : eqb (l .pool .parked) (total spareBytes (statesRead l 0 (trackedRecords l))) ≡ true
   dooming : eqb (l .pool .dooming) (doomedBytes (listed (doomedRead l) 0 (l .pool .doomed))) ≡ true
   cap : leb (l .pool .parked) (l .pool .cap) ≡ true
   slot : ltb (l .book .slot) destroySpreadDrains ≡ true
@@ -132,23 +130,34 @@ module _ (l : Lent) where
     unfolding ringsFit
     to-rings = pass-all _ (cons to-queue (cons to-doomed nil))
 
-    module _ (runs : runsFit l ≡ true) (bytes : bytesFit l ≡ true) where
-      to-claim : claim ts (l .pool .kept) (l .pool .grids) ≡ true
-      unfolding claim runsFit
-      to-claim =
-          pass-all _ (cons (flip (total recordSpares ts) (l .pool .kept) (passed _ runs 0)) (cons (flip (total recordGrids ts) (l .pool .grids) (passed _ runs 1)) nil))
+    module _ (runs : runsFit l ≡ true) (starts : startsHold l ≡ true) (bytes : bytesFit l ≡ true) where
+      -- every record passes, every grid of its history and every spare
+      to-records : all isRecord ts && (all (historyHolds (l .newest) (l .stamps)) ts && all isSpare (listed (modelSpareAt (l .spares)) 0 (total recordSpares ts))) ≡ true
+      unfolding bytesFit
+      to-records = sym (states-test l 0 ts) ∙ ap₂ (λ (a b : Bool). a && b) (c .states) bytes
+
+      to-histories : historiesOf l ≡ true
+      unfolding runsFit
+      to-histories =
+          walks (l .newest) (l .stamps) (l .pool .grids) (l .pool .stamps) 0 0 ts (record {
+            grid-starts = grid-starts l starts;
+            stamp-starts = stamp-starts l starts;
+            grid-sum = zero-add (total recordGrids ts) ∙ eqb-true (total recordGrids ts) (l .pool .grids) (passed _ runs 1);
+            stamp-sum = zero-add (total recordStamps ts) ∙ eqb-true (total recordStamps ts) (l .pool .stamps) (passed _ runs 2);
+            holds = and-both (all (historyHolds (l .newest) (l .stamps)) ts) _ (and-both (all isRecord ts) _ to-records .1) .0;
+          })
 
       to-textures : texturesOf l ≡ true
-      unfolding texturesFit bytesFit
+      unfolding texturesFit
       to-textures =
-          let q = and-both (all isRecord ts) _ (sym (states-test l 0 0 ts) ∙ ap₂ (λ (a b : Bool). a && b) (c .states) bytes) in
-          let r = and-both (historiesFit (l .newest) (l .stamps) 0 ts) _ (q .1) in
+          let q = and-both (all isRecord ts) _ to-records in
+          let r = and-both (all (historyHolds (l .newest) (l .stamps)) ts) _ (q .1) in
           pass-all _
-          (cons (sym (states-ids l 0 0 ts) ∙ c .ids)
+          (cons (sym (states-ids l 0 ts) ∙ c .ids)
           (cons (q .0)
-          (cons to-claim
+          (cons (eq-eqb (l .pool .kept) (total recordSpares ts) (sym (kept runs)))
           (cons (ap (λ (n : ℕ). all isSpare (listed (modelSpareAt (l .spares)) 0 n)) (sym (kept runs)) ∙ r .1)
-          (cons (ap (eqb (l .pool .parked)) (sym (states-bytes l 0 0 ts)) ∙ c .parked) (cons (r .0) nil))))))
+          (cons (ap (eqb (l .pool .parked)) (sym (states-bytes l 0 ts)) ∙ c .parked) (cons to-histories nil))))))
 
   -- ---- and what passes them forms a pool
 
@@ -161,28 +170,40 @@ module _ (l : Lent) where
     unfolding ringsFit
     from-doomed = passed _ r 1
 
-    from-claim : claim ts (l .pool .kept) (l .pool .grids) ≡ true
+    from-kept : l .pool .kept ≡ total recordSpares ts
     unfolding texturesFit
-    from-claim = passed _ t 2
+    from-kept = eqb-true (l .pool .kept) (total recordSpares ts) (passed _ t 2)
+
+    from-histories : Walked (l .newest) (l .stamps) (l .pool .grids) (l .pool .stamps) 0 0 ts
+    unfolding texturesFit
+    from-histories = walked (l .newest) (l .stamps) (l .pool .grids) (l .pool .stamps) 0 0 ts (passed _ t 5)
 
     from-runs : runsFit l ≡ true
-    unfolding claim runsFit
+    unfolding runsFit
     from-runs =
-        pass-all _ (cons (flip (l .pool .kept) (total recordSpares ts) (passed _ from-claim 0)) (cons (flip (l .pool .grids) (total recordGrids ts) (passed _ from-claim 1)) nil))
+        let w = from-histories in
+        pass-all _
+        (cons (eq-eqb (total recordSpares ts) (l .pool .kept) (sym from-kept))
+        (cons (eq-eqb (total recordGrids ts) (l .pool .grids) (sym (zero-add (total recordGrids ts)) ∙ w .grid-sum))
+        (cons (eq-eqb (total recordStamps ts) (l .pool .stamps) (sym (zero-add (total recordStamps ts)) ∙ w .stamp-sum)) nil)))
 
-    from-records : all isState (statesRead l 0 0 ts) && all bytesHold ts ≡ true
+    from-starts : startsHold l ≡ true
+    unfolding startsHold
+    from-starts = ap₂ (λ (a b : Bool). a && b) (from-histories .grid-starts) (from-histories .stamp-starts)
+
+    from-records : all isState (statesRead l 0 ts) && all bytesHold ts ≡ true
     unfolding texturesFit
     from-records =
-        states-test l 0 0 ts
+        states-test l 0 ts
         ∙ ap₂ (λ (a b : Bool). a && b) (passed _ t 1)
-        (ap₂ (λ (a b : Bool). a && b) (passed _ t 5) (ap (λ (n : ℕ). all isSpare (listed (modelSpareAt (l .spares)) 0 n)) (kept from-runs) ∙ passed _ t 3))
+        (ap₂ (λ (a b : Bool). a && b) (from-histories .holds) (ap (λ (n : ℕ). all isSpare (listed (modelSpareAt (l .spares)) 0 n)) (kept from-runs) ∙ passed _ t 3))
 
-    from-states : all isState (statesRead l 0 0 ts) ≡ true
-    from-states = and-both (all isState (statesRead l 0 0 ts)) (all bytesHold ts) from-records .0
+    from-states : all isState (statesRead l 0 ts) ≡ true
+    from-states = and-both (all isState (statesRead l 0 ts)) (all bytesHold ts) from-records .0
 
     from-bytes : bytesFit l ≡ true
     unfolding bytesFit
-    from-bytes = and-both (all isState (statesRead l 0 0 ts)) (all bytesHold ts) from-records .1
+    from-bytes = and-both (all isState (statesRead l 0 ts)) (all bytesHold ts) from-records .1
 
     from-mark : markFits l ≡ true
     unfolding numbersFit markFits
@@ -195,13 +216,13 @@ module _ (l : Lent) where
         let s = leb-true (l .pool .since) (l .pool .doomed) (passed _ n 4) in
         let k = length-listed (doomedRead l) 0 (l .pool .doomed) in
         record {
-          ids = states-ids l 0 0 ts ∙ passed _ t 0;
+          ids = states-ids l 0 ts ∙ passed _ t 0;
           states = from-states;
           queue = q .1;
           hand = q .0;
           doomed = passed _ from-doomed 0;
           trackings = passed _ n 0;
-          parked = ap (eqb (l .pool .parked)) (states-bytes l 0 0 ts) ∙ passed _ t 4;
+          parked = ap (eqb (l .pool .parked)) (states-bytes l 0 ts) ∙ passed _ t 4;
           dooming = passed _ from-doomed 1;
           cap = passed _ n 1;
           slot = passed _ n 2;
@@ -217,16 +238,16 @@ module _ (l : Lent) where
       same-test (isPool l) (tests (partsOf l))
       (λ e.
       let f = few-popped (passed _ e 1) in
-      let m = passed _ e 4 in
-      let c = conditions (passed _ e 5) in
-      pass-all _ (cons (passed _ e 0) (cons (passed _ e 1) (cons (to-numbers f m c) (cons (to-rings f m c) (cons (to-textures f m c (passed _ e 2) (passed _ e 3)) nil))))))
+      let m = passed _ e 5 in
+      let c = conditions (passed _ e 6) in
+      pass-all _ (cons (passed _ e 0) (cons (passed _ e 1) (cons (to-numbers f m c) (cons (to-rings f m c) (cons (to-textures f m c (passed _ e 2) (passed _ e 3) (passed _ e 4)) nil))))))
       (λ e.
       let f = few-popped (passed _ e 1) in
       let n = passed _ e 2 in
       let r = passed _ e 3 in
       let t = passed _ e 4 in
       pass-all _ (cons (passed _ e 0) (cons (passed _ e 1) (cons (from-runs f n r t)
-      (cons (from-bytes f n r t) (cons (from-mark f n r t) (cons (formed eight (from-parts f n r t)) nil)))))))
+      (cons (from-starts f n r t) (cons (from-bytes f n r t) (cons (from-mark f n r t) (cons (formed eight (from-parts f n r t)) nil))))))))
 
   -- where all but the last pass, the last decides
   pub last-part : length (l .book .arrivals) ≡ destroySpreadDrains → sizesFit l ≡ true → countsFit l ≡ true → numbersOf l ≡ true → ringsOf l ≡ true → texturesOf l ≡ isPool l
@@ -241,7 +262,6 @@ pub record SizesFit (l : Lent) : Type 0 where
   pub retiring : length (l .retiring) ≡ retiringStride * versionPlaces l
   pub doomed : length (l .doomed) ≡ doomedStride * versionPlaces l
   pub spares : length (l .spares) ≡ spareStride * versionPlaces l
-  pub stamps : length (l .stamps) ≡ pageStamps * length (l .newest)
 
 places-versions : (p : Places) → arePlaces p ≡ true → p .versions ≤ mostPlaces
 unfolding arePlaces
@@ -255,7 +275,6 @@ sizes l e = record {
   retiring = eqb-true _ _ (passed _ e 2);
   doomed = eqb-true _ _ (passed _ e 3);
   spares = eqb-true _ _ (passed _ e 4);
-  stamps = eqb-true _ _ (passed _ e 5);
 }
 
 pub record CountsFit (l : Lent) : Type 0 where
@@ -263,7 +282,8 @@ pub record CountsFit (l : Lent) : Type 0 where
   pub head : l .pool .head < versionPlaces l
   pub first : l .pool .first < versionPlaces l
   pub used : l .pool .queued + l .pool .popped + l .pool .kept + l .pool .doomed ≤ versionPlaces l
-  pub pages : l .pool .grids ≤ length (l .newest)
+  pub grids : l .pool .grids ≤ length (l .newest)
+  pub stamps : l .pool .stamps ≤ length (l .stamps)
 
 pub counts : (l : Lent) → countsFit l ≡ true → CountsFit l
 unfolding countsFit modelOf
@@ -272,7 +292,8 @@ counts l e = record {
   head = ltb-true _ _ (passed _ e 1);
   first = ltb-true _ _ (passed _ e 2);
   used = leb-true _ _ (passed _ e 4);
-  pages = leb-true _ _ (passed _ e 5);
+  grids = leb-true _ _ (passed _ e 5);
+  stamps = leb-true _ _ (passed _ e 6);
 }
 
 module _ (l : Lent) (s : sizesFit l ≡ true) where
@@ -280,7 +301,7 @@ module _ (l : Lent) (s : sizesFit l ≡ true) where
   unfolding versionPlaces
   few-versions = sizes l s .versions
 
-  module _ (p : placesHold (l .pool) (length (l .textures) / textureStride) (length (l .retiring) / retiringStride) (length (l .newest)) ≡ true) where
+  module _ (p : placesHold (l .pool) (length (l .textures) / textureStride) (length (l .retiring) / retiringStride) (length (l .newest)) (length (l .stamps)) ≡ true) where
     counted : CountsFit l
     counted = counts l (counts-places l ∙ p)
 
@@ -293,12 +314,12 @@ module _ (l : Lent) (s : sizesFit l ≡ true) where
         (omega (arith, z .retiring), omega (arith, z .doomed), few-versions, counted .head, counted .first, omega (arith, counted .used), omega (arith, counted .used))
 
     pub textures-room : (textureStride * l .pool .tracked ≤ length (l .textures)) × (spareStride * l .pool .kept ≤ length (l .spares)) × (l .pool .kept ≤ mostPlaces)
-        × (l .pool .grids ≤ length (l .newest)) × (length (l .stamps) ≡ pageStamps * length (l .newest))
+        × (l .pool .grids ≤ length (l .newest)) × (l .pool .stamps ≤ length (l .stamps))
     textures-room =
         let z = sizes l s in (
           omega (arith, z .textures, counted .tracked),
           omega (arith, z .spares, counted .used),
           omega (arith, z .versions, counted .used),
-          counted .pages,
-          z .stamps,
+          counted .grids,
+          counted .stamps,
         )

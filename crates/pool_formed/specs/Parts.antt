@@ -19,14 +19,15 @@ use Rattle.pool_rules.specs.RuleConstants.{destroySpreadDrains}
 -- ---- counts
 
 -- the counts fit the places
-unfoldable pub placesHold : Pool → ℕ → ℕ → ℕ → Bool
-placesHold pool places versions pages = tests (
+unfoldable pub placesHold : Pool → ℕ → ℕ → ℕ → ℕ → Bool
+placesHold pool places versions grids stamps = tests (
     leb (pool .tracked) places
     ∷ ltb (pool .head) versions
     ∷ ltb (pool .first) versions
     ∷ leb (pool .popped) 1
     ∷ leb (pool .queued + pool .popped + pool .kept + pool .doomed) versions
-    ∷ leb (pool .pages) pages ∷ [])
+    ∷ leb (pool .grids) grids
+    ∷ leb (pool .stamps) stamps ∷ [])
 
 -- ---- rings
 

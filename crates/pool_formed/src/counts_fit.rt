@@ -6,9 +6,9 @@ ghost use Rattle.pool_rules.specs.RuleConstants.{mostPlaces};
 use pool_memory::Pool;
 
 // Tests that the counts fit their places. Each is tested before it is added, so that no sum can pass a word.
-pub fn counts_fit(pool: Pool, places: usize, versions: usize, pages: usize) -> bool
+pub fn counts_fit(pool: Pool, places: usize, versions: usize, grids: usize, stamps: usize) -> bool
     requires { ⌜ versions ≤ mostPlaces ⌝ }
-    ensures { λ r. ⌜ r ≡ placesHold pool places versions pages ⌝ }
+    ensures { λ r. ⌜ r ≡ placesHold pool places versions grids stamps ⌝ }
 {
     if pool.popped > 1 {
         return false;
@@ -26,5 +26,6 @@ pub fn counts_fit(pool: Pool, places: usize, versions: usize, pages: usize) -> b
         & (pool.head < versions)
         & (pool.first < versions)
         & (pool.queued + pool.popped + pool.kept + pool.doomed <= versions)
-        & (pool.grids <= pages)
+        & (pool.grids <= grids)
+        & (pool.stamps <= stamps)
 }

@@ -2,6 +2,8 @@ pub mod Tests
 pub mod RecordTests
 pub mod Claims
 pub mod SpareTests
+pub mod GridTests
 pub mod HistoryTests
+pub mod Walk
 pub mod TextureTests
 pub mod States

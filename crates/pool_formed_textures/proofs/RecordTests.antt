@@ -15,8 +15,7 @@ use Rattle.base_blocks.proofs.Listed.{left, ascending-more, ascending-stop}
 use Rattle.base_tables.specs.Records.{recordAt}
 use Rattle.base_tables.proofs.Records.{length-table, getD-table, record-part}
 use Rattle.grid_shapes.specs.declared.shape.VersionShape.{VersionShape}
-use Rattle.grid_shapes.specs.Shapes.{isShape, slicesOf, bytesOf}
-use Rattle.grid_shapes.proofs.Shapes.{shape-bounds, slices-bound}
+use Rattle.grid_shapes.specs.Shapes.{isShape, bytesOf}
 use Rattle.grid_shapes.proofs.ShapeBytes.{bytes-bound}
 use Rattle.pool_rules.specs.Model.{limit}
 use Rattle.pool_records.specs.declared.texture.TextureRecord.{TextureRecord}
@@ -28,7 +27,7 @@ use Rattle.pool_memory.proofs.Runs.{bytes-held}
 use Rattle.pool_formed_textures.specs.Textures.{writesFit, isRecord}
 use Rattle.pool_formed_textures.proofs.Tests.{fails}
 use Rattle.grid_shapes.specs.ShapeConstants.{mostShapeBytes}
-use Rattle.pool_records.specs.RecordConstants.{textureSparesAt, textureStride}
+use Rattle.pool_records.specs.RecordConstants.{textureGridAt, textureSparesAt, textureStampAt, textureStride}
 use Rattle.pool_rules.specs.RuleConstants.{mostPlaces}
 
 -- ---- records
@@ -68,9 +67,6 @@ module _ (t u : TextureRecord) (e : t ≡ u) where
       ∙ ap (λ (x : Bool). x && leb (t .epoch) limit && leb (t .birth) limit && leb (t .rename) limit && leb (t .due) limit && writesFit (t .history) && eqb (t .bytes) (bytesOf (t .shape)))
       (sym q)
       ∙ ap isRecord e
-
-pub pages-small : (s : VersionShape) (k : ℕ) → k ≡ slicesOf s → isShape s ≡ true → k * s .levels ≤ 90
-pages-small s k e h = mul-le-mul {n₂ = 6} {m₂ = 15} (omega (arith, e, slices-bound s)) (shape-bounds s h .levels-bound)
 
 pub bytes-small : (s : VersionShape) (b k : ℕ) → b ≡ bytesOf s → isShape s ≡ true → k ≤ mostPlaces → b * k ≤ 72057594037927936
 bytes-small s b k e h q = mul-le-mul {n₂ = mostShapeBytes} {m₂ = mostPlaces} (omega (arith, e, bytes-bound s h)) q
@@ -116,3 +112,11 @@ module _ (s : List ℕ) (i : ℕ) (p : List ℕ) (e : p ≡ take textureStride (
   pub read-spares : getD p textureSparesAt 0 ≡ textureIn s i .spares
   unfolding readTexture
   read-spares = ap (λ (t : TextureRecord). t .spares) (texture-read s i p e)
+
+  pub read-grid : getD p textureGridAt 0 ≡ textureIn s i .grid
+  unfolding readTexture
+  read-grid = ap (λ (t : TextureRecord). t .grid) (texture-read s i p e)
+
+  pub read-stamp : getD p textureStampAt 0 ≡ textureIn s i .stamp
+  unfolding readTexture
+  read-stamp = ap (λ (t : TextureRecord). t .stamp) (texture-read s i p e)

@@ -1,16 +1,17 @@
 -- Helper: The textures as the test goes over them: a condition a pass over the lent slices, where `isPool` reads the states that they stand for.
 -- That both say the same is a law; a reader of `is_pool` needs none of this.
-use Prim.Native.Nat.{ℕ, _+_, _*_, _%_}
+use Prim.Native.Nat.{ℕ, _+_, _%_}
 use mathlib.Core.Bool.{Bool, true, _&&_}
 use mathlib.Core.List.{List, [], _∷_}
 use lib.Dec.{leb, eqb}
-use lib.ListN.{getD}
+use lib.ListN.{length, drop, getD}
 use Rattle.base_blocks.specs.Lists.{all, listed, total, ascending, tests}
 use Rattle.base_tables.specs.Records.{recordAt}
 use Rattle.grid_shapes.specs.declared.shape.VersionShape.{VersionShape}
-use Rattle.grid_shapes.specs.Shapes.{isShape, bytesOf}
+use Rattle.grid_shapes.specs.Shapes.{isShape}
 use Rattle.grid_stamps.specs.Grids.{StampGrid, gridIn, tilingOf}
 use Rattle.pool_rules.specs.Model.{Spare, limit, gridCount}
+use Rattle.pool_rules.specs.HistorySizes.{gridStart, historySize}
 use Rattle.pool_records.specs.declared.recorded.Recorded.{Recorded}
 use Rattle.pool_records.specs.declared.recorded.Recorded.the-variants.{Writes, NoHistory}
 use Rattle.pool_records.specs.declared.texture.TextureRecord.{TextureRecord}
@@ -18,10 +19,9 @@ use Rattle.pool_records.specs.Spare.{readSpare}
 use Rattle.pool_records.specs.Views.{spareOf}
 use Rattle.pool_records.specs.Find.{idOf}
 use Rattle.pool_memory.specs.declared.pool.Pool.{Pool}
-use Rattle.pool_memory.specs.Reading.{pageAt}
 use Rattle.pool_memory.specs.IsPool.{bytesHold, isGrid, isSpare}
 use Rattle.pool_records.specs.RecordConstants.{spareStride}
-use Rattle.pool_records.specs.Texture.{recordGrids, recordSpares, recordBytes, texturesIn}
+use Rattle.pool_records.specs.Texture.{recordGrids, recordStamps, recordSpares, recordBytes, texturesIn}
 
 -- ---- textures
 
@@ -35,31 +35,51 @@ isRecord t = tests (
     isShape (t .shape) ∷ leb (t .epoch) limit ∷ leb (t .birth) limit ∷ leb (t .rename) limit ∷ leb (t .due) limit ∷ writesFit (t .history)
     ∷ bytesHold t ∷ [])
 
--- the records claim so many spares and so many pages
-unfoldable pub claim : List TextureRecord → ℕ → ℕ → Bool
-claim ts kept pages = tests (eqb kept (total recordSpares ts) ∷ eqb pages (total recordGrids ts) ∷ [])
-
 unfoldable pub modelSpareAt : List ℕ → ℕ → Spare ℕ
 modelSpareAt spares k = spareOf (recordAt spareStride readSpare spares k)
 
 -- ---- histories
 
--- the k-th grid of a history whose first page is `page`
-unfoldable pub gridOnPage : List ℕ → List ℕ → VersionShape → ℕ → ℕ → StampGrid
-gridOnPage newest stamps s page k = gridIn (tilingOf s (k % s .levels)) (getD newest (page + k) 0) (pageAt stamps (page + k))
+-- the k-th grid of a history whose grids' newest and whose stamps are just these
+unfoldable pub ownGrid : VersionShape → List ℕ → List ℕ → ℕ → StampGrid
+ownGrid s newest stamps k = gridIn (tilingOf s (k % s .levels)) (getD newest k 0) (drop (gridStart s k) stamps)
 
-unfoldable pub gridsFit : List ℕ → List ℕ → VersionShape → ℕ → ℕ → Bool
-gridsFit newest stamps s page writes = all (isGrid writes) (listed (gridOnPage newest stamps s page) 0 (gridCount s))
+-- they are as many as the shape has, and every grid passes
+unfoldable pub gridsFit : VersionShape → ℕ → List ℕ → List ℕ → Bool
+gridsFit s writes newest stamps = tests (
+    eqb (length newest) (gridCount s)
+    ∷ eqb (length stamps) (historySize s)
+    ∷ all (isGrid writes) (listed (ownGrid s newest stamps) 0 (gridCount s)) ∷ [])
 
-abbrev pub historyFits : List ℕ → List ℕ → VersionShape → ℕ → Recorded → Bool
-historyFits newest stamps s page (Writes n) = gridsFit newest stamps s page n
-historyFits newest stamps s page NoHistory = true
+-- without a history there are none
+abbrev pub historyFits : VersionShape → Recorded → List ℕ → List ℕ → Bool
+historyFits s (Writes n) newest stamps = gridsFit s n newest stamps
+historyFits s NoHistory newest stamps = eqb (length newest) 0 && eqb (length stamps) 0
 
--- each texture's pages stand behind those of the textures before it
-unfoldable pub historiesFit : List ℕ → List ℕ → ℕ → List TextureRecord → Bool
-historiesFit newest stamps page [] = true
-historiesFit newest stamps page (t ∷ ts) =
-    historyFits newest stamps (t .shape) page (t .history) && historiesFit newest stamps (page + recordGrids t) ts
+-- the k-th grid of a history whose grids begin at `grid` and whose stamps at `stamp`
+unfoldable pub gridFrom : List ℕ → List ℕ → VersionShape → ℕ → ℕ → ℕ → StampGrid
+gridFrom newest stamps s grid stamp k = gridIn (tilingOf s (k % s .levels)) (getD newest (grid + k) 0) (drop (stamp + gridStart s k) stamps)
+
+abbrev pub gridsHold : List ℕ → List ℕ → VersionShape → ℕ → ℕ → Recorded → Bool
+gridsHold newest stamps s grid stamp (Writes n) = all (isGrid n) (listed (gridFrom newest stamps s grid stamp) 0 (gridCount s))
+gridsHold newest stamps s grid stamp NoHistory = true
+
+-- the grids of a record's history pass, where it says that they begin
+unfoldable pub historyHolds : List ℕ → List ℕ → TextureRecord → Bool
+historyHolds newest stamps t = gridsHold newest stamps (t .shape) (t .grid) (t .stamp) (t .history)
+
+-- a run begins where it says, and ends among those in use
+unfoldable pub runFits : ℕ → ℕ → ℕ → ℕ → Bool
+runFits start at end used = tests (eqb start at ∷ leb at end ∷ leb end used ∷ [])
+
+-- each texture's history begins where the one before it ends, and the last ends with what is in use
+unfoldable pub historiesFit : List ℕ → List ℕ → ℕ → ℕ → ℕ → ℕ → List TextureRecord → Bool
+historiesFit newest stamps grids used grid stamp [] = eqb grid grids && eqb stamp used
+historiesFit newest stamps grids used grid stamp (t ∷ ts) = tests (
+    eqb (t .grid) grid
+    ∷ eqb (t .stamp) stamp
+    ∷ historyHolds newest stamps t
+    ∷ historiesFit newest stamps grids used (grid + recordGrids t) (stamp + recordStamps t) ts ∷ [])
 
 -- the textures, their spares and their histories
 unfoldable pub texturesFit : Pool → List ℕ → List ℕ → List ℕ → List ℕ → Bool
@@ -68,7 +88,7 @@ texturesFit pool slice spares newest stamps =
     tests (
     ascending idOf ts
     ∷ all isRecord ts
-    ∷ claim ts (pool .kept) (pool .pages)
+    ∷ eqb (pool .kept) (total recordSpares ts)
     ∷ all isSpare (listed (modelSpareAt spares) 0 (pool .kept))
     ∷ eqb (pool .parked) (total recordBytes ts)
-    ∷ historiesFit newest stamps 0 ts ∷ [])
+    ∷ historiesFit newest stamps (pool .grids) (pool .stamps) 0 0 ts ∷ [])

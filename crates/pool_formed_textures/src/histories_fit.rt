@@ -1,98 +1,127 @@
-// The write histories: every grid's newest stamp is its largest, and none passes its texture's write count.
+// The write histories: each begins where the one before it ends, every grid's newest stamp is its largest, and none passes its texture's
+// write count.
 ghost use mathlib.Core.Path.{_≡_};
 ghost use mathlib.Core.Bool.{true};
-ghost use Prim.Native.Nat.{_+_, _*_, _≤_, _<_};
-ghost use lib.ListN.{length, getD};
-ghost use Rattle.base_blocks.specs.Lists.{all, total};
+ghost use Prim.Native.Nat.{_*_, _≤_, _<_};
+ghost use lib.ListN.{length};
+ghost use Rattle.base_blocks.specs.Lists.{all};
 ghost use Rattle.grid_shapes.specs.Shapes.{isShape};
-ghost use Rattle.grid_stamps.specs.Grids.{gridIn, tilingOf};
-ghost use Rattle.pool_rules.specs.Model.{gridCount};
-ghost use Rattle.pool_records.specs.Texture.{readTexture, recordGrids, texturesIn};
-ghost use Rattle.pool_memory.specs.Reading.{pageAt};
+ghost use Rattle.grid_axes.specs.Axes.{AxisOk};
+ghost use Rattle.grid_stamps.specs.Grids.{gridIn, stampCount, tiled};
+ghost use Rattle.pool_records.specs.Texture.{readTexture, texturesIn};
 ghost use Rattle.pool_memory.specs.IsPool.{isGrid};
-ghost use Rattle.pool_formed_textures.specs.Textures.{isRecord, gridsFit, historyFits, historiesFit};
-ghost use Rattle.grid_stamps.specs.StampConstants.{pageStamps};
+ghost use Rattle.pool_formed_textures.specs.Textures.{isRecord, gridsFit, historyFits, historiesFit, runFits};
 ghost use Rattle.pool_records.specs.RecordConstants.{textureStride};
-use crate::records_fit::pages_of;
-use crate::records_fit::record_pages;
 use base_tables::record_at;
+use grid_axes::Axis;
 use grid_shapes::VersionShape;
-use grid_stamps::PAGE_STAMPS;
 use grid_stamps::across_axis;
 use grid_stamps::down_axis;
 use grid_stamps::is_largest_stamp;
+use grid_stamps::stamp_count;
+use pool_access::grid_end;
+use pool_access::shape_grids;
+use pool_access::stamp_end;
 use pool_records::Recorded;
+use pool_records::TEXTURE_GRID_AT;
+use pool_records::TEXTURE_STAMP_AT;
 use pool_records::TEXTURE_STRIDE;
 use pool_records::read_texture;
 
-// The grid of a level, on page `at`.
-fn grid_fits(
-    s: VersionShape,
-    level: u64,
-    writes: u64,
-    newest: &[u64],
-    stamps: &[u64],
-    at: usize,
-) -> bool
-    requires { ⌜ (isShape s ≡ true) × (at < length (now newest)) × (length (now stamps) ≡ pageStamps * length (now newest)) ⌝ }
-    ensures { λ r. ⌜ r ≡ isGrid writes (gridIn (tilingOf s level) (getD (now (newest .entry)) at 0) (pageAt (now (stamps .entry)) at)) ⌝ }
+// Tests a grid of so many columns and rows, whose stamps stand at the front.
+fn grid_fits(across: Axis, down: Axis, writes: u64, newest: u64, stamps: &[u64]) -> bool
+    requires { ⌜ AxisOk across × AxisOk down × (stampCount (tiled across down) ≤ length (now stamps)) × (0 < stampCount (tiled across down)) ⌝ }
+    ensures { λ r. ⌜ r ≡ isGrid writes (gridIn (tiled across down) newest (now (stamps .entry))) ⌝ }
 {
-    let stamp = newest[at];
-    if stamp > writes {
+    if newest > writes {
         return false;
     }
-    let across = across_axis(s, level);
-    let down = down_axis(s, level);
-    is_largest_stamp(record_at(stamps, PAGE_STAMPS, at), across, down, stamp)
+    is_largest_stamp(stamps, across, down, newest)
 }
 
-// The grids of a history whose first page is `page`.
-fn grids_fit(s: VersionShape, writes: u64, newest: &[u64], stamps: &[u64], page: usize) -> bool
-    requires { ⌜ (isShape s ≡ true) × (page + gridCount s ≤ length (now newest)) × (length (now stamps) ≡ pageStamps * length (now newest)) ⌝ }
-    ensures { λ r. ⌜ r ≡ gridsFit (now (newest .entry)) (now (stamps .entry)) s page writes ⌝ }
+// Tests the grids of a history that has just these newest and just these stamps. Works out a level's tiles once, for the test and for where
+// the next grid begins.
+fn grids_fit(s: VersionShape, writes: u64, newest: &[u64], stamps: &[u64]) -> bool
+    requires { ⌜ isShape s ≡ true ⌝ }
+    ensures { λ r. ⌜ r ≡ gridsFit s writes (now (newest .entry)) (now (stamps .entry)) ⌝ }
 {
-    let n = pages_of(s);
+    let n = shape_grids(s);
+    if newest.len() != n {
+        return false;
+    }
+    let mut at = 0;
     let mut k = 0;
     while k < n {
-        if !grid_fits(s, k % s.levels, writes, newest, stamps, page + k as usize) {
+        let level = k as u64 % s.levels;
+        let across = across_axis(s, level);
+        let down = down_axis(s, level);
+        let count = stamp_count(across, down) as usize;
+        if count > stamps.len() - at {
             return false;
         }
+        if !grid_fits(across, down, writes, newest[k], &stamps[at..]) {
+            return false;
+        }
+        at += count;
         k += 1;
     }
-    true
+    stamps.len() == at
 }
 
-// The history of a record whose first page is `page`.
-fn history_fits(p: &[u64], newest: &[u64], stamps: &[u64], page: usize) -> bool
-    requires { ⌜ (textureStride ≤ length (now p)) × (isShape (readTexture (now p) .shape) ≡ true)
-        × (page + recordGrids (readTexture (now p)) ≤ length (now newest)) × (length (now stamps) ≡ pageStamps * length (now newest)) ⌝ }
-    ensures { λ r. ⌜ r
-        ≡ historyFits (now (newest .entry)) (now (stamps .entry)) (readTexture (now (p .entry)) .shape) page (readTexture (now (p .entry)) .history) ⌝ }
+// Tests the history of a record that has just these newest and just these stamps: none of either without a history.
+fn history_fits(p: &[u64], newest: &[u64], stamps: &[u64]) -> bool
+    requires { ⌜ (textureStride ≤ length (now p)) × (isShape (readTexture (now p) .shape) ≡ true) ⌝ }
+    ensures { λ r. ⌜ r ≡ historyFits (readTexture (now (p .entry)) .shape) (readTexture (now (p .entry)) .history) (now (newest .entry)) (now (stamps .entry)) ⌝ }
 {
     let t = read_texture(p);
     let shape = t.shape;
     let history = t.history;
     match history {
-        Recorded::Writes(n) => grids_fit(shape, n, newest, stamps, page),
-        Recorded::NoHistory => true,
+        Recorded::Writes(n) => grids_fit(shape, n, newest, stamps),
+        Recorded::NoHistory => (newest.len() == 0) & (stamps.len() == 0),
     }
 }
 
-// The histories of the first n records, each behind the pages of those before it.
-pub fn histories_fit(textures: &[u64], n: usize, newest: &[u64], stamps: &[u64]) -> bool
-    requires { ⌜ (textureStride * n ≤ length (now textures)) × (all isRecord (texturesIn n (now textures)) ≡ true)
-        × (total recordGrids (texturesIn n (now textures)) ≤ length (now newest)) × (length (now stamps) ≡ pageStamps * length (now newest)) ⌝ }
-    ensures { λ r. ⌜ r ≡ historiesFit (now (newest .entry)) (now (stamps .entry)) 0 (texturesIn n (now (textures .entry))) ⌝ }
+// Tests that a run begins at `at`, and that its end is not before that nor past those in use.
+fn run_fits(start: u64, at: usize, end: usize, used: usize) -> bool
+    ensures { λ r. ⌜ r ≡ runFits start at end used ⌝ }
 {
-    let mut page = 0;
+    (start == at as u64) & (at <= end) & (end <= used)
+}
+
+// Tests the histories of the first n records, which have `grids` grids and `used` stamps together. Takes each to end where the next record
+// says that its own begins, and tests that before it reads, so that nothing past those in use is read and no sum is needed.
+pub fn histories_fit(
+    textures: &[u64],
+    n: usize,
+    grids: usize,
+    used: usize,
+    newest: &[u64],
+    stamps: &[u64],
+) -> bool
+    requires { ⌜ (textureStride * n ≤ length (now textures)) × (all isRecord (texturesIn n (now textures)) ≡ true)
+        × (grids ≤ length (now newest)) × (used ≤ length (now stamps)) ⌝ }
+    ensures { λ r. ⌜ r ≡ historiesFit (now (newest .entry)) (now (stamps .entry)) grids used 0 0 (texturesIn n (now (textures .entry))) ⌝ }
+{
+    let mut grid = 0;
+    let mut stamp = 0;
     let mut i = 0;
     while i < n {
         let p = record_at(textures, TEXTURE_STRIDE, i);
-        if !history_fits(p, newest, stamps, page) {
+        let last = grid_end(textures, n, grids, i);
+        let end = stamp_end(textures, n, used, i);
+        if !run_fits(p[TEXTURE_GRID_AT], grid, last, grids) {
             return false;
         }
-        page += record_pages(p);
+        if !run_fits(p[TEXTURE_STAMP_AT], stamp, end, used) {
+            return false;
+        }
+        if !history_fits(p, &newest[grid..last], &stamps[stamp..end]) {
+            return false;
+        }
+        grid = last;
+        stamp = end;
         i += 1;
     }
-    true
+    (grid == grids) & (stamp == used)
 }

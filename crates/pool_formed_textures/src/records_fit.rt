@@ -1,21 +1,18 @@
 // The textures' records, each by itself.
 ghost use mathlib.Core.Path.{_≡_};
 ghost use mathlib.Core.Bool.{true};
-ghost use Prim.Native.Nat.{_+_, _*_, _≤_};
+ghost use Prim.Native.Nat.{_*_, _≤_};
 ghost use lib.ListN.{length};
 ghost use Rattle.base_blocks.specs.Lists.{all, ascending};
 ghost use Rattle.grid_shapes.specs.Shapes.{isShape, bytesOf};
-ghost use Rattle.pool_rules.specs.Model.{gridCount};
-ghost use Rattle.pool_records.specs.Texture.{readTexture, recordGrids, recordBytes, texturesIn};
+ghost use Rattle.pool_records.specs.Texture.{readTexture, recordBytes, texturesIn};
 ghost use Rattle.pool_records.specs.Find.{idOf};
 ghost use Rattle.pool_formed_textures.specs.Textures.{writesFit, isRecord};
 ghost use Rattle.pool_records.specs.RecordConstants.{textureStride};
 ghost use Rattle.pool_rules.specs.RuleConstants.{mostPlaces};
 use base_tables::record_at;
-use grid_shapes::VersionShape;
 use grid_shapes::is_shape;
 use grid_shapes::shape_bytes;
-use grid_shapes::slices;
 use pool_records::Recorded;
 use pool_records::TEXTURE_BYTES_AT;
 use pool_records::TEXTURE_SPARES_AT;
@@ -23,7 +20,7 @@ use pool_records::TEXTURE_STRIDE;
 use pool_records::read_texture;
 use pool_rules::LIMIT;
 
-// The ids of the first n records ascend.
+// Tests that the ids of the first n records ascend.
 pub fn ids_ascend(textures: &[u64], n: usize) -> bool
     requires { ⌜ textureStride * n ≤ length (now textures) ⌝ }
     ensures { λ r. ⌜ r ≡ ascending idOf (texturesIn n (now (textures .entry))) ⌝ }
@@ -38,7 +35,7 @@ pub fn ids_ascend(textures: &[u64], n: usize) -> bool
     true
 }
 
-// A write count, if there is a history, is at most 2^48.
+// Tests that a write count, if there is a history, is at most 2^48.
 fn writes_fit(h: Recorded) -> bool
     ensures { λ r. ⌜ r ≡ writesFit h ⌝ }
 {
@@ -48,7 +45,7 @@ fn writes_fit(h: Recorded) -> bool
     }
 }
 
-// The record's shape passes refusal 2, its bytes are that shape's, and its other numbers are at most 2^48.
+// Tests that the record's shape passes refusal 2, its bytes are that shape's, and its other numbers are at most 2^48.
 fn is_record(p: &[u64]) -> bool
     requires { ⌜ textureStride ≤ length (now p) ⌝ }
     ensures { λ r. ⌜ r ≡ isRecord (readTexture (now (p .entry))) ⌝ }
@@ -67,7 +64,7 @@ fn is_record(p: &[u64]) -> bool
         & (t.bytes == shape_bytes(shape))
 }
 
-// Every one of the first n records does.
+// Tests every one of the first n records.
 pub fn records_fit(textures: &[u64], n: usize) -> bool
     requires { ⌜ textureStride * n ≤ length (now textures) ⌝ }
     ensures { λ r. ⌜ r ≡ all isRecord (texturesIn n (now (textures .entry))) ⌝ }
@@ -82,29 +79,7 @@ pub fn records_fit(textures: &[u64], n: usize) -> bool
     true
 }
 
-// One page for each slice and level.
-pub fn pages_of(s: VersionShape) -> u64
-    requires { ⌜ isShape s ≡ true ⌝ }
-    ensures { λ r. ⌜ (r ≤ 90) × (r ≡ gridCount s) ⌝ }
-{
-    slices(s) * s.levels
-}
-
-// How many pages a record claims.
-pub fn record_pages(p: &[u64]) -> usize
-    requires { ⌜ (textureStride ≤ length (now p)) × (isShape (readTexture (now p) .shape) ≡ true) ⌝ }
-    ensures { λ r. ⌜ (r ≤ 90) × (r ≡ recordGrids (readTexture (now (p .entry)))) ⌝ }
-{
-    let t = read_texture(p);
-    let shape = t.shape;
-    let history = t.history;
-    match history {
-        Recorded::Writes(_) => pages_of(shape) as usize,
-        Recorded::NoHistory => 0,
-    }
-}
-
-// The bytes of a record's spares.
+// Returns the bytes of a record's spares.
 pub fn record_bytes(p: &[u64]) -> u64
     requires { ⌜ (textureStride ≤ length (now p)) × (isShape (readTexture (now p) .shape) ≡ true) × (readTexture (now p) .spares ≤ mostPlaces)
         × (readTexture (now p) .bytes ≡ bytesOf (readTexture (now p) .shape)) ⌝ }

@@ -11,7 +11,7 @@ use pool_records::SPARE_PARKED_AT;
 use pool_records::SPARE_STRIDE;
 use pool_rules::LIMIT;
 
-// The first n spares: what each holds is unknown (0) or at most 2^48 (one more stands there), and so is its parking number.
+// Tests the first n spares: what each holds is unknown (0) or at most 2^48 (one more stands there), and so is its parking number.
 pub fn spares_fit(spares: &[u64], n: usize) -> bool
     requires { ⌜ spareStride * n ≤ length (now spares) ⌝ }
     ensures { λ r. ⌜ r ≡ all isSpare (listed (modelSpareAt (now (spares .entry))) 0 n) ⌝ }

@@ -3,7 +3,6 @@ ghost use mathlib.Core.Path.{_≡_};
 ghost use Prim.Native.Nat.{_*_, _≤_};
 ghost use lib.ListN.{length};
 ghost use Rattle.pool_formed_textures.specs.Textures.{texturesFit};
-ghost use Rattle.grid_stamps.specs.StampConstants.{pageStamps};
 ghost use Rattle.pool_records.specs.RecordConstants.{spareStride, textureStride};
 ghost use Rattle.pool_rules.specs.RuleConstants.{mostPlaces};
 use crate::histories_fit::histories_fit;
@@ -22,7 +21,7 @@ pub fn textures_fit(
     stamps: &[u64],
 ) -> bool
     requires { ⌜ (textureStride * pool .tracked ≤ length (now textures)) × (spareStride * pool .kept ≤ length (now spares)) × (pool .kept ≤ mostPlaces)
-        × (pool .pages ≤ length (now newest)) × (length (now stamps) ≡ pageStamps * length (now newest)) ⌝ }
+        × (pool .grids ≤ length (now newest)) × (pool .stamps ≤ length (now stamps)) ⌝ }
     ensures { λ r. ⌜ r ≡ texturesFit pool (now (textures .entry)) (now (spares .entry)) (now (newest .entry)) (now (stamps .entry)) ⌝ }
 {
     let n = pool.tracked;
@@ -32,7 +31,7 @@ pub fn textures_fit(
     if !records_fit(textures, n) {
         return false;
     }
-    if !runs_fit(textures, n, pool.kept, pool.grids) {
+    if !runs_fit(textures, n, pool.kept) {
         return false;
     }
     if !spares_fit(spares, pool.kept) {
@@ -41,5 +40,5 @@ pub fn textures_fit(
     if pool.parked != parked_bytes(textures, n) {
         return false;
     }
-    histories_fit(textures, n, newest, stamps)
+    histories_fit(textures, n, pool.grids, pool.stamps, newest, stamps)
 }

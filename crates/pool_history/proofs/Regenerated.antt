@@ -1,30 +1,37 @@
--- Laws of a mip regeneration, page by page. Assumes nothing.
-use mathlib.Core.Path.{_≡_, refl, sym, ap, ap₂, _∙_, subst}
+-- Laws of a mip regeneration, grid by grid. Assumes nothing.
+use mathlib.Core.Path.{_≡_, refl, sym, ap, ap₂, _∙_}
 use mathlib.Core.Bool.{Bool, true, cond}
-use mathlib.Core.List.{List, [], _∷_, _++_}
-use Prim.Native.Nat.{ℕ, zero, suc, _+_, _*_, _%_, _≤_, _<_}
+use mathlib.Core.List.{List, [], _∷_, _++_, map, flatMap, map-append, append-nil}
+use Prim.Native.Nat.{ℕ, zero, suc, _+_, _%_, _≤_, _<_}
 use native.Mathlib.Nat.{zero-add, mod-eq-of-lt, mod-self, mod-lt, mod-add-mod}
 use native.Mathlib.Numerals.{add-one}
 use native.Mathlib.Omega.{arith}
 use borrow.Author.Tests.{ne-eqb, eq-eqb}
 use lib.Dec.{eqb}
-use lib.ListN.{length, getD}
+use lib.ListN.{length, drop, getD, set, length-append, length-map}
+use lib.Seq.{sets, drop-set-lt}
 use Rattle.base_blocks.specs.Lists.{listed}
 use Rattle.base_blocks.proofs.Lists.{either}
-use Rattle.base_blocks.proofs.All.{all-listed}
-use Rattle.base_blocks.proofs.Listed.{length-listed, getD-listed, listed-more}
+use Rattle.base_blocks.proofs.Listed.{length-listed, listed-more}
+use Rattle.base_blocks.proofs.Blocks.{getD-sets-past}
+use Rattle.base_unequal.proofs.Starts.{start-none}
 use Rattle.grid_shapes.specs.declared.shape.VersionShape.{VersionShape}
 use Rattle.grid_shapes.specs.Shapes.{isShape, levelExtent, levelWidth, levelHeight}
 use Rattle.grid_shapes.proofs.Shapes.{shape-bounds}
 use Rattle.grid_rects.specs.declared.rect.TexelRect.{TexelRect}
 use Rattle.grid_rects.specs.Rects.{wholeLevel}
-use Rattle.grid_stamps.specs.Grids.{StampGrid, gridIn, tilingOf, stampedBy}
+use Rattle.grid_stamps.specs.Grids.{StampGrid, gridIn, tilingOf, stampCount, stampedBy}
+use Rattle.grid_stamps.proofs.Tilings.{tiling-ok}
+use Rattle.grid_stamps.proofs.Stamps.{length-stamped}
+use Rattle.pool_rules.specs.Model.{gridCount}
 use Rattle.pool_rules.specs.Histories.{regenerateFrom}
-use Rattle.pool_memory.specs.Reading.{pageAt, gridOn}
-use Rattle.pool_memory.specs.Writing.{pagesFrom}
-use Rattle.pool_history.specs.Written.{newestWritten, pagesWritten, remadeGrid, remadeGrids}
-use Rattle.pool_history.proofs.Written.{Small, small-stamped, small-grid, newest-past, newest-more, page-past, pages-more}
-use Rattle.grid_stamps.specs.StampConstants.{pageStamps}
+use Rattle.pool_rules.specs.HistorySizes.{gridSize, gridPlaces, gridStart, historySize}
+use Rattle.pool_rules.proofs.HistorySizes.{grid-next, grid-end}
+use Rattle.pool_memory.specs.Reading.{gridOn}
+use Rattle.pool_memory.proofs.Parts.{flat-append}
+use Rattle.pool_memory.proofs.Rewritten.{sets-append}
+use Rattle.pool_history.specs.Remade.{newestStamp, stampsIn, newestWritten, stampsWritten, remadeGrid, remadeGrids}
+use Rattle.pool_history.proofs.GridParts.{length-grid}
 
 -- ---- one grid
 
@@ -66,67 +73,117 @@ next-below next level levels h e = omega (arith, e, mod-lt (level + 1) {m = leve
 pub level-after : (level k levels : ℕ) → level ≡ k % levels → (level + 1) % levels ≡ (k + 1) % levels
 level-after level k levels e = ap (λ (i : ℕ). (i + 1) % levels) e ∙ mod-add-mod k levels 1
 
--- ---- page after page
+-- ---- where the grids begin
 
-module _ (s : VersionShape) (shaped : isShape s ≡ true) (n : ℕ) (newest stamps : List ℕ) (page : ℕ) where
+module _ (s : VersionShape) where
+  pub start-first : gridStart s 0 ≡ 0
+  unfolding gridStart
+  start-first = start-none (gridSize s) (gridPlaces s)
+
+  -- by a grid's level
+  module _ (k level : ℕ) (h : k < gridCount s) (e : level ≡ k % s .levels) where
+    size-level : stampCount (tilingOf s level) ≡ gridSize s k
+    unfolding gridSize
+    size-level = ap (λ (i : ℕ). stampCount (tilingOf s i)) e
+
+    pub start-after : gridStart s k + stampCount (tilingOf s level) ≡ gridStart s (k + 1)
+    start-after = omega (arith, size-level, grid-next s k h, ap (gridStart s) (add-one k))
+
+    pub grid-room : gridStart s k + stampCount (tilingOf s level) ≤ historySize s
+    grid-room = omega (arith, size-level, grid-end s k h)
+
+-- ---- a run of numbers stored: what stands past it stays
+
+drop-past : {A : Type 0} (n : ℕ) (s : List A) (at : ℕ) (xs : List A) → at + length xs ≤ n → drop n (sets s at xs) ≡ drop n s
+drop-past n s at [] h = refl
+drop-past n s at (x ∷ xs) h = drop-past n (set s at x) (suc at) xs (omega arith) ∙ drop-set-lt n s at x (omega arith)
+
+-- ---- grid after grid
+
+module _ (s : VersionShape) (shaped : isShape s ≡ true) (n : ℕ) (newest stamps : List ℕ) (grid stamp : ℕ) where
   abbrev remadeAt : ℕ → StampGrid
-  remadeAt k = remadeGrid s n (k % s .levels) (gridOn s (k % s .levels) newest stamps (page + k))
+  remadeAt k = remadeGrid s n (k % s .levels) (gridOn s (k % s .levels) newest stamps (grid + k) (stamp + gridStart s k))
 
-  pub remade-none : (newest ≡ newestWritten newest page (remadeGrids s n newest stamps page 0)) × (stamps ≡ pagesWritten stamps page (remadeGrids s n newest stamps page 0))
-  unfolding remadeGrids listed newestWritten pagesWritten pagesFrom
+  abbrev remade : ℕ → List StampGrid
+  remade k = remadeGrids s n newest stamps grid stamp k
+
+  pub remade-none : (newest ≡ newestWritten newest grid (remade 0)) × (stamps ≡ stampsWritten stamps stamp (remade 0))
+  unfolding remadeGrids listed newestWritten stampsWritten flatMap
   remade-none = (refl, refl)
 
-  pub length-remade : (k : ℕ) → length (remadeGrids s n newest stamps page k) ≡ k
+  pub length-remade : (k : ℕ) → length (remade k) ≡ k
   unfolding remadeGrids
   length-remade k = length-listed remadeAt 0 k
 
-  -- a grid that is made again fits its page
-  small-at : (j : ℕ) → pageStamps * (page + j) + pageStamps ≤ length stamps → length (remadeAt j .stamps) ≤ pageStamps
-  unfolding remadeGrid
-  small-at j room =
-      let level = j % s .levels in
-      let g = gridOn s level newest stamps (page + j) in
-      either (λ (x : StampGrid). length (x .stamps) ≤ pageStamps) (eqb level 0) g (stampedBy (tilingOf s level) (wholeLevel (levelWidth s level) (levelHeight s level)) n g)
-      (λ e. small-grid s shaped level newest stamps (page + j) room)
-      (λ e. small-stamped s shaped level (wholeLevel (levelWidth s level) (levelHeight s level)) n g)
-
-  pub small-remade : (k : ℕ) → pageStamps * (page + k) ≤ length stamps → (j : ℕ) → j < k
-      → length (getD (remadeGrids s n newest stamps page k) j (record { newest = 0; stamps = [] }) .stamps) ≤ pageStamps
+  remade-next : (k : ℕ) → remade (suc k) ≡ remade k ++ (remadeAt k ∷ [])
   unfolding remadeGrids
-  small-remade k room j h =
-      subst (λ (g : StampGrid). length (g .stamps) ≤ pageStamps) (sym (getD-listed remadeAt 0 k j (record { newest = 0; stamps = [] }) h ∙ ap remadeAt (zero-add j))) (small-at j (omega arith))
+  remade-next k = listed-more remadeAt 0 k ∙ ap (λ (i : ℕ). listed remadeAt 0 k ++ (remadeAt i ∷ [])) (zero-add k)
 
-  module _ (k : ℕ) (room : pageStamps * (page + k) + pageStamps ≤ length stamps) (counted : page + k < length newest) where
-    grids-small : Small (remadeGrids s n newest stamps page k)
-    unfolding remadeGrids
-    grids-small = all-listed remadeAt 0 k (λ j q. small-at (0 + j) (omega arith))
+  module _ (room : stamp + historySize s ≤ length stamps) where
+    -- a grid that is made again has as many stamps as it had
+    length-made : (k : ℕ) → k < gridCount s → length (remadeAt k .stamps) ≡ gridSize s k
+    unfolding remadeGrid gridSize
+    length-made k h =
+        let level = k % s .levels in
+        let g = gridOn s level newest stamps (grid + k) (stamp + gridStart s k) in
+        let fits : stamp + gridStart s k + stampCount (tilingOf s level) ≤ length stamps = omega (arith, grid-end s k h) in
+        either (λ (x : StampGrid). length (x .stamps) ≡ stampCount (tilingOf s level)) (eqb level 0) g
+        (stampedBy (tilingOf s level) (wholeLevel (levelWidth s level) (levelHeight s level)) n g)
+        (λ e. length-grid s shaped level newest stamps (grid + k) (stamp + gridStart s k) fits)
+        (λ e. length-stamped (tilingOf s level) (tiling-ok s shaped level) (wholeLevel (levelWidth s level) (levelHeight s level)) n g)
 
-    grids-next : remadeGrids s n newest stamps page k ++ (remadeAt k ∷ []) ≡ remadeGrids s n newest stamps page (k + 1)
-    unfolding remadeGrids
-    grids-next =
-        sym (ap (listed remadeAt 0) (add-one k) ∙ listed-more remadeAt 0 k ∙ ap (λ (i : ℕ). listed remadeAt 0 k ++ (remadeAt i ∷ [])) (zero-add k))
+    -- so the first k of them take what stands before the next
+    pub length-stamps : (k : ℕ) → k ≤ gridCount s → length (flatMap stampsIn (remade k)) ≡ gridStart s k
+    unfolding remadeGrids listed flatMap
+    length-stamps zero h = sym (start-first s)
+    length-stamps (suc k) h =
+        ap (λ (gs : List StampGrid). length (flatMap stampsIn gs)) (remade-next k)
+        ∙ ap length (flat-append stampsIn (remade k) (remadeAt k ∷ []) ∙ ap (λ (xs : List ℕ). flatMap stampsIn (remade k) ++ xs) (append-nil (remadeAt k .stamps)))
+        ∙ length-append (flatMap stampsIn (remade k)) (remadeAt k .stamps)
+        ∙ ap₂ (λ (a b : ℕ). a + b) (length-stamps k (omega arith)) (length-made k (omega arith))
+        ∙ sym (grid-next s k (omega arith))
 
-    module _ (newest₁ stamps₁ : List ℕ) (level : ℕ) (e : newest₁ ≡ newestWritten newest page (remadeGrids s n newest stamps page k))
-        (f : stamps₁ ≡ pagesWritten stamps page (remadeGrids s n newest stamps page k)) (at : level ≡ k % s .levels) where
-      -- the page after those made again is as it stood
-      same-grid : remadeGrid s n level (gridOn s level newest₁ stamps₁ (page + k)) ≡ remadeAt k
+    module _ (k : ℕ) (h : k < gridCount s) (counted : grid + k < length newest) (newest₁ stamps₁ : List ℕ) (level at : ℕ)
+        (e : newest₁ ≡ newestWritten newest grid (remade k)) (f : stamps₁ ≡ stampsWritten stamps stamp (remade k))
+        (here : level ≡ k % s .levels) (begun : at ≡ stamp + gridStart s k) where
+      -- the grid after those made again is as it stood
+      newest-past : getD (newestWritten newest grid (remade k)) (grid + k) 0 ≡ getD newest (grid + k) 0
+      unfolding newestWritten
+      newest-past =
+          let c : length (map newestStamp (remade k)) ≡ k = length-map (remade k) newestStamp ∙ length-remade k in
+          getD-sets-past newest grid (map newestStamp (remade k)) (omega (arith, c)) (grid + k) 0 (omega (arith, c))
+
+      stamps-past : drop (stamp + gridStart s k) (stampsWritten stamps stamp (remade k)) ≡ drop (stamp + gridStart s k) stamps
+      unfolding stampsWritten
+      stamps-past = drop-past (stamp + gridStart s k) stamps stamp (flatMap stampsIn (remade k)) (omega (arith, length-stamps k (omega arith)))
+
+      same-grid : remadeGrid s n level (gridOn s level newest₁ stamps₁ (grid + k) at) ≡ remadeAt k
       unfolding gridOn
       same-grid =
           ap₂ (λ (x : ℕ) (y : List ℕ). remadeGrid s n level (gridIn (tilingOf s level) x y))
-          (ap (λ (xs : List ℕ). getD xs (page + k) 0) e ∙ newest-past newest page k (remadeGrids s n newest stamps page k) (length-remade k) (omega arith))
-          (ap (λ (xs : List ℕ). pageAt xs (page + k)) f ∙ page-past stamps page k (remadeGrids s n newest stamps page k) (length-remade k) grids-small (omega arith))
-          ∙ ap (λ (i : ℕ). remadeGrid s n i (gridIn (tilingOf s i) (getD newest (page + k) 0) (pageAt stamps (page + k)))) at
+          (ap (λ (xs : List ℕ). getD xs (grid + k) 0) e ∙ newest-past)
+          (ap₂ (λ (i : ℕ) (xs : List ℕ). drop i xs) begun f ∙ stamps-past)
+          ∙ ap (λ (i : ℕ). remadeGrid s n i (gridIn (tilingOf s i) (getD newest (grid + k) 0) (drop (stamp + gridStart s k) stamps))) here
 
-      pub newest-remade : newestWritten newest₁ (page + k) (remadeGrid s n level (gridOn s level newest₁ stamps₁ (page + k)) ∷ [])
-          ≡ newestWritten newest page (remadeGrids s n newest stamps page (k + 1))
+      pub newest-remade : set newest₁ (grid + k) (remadeGrid s n level (gridOn s level newest₁ stamps₁ (grid + k) at) .newest)
+          ≡ newestWritten newest grid (remade (k + 1))
+      unfolding newestWritten
       newest-remade =
-          ap₂ (λ (xs : List ℕ) (g : StampGrid). newestWritten xs (page + k) (g ∷ [])) e same-grid
-          ∙ newest-more newest page k (remadeGrids s n newest stamps page k) (remadeAt k) (length-remade k)
-          ∙ ap (newestWritten newest page) grids-next
+          ap₂ (λ (xs : List ℕ) (g : StampGrid). set xs (grid + k) (g .newest)) e same-grid
+          ∙ ap (λ (i : ℕ). set (sets newest grid (map newestStamp (remade k))) (grid + i) (remadeAt k .newest)) (sym (length-map (remade k) newestStamp ∙ length-remade k))
+          ∙ sym (sets-append newest grid (map newestStamp (remade k)) (remadeAt k .newest ∷ []))
+          ∙ ap (sets newest grid) (sym (map-append newestStamp (remade k) (remadeAt k ∷ [])))
+          ∙ ap (λ (gs : List StampGrid). sets newest grid (map newestStamp gs)) (sym (ap remade (add-one k) ∙ remade-next k))
 
-      pub pages-remade : pagesWritten stamps₁ (page + k) (remadeGrid s n level (gridOn s level newest₁ stamps₁ (page + k)) ∷ [])
-          ≡ pagesWritten stamps page (remadeGrids s n newest stamps page (k + 1))
-      pages-remade =
-          ap₂ (λ (xs : List ℕ) (g : StampGrid). pagesWritten xs (page + k) (g ∷ [])) f same-grid
-          ∙ pages-more stamps page k (remadeGrids s n newest stamps page k) (length-remade k) grids-small (omega arith) (remadeAt k)
-          ∙ ap (pagesWritten stamps page) grids-next
+      pub stamps-remade : sets stamps₁ at (remadeGrid s n level (gridOn s level newest₁ stamps₁ (grid + k) at) .stamps)
+          ≡ stampsWritten stamps stamp (remade (k + 1))
+      unfolding stampsWritten flatMap
+      stamps-remade =
+          let xs = flatMap stampsIn (remade k) in
+          ap₂ (λ (ys : List ℕ) (g : StampGrid). sets ys at (g .stamps)) f same-grid
+          ∙ ap (λ (i : ℕ). sets (sets stamps stamp xs) i (remadeAt k .stamps))
+          (begun ∙ ap (λ (i : ℕ). stamp + i) (sym (length-stamps k (omega arith))))
+          ∙ sym (sets-append stamps stamp xs (remadeAt k .stamps))
+          ∙ ap (λ (ys : List ℕ). sets stamps stamp (xs ++ ys)) (sym (append-nil (remadeAt k .stamps)))
+          ∙ ap (sets stamps stamp) (sym (flat-append stampsIn (remade k) (remadeAt k ∷ [])))
+          ∙ ap (λ (gs : List StampGrid). sets stamps stamp (flatMap stampsIn gs)) (sym (ap remade (add-one k) ∙ remade-next k))

@@ -1,6 +1,9 @@
-// The pages of a texture's write history: stamped by a write, stamped again by a mip regeneration, and taken out.
-mod pages;
+// The grids of a texture's write history: one stamped by a write, all stamped again by a mip regeneration, all taken out.
+mod grids;
+mod run;
 
-pub use pages::regenerate_pages;
-pub use pages::remove_pages;
-pub use pages::stamp_page;
+pub use grids::regenerate_grids;
+pub use grids::stamp_grid;
+pub use run::HistoryRun;
+pub use run::Used;
+pub use run::remove_grids;

@@ -1,10 +1,9 @@
 -- `newest` and the stamps after a texture's history is renewed, dropped, put in or taken out: what stands behind it moves. Assumes nothing.
-use mathlib.Core.Path.{_≡_, refl, sym, ap, ap₂, _∙_}
+use mathlib.Core.Path.{_≡_, ap}
 use mathlib.Core.Option.{Option, none}
-use mathlib.Core.List.{List, [], _∷_, _++_, map, flatMap}
+use mathlib.Core.List.{[], _∷_, map, flatMap}
 use Prim.Native.Nat.{ℕ, suc, _+_, _-_, _≤_, _<_}
-use native.Mathlib.Omega.{arith}
-use lib.ListN.{length, take, drop, getD, set}
+use lib.ListN.{length, getD, set}
 use lib.Seq.{sets}
 use Rattle.base_blocks.specs.Lists.{removed, inserted}
 use Rattle.base_blocks.specs.Blocks.{moved}

@@ -27,7 +27,7 @@ use Rattle.pool_memory.specs.Writing.{newestOf, stampsOf}
 use Rattle.pool_memory.proofs.Fits.{Fits}
 use Rattle.pool_memory.proofs.Parts.{total-next, flat-append}
 use Rattle.pool_memory.proofs.Rewritten.{moved-self, listed-run, over-front}
-use Rattle.pool_memory.proofs.Runs.{sparesOf, newestAt, firstGridIn, firstStampIn, firstSpare, stateOf, tracked-records, tracked-model, grid-starts, stamp-starts, take-states, drop-states, newest-state, stamps-state}
+use Rattle.pool_memory.proofs.Runs.{sparesOf, firstGridIn, firstStampIn, firstSpare, stateOf, tracked-records, tracked-model, grid-starts, stamp-starts, take-states, drop-states, newest-state, stamps-state}
 
 -- `wr` is what a texture has in the slice, `size` and `start` how much and from where on by its record; `count` is how much all of them have
 pub record Packing (l : Lent) : Type 0 where

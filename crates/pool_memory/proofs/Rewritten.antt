@@ -5,7 +5,7 @@ use Prim.Native.Nat.{ℕ, zero, suc, _+_, _-_, _≤_, _<_}
 use native.Mathlib.Nat.{add-zero, zero-add, suc-add, add-assoc}
 use native.Mathlib.Omega.{arith}
 use lib.ListN.{length, take, drop, getD, set, replicate, length-replicate, length-append, length-drop, length-set, take-append-drop}
-use lib.Seq.{sets, sets-eq, drop-cons, take-add, take-take, take-append-le, take-append-add, drop-at, drop-drop, drop-append-le, drop-append-add, length-take-le, set-append-left}
+use lib.Seq.{sets, sets-eq, drop-cons, take-add, take-append-le, take-append-add, drop-drop, drop-append-le, drop-append-add, length-take-le, set-append-left}
 use Rattle.base_blocks.specs.Lists.{listed, over}
 use Rattle.base_blocks.specs.Blocks.{moved}
 use Rattle.base_blocks.proofs.Lists.{over-self}

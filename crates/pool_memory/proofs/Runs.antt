@@ -15,7 +15,7 @@ use Rattle.base_blocks.proofs.Listed.{length-listed, listed-split, listed-same,
 use Rattle.base_tables.proofs.Records.{length-table}
 use Rattle.grid_shapes.specs.declared.shape.VersionShape.{VersionShape}
 use Rattle.grid_shapes.specs.Shapes.{bytesOf}
-use Rattle.grid_stamps.specs.Grids.{StampGrid, gridIn, tilingOf, stampCount}
+use Rattle.grid_stamps.specs.Grids.{StampGrid, gridIn}
 use Rattle.base_unequal.specs.Unequal.{startOf, startsFit}
 use Rattle.base_unequal.proofs.Readings.{start-held}
 use Rattle.pool_rules.specs.Model.{Spare, VersionState, gridCount, hasHistory, gridsUsed}

@@ -9,27 +9,27 @@ use native.Mathlib.Omega.{arith}
 use mathlib.Core.Bool.{Bool, cond}
 use native.Mathlib.Decide.{decLt}
 use lib.Dec.{ltb}
-use lib.ListN.{length, take, drop, getD, set, length-append, length-drop, length-map, take-append-drop}
-use lib.Seq.{sets, set-split, take-at, drop-at, length-take-le, getD-drop, getD-take}
+use lib.ListN.{length, take, drop, getD, set, length-append, length-drop}
+use lib.Seq.{sets, set-split, take-at, drop-at, length-take-le, getD-drop}
 use borrow.Author.Tests.{lt-ltb, le-ltb}
 use Rattle.base_blocks.specs.Lists.{over, total, removed, inserted}
 use Rattle.base_blocks.specs.Blocks.{moved}
-use Rattle.base_blocks.proofs.Lists.{drop-over}
-use Rattle.base_tables.specs.Records.{recordAt, flat}
-use Rattle.base_tables.proofs.Records.{removed-records, inserted-records, replaced-record, reread, getD-table, length-flat}
+use Rattle.base_tables.specs.Records.{flat}
+use Rattle.base_tables.proofs.Records.{removed-records, inserted-records, replaced-record, getD-table}
 use Rattle.pool_rules.specs.Model.{VersionState, PoolModel, gridsUsed}
 use Rattle.pool_rules.specs.HistorySizes.{stampsUsed}
 use Rattle.pool_records.specs.declared.texture.TextureRecord.{TextureRecord}
 use Rattle.pool_records.specs.declared.shift.Shift.{Shift}
-use Rattle.pool_records.specs.Texture.{readTexture, writeTexture, textureIn, texturesIn, recordGrids, recordStamps}
+use Rattle.pool_records.specs.Texture.{readTexture, writeTexture, textureIn, recordGrids, recordStamps}
 use Rattle.pool_records.specs.Starts.{shiftedBy, movedStart, startsMoved, StartMoves, StartsMove, gridEnd, stampEnd}
 use Rattle.pool_records.specs.RecordConstants.{textureStride}
 use Rattle.pool_records.proofs.Codecs.{texture-codec}
+use Rattle.pool_records.proofs.Starts.{written-moved, written-moves}
 use Rattle.pool_memory.specs.Lent.{Lent}
 use Rattle.pool_memory.specs.Reading.{trackedRecords, modelOf}
 use Rattle.pool_memory.specs.Writing.{textureRecord, textureRecords, texturesAfter}
 use Rattle.pool_memory.proofs.Fits.{Fits}
-use Rattle.pool_memory.proofs.Runs.{firstGrid, firstStamp, stateOf, tracked-records, tracked-model, records-model, model-at, take-states, used-states, grids-state, stamps-used-state, grid-held-at, stamp-held-at}
+use Rattle.pool_memory.proofs.Runs.{firstGridIn, firstStampIn, firstGrid, firstStamp, stateOf, tracked-records, tracked-model, records-model, model-at, take-states, used-states, grids-state, stamps-used-state, grid-held-at, stamp-held-at}
 use Rattle.pool_memory.proofs.Parts.{total-next}
 use Rattle.pool_memory.proofs.HistoryRuns.{grid-bound, stamp-bound, grid-order, stamp-order, grid-last, stamp-last}
 
@@ -88,22 +88,11 @@ records-moved grids stamps grid stamp a b (t ∷ ts) =
 
 -- ---- a slice of records, some of which are moved
 
--- numbers laid over as many others
-over-over : (xs ys s : List ℕ) → length ys ≤ length xs → over xs (over ys s) ≡ over xs s
-unfolding over
-over-over xs ys s h = ap (λ (zs : List ℕ). xs ++ zs) (drop-over ys s (length xs) h)
-
 moved-over : (grids stamps : Shift) (xs zs : List TextureRecord) (k n : ℕ) (s : List ℕ) → length xs ≡ k → length (xs ++ zs) ≡ n
     → startsMoved grids stamps k n (over (flat writeTexture (xs ++ zs)) s) ≡ over (flat writeTexture (xs ++ map (movedStart grids stamps) zs)) s
-unfolding startsMoved
 moved-over grids stamps xs zs k n s a b =
-    let move = movedStart grids stamps in
-    let rs = xs ++ zs in
-    ap (λ (ts : List TextureRecord). over (flat writeTexture (take k ts ++ map move (drop k ts))) (over (flat writeTexture rs) s))
-    (reread texture-codec rs n s b)
-    ∙ ap₂ (λ (us vs : List TextureRecord). over (flat writeTexture (us ++ map move vs)) (over (flat writeTexture rs) s)) (take-at xs zs k a) (drop-at xs zs k a)
-    ∙ over-over (flat writeTexture (xs ++ map move zs)) (flat writeTexture rs) s
-    (omega (arith, length-flat texture-codec (xs ++ map move zs), length-flat texture-codec rs, length-append xs (map move zs), length-append xs zs, length-map zs move))
+    written-moved grids stamps (xs ++ zs) n b s k
+    ∙ ap₂ (λ (us vs : List TextureRecord). over (flat writeTexture (us ++ map (movedStart grids stamps) vs)) s) (take-at xs zs k a) (drop-at xs zs k a)
 
 -- ---- the model's textures
 
@@ -208,25 +197,27 @@ module _ (l : Lent) (f : Fits l) where
 
     parts-move : grids .more ≤ 90 → stamps .more ≤ 1024 * 90
         → StartsMove grids stamps (i + length new) (i + length new + (l .pool .tracked - j)) put
-    parts-move few less k u v =
-        let r = k - (i + length new) in
-        let inside : j + r < l .pool .tracked = omega (arith, u, v) in
-        let there : textureIn put k ≡ getD (trackedRecords l) (j + r) (readTexture []) =
-        sym (getD-table textureStride readTexture (i + length new + (l .pool .tracked - j)) k put (readTexture []) v)
-        ∙ ap (λ (xs : List TextureRecord). getD xs k (readTexture []))
-        (reread texture-codec (kept ++ drop j (trackedRecords l)) (i + length new + (l .pool .tracked - j)) (l .textures) length-put)
-        ∙ ap (λ (m : ℕ). getD (kept ++ drop j (trackedRecords l)) m (readTexture [])) (let z : k ≡ i + length new + r = omega arith in z)
-        ∙ sym (getD-drop (i + length new) (kept ++ drop j (trackedRecords l)) r (readTexture []))
-        ∙ ap (λ (xs : List TextureRecord). getD xs r (readTexture [])) (drop-at kept (drop j (trackedRecords l)) (i + length new) length-kept)
-        ∙ getD-drop j (trackedRecords l) r (readTexture []) in
-        let g : textureIn put k .grid ≡ firstGrid l (j + r) = ap (λ (t : TextureRecord). t .grid) there ∙ grid-held-at l (f .starts) (j + r) inside in
-        let n : textureIn put k .stamp ≡ firstStamp l (j + r) = ap (λ (t : TextureRecord). t .stamp) there ∙ stamp-held-at l (f .starts) (j + r) inside in
-        record {
-          grid-less = omega (arith, g, a, grid-order l f j (j + r) (omega arith));
-          grid-more = omega (arith, g, few, grid-bound l f (j + r), f .grids, f .newest, f .stamps, f .most-pages);
-          stamp-less = omega (arith, n, c, stamp-order l f j (j + r) (omega arith));
-          stamp-more = omega (arith, n, less, stamp-bound l f (j + r), f .stamps-counted, f .stamps, f .most-pages);
-        }
+    parts-move few less =
+        written-moves grids stamps (kept ++ drop j (trackedRecords l)) (i + length new + (l .pool .tracked - j)) length-put (l .textures) (i + length new) one
+      where
+        one : (k : ℕ) → i + length new ≤ k → k < i + length new + (l .pool .tracked - j)
+            → StartMoves grids stamps (getD (kept ++ drop j (trackedRecords l)) k (readTexture []))
+        one k u v =
+            let r = k - (i + length new) in
+            let inside : j + r < l .pool .tracked = omega (arith, u, v) in
+            let there : getD (kept ++ drop j (trackedRecords l)) k (readTexture []) ≡ getD (trackedRecords l) (j + r) (readTexture []) =
+            ap (λ (m : ℕ). getD (kept ++ drop j (trackedRecords l)) m (readTexture [])) (let z : k ≡ i + length new + r = omega arith in z)
+            ∙ sym (getD-drop (i + length new) (kept ++ drop j (trackedRecords l)) r (readTexture []))
+            ∙ ap (λ (xs : List TextureRecord). getD xs r (readTexture [])) (drop-at kept (drop j (trackedRecords l)) (i + length new) length-kept)
+            ∙ getD-drop j (trackedRecords l) r (readTexture []) in
+            let g = ap firstGridIn there ∙ grid-held-at l (f .starts) (j + r) inside in
+            let n = ap firstStampIn there ∙ stamp-held-at l (f .starts) (j + r) inside in
+            record {
+              grid-less = omega (arith, g, a, grid-order l f j (j + r) (omega arith));
+              grid-more = omega (arith, g, few, grid-bound l f (j + r), f .grids, f .newest, f .stamps, f .most-pages);
+              stamp-less = omega (arith, n, c, stamp-order l f j (j + r) (omega arith));
+              stamp-more = omega (arith, n, less, stamp-bound l f (j + r), f .stamps-counted, f .stamps, f .most-pages);
+            }
 
   -- ---- one texture changed, put in or taken out: the slice before those behind are moved
 

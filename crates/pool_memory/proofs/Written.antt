@@ -1,18 +1,18 @@
 -- The grids of a texture's history, where they stand, and `newest` and the stamps after one of them was stamped. Assumes nothing.
 use mathlib.Core.Path.{_≡_, refl, sym, ap, ap₂, _∙_}
-use mathlib.Core.Bool.{true, cond}
+use mathlib.Core.Bool.{cond}
 use mathlib.Core.Option.{Option, some}
-use mathlib.Core.List.{List, [], _∷_, _++_, map, flatMap, append-assoc}
-use Prim.Native.Nat.{ℕ, zero, suc, _+_, _*_, _%_, _≤_, _<_}
+use mathlib.Core.List.{List, [], _++_, map, flatMap, append-assoc}
+use Prim.Native.Nat.{ℕ, zero, suc, _+_, _≤_, _<_}
 use native.Mathlib.Nat.{zero-add, mul-comm, mul-add-mod-self-right, mod-eq-of-lt}
 use native.Mathlib.Omega.{arith}
 use lib.ListN.{length, take, drop, getD, set, length-set, length-append, length-drop, length-map}
 use lib.Seq.{sets, sets-eq, length-take-le}
-use Rattle.base_blocks.specs.Lists.{listed, total}
+use Rattle.base_blocks.specs.Lists.{total}
 use Rattle.base_blocks.proofs.Listed.{length-listed, getD-listed}
 use Rattle.grid_shapes.specs.declared.shape.VersionShape.{VersionShape}
 use Rattle.grid_shapes.specs.Shapes.{slicesOf}
-use Rattle.grid_stamps.specs.Grids.{StampGrid, gridIn, tilingOf, stampCount}
+use Rattle.grid_stamps.specs.Grids.{StampGrid, gridIn, tilingOf}
 use Rattle.grid_stamps.proofs.RowByRow.{tile-place}
 use Rattle.pool_rules.specs.Model.{WriteHistory, VersionState, PoolModel, hasHistory, gridCount, gridsUsed}
 use Rattle.pool_rules.specs.Histories.{gridAt, gridPlace}

@@ -10,7 +10,7 @@ use lib.ListN.{length, take, drop}
 use lib.Seq.{split-at}
 use Rattle.base_blocks.specs.Lists.{listed, keep, total}
 use Rattle.base_blocks.specs.All.{All, nil, cons}
-use Rattle.base_blocks.proofs.All.{all-map, all-keep}
+use Rattle.base_blocks.proofs.All.{all-keep}
 use Rattle.base_blocks.proofs.Lists.{keep-append, total-append}
 use Rattle.base_blocks.proofs.Listed.{map-listed}
 use Rattle.base_tables.proofs.Records.{getD-table}
@@ -21,7 +21,7 @@ use Rattle.pool_rules.specs.HistorySizes.{stampsUsed}
 use Rattle.pool_rules.specs.Formed.{StateFormed}
 use Rattle.pool_rules.specs.NoteAllocated.{Aged, picked, byAge, countOf, agedOf, pickedIn}
 use Rattle.pool_records.specs.declared.texture.TextureRecord.{TextureRecord}
-use Rattle.pool_records.specs.Texture.{readTexture, textureIn, recordGrids, recordSpares, recordBytes}
+use Rattle.pool_records.specs.Texture.{readTexture, textureIn, recordSpares, recordBytes}
 use Rattle.pool_memory.specs.Lent.{Lent}
 use Rattle.pool_memory.specs.Reading.{trackedRecords, spareRead, stateRead, statesRead, modelOf}
 use Rattle.pool_memory.specs.Writing.{textureRecords}

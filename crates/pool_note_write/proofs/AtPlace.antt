@@ -1,4 +1,4 @@
--- The texture where the search for an id ended, in a pool: what its record says of its history, and where its pages are. Assumes nothing.
+-- The texture where the search for an id ended, in a pool: what its record says of its history, and where its grids are. Assumes nothing.
 use mathlib.Core.Path.{_≡_, refl, sym, ap, ap₂, _∙_, subst}
 use mathlib.Core.Bool.{Bool, true, false, cond, _&&_, true≢false}
 use mathlib.Core.Option.{some}
@@ -8,72 +8,109 @@ use native.Mathlib.Omega.{arith}
 use native.Mathlib.Nat.{mul-comm}
 use borrow.Author.Tests.{lt-ltb, ltb-true, eq-eqb}
 use lib.Dec.{ltb}
-use lib.ListN.{getD}
+use lib.ListN.{length, getD}
+use lib.Seq.{getD-drop}
 use Rattle.base_blocks.specs.Lists.{listed}
 use Rattle.base_blocks.proofs.Lists.{and-both}
+use Rattle.base_tables.specs.Records.{recordAt}
+use Rattle.grid_shapes.specs.declared.shape.VersionShape.{VersionShape}
 use Rattle.grid_shapes.specs.Shapes.{isShape, slicesOf}
+use Rattle.grid_stamps.specs.Grids.{tilingOf, stampCount}
+use Rattle.grid_stamps.proofs.RowByRow.{tile-place}
 use Rattle.pool_rules.specs.Model.{WriteHistory, gridCount}
 use Rattle.pool_rules.specs.Histories.{inShape, gridPlace}
-use Rattle.grid_stamps.proofs.RowByRow.{tile-place}
+use Rattle.pool_rules.specs.HistorySizes.{gridStart, historySize}
+use Rattle.pool_rules.proofs.HistorySizes.{grid-end, grid-size, grids-most}
+use Rattle.pool_rules.specs.RuleConstants.{mostGrids}
 use Rattle.pool_records.specs.declared.recorded.Recorded.{Recorded}
 use Rattle.pool_records.specs.declared.recorded.Recorded.the-variants.{Writes, NoHistory}
 use Rattle.pool_records.specs.declared.texture.TextureRecord.{TextureRecord}
-use Rattle.pool_records.specs.Texture.{readTexture, textureIn, recordedGrids, recordGrids}
+use Rattle.pool_records.specs.Texture.{readTexture, textureIn, recordedGrids, recordGrids, recordedStamps, recordStamps}
 use Rattle.pool_records.specs.Find.{idOf, hasId}
 use Rattle.pool_access.proofs.Ids.{found}
 use Rattle.pool_memory.specs.Lent.{Lent}
 use Rattle.pool_memory.specs.Reading.{trackedRecords, gridRead, historyRead, stateRead}
 use Rattle.pool_memory.proofs.Fits.{Fits}
-use Rattle.pool_memory.proofs.Runs.{firstGrid, stateOf}
-use Rattle.pool_memory.proofs.Tracked.{record-read, pages-to, shape-passes}
+use Rattle.pool_memory.proofs.Runs.{firstGrid, firstStamp, stateOf, grid-held-at, stamp-held-at}
+use Rattle.pool_memory.proofs.Tracked.{record-read, grid-at, stamp-at, shape-passes}
 use Rattle.pool_memory.proofs.Places.{place, IsTracked}
 use Rattle.pool_memory.proofs.Stays.{ids-ascend, textures-fit}
-use Rattle.pool_memory.proofs.Pages.{gridCountAt, pages-in}
-use Rattle.pool_note_write.specs.History.{recordedAt, pagesUpTo, pagesHere, pagesEnd, HistoryAt}
-use Rattle.pool_rules.specs.RuleConstants.{mostPlaces}
+use Rattle.pool_memory.proofs.HistoryRuns.{gridCountAt, stampCountAt, grids-in, stamps-in}
+use Rattle.pool_records.specs.RecordConstants.{textureStride}
+use Rattle.pool_note_write.specs.History.{recordedAt, HistoryAt}
 
--- ---- the pages of a record that has a history
+-- ---- two numbers of record i
 
-module _ (textures : List ℕ) (i : ℕ) (h : HistoryAt textures i) where
-  pub pages-shape : pagesHere textures i ≡ gridCount (textureIn textures i .shape)
-  unfolding pagesHere
-  pages-shape = ap (λ (r : Recorded). recordedGrids r (textureIn textures i .shape)) (h .recorded)
+module _ (s : List ℕ) (i : ℕ) where
+  pub grid-number : getD s (textureStride * i + 20) 0 ≡ textureIn s i .grid
+  unfolding recordAt readTexture
+  grid-number = sym (getD-drop (textureStride * i) s 20 0)
 
-  -- a subresource of the shape has its page among them
-  pub page-inside : (slice level : ℕ) → inShape (textureIn textures i .shape) slice level ≡ true
-      → pagesUpTo textures i + gridPlace (textureIn textures i .shape) slice level < pagesEnd textures i
+  pub stamp-number : getD s (textureStride * i + 21) 0 ≡ textureIn s i .stamp
+  unfolding recordAt readTexture
+  stamp-number = sym (getD-drop (textureStride * i) s 21 0)
+
+-- ---- a subresource of a shape: its grid is one of a history's, and its stamps are among these
+
+module _ (s : VersionShape) (slice level : ℕ) (e : inShape s slice level ≡ true) where
+  pub within : (slice < slicesOf s) × (level < s .levels)
+  within = let q = and-both (ltb slice (slicesOf s)) (ltb level (s .levels)) e in (ltb-true slice (slicesOf s) (q .0), ltb-true level (s .levels) (q .1))
+
+  pub place-inside : gridPlace s slice level < gridCount s
   unfolding gridCount
-  page-inside slice level e =
-      let s = textureIn textures i .shape in
-      let q = and-both (ltb slice (slicesOf s)) (ltb level (s .levels)) e in
-      omega (arith, pages-shape, tile-place (s .levels) (slicesOf s) level slice (ltb-true level (s .levels) (q .1)) (ltb-true slice (slicesOf s) (q .0)), mul-comm (s .levels) (slicesOf s))
+  place-inside = omega (arith, tile-place (s .levels) (slicesOf s) level slice (within .1) (within .0), mul-comm (s .levels) (slicesOf s))
 
-  -- the same by a record that was read
-  module _ (slice level : ℕ) (e : inShape (textureIn textures i .shape) slice level ≡ true) (levels : ℕ) (read : levels ≡ textureIn textures i .shape .levels) where
-    same-place : slice * levels + level ≡ gridPlace (textureIn textures i .shape) slice level
-    same-place = ap (λ (k : ℕ). slice * k + level) read
+  pub stamps-inside : gridStart s (gridPlace s slice level) + stampCount (tilingOf s level) ≤ historySize s
+  stamps-inside = omega (arith, grid-end s (gridPlace s slice level) place-inside, grid-size s slice level (within .1))
 
-    pub page-small : pagesUpTo textures i + (slice * levels + level) ≤ mostPlaces
-    page-small = omega (arith, same-place, page-inside slice level e, h .pages)
+-- the same by a record that was read
+module _ (textures stamps : List ℕ) (i : ℕ) (h : HistoryAt textures stamps i) (t : TextureRecord) (read : t ≡ textureIn textures i) where
+  pub shape-read : isShape (t .shape) ≡ true
+  shape-read = ap (λ (x : TextureRecord). isShape (x .shape)) read ∙ h .shape
 
-    pub page-below : (p : ℕ) → p ≡ pagesUpTo textures i + (slice * levels + level) → (n : ℕ) → pagesEnd textures i ≤ n → p < n
-    page-below p q n k = omega (arith, same-place, page-inside slice level e)
+  pub stamps-read : t .stamp + historySize (t .shape) ≤ length stamps
+  stamps-read = subst (λ (x : TextureRecord). x .stamp + historySize (x .shape) ≤ length stamps) (sym read) (h .stamps-in)
+
+  module _ (slice level : ℕ) (e : inShape (textureIn textures i .shape) slice level ≡ true) where
+    pub inside-read : inShape (t .shape) slice level ≡ true
+    inside-read = ap (λ (x : TextureRecord). inShape (x .shape) slice level) read ∙ e
+
+    pub place-few : slice * t .shape .levels + level < mostGrids
+    place-few = omega (arith, place-inside (t .shape) slice level inside-read, grids-most (t .shape) shape-read)
+
+    pub place-read : (newest : List ℕ) → textureIn textures i .grid + gridCount (textureIn textures i .shape) ≤ length newest
+        → t .grid + (slice * t .shape .levels + level) < length newest
+    place-read newest k =
+        let m : t .grid + gridCount (t .shape) ≤ length newest = subst (λ (x : TextureRecord). x .grid + gridCount (x .shape) ≤ length newest) (sym read) k in
+        omega (arith, m, place-inside (t .shape) slice level inside-read)
+
+    pub start-read : t .stamp + gridStart (t .shape) (slice * t .shape .levels + level) + stampCount (tilingOf (t .shape) level) ≤ length stamps
+    start-read = omega (arith, stamps-read, stamps-inside (t .shape) slice level inside-read)
 
 -- ---- the record at a place
 
-module _ (l : Lent) (i : ℕ) (h : i < l .pool .tracked) where
-  pub pages-begin : pagesUpTo (l .textures) i ≡ firstGrid l i
-  unfolding pagesUpTo
-  pages-begin = sym (pages-to l i h)
-
-  pub pages-of-record : pagesHere (l .textures) i ≡ gridCountAt l i
-  unfolding pagesHere
-  pages-of-record = ap recordGrids (sym (record-read l i h))
-
-  pub history-read : (r : Recorded) → textureIn (l .textures) i .history ≡ r → stateOf l i .history ≡ historyRead l (stateOf l i .shape) (firstGrid l i) r
+module _ (l : Lent) (f : Fits l) (i : ℕ) (h : i < l .pool .tracked) where
+  pub history-read : (r : Recorded) → textureIn (l .textures) i .history ≡ r
+      → stateOf l i .history ≡ historyRead l (stateOf l i .shape) (firstGrid l i) (firstStamp l i) r
   unfolding stateOf stateRead
   history-read r e =
-      ap (historyRead l (getD (trackedRecords l) i (readTexture []) .shape) (firstGrid l i)) (ap (λ (t : TextureRecord). t .history) (record-read l i h) ∙ e)
+      let t = getD (trackedRecords l) i (readTexture []) in
+      ap (historyRead l (t .shape) (t .grid) (t .stamp)) (ap (λ (x : TextureRecord). x .history) (record-read l i h) ∙ e)
+      ∙ ap₂ (λ (g n : ℕ). historyRead l (t .shape) g n r) (grid-held-at l (f .starts) i h) (stamp-held-at l (f .starts) i h)
+
+  -- the grids and the stamps of a history that is recorded
+  module _ (n : ℕ) (e : textureIn (l .textures) i .history ≡ Writes n) where
+    pub grids-recorded : textureIn (l .textures) i .grid + gridCount (textureIn (l .textures) i .shape) ≤ l .pool .grids
+    grids-recorded =
+        let c : gridCountAt l i ≡ gridCount (textureIn (l .textures) i .shape) =
+        ap recordGrids (record-read l i h) ∙ ap (λ (r : Recorded). recordedGrids r (textureIn (l .textures) i .shape)) e in
+        omega (arith, c, grid-at l i h f, grids-in l f i h)
+
+    pub stamps-recorded : textureIn (l .textures) i .stamp + historySize (textureIn (l .textures) i .shape) ≤ l .pool .stamps
+    stamps-recorded =
+        let c : stampCountAt l i ≡ historySize (textureIn (l .textures) i .shape) =
+        ap recordStamps (record-read l i h) ∙ ap (λ (r : Recorded). recordedStamps r (textureIn (l .textures) i .shape)) e in
+        omega (arith, c, stamp-at l i h f, stamps-in l f i h)
 
 -- ---- a texture of a pool
 
@@ -100,9 +137,9 @@ module _ (l : Lent) (f : Fits l) (id : ℕ) where
   here : Bool
   here = hasId (l .textures) (l .pool .tracked) at id
 
-  tracked-here : here ≡ true → Tracked
+  is-tracked : here ≡ true → Tracked
   unfolding here
-  tracked-here e =
+  is-tracked e =
       let q = found (l .textures) (l .pool .tracked) at id e in
       (q .0, ap idOf (record-read l at (q .0)) ∙ q .1)
 
@@ -118,32 +155,32 @@ module _ (l : Lent) (f : Fits l) (id : ℕ) where
     where
       go : (b : Bool) → here ≡ b → (r : Recorded) → textureIn (l .textures) at .history ≡ r → Says (cond b r NoHistory)
       go false e r q = untracked (not-here e)
-      go true e NoHistory q = unrecorded (tracked-here e) q
-      go true e (Writes n) q = record { tracked = tracked-here e; history = q }
+      go true e NoHistory q = unrecorded (is-tracked e) q
+      go true e (Writes n) q = record { tracked = is-tracked e; history = q }
 
   -- ---- a texture with a history
 
   module _ (n : ℕ) (r : Recording n) where
     abbrev pub historyIs : WriteHistory
-    historyIs = record { writes = n; grids = listed (gridRead l (stateOf l at .shape) (firstGrid l at)) 0 (gridCount (stateOf l at .shape)) }
+    historyIs = record {
+      writes = n;
+      grids = listed (gridRead l (stateOf l at .shape) (firstGrid l at) (firstStamp l at)) 0 (gridCount (stateOf l at .shape));
+    }
 
     pub has-history : stateOf l at .history ≡ some historyIs
-    has-history = history-read l at (r .tracked .0) (Writes n) (r .history)
+    has-history = history-read l f at (r .tracked .0) (Writes n) (r .history)
 
     pub shape-formed : isShape (textureIn (l .textures) at .shape) ≡ true
     shape-formed = shape-passes l at (r .tracked .0) f
 
-    pub pages-inside : pagesEnd (l .textures) at ≤ l .pool .grids
-    pages-inside =
-        omega (arith, pages-begin l at (r .tracked .0), pages-of-record l at (r .tracked .0), pages-in l (f .claimed) at (r .tracked .0))
+    pub grids-there : textureIn (l .textures) at .grid + gridCount (textureIn (l .textures) at .shape) ≤ length (l .newest)
+    grids-there = omega (arith, grids-recorded l f at (r .tracked .0) n (r .history), f .grids)
 
-    pub history-there : HistoryAt (l .textures) at
+    pub history-there : HistoryAt (l .textures) (l .stamps) at
     history-there = record {
       there = omega (arith, textures-fit l f, r .tracked .0);
       shape = shape-formed;
-      writes = n;
-      recorded = r .history;
-      pages = omega (arith, pages-inside, f .pages, f .newest);
+      stamps-in = omega (arith, stamps-recorded l f at (r .tracked .0) n (r .history), f .stamps-counted);
     }
 
   -- ---- the same at the place that the code found
@@ -153,8 +190,11 @@ module _ (l : Lent) (f : Fits l) (id : ℕ) where
     told r x e t = subst Says (ap (λ (k : ℕ). recordedAt (l .textures) (l .pool .tracked) k id) (sym q) ∙ sym e ∙ t) record-says
 
     module _ (n : ℕ) (r : Recording n) where
-      pub history-here : HistoryAt (l .textures) i
-      history-here = subst (HistoryAt (l .textures)) (sym q) (history-there n r)
+      pub tracked-here : i < l .pool .tracked
+      tracked-here = subst (λ (k : ℕ). k < l .pool .tracked) (sym q) (r .tracked .0)
 
-      pub pages-here : pagesEnd (l .textures) i ≤ l .pool .grids
-      pages-here = subst (λ (k : ℕ). pagesEnd (l .textures) k ≤ l .pool .grids) (sym q) (pages-inside n r)
+      pub history-here : HistoryAt (l .textures) (l .stamps) i
+      history-here = subst (HistoryAt (l .textures) (l .stamps)) (sym q) (history-there n r)
+
+      pub grids-here : textureIn (l .textures) i .grid + gridCount (textureIn (l .textures) i .shape) ≤ length (l .newest)
+      grids-here = subst (λ (k : ℕ). textureIn (l .textures) k .grid + gridCount (textureIn (l .textures) k .shape) ≤ length (l .newest)) (sym q) (grids-there n r)

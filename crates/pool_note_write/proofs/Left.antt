@@ -1,66 +1,53 @@
--- What is left in the lent memory of a texture whose history changes: dropped, stamped by a write, made again by a regeneration. Assumes nothing.
-use mathlib.Core.Path.{_≡_, refl, sym, ap, ap₂, _∙_, subst}
-use mathlib.Core.Bool.{true}
-use mathlib.Core.Option.{Option, none, some}
-use mathlib.Core.List.{List, [], _∷_}
-use Prim.Native.Nat.{ℕ, zero, suc, _+_, _*_, _-_, _≤_, _<_}
+-- What is left in the lent memory of a texture whose history changes, and of one that keeps it: stamped by a write, made again by a regeneration.
+-- Assumes nothing.
+use mathlib.Core.Path.{_≡_, refl, sym, ap, ap₂, _∙_}
+use mathlib.Core.Bool.{true, cond}
+use mathlib.Core.Option.{Option, some}
+use mathlib.Core.List.{List, flatMap}
+use Prim.Native.Nat.{ℕ, suc, _+_, _*_, _≤_, _<_}
 use native.Mathlib.Omega.{arith}
-use lib.ListN.{length, getD, set, length-set}
+use lib.ListN.{length, drop, getD, set, length-set, length-map}
 use lib.Seq.{sets}
 use Rattle.base_blocks.specs.Lists.{listed, total}
-use Rattle.base_blocks.specs.Blocks.{moved}
 use Rattle.grid_shapes.specs.declared.shape.VersionShape.{VersionShape}
-use Rattle.grid_shapes.specs.Shapes.{isShape, slicesOf, bytesOf}
+use Rattle.grid_shapes.specs.Shapes.{isShape, slicesOf}
 use Rattle.grid_rects.specs.declared.rect.TexelRect.{TexelRect}
 use Rattle.grid_stamps.specs.Grids.{StampGrid, gridIn, tilingOf, stampedBy}
+use Rattle.grid_stamps.proofs.Tilings.{tiling-ok}
+use Rattle.grid_stamps.proofs.Stamps.{length-stamped}
 use Rattle.pool_rules.specs.Model.{WriteHistory, VersionState, PoolModel, hasHistory, gridCount, gridsUsed}
 use Rattle.pool_rules.specs.Updates.{withHistory, withTextures}
 use Rattle.pool_rules.specs.Histories.{gridAt, gridPlace, stampWrite, regenerateFrom, stampRegeneration}
-use Rattle.pool_records.specs.declared.recorded.Recorded.the-variants.{Writes, NoHistory}
+use Rattle.pool_rules.specs.HistorySizes.{gridSize, gridStart, historySize, stampsUsed}
+use Rattle.pool_rules.proofs.HistorySizes.{grid-size, grid-last}
+use Rattle.pool_records.specs.declared.recorded.Recorded.the-variants.{Writes}
 use Rattle.pool_records.specs.declared.texture.TextureRecord.{TextureRecord}
 use Rattle.pool_records.specs.Texture.{writeTexture, textureIn}
 use Rattle.pool_memory.specs.Lent.{Lent, lent}
-use Rattle.pool_memory.specs.Reading.{pageAt, gridRead, stateRead, modelOf, gridOn}
-use Rattle.pool_memory.specs.Writing.{recordedHistory, textureRecord, gridsOf, pageBefore, texturesAfter, newestAfter, stampsAfter, poolAfter, lentAfter}
+use Rattle.pool_memory.specs.Reading.{gridRead, modelOf, gridOn}
+use Rattle.pool_memory.specs.Writing.{recordedHistory, gridsOf, texturesAfter, newestAfter, stampsAfter, poolAfter, lentAfter}
 use Rattle.pool_memory.proofs.Fits.{Fits}
-use Rattle.pool_memory.proofs.Runs.{spareCount, firstGrid, stateOf, tracked-model, model-at, kept-model, pages-model}
+use Rattle.pool_memory.proofs.Runs.{spareCount, firstGrid, firstStamp, stateOf, tracked-model, kept-model, grids-model, stamps-used-model}
 use Rattle.pool_memory.proofs.Rings.{head-stays, hand-model, first-stays}
 use Rattle.pool_memory.proofs.Same.{queued-model, doomed-model}
-use Rattle.pool_memory.proofs.Stays.{put-together, ids-ascend, book-stays, retiring-stay, doomed-stay, spares-stay}
-use Rattle.pool_memory.proofs.Changes.{count-state, textures-set, every-kept}
-use Rattle.pool_memory.proofs.Pages.{gridCountAt, pages-in, newest-dropped, stamps-dropped}
-use Rattle.pool_memory.proofs.Stamped.{gridsAt, used-at, whole-grids}
-use Rattle.pool_memory.proofs.Written.{all-pages, place-page, grid-held, newest-rewritten, newest-stamped, stamps-rewritten, stamps-stamped}
-use Rattle.pool_memory.proofs.Tracked.{record-read, bytes-at, shape-at}
-use Rattle.pool_history.specs.Written.{newestWritten, pagesWritten, remadeGrids}
-use Rattle.pool_history.proofs.Written.{small-stamped, one-newest, one-page}
-use Rattle.pool_history.proofs.Regenerated.{regenerate-listed, length-remade, small-remade}
-use Rattle.pool_note_write.specs.History.{recordedAs, pagesUpTo, pagesHere, pagesEnd, pageOf, stampedOn}
-use Rattle.pool_note_write.specs.Counts.{withPages}
-use Rattle.pool_note_write.proofs.AtPlace.{pages-begin, pages-of-record}
-use Rattle.grid_stamps.specs.StampConstants.{pageStamps}
+use Rattle.pool_memory.proofs.Stays.{put-together, book-stays, retiring-stay, doomed-stay, spares-stay}
+use Rattle.pool_memory.proofs.Changes.{every-kept}
+use Rattle.pool_memory.proofs.Counts.{used-set}
+use Rattle.pool_memory.proofs.Starts.{placedRecord, textures-set}
+use Rattle.pool_memory.proofs.HistoryRuns.{gridCountAt, stampCountAt, stamps-in, newest-rewritten, stamps-rewritten}
+use Rattle.pool_memory.proofs.Written.{gridsAt, all-grids, all-stamps, place-grid, grid-held, newest-stamped, stamps-stamped}
+use Rattle.pool_memory.proofs.Tracked.{record-at, shape-at, grid-at, stamp-at}
+use Rattle.pool_history.specs.Remade.{newestStamp, stampsIn, newestWritten, stampsWritten, remadeGrids}
+use Rattle.pool_history.proofs.Regenerated.{regenerate-listed, length-remade, length-stamps}
+use Rattle.pool_note_write.specs.History.{recordedAs, newestPlace, stampsPlace, stampedOn, remadeAt}
+use Rattle.pool_note_write.specs.Counts.{withUsed}
 use Rattle.pool_records.specs.RecordConstants.{textureStride}
 
--- one of a sum replaced
-total-set : {A : Type 0} (f : A → ℕ) (xs : List A) (i : ℕ) (a d : A) → i < length xs → total f (set xs i a) + f (getD xs i d) ≡ total f xs + f a
-unfolding total
-total-set f [] i a d h = absurd (let y : ⊥ = omega arith in y)
-total-set f (x ∷ xs) zero a d h = omega arith
-total-set f (x ∷ xs) (suc i) a d h = omega (arith, total-set f xs i a d (omega arith))
-
--- ---- what is left: of a history that is dropped, and of one that is kept, with another count and these grids on its pages from p on
-
-abbrev pub droppedLent : Lent → ℕ → Lent
-droppedLent l i =
-    lent (withPages (l .pool .grids - pagesHere (l .textures) i) (l .pool)) (l .book)
-    (sets (l .textures) (textureStride * i) (writeTexture (recordedAs NoHistory (textureIn (l .textures) i)))) (l .retiring) (l .doomed) (l .spares)
-    (moved (l .newest) (pagesUpTo (l .textures) i) (pagesEnd (l .textures) i) (l .pool .grids - pagesEnd (l .textures) i))
-    (moved (l .stamps) (pageStamps * pagesUpTo (l .textures) i) (pageStamps * pagesUpTo (l .textures) i + pageStamps * pagesHere (l .textures) i) (pageStamps * (l .pool .grids - pagesEnd (l .textures) i)))
-
-abbrev pub keptLent : Lent → ℕ → ℕ → ℕ → List StampGrid → Lent
-keptLent l i writes p gs =
-    lent (l .pool) (l .book) (sets (l .textures) (textureStride * i) (writeTexture (recordedAs (Writes writes) (textureIn (l .textures) i)))) (l .retiring) (l .doomed) (l .spares)
-    (newestWritten (l .newest) p gs) (pagesWritten (l .stamps) p gs)
+-- what is left of a history that is kept, with another count
+abbrev pub keptLent : Lent → ℕ → ℕ → List ℕ → List ℕ → Lent
+keptLent l i writes newest stamps =
+    lent (l .pool) (l .book) (sets (l .textures) (textureStride * i) (writeTexture (recordedAs (Writes writes) (textureIn (l .textures) i))))
+    (l .retiring) (l .doomed) (l .spares) newest stamps
 
 module _ (l : Lent) (f : Fits l) (i : ℕ) (h : i < l .pool .tracked) where
   -- ---- any other history
@@ -72,77 +59,47 @@ module _ (l : Lent) (f : Fits l) (i : ℕ) (h : i < l .pool .tracked) where
     abbrev pub otherPool : PoolModel ℕ
     otherPool = withTextures (set (modelOf l .textures) i otherState) (modelOf l)
 
-    other-record : textureRecord otherState ≡ recordedAs (recordedHistory o) (textureIn (l .textures) i)
-    unfolding stateOf stateRead
-    other-record = λ j. record {
-      id = record-read l i h j .id;
-      shape = record-read l i h j .shape;
-      epoch = record-read l i h j .epoch;
-      history = recordedHistory o;
-      birth = record-read l i h j .birth;
-      rename = record-read l i h j .rename;
-      due = record-read l i h j .due;
-      spares = (count-state l i ∙ ap (λ (t : TextureRecord). t .spares) (record-read l i h)) j;
-      bytes = (ap bytesOf (shape-at l i h) ∙ sym (bytes-at l i h f)) j;
-    }
-
-    textures-left : sets (l .textures) (textureStride * i) (writeTexture (recordedAs (recordedHistory o) (textureIn (l .textures) i))) ≡ texturesAfter otherPool l
-    textures-left =
-        ap (λ (t : TextureRecord). sets (l .textures) (textureStride * i) (writeTexture t)) (sym other-record)
-        ∙ textures-set l otherPool f i otherState h refl
-
-    within : i < length (modelOf l .textures)
-    within = omega (arith, tracked-model l)
+    pub other-record : placedRecord l i otherState ≡ recordedAs (recordedHistory o) (textureIn (l .textures) i)
+    other-record = λ j. recordedAs (recordedHistory o) (record-at l i h f j)
 
     kept-left : total spareCount (set (modelOf l .textures) i otherState) ≡ l .pool .kept
-    kept-left =
-        omega (arith, total-set spareCount (modelOf l .textures) i otherState (stateOf l 0) within, ap spareCount (model-at l i (stateOf l 0) h), kept-model l, f .kept)
+    kept-left = omega (arith, used-set l otherPool spareCount (l .pool .kept) (kept-model l ∙ f .kept) i otherState h refl)
 
-    pages-left : total gridsUsed (set (modelOf l .textures) i otherState) + gridCountAt l i ≡ l .pool .grids + gridsUsed otherState
-    pages-left =
-        omega (arith, total-set gridsUsed (modelOf l .textures) i otherState (stateOf l 0) within, ap gridsUsed (model-at l i (stateOf l 0) h), used-at l i, pages-model l, f .claimed)
+    pub grids-left : total gridsUsed (set (modelOf l .textures) i otherState) + gridsUsed (stateOf l i) ≡ l .pool .grids + gridsUsed otherState
+    grids-left = used-set l otherPool gridsUsed (l .pool .grids) (grids-model l ∙ f .claimed) i otherState h refl
 
-    counts-left : (pages : ℕ) → total gridsUsed (set (modelOf l .textures) i otherState) ≡ pages → withPages pages (l .pool) ≡ poolAfter otherPool l
-    unfolding poolAfter modelOf
-    counts-left pages e = λ j. record {
-      tracked = sym (length-set (modelOf l .textures) i otherState ∙ tracked-model l) j;
-      kept = sym kept-left j;
-      pages = sym e j;
-      head = sym (head-stays l otherPool (f .head) (omega (arith, hand-model l (f .hand)))) j;
-      popped = sym (hand-model l (f .hand)) j;
-      queued = sym (queued-model l) j;
-      first = sym (first-stays l otherPool (f .first) (omega (arith, doomed-model l))) j;
-      doomed = sym (doomed-model l) j;
-      since = l .pool .since;
-      trackings = l .pool .trackings;
-      parked = l .pool .parked;
-      dooming = l .pool .dooming;
-      cap = l .pool .cap;
-      line = l .pool .line;
-    }
+    pub stamps-left : total stampsUsed (set (modelOf l .textures) i otherState) + stampsUsed (stateOf l i) ≡ l .pool .stamps + stampsUsed otherState
+    stamps-left = used-set l otherPool stampsUsed (l .pool .stamps) (stamps-used-model l ∙ f .stamps-claimed) i otherState h refl
 
-    history-left : (pages : ℕ) (newest stamps : List ℕ) → total gridsUsed (set (modelOf l .textures) i otherState) ≡ pages
-        → newest ≡ newestAfter otherPool l → stamps ≡ stampsAfter otherPool l
-        → lent (withPages pages (l .pool)) (l .book) (sets (l .textures) (textureStride * i) (writeTexture (recordedAs (recordedHistory o) (textureIn (l .textures) i)))) (l .retiring) (l .doomed) (l .spares) newest stamps
-        ≡ lentAfter otherPool l
-    history-left pages newest stamps e a b =
-        put-together otherPool l (withPages pages (l .pool)) (l .book) (sets (l .textures) (textureStride * i) (writeTexture (recordedAs (recordedHistory o) (textureIn (l .textures) i))))
-        (l .retiring) (l .doomed) (l .spares) newest stamps (counts-left pages e) (book-stays l f otherPool refl) textures-left
-        (retiring-stay l f otherPool refl refl) (doomed-stay l f otherPool refl) (spares-stay l f otherPool (every-kept l i h otherState refl)) a b
+    module _ (grids used : ℕ) (counted : total gridsUsed (set (modelOf l .textures) i otherState) ≡ grids)
+        (stamped : total stampsUsed (set (modelOf l .textures) i otherState) ≡ used) where
+      counts-left : withUsed grids used (l .pool) ≡ poolAfter otherPool l
+      unfolding poolAfter modelOf
+      counts-left = λ j. record {
+        tracked = sym (length-set (modelOf l .textures) i otherState ∙ tracked-model l) j;
+        kept = sym kept-left j;
+        grids = sym counted j;
+        stamps = sym stamped j;
+        head = sym (head-stays l otherPool (f .head) (omega (arith, hand-model l (f .hand)))) j;
+        popped = sym (hand-model l (f .hand)) j;
+        queued = sym (queued-model l) j;
+        first = sym (first-stays l otherPool (f .first) (omega (arith, doomed-model l))) j;
+        doomed = sym (doomed-model l) j;
+        since = l .pool .since;
+        trackings = l .pool .trackings;
+        parked = l .pool .parked;
+        dooming = l .pool .dooming;
+        cap = l .pool .cap;
+        line = l .pool .line;
+      }
 
-  -- ---- dropped
-
-  stamps-fit : pageStamps * l .pool .grids ≤ length (l .stamps)
-  stamps-fit = omega (arith, f .stamps, f .pages)
-
-  pub history-dropped : droppedLent l i ≡ lentAfter (otherPool none) l
-  history-dropped =
-      history-left none (l .pool .grids - pagesHere (l .textures) i) _ _
-      (omega (arith, pages-left none, pages-of-record l i h, pages-in l (f .claimed) i h))
-      (ap₂ (λ (p n : ℕ). moved (l .newest) p (p + n) (l .pool .grids - (p + n))) (pages-begin l i h) (pages-of-record l i h)
-      ∙ newest-dropped l (otherPool none) (f .claimed) i h (otherState none) refl refl (f .pages))
-      (ap₂ (λ (p n : ℕ). moved (l .stamps) (pageStamps * p) (pageStamps * p + pageStamps * n) (pageStamps * (l .pool .grids - (p + n)))) (pages-begin l i h) (pages-of-record l i h)
-      ∙ stamps-dropped l (otherPool none) (f .claimed) i h (otherState none) refl refl (ids-ascend l f) stamps-fit)
+      pub history-left : (textures newest stamps : List ℕ) → textures ≡ texturesAfter otherPool l → newest ≡ newestAfter otherPool l
+          → stamps ≡ stampsAfter otherPool l
+          → lent (withUsed grids used (l .pool)) (l .book) textures (l .retiring) (l .doomed) (l .spares) newest stamps ≡ lentAfter otherPool l
+      history-left textures newest stamps a b c =
+          put-together otherPool l (withUsed grids used (l .pool)) (l .book) textures (l .retiring) (l .doomed) (l .spares) newest stamps
+          counts-left (book-stays l f otherPool refl) a (retiring-stay l f otherPool refl refl) (doomed-stay l f otherPool refl)
+          (spares-stay l f otherPool (every-kept l i h otherState refl)) b c
 
   -- ---- a texture with a history, which it keeps
 
@@ -150,14 +107,22 @@ module _ (l : Lent) (f : Fits l) (i : ℕ) (h : i < l .pool .tracked) where
     abbrev shape : VersionShape
     shape = stateOf l i .shape
 
-    same-pages : (new : WriteHistory) → total gridsUsed (set (modelOf l .textures) i (otherState (some new))) ≡ l .pool .grids
-    same-pages new = omega (arith, pages-left (some new), all-pages l i old has)
+    module _ (new : WriteHistory) where
+      same-grids : gridsUsed (otherState (some new)) ≡ gridsUsed (stateOf l i)
+      same-grids = sym (ap (λ (o : Option WriteHistory). cond (hasHistory o) (gridCount shape) 0) has)
 
-    keeps : hasHistory (stateOf l i .history) ≡ true
-    keeps = ap hasHistory has
+      same-stamps : stampsUsed (otherState (some new)) ≡ stampsUsed (stateOf l i)
+      same-stamps = sym (ap (λ (o : Option WriteHistory). cond (hasHistory o) (historySize shape) 0) has)
 
-    stamps-room : pageStamps * (firstGrid l i + gridCountAt l i) ≤ length (l .stamps)
-    stamps-room = omega (arith, stamps-fit, pages-in l (f .claimed) i h)
+      still-left : (newest stamps : List ℕ) → newest ≡ newestAfter (otherPool (some new)) l → stamps ≡ stampsAfter (otherPool (some new)) l
+          → keptLent l i (new .writes) newest stamps ≡ lentAfter (otherPool (some new)) l
+      still-left newest stamps a b =
+          history-left (some new) (l .pool .grids) (l .pool .stamps) (omega (arith, grids-left (some new), same-grids))
+          (omega (arith, stamps-left (some new), same-stamps))
+          (sets (l .textures) (textureStride * i) (writeTexture (recordedAs (Writes (new .writes)) (textureIn (l .textures) i)))) newest stamps
+          (ap (λ (t : TextureRecord). sets (l .textures) (textureStride * i) (writeTexture t)) (sym (other-record (some new)))
+          ∙ textures-set l (otherPool (some new)) f i (otherState (some new)) h refl same-grids same-stamps)
+          a b
 
     -- ---- a write
 
@@ -175,69 +140,87 @@ module _ (l : Lent) (f : Fits l) (i : ℕ) (h : i < l .pool .tracked) where
       unfolding stampWrite
       new-grids = ap (λ (o : Option WriteHistory). set (gridsOf o) place stampedGrid) (sym has)
 
+      newest-place : newestPlace (l .textures) i slice level ≡ firstGrid l i + place
+      unfolding newestPlace
+      newest-place = ap₂ (λ (g : ℕ) (s : VersionShape). g + gridPlace s slice level) (grid-at l i h f) (sym (shape-at l i h))
+
+      stamps-place : stampsPlace (l .textures) i slice level ≡ firstStamp l i + gridStart shape place
+      unfolding stampsPlace
+      stamps-place = ap₂ (λ (n : ℕ) (s : VersionShape). n + gridStart s (gridPlace s slice level)) (stamp-at l i h f) (sym (shape-at l i h))
+
       stamped-on : stampedOn (l .textures) i slice level r (suc (old .writes)) (l .newest) (l .stamps) ≡ stampedGrid
-      unfolding stampedOn pageOf gridOn
+      unfolding stampedOn gridOn
       stamped-on =
-          ap₂
-          (λ (s : VersionShape) (p : ℕ). stampedBy (tilingOf s level) r (suc (old .writes)) (gridIn (tilingOf s level) (getD (l .newest) (p + gridPlace s slice level) 0) (pageAt (l .stamps) (p + gridPlace s slice level))))
-          (sym (shape-at l i h)) (pages-begin l i h)
-          ∙ ap (stampedBy (tilingOf shape level) r (suc (old .writes))) (sym (grid-held l i old has slice level a b))
+          ap (λ (s : VersionShape). stampedBy (tilingOf s level) r (suc (old .writes))
+          (gridIn (tilingOf s level) (getD (l .newest) (newestPlace (l .textures) i slice level) 0) (drop (stampsPlace (l .textures) i slice level) (l .stamps))))
+          (sym (shape-at l i h))
+          ∙ ap₂ (λ (p n : ℕ). stampedBy (tilingOf shape level) r (suc (old .writes)) (gridIn (tilingOf shape level) (getD (l .newest) p 0) (drop n (l .stamps))))
+          newest-place stamps-place
+          ∙ ap (stampedBy (tilingOf shape level) r (suc (old .writes))) (sym (grid-held l i f h old has slice level a b))
 
-      page-of-write : pageOf (l .textures) i slice level ≡ firstGrid l i + place
-      unfolding pageOf
-      page-of-write = ap₂ (λ (p : ℕ) (s : VersionShape). p + gridPlace s slice level) (pages-begin l i h) (sym (shape-at l i h))
+      length-new : length (stampedGrid .stamps) ≡ gridSize shape place
+      length-new =
+          length-stamped (tilingOf shape level) (tiling-ok shape shaped level) r (suc (old .writes)) (gridAt shape old slice level)
+          ∙ sym (grid-size shape slice level b)
 
-      pub history-stamped : keptLent l i (suc (old .writes)) (pageOf (l .textures) i slice level) (stampedOn (l .textures) i slice level r (suc (old .writes)) (l .newest) (l .stamps) ∷ [])
+      pub history-stamped : keptLent l i (suc (old .writes))
+          (set (l .newest) (newestPlace (l .textures) i slice level) (stampedOn (l .textures) i slice level r (suc (old .writes)) (l .newest) (l .stamps) .newest))
+          (sets (l .stamps) (stampsPlace (l .textures) i slice level) (stampedOn (l .textures) i slice level r (suc (old .writes)) (l .newest) (l .stamps) .stamps))
           ≡ lentAfter (otherPool afterWrite) l
       unfolding stampWrite
       history-stamped =
-          ap₂ (λ (p : ℕ) (g : StampGrid). keptLent l i (suc (old .writes)) p (g ∷ [])) page-of-write stamped-on
-          ∙ history-left afterWrite (l .pool .grids) (newestWritten (l .newest) (firstGrid l i + place) (stampedGrid ∷ [])) (pagesWritten (l .stamps) (firstGrid l i + place) (stampedGrid ∷ []))
-          (same-pages (stampWrite shape slice level r old))
-          (one-newest (l .newest) (firstGrid l i + place) stampedGrid
-          ∙ newest-stamped l (otherPool afterWrite) (f .claimed) i h (otherState afterWrite) refl (f .pages) place stampedGrid (place-page l i old has slice level a b) new-grids)
-          (one-page (l .stamps) (firstGrid l i + place) stampedGrid (omega (arith, stamps-room, place-page l i old has slice level a b))
-          (small-stamped shape shaped level r (suc (old .writes)) (gridAt shape old slice level))
-          ∙ stamps-stamped l (otherPool afterWrite) (f .claimed) i h (otherState afterWrite) refl (ids-ascend l f) refl refl stamps-fit place stampedGrid
-          (place-page l i old has slice level a b) new-grids (small-stamped shape shaped level r (suc (old .writes)) (gridAt shape old slice level)))
+          let q = place-grid l i f h old has slice level a b in
+          still-left (stampWrite shape slice level r old) _ _
+          (ap₂ (λ (p : ℕ) (g : StampGrid). set (l .newest) p (g .newest)) newest-place stamped-on
+          ∙ newest-stamped l f (otherPool afterWrite) i h (otherState afterWrite) refl place stampedGrid q new-grids)
+          (ap₂ (λ (p : ℕ) (g : StampGrid). sets (l .stamps) p (g .stamps)) stamps-place stamped-on
+          ∙ stamps-stamped l f (otherPool afterWrite) i h (otherState afterWrite) refl place stampedGrid q new-grids length-new)
 
     -- ---- a regeneration
 
-    module _ (shaped : isShape shape ≡ true) (grids : old .grids ≡ listed (gridRead l shape (firstGrid l i)) 0 (gridCount shape)) where
+    module _ (shaped : isShape shape ≡ true) (grids : old .grids ≡ listed (gridRead l shape (firstGrid l i) (firstStamp l i)) 0 (gridCount shape)) where
       abbrev afterRegeneration : Option WriteHistory
       afterRegeneration = some (stampRegeneration shape old)
 
-      -- the grids that the rule makes are those that the pages hold, made again
-      made-grids : remadeGrids (textureIn (l .textures) i .shape) (suc (old .writes)) (l .newest) (l .stamps) (pagesUpTo (l .textures) i) (pagesHere (l .textures) i) ≡ gridsOf afterRegeneration
+      abbrev made : List StampGrid
+      made = remadeGrids shape (suc (old .writes)) (l .newest) (l .stamps) (firstGrid l i) (firstStamp l i) (gridCount shape)
+
+      -- those that the code makes, by the record
+      made-here : remadeAt (l .textures) i (suc (old .writes)) (l .newest) (l .stamps) ≡ made
+      unfolding remadeAt
+      made-here =
+          ap (λ (s : VersionShape). remadeGrids s (suc (old .writes)) (l .newest) (l .stamps) (textureIn (l .textures) i .grid) (textureIn (l .textures) i .stamp) (gridCount s))
+          (sym (shape-at l i h))
+          ∙ ap₂ (λ (g n : ℕ). remadeGrids shape (suc (old .writes)) (l .newest) (l .stamps) g n (gridCount shape)) (grid-at l i h f) (stamp-at l i h f)
+
+      -- those that the rule makes
+      made-grids : made ≡ gridsOf afterRegeneration
       unfolding stampRegeneration remadeGrids gridRead gridOn
       made-grids =
-          ap₂ (λ (s : VersionShape) (p : ℕ). remadeGrids s (suc (old .writes)) (l .newest) (l .stamps) p (pagesHere (l .textures) i)) (sym (shape-at l i h)) (pages-begin l i h)
-          ∙ ap (remadeGrids shape (suc (old .writes)) (l .newest) (l .stamps) (firstGrid l i)) (pages-of-record l i h ∙ all-pages l i old has)
-          ∙ sym (ap (regenerateFrom shape (suc (old .writes)) 0) grids ∙ regenerate-listed shape (suc (old .writes)) (gridRead l shape (firstGrid l i)) 0 (gridCount shape))
+          sym (ap (regenerateFrom shape (suc (old .writes)) 0) grids
+          ∙ regenerate-listed shape (suc (old .writes)) (gridRead l shape (firstGrid l i) (firstStamp l i)) 0 (gridCount shape))
 
       count-made : length (gridsOf afterRegeneration) ≡ gridCountAt l i
-      count-made = ap length (sym made-grids) ∙ length-made ∙ pages-of-record l i h
-        where
-          length-made : length (remadeGrids (textureIn (l .textures) i .shape) (suc (old .writes)) (l .newest) (l .stamps) (pagesUpTo (l .textures) i) (pagesHere (l .textures) i)) ≡ pagesHere (l .textures) i
-          length-made = length-remade (textureIn (l .textures) i .shape) (ap isShape (sym (shape-at l i h)) ∙ shaped) (suc (old .writes)) (l .newest) (l .stamps) (pagesUpTo (l .textures) i) (pagesHere (l .textures) i)
+      count-made =
+          ap length (sym made-grids) ∙ length-remade shape shaped (suc (old .writes)) (l .newest) (l .stamps) (firstGrid l i) (firstStamp l i) (gridCount shape)
+          ∙ sym (all-grids l i f h old has)
 
-      small-made : (k : ℕ) → k < length (gridsOf afterRegeneration) → length (getD (gridsOf afterRegeneration) k (record { newest = 0; stamps = [] }) .stamps) ≤ pageStamps
-      small-made k q =
-          ap-small (sym made-grids)
-          (small-remade (textureIn (l .textures) i .shape) (ap isShape (sym (shape-at l i h)) ∙ shaped) (suc (old .writes)) (l .newest) (l .stamps) (pagesUpTo (l .textures) i) (pagesHere (l .textures) i)
-          (omega (arith, stamps-room, pages-begin l i h, pages-of-record l i h)) k (omega (arith, count-made, pages-of-record l i h)))
-        where
-          ap-small : {gs hs : List StampGrid} → gs ≡ hs → length (getD hs k (record { newest = 0; stamps = [] }) .stamps) ≤ pageStamps → length (getD gs k (record { newest = 0; stamps = [] }) .stamps) ≤ pageStamps
-          ap-small e s = subst (λ (gs : List StampGrid). length (getD gs k (record { newest = 0; stamps = [] }) .stamps) ≤ pageStamps) (sym e) s
+      stamps-made : length (flatMap stampsIn (gridsOf afterRegeneration)) ≡ stampCountAt l i
+      stamps-made =
+          let room : firstStamp l i + historySize shape ≤ length (l .stamps) = omega (arith, all-stamps l i f h old has, stamps-in l f i h, f .stamps-counted) in
+          ap (λ (gs : List StampGrid). length (flatMap stampsIn gs)) (sym made-grids)
+          ∙ length-stamps shape shaped (suc (old .writes)) (l .newest) (l .stamps) (firstGrid l i) (firstStamp l i) room (gridCount shape) (omega arith)
+          ∙ grid-last shape ∙ sym (all-stamps l i f h old has)
 
-      pub history-regenerated : keptLent l i (suc (old .writes)) (pagesUpTo (l .textures) i)
-          (remadeGrids (textureIn (l .textures) i .shape) (suc (old .writes)) (l .newest) (l .stamps) (pagesUpTo (l .textures) i) (pagesHere (l .textures) i))
+      pub history-regenerated : keptLent l i (suc (old .writes))
+          (newestWritten (l .newest) (textureIn (l .textures) i .grid) (remadeAt (l .textures) i (suc (old .writes)) (l .newest) (l .stamps)))
+          (stampsWritten (l .stamps) (textureIn (l .textures) i .stamp) (remadeAt (l .textures) i (suc (old .writes)) (l .newest) (l .stamps)))
           ≡ lentAfter (otherPool afterRegeneration) l
-      unfolding stampRegeneration newestWritten pagesWritten pageBefore
+      unfolding stampRegeneration newestWritten stampsWritten
       history-regenerated =
-          ap₂ (keptLent l i (suc (old .writes))) (pages-begin l i h) made-grids
-          ∙ history-left afterRegeneration (l .pool .grids) (newestWritten (l .newest) (firstGrid l i) (gridsOf afterRegeneration)) (pagesWritten (l .stamps) (firstGrid l i) (gridsOf afterRegeneration))
-          (same-pages (stampRegeneration shape old))
-          (newest-rewritten l (otherPool afterRegeneration) (f .claimed) i h (otherState afterRegeneration) refl (f .pages) count-made)
-          (stamps-rewritten l (otherPool afterRegeneration) (f .claimed) i h (otherState afterRegeneration) refl (ids-ascend l f) refl refl stamps-fit (record { newest = 0; stamps = [] }) keeps count-made
-          (whole-grids l i stamps-room (record { newest = 0; stamps = [] }) (gridsOf afterRegeneration) count-made small-made))
+          still-left (stampRegeneration shape old) _ _
+          (ap₂ (newestWritten (l .newest)) (grid-at l i h f) (made-here ∙ made-grids)
+          ∙ newest-rewritten l f (otherPool afterRegeneration) i h (otherState afterRegeneration) refl
+          (length-map (gridsOf afterRegeneration) newestStamp ∙ count-made))
+          (ap₂ (stampsWritten (l .stamps)) (stamp-at l i h f) (made-here ∙ made-grids)
+          ∙ stamps-rewritten l f (otherPool afterRegeneration) i h (otherState afterRegeneration) refl stamps-made)

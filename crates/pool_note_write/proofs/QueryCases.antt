@@ -1,44 +1,31 @@
 -- `records_writes` and `dirty_tile` on a pool, case by case. Assumes nothing.
-use mathlib.Core.Path.{_≡_, refl, sym, ap, _∙_, subst}
+use mathlib.Core.Path.{_≡_, refl, sym, ap, ap₂, _∙_, subst}
 use mathlib.Core.Bool.{Bool, true, false, cond}
 use mathlib.Core.Option.{Option, none, some}
 use mathlib.Core.List.{List}
-use Prim.Native.Nat.{ℕ, _+_, _*_}
-use native.Mathlib.Omega.{arith}
-use borrow.Author.Tests.{ltb-true}
-use lib.Dec.{ltb}
-use lib.ListN.{take, drop, getD}
-use Rattle.base_blocks.proofs.Lists.{and-both}
+use Prim.Native.Nat.{ℕ, _+_}
+use lib.ListN.{take, drop}
 use Rattle.grid_shapes.specs.declared.shape.VersionShape.{VersionShape}
-use Rattle.grid_shapes.specs.Shapes.{slicesOf}
 use Rattle.grid_stamps.specs.declared.dirty.DirtyTile.{DirtyTile}
-use Rattle.grid_stamps.specs.declared.dirty.DirtyTile.the-variants.{At, NoTile}
-use Rattle.grid_stamps.specs.Grids.{Tiling, StampGrid, gridIn, tilingOf, IsDirtyTile}
-use Rattle.grid_stamps.proofs.Stamps.{stamp-in}
+use Rattle.grid_stamps.specs.declared.dirty.DirtyTile.the-variants.{NoTile}
+use Rattle.grid_stamps.specs.Grids.{Tiling, StampGrid, gridIn, tilingOf, stampCount, IsDirtyTile}
 use Rattle.pool_rules.specs.Model.{WriteHistory, VersionState, hasHistory, find}
 use Rattle.pool_rules.specs.Histories.{inShape, gridAt, gridPlace}
+use Rattle.pool_rules.specs.HistorySizes.{gridStart}
 use Rattle.pool_rules.specs.NoteWrite.{historyIn, recordsWrites, DirtyTileIn, DirtyTileFound, IsDirtyTileOf}
 use Rattle.pool_records.specs.declared.recorded.Recorded.the-variants.{NoHistory}
 use Rattle.pool_records.specs.declared.texture.TextureRecord.{TextureRecord}
+use Rattle.pool_records.specs.Texture.{textureIn}
 use Rattle.pool_memory.specs.Lent.{Lent}
-use Rattle.pool_memory.specs.Reading.{pageAt, modelOf}
+use Rattle.pool_memory.specs.Reading.{modelOf}
 use Rattle.pool_memory.proofs.Fits.{Fits}
-use Rattle.pool_memory.proofs.Runs.{stateOf, firstGrid}
+use Rattle.pool_memory.proofs.Runs.{stateOf}
 use Rattle.pool_memory.proofs.Places.{found, not-found}
 use Rattle.pool_memory.proofs.Stays.{ids-ascend}
 use Rattle.pool_memory.proofs.Written.{grid-held}
-use Rattle.pool_memory.proofs.Tracked.{shape-at}
-use Rattle.pool_note_write.specs.History.{pagesUpTo, pageOf}
-use Rattle.pool_note_write.proofs.AtPlace.{pages-begin, history-read, at, Unrecorded, untracked, unrecorded, Recording, historyIs, has-history}
-use Rattle.grid_stamps.specs.StampConstants.{pageStamps}
-use Rattle.pool_records.specs.Texture.{textureIn}
-
--- a tile of a page that is dirty is so in the page's grid
-dirty-grid : (g : Tiling) (held newest : ℕ) (page : List ℕ) (r : DirtyTile) → IsDirtyTile g held page r → IsDirtyTile g held (gridIn g newest page .stamps) r
-unfolding IsDirtyTile
-dirty-grid g held newest page (At column row) d =
-    record { inside = d .inside; above = omega (arith, d .above, stamp-in g newest page column row (d .inside .0) (d .inside .1)) }
-dirty-grid g held newest page NoTile d = λ column row a b. omega (arith, d column row a b, stamp-in g newest page column row a b)
+use Rattle.pool_memory.proofs.Tracked.{shape-at, stamp-at}
+use Rattle.pool_note_write.specs.History.{stampsPlace, stampsOn}
+use Rattle.pool_note_write.proofs.AtPlace.{within, history-read, at, Unrecorded, untracked, unrecorded, Recording, historyIs, has-history}
 
 module _ (l : Lent) (f : Fits l) (id : ℕ) where
   abbrev i : ℕ
@@ -48,7 +35,7 @@ module _ (l : Lent) (f : Fits l) (id : ℕ) where
 
   none-found : Unrecorded l f id → historyIn (find id (modelOf l .textures)) ≡ none
   none-found (untracked ne) = ap historyIn (not-found l id (ids-ascend l f) ne)
-  none-found (unrecorded tr q) = ap historyIn (found l id (ids-ascend l f) tr) ∙ history-read l i (tr .0) NoHistory q
+  none-found (unrecorded tr q) = ap historyIn (found l id (ids-ascend l f) tr) ∙ history-read l f i (tr .0) NoHistory q
 
   pub records-none : Unrecorded l f id → false ≡ recordsWrites (modelOf l) id
   unfolding recordsWrites
@@ -66,7 +53,7 @@ module _ (l : Lent) (f : Fits l) (id : ℕ) where
     dirty-none (untracked ne) = subst (λ (o : Option (VersionState ℕ)). DirtyTileFound o slice level held NoTile) (sym (not-found l id (ids-ascend l f) ne)) refl
     dirty-none (unrecorded tr q) =
         subst (λ (o : Option (VersionState ℕ)). DirtyTileFound o slice level held NoTile) (sym (found l id (ids-ascend l f) tr))
-        (subst (λ (o : Option WriteHistory). DirtyTileIn (stateOf l i .shape) o slice level held NoTile) (sym (history-read l i (tr .0) NoHistory q)) refl)
+        (subst (λ (o : Option WriteHistory). DirtyTileIn (stateOf l i .shape) o slice level held NoTile) (sym (history-read l f i (tr .0) NoHistory q)) refl)
 
     module _ (n : ℕ) (rec : Recording l f id n) where
       abbrev old : WriteHistory
@@ -94,31 +81,36 @@ module _ (l : Lent) (f : Fits l) (id : ℕ) where
             of-history NoTile
             (subst (λ (b : Bool). cond b (IsDirtyTile (tilingOf shape level) held (gridAt shape old slice level .stamps) NoTile) (NoTile ≡ NoTile)) (sym (in-state false g)) refl)
 
+        -- the subresource's stamps are its grid's
+        stamps-held : inShape shape slice level ≡ true → stampsOn (l .textures) i slice level (l .stamps) ≡ gridAt shape old slice level .stamps
+        unfolding stampsOn stampsPlace gridIn
+        stamps-held here =
+            let w = within shape slice level here in
+            ap₂ (λ (s : VersionShape) (m : ℕ). take (stampCount (tilingOf s level)) (drop (m + gridStart s (gridPlace s slice level)) (l .stamps)))
+            (sym (shape-at l i (rec .tracked .0))) (stamp-at l i (rec .tracked .0) f)
+            ∙ sym (ap (λ (x : StampGrid). x .stamps) (grid-held l i f (rec .tracked .0) old (has-history l f id n rec) slice level (w .0) (w .1)))
+
         pub dirty-inside : inShape (t .shape) slice level ≡ true → (r : DirtyTile)
-            → IsDirtyTile (tilingOf (textureIn (l .textures) k .shape) level) held (pageAt (l .stamps) (pageOf (l .textures) k slice level)) r
+            → IsDirtyTile (tilingOf (textureIn (l .textures) k .shape) level) held (stampsOn (l .textures) k slice level (l .stamps)) r
             → IsDirtyTileOf (modelOf l) id slice level held r
-        unfolding pageOf
         dirty-inside g r d =
             let here = in-state true g in
-            let w = and-both (ltb slice (slicesOf shape)) (ltb level (shape .levels)) here in
-            let p = firstGrid l i + gridPlace shape slice level in
-            let e : textureIn (l .textures) k .shape ≡ shape = sym (same-shape ∙ ap (λ (x : TextureRecord). x .shape) read) in
-            let b : pagesUpTo (l .textures) k ≡ firstGrid l i = ap (pagesUpTo (l .textures)) q ∙ pages-begin l i (rec .tracked .0) in
-            let d′ : IsDirtyTile (tilingOf shape level) held (pageAt (l .stamps) p) r =
-            subst (λ (s : VersionShape). IsDirtyTile (tilingOf s level) held (pageAt (l .stamps) (firstGrid l i + gridPlace s slice level)) r) e
-            (subst (λ (m : ℕ). IsDirtyTile (tilingOf (textureIn (l .textures) k .shape) level) held (pageAt (l .stamps) (m + gridPlace (textureIn (l .textures) k .shape) slice level)) r) b d) in
+            let d′ : IsDirtyTile (tilingOf (textureIn (l .textures) i .shape) level) held (stampsOn (l .textures) i slice level (l .stamps)) r =
+            subst (λ (m : ℕ). IsDirtyTile (tilingOf (textureIn (l .textures) m .shape) level) held (stampsOn (l .textures) m slice level (l .stamps)) r) q d in
             of-history r
             (subst (λ (b : Bool). cond b (IsDirtyTile (tilingOf shape level) held (gridAt shape old slice level .stamps) r) (r ≡ NoTile)) (sym here)
-            (subst (λ (x : StampGrid). IsDirtyTile (tilingOf shape level) held (x .stamps) r)
-            (sym (grid-held l i old (has-history l f id n rec) slice level (ltb-true slice (slicesOf shape) (w .0)) (ltb-true level (shape .levels) (w .1))))
-            (dirty-grid (tilingOf shape level) held (getD (l .newest) p 0) (pageAt (l .stamps) p) r d′)))
+            (subst (λ (x : List ℕ). IsDirtyTile (tilingOf shape level) held x r) (stamps-held here)
+            (subst (λ (s : VersionShape). IsDirtyTile (tilingOf s level) held (stampsOn (l .textures) i slice level (l .stamps)) r) (sym (shape-at l i (rec .tracked .0))) d′)))
 
--- the page lent on to the scan is the subresource's
-pub dirty-page : (textures stamps : List ℕ) (i slice level held : ℕ) (t : TextureRecord) → t ≡ textureIn textures i → (p m : ℕ) → p ≡ pagesUpTo textures i + gridPlace (t .shape) slice level
-    → m ≡ pageStamps → (g : Tiling) → g ≡ tilingOf (t .shape) level → (r : DirtyTile) → IsDirtyTile g held (take m (drop (pageStamps * p) stamps)) r
-    → IsDirtyTile (tilingOf (textureIn textures i .shape) level) held (pageAt stamps (pageOf textures i slice level)) r
-unfolding pageOf
-dirty-page textures stamps i slice level held t read p m a b g c r d =
-    subst (λ (x : TextureRecord). IsDirtyTile (tilingOf (x .shape) level) held (pageAt stamps (pagesUpTo textures i + gridPlace (x .shape) slice level)) r) read
-    (subst (λ (x : Tiling). IsDirtyTile x held (pageAt stamps (pagesUpTo textures i + gridPlace (t .shape) slice level)) r) c
-    (subst (λ (k : ℕ). IsDirtyTile g held (pageAt stamps k) r) a (subst (λ (k : ℕ). IsDirtyTile g held (take k (drop (pageStamps * p) stamps)) r) b d)))
+-- the part lent on to the scan is the subresource's grid
+pub dirty-part : (textures stamps : List ℕ) (i slice level held : ℕ) (t : TextureRecord) → t ≡ textureIn textures i → (a m : ℕ)
+    → a ≡ t .stamp + gridStart (t .shape) (gridPlace (t .shape) slice level) → m ≡ stampCount (tilingOf (t .shape) level) → (g : Tiling)
+    → g ≡ tilingOf (t .shape) level → (r : DirtyTile) → IsDirtyTile g held (take m (drop a stamps)) r
+    → IsDirtyTile (tilingOf (textureIn textures i .shape) level) held (stampsOn textures i slice level stamps) r
+unfolding stampsOn stampsPlace
+dirty-part textures stamps i slice level held t read a m e k g c r d =
+    subst (λ (x : TextureRecord). IsDirtyTile (tilingOf (x .shape) level) held
+    (take (stampCount (tilingOf (x .shape) level)) (drop (x .stamp + gridStart (x .shape) (gridPlace (x .shape) slice level)) stamps)) r) read
+    (subst (λ (x : Tiling). IsDirtyTile x held (take (stampCount (tilingOf (t .shape) level)) (drop (t .stamp + gridStart (t .shape) (gridPlace (t .shape) slice level)) stamps)) r) c
+    (subst (λ (j : ℕ). IsDirtyTile g held (take (stampCount (tilingOf (t .shape) level)) (drop j stamps)) r) e
+    (subst (λ (j : ℕ). IsDirtyTile g held (take j (drop a stamps)) r) k d)))

@@ -26,12 +26,18 @@ use Rattle.pool_memory.proofs.Runs.{stateOf}
 use Rattle.pool_memory.proofs.Places.{found, changed, not-found, not-changed}
 use Rattle.pool_memory.proofs.Stays.{ids-ascend, nothing-changed}
 use Rattle.pool_memory.proofs.Tracked.{shape-at}
-use Rattle.pool_history.specs.Written.{remadeGrids}
-use Rattle.pool_note_write.specs.History.{pagesUpTo, pagesHere}
+use Rattle.pool_history.specs.Remade.{newestWritten, stampsWritten}
+use Rattle.pool_note_write.specs.History.{remadeAt}
 use Rattle.pool_note_write.proofs.AtPlace.{Unrecorded, untracked, unrecorded, Recording, at, history-read, historyIs, has-history, shape-formed}
 use Rattle.pool_note_write.proofs.Left.{keptLent, history-regenerated}
 use Rattle.pool_note_write.proofs.WriteCases.{same-texture}
 use Rattle.pool_records.specs.Texture.{textureIn}
+
+-- what is left of a history that a regeneration stamped with n
+abbrev pub remadeLent : Lent → ℕ → ℕ → Lent
+remadeLent l i n =
+    keptLent l i n (newestWritten (l .newest) (textureIn (l .textures) i .grid) (remadeAt (l .textures) i n (l .newest) (l .stamps)))
+    (stampsWritten (l .stamps) (textureIn (l .textures) i .stamp) (remadeAt (l .textures) i n (l .newest) (l .stamps)))
 
 module _ (l : Lent) (e : isPool l ≡ true) (id : ℕ) where
   abbrev fits : Fits l
@@ -60,7 +66,7 @@ module _ (l : Lent) (e : isPool l ≡ true) (id : ℕ) where
       sym (passes (ap (λ (o : Option (VersionState ℕ)). spent (historyIn o)) (not-found l id (ids-ascend l fits) ne)) (modelOf l .textures) (not-changed l id (ids-ascend l fits) ne regenerate)
       ∙ ap (λ (l′ : Lent). (answer tt, l′)) (nothing-changed l fits))
   regeneration-unrecorded (unrecorded tr q) =
-      let bare : stateOf l i .history ≡ none = history-read l i (tr .0) NoHistory q in
+      let bare : stateOf l i .history ≡ none = history-read l fits i (tr .0) NoHistory q in
       sym (passes (ap (λ (o : Option (VersionState ℕ)). spent (historyIn o)) (found l id (ids-ascend l fits) tr) ∙ ap spent bare) (modelOf l .textures)
       (changed l id (ids-ascend l fits) tr regenerate
       ∙ ap (λ (o : Option WriteHistory). set (modelOf l .textures) i (withHistory o (stateOf l i))) (ap (regenerated (stateOf l i .shape)) bare ∙ sym bare)
@@ -86,20 +92,9 @@ module _ (l : Lent) (e : isPool l ≡ true) (id : ℕ) where
         (spent-here ∙ le-leb limit n h)))
 
     -- the regeneration is counted, and every level but the first is stamped
-    pub regeneration-done : n < limit
-        → (
-          answer tt,
-          keptLent l i (n + 1) (pagesUpTo (l .textures) i)
-              (remadeGrids (textureIn (l .textures) i .shape) (n + 1) (l .newest) (l .stamps) (pagesUpTo (l .textures) i) (pagesHere (l .textures) i)),
-        )
-        ≡ noteMipRegenerationOn l id
+    pub regeneration-done : n < limit → (answer tt, remadeLent l i (n + 1)) ≡ noteMipRegenerationOn l id
     regeneration-done h =
-        ap
-        (λ (k : ℕ). (
-          answer tt,
-          keptLent l i k (pagesUpTo (l .textures) i)
-              (remadeGrids (textureIn (l .textures) i .shape) k (l .newest) (l .stamps) (pagesUpTo (l .textures) i) (pagesHere (l .textures) i)),
-        )) (add-one n)
+        ap (λ (k : ℕ). (answer tt, remadeLent l i k)) (add-one n)
         ∙ ap (λ (l′ : Lent). (answer tt, l′))
         (history-regenerated l fits i (rec .tracked .0) old (has-history l fits id n rec) (ap isShape (shape-at l i (rec .tracked .0)) ∙ shape-formed l fits id n rec) refl)
         ∙ sym (passes (spent-here ∙ lt-leb limit n h) (set (modelOf l .textures) i (withHistory (some (stampRegeneration shape old)) (stateOf l i)))
@@ -107,11 +102,5 @@ module _ (l : Lent) (e : isPool l ≡ true) (id : ℕ) where
         ∙ ap (λ (o : Option WriteHistory). set (modelOf l .textures) i (withHistory (regenerated shape o) (stateOf l i))) (has-history l fits id n rec)))
 
     -- the same by what the code found and left
-    pub left-regenerated : (k : ℕ) → k ≡ i → n < limit → (l′ : Lent)
-        → l′ ≡ keptLent l k (n + 1) (pagesUpTo (l .textures) k) (remadeGrids (textureIn (l .textures) k .shape) (n + 1) (l .newest) (l .stamps) (pagesUpTo (l .textures) k) (pagesHere (l .textures) k))
-        → (answer tt, l′) ≡ noteMipRegenerationOn l id
-    left-regenerated k q h l′ w =
-        ap (λ (x : Lent). (answer tt, x))
-        (w
-        ∙ ap (λ (m : ℕ). keptLent l m (n + 1) (pagesUpTo (l .textures) m) (remadeGrids (textureIn (l .textures) m .shape) (n + 1) (l .newest) (l .stamps) (pagesUpTo (l .textures) m) (pagesHere (l .textures) m))) q)
-        ∙ regeneration-done h
+    pub left-regenerated : (k : ℕ) → k ≡ i → n < limit → (l′ : Lent) → l′ ≡ remadeLent l k (n + 1) → (answer tt, l′) ≡ noteMipRegenerationOn l id
+    left-regenerated k q h l′ w = ap (λ (x : Lent). (answer tt, x)) (w ∙ ap (λ (m : ℕ). remadeLent l m (n + 1)) q) ∙ regeneration-done h

@@ -2,13 +2,13 @@
 use mathlib.Core.Path.{_≡_, sym, ap, ap₂, _∙_}
 use mathlib.Core.Bool.{Bool, true, false, cond, _&&_, and-false}
 use mathlib.Core.Option.{Option, none, some}
-use mathlib.Core.List.{List, [], _∷_}
+use mathlib.Core.List.{List}
 use Prim.Native.Nat.{ℕ, _+_, _≤_, _<_}
 use native.Mathlib.Numerals.{add-one}
 use borrow.Author.Tests.{ltb-true, le-leb, lt-leb}
 use lib.Dec.{leb, ltb}
 use lib.ListN.{set}
-use lib.Seq.{set-getD}
+use lib.Seq.{sets, set-getD}
 use Rattle.base_blocks.proofs.Lists.{and-both}
 use Rattle.grid_shapes.specs.declared.shape.VersionShape.{VersionShape}
 use Rattle.grid_shapes.specs.Shapes.{isShape, slicesOf}
@@ -31,14 +31,21 @@ use Rattle.pool_memory.proofs.Runs.{stateOf, model-at}
 use Rattle.pool_memory.proofs.Places.{found, changed, not-found, not-changed}
 use Rattle.pool_memory.proofs.Stays.{ids-ascend, nothing-changed}
 use Rattle.pool_memory.proofs.Tracked.{shape-at}
-use Rattle.pool_note_write.specs.History.{pageOf, stampedOn}
+use Rattle.pool_note_write.specs.History.{newestPlace, stampsPlace, stampedOn}
 use Rattle.pool_note_write.proofs.AtPlace.{Unrecorded, untracked, unrecorded, Recording, at, history-read, historyIs, has-history, shape-formed}
-use Rattle.pool_note_write.proofs.Left.{droppedLent, history-dropped, keptLent, history-stamped}
+use Rattle.pool_note_write.proofs.Left.{keptLent, history-stamped}
+use Rattle.pool_note_write.proofs.Dropped.{droppedLent, history-dropped}
 use Rattle.pool_records.specs.Texture.{textureIn}
 
 -- a texture of the model put back as it was
 pub same-texture : (l : Lent) (i : ℕ) → i < l .pool .tracked → set (modelOf l .textures) i (stateOf l i) ≡ modelOf l .textures
 same-texture l i h = ap (set (modelOf l .textures) i) (sym (model-at l i (stateOf l 0) h)) ∙ set-getD (modelOf l .textures) i (stateOf l 0)
+
+-- what is left of a history that a write stamped with n
+abbrev pub stampedLent : Lent → ℕ → ℕ → ℕ → TexelRect → ℕ → Lent
+stampedLent l i slice level r n =
+    keptLent l i n (set (l .newest) (newestPlace (l .textures) i slice level) (stampedOn (l .textures) i slice level r n (l .newest) (l .stamps) .newest))
+    (sets (l .stamps) (stampsPlace (l .textures) i slice level) (stampedOn (l .textures) i slice level r n (l .newest) (l .stamps) .stamps))
 
 module _ (l : Lent) (e : isPool l ≡ true) (id slice level : ℕ) (r : TexelRect) where
   abbrev fits : Fits l
@@ -68,7 +75,7 @@ module _ (l : Lent) (e : isPool l ≡ true) (id slice level : ℕ) (r : TexelRec
       sym (passes (ap (λ (o : Option (VersionState ℕ)). writeSpent o slice level) (not-found l id (ids-ascend l fits) ne)) (modelOf l .textures) (not-changed l id (ids-ascend l fits) ne write)
       ∙ ap (λ (l′ : Lent). (answer tt, l′)) (nothing-changed l fits))
   write-unrecorded (unrecorded tr q) =
-      let bare : stateOf l i .history ≡ none = history-read l i (tr .0) NoHistory q in
+      let bare : stateOf l i .history ≡ none = history-read l fits i (tr .0) NoHistory q in
       let s = stateOf l i .shape in
       sym (passes
       (ap (λ (o : Option (VersionState ℕ)). writeSpent o slice level) (found l id (ids-ascend l fits) tr)
@@ -119,12 +126,11 @@ module _ (l : Lent) (e : isPool l ≡ true) (id slice level : ℕ) (r : TexelRec
 
       -- the write is counted, and its tiles are stamped
       pub write-inside : n < limit
-          → (answer tt, keptLent l i (n + 1) (pageOf (l .textures) i slice level) (stampedOn (l .textures) i slice level r (n + 1) (l .newest) (l .stamps) ∷ []))
-          ≡ noteWriteOn l id slice level r
+          → (answer tt, stampedLent l i slice level r (n + 1)) ≡ noteWriteOn l id slice level r
       write-inside h =
           let here : inShape shape slice level ≡ true = ap (λ (s : VersionShape). inShape s slice level) read-shape ∙ inside in
           let q = and-both (ltb slice (slicesOf shape)) (ltb level (shape .levels)) here in
-          ap (λ (k : ℕ). (answer tt, keptLent l i k (pageOf (l .textures) i slice level) (stampedOn (l .textures) i slice level r k (l .newest) (l .stamps) ∷ []))) (add-one n)
+          ap (λ (k : ℕ). (answer tt, stampedLent l i slice level r k)) (add-one n)
           ∙ ap (λ (l′ : Lent). (answer tt, l′))
           (history-stamped l fits i (rec .tracked .0) old (has-history l fits id n rec) slice level r (ltb-true slice (slicesOf shape) (q .0)) (ltb-true level (shape .levels) (q .1))
           (ap isShape read-shape ∙ shape-formed l fits id n rec))
@@ -146,10 +152,8 @@ module _ (l : Lent) (e : isPool l ≡ true) (id slice level : ℕ) (r : TexelRec
       pub left-spent : inShape (t .shape) slice level ≡ true → limit ≤ n → (refusedWith 12, l) ≡ noteWriteOn l id slice level r
       left-spent g h = write-spent (in-found true g) h
 
-      pub left-inside : inShape (t .shape) slice level ≡ true → n < limit → (l′ : Lent)
-          → l′ ≡ keptLent l k (n + 1) (pageOf (l .textures) k slice level) (stampedOn (l .textures) k slice level r (n + 1) (l .newest) (l .stamps) ∷ [])
+      pub left-inside : inShape (t .shape) slice level ≡ true → n < limit → (l′ : Lent) → l′ ≡ stampedLent l k slice level r (n + 1)
           → (answer tt, l′) ≡ noteWriteOn l id slice level r
       left-inside g h l′ w =
-          ap (λ (x : Lent). (answer tt, x))
-          (w ∙ ap (λ (m : ℕ). keptLent l m (n + 1) (pageOf (l .textures) m slice level) (stampedOn (l .textures) m slice level r (n + 1) (l .newest) (l .stamps) ∷ [])) q)
+          ap (λ (x : Lent). (answer tt, x)) (w ∙ ap (λ (m : ℕ). stampedLent l m slice level r (n + 1)) q)
           ∙ write-inside (in-found true g) h

@@ -1,12 +1,13 @@
--- Helper: The pool's counts with other pages in use.
+-- Helper: The pool's counts with other grids and stamps in use.
 use Prim.Native.Nat.{ℕ}
 use Rattle.pool_memory.specs.declared.pool.Pool.{Pool as Counts}
 
-abbrev pub withPages : ℕ → Counts → Counts
-withPages pages c = record {
+abbrev pub withUsed : ℕ → ℕ → Counts → Counts
+withUsed grids stamps c = record {
   tracked = c .tracked;
   kept = c .kept;
-  pages = pages;
+  grids = grids;
+  stamps = stamps;
   head = c .head;
   popped = c .popped;
   queued = c .queued;

@@ -3,20 +3,21 @@ use Prim.Native.Nat.{ℕ, _+_, _*_, _≤_}
 use mathlib.Core.Path.{_≡_}
 use mathlib.Core.Bool.{true, cond}
 use mathlib.Core.List.{List}
-use lib.ListN.{length}
-use Rattle.base_blocks.specs.Lists.{total}
+use lib.ListN.{length, take, drop}
 use Rattle.grid_shapes.specs.Shapes.{isShape}
 use Rattle.grid_rects.specs.declared.rect.TexelRect.{TexelRect}
-use Rattle.grid_stamps.specs.Grids.{StampGrid, tilingOf, stampedBy}
+use Rattle.grid_stamps.specs.Grids.{StampGrid, tilingOf, stampCount, stampedBy}
+use Rattle.pool_rules.specs.Model.{gridCount}
 use Rattle.pool_rules.specs.Histories.{gridPlace}
+use Rattle.pool_rules.specs.HistorySizes.{gridStart, historySize}
 use Rattle.pool_records.specs.declared.recorded.Recorded.{Recorded}
-use Rattle.pool_records.specs.declared.recorded.Recorded.the-variants.{Writes, NoHistory}
+use Rattle.pool_records.specs.declared.recorded.Recorded.the-variants.{NoHistory}
 use Rattle.pool_records.specs.declared.texture.TextureRecord.{TextureRecord}
-use Rattle.pool_records.specs.Texture.{textureIn, texturesIn, recordGrids}
+use Rattle.pool_records.specs.Texture.{textureIn}
 use Rattle.pool_records.specs.Find.{hasId}
 use Rattle.pool_memory.specs.Reading.{gridOn}
+use Rattle.pool_history.specs.Remade.{remadeGrids}
 use Rattle.pool_records.specs.RecordConstants.{textureStride}
-use Rattle.pool_rules.specs.RuleConstants.{mostPlaces}
 
 -- what it says of its history if it is there and has the id
 unfoldable pub recordedAt : List ℕ → ℕ → ℕ → ℕ → Recorded
@@ -24,30 +25,46 @@ recordedAt textures tracked i id = cond (hasId textures tracked i id) (textureIn
 
 -- a record with another history
 abbrev pub recordedAs : Recorded → TextureRecord → TextureRecord
-recordedAs h t = record { id = t .id; shape = t .shape; epoch = t .epoch; history = h; birth = t .birth; rename = t .rename; due = t .due; spares = t .spares; bytes = t .bytes }
+recordedAs h t = record {
+  id = t .id;
+  shape = t .shape;
+  epoch = t .epoch;
+  history = h;
+  birth = t .birth;
+  rename = t .rename;
+  due = t .due;
+  spares = t .spares;
+  bytes = t .bytes;
+  grid = t .grid;
+  stamp = t .stamp;
+}
 
--- the pages of the textures before record i, which is where its own begin, and how many those are
-unfoldable pub pagesUpTo : List ℕ → ℕ → ℕ
-pagesUpTo textures i = total recordGrids (texturesIn i textures)
-
-unfoldable pub pagesHere : List ℕ → ℕ → ℕ
-pagesHere textures i = recordGrids (textureIn textures i)
-
-abbrev pub pagesEnd : List ℕ → ℕ → ℕ
-pagesEnd textures i = pagesUpTo textures i + pagesHere textures i
-
--- record i is there, its shape passes 2, and it has a history
-pub record HistoryAt (textures : List ℕ) (i : ℕ) : Type 0 where
+-- record i is there, its shape passes 2, and the stamps of a history of that shape lie within the lent ones
+pub record HistoryAt (textures stamps : List ℕ) (i : ℕ) : Type 0 where
   pub there : textureStride * i + textureStride ≤ length textures
   pub shape : isShape (textureIn textures i .shape) ≡ true
-  pub writes : ℕ
-  pub recorded : textureIn textures i .history ≡ Writes writes
-  pub pages : pagesEnd textures i ≤ mostPlaces
+  pub stamps-in : textureIn textures i .stamp + historySize (textureIn textures i .shape) ≤ length stamps
 
--- the page of a subresource, and its grid stamped
-unfoldable pub pageOf : List ℕ → ℕ → ℕ → ℕ → ℕ
-pageOf textures i slice level = pagesUpTo textures i + gridPlace (textureIn textures i .shape) slice level
+-- where a subresource's grid stands in `newest`, and where its stamps begin
+unfoldable pub newestPlace : List ℕ → ℕ → ℕ → ℕ → ℕ
+newestPlace textures i slice level = textureIn textures i .grid + gridPlace (textureIn textures i .shape) slice level
 
+unfoldable pub stampsPlace : List ℕ → ℕ → ℕ → ℕ → ℕ
+stampsPlace textures i slice level =
+    textureIn textures i .stamp + gridStart (textureIn textures i .shape) (gridPlace (textureIn textures i .shape) slice level)
+
+-- its stamps
+unfoldable pub stampsOn : List ℕ → ℕ → ℕ → ℕ → List ℕ → List ℕ
+stampsOn textures i slice level stamps = take (stampCount (tilingOf (textureIn textures i .shape) level)) (drop (stampsPlace textures i slice level) stamps)
+
+-- its grid stamped
 unfoldable pub stampedOn : List ℕ → ℕ → ℕ → ℕ → TexelRect → ℕ → List ℕ → List ℕ → StampGrid
 stampedOn textures i slice level r n newest stamps =
-    stampedBy (tilingOf (textureIn textures i .shape) level) r n (gridOn (textureIn textures i .shape) level newest stamps (pageOf textures i slice level))
+    stampedBy (tilingOf (textureIn textures i .shape) level) r n
+    (gridOn (textureIn textures i .shape) level newest stamps (newestPlace textures i slice level) (stampsPlace textures i slice level))
+
+-- all of its texture's grids made again by a regeneration
+unfoldable pub remadeAt : List ℕ → ℕ → ℕ → List ℕ → List ℕ → List StampGrid
+remadeAt textures i n newest stamps =
+    remadeGrids (textureIn textures i .shape) n newest stamps (textureIn textures i .grid) (textureIn textures i .stamp)
+    (gridCount (textureIn textures i .shape))

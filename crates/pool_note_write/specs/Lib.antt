@@ -1,2 +1,3 @@
 pub mod History
+pub mod Dropped
 pub mod Counts

@@ -1,30 +1,25 @@
-// What a texture's record says of its history, and the record and the pages changed by a write, a regeneration or a drop.
+// What a texture's record says of its history, and the record and the grids changed by a write or a regeneration.
 ghost use mathlib.Core.Path.{_≡_};
 ghost use mathlib.Core.Bool.{true};
-ghost use mathlib.Core.List.{[], _∷_};
-ghost use Prim.Native.Nat.{_+_, _*_, _-_, _≤_, _<_};
-ghost use lib.ListN.{length};
+ghost use Prim.Native.Nat.{_+_, _*_, _≤_};
+ghost use lib.ListN.{length, set};
 ghost use lib.Seq.{sets};
-ghost use Rattle.base_blocks.specs.Blocks.{moved};
 ghost use Rattle.pool_records.specs.Recorded.{RecordedFits};
 ghost use Rattle.pool_records.specs.Texture.{writeTexture, textureIn};
 ghost use Rattle.pool_rules.specs.Histories.{inShape};
-ghost use Rattle.pool_history.specs.Written.{newestWritten, pagesWritten, remadeGrids};
-ghost use Rattle.pool_note_write.specs.History.{recordedAt, recordedAs, pagesUpTo, pagesHere, pagesEnd, HistoryAt, pageOf, stampedOn};
-ghost use Rattle.grid_stamps.specs.StampConstants.{pageStamps};
+ghost use Rattle.pool_rules.specs.Model.{gridCount};
+ghost use Rattle.pool_history.specs.Remade.{newestWritten, stampsWritten};
+ghost use Rattle.pool_note_write.specs.History.{recordedAt, recordedAs, HistoryAt, newestPlace, stampsPlace, stampedOn, remadeAt};
 ghost use Rattle.pool_records.specs.RecordConstants.{textureStride};
-ghost use Rattle.pool_rules.specs.RuleConstants.{mostPlaces};
 use grid_rects::TexelRect;
 use grid_shapes::VersionShape;
 use grid_shapes::slices;
+use pool_access::grid_start;
 use pool_access::has_id;
-use pool_access::pages_at;
-use pool_access::pages_before;
 use pool_access::put_texture;
 use pool_access::texture_at;
-use pool_history::regenerate_pages;
-use pool_history::remove_pages;
-use pool_history::stamp_page;
+use pool_history::regenerate_grids;
+use pool_history::stamp_grid;
 use pool_records::Recorded;
 use pool_records::TextureRecord;
 
@@ -65,20 +60,14 @@ pub fn set_history(textures: &mut [u64], i: usize, history: Recorded)
         due: t.due,
         spares: t.spares,
         bytes: t.bytes,
+        grid: t.grid,
+        stamp: t.stamp,
     };
     put_texture(textures, i, u);
 }
 
-// Returns the page of a subresource of texture i, which has `levels` levels: its pages stand slice by slice, level by level.
-pub fn page_of(textures: &[u64], i: usize, levels: u64, slice: u64, level: u64) -> usize
-    requires { ⌜ (textureStride * i ≤ length (now textures)) × (pagesUpTo (now textures) i + (slice * levels + level) ≤ mostPlaces) ⌝ }
-    ensures { λ r. ⌜ r ≡ pagesUpTo (now (textures .entry)) i + (slice * levels + level) ⌝ }
-{
-    let page = pages_before(textures, i);
-    page + (slice * levels + level) as usize
-}
-
-// Stamps the page of a subresource of texture i with n, where the rectangle touches a tile.
+// Stamps the grid of a subresource of texture i with n, where the rectangle touches a tile. The texture's grids stand slice by slice,
+// level by level.
 pub fn stamp_subresource(
     textures: &[u64],
     newest: &mut [u64],
@@ -89,23 +78,25 @@ pub fn stamp_subresource(
     rect: TexelRect,
     n: u64,
 )
-    requires { ⌜ HistoryAt (now textures) i × (pagesEnd (now textures) i ≤ length (now newest)) × (pageStamps * length (now newest) ≤ length (now stamps))
+    requires { ⌜ HistoryAt (now textures) (now stamps) i
+        × (textureIn (now textures) i .grid + gridCount (textureIn (now textures) i .shape) ≤ length (now newest))
         × (inShape (textureIn (now textures) i .shape) slice level ≡ true) ⌝ }
     ensures { λ _. ⌜
         (now (newest .exit)
-        ≡ newestWritten (now (newest .entry)) (pageOf (now (textures .entry)) i slice level)
-        (stampedOn (now (textures .entry)) i slice level rect n (now (newest .entry)) (now (stamps .entry)) ∷ []))
+        ≡ set (now (newest .entry)) (newestPlace (now (textures .entry)) i slice level)
+        (stampedOn (now (textures .entry)) i slice level rect n (now (newest .entry)) (now (stamps .entry)) .newest))
         × (now (stamps .exit)
-        ≡ pagesWritten (now (stamps .entry)) (pageOf (now (textures .entry)) i slice level)
-        (stampedOn (now (textures .entry)) i slice level rect n (now (newest .entry)) (now (stamps .entry)) ∷ [])) ⌝ }
+        ≡ sets (now (stamps .entry)) (stampsPlace (now (textures .entry)) i slice level)
+        (stampedOn (now (textures .entry)) i slice level rect n (now (newest .entry)) (now (stamps .entry)) .stamps)) ⌝ }
 {
     let t = texture_at(textures, i);
     let shape = t.shape;
-    let p = page_of(textures, i, shape.levels, slice, level);
-    stamp_page(newest, stamps, p, shape, level, rect, n);
+    let p = t.grid as usize + (slice * shape.levels + level) as usize;
+    let at = t.stamp as usize + grid_start(shape, slice, level);
+    stamp_grid(newest, stamps, p, at, shape, level, rect, n);
 }
 
-// Stamps the pages of texture i with n, every level but the first whole.
+// Stamps the grids of texture i with n, every level but the first whole.
 pub fn regenerate_history(
     textures: &[u64],
     newest: &mut [u64],
@@ -113,44 +104,23 @@ pub fn regenerate_history(
     i: usize,
     n: u64,
 )
-    requires { ⌜ HistoryAt (now textures) i × (pagesEnd (now textures) i ≤ length (now newest)) × (pageStamps * length (now newest) ≤ length (now stamps)) ⌝ }
+    requires { ⌜ HistoryAt (now textures) (now stamps) i
+        × (textureIn (now textures) i .grid + gridCount (textureIn (now textures) i .shape) ≤ length (now newest)) ⌝ }
     ensures { λ _. ⌜
         (now (newest .exit)
-        ≡ newestWritten (now (newest .entry)) (pagesUpTo (now (textures .entry)) i)
-        (remadeGrids (textureIn (now (textures .entry)) i .shape) n (now (newest .entry)) (now (stamps .entry)) (pagesUpTo (now (textures .entry)) i)
-        (pagesHere (now (textures .entry)) i)))
+        ≡ newestWritten (now (newest .entry)) (textureIn (now (textures .entry)) i .grid)
+        (remadeAt (now (textures .entry)) i n (now (newest .entry)) (now (stamps .entry))))
         × (now (stamps .exit)
-        ≡ pagesWritten (now (stamps .entry)) (pagesUpTo (now (textures .entry)) i)
-        (remadeGrids (textureIn (now (textures .entry)) i .shape) n (now (newest .entry)) (now (stamps .entry)) (pagesUpTo (now (textures .entry)) i)
-        (pagesHere (now (textures .entry)) i))) ⌝ }
+        ≡ stampsWritten (now (stamps .entry)) (textureIn (now (textures .entry)) i .stamp)
+        (remadeAt (now (textures .entry)) i n (now (newest .entry)) (now (stamps .entry)))) ⌝ }
 {
     let t = texture_at(textures, i);
-    let page = pages_before(textures, i);
-    let pages = pages_at(textures, i);
-    regenerate_pages(newest, stamps, page, pages, t.shape, n);
-}
-
-// Takes the pages of texture i out of the `used` ones. Returns how many are left.
-pub fn drop_history(
-    textures: &[u64],
-    newest: &mut [u64],
-    stamps: &mut [u64],
-    used: usize,
-    i: usize,
-) -> usize
-    requires { ⌜ HistoryAt (now textures) i × (pagesEnd (now textures) i ≤ used) × (used ≤ length (now newest))
-        × (pageStamps * used ≤ length (now stamps)) ⌝ }
-    ensures { λ r. ⌜ (r ≡ used - pagesHere (now (textures .entry)) i)
-        × (now (newest .exit)
-        ≡ moved (now (newest .entry)) (pagesUpTo (now (textures .entry)) i) (pagesUpTo (now (textures .entry)) i + pagesHere (now (textures .entry)) i)
-        (used - (pagesUpTo (now (textures .entry)) i + pagesHere (now (textures .entry)) i)))
-        × (now (stamps .exit)
-        ≡ moved (now (stamps .entry)) (pageStamps * pagesUpTo (now (textures .entry)) i)
-        (pageStamps * pagesUpTo (now (textures .entry)) i + pageStamps * pagesHere (now (textures .entry)) i)
-        (pageStamps * (used - (pagesUpTo (now (textures .entry)) i + pagesHere (now (textures .entry)) i)))) ⌝ }
-{
-    let page = pages_before(textures, i);
-    let pages = pages_at(textures, i);
-    remove_pages(newest, stamps, used, page, pages);
-    used - pages
+    regenerate_grids(
+        newest,
+        stamps,
+        t.grid as usize,
+        t.stamp as usize,
+        t.shape,
+        n,
+    );
 }

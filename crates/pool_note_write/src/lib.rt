@@ -1,5 +1,6 @@
 // A texture's reported writes: the two calls that count and stamp them, and the two questions that their history answers.
 mod calls;
+mod dropping;
 mod history;
 
 pub use calls::dirty_tile::dirty_tile;

@@ -1,13 +1,16 @@
 -- The sizes are the lengths' alone, and decide what `open` says. Assumes nothing.
-use Prim.Native.Nat.{ℕ, _<_}
+use Prim.Native.Nat.{ℕ, _*_, _/_, _<_, min}
 use mathlib.Core.Path.{_≡_, refl, sym, ap}
-use mathlib.Core.Bool.{Bool, true, false, cond}
+use mathlib.Core.Bool.{Bool, true, false, _&&_, cond}
 use native.Mathlib.Omega.{arith}
 use borrow.Author.Tests.{leb-true}
+use lib.Dec.{leb, eqb}
 use lib.ListN.{length}
 use Rattle.base_blocks.specs.Lists.{tests, after}
 use Rattle.base_blocks.proofs.Lists.{passed, not-passed}
-use Rattle.pool_rules.specs.RuleConstants.{mostPlaces}
+use Rattle.grid_stamps.specs.StampConstants.{pageStamps}
+use Rattle.pool_records.specs.RecordConstants.{doomedStride, retiringStride, spareStride, textureStride}
+use Rattle.pool_rules.specs.RuleConstants.{mostGrids, mostPlaces}
 use Rattle.pool_rules.specs.Open.{arePlaces}
 use Rattle.pool_memory.specs.Lent.{Lent, versionPlaces}
 use Rattle.pool_memory.specs.Reading.{modelOf}
@@ -20,10 +23,21 @@ pub sizes-lengths : (l : Lent) → sizesFit l
 unfolding sizesFit lengthsFit arePlaces modelOf versionPlaces tests after
 sizes-lengths l = refl
 
-pub too-many-pages : (textures retiring doomed spares newest stamps : ℕ) → mostPlaces < newest → lengthsFit textures retiring doomed spares newest stamps ≡ false
+pub too-many-textures : (textures retiring doomed spares newest stamps : ℕ) → mostPlaces < textures / textureStride
+    → lengthsFit textures retiring doomed spares newest stamps ≡ false
 unfolding lengthsFit
-too-many-pages textures retiring doomed spares newest stamps h =
-    not-passed _ (λ p. let q = leb-true newest mostPlaces (passed _ p 4) in let y : ⊥ = omega (arith, h, q) in y)
+too-many-textures textures retiring doomed spares newest stamps h =
+    not-passed _ (λ p. let q = leb-true (textures / textureStride) mostPlaces (passed _ p 1) in let y : ⊥ = omega (arith, h, q) in y)
+
+-- the length of `newest`, worked out beside the others
+pub lengths-test : (textures retiring doomed spares newest stamps most : ℕ) → most ≡ min (mostGrids * (textures / textureStride)) stamps
+    → leb 1 (textures / textureStride) && leb (textures / textureStride) mostPlaces && leb 1 (retiring / retiringStride) && leb (retiring / retiringStride) mostPlaces
+    && leb (stamps / pageStamps) mostPlaces && eqb textures (textureStride * (textures / textureStride)) && eqb retiring (retiringStride * (retiring / retiringStride))
+    && eqb doomed (doomedStride * (retiring / retiringStride)) && eqb spares (spareStride * (retiring / retiringStride)) && eqb stamps (pageStamps * (stamps / pageStamps))
+    && eqb newest most
+    ≡ lengthsFit textures retiring doomed spares newest stamps
+unfolding lengthsFit tests after
+lengths-test textures retiring doomed spares newest stamps most e = rw e
 
 pub opened : (l : Lent) → sizesFit l ≡ true → 0 ≡ openNumber l
 unfolding openNumber

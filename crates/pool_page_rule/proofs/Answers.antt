@@ -20,7 +20,7 @@ use Rattle.pool_books.specs.Demand3.{Reply, refusal, answered, spareReply, perf
 use Rattle.pool_books.specs.Sample.{repliesOf, reached}
 use Rattle.pool_books.proofs.Sample.{call-formed}
 use Rattle.pool_page_rule.specs.PageRule.{takeRenewedBy, takeFoundBy, takeSpareBy, pageRule, stampRule, callBy, repliesBy, reachedBy, StampRuleIsThePools}
-use Rattle.pool_page_rule.specs.SameAnswers.{MetNo6, SameFrom, SameAnswers, SameAnswersOpened}
+use Rattle.pool_page_rule.specs.SameAnswers.{SameAnswers, SameAnswersOpened}
 use Rattle.pool_page_rule.proofs.Weaker.{rule-weaker}
 
 module _ {W : Type 0} where

@@ -1,5 +1,5 @@
 -- The same of what a caller reads on the lent stores: they answer as the model does. Assumes nothing.
-use mathlib.Core.Path.{_≡_, refl, ap, subst, _∙_}
+use mathlib.Core.Path.{_≡_, refl, _∙_}
 use mathlib.Core.List.{List, [], _∷_, map}
 use Prim.Native.Nat.{ℕ}
 use Rattle.pool_rules.specs.Model.{PoolModel}
@@ -10,7 +10,7 @@ use Rattle.pool_memory.specs.Lent.{Lent}
 use Rattle.pool_memory.specs.Reading.{modelOf}
 use Rattle.pool_memory.proofs.FromPool.{pool-fits, are-places}
 use Rattle.pool_memory.proofs.FitsOpened.{opened-model, opened-fits}
-use Rattle.pool_books.specs.Demand3.{Reply, call}
+use Rattle.pool_books.specs.Demand3.{call}
 use Rattle.pool_books.specs.Sample.{repliesOf, reached}
 use Rattle.pool_books.specs.LentLists.{LentCall, roomOf, lentCall, openedLent}
 use Rattle.pool_books.proofs.Sample.{call-formed}

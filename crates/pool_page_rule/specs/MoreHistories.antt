@@ -12,7 +12,7 @@ use Rattle.pool_rules.specs.Model.{Places, gridCount}
 use Rattle.pool_rules.specs.HistorySizes.{historySize}
 use Rattle.pool_rules.specs.Open.{opened}
 use Rattle.pool_books.specs.Lists.{Call, takeCall}
-use Rattle.pool_books.specs.Demand3.{Reply, refusal, spareTaken}
+use Rattle.pool_books.specs.Demand3.{refusal, spareTaken}
 use Rattle.pool_books.specs.Sample.{flatShape, repliesOf}
 use Rattle.pool_page_rule.specs.PageRule.{pageRule, repliesBy}
 

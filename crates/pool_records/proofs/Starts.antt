@@ -5,7 +5,7 @@ use Prim.Native.Nat.{ℕ, zero, suc, _+_, _*_, _≤_, _<_}
 use native.Mathlib.Nat.{zero-add, suc-add}
 use native.Mathlib.Numerals.{add-one}
 use native.Mathlib.Omega.{arith}
-use lib.ListN.{length, take, drop, getD, set, length-set, length-append, length-drop, length-map, take-append-drop, drop-of-length-le}
+use lib.ListN.{length, take, drop, getD, set, length-append, length-drop, length-map, take-append-drop, drop-of-length-le}
 use lib.Seq.{sets, take-all, length-take-le, getD-drop}
 use Rattle.base_blocks.specs.Lists.{over}
 use Rattle.base_blocks.proofs.Lists.{drop-over}

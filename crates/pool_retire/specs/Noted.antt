@@ -1,6 +1,6 @@
 -- Helper: What `retire` notes, on the records of the lent slices.
 use Prim.Native.Nat.{ℕ, _+_, _-_}
-use mathlib.Core.Bool.{Bool, true, false, cond, _&&_}
+use mathlib.Core.Bool.{Bool, true, false, cond}
 use mathlib.Core.List.{List}
 use lib.Dec.{leb, ltb, eqb}
 use Rattle.base_tables.specs.Rings.{along}
@@ -9,9 +9,7 @@ use Rattle.pool_records.specs.declared.recorded.Recorded.{Recorded}
 use Rattle.pool_records.specs.declared.recorded.Recorded.the-variants.{Writes, NoHistory}
 use Rattle.pool_records.specs.declared.texture.TextureRecord.{TextureRecord}
 use Rattle.pool_records.specs.declared.retiring.RetiringRecord.{RetiringRecord}
-use Rattle.pool_records.specs.Texture.{textureIn}
 use Rattle.pool_records.specs.Retiring.{readRetiring}
-use Rattle.pool_records.specs.Find.{idOf}
 use Rattle.pool_memory.specs.declared.pool.Pool.{Pool}
 use Rattle.pool_retire.specs.Counts.{ringCount}
 use Rattle.pool_records.specs.RecordConstants.{retiringStride}

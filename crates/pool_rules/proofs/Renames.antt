@@ -7,7 +7,6 @@ use mathlib.Core.List.{List, [], _∷_}
 use native.Mathlib.Omega.{arith}
 use native.Mathlib.Nat.{mul-zero, mul-suc}
 use lib.ListN.{length, length-append}
-use lib.Dec.{ltb}
 use borrow.Author.Tests.{ltb-false, leb-false, not-false}
 use Rattle.base_blocks.specs.Lists.{total}
 use Rattle.base_blocks.specs.All.{All, nil, cons}

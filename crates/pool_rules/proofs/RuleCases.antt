@@ -1,9 +1,9 @@
 -- The cases of the rules that specs/RuleCases says hold. Assumes nothing.
-use Prim.Native.Nat.{ℕ, suc, _+_, _*_, _≤_, _<_}
+use Prim.Native.Nat.{ℕ, suc, _+_, _*_}
 use mathlib.Core.Path.{_≡_, refl, sym, ap, _∙_}
 use mathlib.Core.Bool.{Bool, true, false, _&&_, not, true≢false}
 use mathlib.Core.Option.{Option, none, some}
-use mathlib.Core.List.{List, [], _∷_, _++_}
+use mathlib.Core.List.{[], _∷_, _++_}
 use native.Mathlib.Omega.{arith}
 use lib.Dec.{leb, ltb}
 use lib.ListN.{length}
@@ -22,7 +22,7 @@ use Rattle.pool_rules.specs.TakeSpare.{takeSpare}
 use Rattle.pool_rules.specs.PreservePlan.{copies, planFound, planWith, preservePlan}
 use Rattle.pool_rules.specs.Retire.{retire, retired}
 use Rattle.pool_rules.specs.DrainVersions.{drainVersions}
-use Rattle.pool_rules.specs.RuleCases.{FullBeforeSpent, TakeFullBeforeSpent, SkipsSpent, PlanSpent, PlanSpentInShape, RetireUntracked, Drained, DrainKeeps}
+use Rattle.pool_rules.specs.RuleCases.{TakeFullBeforeSpent, SkipsSpent, PlanSpentInShape, RetireUntracked, DrainKeeps}
 
 other-shape : (a b : VersionShape) → (a ≡ b → ⊥) → sameShape a b ≡ false
 other-shape a b h = go (sameShape a b) refl

@@ -33,7 +33,7 @@ use Rattle.pool_access.proofs.Ids as ids
 use Rattle.pool_tracking.specs.Begun.{freshStamps}
 use Rattle.pool_tracking.specs.Holdings.{stampsHeld}
 use Rattle.pool_tracking.specs.Refusal.{mostStamps, trackingRefusal, begunRefusal, foundRefusal, takeRefusal}
-use Rattle.pool_tracking.specs.Cases.{recordOf, TrackedAt}
+use Rattle.pool_tracking.specs.Cases.{TrackedAt}
 use Rattle.pool_tracking.proofs.Refusals.{take-refused}
 use Rattle.pool_tracking.proofs.Tracked.{found-there, not-there}
 use Rattle.pool_tracking.proofs.Ends.{stamps-most, stamp-begins, stamp-end-bound, stamps-held}

@@ -7,7 +7,6 @@ use lib.Dec.{eqb}
 use lib.ListN.{length}
 use lib.Seq.{sets}
 use Rattle.base_blocks.specs.Blocks.{moved}
-use Rattle.base_blocks.specs.Lists.{total}
 use Rattle.base_tables.specs.Records.{recordAt}
 use Rattle.pool_rules.specs.RuleConstants.{mostPlaces}
 use Rattle.pool_records.specs.declared.texture.TextureRecord.{TextureRecord}
@@ -15,7 +14,7 @@ use Rattle.pool_records.specs.declared.spare.SpareRecord.{SpareRecord}
 use Rattle.pool_records.specs.RecordConstants.{spareStride, textureStride}
 use Rattle.pool_records.specs.Recorded.{RecordedFits}
 use Rattle.pool_records.specs.Spare.{readSpare}
-use Rattle.pool_records.specs.Texture.{writeTexture, textureIn, texturesIn, sparesTo}
+use Rattle.pool_records.specs.Texture.{writeTexture, textureIn, sparesTo}
 use Rattle.pool_memory.specs.declared.pool.Pool.{Pool}
 use Rattle.pool_memory.specs.Calls.{Told, answer, TakenVersion}
 

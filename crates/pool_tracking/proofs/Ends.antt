@@ -19,7 +19,7 @@ use Rattle.pool_memory.specs.Lent.{Lent}
 use Rattle.pool_memory.specs.Reading.{trackedRecords}
 use Rattle.pool_memory.proofs.Fits.{Fits}
 use Rattle.pool_memory.proofs.Runs.{firstGrid, firstStamp, tracked-records}
-use Rattle.pool_memory.proofs.HistoryRuns.{gridCountAt, stampCountAt, grid-next, stamp-next, grid-bound, stamp-bound}
+use Rattle.pool_memory.proofs.HistoryRuns.{grid-next, stamp-next, stamp-bound}
 use Rattle.pool_memory.proofs.Tracked.{record-read, grid-at, stamp-at}
 use Rattle.pool_tracking.specs.Refusal.{mostStamps}
 use Rattle.pool_tracking.specs.Cases.{recordOf}

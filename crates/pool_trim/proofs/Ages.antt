@@ -18,7 +18,7 @@ use Rattle.pool_records.specs.Texture.{readTexture, textureIn}
 use Rattle.pool_rules.specs.Model.{Spare}
 use Rattle.pool_rules.specs.Trim.{aged, agedCount}
 use Rattle.pool_trim.specs.LookAt.{spareIn, isIdle, dueAfter}
-use Rattle.pool_records.specs.RecordConstants.{spareParkedAt, spareStride, textureBytesAt, textureDueAt, textureRenameAt, textureStride}
+use Rattle.pool_records.specs.RecordConstants.{spareParkedAt, spareStride, textureBytesAt, textureDueAt, textureGridAt, textureRenameAt, textureStampAt, textureStride}
 use Rattle.pool_rules.specs.RuleConstants.{spareMaxIdleSubmits, stateMaxIdleSubmits}
 
 -- no sum is needed to test an age
@@ -91,6 +91,14 @@ module _ (textures : List ℕ) (i : ℕ) where
   pub bytes-read : getD textures (textureStride * i + textureBytesAt) 0 ≡ texture .bytes
   unfolding recordAt readTexture
   bytes-read = sym (getD-drop (textureStride * i) textures textureBytesAt 0)
+
+  pub grid-number : getD textures (textureStride * i + textureGridAt) 0 ≡ texture .grid
+  unfolding recordAt readTexture
+  grid-number = sym (getD-drop (textureStride * i) textures textureGridAt 0)
+
+  pub stamp-number : getD textures (textureStride * i + textureStampAt) 0 ≡ texture .stamp
+  unfolding recordAt readTexture
+  stamp-number = sym (getD-drop (textureStride * i) textures textureStampAt 0)
 
   pub due-at : texture .due ≡ getD textures (textureStride * i + textureDueAt) 0
   unfolding recordAt readTexture

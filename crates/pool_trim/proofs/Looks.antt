@@ -20,20 +20,22 @@ use Rattle.pool_rules.proofs.Moves.{as-doomed-bytes, as-doomed-length}
 use Rattle.pool_records.specs.declared.texture.TextureRecord.{TextureRecord}
 use Rattle.pool_memory.specs.Lent.{Lent}
 use Rattle.pool_memory.specs.Reading.{spareRead}
-use Rattle.pool_memory.specs.Writing.{textureRecord, doomedRecord}
+use Rattle.pool_memory.specs.Writing.{recordedHistory, textureRecord, doomedRecord}
 use Rattle.pool_memory.proofs.Fits.{Fits}
-use Rattle.pool_memory.proofs.Runs.{stateOf}
+use Rattle.pool_memory.proofs.Runs.{firstGrid, firstStamp, stateOf}
+use Rattle.pool_memory.proofs.HistoryRuns.{gridCountAt, stampCountAt}
 use Rattle.pool_memory.proofs.Kept.{keptHistory}
 use Rattle.pool_memory.proofs.Tracked.{bytes-at, record-at, shape-at, count-at, shape-passes}
 use Rattle.pool_take_doomed.specs.Given.{givenRecords}
 use Rattle.pool_take_doomed.proofs.Pushed.{given-spares}
 use Rattle.pool_trim.specs.declared.look_at.Look.{Look}
+use Rattle.pool_trim.specs.declared.pass.Pass.{Pass}
 use Rattle.pool_trim.specs.LookAt.{isIdle, dueAfter, lookOf, lookedRecord}
 use Rattle.pool_trim.specs.Pass.{givenOne}
 use Rattle.pool_forget_texture.proofs.TextureRuns.{spares-in}
 use Rattle.pool_trim.proofs.Ages.{aged-most}
 use Rattle.grid_shapes.specs.ShapeConstants.{mostShapeBytes}
-use Rattle.pool_records.specs.Texture.{textureIn, recordGrids, sparesTo}
+use Rattle.pool_records.specs.Texture.{textureIn, sparesTo}
 
 -- ---- any state
 
@@ -52,44 +54,48 @@ module _ (now : ℕ) (t : VersionState ℕ) where
   abbrev pub looked : VersionState ℕ
   looked = lookedAt now (thinned now t)
 
-  pub looked-paged : keptHistory looked ≡ keptHistory t
-  looked-paged = either (λ (u : VersionState ℕ). keptHistory u ≡ keptHistory t) (aged now (t .due)) _ _ (λ q. refl) (λ q. refl)
+  pub looked-history : keptHistory looked ≡ keptHistory t
+  looked-history = either (λ (u : VersionState ℕ). keptHistory u ≡ keptHistory t) (aged now (t .due)) _ _ (λ q. refl) (λ q. refl)
 
   pub looked-spares : looked .spares ≡ drop count (t .spares)
   looked-spares = either (λ (u : VersionState ℕ). u .spares ≡ drop count (t .spares)) (aged now (t .due)) _ _ (λ q. refl) (λ q. refl)
 
-  -- its record, by that of the texture
-  pub looked-record : textureRecord looked ≡ record {
-    id = t .id;
-    shape = t .shape;
-    epoch = t .epoch;
-    history = textureRecord t .history;
-    birth = t .birth;
-    rename = t .rename;
-    due = dueAfter now (textureRecord t);
-    spares = length (drop count (t .spares));
-    bytes = textureRecord t .bytes;
-  }
-  unfolding dueAfter
-  looked-record = go (aged now (t .due))
-    where
-      go : (b : Bool) → textureRecord (cond b (withDue (cond (aged now (t .rename)) now (t .rename)) (thinned now t)) (thinned now t)) ≡ record {
-        id = t .id;
-        shape = t .shape;
-        epoch = t .epoch;
-        history = textureRecord t .history;
-        birth = t .birth;
-        rename = t .rename;
-        due = cond b (cond (aged now (t .rename)) now (t .rename)) (t .due);
-        spares = length (drop count (t .spares));
-        bytes = textureRecord t .bytes;
-      }
-      go true = refl
-      go false = refl
+  module _ (grid stamp : ℕ) where
+    -- its record, by that of the texture
+    pub looked-record : textureRecord grid stamp looked ≡ record {
+      id = t .id;
+      shape = t .shape;
+      epoch = t .epoch;
+      history = recordedHistory (t .history);
+      birth = t .birth;
+      rename = t .rename;
+      due = cond (aged now (t .due)) (cond (aged now (t .rename)) now (t .rename)) (t .due);
+      spares = length (drop count (t .spares));
+      bytes = bytesOf (t .shape);
+      grid = grid;
+      stamp = stamp;
+    }
+    looked-record = go (aged now (t .due))
+      where
+        go : (b : Bool) → textureRecord grid stamp (cond b (withDue (cond (aged now (t .rename)) now (t .rename)) (thinned now t)) (thinned now t)) ≡ record {
+          id = t .id;
+          shape = t .shape;
+          epoch = t .epoch;
+          history = recordedHistory (t .history);
+          birth = t .birth;
+          rename = t .rename;
+          due = cond b (cond (aged now (t .rename)) now (t .rename)) (t .due);
+          spares = length (drop count (t .spares));
+          bytes = bytesOf (t .shape);
+          grid = grid;
+          stamp = stamp;
+        }
+        go true = refl
+        go false = refl
 
-  idle-record : idle now (thinned now t) ≡ isIdle now (textureRecord t) (length (t .spares) - count)
+  idle-record : (grid stamp : ℕ) → idle now (thinned now t) ≡ isIdle now (textureRecord grid stamp t) (length (t .spares) - count)
   unfolding isIdle
-  idle-record =
+  idle-record grid stamp =
       ap (λ (b : Bool). aged now (t .due) && (aged now (t .rename) && b))
       (no-spares (drop count (t .spares)) ∙ ap (λ (n : ℕ). eqb n 0) (length-drop count (t .spares)))
 
@@ -100,7 +106,7 @@ module _ (l : Lent) (now i : ℕ) (h : i < l .pool .tracked) where
   t₀ = textureIn (l .textures) i
 
   abbrev pub lookHere : Look
-  lookHere = lookOf now t₀ (count now (stateOf l i))
+  lookHere = lookOf now t₀ (count now (stateOf l i)) (gridCountAt l i) (stampCountAt l i)
 
   pub few : count now (stateOf l i) ≤ t₀ .spares
   few = omega (arith, aged-most now (stateOf l i .spares), count-at l i h)
@@ -110,7 +116,7 @@ module _ (l : Lent) (now i : ℕ) (h : i < l .pool .tracked) where
 
   pub idle-here : Fits l → idle now (thinned now (stateOf l i)) ≡ isIdle now t₀ (t₀ .spares - count now (stateOf l i))
   idle-here f =
-      idle-record now (stateOf l i)
+      idle-record now (stateOf l i) (firstGrid l i) (firstStamp l i)
       ∙ ap₂ (λ (t : TextureRecord) (n : ℕ). isIdle now t (n - count now (stateOf l i))) (record-at l i h f) (count-at l i h)
 
   pub none-left : Fits l → idle now (thinned now (stateOf l i)) ≡ true → t₀ .spares - count now (stateOf l i) ≡ 0
@@ -120,10 +126,10 @@ module _ (l : Lent) (now i : ℕ) (h : i < l .pool .tracked) where
       let tests = and-both (aged now (t₀ .due)) (aged now (t₀ .rename) && eqb left 0) (sym (idle-here f) ∙ e) .1 in
       eqb-true left 0 (and-both (aged now (t₀ .rename)) (eqb left 0) tests .1)
 
-  pub record-here : Fits l → textureRecord (looked now (stateOf l i)) ≡ lookedRecord lookHere t₀
-  unfolding lookedRecord lookOf
-  record-here f =
-      looked-record now (stateOf l i)
+  pub record-here : Fits l → (w : Pass) → textureRecord (w .grids) (w .stamps) (looked now (stateOf l i)) ≡ lookedRecord lookHere w t₀
+  unfolding lookedRecord lookOf dueAfter
+  record-here f w =
+      looked-record now (stateOf l i) (w .grids) (w .stamps)
       ∙ ap₂ (λ (t : TextureRecord) (n : ℕ). record {
         id = t .id;
         shape = t .shape;
@@ -131,9 +137,11 @@ module _ (l : Lent) (now i : ℕ) (h : i < l .pool .tracked) where
         history = t .history;
         birth = t .birth;
         rename = t .rename;
-        due = dueAfter now t;
+        due = cond (aged now (t .due)) (cond (aged now (t .rename)) now (t .rename)) (t .due);
         spares = n;
         bytes = t .bytes;
+        grid = w .grids;
+        stamp = w .stamps;
       }) (record-at l i h f) left-count
 
   -- ---- what it gives up
@@ -174,18 +182,31 @@ module _ (l : Lent) (now i : ℕ) (h : i < l .pool .tracked) where
 
 -- ---- the look put together from its parts; b is whether the texture is dropped
 
-pub look-made : (now : ℕ) (t : TextureRecord) (n own aged claimed due bytes : ℕ) (b : Bool) → own ≡ t .spares → aged ≡ n → claimed ≡ recordGrids t
-    → due ≡ dueAfter now t → bytes ≡ t .bytes → b ≡ isIdle now t (own - aged)
-    → record { own = own; aged = aged; claimed = claimed; staying = cond b 0 1; paged = cond b 0 claimed; due = due; bytes = bytes } ≡ lookOf now t n
+pub look-made : (now : ℕ) (t : TextureRecord) (n g m own aged grid grids stamp stamps due bytes : ℕ) (b : Bool) → own ≡ t .spares → aged ≡ n
+    → grid ≡ t .grid → grids ≡ g → stamp ≡ t .stamp → stamps ≡ m → due ≡ dueAfter now t → bytes ≡ t .bytes → b ≡ isIdle now t (own - aged)
+    → record {
+      own = own;
+      aged = aged;
+      staying = cond b 0 1;
+      grid = grid;
+      grids = cond b 0 grids;
+      stamp = stamp;
+      stamps = cond b 0 stamps;
+      due = due;
+      bytes = bytes;
+    }
+    ≡ lookOf now t n g m
 unfolding lookOf
-look-made now t n own aged claimed due bytes b e1 e2 e3 e4 e5 e6 =
-    let out : b ≡ isIdle now t (t .spares - n) = e6 ∙ ap₂ (λ (x y : ℕ). isIdle now t (x - y)) e1 e2 in
+look-made now t n g m own aged grid grids stamp stamps due bytes b e1 e2 e3 e4 e5 e6 e7 e8 e9 =
+    let out : b ≡ isIdle now t (t .spares - n) = e9 ∙ ap₂ (λ (x y : ℕ). isIdle now t (x - y)) e1 e2 in
     λ j. record {
       own = e1 j;
       aged = e2 j;
-      claimed = e3 j;
       staying = ap (λ (c : Bool). cond c 0 1) out j;
-      paged = ap₂ (λ (c : Bool) (m : ℕ). cond c 0 m) out e3 j;
-      due = e4 j;
-      bytes = e5 j;
+      grid = e3 j;
+      grids = ap₂ (λ (c : Bool) (k : ℕ). cond c 0 k) out e4 j;
+      stamp = e5 j;
+      stamps = ap₂ (λ (c : Bool) (k : ℕ). cond c 0 k) out e6 j;
+      due = e7 j;
+      bytes = e8 j;
     }

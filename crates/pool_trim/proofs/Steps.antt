@@ -13,38 +13,38 @@ use Rattle.base_blocks.proofs.Lists.{total-append}
 use Rattle.base_tables.specs.Records.{flat}
 use Rattle.base_tables.specs.Rings.{laid}
 use Rattle.pool_rules.specs.Model.{Doomed, VersionState, PoolModel, gridsUsed}
+use Rattle.pool_rules.specs.HistorySizes.{stampsUsed}
 use Rattle.pool_rules.specs.Trim.{idle, thinned}
 use Rattle.pool_records.specs.declared.texture.TextureRecord.{TextureRecord}
 use Rattle.pool_records.specs.declared.doomed.DoomedRecord.{DoomedRecord}
-use Rattle.pool_records.specs.Texture.{writeTexture, textureIn, recordGrids, sparesTo}
+use Rattle.pool_records.specs.Texture.{writeTexture, textureIn, recordGrids, recordStamps, sparesTo}
 use Rattle.pool_records.specs.Spare.{writeSpare}
 use Rattle.pool_records.specs.Doomed.{writeDoomed}
 use Rattle.pool_memory.specs.Lent.{Lent}
 use Rattle.pool_memory.specs.Reading.{modelOf}
-use Rattle.pool_memory.specs.Writing.{textureRecord, spareRecord, doomedRecord, everySpare, newestOf, texturesAfter, sparesAfter, newestAfter, pagesAfter, stampsAfter}
+use Rattle.pool_memory.specs.Writing.{textureRecord, textureRecords, spareRecord, doomedRecord, everySpare, newestOf, stampsOf, texturesAfter, sparesAfter, newestAfter, stampsAfter}
 use Rattle.pool_memory.proofs.Fits.{Fits}
 use Rattle.pool_memory.proofs.Parts.{flat-append}
 use Rattle.pool_memory.proofs.Packed.{flat-step}
-use Rattle.pool_memory.proofs.Runs.{firstSpare, firstGrid, stateOf, tracked-model, model-at}
+use Rattle.pool_memory.proofs.Runs.{firstSpare, firstGrid, firstStamp, stateOf, tracked-model, model-at}
 use Rattle.pool_memory.proofs.Rings.{laid-append}
-use Rattle.pool_memory.proofs.Kept.{used-paged}
+use Rattle.pool_memory.proofs.Kept.{KeptHistory, keptHistory, grids-kept, stamps-used-kept}
+use Rattle.pool_memory.proofs.HistoryRuns.{gridCountAt, stampCountAt}
 use Rattle.pool_memory.proofs.Changes.{spares-rest}
-use Rattle.pool_memory.proofs.Stays.{ids-ascend}
 use Rattle.pool_memory.proofs.Passes.{texture-packed, spares-packed, newest-packed, stamps-packed}
-use Rattle.pool_memory.proofs.Tracked.{record-read, spares-to, pages-to, pages-at}
-use Rattle.pool_forget_texture.specs.Owned.{pagesTo}
+use Rattle.pool_memory.proofs.Tracked.{record-read, spares-to, grids-at, stamps-at}
+use Rattle.pool_trim.specs.declared.pass.Pass.{Pass}
 use Rattle.pool_trim.specs.LookAt.{lookedRecord}
 use Rattle.pool_trim.specs.Pass.{trimmedOne, givenOne, trimmed}
 use Rattle.pool_forget_texture.proofs.TextureRuns.{spares-within}
-use Rattle.pool_trim.proofs.Looks.{count, looked, looked-paged, looked-spares, lookHere, few, left-count, record-here}
-use Rattle.grid_stamps.specs.StampConstants.{pageStamps}
+use Rattle.pool_trim.proofs.Looks.{count, looked, looked-history, looked-spares, lookHere, few, left-count, record-here}
 use Rattle.pool_records.specs.RecordConstants.{doomedStride, spareStride, textureStride}
 
 -- what a call leaves of the packed slices depends on the textures alone
 module _ (l : Lent) (p q : PoolModel ℕ) (e : p .textures ≡ q .textures) where
   pub textures-as : texturesAfter p l ≡ texturesAfter q l
   unfolding texturesAfter
-  textures-as = ap (λ (ts : List (VersionState ℕ)). over (flat writeTexture (map textureRecord ts)) (l .textures)) e
+  textures-as = ap (λ (ts : List (VersionState ℕ)). over (flat writeTexture (textureRecords 0 0 ts)) (l .textures)) e
 
   pub spares-as : sparesAfter p l ≡ sparesAfter q l
   unfolding sparesAfter
@@ -56,7 +56,7 @@ module _ (l : Lent) (p q : PoolModel ℕ) (e : p .textures ≡ q .textures) wher
 
   pub stamps-as : stampsAfter p l ≡ stampsAfter q l
   unfolding stampsAfter
-  stamps-as = ap (λ (ts : List (VersionState ℕ)). over (flatMap (pagesAfter l) ts) (l .stamps)) e
+  stamps-as = ap (λ (ts : List (VersionState ℕ)). over (flatMap stampsOf ts) (l .stamps)) e
 
 -- what the first i give up
 abbrev pub givenTo : Lent → ℕ → ℕ → List (Doomed ℕ)
@@ -122,11 +122,14 @@ module _ (l : Lent) (now i : ℕ) (h : i < l .pool .tracked) where
       abbrev more : keptTo l now (i + 1) ≡ keptTo l now i ++ (looked now (stateOf l i) ∷ [])
       more = stays-next e
 
-      pub textures-stay : (to : ℕ) → to ≡ length (keptTo l now i) → textureStride * to + textureStride ≤ length (l .textures)
-          → sets (texturesAfter p l) (textureStride * to) (writeTexture (lookedRecord (lookHere l now i h) t₀)) ≡ texturesAfter q l
-      textures-stay to at room =
-          ap₂ (λ (n : ℕ) (r : TextureRecord). sets (texturesAfter p l) (textureStride * n) (writeTexture r)) at (sym (record-here l now i h f))
-          ∙ texture-packed l p q (looked now (stateOf l i)) more (omega arith)
+      pub textures-stay : (w : Pass) → w .tracked ≡ length (keptTo l now i) → w .grids ≡ total gridsUsed (keptTo l now i)
+          → w .stamps ≡ total stampsUsed (keptTo l now i) → textureStride * w .tracked + textureStride ≤ length (l .textures)
+          → sets (texturesAfter p l) (textureStride * w .tracked) (writeTexture (lookedRecord (lookHere l now i h) w t₀)) ≡ texturesAfter q l
+      textures-stay w at grids stamps room =
+          let t = looked now (stateOf l i) in
+          ap₂ (λ (n : ℕ) (r : TextureRecord). sets (texturesAfter p l) (textureStride * n) (writeTexture r)) at
+          (sym (record-here l now i h f w) ∙ ap₂ (λ (m n : ℕ). textureRecord m n t) grids stamps)
+          ∙ texture-packed l p q t more (omega (arith, at, room))
 
       pub spares-stay : (to : ℕ) → to ≡ length (everySpare (keptTo l now i)) → to ≤ sparesTo (l .textures) i
           → moved (sparesAfter p l) (spareStride * to) (spareStride * (sparesTo (l .textures) i + k₀)) (spareStride * (t₀ .spares - k₀)) ≡ sparesAfter q l
@@ -142,29 +145,17 @@ module _ (l : Lent) (now i : ℕ) (h : i < l .pool .tracked) where
           ∙ ap (λ (n : ℕ). take (n - k₀) (drop (firstSpare l i + k₀) (everySpare (modelOf l .textures)))) own)
           (omega (arith, at, first, low)) (omega (arith, first, fewer, within))
 
-      module _ (used : ℕ) (low : used ≤ pagesTo (l .textures) i) where
-        before : used ≤ firstGrid l i
-        before = omega (arith, pages-to l i h)
+      -- `used` grids are packed so far
+      pub newest-stays : (used : ℕ) → used ≤ firstGrid l i → length (flatMap newestOf (keptTo l now i)) ≡ used
+          → (moved (newestAfter p l) used (firstGrid l i) (gridCountAt l i) ≡ newestAfter q l)
+          × (length (flatMap newestOf (keptTo l now (i + 1))) ≡ used + gridCountAt l i)
+      newest-stays used low n = newest-packed l p q (looked now (stateOf l i)) more f i h (looked-history now (stateOf l i)) used low n
 
-        pub newest-stays : length (flatMap newestOf (keptTo l now i)) ≡ used
-            → (moved (newestAfter p l) used (pagesTo (l .textures) i) (recordGrids t₀) ≡ newestAfter q l)
-            × (length (flatMap newestOf (keptTo l now (i + 1))) ≡ used + recordGrids t₀)
-        newest-stays n =
-            let w = newest-packed l p q (looked now (stateOf l i)) more (f .claimed) i h (looked-paged now (stateOf l i)) used before (f .pages) n in (
-              ap₂ (λ (a b : ℕ). moved (newestAfter p l) used a b) (sym (pages-to l i h)) (sym (ap recordGrids (record-read l i h))) ∙ w .0,
-              w .1 ∙ ap (λ (m : ℕ). used + m) (ap recordGrids (record-read l i h)),
-            )
-
-        pub stamps-stay : length (flatMap (pagesAfter l) (keptTo l now i)) ≡ pageStamps * used
-            → (moved (stampsAfter p l) (pageStamps * used) (pageStamps * pagesTo (l .textures) i) (pageStamps * recordGrids t₀) ≡ stampsAfter q l)
-            × (length (flatMap (pagesAfter l) (keptTo l now (i + 1))) ≡ pageStamps * (used + recordGrids t₀))
-        stamps-stay n =
-            let w = stamps-packed l p q (looked now (stateOf l i)) more (f .claimed) i h (looked-paged now (stateOf l i)) used before
-            (ids-ascend l f) (omega (arith, f .stamps, f .pages)) n in (
-              ap₂ (λ (a b : ℕ). moved (stampsAfter p l) (pageStamps * used) (pageStamps * a) (pageStamps * b)) (sym (pages-to l i h))
-                  (sym (ap recordGrids (record-read l i h))) ∙ w .0,
-              w .1 ∙ ap (λ (m : ℕ). pageStamps * (used + m)) (ap recordGrids (record-read l i h)),
-            )
+      -- `used` stamps are
+      pub stamps-stay : (used : ℕ) → used ≤ firstStamp l i → length (flatMap stampsOf (keptTo l now i)) ≡ used
+          → (moved (stampsAfter p l) used (firstStamp l i) (stampCountAt l i) ≡ stampsAfter q l)
+          × (length (flatMap stampsOf (keptTo l now (i + 1))) ≡ used + stampCountAt l i)
+      stamps-stay used low n = stamps-packed l p q (looked now (stateOf l i)) more f i h (looked-history now (stateOf l i)) used low n
 
       -- ---- the counts
 
@@ -180,14 +171,25 @@ module _ (l : Lent) (now i : ℕ) (h : i < l .pool .tracked) where
           ∙ ap (λ (n : ℕ). length (everySpare (keptTo l now i)) + n)
           (ap length (append-nil (looked now (stateOf l i) .spares) ∙ looked-spares now (stateOf l i)) ∙ left-count l now i h)
 
-      one-used : (t : VersionState ℕ) → total gridsUsed (t ∷ []) ≡ gridsUsed t
+      one-used : (used : VersionState ℕ → ℕ) (t : VersionState ℕ) → total used (t ∷ []) ≡ used t
       unfolding total
-      one-used t = omega arith
+      one-used used t = omega arith
 
-      pub pages-stay : total gridsUsed (keptTo l now (i + 1)) ≡ total gridsUsed (keptTo l now i) + recordGrids t₀
-      pages-stay =
+      same-history : map keptHistory (looked now (stateOf l i) ∷ []) ≡ map keptHistory (stateOf l i ∷ [])
+      same-history = ap (λ (x : KeptHistory). x ∷ []) (looked-history now (stateOf l i))
+
+      pub grids-stay : total gridsUsed (keptTo l now (i + 1)) ≡ total gridsUsed (keptTo l now i) + gridCountAt l i
+      grids-stay =
           ap (total gridsUsed) more
           ∙ total-append gridsUsed (keptTo l now i) (looked now (stateOf l i) ∷ [])
           ∙ ap (λ (n : ℕ). total gridsUsed (keptTo l now i) + n)
-          (used-paged (looked now (stateOf l i) ∷ []) (stateOf l i ∷ []) (ap (λ x. x ∷ []) (looked-paged now (stateOf l i)))
-          ∙ one-used (stateOf l i) ∙ pages-at l i h)
+          (grids-kept (looked now (stateOf l i) ∷ []) (stateOf l i ∷ []) same-history
+          ∙ one-used gridsUsed (stateOf l i) ∙ grids-at l i h ∙ sym (ap recordGrids (record-read l i h)))
+
+      pub stamps-used-stay : total stampsUsed (keptTo l now (i + 1)) ≡ total stampsUsed (keptTo l now i) + stampCountAt l i
+      stamps-used-stay =
+          ap (total stampsUsed) more
+          ∙ total-append stampsUsed (keptTo l now i) (looked now (stateOf l i) ∷ [])
+          ∙ ap (λ (n : ℕ). total stampsUsed (keptTo l now i) + n)
+          (stamps-used-kept (looked now (stateOf l i) ∷ []) (stateOf l i ∷ []) same-history
+          ∙ one-used stampsUsed (stateOf l i) ∙ stamps-at l i h ∙ sym (ap recordStamps (record-read l i h)))

@@ -6,80 +6,73 @@ use Prim.Native.Nat.{ℕ, _+_, _-_, _*_, _/_, _≤_, _<_, _^_}
 use native.Mathlib.Omega.{arith}
 use borrow.Author.Tests.{lt-ltb, le-ltb}
 use lib.Dec.{ltb}
-use lib.ListN.{length, take, getD, length-append}
+use lib.ListN.{length, take, length-append}
 use lib.Seq.{take-all}
 use Rattle.base_blocks.specs.Lists.{keep, total}
-use Rattle.base_blocks.proofs.All.{all-at}
-use Rattle.grid_shapes.specs.declared.shape.VersionShape.{VersionShape}
 use Rattle.pool_rules.specs.Model.{Doomed, VersionState, PoolModel, refused, accepted, limit, spareBytes, doomedBytes}
 use Rattle.pool_rules.specs.Updates.{withTextures, doomSpares}
 use Rattle.pool_rules.specs.Trim.{agedCount, thinned, idle, lookedAt, trim}
-use Rattle.pool_rules.specs.Formed.{Given, HistoryFormed}
 use Rattle.pool_rules.proofs.Moves.{given-bytes}
 use Rattle.pool_rules.proofs.Lists.{total-cut}
-use Rattle.pool_records.specs.declared.recorded.Recorded.{Recorded}
-use Rattle.pool_records.specs.declared.recorded.Recorded.the-variants.{Writes, NoHistory}
 use Rattle.pool_records.specs.declared.texture.TextureRecord.{TextureRecord}
 use Rattle.pool_records.specs.Recorded.{RecordedFits}
-use Rattle.pool_records.specs.Texture.{readTexture, textureIn, recordGrids}
+use Rattle.pool_records.specs.Starts.{gridEnd, stampEnd}
+use Rattle.pool_records.specs.Texture.{readTexture, textureIn}
 use Rattle.pool_memory.specs.declared.pool.Pool.{Pool as Counts}
 use Rattle.pool_memory.specs.Lent.{Lent, lent, versionPlaces}
-use Rattle.pool_memory.specs.Reading.{trackedRecords, historyRead, stateRead, modelOf}
+use Rattle.pool_memory.specs.Reading.{modelOf}
 use Rattle.pool_memory.specs.Writing.{poolAfter, pacingAfter, retiringAfter, doomedAfter, lentAfter}
 use Rattle.pool_memory.specs.IsPool.{isPool}
 use Rattle.pool_memory.specs.Calls.{refusedWith, answer, trimOn}
 use Rattle.pool_memory.proofs.Fits.{Fits}
 use Rattle.pool_memory.proofs.FromPool.{enough, pool-fits}
 use Rattle.pool_memory.proofs.Asked.{guard-passed, guard-refused, asked-refused, asked-accepted}
-use Rattle.pool_memory.proofs.Runs.{firstGrid, stateOf, tracked-model, model-at}
+use Rattle.pool_memory.proofs.Runs.{tracked-model}
 use Rattle.pool_memory.proofs.Rings.{hand-model, head-stays, first-stays, doomed-pushed}
 use Rattle.pool_memory.proofs.Same.{book-same, queued-model, doomed-model}
 use Rattle.pool_memory.proofs.Stays.{put-together, textures-fit, doomed-fit, retiring-stay, doomed-bound}
 use Rattle.pool_memory.proofs.Counts.{count-spares}
-use Rattle.pool_memory.proofs.Tracked.{record-read}
+use Rattle.pool_memory.proofs.Tracked.{history-fits}
 use Rattle.pool_access.proofs.Totals.{total-first}
 use Rattle.pool_trim.specs.declared.look_at.Look.{Look}
 use Rattle.pool_trim.specs.declared.pass.Pass.{Pass}
+use Rattle.pool_trim.specs.LookAt.{lookAt}
 use Rattle.pool_trim.specs.Pass.{trimmedOne, givenOne, trimmed, countsTrimmed}
 use Rattle.pool_trim.specs.NothingAged.{allYoung}
-use Rattle.pool_forget_texture.proofs.TextureRuns.{spares-within, pages-within}
+use Rattle.pool_forget_texture.proofs.TextureRuns.{spares-within, grids-few, stamps-few}
 use Rattle.pool_trim.proofs.Steps.{givenTo, keptTo}
-use Rattle.pool_trim.proofs.Trimmed.{Sofar, Seen, record-now}
+use Rattle.pool_trim.proofs.Sofar.{Sofar}
+use Rattle.pool_trim.proofs.Trimmed.{Seen, seen, record-now, grid-end-now, stamp-end-now, grid-read, stamp-read}
 use Rattle.pool_trim.proofs.YoungTextures.{nothing-trimmed}
 use Rattle.grid_shapes.specs.ShapeConstants.{mostShapeBytes}
+use Rattle.grid_stamps.specs.StampConstants.{pageStamps}
 use Rattle.pool_records.specs.RecordConstants.{doomedStride, retiringStride, spareStride, textureStride}
 use Rattle.pool_rules.specs.RuleConstants.{mostPlaces}
 
 -- ---- what a step asks for
 
--- a write count of a pool fits a word
-counted : (l : Lent) (s : VersionShape) (page : ℕ) (h : Recorded) → Given (HistoryFormed s) (historyRead l s page h) → RecordedFits h
-counted l s page (Writes n) g = omega (arith, g .writes)
-counted l s page NoHistory g = omega arith
-
 pub textures-most : (l : Lent) → Fits l → modelOf l .places .textures ≤ mostPlaces
 textures-most l f = enough (modelOf l .places) (f .places) .textures
 
 module _ (l : Lent) (f : Fits l) (i : ℕ) (h : i < l .pool .tracked) where
-  history-counted : RecordedFits (textureIn (l .textures) i .history)
-  unfolding stateOf stateRead
-  history-counted =
-      let formed = rw (model-at l i (stateOf l 0) h) at
-      (all-at (modelOf l .textures) i (stateOf l 0) (omega (arith, tracked-model l)) (f .formed .textures)) in
-      let t = getD (trackedRecords l) i (readTexture []) in
-      rw (sym (record-read l i h)) (counted l (t .shape) (firstGrid l i) (t .history) (formed .history))
-
   module _ (now : ℕ) (w : Pass) (T D S N P : List ℕ) (s : Sofar l now i w T D S N P) where
-    pub look-fits : (textureStride * i + textureStride ≤ length T)
-        × (spareStride * (w .first + textureIn T i .spares) ≤ length S) × (recordGrids (textureIn T i) ≤ mostPlaces)
+    pub look-fits : (textureStride * l .pool .tracked ≤ length T) × (i < l .pool .tracked)
+        × (spareStride * (w .first + textureIn T i .spares) ≤ length S)
+        × (textureIn T i .grid ≤ gridEnd T (l .pool .tracked) (l .pool .grids) i)
+        × (textureIn T i .stamp ≤ stampEnd T (l .pool .tracked) (l .pool .stamps) i)
     look-fits =
         let here = record-now l now i w T D S N P f h s in (
           omega (arith, s .T-long, textures-fit l f),
+          h,
           omega (arith, s .S-long, s .first, ap (λ (t : TextureRecord). t .spares) here, spares-within l i h f, f .versions, f .spares),
-          omega (arith, ap recordGrids here, pages-within l i h f, f .pages, f .newest),
+          omega (arith, grid-end-now l now i w T D S N P f h s),
+          omega (arith, stamp-end-now l now i w T D S N P f h s),
         )
 
-    module _ (look : Look) (n : Seen l w look) where
+    module _ (look : Look) (e : look ≡ lookAt now (l .pool) T S i (w .first)) where
+      abbrev n : Seen l w look
+      n = seen l now i w T D S N P f h s look e
+
       pub push-fits : (doomedStride * (length (l .retiring) / retiringStride) ≤ length D) × (l .pool .first < length (l .retiring) / retiringStride)
           × (l .pool .doomed + w .count + look .aged ≤ length (l .retiring) / retiringStride) × (spareStride * (w .first + look .aged) ≤ length S)
       unfolding versionPlaces
@@ -91,25 +84,37 @@ module _ (l : Lent) (f : Fits l) (i : ℕ) (h : i < l .pool .tracked) where
       )
 
       pub put-fits : (textureStride * i + textureStride ≤ length T) × (textureStride * w .tracked + textureStride ≤ length T) × RecordedFits (textureIn T i .history)
-          × (look .aged ≤ look .own)
+          × (look .aged ≤ look .own) × (look .grid ≡ textureIn T i .grid) × (look .stamp ≡ textureIn T i .stamp)
       put-fits = (
         omega (arith, s .T-long, textures-fit l f),
         omega (arith, s .T-long, s .fewer, textures-fit l f),
-        rw (record-now l now i w T D S N P f h s) history-counted,
+        rw (record-now l now i w T D S N P f h s) (history-fits l i h f),
         n .few,
+        grid-read l now i w T D S N P f h s look e,
+        stamp-read l now i w T D S N P f h s look e,
       )
 
-      pub pass-fits : (look .aged ≤ look .own) × (w .first + look .own ≤ mostPlaces) × (w .page + look .claimed ≤ mostPlaces) × (w .tracked + look .staying ≤ mostPlaces)
-          × (w .kept + (look .own - look .aged) ≤ mostPlaces) × (w .pages + look .paged ≤ mostPlaces) × (w .count + look .aged ≤ mostPlaces)
+      pub history-moves : (w .grids ≤ look .grid) × (look .grid + look .grids ≤ length N) × (w .stamps ≤ look .stamp)
+          × (look .stamp + look .stamps ≤ length P)
+      history-moves = (
+        n .low,
+        omega (arith, n .grids, f .grids, s .N-long),
+        n .stamps-low,
+        omega (arith, n .stamps, f .stamps-counted, s .P-long),
+      )
+
+      pub pass-fits : (look .aged ≤ look .own) × (w .first + look .own ≤ mostPlaces) × (w .tracked + look .staying ≤ mostPlaces)
+          × (w .kept + (look .own - look .aged) ≤ mostPlaces) × (w .grids + look .grids ≤ pageStamps * mostPlaces)
+          × (w .stamps + look .stamps ≤ pageStamps * mostPlaces) × (w .count + look .aged ≤ mostPlaces)
           × (w .freed + look .bytes * look .aged < 2 ^ 64)
       pass-fits =
           let spares : w .first + look .own ≤ mostPlaces = omega (arith, n .spares, f .versions, f .most) in (
             n .few,
             spares,
-            omega (arith, n .pages, f .pages, f .newest),
             omega (arith, s .fewer, n .staying, f .tracked, textures-most l f),
             omega (arith, s .all, spares),
-            omega (arith, s .low, n .paged, n .pages, f .pages, f .newest),
+            omega (arith, n .low, n .grids, grids-few l f),
+            omega (arith, n .stamps-low, n .stamps, stamps-few l f),
             omega (arith, s .all, n .few, spares),
             omega (arith, s .light, n .light, s .all, n .few, spares),
           )
@@ -144,7 +149,8 @@ module _ (l : Lent) (f : Fits l) (now i : ℕ) (w : Pass) (T D S N P : List ℕ)
   counts-left = λ j. record {
     tracked = s .tracked j;
     kept = (s .kept ∙ sym (count-spares (keptTo l now i))) j;
-    pages = s .pages j;
+    grids = s .grids j;
+    stamps = s .stamps-used j;
     head = sym (head-stays l (trimmed l now i) (f .head) (omega (arith, hand-model l (f .hand)))) j;
     popped = sym (hand-model l (f .hand)) j;
     queued = sym (queued-model l) j;

@@ -8,11 +8,14 @@ use Rattle.base_blocks.specs.Lists.{listed}
 use Rattle.base_tables.specs.Records.{recordAt}
 use Rattle.pool_records.specs.declared.texture.TextureRecord.{TextureRecord}
 use Rattle.pool_records.specs.Spare.{readSpare}
-use Rattle.pool_records.specs.Texture.{writeTexture, textureIn, recordGrids}
+use Rattle.pool_records.specs.Starts.{gridEnd, stampEnd}
+use Rattle.pool_records.specs.Texture.{writeTexture, textureIn}
 use Rattle.pool_records.specs.Views.{spareOf}
 use Rattle.pool_rules.specs.Model.{Spare}
 use Rattle.pool_rules.specs.Trim.{aged, agedCount}
+use Rattle.pool_memory.specs.declared.pool.Pool.{Pool as Counts}
 use Rattle.pool_trim.specs.declared.look_at.Look.{Look}
+use Rattle.pool_trim.specs.declared.pass.Pass.{Pass}
 use Rattle.pool_records.specs.RecordConstants.{spareStride, textureStride}
 
 abbrev pub spareIn : List ℕ → ℕ → Spare ℕ
@@ -25,26 +28,30 @@ isIdle now t left = aged now (t .due) && (aged now (t .rename) && eqb left 0)
 unfoldable pub dueAfter : ℕ → TextureRecord → ℕ
 dueAfter now t = cond (aged now (t .due)) (cond (aged now (t .rename)) now (t .rename)) (t .due)
 
-unfoldable pub lookOf : ℕ → TextureRecord → ℕ → Look
-lookOf now t count = record {
+-- `count` of its spares aged; its history has so many grids and stamps
+unfoldable pub lookOf : ℕ → TextureRecord → ℕ → ℕ → ℕ → Look
+lookOf now t count grids stamps = record {
   own = t .spares;
   aged = count;
-  claimed = recordGrids t;
   staying = cond (isIdle now t (t .spares - count)) 0 1;
-  paged = cond (isIdle now t (t .spares - count)) 0 (recordGrids t);
+  grid = t .grid;
+  grids = cond (isIdle now t (t .spares - count)) 0 grids;
+  stamp = t .stamp;
+  stamps = cond (isIdle now t (t .spares - count)) 0 stamps;
   due = dueAfter now t;
   bytes = t .bytes;
 }
 
 -- texture i, whose spares begin at place `first`
-unfoldable pub lookAt : ℕ → List ℕ → List ℕ → ℕ → ℕ → Look
-lookAt now textures spares i first =
+unfoldable pub lookAt : ℕ → Counts → List ℕ → List ℕ → ℕ → ℕ → Look
+lookAt now c textures spares i first =
     let t : TextureRecord = textureIn textures i in
     lookOf now t (agedCount now (listed (spareIn spares) first (t .spares)))
+    (gridEnd textures (c .tracked) (c .grids) i - t .grid) (stampEnd textures (c .tracked) (c .stamps) i - t .stamp)
 
--- the record after it
-unfoldable pub lookedRecord : Look → TextureRecord → TextureRecord
-lookedRecord look t = record {
+-- the record after it: its grids and stamps begin behind those of the textures that stay before it
+unfoldable pub lookedRecord : Look → Pass → TextureRecord → TextureRecord
+lookedRecord look pass t = record {
   id = t .id;
   shape = t .shape;
   epoch = t .epoch;
@@ -54,9 +61,12 @@ lookedRecord look t = record {
   due = look .due;
   spares = look .own - look .aged;
   bytes = t .bytes;
+  grid = pass .grids;
+  stamp = pass .stamps;
 }
 
--- written at place `to`
-unfoldable pub lookedPut : List ℕ → ℕ → ℕ → Look → List ℕ
-lookedPut textures to i look =
-    cond (eqb (look .staying) 0) textures (sets textures (textureStride * to) (writeTexture (lookedRecord look (textureIn textures i))))
+-- written behind those that stay
+unfoldable pub lookedPut : List ℕ → ℕ → Look → Pass → List ℕ
+lookedPut textures i look pass =
+    cond (eqb (look .staying) 0) textures
+    (sets textures (textureStride * pass .tracked) (writeTexture (lookedRecord look pass (textureIn textures i))))

@@ -16,15 +16,15 @@ use Rattle.pool_trim.specs.declared.pass.Pass.{Pass}
 -- ---- the counts
 
 unfoldable pub noPass : Pass
-noPass = record { first = 0; page = 0; tracked = 0; kept = 0; pages = 0; count = 0; freed = 0 }
+noPass = record { first = 0; tracked = 0; kept = 0; grids = 0; stamps = 0; count = 0; freed = 0 }
 
 unfoldable pub passOn : Pass → Look → Pass
 passOn pass look = record {
   first = pass .first + look .own;
-  page = pass .page + look .claimed;
   tracked = pass .tracked + look .staying;
   kept = pass .kept + (look .own - look .aged);
-  pages = pass .pages + look .paged;
+  grids = pass .grids + look .grids;
+  stamps = pass .stamps + look .stamps;
   count = pass .count + look .aged;
   freed = pass .freed + look .bytes * look .aged;
 }
@@ -33,7 +33,8 @@ unfoldable pub countsTrimmed : Counts → Pass → Counts
 countsTrimmed c pass = record {
   tracked = pass .tracked;
   kept = pass .kept;
-  pages = pass .pages;
+  grids = pass .grids;
+  stamps = pass .stamps;
   head = c .head;
   popped = c .popped;
   queued = c .queued;

@@ -1,32 +1,39 @@
 // What a trim does with one texture.
 ghost use mathlib.Core.Path.{_≡_};
-ghost use Prim.Native.Nat.{_+_, _-_, _*_, _≤_};
+ghost use Prim.Native.Nat.{_+_, _-_, _*_, _≤_, _<_};
 ghost use lib.ListN.{length};
 ghost use Rattle.base_blocks.specs.Lists.{listed};
-ghost use Rattle.pool_records.specs.Texture.{textureIn, recordGrids};
+ghost use Rattle.pool_records.specs.Starts.{gridEnd, stampEnd};
+ghost use Rattle.pool_records.specs.Texture.{textureIn};
 ghost use Rattle.pool_rules.specs.Trim.{agedCount};
 ghost use Rattle.pool_trim.specs.LookAt.{spareIn, isIdle, dueAfter, lookAt};
 ghost use Rattle.pool_records.specs.RecordConstants.{spareStride, textureStride};
-ghost use Rattle.pool_rules.specs.RuleConstants.{mostPlaces};
-use pool_access::pages_at;
+use pool_access::grid_end;
+use pool_access::stamp_end;
+use pool_memory::Pool;
 use pool_records::SPARE_PARKED_AT;
 use pool_records::SPARE_STRIDE;
 use pool_records::TEXTURE_BYTES_AT;
 use pool_records::TEXTURE_DUE_AT;
+use pool_records::TEXTURE_GRID_AT;
 use pool_records::TEXTURE_RENAME_AT;
 use pool_records::TEXTURE_SPARES_AT;
+use pool_records::TEXTURE_STAMP_AT;
 use pool_records::TEXTURE_STRIDE;
 use pool_rules::SPARE_MAX_IDLE_SUBMITS;
 use pool_rules::STATE_MAX_IDLE_SUBMITS;
 
-// Of its `own` spares the oldest `aged` are given up, `bytes` each; `claimed` pages are its own. It stays tracked (`staying` is 1)
-// with `paged` pages and the number `due`, or it is dropped (`staying` and `paged` are 0).
+// Of its `own` spares the oldest `aged` are given up, `bytes` each. Its grids begin at place `grid` and their stamps at `stamp`. It
+// stays tracked (`staying` is 1) with `grids` grids, their `stamps` stamps and the number `due`, or it is dropped (`staying`, `grids`
+// and `stamps` are 0).
 pub struct Look {
     pub own: usize,
     pub aged: usize,
-    pub claimed: usize,
     pub staying: usize,
-    pub paged: usize,
+    pub grid: usize,
+    pub grids: usize,
+    pub stamp: usize,
+    pub stamps: usize,
     pub due: u64,
     pub bytes: u64,
 }
@@ -85,24 +92,37 @@ fn due_after(textures: &[u64], i: usize, current: u64) -> u64
 }
 
 // Looks at texture i, whose spares begin at place `first`.
-pub fn look_at(textures: &[u64], spares: &[u64], i: usize, first: usize, current: u64) -> Look
-    requires { ⌜ (textureStride * i + textureStride ≤ length (now textures))
+pub fn look_at(
+    pool: Pool,
+    textures: &[u64],
+    spares: &[u64],
+    i: usize,
+    first: usize,
+    current: u64,
+) -> Look
+    requires { ⌜ (textureStride * pool .tracked ≤ length (now textures)) × (i < pool .tracked)
         × (spareStride * (first + textureIn (now textures) i .spares) ≤ length (now spares))
-        × (recordGrids (textureIn (now textures) i) ≤ mostPlaces) ⌝ }
-    ensures { λ r. ⌜ r ≡ lookAt current (now (textures .entry)) (now (spares .entry)) i first ⌝ }
+        × (textureIn (now textures) i .grid ≤ gridEnd (now textures) (pool .tracked) (pool .grids) i)
+        × (textureIn (now textures) i .stamp ≤ stampEnd (now textures) (pool .tracked) (pool .stamps) i) ⌝ }
+    ensures { λ r. ⌜ r ≡ lookAt current pool (now (textures .entry)) (now (spares .entry)) i first ⌝ }
 {
     let own = textures[TEXTURE_STRIDE * i + TEXTURE_SPARES_AT] as usize;
     let aged = aged_count(spares, first, own, current);
-    let claimed = pages_at(textures, i);
+    let grid = textures[TEXTURE_STRIDE * i + TEXTURE_GRID_AT] as usize;
+    let grids = grid_end(textures, pool.tracked, pool.grids, i) - grid;
+    let stamp = textures[TEXTURE_STRIDE * i + TEXTURE_STAMP_AT] as usize;
+    let stamps = stamp_end(textures, pool.tracked, pool.stamps, i) - stamp;
     let bytes = textures[TEXTURE_STRIDE * i + TEXTURE_BYTES_AT];
     let due = due_after(textures, i, current);
     if is_idle(textures, i, own - aged, current) {
         return Look {
             own,
             aged,
-            claimed,
             staying: 0,
-            paged: 0,
+            grid,
+            grids: 0,
+            stamp,
+            stamps: 0,
             due,
             bytes,
         };
@@ -110,9 +130,11 @@ pub fn look_at(textures: &[u64], spares: &[u64], i: usize, first: usize, current
     Look {
         own,
         aged,
-        claimed,
         staying: 1,
-        paged: claimed,
+        grid,
+        grids,
+        stamp,
+        stamps,
         due,
         bytes,
     }

@@ -2,18 +2,19 @@
 ghost use mathlib.Core.Path.{_≡_};
 ghost use Prim.Native.Nat.{_+_, _-_, _*_, _≤_, _<_, _^_};
 ghost use Rattle.pool_trim.specs.Pass.{noPass, passOn, countsTrimmed};
+ghost use Rattle.grid_stamps.specs.StampConstants.{pageStamps};
 ghost use Rattle.pool_rules.specs.RuleConstants.{mostPlaces};
 use crate::look_at::Look;
 use pool_memory::Pool;
 
-// The next texture's spares begin at place `first` and its pages at `page`. Of the textures before it `tracked` stay, with `kept`
-// spares and `pages` pages, and `count` spares were given up, of `freed` bytes.
+// The next texture's spares begin at place `first`. Of the textures before it `tracked` stay, with `kept` spares, `grids` grids and
+// their `stamps` stamps, and `count` spares were given up, of `freed` bytes.
 pub struct Pass {
     pub first: usize,
-    pub page: usize,
     pub tracked: usize,
     pub kept: usize,
-    pub pages: usize,
+    pub grids: usize,
+    pub stamps: usize,
     pub count: usize,
     pub freed: u64,
 }
@@ -24,10 +25,10 @@ pub fn no_pass() -> Pass
 {
     Pass {
         first: 0,
-        page: 0,
         tracked: 0,
         kept: 0,
-        pages: 0,
+        grids: 0,
+        stamps: 0,
         count: 0,
         freed: 0,
     }
@@ -35,19 +36,20 @@ pub fn no_pass() -> Pass
 
 // Returns where the pass stands after one texture more.
 pub fn pass_on(pass: Pass, look: Look) -> Pass
-    requires { ⌜ (look .aged ≤ look .own) × (pass .first + look .own ≤ mostPlaces) × (pass .page + look .claimed ≤ mostPlaces)
+    requires { ⌜ (look .aged ≤ look .own) × (pass .first + look .own ≤ mostPlaces)
         × (pass .tracked + look .staying ≤ mostPlaces)
-        × (pass .kept + (look .own - look .aged) ≤ mostPlaces) × (pass .pages + look .paged ≤ mostPlaces) × (pass .count + look .aged ≤ mostPlaces)
+        × (pass .kept + (look .own - look .aged) ≤ mostPlaces) × (pass .grids + look .grids ≤ pageStamps * mostPlaces)
+        × (pass .stamps + look .stamps ≤ pageStamps * mostPlaces) × (pass .count + look .aged ≤ mostPlaces)
         × (pass .freed + look .bytes * look .aged < 2 ^ 64) ⌝ }
     ensures { λ r. ⌜ r ≡ passOn pass look ⌝ }
 {
     let given = look.aged as u64;
     Pass {
         first: pass.first + look.own,
-        page: pass.page + look.claimed,
         tracked: pass.tracked + look.staying,
         kept: pass.kept + (look.own - look.aged),
-        pages: pass.pages + look.paged,
+        grids: pass.grids + look.grids,
+        stamps: pass.stamps + look.stamps,
         count: pass.count + look.aged,
         freed: pass.freed + look.bytes * given,
     }
@@ -63,7 +65,8 @@ pub fn counts_after(pool: Pool, pass: Pass) -> Pool
     Pool {
         tracked: pass.tracked,
         kept: pass.kept,
-        pages: pass.pages,
+        grids: pass.grids,
+        stamps: pass.stamps,
         head: pool.head,
         popped: pool.popped,
         queued: pool.queued,

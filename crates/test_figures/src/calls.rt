@@ -14,10 +14,11 @@ use pool_records::TEXTURE_STRIDE;
 use pool_retire::Popped;
 use pool_rules::Held;
 use pool_rules::LIMIT;
+use pool_rules::MOST_GRIDS;
 use pool_take_spare::Taken;
 
 // Returns 0, or the number of a take's refusal.
-fn outcome_of(taken: Taken) -> u64 {
+pub fn outcome_of(taken: Taken) -> u64 {
     match taken {
         Taken::Refused(n) => n,
         _ => 0,
@@ -37,7 +38,7 @@ fn trimmed(seq: u64, current: u64) -> AfterTrim {
     let retiring = [0u64; RETIRING_STRIDE];
     let mut doomed = [0u64; DOOMED_STRIDE];
     let mut spares = [0u64; SPARE_STRIDE];
-    let mut newest = [0u64; 1];
+    let mut newest = [0u64; MOST_GRIDS];
     let mut stamps = [0u64; PAGE_STAMPS];
     let book = opened_book();
     let begun = pool::take_spare(
@@ -98,7 +99,7 @@ fn print_settled(settled: u64) {
     let retiring = [0u64; RETIRING_STRIDE];
     let doomed = [0u64; DOOMED_STRIDE];
     let spares = [0u64; SPARE_STRIDE];
-    let newest = [0u64; 1];
+    let newest = [0u64; MOST_GRIDS];
     let stamps = [0u64; PAGE_STAMPS];
     let answer = pool::pop_retired(
         opened_pool(0),
@@ -124,7 +125,7 @@ fn plan(answers: &mut [u64]) -> PlanAnswer {
     let retiring = [0u64; RETIRING_STRIDE];
     let doomed = [0u64; DOOMED_STRIDE];
     let spares = [0u64; SPARE_STRIDE];
-    let newest = [0u64; 1];
+    let newest = [0u64; MOST_GRIDS];
     let stamps = [0u64; PAGE_STAMPS];
     pool::preserve_plan(
         opened_pool(0),

@@ -10,6 +10,7 @@ use pool_records::RETIRING_STRIDE;
 use pool_records::SPARE_STRIDE;
 use pool_records::TEXTURE_STRIDE;
 use pool_rules::LIMIT;
+use pool_rules::MOST_GRIDS;
 
 // Returns a pool of one texture place, one version place and one page. Nothing is tracked, and one version of `bytes` bytes is in
 // the destroy queue.
@@ -17,7 +18,8 @@ fn pool_with(bytes: u64, since: u64, trackings: u64) -> Pool {
     Pool {
         tracked: 0,
         kept: 0,
-        pages: 0,
+        grids: 0,
+        stamps: 0,
         head: 0,
         popped: 0,
         queued: 0,
@@ -48,7 +50,7 @@ fn outcome(pool: Pool, book: PacingBook) -> u64 {
     let retiring = [0u64; RETIRING_STRIDE];
     let doomed = [0, pool.dooming];
     let spares = [0u64; SPARE_STRIDE];
-    let newest = [0u64; 1];
+    let newest = [0u64; MOST_GRIDS];
     let stamps = [0u64; PAGE_STAMPS];
     let formed = is_pool(
         pool,

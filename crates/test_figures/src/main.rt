@@ -1,10 +1,11 @@
-// Document 01's figures, each computed by the proved functions: a line for each, `name value`, or `name argument value` where a
-// figure is that of an argument. The lines are held to `stdout`, which is written from 01's text; docs/FIGURES.md has 01's sentence for each.
+// Figures of documents 01 and 02, each computed by the proved functions: a line for each, `name value`, or `name argument .. value` where a
+// figure is that of arguments. The lines are held to `stdout`, which is written from their text; docs/FIGURES.md has the sentence for each.
 mod calls;
 mod copies;
 mod extents;
 mod formats;
 mod forming;
+mod histories;
 mod limits;
 mod opening;
 mod print;
@@ -22,4 +23,5 @@ fn main() {
     texts::print_texts();
     copies::print_copies();
     calls::print_calls();
+    histories::print_histories();
 }

@@ -2,6 +2,7 @@
 // made on lengths here: 4,096 pages have 2^22 stamps, more than a program's stack holds.
 ghost use Prim.Native.Nat.{_≤_};
 use crate::print::figure_of;
+use crate::print::figure_of_three;
 use crate::print::outcome_1;
 use grid_stamps::PAGE_STAMPS;
 use pool_open::lengths_fit;
@@ -9,9 +10,10 @@ use pool_records::DOOMED_STRIDE;
 use pool_records::RETIRING_STRIDE;
 use pool_records::SPARE_STRIDE;
 use pool_records::TEXTURE_STRIDE;
+use pool_rules::grid_places;
 
-// Returns the outcome of opening with as many places as given, and stamps for the pages.
-fn opening(textures: usize, versions: usize, pages: usize, stamps: usize) -> u64
+// Returns the outcome of opening with as many places as given, numbers for the newest stamps, and stamps.
+fn opening(textures: usize, versions: usize, newest: usize, stamps: usize) -> u64
     requires { ⌜ (textures ≤ 4097) × (versions ≤ 4097) ⌝ }
 {
     let fit = lengths_fit(
@@ -19,7 +21,7 @@ fn opening(textures: usize, versions: usize, pages: usize, stamps: usize) -> u64
         RETIRING_STRIDE * versions,
         DOOMED_STRIDE * versions,
         SPARE_STRIDE * versions,
-        pages,
+        newest,
         stamps,
     );
     outcome_1(fit)
@@ -51,10 +53,11 @@ fn print_versions(versions: usize)
 fn print_pages(pages: usize)
     requires { ⌜ pages ≤ 4097 ⌝ }
 {
+    let stamps = PAGE_STAMPS * pages;
     figure_of(
         b"open_pages",
         pages as u64,
-        opening(1, 1, pages, PAGE_STAMPS * pages),
+        opening(1, 1, grid_places(1, stamps), stamps),
     );
 }
 
@@ -63,8 +66,36 @@ fn print_page(stamps: usize) {
     figure_of(
         b"open_page_of_stamps",
         stamps as u64,
-        opening(1, 1, 1, stamps),
+        opening(1, 1, grid_places(1, stamps), stamps),
     );
+}
+
+// Prints it for a number of newest stamps, with so many texture places and pages.
+fn print_newest(textures: usize, pages: usize, newest: usize)
+    requires { ⌜ (textures ≤ 4096) × (pages ≤ 4096) ⌝ }
+{
+    figure_of_three(
+        b"open_newest",
+        textures as u64,
+        pages as u64,
+        newest as u64,
+        opening(textures, 1, newest, PAGE_STAMPS * pages),
+    );
+}
+
+// Prints it on both sides of what is to be lent: 90 a texture place where there are as many stamps, else one a stamp.
+fn print_newests() {
+    print_newest(8, 6, 719);
+    print_newest(8, 6, 720);
+    print_newest(8, 6, 721);
+    print_newest(11, 1, 990);
+    print_newest(12, 1, 1023);
+    print_newest(12, 1, 1024);
+    print_newest(12, 1, 1025);
+    print_newest(12, 1, 1080);
+    print_newest(1, 0, 0);
+    print_newest(1, 0, 1);
+    print_newest(4096, 4096, 368640);
 }
 
 // Prints the outcomes on both sides of each limit.
@@ -83,4 +114,5 @@ pub fn print_sizes() {
     print_page(1023);
     print_page(1024);
     print_page(1025);
+    print_newests();
 }

@@ -53,6 +53,14 @@ pub fn figure_of_two(name: &[u8], first: u64, second: u64, value: u64)
     print_line(name, &values);
 }
 
+// Prints the figure of three arguments.
+pub fn figure_of_three(name: &[u8], first: u64, second: u64, third: u64, value: u64)
+    requires { ⌜ length (now name) ≤ 64 ⌝ }
+{
+    let values = [first, second, third, value];
+    print_line(name, &values);
+}
+
 // Prints a rectangle, after the outcome that it comes with.
 pub fn figure_rect(name: &[u8], outcome: u64, rect: grid_rects::TexelRect)
     requires { ⌜ length (now name) ≤ 64 ⌝ }

@@ -6,6 +6,7 @@ use pool_records::DOOMED_STRIDE;
 use pool_records::RETIRING_STRIDE;
 use pool_records::SPARE_STRIDE;
 use pool_records::TEXTURE_STRIDE;
+use pool_rules::MOST_GRIDS;
 
 // What is lent at most; a list is lent as much of it as its first line asks for. The textures and versions are those of the large event
 // program, the pages fewer, since all of it stands twice on the stack.
@@ -18,7 +19,7 @@ const MOST_PAGES: usize = 64;
 // As many entries as there may be versions (01), so that an answer of any length can be asked for.
 const MOST_ENTRIES: usize = 4096;
 
-// Room for a copy of all that is lent, some 124,000 numbers; for all lists; and for the longest answer.
+// Room for a copy of all that is lent, some 129,500 numbers; for all lists; and for the longest answer.
 const COPY_NUMBERS: usize = 131072;
 
 const INPUT_BYTES: usize = 2097152;
@@ -30,7 +31,7 @@ fn main() {
     let mut retiring = [0; MOST_VERSIONS * RETIRING_STRIDE];
     let mut doomed = [0; MOST_VERSIONS * DOOMED_STRIDE];
     let mut spares = [0; MOST_VERSIONS * SPARE_STRIDE];
-    let mut newest = [0; MOST_PAGES];
+    let mut newest = [0; MOST_TEXTURES * MOST_GRIDS];
     let mut stamps = [0; MOST_PAGES * PAGE_STAMPS];
     let mut copies = [0; MOST_ENTRIES * COPY_STRIDE];
     let mut views = [0; MOST_ENTRIES];

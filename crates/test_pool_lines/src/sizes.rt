@@ -8,9 +8,11 @@ use pool_records::DOOMED_STRIDE;
 use pool_records::RETIRING_STRIDE;
 use pool_records::SPARE_STRIDE;
 use pool_records::TEXTURE_STRIDE;
+use pool_rules::MOST_PLACES;
+use pool_rules::grid_places;
 
-// More numbers than any slice of a list has.
-const MOST_PLACES: u64 = 65536;
+// As many numbers as any slice of a list has.
+const MOST_NUMBERS: usize = 65536;
 
 // How many numbers are lent in each slice, and in the two answer buffers.
 pub struct Lengths {
@@ -25,10 +27,10 @@ pub struct Lengths {
 }
 
 // Returns a number of the line, or 0 if it is past what any list has.
-fn small(number: u64) -> usize
-    ensures { λ r. ⌜ r ≤ 65536 ⌝ }
+fn small(number: u64, most: usize) -> usize
+    ensures { λ r. ⌜ r ≤ most ⌝ }
 {
-    if MOST_PLACES < number {
+    if (most as u64) < number {
         return 0;
     }
     number as usize
@@ -40,24 +42,28 @@ pub fn lengths_of(line: &[u8]) -> Lengths {
     let n = read.values;
     if read.count == 8 {
         return Lengths {
-            textures: small(n[0]),
-            retiring: small(n[1]),
-            doomed: small(n[2]),
-            spares: small(n[3]),
-            newest: small(n[4]),
-            stamps: small(n[5]),
-            copies: small(n[6]),
-            views: small(n[7]),
+            textures: small(n[0], MOST_NUMBERS),
+            retiring: small(n[1], MOST_NUMBERS),
+            doomed: small(n[2], MOST_NUMBERS),
+            spares: small(n[3], MOST_NUMBERS),
+            newest: small(n[4], MOST_NUMBERS),
+            stamps: small(n[5], MOST_NUMBERS),
+            copies: small(n[6], MOST_NUMBERS),
+            views: small(n[7], MOST_NUMBERS),
         };
     }
+    let textures = small(n[0], MOST_PLACES);
+    let versions = small(n[1], MOST_PLACES);
+    let stamps = PAGE_STAMPS * small(n[2], MOST_PLACES);
+    let answers = small(n[3], MOST_PLACES);
     Lengths {
-        textures: TEXTURE_STRIDE * small(n[0]),
-        retiring: RETIRING_STRIDE * small(n[1]),
-        doomed: DOOMED_STRIDE * small(n[1]),
-        spares: SPARE_STRIDE * small(n[1]),
-        newest: small(n[2]),
-        stamps: PAGE_STAMPS * small(n[2]),
-        copies: COPY_STRIDE * small(n[3]),
-        views: small(n[3]),
+        textures: TEXTURE_STRIDE * textures,
+        retiring: RETIRING_STRIDE * versions,
+        doomed: DOOMED_STRIDE * versions,
+        spares: SPARE_STRIDE * versions,
+        newest: grid_places(textures, stamps),
+        stamps,
+        copies: COPY_STRIDE * answers,
+        views: answers,
     }
 }

@@ -3,11 +3,12 @@ use pool_memory::PacingBook;
 use pool_memory::Pool;
 
 // Returns the counts in the order of `Pool`.
-pub fn counts_of(pool: Pool) -> [u64; 14] {
+pub fn counts_of(pool: Pool) -> [u64; 15] {
     [
         pool.tracked as u64,
         pool.kept as u64,
         pool.grids as u64,
+        pool.stamps as u64,
         pool.head as u64,
         pool.popped as u64,
         pool.queued as u64,
@@ -23,22 +24,23 @@ pub fn counts_of(pool: Pool) -> [u64; 14] {
 }
 
 // Returns the counts that are these numbers.
-pub fn pool_of(n: [u64; 14]) -> Pool {
+pub fn pool_of(n: [u64; 15]) -> Pool {
     Pool {
         tracked: n[0] as usize,
         kept: n[1] as usize,
-        pages: n[2] as usize,
-        head: n[3] as usize,
-        popped: n[4] as usize,
-        queued: n[5] as usize,
-        first: n[6] as usize,
-        doomed: n[7] as usize,
-        since: n[8],
-        trackings: n[9],
-        parked: n[10],
-        dooming: n[11],
-        cap: n[12],
-        line: n[13],
+        grids: n[2] as usize,
+        stamps: n[3] as usize,
+        head: n[4] as usize,
+        popped: n[5] as usize,
+        queued: n[6] as usize,
+        first: n[7] as usize,
+        doomed: n[8] as usize,
+        since: n[9],
+        trackings: n[10],
+        parked: n[11],
+        dooming: n[12],
+        cap: n[13],
+        line: n[14],
     }
 }
 

@@ -26,7 +26,8 @@ fn no_pool() -> Pool {
     Pool {
         tracked: 0,
         kept: 0,
-        pages: 0,
+        grids: 0,
+        stamps: 0,
         head: 0,
         popped: 0,
         queued: 0,

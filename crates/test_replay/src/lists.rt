@@ -15,6 +15,7 @@ use pool_records::DOOMED_STRIDE;
 use pool_records::RETIRING_STRIDE;
 use pool_records::SPARE_STRIDE;
 use pool_records::TEXTURE_STRIDE;
+use pool_rules::grid_places;
 
 // Returns where the next list begins after `from`: at a line that begins with "=,", or at `to`.
 fn next_list(input: &[u8], from: usize, to: usize) -> usize
@@ -86,6 +87,7 @@ fn run_next(
     let d = DOOMED_STRIDE * versions;
     let s = SPARE_STRIDE * versions;
     let m = PAGE_STAMPS * pages;
+    let g = grid_places(sizes.textures, m);
     let c = COPY_STRIDE * answers;
     run_list(
         list,
@@ -94,7 +96,7 @@ fn run_next(
         &mut retiring[0..r],
         &mut doomed[0..d],
         &mut spares[0..s],
-        &mut newest[0..pages],
+        &mut newest[0..g],
         &mut stamps[0..m],
         &mut copies[0..c],
         &mut views[0..answers],

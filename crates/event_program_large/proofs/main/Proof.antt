@@ -18,7 +18,7 @@ slice-aggregate-lends-4 : tie.Need-slice-aggregate-lends-4
 slice-aggregate-lends-4 c = zeros-count 6000
 
 slice-aggregate-lends-5 : tie.Need-slice-aggregate-lends-5
-slice-aggregate-lends-5 c = zeros-count 5760
+slice-aggregate-lends-5 c = zeros-count _
 
 slice-aggregate-lends-6 : tie.Need-slice-aggregate-lends-6
 slice-aggregate-lends-6 c = zeros-count 262144
@@ -63,7 +63,7 @@ slice-aggregate-run-all-5 : tie.Need-slice-aggregate-run-all-5
 slice-aggregate-run-all-5 c = zeros-count 6000
 
 slice-aggregate-run-all-6 : tie.Need-slice-aggregate-run-all-6
-slice-aggregate-run-all-6 c = zeros-count 5760
+slice-aggregate-run-all-6 c = zeros-count _
 
 slice-aggregate-run-all-7 : tie.Need-slice-aggregate-run-all-7
 slice-aggregate-run-all-7 c = zeros-count 262144

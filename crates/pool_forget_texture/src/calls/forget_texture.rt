@@ -4,12 +4,12 @@ ghost use mathlib.Core.Bool.{true};
 ghost use Rattle.pool_memory.specs.Lent.{lent, lentBy};
 ghost use Rattle.pool_memory.specs.IsPool.{isPool};
 ghost use Rattle.pool_memory.specs.Calls.{toldNumber, forgetTextureOn};
+use crate::moves::move_down;
 use crate::owned::counts_without;
 use crate::owned::owned_at;
-use crate::pages::move_pages;
+use crate::owned::remove_record;
 use base_tables::remove_records;
 use pool_access::has_id;
-use pool_access::remove_texture;
 use pool_memory::DoneAnswer;
 use pool_memory::PacingBook;
 use pool_memory::Pool;
@@ -45,7 +45,7 @@ pub fn forget_texture(
     if !has_id(textures, tracked, i, id) {
         return DoneAnswer { pool, outcome: 0 };
     }
-    let own = owned_at(textures, i);
+    let own = owned_at(pool, textures, i);
     let places = retiring.len() / RETIRING_STRIDE;
     push_spares(
         doomed,
@@ -58,9 +58,11 @@ pub fn forget_texture(
         own.bytes,
     );
     remove_records(spares, SPARE_STRIDE, pool.kept, own.first, own.spares);
-    let later = pool.grids - (own.page + own.pages);
-    move_pages(newest, stamps, own.page, own.pages, later);
-    remove_texture(textures, tracked, i);
+    let grid_end = own.grid + own.grids;
+    move_down(newest, own.grid, grid_end, pool.grids - grid_end);
+    let stamp_end = own.stamp + own.stamps;
+    move_down(stamps, own.stamp, stamp_end, pool.stamps - stamp_end);
+    remove_record(textures, tracked, i, own);
     DoneAnswer {
         pool: counts_without(pool, own),
         outcome: 0,

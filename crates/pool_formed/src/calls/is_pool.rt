@@ -33,6 +33,7 @@ pub fn is_pool(
         textures.len() / TEXTURE_STRIDE,
         versions,
         newest.len(),
+        stamps.len(),
     ) {
         return false;
     }

@@ -1,31 +1,28 @@
 // dirty_tile: some tile that was written since.
 ghost use mathlib.Core.Path.{_≡_};
 ghost use mathlib.Core.Bool.{true};
-ghost use Prim.Native.Nat.{_*_, _≤_};
-ghost use lib.ListN.{length};
 ghost use Rattle.grid_stamps.specs.Grids.{tilingOf, IsDirtyTile};
 ghost use Rattle.pool_rules.specs.Histories.{inShape};
 ghost use Rattle.pool_rules.specs.NoteWrite.{IsDirtyTileOf};
 ghost use Rattle.pool_memory.specs.Lent.{lentBy, atEntry};
-ghost use Rattle.pool_memory.specs.Reading.{pageAt, modelOf};
+ghost use Rattle.pool_memory.specs.Reading.{modelOf};
 ghost use Rattle.pool_memory.specs.IsPool.{isPool};
-ghost use Rattle.pool_note_write.specs.History.{pagesEnd, HistoryAt, pageOf};
-ghost use Rattle.grid_stamps.specs.StampConstants.{pageStamps};
+ghost use Rattle.pool_note_write.specs.History.{HistoryAt, stampsOn};
 ghost use Rattle.pool_records.specs.Texture.{textureIn};
 use crate::history::history_at;
 use crate::history::in_shape;
-use crate::history::page_of;
 use grid_stamps::DirtyTile;
-use grid_stamps::PAGE_STAMPS;
 use grid_stamps::across_axis;
 use grid_stamps::down_axis;
+use grid_stamps::stamp_count;
+use pool_access::grid_start;
 use pool_access::texture_at;
 use pool_memory::PacingBook;
 use pool_memory::Pool;
 use pool_records::Recorded;
 use pool_records::find_texture;
 
-// Finds some tile of a subresource of texture i that is stamped above `held`, on its page.
+// Finds some tile of a subresource of texture i that is stamped above `held`, in its grid's part of the stamps.
 fn dirty_subresource(
     textures: &[u64],
     stamps: &[u64],
@@ -34,17 +31,17 @@ fn dirty_subresource(
     level: u64,
     held: u64,
 ) -> DirtyTile
-    requires { ⌜ HistoryAt (now textures) i × (pageStamps * pagesEnd (now textures) i ≤ length (now stamps))
-        × (inShape (textureIn (now textures) i .shape) slice level ≡ true) ⌝ }
+    requires { ⌜ HistoryAt (now textures) (now stamps) i × (inShape (textureIn (now textures) i .shape) slice level ≡ true) ⌝ }
     ensures { λ r. ⌜ IsDirtyTile (tilingOf (textureIn (now (textures .entry)) i .shape) level) held
-        (pageAt (now (stamps .entry)) (pageOf (now (textures .entry)) i slice level)) r ⌝ }
+        (stampsOn (now (textures .entry)) i slice level (now (stamps .entry))) r ⌝ }
 {
     let t = texture_at(textures, i);
     let shape = t.shape;
-    let a = PAGE_STAMPS * page_of(textures, i, shape.levels, slice, level);
-    let e = a + PAGE_STAMPS;
+    let a = t.stamp as usize + grid_start(shape, slice, level);
     let across = across_axis(shape, level);
     let down = down_axis(shape, level);
+    let count = stamp_count(across, down) as usize;
+    let e = a + count;
     grid_views::dirty_tile(&stamps[a..e], across, down, held)
 }
 

@@ -4,13 +4,14 @@ ghost use mathlib.Core.Bool.{true};
 ghost use Rattle.pool_memory.specs.Lent.{lentBy, atEntry, atExit};
 ghost use Rattle.pool_memory.specs.IsPool.{isPool};
 ghost use Rattle.pool_memory.specs.Calls.{toldNumber, noteWriteOn};
-use crate::history::drop_history;
+use crate::dropping::drop_history;
 use crate::history::history_at;
 use crate::history::in_shape;
 use crate::history::set_history;
 use crate::history::stamp_subresource;
 use grid_rects::TexelRect;
 use pool_access::texture_at;
+use pool_history::Used;
 use pool_memory::DoneAnswer;
 use pool_memory::PacingBook;
 use pool_memory::Pool;
@@ -51,9 +52,14 @@ pub fn note_write(
     };
     let t = texture_at(textures, i);
     if !in_shape(t.shape, slice, level) {
+        let used = Used {
+            grids: pool.grids,
+            stamps: pool.stamps,
+        };
+        let still = drop_history(textures, newest, stamps, tracked, used, i);
         let mut left = pool;
-        left.pages = drop_history(textures, newest, stamps, pool.grids, i);
-        set_history(textures, i, Recorded::NoHistory);
+        left.grids = still.grids;
+        left.stamps = still.stamps;
         return DoneAnswer {
             pool: left,
             outcome: 0,

@@ -23,7 +23,8 @@ pub fn opened_pool(working: u64) -> Pool
     Pool {
         tracked: 0,
         kept: 0,
-        pages: 0,
+        grids: 0,
+        stamps: 0,
         head: 0,
         popped: 0,
         queued: 0,

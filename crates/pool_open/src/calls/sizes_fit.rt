@@ -5,15 +5,17 @@ ghost use Rattle.pool_memory.specs.declared.book.PacingBook.{PacingBook};
 ghost use Rattle.pool_memory.specs.Lent.{atEntry};
 ghost use Rattle.pool_memory.specs.IsPool.{sizesFit};
 ghost use Rattle.pool_open.specs.Lengths.{lengthsFit};
+use base_blocks::smaller;
 use grid_stamps::PAGE_STAMPS;
 use pool_records::DOOMED_STRIDE;
 use pool_records::RETIRING_STRIDE;
 use pool_records::SPARE_STRIDE;
 use pool_records::TEXTURE_STRIDE;
+use pool_rules::MOST_GRIDS;
 use pool_rules::MOST_PLACES;
 
-// Tests that slices of these lengths are of whole places, as many as may be lent, and fit together. The pages are tested first, so that
-// the number of their stamps cannot pass a word.
+// Tests that slices of these lengths are of whole places, as many as may be lent, and fit together: `newest` has a number for each grid
+// that can be, 90 a texture and no more than there are stamps. The textures are tested first, so that their grids cannot pass a word.
 pub fn lengths_fit(
     textures: usize,
     retiring: usize,
@@ -24,21 +26,24 @@ pub fn lengths_fit(
 ) -> bool
     ensures { λ r. ⌜ r ≡ lengthsFit textures retiring doomed spares newest stamps ⌝ }
 {
-    if newest > MOST_PLACES {
+    let places = textures / TEXTURE_STRIDE;
+    if places > MOST_PLACES {
         return false;
     }
-    let places = textures / TEXTURE_STRIDE;
     let versions = retiring / RETIRING_STRIDE;
+    let pages = stamps / PAGE_STAMPS;
+    let most = smaller((MOST_GRIDS * places) as u64, stamps as u64);
     (1 <= places)
         & (places <= MOST_PLACES)
         & (1 <= versions)
         & (versions <= MOST_PLACES)
-        & (newest <= MOST_PLACES)
+        & (pages <= MOST_PLACES)
         & (textures == TEXTURE_STRIDE * places)
         & (retiring == RETIRING_STRIDE * versions)
         & (doomed == DOOMED_STRIDE * versions)
         & (spares == SPARE_STRIDE * versions)
-        & (stamps == PAGE_STAMPS * newest)
+        & (stamps == PAGE_STAMPS * pages)
+        & (newest as u64 == most)
 }
 
 // Tests that the lent slices have the sizes that a pool needs, whatever its counts are.

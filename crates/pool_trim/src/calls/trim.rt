@@ -5,6 +5,7 @@ ghost use Prim.Native.Nat.{_+_, _*_, _≤_};
 ghost use lib.ListN.{length};
 ghost use Rattle.pool_records.specs.Recorded.{RecordedFits};
 ghost use Rattle.pool_records.specs.Texture.{textureIn};
+ghost use Rattle.base_blocks.specs.Blocks.{moved};
 ghost use Rattle.pool_memory.specs.Lent.{lent, lentBy, atExit};
 ghost use Rattle.pool_memory.specs.IsPool.{isPool};
 ghost use Rattle.pool_memory.specs.Writing.{lentAfter};
@@ -15,13 +16,13 @@ ghost use Rattle.pool_records.specs.RecordConstants.{textureStride};
 use crate::look_at::Look;
 use crate::look_at::look_at;
 use crate::nothing_aged::nothing_aged;
+use crate::pass::Pass;
 use crate::pass::counts_after;
 use crate::pass::no_pass;
 use crate::pass::pass_on;
 use pool_access::put_texture;
 use pool_access::texture_at;
 use pool_forget_texture::move_down;
-use pool_forget_texture::move_pages;
 use pool_memory::DoneAnswer;
 use pool_memory::PacingBook;
 use pool_memory::Pool;
@@ -33,18 +34,21 @@ use pool_records::TEXTURE_STRIDE;
 use pool_rules::LIMIT;
 use pool_take_doomed::push_spares;
 
-// Writes record i at place `to` as it is after the look. Nothing is written where the texture is dropped, nor where the record
-// stands there already.
-fn put_looked(textures: &mut [u64], to: usize, i: usize, look: Look)
-    requires { ⌜ (textureStride * i + textureStride ≤ length (now textures)) × (textureStride * to + textureStride ≤ length (now textures))
-        × RecordedFits (textureIn (now textures) i .history) × (look .aged ≤ look .own) ⌝ }
-    ensures { λ _. ⌜ now (textures .exit) ≡ lookedPut (now (textures .entry)) to i look ⌝ }
+// Writes record i behind those that stay, as it is after the look and with where its grids and stamps begin now. Nothing is written
+// where the texture is dropped, nor where the record stands there already.
+fn put_looked(textures: &mut [u64], i: usize, look: Look, pass: Pass)
+    requires { ⌜ (textureStride * i + textureStride ≤ length (now textures)) × (textureStride * pass .tracked + textureStride ≤ length (now textures))
+        × RecordedFits (textureIn (now textures) i .history) × (look .aged ≤ look .own)
+        × (look .grid ≡ textureIn (now textures) i .grid) × (look .stamp ≡ textureIn (now textures) i .stamp) ⌝ }
+    ensures { λ _. ⌜ now (textures .exit) ≡ lookedPut (now (textures .entry)) i look pass ⌝ }
 {
     if look.staying == 0 {
         return;
     }
     let left = (look.own - look.aged) as u64;
-    if (to == i)
+    if (pass.tracked == i)
+        & (look.grid == pass.grids)
+        & (look.stamp == pass.stamps)
         & (textures[TEXTURE_STRIDE * i + TEXTURE_DUE_AT] == look.due)
         & (textures[TEXTURE_STRIDE * i + TEXTURE_SPARES_AT] == left)
     {
@@ -53,7 +57,20 @@ fn put_looked(textures: &mut [u64], to: usize, i: usize, look: Look)
     let mut t = texture_at(textures, i);
     t.due = look.due;
     t.spares = left;
-    put_texture(textures, to, t);
+    t.grid = pass.grids as u64;
+    t.stamp = pass.stamps as u64;
+    put_texture(textures, pass.tracked, t);
+}
+
+// Moves the history of a texture that stays down to those before it. Of one that is dropped nothing is moved.
+fn move_history(newest: &mut [u64], stamps: &mut [u64], look: Look, pass: Pass)
+    requires { ⌜ (pass .grids ≤ look .grid) × (look .grid + look .grids ≤ length (now newest)) × (pass .stamps ≤ look .stamp)
+        × (look .stamp + look .stamps ≤ length (now stamps)) ⌝ }
+    ensures { λ _. ⌜ (now (newest .exit) ≡ moved (now (newest .entry)) (pass .grids) (look .grid) (look .grids))
+        × (now (stamps .exit) ≡ moved (now (stamps .entry)) (pass .stamps) (look .stamp) (look .stamps)) ⌝ }
+{
+    move_down(newest, pass.grids, look.grid, look.grids);
+    move_down(stamps, pass.stamps, look.stamp, look.stamps);
 }
 
 // Looks at the textures in ascending id. What stays moves down to what stays before it, so that no number is written before it is
@@ -84,7 +101,7 @@ fn trim_textures(
     let mut pass = no_pass();
     let mut i = 0;
     while i < tracked {
-        let look = look_at(textures, spares, i, pass.first, current);
+        let look = look_at(pool, textures, spares, i, pass.first, current);
         push_spares(
             doomed,
             places,
@@ -98,17 +115,11 @@ fn trim_textures(
         move_down(
             spares,
             SPARE_STRIDE * pass.kept,
-            SPARE_STRIDE * (pass.first + look.aged - pass.kept),
+            SPARE_STRIDE * (pass.first + look.aged),
             SPARE_STRIDE * (look.own - look.aged),
         );
-        move_pages(
-            newest,
-            stamps,
-            pass.pages,
-            pass.page - pass.pages,
-            look.paged,
-        );
-        put_looked(textures, pass.tracked, i, look);
+        move_history(newest, stamps, look, pass);
+        put_looked(textures, i, look, pass);
         pass = pass_on(pass, look);
         i += 1;
     }

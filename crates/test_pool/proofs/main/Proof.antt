@@ -9,7 +9,7 @@ slice-aggregate-run-all : tie.Need-slice-aggregate-run-all
 slice-aggregate-run-all c = zeros-count 2097152
 
 slice-aggregate-run-all-2 : tie.Need-slice-aggregate-run-all-2
-slice-aggregate-run-all-2 c = zeros-count 1280
+slice-aggregate-run-all-2 c = zeros-count 1408
 
 slice-aggregate-run-all-3 : tie.Need-slice-aggregate-run-all-3
 slice-aggregate-run-all-3 c = zeros-count 14000
@@ -21,7 +21,7 @@ slice-aggregate-run-all-5 : tie.Need-slice-aggregate-run-all-5
 slice-aggregate-run-all-5 c = zeros-count 6000
 
 slice-aggregate-run-all-6 : tie.Need-slice-aggregate-run-all-6
-slice-aggregate-run-all-6 c = zeros-count 64
+slice-aggregate-run-all-6 c = zeros-count 5760
 
 slice-aggregate-run-all-7 : tie.Need-slice-aggregate-run-all-7
 slice-aggregate-run-all-7 c = zeros-count 65536

@@ -14,7 +14,7 @@ slice-aggregate-run-lists-2 : tie.Need-slice-aggregate-run-lists-2
 slice-aggregate-run-lists-2 c = zeros-count 512
 
 slice-aggregate-run-lists-3 : tie.Need-slice-aggregate-run-lists-3
-slice-aggregate-run-lists-3 c = zeros-count 1280
+slice-aggregate-run-lists-3 c = zeros-count 1408
 
 slice-aggregate-run-lists-4 : tie.Need-slice-aggregate-run-lists-4
 slice-aggregate-run-lists-4 c = zeros-count 14000
@@ -26,7 +26,7 @@ slice-aggregate-run-lists-6 : tie.Need-slice-aggregate-run-lists-6
 slice-aggregate-run-lists-6 c = zeros-count 6000
 
 slice-aggregate-run-lists-7 : tie.Need-slice-aggregate-run-lists-7
-slice-aggregate-run-lists-7 c = zeros-count 256
+slice-aggregate-run-lists-7 c = zeros-count 5760
 
 slice-aggregate-run-lists-8 : tie.Need-slice-aggregate-run-lists-8
 slice-aggregate-run-lists-8 c = zeros-count 262144
@@ -43,11 +43,11 @@ slice-aggregate-run-lists-11 c = zeros-count 1048576
 run-lists-requires : tie.Need-run-lists-requires
 run-lists-requires c κs = (
   record {
-    textures-are = sym (zeros-count 1280);
+    textures-are = sym (zeros-count 1408);
     retiring-are = sym (zeros-count 14000);
     doomed-are = sym (zeros-count 4000);
     spares-are = sym (zeros-count 6000);
-    newest-are = sym (zeros-count 256);
+    newest-are = sym (zeros-count 5760);
     stamps-are = sym (zeros-count 262144);
     copies-are = sym (zeros-count 28672);
     views-are = sym (zeros-count 4096);

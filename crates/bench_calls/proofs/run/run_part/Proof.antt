@@ -25,6 +25,9 @@ mul-d c = search needs
 mul-e : tie.Need-mul-e
 mul-e c = search needs
 
+grid-places-requires : tie.Need-grid-places-requires
+grid-places-requires c κs = search needs
+
 slice-relend-prefix-run : tie.Need-slice-relend-prefix-run
 slice-relend-prefix-run c = search needs
 
@@ -97,6 +100,7 @@ run-part-spec =
     mul-c
     mul-d
     mul-e
+    grid-places-requires
     slice-relend-prefix-run
     slice-aggregate-run
     slice-relend-prefix-run-2

@@ -5,10 +5,10 @@ use Rattle.bench_calls.proofs.testing.read_all.Statement.{statement}
 use Rattle.bench_calls.proofs.testing.read_all.Tie as tie
 
 abbrev Inv-loop : tie.InvT-loop
-Inv-loop textures spares newest stamps k start sum₀ i₀ sum i = i ≤ k
+Inv-loop pool textures spares newest stamps k start sum₀ i₀ sum i = i ≤ k
 
 abbrev μ-loop : tie.MeasureT-loop
-μ-loop textures spares newest stamps k start sum₀ i₀ sum i = k - i
+μ-loop pool textures spares newest stamps k start sum₀ i₀ sum i = k - i
 
 reading-requires : tie.Need-reading-requires Inv-loop μ-loop
 reading-requires c κs = search needs

@@ -1,15 +1,17 @@
 -- `sum_of` meets its contract: every index is below the length. Assumes nothing.
 use borrow.Author.Needs.{needs}
 use Prim.Native.Nat.{_-_, _≤_}
-use lib.ListN.{length}
 use Rattle.bench_calls.proofs.testing.sum_of.Statement.{statement}
 use Rattle.bench_calls.proofs.testing.sum_of.Tie as tie
 
 abbrev Inv-loop : tie.InvT-loop
-Inv-loop s from sum₀ i₀ sum i = i ≤ length s
+Inv-loop s n from end sum₀ i₀ sum i = i ≤ end
 
 abbrev μ-loop : tie.MeasureT-loop
-μ-loop s from sum₀ i₀ sum i = length s - i
+μ-loop s n from end sum₀ i₀ sum i = end - i
+
+least-requires : tie.Need-least-requires Inv-loop μ-loop
+least-requires c κs = search needs
 
 loop-holds : tie.Need-loop-holds Inv-loop μ-loop
 loop-holds c = search needs
@@ -41,6 +43,7 @@ sum-of-spec =
     (tie.spec
     Inv-loop
     μ-loop
+    least-requires
     loop-holds
     mul-wrapping-add-u64
     shared-slice-read-wrapping-add-u64

@@ -7,7 +7,7 @@ use lib.ListN.{length}
 use Rattle.pool_records.specs.Starts.{startsMoved, StartsMove}
 use Rattle.pool_records.specs.RecordConstants.{textureStride}
 use Rattle.pool_records.proofs.Starts.{moved-done}
-use Rattle.pool_access.proofs.Moves.{grid-least, grid-most, stamp-inside, stamp-least, stamp-most, next-long, next-can, next-left}
+use Rattle.pool_access.proofs.Moves.{grid-least, grid-sum, stamp-inside, stamp-least, stamp-sum, next-long, next-can, next-left}
 use Rattle.pool_access.proofs.starts.move_starts.Statement.{statement}
 use Rattle.pool_access.proofs.starts.move_starts.Tie as tie
 
@@ -46,7 +46,7 @@ add-textures c =
     let b = c .before .before .before .before in
     let a = b .before .args in
     let fits : textureStride * a .n ≤ length (b .loop .textures) = omega (arith, b .loop .inv .1, b .before .pre .0) in
-    omega (arith, grid-least (a .grids) (a .stamps) (a .n) (b .loop .k) (b .loop .textures) fits (c .before .before .before .loop-test .taken) (b .loop .inv .2), grid-most (a .grids) (a .stamps) (a .n) (b .loop .k) (b .loop .textures) fits (c .before .before .before .loop-test .taken) (b .loop .inv .2))
+    grid-sum (a .grids) (a .stamps) (a .n) (b .loop .k) (b .loop .textures) fits (c .before .before .before .loop-test .taken) (b .loop .inv .2) _ (omega arith)
 
 mul-textures-2 : tie.Need-mul-textures-2 Inv-loop μ-loop
 mul-textures-2 c = search needs
@@ -68,21 +68,21 @@ slice-read-textures-2 c =
     let b = c .before .before .before .before .before in
     let a = b .before .args in
     let fits : textureStride * a .n ≤ length (b .loop .textures) = omega (arith, b .loop .inv .1, b .before .pre .0) in
-    stamp-inside (a .grids) (a .stamps) (a .n) (b .loop .k) (b .loop .textures) fits (c .before .before .before .before .loop-test .taken) (b .loop .inv .2)
+    stamp-inside (a .grids) (a .stamps) (a .n) (b .loop .k) (b .loop .textures) fits (c .before .before .before .before .loop-test .taken) (b .loop .inv .2) _
 
 sub-textures-2 : tie.Need-sub-textures-2 Inv-loop μ-loop
 sub-textures-2 c =
     let b = c .before .before .before .before .before .before in
     let a = b .before .args in
     let fits : textureStride * a .n ≤ length (b .loop .textures) = omega (arith, b .loop .inv .1, b .before .pre .0) in
-    stamp-least (a .grids) (a .stamps) (a .n) (b .loop .k) (b .loop .textures) fits (c .before .before .before .before .before .loop-test .taken) (b .loop .inv .2)
+    stamp-least (a .grids) (a .stamps) (a .n) (b .loop .k) (b .loop .textures) fits (c .before .before .before .before .before .loop-test .taken) (b .loop .inv .2) _
 
 add-textures-2 : tie.Need-add-textures-2 Inv-loop μ-loop
 add-textures-2 c =
     let b = c .before .before .before .before .before .before .before in
     let a = b .before .args in
     let fits : textureStride * a .n ≤ length (b .loop .textures) = omega (arith, b .loop .inv .1, b .before .pre .0) in
-    omega (arith, stamp-least (a .grids) (a .stamps) (a .n) (b .loop .k) (b .loop .textures) fits (c .before .before .before .before .before .before .loop-test .taken) (b .loop .inv .2), stamp-most (a .grids) (a .stamps) (a .n) (b .loop .k) (b .loop .textures) fits (c .before .before .before .before .before .before .loop-test .taken) (b .loop .inv .2))
+    stamp-sum (a .grids) (a .stamps) (a .n) (b .loop .k) (b .loop .textures) fits (c .before .before .before .before .before .before .loop-test .taken) (b .loop .inv .2) _ _ (omega arith)
 
 mul-textures-4 : tie.Need-mul-textures-4 Inv-loop μ-loop
 mul-textures-4 c = search needs
@@ -92,7 +92,7 @@ slice-write-textures-2 c =
     let b = c .before .before .before .before .before .before .before in
     let a = b .before .args in
     let fits : textureStride * a .n ≤ length (b .loop .textures) = omega (arith, b .loop .inv .1, b .before .pre .0) in
-    stamp-inside (a .grids) (a .stamps) (a .n) (b .loop .k) (b .loop .textures) fits (c .before .before .before .before .before .before .loop-test .taken) (b .loop .inv .2)
+    stamp-inside (a .grids) (a .stamps) (a .n) (b .loop .k) (b .loop .textures) fits (c .before .before .before .before .before .before .loop-test .taken) (b .loop .inv .2) _
 
 add-k : tie.Need-add-k Inv-loop μ-loop
 add-k c = search needs

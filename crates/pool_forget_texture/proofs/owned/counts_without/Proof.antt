@@ -17,17 +17,20 @@ sub-t6 c = omega (arith, c .before .before .before .before .pre)
 sub-t7 : tie.Need-sub-t7
 sub-t7 c = omega (arith, c .before .before .before .before .before .before .pre)
 
-add-t8 : tie.Need-add-t8
-add-t8 c = omega (arith, c .before .before .before .before .before .before .before .before .pre)
+sub-t8 : tie.Need-sub-t8
+sub-t8 c = omega (arith, c .before .before .before .before .before .before .before .before .pre)
 
 add-t9 : tie.Need-add-t9
-add-t9 c = omega (arith, c .before .before .before .before .before .before .before .before .before .pre)
+add-t9 c = omega (arith, c .before .before .before .before .before .before .before .before .before .before .pre)
 
-sub-t10 : tie.Need-sub-t10
-sub-t10 c = omega (arith, c .before .before .before .before .before .before .before .before .before .before .pre)
+add-t10 : tie.Need-add-t10
+add-t10 c = omega (arith, c .before .before .before .before .before .before .before .before .before .before .before .pre)
 
-add-t11 : tie.Need-add-t11
-add-t11 c = omega (arith, c .before .before .before .before .before .before .before .before .before .before .before .pre)
+sub-t11 : tie.Need-sub-t11
+sub-t11 c = omega (arith, c .before .before .before .before .before .before .before .before .before .before .before .before .pre)
+
+add-t12 : tie.Need-add-t12
+add-t12 c = omega (arith, c .before .before .before .before .before .before .before .before .before .before .before .before .before .pre)
 
 returns : tie.Need-returns
 unfolding without
@@ -35,4 +38,4 @@ returns c = refl
 
 pub counts-without-spec : {M : Type 1} → statement M
 counts-without-spec =
-    tie.close (tie.spec mul-freed sub-t5 sub-t6 sub-t7 add-t8 add-t9 sub-t10 add-t11 returns)
+    tie.close (tie.spec mul-freed sub-t5 sub-t6 sub-t7 sub-t8 add-t9 add-t10 sub-t11 add-t12 returns)

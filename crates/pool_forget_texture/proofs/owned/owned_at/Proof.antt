@@ -1,43 +1,46 @@
 -- `owned_at` meets its contract: each number is what its part answers. Assumes nothing.
 use borrow.Author.Needs.{needs}
-use mathlib.Core.Path.{ap, _∙_}
+use mathlib.Core.Path.{ap, ap₂}
+use Prim.Native.Nat.{ℕ, _-_}
 use native.Mathlib.Omega.{arith}
-use Rattle.pool_records.specs.Texture.{readTexture, recordGrids}
-use Rattle.pool_access.proofs.Totals.{total-next}
+use Rattle.pool_memory.proofs.Runs.{firstGridIn, firstStampIn}
 use Rattle.pool_forget_texture.specs.Owned.{ownedAt}
 use Rattle.pool_forget_texture.proofs.owned.owned_at.Statement.{statement}
 use Rattle.pool_forget_texture.proofs.owned.owned_at.Tie as tie
-use Rattle.pool_records.specs.RecordConstants.{textureStride}
 
 texture-at-requires : tie.Need-texture-at-requires
 texture-at-requires c κs = search needs
 
-spares-before-requires : tie.Need-spares-before-requires
-spares-before-requires c κs =
-    let b = c .before .before in
-    (omega (arith, b .pre), omega (arith, b .pre, total-next textureStride readTexture (λ t. t .spares) (b .args .textures .now) (b .args .i)))
+first-spare-requires : tie.Need-first-spare-requires
+first-spare-requires c κs = search needs
 
-pages-before-requires : tie.Need-pages-before-requires
-pages-before-requires c κs =
-    let b = c .before .before .before in
-    (omega (arith, b .pre), omega (arith, b .pre, total-next textureStride readTexture recordGrids (b .args .textures .now) (b .args .i)))
+grid-end-requires : tie.Need-grid-end-requires
+grid-end-requires c κs = search needs
 
-history-pages-requires : tie.Need-history-pages-requires
-history-pages-requires c κs =
-    let d = c .before .before in
-    let b = d .before .before in
-    omega (arith, b .pre, total-next textureStride readTexture recordGrids (b .args .textures .now) (b .args .i), ap recordGrids (d .texture-at .ensures))
+sub-grids : tie.Need-sub-grids
+sub-grids c =
+    let t = c .before .before in
+    omega (arith, c .grid-end .ensures, ap firstGridIn (t .texture-at .ensures), t .before .before .pre)
+
+stamp-end-requires : tie.Need-stamp-end-requires
+stamp-end-requires c κs = search needs
+
+sub-stamps : tie.Need-sub-stamps
+sub-stamps c =
+    let t = c .before .before .before in
+    omega (arith, c .stamp-end .ensures, ap firstStampIn (t .texture-at .ensures), t .before .before .pre)
 
 returns : tie.Need-returns
 unfolding ownedAt
 returns c =
-    let d = c .before .before .before in
-    let t = d .texture-at .ensures in
+    let t = c .before .before .before .texture-at .ensures in
     λ j. record {
-      first = c .before .before .spares-before .ensures j;
+      first = c .before .before .first-spare .ensures j;
       spares = t j .spares;
-      page = c .before .pages-before .ensures j;
-      pages = (c .history-pages .ensures ∙ ap recordGrids t) j;
+      grid = t j .grid;
+      grids = ap₂ (λ (m n : ℕ). m - n) (c .before .grid-end .ensures) (ap firstGridIn t) j;
+      stamp = t j .stamp;
+      stamps = ap₂ (λ (m n : ℕ). m - n) (c .stamp-end .ensures) (ap firstStampIn t) j;
       bytes = t j .bytes;
     }
 
@@ -46,7 +49,9 @@ owned-at-spec =
     tie.close
     (tie.spec
     texture-at-requires
-    spares-before-requires
-    pages-before-requires
-    history-pages-requires
+    first-spare-requires
+    grid-end-requires
+    sub-grids
+    stamp-end-requires
+    sub-stamps
     returns)

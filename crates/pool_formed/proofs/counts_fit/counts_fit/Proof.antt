@@ -7,16 +7,16 @@ use Rattle.pool_formed.proofs.counts_fit.counts_fit.Statement.{statemen
 use Rattle.pool_formed.proofs.counts_fit.counts_fit.Tie as tie
 
 returns : tie.Need-returns
-returns c = sym (too-full _ _ _ _ (omega (arith, c .if1 .taken)))
+returns c = sym (too-full _ _ _ _ _ (omega (arith, c .if1 .taken)))
 
 returns-2 : tie.Need-returns-2
-returns-2 c = sym (too-many _ _ _ _ (omega (arith, c .if2 .taken)))
+returns-2 c = sym (too-many _ _ _ _ _ (omega (arith, c .if2 .taken)))
 
 returns-3 : tie.Need-returns-3
-returns-3 c = sym (too-many _ _ _ _ (omega (arith, c .if3 .taken)))
+returns-3 c = sym (too-many _ _ _ _ _ (omega (arith, c .if3 .taken)))
 
 returns-4 : tie.Need-returns-4
-returns-4 c = sym (too-many _ _ _ _ (omega (arith, c .if4 .taken)))
+returns-4 c = sym (too-many _ _ _ _ _ (omega (arith, c .if4 .taken)))
 
 add-result : tie.Need-add-result
 add-result c = search needs
@@ -29,7 +29,7 @@ add-result-3 c =
     omega (arith, c .before .before .before .before .before .before .if4 .left, c .before .before .before .before .before .before .before .before .if3 .left, c .before .before .before .before .before .before .before .before .before .before .if2 .left, c .before .before .before .before .before .before .before .before .before .before .before .before .if1 .left, c .before .before .before .before .before .before .before .before .before .before .before .before .before .before .pre)
 
 returns-5 : tie.Need-returns-5
-returns-5 c = counts-test _ _ _ _ (omega (arith, c .before .before .before .before .before .before .before .before .before .before .before .before .before .if1 .left))
+returns-5 c = counts-test _ _ _ _ _ (omega (arith, c .before .before .before .before .before .before .before .before .before .before .before .before .before .before .if1 .left))
 
 pub counts-fit-spec : {M : Type 1} → statement M
 counts-fit-spec =

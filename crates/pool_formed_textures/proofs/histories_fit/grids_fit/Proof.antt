@@ -2,47 +2,90 @@
 use mathlib.Core.Path.{_≡_, sym, ap, _∙_}
 use Prim.Native.Nat.{_-_, _≤_}
 use native.Mathlib.Omega.{arith}
-use borrow.Author.Tests.{not-true, not-false}
-use Rattle.base_blocks.specs.Lists.{all, listed}
-use Rattle.base_blocks.proofs.Listed.{left, left-all, all-more, all-stop, all-done}
-use Rattle.grid_shapes.proofs.Shapes.{shape-bounds}
-use Rattle.pool_memory.specs.IsPool.{isGrid}
-use Rattle.pool_formed_textures.specs.Textures.{gridOnPage, gridsFit}
 use borrow.Author.Needs.{needs}
+use borrow.Author.Tests.{not-true, not-false}
+use lib.ListN.{length}
+use Rattle.base_blocks.specs.Lists.{all, listed}
+use Rattle.base_blocks.proofs.Listed.{left, left-all, all-more}
+use Rattle.grid_shapes.proofs.Shapes.{shape-bounds}
+use Rattle.pool_rules.specs.HistorySizes.{gridStart}
+use Rattle.pool_rules.proofs.HistorySizes.{grids-most}
+use Rattle.pool_memory.specs.IsPool.{isGrid}
+use Rattle.pool_formed_textures.specs.Textures.{ownGrid}
+use Rattle.pool_formed_textures.proofs.GridTests.{tiling-same, axes-ready, grid-ready, first-start, grid-here, next-start, grids-few, grids-short, grids-stop, grids-done}
 use Rattle.pool_formed_textures.proofs.histories_fit.grids_fit.Statement.{statement}
 use Rattle.pool_formed_textures.proofs.histories_fit.grids_fit.Tie as tie
 
 abbrev Inv-loop : tie.InvT-loop
-Inv-loop s writes newest stamps page n k₀ k = (k ≤ n) × (all (isGrid writes) (left (gridOnPage newest stamps s page) n k) ≡ all (isGrid writes) (listed (gridOnPage newest stamps s page) 0 n))
+Inv-loop s writes newest stamps n at₀ k₀ at k =
+    (k ≤ n) × (at ≤ length stamps) × (at ≡ gridStart s k)
+    × (all (isGrid writes) (left (ownGrid s newest stamps) n k) ≡ all (isGrid writes) (listed (ownGrid s newest stamps) 0 n))
 
 abbrev μ-loop : tie.MeasureT-loop
-μ-loop s writes newest stamps page n k₀ k = n - k
+μ-loop s writes newest stamps n at₀ k₀ at k = n - k
 
-pages-of-requires : tie.Need-pages-of-requires Inv-loop μ-loop
-pages-of-requires c κs = search needs
-
-loop-holds : tie.Need-loop-holds Inv-loop μ-loop
-loop-holds c =
-    let a = c .before .before .before .args in
-    (search needs, ap (all (isGrid (a .writes))) (left-all (gridOnPage (a .newest .now) (a .stamps .now) (a .s) (a .page)) _))
-
-rem-grid-fits : tie.Need-rem-grid-fits Inv-loop μ-loop
-rem-grid-fits c = omega (arith, shape-bounds (c .before .before .before .before .before .before .args .s) (c .before .before .before .before .before .before .pre .0) .levels-pos)
-
-add-grid-fits : tie.Need-add-grid-fits Inv-loop μ-loop
-add-grid-fits c = omega (arith, c .before .before .before .before .before .before .pre .1, c .before .before .before .pages-of .ensures .1, c .before .loop-test .taken)
-
-grid-fits-requires : tie.Need-grid-fits-requires Inv-loop μ-loop
-grid-fits-requires c κs = (c .before .before .before .before .before .before .pre .0, omega (arith, c .before .before .before .before .before .before .pre .1, c .before .before .before .pages-of .ensures .1, c .before .loop-test .taken), c .before .before .before .before .before .before .pre .2)
+shape-grids-requires : tie.Need-shape-grids-requires Inv-loop μ-loop
+shape-grids-requires c κs = omega (arith, grids-most (c .before .before .args .s) (c .before .before .pre))
 
 returns : tie.Need-returns Inv-loop μ-loop
-unfolding gridsFit gridOnPage
-returns c =
-    let b = c .before .before .before .before in
-    let a = b .before .before .before .before .args in
-    let f = gridOnPage (a .newest .now) (a .stamps .now) (a .s) (a .page) in
-    let e = sym (c .before .grid-fits .ensures) ∙ not-true _ (c .if1 .taken) in
-    sym (all-stop f _ (isGrid (a .writes)) (b .loop .k) (c .before .before .before .loop-test .taken) e) ∙ b .loop .inv .1 ∙ ap (λ n. all (isGrid (a .writes)) (listed f 0 n)) (b .before .pages-of .ensures .1)
+returns c = let a = c .before .before .before .before .args in sym (grids-few (a .s) (a .writes) (a .newest .now) (a .stamps .now) _ (c .before .shape-grids .ensures) (c .if1 .taken))
+
+loop-holds : tie.Need-loop-holds Inv-loop μ-loop
+loop-holds c = let a = c .before .before .before .before .args in (search needs, search needs, sym (first-start (a .s)), ap (all (isGrid (a .writes))) (left-all (ownGrid (a .s) (a .newest .now) (a .stamps .now)) _))
+
+rem-level : tie.Need-rem-level Inv-loop μ-loop
+rem-level c = omega (arith, shape-bounds (c .before .before .before .before .before .before .before .args .s) (c .before .before .before .before .before .before .before .pre) .levels-pos)
+
+across-axis-requires : tie.Need-across-axis-requires Inv-loop μ-loop
+across-axis-requires c κs = search needs
+
+down-axis-requires : tie.Need-down-axis-requires Inv-loop μ-loop
+down-axis-requires c κs = search needs
+
+stamp-count-requires : tie.Need-stamp-count-requires Inv-loop μ-loop
+stamp-count-requires c κs = axes-ready (c .before .before .before .before .before .before .before .before .before .args .s) _ _ _ (c .before .across-axis .ensures) (c .down-axis .ensures) (c .before .before .before .before .before .before .before .before .before .pre)
+
+sub-if2 : tie.Need-sub-if2 Inv-loop μ-loop
+sub-if2 c = search needs
+
+returns-2 : tie.Need-returns-2 Inv-loop μ-loop
+returns-2 c =
+    let a = c .before .before .before .before .before .before .before .before .before .before .before .args in
+    let l = c .before .before .before .before .before .before .loop in
+    let t = tiling-same (a .s) _ _ _ (c .before .before .before .across-axis .ensures) (c .before .before .down-axis .ensures) in
+    sym (grids-short (a .s) (a .writes) (a .newest .now) (a .stamps .now) (l .k) (l .at) _ _ (omega (arith, c .before .before .before .before .before .loop-test .taken, c .before .before .before .before .before .before .before .before .shape-grids .ensures)) (l .inv .2) (c .before .stamp-count .ensures) t (c .if2 .taken))
+
+mul-grid-fits : tie.Need-mul-grid-fits Inv-loop μ-loop
+mul-grid-fits c = search needs
+
+shared-slice-read-grid-fits : tie.Need-shared-slice-read-grid-fits Inv-loop μ-loop
+shared-slice-read-grid-fits c = search needs
+
+mul-grid-fits-2 : tie.Need-mul-grid-fits-2 Inv-loop μ-loop
+mul-grid-fits-2 c = search needs
+
+sub-grid-fits : tie.Need-sub-grid-fits Inv-loop μ-loop
+sub-grid-fits c = search needs
+
+part-grid-fits-start : tie.Need-part-grid-fits-start Inv-loop μ-loop
+part-grid-fits-start c = search needs
+
+part-grid-fits-end : tie.Need-part-grid-fits-end Inv-loop μ-loop
+part-grid-fits-end c = search needs
+
+grid-fits-requires : tie.Need-grid-fits-requires Inv-loop μ-loop
+grid-fits-requires c κs = grid-ready (c .before .before .before .before .before .before .before .before .before .before .before .before .before .args .s) _ _ _ (c .before .before .before .before .before .across-axis .ensures) (c .before .before .before .before .down-axis .ensures) (c .before .before .before .before .before .before .before .before .before .before .before .before .before .args .stamps .now) (c .before .before .before .before .before .before .before .before .loop .at) _ (c .before .before .before .before .before .before .before .before .before .before .before .before .before .pre) (c .before .before .before .stamp-count .ensures) (c .before .before .if2 .left)
+
+returns-3 : tie.Need-returns-3 Inv-loop μ-loop
+returns-3 c =
+    let a = c .before .before .before .before .before .before .before .before .before .before .before .before .before .before .before .args in
+    let l = c .before .before .before .before .before .before .before .before .before .before .loop in
+    let t = tiling-same (a .s) _ _ _ (c .before .before .before .before .before .before .before .across-axis .ensures) (c .before .before .before .before .before .before .down-axis .ensures) in
+    let f = sym (grid-here (a .s) (a .writes) (a .newest .now) (a .stamps .now) (l .k) (l .at) _ t (l .inv .2)) ∙ sym (c .before .grid-fits .ensures) ∙ not-true _ (c .if3 .taken) in
+    sym (grids-stop (a .s) (a .writes) (a .newest .now) (a .stamps .now) _ (l .k) (c .before .before .before .before .before .before .before .before .before .before .before .before .shape-grids .ensures) (l .inv .3) (c .before .before .before .before .before .before .before .before .before .loop-test .taken) f)
+
+add-at : tie.Need-add-at Inv-loop μ-loop
+add-at c = search needs
 
 add-k : tie.Need-add-k Inv-loop μ-loop
 add-k c = search needs
@@ -51,21 +94,23 @@ loop-less : tie.Need-loop-less Inv-loop μ-loop
 loop-less c = search needs
 
 loop-again : tie.Need-loop-again Inv-loop μ-loop
-unfolding gridOnPage
 loop-again c =
-    let b = c .before .before .before .before in
-    let a = b .before .before .before .before .args in
-    let f = gridOnPage (a .newest .now) (a .stamps .now) (a .s) (a .page) in
-    let e = sym (c .before .grid-fits .ensures) ∙ not-false _ (c .if1 .left) in
-    (search needs, sym (all-more f _ (isGrid (a .writes)) (b .loop .k) (c .before .before .before .loop-test .taken) e) ∙ b .loop .inv .1)
+    let a = c .before .before .before .before .before .before .before .before .before .before .before .before .before .before .before .args in
+    let l = c .before .before .before .before .before .before .before .before .before .before .loop in
+    let t = tiling-same (a .s) _ _ _ (c .before .before .before .before .before .before .before .across-axis .ensures) (c .before .before .before .before .before .before .down-axis .ensures) in
+    let h = c .before .before .before .before .before .before .before .before .before .loop-test .taken in
+    let f = sym (grid-here (a .s) (a .writes) (a .newest .now) (a .stamps .now) (l .k) (l .at) _ t (l .inv .2)) ∙ sym (c .before .grid-fits .ensures) ∙ not-false _ (c .if3 .left) in (
+      omega (arith, h),
+      omega (arith, c .before .before .before .before .if2 .left, l .inv .1),
+      next-start (a .s) (a .writes) (a .newest .now) (a .stamps .now) (l .k) (l .at) _ _ (omega (arith, h, c .before .before .before .before .before .before .before .before .before .before .before .before .shape-grids .ensures)) (l .inv .2) (c .before .before .before .before .before .stamp-count .ensures) t,
+      sym (all-more (ownGrid (a .s) (a .newest .now) (a .stamps .now)) _ (isGrid (a .writes)) (l .k) h f) ∙ l .inv .3,
+    )
 
-returns-2 : tie.Need-returns-2 Inv-loop μ-loop
-unfolding gridsFit
-returns-2 c =
-    let b = c .before in
-    let a = b .before .before .before .before .args in
-    let f = gridOnPage (a .newest .now) (a .stamps .now) (a .s) (a .page) in
-    sym (all-done f _ (isGrid (a .writes)) (b .loop .k) (c .loop-test .left)) ∙ b .loop .inv .1 ∙ ap (λ n. all (isGrid (a .writes)) (listed f 0 n)) (b .before .pages-of .ensures .1)
+returns-4 : tie.Need-returns-4 Inv-loop μ-loop
+returns-4 c =
+    let a = c .before .before .before .before .before .before .args in
+    let l = c .before .loop in
+    grids-done (a .s) (a .writes) (a .newest .now) (a .stamps .now) _ (l .k) (c .before .before .before .shape-grids .ensures) (l .inv .3) (l .at) (c .before .before .if1 .left) (c .loop-test .left) (l .inv .0) (l .inv .2)
 
 pub grids-fit-spec : {M : Type 1} → statement M
 grids-fit-spec =
@@ -73,13 +118,25 @@ grids-fit-spec =
     (tie.spec
     Inv-loop
     μ-loop
-    pages-of-requires
-    loop-holds
-    rem-grid-fits
-    add-grid-fits
-    grid-fits-requires
+    shape-grids-requires
     returns
+    loop-holds
+    rem-level
+    across-axis-requires
+    down-axis-requires
+    stamp-count-requires
+    sub-if2
+    returns-2
+    mul-grid-fits
+    shared-slice-read-grid-fits
+    mul-grid-fits-2
+    sub-grid-fits
+    part-grid-fits-start
+    part-grid-fits-end
+    grid-fits-requires
+    returns-3
+    add-at
     add-k
     loop-less
     loop-again
-    returns-2)
+    returns-4)

@@ -1,75 +1,110 @@
 -- `histories_fit` meets its contract. Assumes nothing.
 use mathlib.Core.Path.{_≡_, sym, ap, _∙_}
-use Prim.Native.Nat.{_+_, _-_, _≤_}
+use Prim.Native.Nat.{_-_, _≤_}
 use native.Mathlib.Omega.{arith}
-use borrow.Author.Tests.{not-true, not-false}
-use Rattle.base_blocks.specs.Lists.{total}
-use Rattle.base_blocks.proofs.Listed.{left, total-more}
-use Rattle.base_tables.proofs.Records.{table-left}
-use Rattle.pool_records.specs.declared.texture.TextureRecord.{TextureRecord}
-use Rattle.pool_records.specs.Texture.{readTexture, textureIn, recordGrids, texturesIn}
-use Rattle.pool_formed_textures.specs.Textures.{historyFits, historiesFit}
-use Rattle.pool_formed_textures.proofs.RecordTests.{texture-read, read-shape}
-use Rattle.pool_formed_textures.proofs.HistoryTests.{histories-more, histories-stop, histories-done}
 use borrow.Author.Needs.{needs}
+use borrow.Author.Tests.{not-true, not-false}
+use Rattle.base_blocks.proofs.Listed.{left}
+use Rattle.base_tables.proofs.Records.{table-left}
+use Rattle.pool_records.specs.Texture.{readTexture, textureIn, texturesIn}
+use Rattle.pool_formed_textures.specs.Textures.{historiesFit}
+use Rattle.pool_formed_textures.proofs.RecordTests.{texture-read, read-shape, read-grid, read-stamp}
+use Rattle.pool_formed_textures.proofs.Walk.{run-order, run-end, grid-stop, stamp-stop, history-stop, walk-more, walk-done}
+use Rattle.pool_records.specs.RecordConstants.{textureStride}
 use Rattle.pool_formed_textures.proofs.histories_fit.histories_fit.Statement.{statement}
 use Rattle.pool_formed_textures.proofs.histories_fit.histories_fit.Tie as tie
-use Rattle.pool_records.specs.RecordConstants.{textureStride}
 
 abbrev Inv-loop : tie.InvT-loop
-Inv-loop textures n newest stamps page₀ i₀ page i =
-    (i ≤ n) × (page + total recordGrids (left (textureIn textures) n i) ≡ total recordGrids (texturesIn n textures))
-    × (historiesFit newest stamps page (left (textureIn textures) n i) ≡ historiesFit newest stamps 0 (texturesIn n textures))
+Inv-loop textures n grids used newest stamps grid₀ stamp₀ i₀ grid stamp i =
+    (i ≤ n) × (grid ≤ grids) × (stamp ≤ used)
+    × (historiesFit newest stamps grids used grid stamp (left (textureIn textures) n i) ≡ historiesFit newest stamps grids used 0 0 (texturesIn n textures))
 
 abbrev μ-loop : tie.MeasureT-loop
-μ-loop textures n newest stamps page₀ i₀ page i = n - i
+μ-loop textures n grids used newest stamps grid₀ stamp₀ i₀ grid stamp i = n - i
 
 loop-holds : tie.Need-loop-holds Inv-loop μ-loop
 loop-holds c =
     let a = c .before .before .before .args in
-    let e = table-left textureStride readTexture (a .n) (a .textures .now) in
-    (search needs, omega (arith, ap (total recordGrids) e), ap (historiesFit (a .newest .now) (a .stamps .now) 0) e)
+    (search needs, search needs, search needs, ap (historiesFit (a .newest .now) (a .stamps .now) (a .grids) (a .used) 0 0) (table-left textureStride readTexture (a .n) (a .textures .now)))
 
 record-at-requires : tie.Need-record-at-requires Inv-loop μ-loop
 record-at-requires c κs = search needs
 
-history-fits-requires : tie.Need-history-fits-requires Inv-loop μ-loop
-history-fits-requires c κs =
-    let b = c .before .before in
-    let z = b .before .before .before .before in
-    let s = z .args .textures .now in
-    let r = c .record-at .ensures in
-    let h = c .before .loop-test .taken in
-    let m = ap recordGrids (texture-read s (b .loop .i) _ (r .1)) in (
-      omega (arith, r .0),
-      read-shape s (b .loop .i) _ (r .1) (z .args .n) (z .pre .1) h,
-      omega (arith, m, z .pre .2, b .loop .inv .1, total-more (textureIn s) (z .args .n) recordGrids (b .loop .i) h),
-      z .pre .3,
-    )
+grid-end-requires : tie.Need-grid-end-requires Inv-loop μ-loop
+grid-end-requires c κs = search needs
+
+stamp-end-requires : tie.Need-stamp-end-requires Inv-loop μ-loop
+stamp-end-requires c κs = search needs
+
+shared-slice-read-run-fits : tie.Need-shared-slice-read-run-fits Inv-loop μ-loop
+shared-slice-read-run-fits c = search needs
+
+run-fits-requires : tie.Need-run-fits-requires Inv-loop μ-loop
+run-fits-requires c κs = search needs
 
 returns : tie.Need-returns Inv-loop μ-loop
 returns c =
-    let b = c .before .before .before .before in
-    let a = b .before .before .before .before .args in
+    let a = c .before .before .before .before .before .before .before .before .before .before .before .args in
+    let l = c .before .before .before .before .before .before .before .loop in
+    let f = sym (c .before .run-fits .ensures) ∙ not-true _ (c .if1 .taken) in
+    sym (grid-stop (a .newest .now) (a .stamps .now) (a .textures .now) (a .n) (a .grids) (a .used) (l .i) (l .grid) (l .stamp) (c .before .before .before .before .before .before .loop-test .taken) _ _ (read-grid (a .textures .now) (l .i) _ (c .before .before .before .before .before .record-at .ensures .1)) (c .before .before .before .before .grid-end .ensures) f)
+    ∙ l .inv .3
+
+shared-slice-read-run-fits-2 : tie.Need-shared-slice-read-run-fits-2 Inv-loop μ-loop
+shared-slice-read-run-fits-2 c = search needs
+
+run-fits-requires-2 : tie.Need-run-fits-requires-2 Inv-loop μ-loop
+run-fits-requires-2 c κs = search needs
+
+returns-2 : tie.Need-returns-2 Inv-loop μ-loop
+returns-2 c =
+    let a = c .before .before .before .before .before .before .before .before .before .before .before .before .before .before .args in
+    let l = c .before .before .before .before .before .before .before .before .before .before .loop in
+    let f = sym (c .before .run-fits2 .ensures) ∙ not-true _ (c .if2 .taken) in
+    sym (stamp-stop (a .newest .now) (a .stamps .now) (a .textures .now) (a .n) (a .grids) (a .used) (l .i) (l .grid) (l .stamp) (c .before .before .before .before .before .before .before .before .before .loop-test .taken) _ _ (read-stamp (a .textures .now) (l .i) _ (c .before .before .before .before .before .before .before .before .record-at .ensures .1)) (c .before .before .before .before .before .before .stamp-end .ensures) f)
+    ∙ l .inv .3
+
+mul-history-fits : tie.Need-mul-history-fits Inv-loop μ-loop
+mul-history-fits c = omega (arith, c .before .before .before .before .before .before .before .before .before .before .before .before .before .before .pre .2, c .before .before .before .before .before .before .before .before .before .before .loop .inv .1)
+
+sub-history-fits : tie.Need-sub-history-fits Inv-loop μ-loop
+sub-history-fits c = run-order _ _ _ _ (sym (c .before .before .before .before .run-fits .ensures) ∙ not-false _ (c .before .before .before .if1 .left))
+
+part-history-fits-start : tie.Need-part-history-fits-start Inv-loop μ-loop
+part-history-fits-start c = omega (arith, run-order _ _ _ _ (sym (c .before .before .before .before .run-fits .ensures) ∙ not-false _ (c .before .before .before .if1 .left)))
+
+part-history-fits-end : tie.Need-part-history-fits-end Inv-loop μ-loop
+part-history-fits-end c = omega (arith, c .before .before .before .before .before .before .before .before .before .before .before .before .before .before .pre .2, run-end _ _ _ _ (sym (c .before .before .before .before .run-fits .ensures) ∙ not-false _ (c .before .before .before .if1 .left)))
+
+mul-history-fits-2 : tie.Need-mul-history-fits-2 Inv-loop μ-loop
+mul-history-fits-2 c = omega (arith, c .before .before .before .before .before .before .before .before .before .before .before .before .before .before .before .pre .3, c .before .before .before .before .before .before .before .before .before .before .before .loop .inv .2)
+
+sub-history-fits-2 : tie.Need-sub-history-fits-2 Inv-loop μ-loop
+sub-history-fits-2 c = run-order _ _ _ _ (sym (c .before .before .run-fits2 .ensures) ∙ not-false _ (c .before .if2 .left))
+
+part-history-fits-start-2 : tie.Need-part-history-fits-start-2 Inv-loop μ-loop
+part-history-fits-start-2 c = omega (arith, run-order _ _ _ _ (sym (c .before .before .run-fits2 .ensures) ∙ not-false _ (c .before .if2 .left)))
+
+part-history-fits-end-2 : tie.Need-part-history-fits-end-2 Inv-loop μ-loop
+part-history-fits-end-2 c = omega (arith, c .before .before .before .before .before .before .before .before .before .before .before .before .before .before .before .pre .3, run-end _ _ _ _ (sym (c .before .before .run-fits2 .ensures) ∙ not-false _ (c .before .if2 .left)))
+
+history-fits-requires : tie.Need-history-fits-requires Inv-loop μ-loop
+history-fits-requires c κs =
+    let r = c .before .before .before .before .before .before .before .before .before .before .record-at .ensures in
+    (omega (arith, r .0), read-shape (c .before .before .before .before .before .before .before .before .before .before .before .before .before .before .before .before .args .textures .now) (c .before .before .before .before .before .before .before .before .before .before .before .before .loop .i) _ (r .1) (c .before .before .before .before .before .before .before .before .before .before .before .before .before .before .before .before .args .n) (c .before .before .before .before .before .before .before .before .before .before .before .before .before .before .before .before .pre .1) (c .before .before .before .before .before .before .before .before .before .before .before .loop-test .taken))
+
+returns-3 : tie.Need-returns-3 Inv-loop μ-loop
+returns-3 c =
+    let z = c .before .before .before .before .before .before .before .before .before .before .before .before .before .before .before .before .before .before in
+    let a = z .args in
     let s = a .textures .now in
-    let t = texture-read s (b .loop .i) _ (c .before .before .record-at .ensures .1) in
-    let e = sym (ap (λ (u : TextureRecord). historyFits (a .newest .now) (a .stamps .now) (u .shape) (b .loop .page) (u .history)) t) ∙ sym (c .before .history-fits .ensures) ∙ not-true _ (c .if1 .taken) in
-    sym (histories-stop (a .newest .now) (a .stamps .now) s (a .n) (b .loop .i) (b .loop .page) (c .before .before .before .loop-test .taken) e) ∙ b .loop .inv .2
-
-record-pages-requires : tie.Need-record-pages-requires Inv-loop μ-loop
-record-pages-requires c κs =
-    let b = c .before .before .before .before in
-    let z = b .before .before .before .before in
-    let r = c .before .before .record-at .ensures in
-    (omega (arith, r .0), read-shape (z .args .textures .now) (b .loop .i) _ (r .1) (z .args .n) (z .pre .1) (c .before .before .before .loop-test .taken))
-
-add-page : tie.Need-add-page Inv-loop μ-loop
-add-page c =
-    let b = c .before .before .before .before .before in
-    let z = b .before .before .before .before in
-    let s = z .args .textures .now in
-    let m = c .record-pages .ensures .1 ∙ ap recordGrids (texture-read s (b .loop .i) _ (c .before .before .before .record-at .ensures .1)) in
-    omega (arith, m, z .pre .2, b .loop .inv .1, total-more (textureIn s) (z .args .n) recordGrids (b .loop .i) (c .before .before .before .before .loop-test .taken))
+    let l = c .before .before .before .before .before .before .before .before .before .before .before .before .before .before .loop in
+    let r = c .before .before .before .before .before .before .before .before .before .before .before .before .record-at .ensures .1 in
+    let g = sym (c .before .before .before .before .before .before .before .before .run-fits .ensures) ∙ not-false _ (c .before .before .before .before .before .before .before .if1 .left) in
+    let k = sym (c .before .before .before .before .before .run-fits2 .ensures) ∙ not-false _ (c .before .before .before .before .if2 .left) in
+    let f = sym (c .before .history-fits .ensures) ∙ not-true _ (c .if3 .taken) in
+    sym (history-stop (a .newest .now) (a .stamps .now) s (a .n) (a .grids) (a .used) (l .i) (l .grid) (l .stamp) (c .before .before .before .before .before .before .before .before .before .before .before .before .before .loop-test .taken) _ (texture-read s (l .i) _ r) _ _ _ _ (read-grid s (l .i) _ r) (read-stamp s (l .i) _ r) (c .before .before .before .before .before .before .before .before .before .before .before .grid-end .ensures) (c .before .before .before .before .before .before .before .before .before .before .stamp-end .ensures) g k (z .pre .2) (z .pre .3) f)
+    ∙ l .inv .3
 
 add-i : tie.Need-add-i Inv-loop μ-loop
 add-i c = search needs
@@ -79,23 +114,25 @@ loop-less c = search needs
 
 loop-again : tie.Need-loop-again Inv-loop μ-loop
 loop-again c =
-    let b = c .before .before .before .before .before in
-    let a = b .before .before .before .before .args in
+    let z = c .before .before .before .before .before .before .before .before .before .before .before .before .before .before .before .before .before .before in
+    let a = z .args in
     let s = a .textures .now in
-    let t = texture-read s (b .loop .i) _ (c .before .before .before .record-at .ensures .1) in
-    let h = c .before .before .before .before .loop-test .taken in
-    let m = c .record-pages .ensures .1 ∙ ap recordGrids t in
-    let e = sym (ap (λ (u : TextureRecord). historyFits (a .newest .now) (a .stamps .now) (u .shape) (b .loop .page) (u .history)) t) ∙ sym (c .before .before .history-fits .ensures) ∙ not-false _ (c .before .if1 .left) in (
+    let l = c .before .before .before .before .before .before .before .before .before .before .before .before .before .before .loop in
+    let r = c .before .before .before .before .before .before .before .before .before .before .before .before .record-at .ensures .1 in
+    let g = sym (c .before .before .before .before .before .before .before .before .run-fits .ensures) ∙ not-false _ (c .before .before .before .before .before .before .before .if1 .left) in
+    let k = sym (c .before .before .before .before .before .run-fits2 .ensures) ∙ not-false _ (c .before .before .before .before .if2 .left) in
+    let f = sym (c .before .history-fits .ensures) ∙ not-false _ (c .if3 .left) in (
       search needs,
-      omega (arith, m, b .loop .inv .1, total-more (textureIn s) (a .n) recordGrids (b .loop .i) h),
-      sym (histories-more (a .newest .now) (a .stamps .now) s (a .n) (b .loop .i) (b .loop .page) h _ m e) ∙ b .loop .inv .2,
+      run-end _ _ _ _ g,
+      run-end _ _ _ _ k,
+      sym (walk-more (a .newest .now) (a .stamps .now) s (a .n) (a .grids) (a .used) (l .i) (l .grid) (l .stamp) (c .before .before .before .before .before .before .before .before .before .before .before .before .before .loop-test .taken) _ (texture-read s (l .i) _ r) _ _ _ _ (read-grid s (l .i) _ r) (read-stamp s (l .i) _ r) (c .before .before .before .before .before .before .before .before .before .before .before .grid-end .ensures) (c .before .before .before .before .before .before .before .before .before .before .stamp-end .ensures) g k (z .pre .2) (z .pre .3) f) ∙ l .inv .3,
     )
 
-returns-2 : tie.Need-returns-2 Inv-loop μ-loop
-returns-2 c =
-    let b = c .before in
-    let a = b .before .before .before .before .args in
-    sym (histories-done (a .newest .now) (a .stamps .now) (a .textures .now) (a .n) (b .loop .i) (b .loop .page) (c .loop-test .left)) ∙ b .loop .inv .2
+returns-4 : tie.Need-returns-4 Inv-loop μ-loop
+returns-4 c =
+    let a = c .before .before .before .before .before .args in
+    let l = c .before .loop in
+    sym (walk-done (a .newest .now) (a .stamps .now) (a .textures .now) (a .n) (a .grids) (a .used) (l .i) (l .grid) (l .stamp) (c .loop-test .left)) ∙ l .inv .3
 
 pub histories-fit-spec : {M : Type 1} → statement M
 histories-fit-spec =
@@ -105,11 +142,25 @@ histories-fit-spec =
     μ-loop
     loop-holds
     record-at-requires
-    history-fits-requires
+    grid-end-requires
+    stamp-end-requires
+    shared-slice-read-run-fits
+    run-fits-requires
     returns
-    record-pages-requires
-    add-page
+    shared-slice-read-run-fits-2
+    run-fits-requires-2
+    returns-2
+    mul-history-fits
+    sub-history-fits
+    part-history-fits-start
+    part-history-fits-end
+    mul-history-fits-2
+    sub-history-fits-2
+    part-history-fits-start-2
+    part-history-fits-end-2
+    history-fits-requires
+    returns-3
     add-i
     loop-less
     loop-again
-    returns-2)
+    returns-4)

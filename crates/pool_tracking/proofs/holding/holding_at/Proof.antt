@@ -1,6 +1,6 @@
 -- `holding_at` meets its contract: each number is read by itself. Assumes nothing.
-use mathlib.Core.Path.{_≡_, ap, ap₂}
-use Prim.Native.Nat.{ℕ, _-_}
+use mathlib.Core.Path.{ap}
+use Prim.Native.Nat.{_-_}
 use native.Mathlib.Omega.{arith}
 use Rattle.pool_records.specs.declared.texture.TextureRecord.{TextureRecord}
 use Rattle.pool_tracking.specs.Holdings.{holdingAt}

@@ -2,7 +2,6 @@
 use mathlib.Core.Path.{refl}
 use native.Mathlib.Omega.{arith}
 use Rattle.pool_tracking.proofs.Renewed.{readable, renewable, left-renewed}
-use borrow.Author.Needs.{needs}
 use Rattle.pool_tracking.proofs.renewal.renew_tracking.Statement.{statement}
 use Rattle.pool_tracking.proofs.renewal.renew_tracking.Tie as tie
 

@@ -11,11 +11,11 @@ add-t4 c = omega (arith, c .before .before .pre)
 add-t5 : tie.Need-add-t5
 add-t5 c = omega (arith, c .before .before .before .before .pre)
 
-add-t6 : tie.Need-add-t6
-add-t6 c = omega (arith, c .before .before .before .before .before .before .pre)
+sub-t6 : tie.Need-sub-t6
+sub-t6 c = omega (arith, c .before .before .before .before .before .pre)
 
-sub-t7 : tie.Need-sub-t7
-sub-t7 c = omega (arith, c .before .before .before .before .before .before .before .pre)
+add-t7 : tie.Need-add-t7
+add-t7 c = omega (arith, c .before .before .before .before .before .before .pre)
 
 add-t8 : tie.Need-add-t8
 add-t8 c = omega (arith, c .before .before .before .before .before .before .before .before .pre)
@@ -38,4 +38,4 @@ returns c = refl
 
 pub pass-on-spec : {M : Type 1} → statement M
 pass-on-spec =
-    tie.close (tie.spec add-t4 add-t5 add-t6 sub-t7 add-t8 add-t9 add-t10 mul-t11 add-t12 returns)
+    tie.close (tie.spec add-t4 add-t5 sub-t6 add-t7 add-t8 add-t9 add-t10 mul-t11 add-t12 returns)

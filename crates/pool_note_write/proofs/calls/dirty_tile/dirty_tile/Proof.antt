@@ -1,7 +1,6 @@
 -- `dirty_tile` meets its contract, case by case. Assumes nothing.
 use mathlib.Core.Path.{sym, ap, _∙_}
-use Prim.Native.Nat.{ℕ, _≤_}
-use native.Mathlib.Omega.{arith}
+use Prim.Native.Nat.{ℕ}
 use borrow.Author.Tests.{not-true, not-false}
 use borrow.Author.Needs.{needs}
 use Rattle.pool_rules.specs.Histories.{inShape}
@@ -11,8 +10,8 @@ use Rattle.pool_memory.specs.Lent.{Lent, lent}
 use Rattle.pool_memory.proofs.Fits.{Fits}
 use Rattle.pool_memory.proofs.FromPool.{pool-fits}
 use Rattle.pool_memory.proofs.Stays.{ids-ascend, textures-fit}
-use Rattle.pool_note_write.specs.History.{pagesEnd, HistoryAt}
-use Rattle.pool_note_write.proofs.AtPlace.{Recording, told, history-here, pages-here}
+use Rattle.pool_note_write.specs.History.{HistoryAt}
+use Rattle.pool_note_write.proofs.AtPlace.{Recording, told, history-here}
 use Rattle.pool_note_write.proofs.QueryCases.{dirty-none, dirty-outside, dirty-inside}
 use Rattle.pool_note_write.proofs.calls.dirty_tile.dirty_tile.Statement.{statement}
 use Rattle.pool_note_write.proofs.calls.dirty_tile.dirty_tile.Tie as tie
@@ -38,11 +37,8 @@ module _ (w : tie.After-enum-told) where
       told (here start) (fit start) (start .args .id) (w .before .before .before .find-texture .result) (w .before .before .before .find-texture .ensures) (w .before .before .history-at .result) (Writes count)
       (w .before .before .history-at .ensures) (w .enum-told .given .1)
 
-  held : HistoryAt (start .args .textures .now) (w .before .before .before .find-texture .result)
+  held : HistoryAt (start .args .textures .now) (start .args .stamps .now) (w .before .before .before .find-texture .result)
   held = history-here (here start) (fit start) (start .args .id) (w .before .before .before .find-texture .result) (w .before .before .before .find-texture .ensures) count recording
-
-  inside : pagesEnd (start .args .textures .now) (w .before .before .before .find-texture .result) ≤ start .args .pool .grids
-  inside = pages-here (here start) (fit start) (start .args .id) (w .before .before .before .find-texture .result) (w .before .before .before .find-texture .ensures) count recording
 
 find-texture-requires : tie.Need-find-texture-requires
 find-texture-requires c κs = let s = c .before .before .before .before .before .before in (textures-fit (here s) (fit s), ids-ascend (here s) (fit s))
@@ -80,10 +76,8 @@ returns-2 c =
 dirty-subresource-requires : tie.Need-dirty-subresource-requires
 dirty-subresource-requires c κs =
     let w = c .before .before .before in
-    let a = start w .args in
-    let f = fit (start w) in (
+    let a = start w .args in (
       held w,
-      omega (arith, inside w, f .pages, f .stamps),
       ap (λ (t : TextureRecord). inShape (t .shape) (a .slice) (a .level)) (sym (c .before .before .texture-at .ensures)) ∙ sym (c .before .in-shape .ensures) ∙ not-false _ (c .if1 .left),
     )
 

@@ -1,9 +1,12 @@
 -- `note_write` meets its contract, case by case. Assumes nothing.
 use mathlib.Core.Path.{sym, ap, _∙_}
-use Prim.Native.Nat.{ℕ, _≤_}
+use Prim.Native.Nat.{ℕ, _+_, _≤_}
 use native.Mathlib.Omega.{arith}
 use borrow.Author.Tests.{not-true, not-false}
+use lib.ListN.{length}
 use borrow.Author.Needs.{needs}
+use Rattle.pool_rules.specs.Model.{gridCount}
+use Rattle.pool_records.specs.Texture.{textureIn}
 use Rattle.pool_rules.specs.Histories.{inShape}
 use Rattle.pool_records.specs.declared.recorded.Recorded.the-variants.{Writes, NoHistory}
 use Rattle.pool_records.specs.declared.texture.TextureRecord.{TextureRecord}
@@ -11,9 +14,11 @@ use Rattle.pool_memory.specs.Lent.{Lent, lent}
 use Rattle.pool_memory.proofs.Fits.{Fits}
 use Rattle.pool_memory.proofs.FromPool.{pool-fits}
 use Rattle.pool_memory.proofs.Stays.{ids-ascend, textures-fit}
-use Rattle.pool_note_write.specs.History.{pagesEnd, HistoryAt}
-use Rattle.pool_note_write.specs.Counts.{withPages}
-use Rattle.pool_note_write.proofs.AtPlace.{Recording, told, history-here, pages-here}
+use Rattle.pool_note_write.specs.History.{HistoryAt}
+use Rattle.pool_note_write.specs.Dropped.{CanDrop}
+use Rattle.pool_note_write.specs.Counts.{withUsed}
+use Rattle.pool_note_write.proofs.AtPlace.{Recording, told, tracked-here, history-here, grids-here}
+use Rattle.pool_note_write.proofs.Dropped.{usedIn, can-drop}
 use Rattle.pool_note_write.proofs.WriteCases.{write-unrecorded, left-outside, left-spent, left-inside}
 use Rattle.pool_note_write.proofs.calls.note_write.note_write.Statement.{statement}
 use Rattle.pool_note_write.proofs.calls.note_write.note_write.Tie as tie
@@ -39,11 +44,19 @@ module _ (w : tie.After-known-told) where
       told (here start) (fit start) (start .args .id) (w .before .before .before .before .before .find-texture .result) (w .before .before .before .before .before .find-texture .ensures) (w .before .before .before .history-at .result) (Writes count)
       (w .before .before .before .history-at .ensures) (w .before .history .given .1)
 
-  held : HistoryAt (start .args .textures .now) (w .before .before .before .before .before .find-texture .result)
+  held : HistoryAt (start .args .textures .now) (start .args .stamps .now) (w .before .before .before .before .before .find-texture .result)
   held = history-here (here start) (fit start) (start .args .id) (w .before .before .before .before .before .find-texture .result) (w .before .before .before .before .before .find-texture .ensures) count recording
 
-  inside : pagesEnd (start .args .textures .now) (w .before .before .before .before .before .find-texture .result) ≤ start .args .pool .grids
-  inside = pages-here (here start) (fit start) (start .args .id) (w .before .before .before .before .before .find-texture .result) (w .before .before .before .before .before .find-texture .ensures) count recording
+  inside : textureIn (start .args .textures .now) (w .before .before .before .before .before .find-texture .result) .grid
+      + gridCount (textureIn (start .args .textures .now) (w .before .before .before .before .before .find-texture .result) .shape)
+      ≤ length (start .args .newest .now)
+  inside = grids-here (here start) (fit start) (start .args .id) (w .before .before .before .before .before .find-texture .result) (w .before .before .before .before .before .find-texture .ensures) count recording
+
+  droppable : CanDrop (start .args .textures .now) (start .args .newest .now) (start .args .stamps .now) (start .args .pool .tracked) (usedIn (here start))
+      (w .before .before .before .before .before .find-texture .result)
+  droppable =
+      can-drop (here start) (fit start) (w .before .before .before .before .before .find-texture .result)
+      (tracked-here (here start) (fit start) (start .args .id) (w .before .before .before .before .before .find-texture .result) (w .before .before .before .before .before .find-texture .ensures) count recording)
 
 find-texture-requires : tie.Need-find-texture-requires
 find-texture-requires c κs = let s = c .before .before .before .before .before .before .before in (textures-fit (here s) (fit s), ids-ascend (here s) (fit s))
@@ -77,10 +90,7 @@ in-shape-requires : tie.Need-in-shape-requires
 in-shape-requires c κs = search needs
 
 drop-history-requires : tie.Need-drop-history-requires
-drop-history-requires c κs = let w = c .before .before .before .before .before .before .before in let f = fit (start w) in (held w, inside w, f .pages, omega (arith, f .pages, f .stamps))
-
-set-history-requires : tie.Need-set-history-requires
-set-history-requires c κs = (held (c .before .before .before .before .before .before .before .before .before .before .before .before .before) .there, omega arith)
+drop-history-requires c κs = droppable (c .before .before .before .before .before .before .before)
 
 same-length-2 : tie.Need-same-length-2
 same-length-2 c = search needs
@@ -93,13 +103,13 @@ same-length-4 c = search needs
 
 returns-2 : tie.Need-returns-2
 returns-2 c =
-    let w = c .before .before .before .before .before .before .before .before .before .before .before .before .before .before .before .before in
+    let w = c .before .before .before .before .before .before .before .before .before .before .before .before .before .before in
     let s = start w in
     let a = s .args in
-    let d = c .before .before .before .before .before .before .before .before .drop-history in
-    left-outside (here s) (s .pre) (a .id) (a .slice) (a .level) (a .rect) (count w) (recording w) (c .before .before .before .before .before .before .before .before .before .before .before .before .before .before .before .before .before .before .before .before .before .find-texture .result) (c .before .before .before .before .before .before .before .before .before .before .before .before .before .before .before .before .before .before .before .before .before .find-texture .ensures) (c .before .before .before .before .before .before .before .before .before .before .before .before .before .before .texture-at .result) (c .before .before .before .before .before .before .before .before .before .before .before .before .before .before .texture-at .ensures)
-    (sym (c .before .before .before .before .before .before .before .before .before .before .before .before .before .in-shape .ensures) ∙ not-true _ (c .before .before .before .before .before .before .before .before .before .before .before .before .if1 .taken)) _
-    (λ j. lent (withPages (d .ensures .0 j) (a .pool)) (a .book) (c .before .before .set-history .ensures j) (a .retiring .now) (a .doomed .now) (a .spares .now) (d .ensures .1 j) (d .ensures .2 j))
+    let d = c .before .before .before .before .before .before .drop-history in
+    left-outside (here s) (s .pre) (a .id) (a .slice) (a .level) (a .rect) (count w) (recording w) (c .before .before .before .before .before .before .before .before .before .before .before .before .before .before .before .before .before .before .before .find-texture .result) (c .before .before .before .before .before .before .before .before .before .before .before .before .before .before .before .before .before .before .before .find-texture .ensures) (c .before .before .before .before .before .before .before .before .before .before .before .before .texture-at .result) (c .before .before .before .before .before .before .before .before .before .before .before .before .texture-at .ensures)
+    (sym (c .before .before .before .before .before .before .before .before .before .before .before .in-shape .ensures) ∙ not-true _ (c .before .before .before .before .before .before .before .before .before .before .if1 .taken)) _
+    (λ j. lent (withUsed (d .ensures .0 j) (d .ensures .1 j) (a .pool)) (a .book) (d .ensures .2 j) (a .retiring .now) (a .doomed .now) (a .spares .now) (d .ensures .3 j) (d .ensures .4 j))
 
 same-counts-requires-2 : tie.Need-same-counts-requires-2
 same-counts-requires-2 c κs = search needs
@@ -121,19 +131,17 @@ add-stamp-subresource c = search needs
 stamp-subresource-requires : tie.Need-stamp-subresource-requires
 stamp-subresource-requires c κs =
     let w = c .before .before .before .before .before .before .before .before in
-    let a = start w .args in
-    let f = fit (start w) in (
+    let a = start w .args in (
       held w,
-      omega (arith, inside w, f .pages),
-      omega (arith, f .stamps),
+      inside w,
       ap (λ (t : TextureRecord). inShape (t .shape) (a .slice) (a .level)) (sym (c .before .before .before .before .before .before .texture-at .ensures)) ∙ sym (c .before .before .before .before .before .in-shape .ensures) ∙ not-false _ (c .before .before .before .before .if1 .left),
     )
 
-add-t46 : tie.Need-add-t46
-add-t46 c = search needs
+add-t44 : tie.Need-add-t44
+add-t44 c = search needs
 
-set-history-requires-2 : tie.Need-set-history-requires-2
-set-history-requires-2 c κs = (held (c .before .before .before .before .before .before .before .before .before .before .before .before .before .before) .there, omega (arith, c .before .before .before .before .before .before .before .before .before .if2 .left))
+set-history-requires : tie.Need-set-history-requires
+set-history-requires c κs = (held (c .before .before .before .before .before .before .before .before .before .before .before .before .before .before) .there, omega (arith, c .before .before .before .before .before .before .before .before .before .if2 .left))
 
 same-length-6 : tie.Need-same-length-6
 same-length-6 c = search needs
@@ -152,7 +160,7 @@ returns-4 c =
     let d = c .before .before .before .before .before .before .before .before .stamp-subresource in
     left-inside (here s) (s .pre) (a .id) (a .slice) (a .level) (a .rect) (count w) (recording w) (c .before .before .before .before .before .before .before .before .before .before .before .before .before .before .before .before .before .before .before .before .before .before .find-texture .result) (c .before .before .before .before .before .before .before .before .before .before .before .before .before .before .before .before .before .before .before .before .before .before .find-texture .ensures) (c .before .before .before .before .before .before .before .before .before .before .before .before .before .before .before .texture-at .result) (c .before .before .before .before .before .before .before .before .before .before .before .before .before .before .before .texture-at .ensures)
     (sym (c .before .before .before .before .before .before .before .before .before .before .before .before .before .before .in-shape .ensures) ∙ not-false _ (c .before .before .before .before .before .before .before .before .before .before .before .before .before .if1 .left)) (c .before .before .before .before .before .before .before .before .before .before .before .before .if2 .left) _
-    (λ j. lent (a .pool) (a .book) (c .before .before .set-history2 .ensures j) (a .retiring .now) (a .doomed .now) (a .spares .now) (d .ensures .0 j) (d .ensures .1 j))
+    (λ j. lent (a .pool) (a .book) (c .before .before .set-history .ensures j) (a .retiring .now) (a .doomed .now) (a .spares .now) (d .ensures .0 j) (d .ensures .1 j))
 
 pub note-write-spec : {M : Type 1} → statement M
 note-write-spec =
@@ -168,7 +176,6 @@ note-write-spec =
     texture-at-requires
     in-shape-requires
     drop-history-requires
-    set-history-requires
     same-length-2
     same-length-3
     same-length-4
@@ -178,8 +185,8 @@ note-write-spec =
     returns-3
     add-stamp-subresource
     stamp-subresource-requires
-    add-t46
-    set-history-requires-2
+    add-t44
+    set-history-requires
     same-length-6
     same-length-7
     same-length-8

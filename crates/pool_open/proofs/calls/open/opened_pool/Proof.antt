@@ -12,7 +12,8 @@ unfolding openedPool
 returns c = λ i. record {
   tracked = 0;
   kept = 0;
-  pages = 0;
+  grids = 0;
+  stamps = 0;
   head = 0;
   popped = 0;
   queued = 0;

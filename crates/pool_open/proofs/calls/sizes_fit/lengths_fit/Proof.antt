@@ -1,14 +1,18 @@
 -- `lengths_fit` meets its contract. Assumes nothing.
-use mathlib.Core.Path.{refl, sym}
-use Rattle.base_blocks.specs.Lists.{tests, after}
-use Rattle.pool_open.specs.Lengths.{lengthsFit}
-use Rattle.pool_open.proofs.Sizes.{too-many-pages}
+use mathlib.Core.Path.{sym}
+use Rattle.pool_open.proofs.Sizes.{too-many-textures, lengths-test}
 use borrow.Author.Needs.{needs}
 use Rattle.pool_open.proofs.calls.sizes_fit.lengths_fit.Statement.{statement}
 use Rattle.pool_open.proofs.calls.sizes_fit.lengths_fit.Tie as tie
 
 returns : tie.Need-returns
-returns c = sym (too-many-pages _ _ _ _ _ _ (c .if1 .taken))
+returns c = sym (too-many-textures _ _ _ _ _ _ (c .if1 .taken))
+
+mul-smaller : tie.Need-mul-smaller
+mul-smaller c = search needs
+
+smaller-requires : tie.Need-smaller-requires
+smaller-requires c κs = search needs
 
 mul-result : tie.Need-mul-result
 mul-result c = search needs
@@ -26,10 +30,18 @@ mul-result-5 : tie.Need-mul-result-5
 mul-result-5 c = search needs
 
 returns-2 : tie.Need-returns-2
-unfolding lengthsFit tests after
-returns-2 c = refl
+returns-2 c = lengths-test _ _ _ _ _ _ _ (c .smaller .ensures)
 
 pub lengths-fit-spec : {M : Type 1} → statement M
 lengths-fit-spec =
     tie.close
-    (tie.spec returns mul-result mul-result-2 mul-result-3 mul-result-4 mul-result-5 returns-2)
+    (tie.spec
+    returns
+    mul-smaller
+    smaller-requires
+    mul-result
+    mul-result-2
+    mul-result-3
+    mul-result-4
+    mul-result-5
+    returns-2)

@@ -15,7 +15,7 @@ use Rattle.pool_records.specs.RecordConstants.{textureStride}
 returns : tie.Need-returns
 returns c =
     let a = c .before .before .before .args in
-    put-none (a .textures .now) (a .to) (a .i) (a .look) (c .if1 .taken)
+    put-none (a .textures .now) (a .i) (a .look) (a .pass) (c .if1 .taken)
 
 sub-left : tie.Need-sub-left
 sub-left c = omega (arith, c .before .before .before .before .pre)
@@ -46,17 +46,17 @@ slice-read-if2-2 c = search needs
 
 returns-2 : tie.Need-returns-2
 returns-2 c =
-    let o = c .before .before .before .before .before in
+    let o = c .before .before .before .before .before .before .before .before .before .before in
     let b = o .before .before .before in
     let a = b .args in
-    put-same (a .textures .now) (a .to) (a .i) (a .look) (o .if1 .left) (b .pre .0) (c .if2 .taken)
+    put-same (a .textures .now) (a .i) (a .look) (a .pass) (o .if1 .left) (b .pre .0) (b .pre .4) (b .pre .5) (c .if2 .taken)
 
 texture-at-requires : tie.Need-texture-at-requires
 texture-at-requires c κs = search needs
 
 put-texture-requires : tie.Need-put-texture-requires
 put-texture-requires c κs =
-    let b = c .before .before .before .before .before .before .before .before .before .before .before in
+    let b = c .before .before .before .before .before .before .before .before .before .before .before .before .before .before .before .before in
     (b .pre .1, rw (c .before .texture-at .ensures) (b .pre .2))
 
 same-length : tie.Need-same-length
@@ -65,11 +65,12 @@ same-length c = search needs
 returns-3 : tie.Need-returns-3
 unfolding lookedRecord
 returns-3 c =
-    let o = c .before .before .before .before .before .before .before .before .before .before .before in
+    let o = c .before .before .before .before .before .before .before .before .before .before .before .before .before .before .before .before in
     let a = o .before .before .before .args in
     c .before .before .put-texture .ensures
-    ∙ ap (λ (t : TextureRecord). sets (a .textures .now) (textureStride * a .to) (writeTexture (lookedRecord (a .look) t))) (c .before .before .before .before .texture-at .ensures)
-    ∙ put-some (a .textures .now) (a .to) (a .i) (a .look) (o .if1 .left)
+    ∙ ap (λ (t : TextureRecord). sets (a .textures .now) (textureStride * a .pass .tracked) (writeTexture (lookedRecord (a .look) (a .pass) t)))
+    (c .before .before .before .before .texture-at .ensures)
+    ∙ put-some (a .textures .now) (a .i) (a .look) (a .pass) (o .if1 .left)
 
 pub put-looked-spec : {M : Type 1} → statement M
 put-looked-spec =

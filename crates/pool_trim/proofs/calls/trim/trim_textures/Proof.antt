@@ -8,8 +8,9 @@ use Rattle.pool_memory.specs.declared.book.PacingBook.{PacingBook}
 use Rattle.pool_memory.specs.Lent.{lent}
 use Rattle.pool_memory.specs.IsPool.{isPool}
 use Rattle.pool_memory.proofs.FromPool.{pool-fits}
-use Rattle.pool_trim.proofs.Trimmed.{Sofar, sofar-start, seen, sofar-next}
-use Rattle.pool_trim.proofs.TrimCalls.{look-fits, push-fits, put-fits, pass-fits, counts-fit, pass-done, textures-most}
+use Rattle.pool_trim.proofs.Sofar.{Sofar, sofar-start}
+use Rattle.pool_trim.proofs.Trimmed.{seen, sofar-next}
+use Rattle.pool_trim.proofs.TrimCalls.{look-fits, push-fits, put-fits, history-moves, pass-fits, counts-fit, pass-done, textures-most}
 use Rattle.pool_trim.proofs.calls.trim.trim_textures.Statement.{statement}
 use Rattle.pool_trim.proofs.calls.trim.trim_textures.Tie as tie
 
@@ -60,8 +61,7 @@ push-spares-requires c κs =
     let f = pool-fits l (z .pre) in
     let s = b .loop .inv (a .book) (z .pre) in
     let h = o .before .before .before .loop-test .taken in
-    let n = seen l (a .current) (b .loop .i) (b .loop .pass) _ _ _ _ _ f h s (o .look-at .result) (o .look-at .ensures) in
-    push-fits l f (b .loop .i) h (a .current) (b .loop .pass) _ _ _ _ _ s (o .look-at .result) n
+    push-fits l f (b .loop .i) h (a .current) (b .loop .pass) _ _ _ _ _ s (o .look-at .result) (o .look-at .ensures)
 
 mul-move-down : tie.Need-mul-move-down Inv-loop μ-loop
 mul-move-down c =
@@ -89,22 +89,9 @@ add-move-down c =
     let n = seen l (a .current) (b .loop .i) (b .loop .pass) _ _ _ _ _ f h s (o .look-at .result) (o .look-at .ensures) in
     omega (arith, n .few, n .spares, f .versions, f .most)
 
-sub-move-down : tie.Need-sub-move-down Inv-loop μ-loop
-sub-move-down c =
-    let o = c .before .before .before .before .before .before .before .before .before .before .before in
-    let b = o .before .before .before .before in
-    let z = b .before .before .before .before .before .before .before .before in
-    let a = z .args in
-    let l = lent (a .pool) (a .book) (a .textures .now) (a .retiring .now) (a .doomed .now) (a .spares .now) (a .newest .now) (a .stamps .now) in
-    let f = pool-fits l (z .pre) in
-    let s = b .loop .inv (a .book) (z .pre) in
-    let h = o .before .before .before .loop-test .taken in
-    let n = seen l (a .current) (b .loop .i) (b .loop .pass) _ _ _ _ _ f h s (o .look-at .result) (o .look-at .ensures) in
-    omega (arith, s .all)
-
 mul-move-down-2 : tie.Need-mul-move-down-2 Inv-loop μ-loop
 mul-move-down-2 c =
-    let o = c .before .before .before .before .before .before .before .before .before .before .before in
+    let o = c .before .before .before .before .before .before .before .before .before .before in
     let b = o .before .before .before .before in
     let z = b .before .before .before .before .before .before .before .before in
     let a = z .args in
@@ -115,9 +102,9 @@ mul-move-down-2 c =
     let n = seen l (a .current) (b .loop .i) (b .loop .pass) _ _ _ _ _ f h s (o .look-at .result) (o .look-at .ensures) in
     omega (arith, n .few, n .spares, f .versions, f .most)
 
-sub-move-down-2 : tie.Need-sub-move-down-2 Inv-loop μ-loop
-sub-move-down-2 c =
-    let o = c .before .before .before .before .before .before .before .before .before .before .before .before in
+sub-move-down : tie.Need-sub-move-down Inv-loop μ-loop
+sub-move-down c =
+    let o = c .before .before .before .before .before .before .before .before .before .before .before in
     let b = o .before .before .before .before in
     let z = b .before .before .before .before .before .before .before .before in
     let a = z .args in
@@ -130,7 +117,7 @@ sub-move-down-2 c =
 
 mul-move-down-3 : tie.Need-mul-move-down-3 Inv-loop μ-loop
 mul-move-down-3 c =
-    let o = c .before .before .before .before .before .before .before .before .before .before .before .before in
+    let o = c .before .before .before .before .before .before .before .before .before .before .before in
     let b = o .before .before .before .before in
     let z = b .before .before .before .before .before .before .before .before in
     let a = z .args in
@@ -143,7 +130,7 @@ mul-move-down-3 c =
 
 move-down-requires : tie.Need-move-down-requires Inv-loop μ-loop
 move-down-requires c κs =
-    let o = c .before .before .before .before .before .before .before .before .before .before .before .before in
+    let o = c .before .before .before .before .before .before .before .before .before .before .before in
     let b = o .before .before .before .before in
     let z = b .before .before .before .before .before .before .before .before in
     let a = z .args in
@@ -152,11 +139,11 @@ move-down-requires c κs =
     let s = b .loop .inv (a .book) (z .pre) in
     let h = o .before .before .before .loop-test .taken in
     let n = seen l (a .current) (b .loop .i) (b .loop .pass) _ _ _ _ _ f h s (o .look-at .result) (o .look-at .ensures) in
-    omega (arith, s .all, n .few, n .spares, f .versions, f .spares, s .S-long)
+    (omega (arith, s .all), omega (arith, n .few, n .spares, f .versions, f .spares, s .S-long))
 
-sub-move-pages : tie.Need-sub-move-pages Inv-loop μ-loop
-sub-move-pages c =
-    let o = c .before .before .before .before .before .before .before .before .before .before .before .before .before .before .before .before .before .before in
+move-history-requires : tie.Need-move-history-requires Inv-loop μ-loop
+move-history-requires c κs =
+    let o = c .before .before .before .before .before .before .before .before .before .before .before .before .before .before .before .before in
     let b = o .before .before .before .before in
     let z = b .before .before .before .before .before .before .before .before in
     let a = z .args in
@@ -164,25 +151,11 @@ sub-move-pages c =
     let f = pool-fits l (z .pre) in
     let s = b .loop .inv (a .book) (z .pre) in
     let h = o .before .before .before .loop-test .taken in
-    let n = seen l (a .current) (b .loop .i) (b .loop .pass) _ _ _ _ _ f h s (o .look-at .result) (o .look-at .ensures) in
-    s .low
-
-move-pages-requires : tie.Need-move-pages-requires Inv-loop μ-loop
-move-pages-requires c κs =
-    let o = c .before .before .before .before .before .before .before .before .before .before .before .before .before .before .before .before .before .before in
-    let b = o .before .before .before .before in
-    let z = b .before .before .before .before .before .before .before .before in
-    let a = z .args in
-    let l = lent (a .pool) (a .book) (a .textures .now) (a .retiring .now) (a .doomed .now) (a .spares .now) (a .newest .now) (a .stamps .now) in
-    let f = pool-fits l (z .pre) in
-    let s = b .loop .inv (a .book) (z .pre) in
-    let h = o .before .before .before .loop-test .taken in
-    let n = seen l (a .current) (b .loop .i) (b .loop .pass) _ _ _ _ _ f h s (o .look-at .result) (o .look-at .ensures) in
-    (omega (arith, s .low, n .paged, n .pages, f .pages, s .N-long), omega (arith, s .low, n .paged, n .pages, f .pages, f .stamps, s .P-long))
+    history-moves l f (b .loop .i) h (a .current) (b .loop .pass) _ _ _ _ _ s (o .look-at .result) (o .look-at .ensures)
 
 put-looked-requires : tie.Need-put-looked-requires Inv-loop μ-loop
 put-looked-requires c κs =
-    let o = c .before .before .before .before .before .before .before .before .before .before .before .before .before .before .before .before .before .before .before .before .before .before .before .before in
+    let o = c .before .before .before .before .before .before .before .before .before .before .before .before .before .before .before .before .before .before .before .before .before .before in
     let b = o .before .before .before .before in
     let z = b .before .before .before .before .before .before .before .before in
     let a = z .args in
@@ -190,12 +163,11 @@ put-looked-requires c κs =
     let f = pool-fits l (z .pre) in
     let s = b .loop .inv (a .book) (z .pre) in
     let h = o .before .before .before .loop-test .taken in
-    let n = seen l (a .current) (b .loop .i) (b .loop .pass) _ _ _ _ _ f h s (o .look-at .result) (o .look-at .ensures) in
-    put-fits l f (b .loop .i) h (a .current) (b .loop .pass) _ _ _ _ _ s (o .look-at .result) n
+    put-fits l f (b .loop .i) h (a .current) (b .loop .pass) _ _ _ _ _ s (o .look-at .result) (o .look-at .ensures)
 
 pass-on-requires : tie.Need-pass-on-requires Inv-loop μ-loop
 pass-on-requires c κs =
-    let o = c .before .before .before .before .before .before .before .before .before .before .before .before .before .before .before .before .before .before .before .before .before .before .before .before .before .before .before in
+    let o = c .before .before .before .before .before .before .before .before .before .before .before .before .before .before .before .before .before .before .before .before .before .before .before .before .before in
     let b = o .before .before .before .before in
     let z = b .before .before .before .before .before .before .before .before in
     let a = z .args in
@@ -203,12 +175,11 @@ pass-on-requires c κs =
     let f = pool-fits l (z .pre) in
     let s = b .loop .inv (a .book) (z .pre) in
     let h = o .before .before .before .loop-test .taken in
-    let n = seen l (a .current) (b .loop .i) (b .loop .pass) _ _ _ _ _ f h s (o .look-at .result) (o .look-at .ensures) in
-    pass-fits l f (b .loop .i) h (a .current) (b .loop .pass) _ _ _ _ _ s (o .look-at .result) n
+    pass-fits l f (b .loop .i) h (a .current) (b .loop .pass) _ _ _ _ _ s (o .look-at .result) (o .look-at .ensures)
 
 add-i : tie.Need-add-i Inv-loop μ-loop
 add-i c =
-    let o = c .before .before .before .before .before .before .before .before .before .before .before .before .before .before .before .before .before .before .before .before .before .before .before .before .before .before .before .before in
+    let o = c .before .before .before .before .before .before .before .before .before .before .before .before .before .before .before .before .before .before .before .before .before .before .before .before .before .before in
     let b = o .before .before .before .before in
     let z = b .before .before .before .before .before .before .before .before in
     let a = z .args in
@@ -216,12 +187,11 @@ add-i c =
     let f = pool-fits l (z .pre) in
     let s = b .loop .inv (a .book) (z .pre) in
     let h = o .before .before .before .loop-test .taken in
-    let n = seen l (a .current) (b .loop .i) (b .loop .pass) _ _ _ _ _ f h s (o .look-at .result) (o .look-at .ensures) in
-    omega (arith, h, f .tracked, s .at, textures-most l f)
+    omega (arith, h, f .tracked, textures-most l f)
 
 loop-less : tie.Need-loop-less Inv-loop μ-loop
 loop-less c =
-    let o = c .before .before .before .before .before .before .before .before .before .before .before .before .before .before .before .before .before .before .before .before .before .before .before .before .before .before .before .before in
+    let o = c .before .before .before .before .before .before .before .before .before .before .before .before .before .before .before .before .before .before .before .before .before .before .before .before .before .before in
     let b = o .before .before .before .before in
     let z = b .before .before .before .before .before .before .before .before in
     let a = z .args in
@@ -229,26 +199,25 @@ loop-less c =
     let f = pool-fits l (z .pre) in
     let s = b .loop .inv (a .book) (z .pre) in
     let h = o .before .before .before .loop-test .taken in
-    let n = seen l (a .current) (b .loop .i) (b .loop .pass) _ _ _ _ _ f h s (o .look-at .result) (o .look-at .ensures) in
     omega (arith, h)
 
 loop-again : tie.Need-loop-again Inv-loop μ-loop
 loop-again c =
-    let o = c .before .before .before .before .before .before .before .before .before .before .before .before .before .before .before .before .before .before .before .before .before .before .before .before .before .before .before .before in
+    let o = c .before .before .before .before .before .before .before .before .before .before .before .before .before .before .before .before .before .before .before .before .before .before .before .before .before .before in
     let b = o .before .before .before .before in
     let z = b .before .before .before .before .before .before .before .before in
     let a = z .args in
     let h = o .before .before .before .loop-test .taken in
-    let down = c .before .before .before .before .before .before .before .before .before .before .before .before .before .before .before in
-    let paged = c .before .before .before .before .before .before .before .before .before in
+    let pushed = c .before .before .before .before .before .before .before .before .before .before .before .before .before .before .before .before .before .before .before .before .before .before in
+    let down = c .before .before .before .before .before .before .before .before .before .before .before .before .before .before in
+    let history = c .before .before .before .before .before .before .before .before .before in
     let put = c .before .before .before in
-    let pushed = c .before .before .before .before .before .before .before .before .before .before .before .before .before .before .before .before .before .before .before .before .before .before .before .before in
     λ book e.
     let l = lent (a .pool) book (a .textures .now) (a .retiring .now) (a .doomed .now) (a .spares .now) (a .newest .now) (a .stamps .now) in
     sofar-next l (a .current) (b .loop .i) (b .loop .pass) _ _ _ _ _ (pool-fits l e) h (b .loop .inv book e) (o .look-at .result) (o .look-at .ensures)
     _ _ _ _ _ _ (c .pass-on .ensures) (put .put-looked .ensures) (pushed .push-spares .ensures) (down .move-down .ensures)
-    (paged .move-pages .ensures .0) (paged .move-pages .ensures .1)
-    (put .put-looked .kept .0) (pushed .push-spares .kept .0) (down .move-down .kept .0) (paged .move-pages .kept .0) (paged .move-pages .kept .1 .0)
+    (history .move-history .ensures .0) (history .move-history .ensures .1)
+    (put .put-looked .kept .0) (pushed .push-spares .kept .0) (down .move-down .kept .0) (history .move-history .kept .0) (history .move-history .kept .1 .0)
 
 counts-after-requires : tie.Need-counts-after-requires Inv-loop μ-loop
 counts-after-requires c κs =
@@ -326,13 +295,11 @@ trim-textures-spec =
     push-spares-requires
     mul-move-down
     add-move-down
-    sub-move-down
     mul-move-down-2
-    sub-move-down-2
+    sub-move-down
     mul-move-down-3
     move-down-requires
-    sub-move-pages
-    move-pages-requires
+    move-history-requires
     put-looked-requires
     pass-on-requires
     add-i
