@@ -6,7 +6,7 @@ use Rattle.grid_stamps.specs.StampConstants.{pageStamps}
 use Rattle.pool_memory.specs.MemoryConstants.{copyStride}
 use Rattle.pool_records.specs.RecordConstants.{doomedStride, retiringStride, spareStride, textureStride}
 use Rattle.test_replay.specs.ReplayConstants.{mostEntries}
-use Rattle.test_replay.proofs.Stores.{put-back, front-length, answers-fit}
+use Rattle.test_replay.proofs.Stores.{put-back, front-length, answers-fit, grids-fit}
 use Rattle.test_replay.proofs.lists.run_next.Statement.{statement}
 use Rattle.test_replay.proofs.lists.run_next.Tie as tie
 
@@ -31,6 +31,9 @@ mul-s c = search needs
 mul-m : tie.Need-mul-m
 mul-m c = search needs
 
+grid-places-requires : tie.Need-grid-places-requires
+grid-places-requires c κs = search needs
+
 mul-c : tie.Need-mul-c
 mul-c c = search needs
 
@@ -42,7 +45,7 @@ part-run-list-start c = search needs
 
 part-run-list-end : tie.Need-part-run-list-end
 part-run-list-end c =
-    omega (arith, c .before .before .before .before .before .before .before .before .before .before .before .before .before .before .before .before .pre .0 .textures-are, c .before .before .sizes-of .ensures .0)
+    omega (arith, c .before .before .before .before .before .before .before .before .before .before .before .before .before .before .before .before .before .pre .0 .textures-are, c .before .before .before .sizes-of .ensures .0)
 
 sub-run-list-2 : tie.Need-sub-run-list-2
 sub-run-list-2 c = search needs
@@ -52,7 +55,7 @@ part-run-list-start-2 c = search needs
 
 part-run-list-end-2 : tie.Need-part-run-list-end-2
 part-run-list-end-2 c =
-    omega (arith, c .before .before .before .before .before .before .before .before .before .before .before .before .before .before .before .before .before .pre .0 .retiring-are, c .before .before .before .sizes-of .ensures .1)
+    omega (arith, c .before .before .before .before .before .before .before .before .before .before .before .before .before .before .before .before .before .before .pre .0 .retiring-are, c .before .before .before .before .sizes-of .ensures .1)
 
 sub-run-list-3 : tie.Need-sub-run-list-3
 sub-run-list-3 c = search needs
@@ -62,7 +65,7 @@ part-run-list-start-3 c = search needs
 
 part-run-list-end-3 : tie.Need-part-run-list-end-3
 part-run-list-end-3 c =
-    omega (arith, c .before .before .before .before .before .before .before .before .before .before .before .before .before .before .before .before .before .before .pre .0 .doomed-are, c .before .before .before .before .sizes-of .ensures .1)
+    omega (arith, c .before .before .before .before .before .before .before .before .before .before .before .before .before .before .before .before .before .before .before .pre .0 .doomed-are, c .before .before .before .before .before .sizes-of .ensures .1)
 
 sub-run-list-4 : tie.Need-sub-run-list-4
 sub-run-list-4 c = search needs
@@ -72,7 +75,7 @@ part-run-list-start-4 c = search needs
 
 part-run-list-end-4 : tie.Need-part-run-list-end-4
 part-run-list-end-4 c =
-    omega (arith, c .before .before .before .before .before .before .before .before .before .before .before .before .before .before .before .before .before .before .before .pre .0 .spares-are, c .before .before .before .before .before .sizes-of .ensures .1)
+    omega (arith, c .before .before .before .before .before .before .before .before .before .before .before .before .before .before .before .before .before .before .before .before .pre .0 .spares-are, c .before .before .before .before .before .before .sizes-of .ensures .1)
 
 sub-run-list-5 : tie.Need-sub-run-list-5
 sub-run-list-5 c = search needs
@@ -82,7 +85,7 @@ part-run-list-start-5 c = search needs
 
 part-run-list-end-5 : tie.Need-part-run-list-end-5
 part-run-list-end-5 c =
-    omega (arith, c .before .before .before .before .before .before .before .before .before .before .before .before .before .before .before .before .before .before .before .before .pre .0 .newest-are, c .before .before .before .before .before .before .sizes-of .ensures .2)
+    grids-fit _ _ _ _ (c .before .before .before .before .before .before .before .sizes-of .ensures .0) (c .before .before .before .before .before .before .before .before .before .before .before .before .before .before .before .before .before .before .before .before .before .pre .0 .newest-are) (c .before .before .before .before .before .grid-places .ensures)
 
 sub-run-list-6 : tie.Need-sub-run-list-6
 sub-run-list-6 c = search needs
@@ -92,7 +95,7 @@ part-run-list-start-6 c = search needs
 
 part-run-list-end-6 : tie.Need-part-run-list-end-6
 part-run-list-end-6 c =
-    omega (arith, c .before .before .before .before .before .before .before .before .before .before .before .before .before .before .before .before .before .before .before .before .before .pre .0 .stamps-are, c .before .before .before .before .before .before .before .sizes-of .ensures .2)
+    omega (arith, c .before .before .before .before .before .before .before .before .before .before .before .before .before .before .before .before .before .before .before .before .before .before .pre .0 .stamps-are, c .before .before .before .before .before .before .before .before .sizes-of .ensures .2)
 
 sub-run-list-7 : tie.Need-sub-run-list-7
 sub-run-list-7 c = search needs
@@ -102,7 +105,7 @@ part-run-list-start-7 c = search needs
 
 part-run-list-end-7 : tie.Need-part-run-list-end-7
 part-run-list-end-7 c =
-    omega (arith, c .before .before .before .before .before .before .before .before .before .before .before .before .before .before .before .before .before .before .before .before .before .before .pre .0 .copies-are, c .before .before .before .before .before .before .before .before .sizes-of .ensures .3)
+    omega (arith, c .before .before .before .before .before .before .before .before .before .before .before .before .before .before .before .before .before .before .before .before .before .before .before .pre .0 .copies-are, c .before .before .before .before .before .before .before .before .before .sizes-of .ensures .3)
 
 sub-run-list-8 : tie.Need-sub-run-list-8
 sub-run-list-8 c = search needs
@@ -112,12 +115,12 @@ part-run-list-start-8 c = search needs
 
 part-run-list-end-8 : tie.Need-part-run-list-end-8
 part-run-list-end-8 c =
-    omega (arith, c .before .before .before .before .before .before .before .before .before .before .before .before .before .before .before .before .before .before .before .before .before .before .before .pre .0 .views-are, c .before .before .before .before .before .before .before .before .before .sizes-of .ensures .3)
+    omega (arith, c .before .before .before .before .before .before .before .before .before .before .before .before .before .before .before .before .before .before .before .before .before .before .before .before .pre .0 .views-are, c .before .before .before .before .before .before .before .before .before .before .sizes-of .ensures .3)
 
 run-list-requires : tie.Need-run-list-requires
 run-list-requires c κs =
-    let s = c .before .before .before .before .before .before .before .before .before .before .before .before .before .before .before .before .before .before .before .before .before .before .before .before .before in
-    let y = c .before .before .before .before .before .before .before .before .before .before .before .sizes-of in
+    let s = c .before .before .before .before .before .before .before .before .before .before .before .before .before .before .before .before .before .before .before .before .before .before .before .before .before .before in
+    let y = c .before .before .before .before .before .before .before .before .before .before .before .before .sizes-of in
     let z = y .result in
     let p = s .pre .0 in (
       s .pre .1,
@@ -131,65 +134,65 @@ same-length c = c .before .before .before .before .before .before .before .befor
 same-length-2 : tie.Need-same-length-2
 same-length-2 c =
     let r = c .before .before .before .before .before .before .before .before .before .before .before .before .before .before .before .before .before .before .before .before .run-list in
-    let y = c .before .before .before .before .before .before .before .before .before .before .before .before .before .before .before .before .before .before .before .before .before .before .before .before .before .before .before .before .before .before .before .before .sizes-of in
+    let y = c .before .before .before .before .before .before .before .before .before .before .before .before .before .before .before .before .before .before .before .before .before .before .before .before .before .before .before .before .before .before .before .before .before .sizes-of in
     let z = y .result in
-    let s = c .before .before .before .before .before .before .before .before .before .before .before .before .before .before .before .before .before .before .before .before .before .before .before .before .before .before .before .before .before .before .before .before .before .before .before .before .before .before .before .before .before .before .before .before .before .before in
+    let s = c .before .before .before .before .before .before .before .before .before .before .before .before .before .before .before .before .before .before .before .before .before .before .before .before .before .before .before .before .before .before .before .before .before .before .before .before .before .before .before .before .before .before .before .before .before .before .before in
     put-back (s .args .textures .now) (r .last .1 .1 .0) (textureStride * z .textures) (omega (arith, s .pre .0 .textures-are, y .ensures .0)) (r .kept .1 .1 .0)
 
 same-length-3 : tie.Need-same-length-3
 same-length-3 c =
     let r = c .before .before .before .before .before .before .before .before .before .before .before .before .before .before .before .before .before .before .before .before .run-list in
-    let y = c .before .before .before .before .before .before .before .before .before .before .before .before .before .before .before .before .before .before .before .before .before .before .before .before .before .before .before .before .before .before .before .before .sizes-of in
+    let y = c .before .before .before .before .before .before .before .before .before .before .before .before .before .before .before .before .before .before .before .before .before .before .before .before .before .before .before .before .before .before .before .before .before .sizes-of in
     let z = y .result in
-    let s = c .before .before .before .before .before .before .before .before .before .before .before .before .before .before .before .before .before .before .before .before .before .before .before .before .before .before .before .before .before .before .before .before .before .before .before .before .before .before .before .before .before .before .before .before .before .before in
+    let s = c .before .before .before .before .before .before .before .before .before .before .before .before .before .before .before .before .before .before .before .before .before .before .before .before .before .before .before .before .before .before .before .before .before .before .before .before .before .before .before .before .before .before .before .before .before .before .before in
     put-back (s .args .retiring .now) (r .last .1 .1 .1 .0) (retiringStride * z .versions) (omega (arith, s .pre .0 .retiring-are, y .ensures .1)) (r .kept .1 .1 .1 .0)
 
 same-length-4 : tie.Need-same-length-4
 same-length-4 c =
     let r = c .before .before .before .before .before .before .before .before .before .before .before .before .before .before .before .before .before .before .before .before .run-list in
-    let y = c .before .before .before .before .before .before .before .before .before .before .before .before .before .before .before .before .before .before .before .before .before .before .before .before .before .before .before .before .before .before .before .before .sizes-of in
+    let y = c .before .before .before .before .before .before .before .before .before .before .before .before .before .before .before .before .before .before .before .before .before .before .before .before .before .before .before .before .before .before .before .before .before .sizes-of in
     let z = y .result in
-    let s = c .before .before .before .before .before .before .before .before .before .before .before .before .before .before .before .before .before .before .before .before .before .before .before .before .before .before .before .before .before .before .before .before .before .before .before .before .before .before .before .before .before .before .before .before .before .before in
+    let s = c .before .before .before .before .before .before .before .before .before .before .before .before .before .before .before .before .before .before .before .before .before .before .before .before .before .before .before .before .before .before .before .before .before .before .before .before .before .before .before .before .before .before .before .before .before .before .before in
     put-back (s .args .doomed .now) (r .last .1 .1 .1 .1 .0) (doomedStride * z .versions) (omega (arith, s .pre .0 .doomed-are, y .ensures .1)) (r .kept .1 .1 .1 .1 .0)
 
 same-length-5 : tie.Need-same-length-5
 same-length-5 c =
     let r = c .before .before .before .before .before .before .before .before .before .before .before .before .before .before .before .before .before .before .before .before .run-list in
-    let y = c .before .before .before .before .before .before .before .before .before .before .before .before .before .before .before .before .before .before .before .before .before .before .before .before .before .before .before .before .before .before .before .before .sizes-of in
+    let y = c .before .before .before .before .before .before .before .before .before .before .before .before .before .before .before .before .before .before .before .before .before .before .before .before .before .before .before .before .before .before .before .before .before .sizes-of in
     let z = y .result in
-    let s = c .before .before .before .before .before .before .before .before .before .before .before .before .before .before .before .before .before .before .before .before .before .before .before .before .before .before .before .before .before .before .before .before .before .before .before .before .before .before .before .before .before .before .before .before .before .before in
+    let s = c .before .before .before .before .before .before .before .before .before .before .before .before .before .before .before .before .before .before .before .before .before .before .before .before .before .before .before .before .before .before .before .before .before .before .before .before .before .before .before .before .before .before .before .before .before .before .before in
     put-back (s .args .spares .now) (r .last .1 .1 .1 .1 .1 .0) (spareStride * z .versions) (omega (arith, s .pre .0 .spares-are, y .ensures .1)) (r .kept .1 .1 .1 .1 .1 .0)
 
 same-length-6 : tie.Need-same-length-6
 same-length-6 c =
     let r = c .before .before .before .before .before .before .before .before .before .before .before .before .before .before .before .before .before .before .before .before .run-list in
-    let y = c .before .before .before .before .before .before .before .before .before .before .before .before .before .before .before .before .before .before .before .before .before .before .before .before .before .before .before .before .before .before .before .before .sizes-of in
-    let z = y .result in
-    let s = c .before .before .before .before .before .before .before .before .before .before .before .before .before .before .before .before .before .before .before .before .before .before .before .before .before .before .before .before .before .before .before .before .before .before .before .before .before .before .before .before .before .before .before .before .before .before in
-    put-back (s .args .newest .now) (r .last .1 .1 .1 .1 .1 .1 .0) (z .pages) (omega (arith, s .pre .0 .newest-are, y .ensures .2)) (r .kept .1 .1 .1 .1 .1 .1 .0)
+    let y = c .before .before .before .before .before .before .before .before .before .before .before .before .before .before .before .before .before .before .before .before .before .before .before .before .before .before .before .before .before .before .before .before .before .sizes-of in
+    let g = c .before .before .before .before .before .before .before .before .before .before .before .before .before .before .before .before .before .before .before .before .before .before .before .before .before .before .before .before .before .before .before .grid-places in
+    let s = c .before .before .before .before .before .before .before .before .before .before .before .before .before .before .before .before .before .before .before .before .before .before .before .before .before .before .before .before .before .before .before .before .before .before .before .before .before .before .before .before .before .before .before .before .before .before .before in
+    put-back (s .args .newest .now) (r .last .1 .1 .1 .1 .1 .1 .0) (g .result) (grids-fit _ _ _ _ (y .ensures .0) (s .pre .0 .newest-are) (g .ensures)) (r .kept .1 .1 .1 .1 .1 .1 .0)
 
 same-length-7 : tie.Need-same-length-7
 same-length-7 c =
     let r = c .before .before .before .before .before .before .before .before .before .before .before .before .before .before .before .before .before .before .before .before .run-list in
-    let y = c .before .before .before .before .before .before .before .before .before .before .before .before .before .before .before .before .before .before .before .before .before .before .before .before .before .before .before .before .before .before .before .before .sizes-of in
+    let y = c .before .before .before .before .before .before .before .before .before .before .before .before .before .before .before .before .before .before .before .before .before .before .before .before .before .before .before .before .before .before .before .before .before .sizes-of in
     let z = y .result in
-    let s = c .before .before .before .before .before .before .before .before .before .before .before .before .before .before .before .before .before .before .before .before .before .before .before .before .before .before .before .before .before .before .before .before .before .before .before .before .before .before .before .before .before .before .before .before .before .before in
+    let s = c .before .before .before .before .before .before .before .before .before .before .before .before .before .before .before .before .before .before .before .before .before .before .before .before .before .before .before .before .before .before .before .before .before .before .before .before .before .before .before .before .before .before .before .before .before .before .before in
     put-back (s .args .stamps .now) (r .last .1 .1 .1 .1 .1 .1 .1 .0) (pageStamps * z .pages) (omega (arith, s .pre .0 .stamps-are, y .ensures .2)) (r .kept .1 .1 .1 .1 .1 .1 .1 .0)
 
 same-length-8 : tie.Need-same-length-8
 same-length-8 c =
     let r = c .before .before .before .before .before .before .before .before .before .before .before .before .before .before .before .before .before .before .before .before .run-list in
-    let y = c .before .before .before .before .before .before .before .before .before .before .before .before .before .before .before .before .before .before .before .before .before .before .before .before .before .before .before .before .before .before .before .before .sizes-of in
+    let y = c .before .before .before .before .before .before .before .before .before .before .before .before .before .before .before .before .before .before .before .before .before .before .before .before .before .before .before .before .before .before .before .before .before .sizes-of in
     let z = y .result in
-    let s = c .before .before .before .before .before .before .before .before .before .before .before .before .before .before .before .before .before .before .before .before .before .before .before .before .before .before .before .before .before .before .before .before .before .before .before .before .before .before .before .before .before .before .before .before .before .before in
+    let s = c .before .before .before .before .before .before .before .before .before .before .before .before .before .before .before .before .before .before .before .before .before .before .before .before .before .before .before .before .before .before .before .before .before .before .before .before .before .before .before .before .before .before .before .before .before .before .before in
     put-back (s .args .copies .now) (r .last .1 .1 .1 .1 .1 .1 .1 .1 .0) (copyStride * z .answers) (omega (arith, s .pre .0 .copies-are, y .ensures .3)) (r .kept .1 .1 .1 .1 .1 .1 .1 .1 .0)
 
 same-length-9 : tie.Need-same-length-9
 same-length-9 c =
     let r = c .before .before .before .before .before .before .before .before .before .before .before .before .before .before .before .before .before .before .before .before .run-list in
-    let y = c .before .before .before .before .before .before .before .before .before .before .before .before .before .before .before .before .before .before .before .before .before .before .before .before .before .before .before .before .before .before .before .before .sizes-of in
+    let y = c .before .before .before .before .before .before .before .before .before .before .before .before .before .before .before .before .before .before .before .before .before .before .before .before .before .before .before .before .before .before .before .before .before .sizes-of in
     let z = y .result in
-    let s = c .before .before .before .before .before .before .before .before .before .before .before .before .before .before .before .before .before .before .before .before .before .before .before .before .before .before .before .before .before .before .before .before .before .before .before .before .before .before .before .before .before .before .before .before .before .before in
+    let s = c .before .before .before .before .before .before .before .before .before .before .before .before .before .before .before .before .before .before .before .before .before .before .before .before .before .before .before .before .before .before .before .before .before .before .before .before .before .before .before .before .before .before .before .before .before .before .before in
     put-back (s .args .views .now) (r .last .1 .1 .1 .1 .1 .1 .1 .1 .1 .0) (z .answers) (omega (arith, s .pre .0 .views-are, y .ensures .3)) (r .kept .1 .1 .1 .1 .1 .1 .1 .1 .1 .0)
 
 same-length-10 : tie.Need-same-length-10
@@ -209,6 +212,7 @@ run-next-spec =
     mul-d
     mul-s
     mul-m
+    grid-places-requires
     mul-c
     sub-run-list
     part-run-list-start
