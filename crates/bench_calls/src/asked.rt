@@ -1,5 +1,5 @@
 // What the calls are asked: flat textures that record their writes.
-ghost use Prim.Native.Nat.{_≤_};
+ghost use Prim.Native.Nat.{_*_, _≤_};
 use grid_rects::TexelRect;
 use grid_shapes::VersionShape;
 
@@ -30,14 +30,23 @@ pub fn bench_shape(n: usize, levels: u64) -> VersionShape {
     square(2, 64, levels)
 }
 
-// Returns the stamps that one of n textures takes. The tiles of levels 1 to 3 are 4, 1 and 1, or 256, 64 and 16.
+// Returns the stamps that n textures take. The tiles of levels 1 to 3 are 4, 1 and 1, or 256, 64 and 16.
 pub fn bench_stamps(n: usize, levels: u64) -> usize
-    ensures { λ r. ⌜ r ≤ 1360 ⌝ }
+    ensures { λ r. ⌜ r ≤ 1360 * 65536 ⌝ }
 {
+    let textures = n % 65536;
     if n % 2 == 1 {
-        return if levels == 1 { 1024 } else { 1360 };
+        return if levels == 1 {
+            1024 * textures
+        } else {
+            1360 * textures
+        };
     }
-    if levels == 1 { 16 } else { 22 }
+    if levels == 1 {
+        16 * textures
+    } else {
+        22 * textures
+    }
 }
 
 // Returns ten by ten texels, at another place for each texture and in each round.

@@ -66,8 +66,7 @@ fn levels_of(workload: u64, t: usize) -> u64 {
 
 // Returns as many pages as the stamps of all textures need.
 fn pages_of(levels: u64, t: usize) -> usize {
-    let stamps = bench_stamps(t, levels) * (t % 65536);
-    (stamps + (PAGE_STAMPS - 1)) / PAGE_STAMPS
+    (bench_stamps(t, levels) + (PAGE_STAMPS - 1)) / PAGE_STAMPS
 }
 
 // Takes four arguments, for as many versions as textures and the pages that they need, or six.

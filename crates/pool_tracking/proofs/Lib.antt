@@ -4,4 +4,5 @@ pub mod Tracked
 pub mod Ends
 pub mod Trackings
 pub mod Started
+pub mod Renewable
 pub mod Renewed

@@ -3,7 +3,7 @@ use mathlib.Core.Path.{_≡_, refl, sym, ap, ap₂, _∙_, subst}
 use mathlib.Core.Bool.{true, false}
 use mathlib.Core.Option.{none, some}
 use mathlib.Core.List.{List, _++_, map}
-use Prim.Native.Nat.{ℕ, suc, _+_, _*_, _-_, _^_, _/_, _≤_, _<_}
+use Prim.Native.Nat.{ℕ, suc, _+_, _*_, _-_, _/_, _≤_}
 use native.Mathlib.Nat.{mul-le-mul}
 use native.Mathlib.Numerals.{add-one}
 use native.Mathlib.Omega.{arith}
@@ -16,7 +16,7 @@ use Rattle.grid_shapes.specs.declared.shape.VersionShape.{VersionShape}
 use Rattle.grid_shapes.specs.Shapes.{isShape, sameShape, bytesOf}
 use Rattle.grid_shapes.specs.ShapeConstants.{mostShapeBytes}
 use Rattle.grid_shapes.proofs.ShapeBytes.{bytes-bound}
-use Rattle.pool_rules.specs.Model.{Spare, Doomed, VersionState, PoolModel, find, limit, gridCount, gridsUsed, doomedBytes, accepted}
+use Rattle.pool_rules.specs.Model.{Spare, Doomed, VersionState, PoolModel, find, gridsUsed, doomedBytes, accepted}
 use Rattle.pool_rules.specs.RuleConstants.{mostPlaces}
 use Rattle.pool_rules.specs.HistorySizes.{stampsUsed}
 use Rattle.pool_rules.specs.Formed.{Formed}
@@ -53,45 +53,14 @@ use Rattle.pool_take_doomed.proofs.Pushed.{given-spares}
 use Rattle.pool_tracking.specs.declared.begun.NewTracking.{NewTracking}
 use Rattle.pool_tracking.specs.declared.holding.Holding.{Holding}
 use Rattle.pool_tracking.specs.Begun.{freshGrids, newRecord}
-use Rattle.pool_tracking.specs.Refusal.{mostStamps}
 use Rattle.pool_tracking.specs.Cases.{Begins, recordOf, TrackedAt}
 use Rattle.pool_tracking.specs.Holdings.{HoldingReads, holdingAt, givenUp, gridShift, stampShift, recordRenewed}
+use Rattle.pool_tracking.proofs.Renewable.{Renewable}
 use Rattle.pool_tracking.proofs.Refusals.{shape-passed, take-renewed, formed-then}
 use Rattle.pool_tracking.proofs.Counts.{counted, begunCounts, counts-after}
 use Rattle.pool_tracking.proofs.Tracked.{spares-within, kept-fits, is-there, found-there, here}
 use Rattle.pool_tracking.proofs.Ends.{newest-most, stamps-most, grid-begins, stamp-begins, grids-held, stamps-held}
 use Rattle.pool_tracking.proofs.Trackings.{begun, begun-record, begun-grids, begun-stamps, newest-zeros, stamps-zeros, newest-count, stamps-count, grids-few, stamps-few, zeros-renewed}
-
--- what the code asks of a pool in which a texture's tracking is renewed
-pub record Renewable (l : Lent) (new : NewTracking) (hold : Holding) : Type 0 where
-  pub counter : l .pool .trackings < limit
-  pub shaped : isShape (new .shape) ≡ true
-  pub few : gridCount (new .shape) ≤ mostPlaces
-  pub textures : textureStride * l .pool .tracked ≤ length (l .textures)
-  pub ring : doomedStride * (length (l .retiring) / retiringStride) ≤ length (l .doomed)
-  pub head : l .pool .first < length (l .retiring) / retiringStride
-  pub doomed : l .pool .doomed + hold .spares ≤ length (l .retiring) / retiringStride
-  pub within : hold .first + hold .spares ≤ l .pool .kept
-  pub spares : spareStride * l .pool .kept ≤ length (l .spares)
-  pub parked : hold .bytes * hold .spares ≤ l .pool .parked
-  pub dooming : l .pool .dooming + hold .bytes * hold .spares < 2 ^ 64
-  pub since : l .pool .since + hold .spares < 2 ^ 64
-  pub grids : hold .grid + hold .grids ≤ l .pool .grids
-  pub grids-used : l .pool .grids ≤ length (l .newest)
-  pub grids-room : l .pool .grids + freshGrids (new .shape) (new .records) ≤ length (l .newest) + hold .grids
-  pub stamps : hold .stamp + hold .stamps ≤ l .pool .stamps
-  pub stamps-used : l .pool .stamps ≤ length (l .stamps)
-  pub stamps-room : l .pool .stamps + new .stamps ≤ length (l .stamps) + hold .stamps
-  pub newest-most : length (l .newest) ≤ mostStamps
-  pub stamps-most : length (l .stamps) ≤ mostStamps
-  pub moves : (fresh : ℕ) → fresh ≡ freshGrids (new .shape) (new .records)
-      → StartsMove (gridShift hold fresh) (stampShift hold new) (new .place + 1) (l .pool .tracked) (recordRenewed (l .textures) new (l .pool .trackings + 1) hold)
-
--- the record written over, as the code has it
-pub record-written : (textures textures′ : List ℕ) (new : NewTracking) (epoch : ℕ) (old : Holding) (x : TextureRecord)
-    → x ≡ newRecord new epoch (old .grid) (old .stamp) → textures′ ≡ sets textures (textureStride * new .place) (writeTexture x)
-    → textures′ ≡ recordRenewed textures new epoch old
-record-written textures textures′ new epoch old x e q = q ∙ ap (λ (y : TextureRecord). sets textures (textureStride * new .place) (writeTexture y)) e
 
 module _ (l : Lent) (new : NewTracking) (ok : Begins l new) (h : TrackedAt l (new .place) (new .id))
     (other : sameShape (recordOf l (new .place) .shape) (new .shape) ≡ false) where

@@ -136,19 +136,15 @@ pub fn renew_tracking(
         old.bytes,
     );
     renew_record(textures, pool.tracked, new, epoch, fresh, old);
-    renew_block(
-        newest,
-        old.grid,
-        old.grids,
-        fresh,
-        pool.grids - (old.grid + old.grids),
-    );
+    let grids_end = old.grid + old.grids;
+    let stamps_end = old.stamp + old.stamps;
+    renew_block(newest, old.grid, old.grids, fresh, pool.grids - grids_end);
     renew_block(
         stamps,
         old.stamp,
         old.stamps,
         new.stamps,
-        pool.stamps - (old.stamp + old.stamps),
+        pool.stamps - stamps_end,
     );
     after.grids = pool.grids - old.grids + fresh;
     after.stamps = pool.stamps - old.stamps + new.stamps;

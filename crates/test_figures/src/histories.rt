@@ -1,7 +1,6 @@
 // Figures of histories (02, W-201), on one page of 1,024 stamps.
 use crate::calls::outcome_of;
 use crate::limits::shape;
-use crate::print::figure;
 use crate::print::figure_of;
 use grid_shapes::VersionShape;
 use grid_stamps::PAGE_STAMPS;
@@ -47,43 +46,29 @@ fn begin(
         0,
     );
     let taken = answer.taken;
+    let after = answer.pool;
     Begun {
         outcome: outcome_of(taken),
-        pool: answer.pool,
+        pool: after,
     }
 }
 
-// Begins n cubes of one texel and fifteen levels, whose histories have 90 grids of one stamp each. Returns the pool after them.
-fn begin_cubes(textures: &mut [u64], newest: &mut [u64], stamps: &mut [u64], n: u64) -> Pool {
-    let mut pool = opened_pool(0);
-    let mut id = 0;
-    while id < n {
-        let begun = begin(pool, textures, newest, stamps, id, shape(2, 1, 1, 1, 15, 1));
-        pool = begun.pool;
-        id += 1;
-    }
-    pool
-}
-
-// Prints how many of twelve such cubes are tracked in twelve places, and the grids and stamps that they have.
-fn print_cubes() {
-    let mut textures = [0u64; 12 * TEXTURE_STRIDE];
-    let mut newest = [0u64; PAGE_STAMPS];
-    let mut stamps = [0u64; PAGE_STAMPS];
-    let pool = begin_cubes(&mut textures, &mut newest, &mut stamps, 12);
-    figure(b"cubes_of_90_stamps_on_a_page", pool.tracked as u64);
-    figure(b"grids_of_these_cubes", pool.grids as u64);
-    figure(b"stamps_of_these_cubes", pool.stamps as u64);
-}
-
-// Prints the outcome of a take whose history needs so many stamps, where eleven cubes leave 34.
+// Prints the outcome of a take whose history needs so many stamps, where another texture's 31 by 32 tiles leave 32.
 fn print_last(needed: u64, last: VersionShape) {
-    let mut textures = [0u64; 12 * TEXTURE_STRIDE];
-    let mut newest = [0u64; PAGE_STAMPS];
+    let mut textures = [0u64; 2 * TEXTURE_STRIDE];
+    let mut newest = [0u64; 2 * MOST_GRIDS];
     let mut stamps = [0u64; PAGE_STAMPS];
-    let pool = begin_cubes(&mut textures, &mut newest, &mut stamps, 11);
-    let begun = begin(pool, &mut textures, &mut newest, &mut stamps, 11, last);
-    figure_of(b"take_with_34_stamps_free", needed, begun.outcome);
+    let first = begin(
+        opened_pool(0),
+        &mut textures,
+        &mut newest,
+        &mut stamps,
+        7,
+        shape(2, 496, 512, 1, 1, 0),
+    );
+    let pool = first.pool;
+    let begun = begin(pool, &mut textures, &mut newest, &mut stamps, 8, last);
+    figure_of(b"take_with_32_stamps_free", needed, begun.outcome);
 }
 
 // Prints the outcome of a take with another shape, whose history needs so many stamps, where the texture's own history has all of them.
@@ -99,16 +84,15 @@ fn print_renewal(needed: u64, next: VersionShape) {
         7,
         shape(0, 512, 512, 1, 1, 0),
     );
-    let renewed = begin(first.pool, &mut textures, &mut newest, &mut stamps, 7, next);
+    let pool = first.pool;
+    let renewed = begin(pool, &mut textures, &mut newest, &mut stamps, 7, next);
     figure_of(b"renewal_on_a_full_page", needed, renewed.outcome);
 }
 
 // Prints the figures of histories, on both sides of each limit.
 pub fn print_histories() {
-    print_cubes();
-    print_last(34, shape(2, 32, 272, 1, 1, 0));
-    print_last(35, shape(2, 80, 112, 1, 1, 0));
-    print_last(90, shape(2, 1, 1, 1, 15, 1));
+    print_last(32, shape(2, 512, 16, 1, 1, 0));
+    print_last(33, shape(2, 176, 48, 1, 1, 0));
     print_renewal(1024, shape(2, 512, 512, 1, 1, 0));
     print_renewal(1280, shape(2, 512, 512, 1, 2, 0));
 }

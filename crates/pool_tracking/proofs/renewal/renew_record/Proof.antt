@@ -3,7 +3,7 @@ use mathlib.Core.Path.{sym, ap, _∙_, subst}
 use native.Mathlib.Omega.{arith}
 use Rattle.pool_records.specs.Starts.{startsMoved, StartsMove}
 use Rattle.pool_tracking.proofs.Trackings.{begun-fits}
-use Rattle.pool_tracking.proofs.Renewed.{record-written}
+use Rattle.pool_tracking.proofs.Renewable.{record-written}
 use borrow.Author.Needs.{needs}
 use Rattle.pool_tracking.proofs.renewal.renew_record.Statement.{statement}
 use Rattle.pool_tracking.proofs.renewal.renew_record.Tie as tie

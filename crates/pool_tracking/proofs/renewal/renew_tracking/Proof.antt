@@ -2,6 +2,7 @@
 use mathlib.Core.Path.{refl}
 use native.Mathlib.Omega.{arith}
 use Rattle.pool_tracking.proofs.Renewed.{readable, renewable, left-renewed}
+use borrow.Author.Needs.{needs}
 use Rattle.pool_tracking.proofs.renewal.renew_tracking.Statement.{statement}
 use Rattle.pool_tracking.proofs.renewal.renew_tracking.Tie as tie
 
@@ -34,29 +35,29 @@ renew-record-requires c κs =
     let k = renewable _ (b .args .new) (b .pre .0) (b .pre .1) (b .pre .2) _ (c .before .before .before .before .before .before .before .before .before .before .before .holding-at .ensures) in
     (k .textures, b .pre .1 .0, k .shaped, k .moves _ (c .before .before .before .before .before .before .before .before .fresh-grids .ensures))
 
-add-renew-block : tie.Need-add-renew-block
-add-renew-block c =
+add-grids-end : tie.Need-add-grids-end
+add-grids-end c =
+    let b = c .before .before .before .before .before .before .before .before .before .before .before .before .before .before .before .before .before .before .before .before .before .before .before in
+    let k = renewable _ (b .args .new) (b .pre .0) (b .pre .1) (b .pre .2) _ (c .before .before .before .before .before .before .before .before .before .before .before .before .before .before .before .holding-at .ensures) in
+    omega (arith, k .grids, k .grids-used, k .newest-most)
+
+add-stamps-end : tie.Need-add-stamps-end
+add-stamps-end c =
     let b = c .before .before .before .before .before .before .before .before .before .before .before .before .before .before .before .before .before .before .before .before .before .before .before .before in
     let k = renewable _ (b .args .new) (b .pre .0) (b .pre .1) (b .pre .2) _ (c .before .before .before .before .before .before .before .before .before .before .before .before .before .before .before .before .holding-at .ensures) in
-    omega (arith, k .grids, k .grids-used, k .newest-most)
+    omega (arith, k .stamps, k .stamps-used, k .stamps-most)
 
 sub-renew-block : tie.Need-sub-renew-block
 sub-renew-block c =
-    let b = c .before .before .before .before .before .before .before .before .before .before .before .before .before .before .before .before .before .before .before .before .before .before .before .before .before in
-    let k = renewable _ (b .args .new) (b .pre .0) (b .pre .1) (b .pre .2) _ (c .before .before .before .before .before .before .before .before .before .before .before .before .before .before .before .before .before .holding-at .ensures) in
+    let b = c .before .before .before .before .before .before .before .before .before .before .before .before .before .before .before .before .before .before .before .before .before .before .before .before .before .before in
+    let k = renewable _ (b .args .new) (b .pre .0) (b .pre .1) (b .pre .2) _ (c .before .before .before .before .before .before .before .before .before .before .before .before .before .before .before .before .before .before .holding-at .ensures) in
     k .grids
 
 renew-block-requires : tie.Need-renew-block-requires
 renew-block-requires c κs =
-    let b = c .before .before .before .before .before .before .before .before .before .before .before .before .before .before .before .before .before .before .before .before .before .before .before .before .before in
-    let k = renewable _ (b .args .new) (b .pre .0) (b .pre .1) (b .pre .2) _ (c .before .before .before .before .before .before .before .before .before .before .before .before .before .before .before .before .before .holding-at .ensures) in
-    (omega (arith, k .grids, k .grids-used), omega (arith, k .grids, k .grids-room, c .before .before .before .before .before .before .before .before .before .before .before .before .before .before .fresh-grids .ensures))
-
-add-renew-block-2 : tie.Need-add-renew-block-2
-add-renew-block-2 c =
-    let b = c .before .before .before .before .before .before .before .before .before .before .before .before .before .before .before .before .before .before .before .before .before .before .before .before .before .before .before .before .before .before in
-    let k = renewable _ (b .args .new) (b .pre .0) (b .pre .1) (b .pre .2) _ (c .before .before .before .before .before .before .before .before .before .before .before .before .before .before .before .before .before .before .before .before .before .before .holding-at .ensures) in
-    omega (arith, k .stamps, k .stamps-used, k .stamps-most)
+    let b = c .before .before .before .before .before .before .before .before .before .before .before .before .before .before .before .before .before .before .before .before .before .before .before .before .before .before in
+    let k = renewable _ (b .args .new) (b .pre .0) (b .pre .1) (b .pre .2) _ (c .before .before .before .before .before .before .before .before .before .before .before .before .before .before .before .before .before .before .holding-at .ensures) in
+    (omega (arith, k .grids, k .grids-used), omega (arith, k .grids, k .grids-room, c .before .before .before .before .before .before .before .before .before .before .before .before .before .before .before .fresh-grids .ensures))
 
 sub-renew-block-2 : tie.Need-sub-renew-block-2
 sub-renew-block-2 c =
@@ -104,7 +105,7 @@ same-length-3 : tie.Need-same-length-3
 same-length-3 c = c .before .before .before .before .before .before .before .before .before .before .before .before .before .before .before .before .before .before .before .before .before .before .before .before .before .give-up .kept .1 .1 .0
 
 same-length-4 : tie.Need-same-length-4
-same-length-4 c = c .before .before .before .before .before .before .before .before .before .before .before .before .before .renew-block .kept .0
+same-length-4 c = c .before .before .before .before .before .before .before .before .before .before .before .before .renew-block .kept .0
 
 same-length-5 : tie.Need-same-length-5
 same-length-5 c = c .before .before .before .before .before .before .before .renew-block2 .kept .0
@@ -113,7 +114,7 @@ returns : tie.Need-returns
 returns c =
     let b = c .before .before .before .before .before .before .before .before .before .before .before .before .before .before .before .before .before .before .before .before .before .before .before .before .before .before .before .before .before .before .before .before .before .before .before .before .before .before .before in
     let g = c .before .before .before .before .before .before .before .before .before .before .before .before .before .before .before .before .before .before .before .before .before .before .before .before .before .give-up .ensures in
-    left-renewed _ (b .args .new) (b .pre .0) (b .pre .1) (b .pre .2) _ (c .before .before .before .before .before .before .before .before .before .before .before .before .before .before .before .before .before .before .before .before .before .before .before .before .before .before .before .before .before .before .before .holding-at .ensures) _ _ _ _ _ _ _ _ refl (c .before .before .before .before .before .before .before .before .before .before .before .before .before .before .before .before .before .before .before .before .before .before .before .before .before .before .before .before .fresh-grids .ensures) (g .0) (g .1) (g .2) (c .before .before .before .before .before .before .before .before .before .before .before .before .before .before .before .before .before .before .before .renew-record .ensures) (c .before .before .before .before .before .before .before .before .before .before .before .before .before .renew-block .ensures) (c .before .before .before .before .before .before .before .renew-block2 .ensures)
+    left-renewed _ (b .args .new) (b .pre .0) (b .pre .1) (b .pre .2) _ (c .before .before .before .before .before .before .before .before .before .before .before .before .before .before .before .before .before .before .before .before .before .before .before .before .before .before .before .before .before .before .before .holding-at .ensures) _ _ _ _ _ _ _ _ refl (c .before .before .before .before .before .before .before .before .before .before .before .before .before .before .before .before .before .before .before .before .before .before .before .before .before .before .before .before .fresh-grids .ensures) (g .0) (g .1) (g .2) (c .before .before .before .before .before .before .before .before .before .before .before .before .before .before .before .before .before .before .before .renew-record .ensures) (c .before .before .before .before .before .before .before .before .before .before .before .before .renew-block .ensures) (c .before .before .before .before .before .before .before .renew-block2 .ensures)
 
 pub renew-tracking-spec : {M : Type 1} → statement M
-renew-tracking-spec = tie.close (tie.spec holding-at-requires add-epoch fresh-grids-requires give-up-requires renew-record-requires add-renew-block sub-renew-block renew-block-requires add-renew-block-2 sub-renew-block-2 renew-block-requires-2 sub-after add-after sub-after-2 add-after-2 same-length same-length-2 same-length-3 same-length-4 same-length-5 returns)
+renew-tracking-spec = tie.close (tie.spec holding-at-requires add-epoch fresh-grids-requires give-up-requires renew-record-requires add-grids-end add-stamps-end sub-renew-block renew-block-requires sub-renew-block-2 renew-block-requires-2 sub-after add-after sub-after-2 add-after-2 same-length same-length-2 same-length-3 same-length-4 same-length-5 returns)
