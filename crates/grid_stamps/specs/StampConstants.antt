@@ -1,6 +1,6 @@
--- Rule: The numbers of a history page, with the reason.
+-- Rule: The stamps of a page, with the reason.
 use Prim.Native.Nat.{ℕ}
 
--- The numbers of a page, which holds one subresource's grid: the most tiles along an axis, squared.
+-- The stamps of a page, in which they are lent: as many as the largest grid has, the most tiles along an axis, squared.
 abbrev pub pageStamps : ℕ
 pageStamps = 1024

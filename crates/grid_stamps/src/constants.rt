@@ -1,4 +1,4 @@
 // The numbers that have a name, each with its reason.
 
-// The numbers of a page, which holds one subresource's grid: the most tiles along an axis, squared.
+// The stamps of a page, in which they are lent: as many as the largest grid has, the most tiles along an axis, squared.
 pub const PAGE_STAMPS: usize = 1024;

@@ -1,5 +1,5 @@
-// A grid read through a view of its page. A view holds the page's slice; its readers take it apart and ask the grid. The rest of
-// the pool calls the functions of `page`, which have plain parameters.
+// A grid read through a view of its page, which is its own part of the lent stamps. A view holds the page's slice; its readers take it
+// apart and ask the grid. The rest of the pool calls the functions of `page`, which have plain parameters.
 mod page;
 mod view;
 

@@ -38,7 +38,7 @@ use Rattle.pool_note_allocated.proofs.Chosen.{share, dooming-most}
 use Rattle.grid_shapes.specs.ShapeConstants.{mostShapeBytes}
 use Rattle.pool_rules.specs.RuleConstants.{mostPlaces}
 
--- textures that give up spares keep what their pages depend on
+-- textures that give up spares keep what their grids depend on
 histories-lessened : (k : VersionState ℕ → ℕ) (ts : List (VersionState ℕ)) → map keptHistory (map (lessened k) ts) ≡ map keptHistory ts
 histories-lessened k [] = refl
 histories-lessened k (t ∷ ts) = ap (λ xs. keptHistory t ∷ xs) (histories-lessened k ts)

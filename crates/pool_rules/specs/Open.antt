@@ -10,7 +10,7 @@ use Rattle.pool_rules.specs.Budget.{budgetOf}
 use Rattle.pool_rules.specs.Model.{Places, PoolModel}
 use Rattle.pool_rules.specs.RuleConstants.{destroySpreadDrains, mostPlaces}
 
--- 1 to 4,096 texture places, 1 to 4,096 version places, 0 to 4,096 history pages
+-- 1 to 4,096 texture places, 1 to 4,096 version places, 0 to 4,096 pages of 1,024 stamps
 unfoldable pub arePlaces : Places → Bool
 arePlaces n = tests (leb 1 (n .textures) ∷ leb (n .textures) mostPlaces ∷ leb 1 (n .versions) ∷ leb (n .versions) mostPlaces ∷ leb (n .pages) mostPlaces ∷ [])
 
