@@ -17,7 +17,7 @@ use Rattle.pool_rules.specs.Updates.{withTextures, asDoomed, doomSpares}
 use Rattle.pool_rules.specs.ForgetTexture.{forgetTexture}
 use Rattle.pool_rules.proofs.Moves.{as-doomed-bytes, as-doomed-length}
 use Rattle.pool_records.specs.Doomed.{writeDoomed}
-use Rattle.pool_records.specs.Starts.{StartsMove, gridEnd, stampEnd}
+use Rattle.pool_records.specs.Starts.{lessBy, StartsMove, gridEnd, stampEnd}
 use Rattle.pool_records.specs.Texture.{readTexture, textureIn, recordGrids, recordStamps, sparesTo}
 use Rattle.pool_records.specs.Find.{idOf, hasId}
 use Rattle.pool_memory.specs.declared.pool.Pool.{Pool as Counts}
@@ -43,7 +43,7 @@ use Rattle.pool_take_doomed.specs.Given.{givenRecords}
 use Rattle.pool_take_doomed.proofs.Pushed.{given-spares}
 use Rattle.pool_access.proofs.Ids.{found, not-found}
 use Rattle.pool_forget_texture.specs.declared.owned.Owned.{Owned}
-use Rattle.pool_forget_texture.specs.Owned.{ownedAt, gridsOut, stampsOut, without, withoutRecord}
+use Rattle.pool_forget_texture.specs.Owned.{ownedAt, without, withoutRecord}
 use Rattle.pool_forget_texture.proofs.TextureRuns.{spares-in, spares-within, bytes-within, grids-end, stamps-end}
 use Rattle.grid_shapes.specs.ShapeConstants.{mostShapeBytes}
 use Rattle.pool_records.specs.RecordConstants.{doomedStride, retiringStride, spareStride, textureStride}
@@ -123,16 +123,16 @@ module _ (l : Lent) (f : Fits l) (i : ℕ) (h : i < l .pool .tracked) where
     own-stamps = omega (arith, stamp-is, stamps-is, stamps-in l f i h)
 
     -- as many as the texture's state has
-    grids-used : gridsOut own .less ≡ gridsUsed (stateOf l i)
+    grids-used : own .grids ≡ gridsUsed (stateOf l i)
     grids-used = grids-is ∙ ap recordGrids (record-read l i h) ∙ sym (grids-at l i h)
 
-    stamps-used : stampsOut own .less ≡ stampsUsed (stateOf l i)
+    stamps-used : own .stamps ≡ stampsUsed (stateOf l i)
     stamps-used = stamps-is ∙ ap recordStamps (record-read l i h) ∙ sym (stamps-at l i h)
 
     pub record-fits : (textureStride * l .pool .tracked ≤ length T) × (i < l .pool .tracked)
-        × StartsMove (gridsOut own) (stampsOut own) i (l .pool .tracked - 1)
+        × StartsMove (lessBy (own .grids)) (lessBy (own .stamps)) i (l .pool .tracked - 1)
         (moved T (textureStride * i) (textureStride * i + textureStride * 1) (textureStride * (l .pool .tracked - (i + 1))))
-    record-fits = (textures-fit l f, h, removed-moves l left f (gridsOut own) (stampsOut own) (omega arith) (omega arith) i h grids-used stamps-used)
+    record-fits = (textures-fit l f, h, removed-moves l left f (lessBy (own .grids)) (lessBy (own .stamps)) (omega arith) (omega arith) i h grids-used stamps-used)
 
     pub push-fits : (doomedStride * places l ≤ length (l .doomed)) × (l .pool .first < places l) × (l .pool .doomed + own .spares ≤ places l)
         × (spareStride * (own .first + own .spares) ≤ length (l .spares))
@@ -238,7 +238,7 @@ module _ (l : Lent) (f : Fits l) (i : ℕ) (h : i < l .pool .tracked) where
   textures-left : (own : Owned) → own ≡ ownedAt (l .pool) T i → withoutRecord T (l .pool .tracked) i own ≡ texturesAfter left l
   unfolding withoutRecord
   textures-left own e =
-      textures-removed l left f (gridsOut own) (stampsOut own) i h refl (grids-used own e) refl (stamps-used own e) refl
+      textures-removed l left f (lessBy (own .grids)) (lessBy (own .stamps)) i h refl (grids-used own e) refl (stamps-used own e) refl
 
   book-left : l .book ≡ pacingAfter left
   unfolding pacingAfter

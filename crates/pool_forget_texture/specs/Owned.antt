@@ -2,9 +2,8 @@
 use Prim.Native.Nat.{ℕ, _+_, _-_, _*_}
 use mathlib.Core.List.{List}
 use Rattle.base_blocks.specs.Blocks.{moved}
-use Rattle.pool_records.specs.declared.shift.Shift.{Shift}
 use Rattle.pool_records.specs.RecordConstants.{textureStride}
-use Rattle.pool_records.specs.Starts.{startsMoved, gridEnd, stampEnd}
+use Rattle.pool_records.specs.Starts.{lessBy, startsMoved, gridsHeld, stampsHeld}
 use Rattle.pool_records.specs.Texture.{textureIn, sparesTo}
 use Rattle.pool_memory.specs.declared.pool.Pool.{Pool as Counts}
 use Rattle.pool_forget_texture.specs.declared.owned.Owned.{Owned}
@@ -14,23 +13,16 @@ ownedAt c textures i = record {
   first = sparesTo textures i;
   spares = textureIn textures i .spares;
   grid = textureIn textures i .grid;
-  grids = gridEnd textures (c .tracked) (c .grids) i - textureIn textures i .grid;
+  grids = gridsHeld textures (c .tracked) (c .grids) i;
   stamp = textureIn textures i .stamp;
-  stamps = stampEnd textures (c .tracked) (c .stamps) i - textureIn textures i .stamp;
+  stamps = stampsHeld textures (c .tracked) (c .stamps) i;
   bytes = textureIn textures i .bytes;
 }
-
--- how far the grids and the stamps behind it move
-abbrev pub gridsOut : Owned → Shift
-gridsOut own = record { less = own .grids; more = 0 }
-
-abbrev pub stampsOut : Owned → Shift
-stampsOut own = record { less = own .stamps; more = 0 }
 
 -- the n records without record i
 unfoldable pub withoutRecord : List ℕ → ℕ → ℕ → Owned → List ℕ
 withoutRecord textures n i own =
-    startsMoved (gridsOut own) (stampsOut own) i (n - 1)
+    startsMoved (lessBy (own .grids)) (lessBy (own .stamps)) i (n - 1)
     (moved textures (textureStride * i) (textureStride * i + textureStride * 1) (textureStride * (n - (i + 1))))
 
 unfoldable pub without : Counts → Owned → Counts

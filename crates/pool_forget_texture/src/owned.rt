@@ -4,10 +4,10 @@ ghost use Prim.Native.Nat.{_+_, _*_, _-_, _≤_, _<_, _^_};
 ghost use lib.ListN.{length};
 ghost use Rattle.base_blocks.specs.Blocks.{moved};
 ghost use Rattle.pool_records.specs.RecordConstants.{textureStride};
-ghost use Rattle.pool_records.specs.Starts.{StartsMove, gridEnd, stampEnd};
+ghost use Rattle.pool_records.specs.Starts.{lessBy, StartsMove, gridEnd, stampEnd};
 ghost use Rattle.pool_records.specs.Texture.{sparesTo, textureIn};
 ghost use Rattle.pool_rules.specs.RuleConstants.{mostPlaces};
-ghost use Rattle.pool_forget_texture.specs.Owned.{ownedAt, without, gridsOut, stampsOut, withoutRecord};
+ghost use Rattle.pool_forget_texture.specs.Owned.{ownedAt, without, withoutRecord};
 use pool_access::first_spare;
 use pool_access::grid_end;
 use pool_access::move_starts;
@@ -58,7 +58,7 @@ pub fn owned_at(pool: Pool, textures: &[u64], i: usize) -> Owned
 // owned.
 pub fn remove_record(textures: &mut [u64], n: usize, i: usize, own: Owned)
     requires { ⌜ (textureStride * n ≤ length (now textures)) × (i < n)
-        × StartsMove (gridsOut own) (stampsOut own) i (n - 1)
+        × StartsMove (lessBy (own .grids)) (lessBy (own .stamps)) i (n - 1)
         (moved (now textures) (textureStride * i) (textureStride * i + textureStride * 1) (textureStride * (n - (i + 1)))) ⌝ }
     ensures { λ _. ⌜ now (textures .exit) ≡ withoutRecord (now (textures .entry)) n i own ⌝ }
 {

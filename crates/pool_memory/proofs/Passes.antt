@@ -27,7 +27,8 @@ use Rattle.pool_memory.proofs.Packed.{packed-read, packed-put, packed-m
 use Rattle.pool_memory.proofs.Runs.{sparesOf, firstGrid, firstStamp, stateOf}
 use Rattle.pool_memory.proofs.Kept.{KeptHistory, keptHistory}
 use Rattle.pool_memory.proofs.Packings.{newestPacking, stampsPacking, step-packed}
-use Rattle.pool_memory.proofs.Starts.{length-records, records-append}
+use Rattle.pool_memory.proofs.ReadStates.{length-recorded}
+use Rattle.pool_memory.proofs.Starts.{records-append}
 use Rattle.pool_memory.proofs.Changes.{sparesBefore, table-spares}
 use Rattle.pool_memory.proofs.HistoryRuns.{gridCountAt, stampCountAt}
 use Rattle.pool_records.specs.RecordConstants.{spareStride, textureStride}
@@ -65,7 +66,7 @@ module _ (l : Lent) (p : PoolModel ℕ) where
   pub texture-unread : (j : ℕ) → length (p .textures) ≤ j → textureIn (texturesAfter p l) j ≡ textureIn (l .textures) j
   unfolding texturesAfter
   texture-unread j h =
-      packed-read texture-codec (l .textures) (textureRecords 0 0 (p .textures)) j (omega (arith, length-records 0 0 (p .textures)))
+      packed-read texture-codec (l .textures) (textureRecords 0 0 (p .textures)) j (omega (arith, length-recorded 0 0 (p .textures)))
 
   pub spare-unread : (j : ℕ) → length (everySpare (p .textures)) ≤ j → recordAt spareStride readSpare (sparesAfter p l) j ≡ recordAt spareStride readSpare (l .spares) j
   unfolding sparesAfter
@@ -83,7 +84,7 @@ module _ (l : Lent) (p q : PoolModel ℕ) (t : VersionState ℕ) (e : q .texture
       ≡ texturesAfter q l
   unfolding texturesAfter
   texture-packed room =
-      let n = length-records 0 0 (p .textures) in
+      let n = length-recorded 0 0 (p .textures) in
       let r = textureRecord (total gridsUsed (p .textures)) (total stampsUsed (p .textures)) t in
       ap (λ (k : ℕ). sets (over (flat writeTexture (textureRecords 0 0 (p .textures))) (l .textures)) (textureStride * k) (writeTexture r)) (sym n)
       ∙ packed-put texture-codec (l .textures) (textureRecords 0 0 (p .textures)) r (omega arith)

@@ -31,6 +31,7 @@ use Rattle.pool_memory.specs.Writing.{textureRecord, textureRecords, tex
 use Rattle.pool_memory.proofs.Fits.{Fits}
 use Rattle.pool_memory.proofs.Runs.{firstGridIn, firstStampIn, firstGrid, firstStamp, stateOf, tracked-records, tracked-model, records-model, model-at, take-states, used-states, grids-state, stamps-used-state, grid-held-at, stamp-held-at}
 use Rattle.pool_memory.proofs.Parts.{total-next}
+use Rattle.pool_memory.proofs.ReadStates.{length-recorded}
 use Rattle.pool_memory.proofs.HistoryRuns.{grid-bound, stamp-bound, grid-order, stamp-order, grid-last, stamp-last}
 
 -- the record of a texture that stands at place i
@@ -38,11 +39,6 @@ abbrev pub placedRecord : Lent → ℕ → VersionState ℕ → TextureRecord
 placedRecord l i t = textureRecord (firstGrid l i) (firstStamp l i) t
 
 -- ---- records in a row
-
-pub length-records : (grid stamp : ℕ) (ts : List (VersionState ℕ)) → length (textureRecords grid stamp ts) ≡ length ts
-unfolding textureRecords
-length-records grid stamp [] = refl
-length-records grid stamp (t ∷ ts) = ap suc (length-records (grid + gridsUsed t) (stamp + stampsUsed t) ts)
 
 -- those of the first behind which the others begin
 pub records-append : (grid stamp : ℕ) (xs ys : List (VersionState ℕ))
@@ -169,7 +165,7 @@ module _ (l : Lent) (f : Fits l) where
     length-kept =
         length-append (take i (trackedRecords l)) (textureRecords (firstGrid l i) (firstStamp l i) new)
         ∙ ap₂ (λ (m n : ℕ). m + n) (length-take-le i (trackedRecords l) (omega (arith, tracked-records l)))
-        (length-records (firstGrid l i) (firstStamp l i) new)
+        (length-recorded (firstGrid l i) (firstStamp l i) new)
 
     length-put : length (kept ++ drop j (trackedRecords l)) ≡ i + length new + (l .pool .tracked - j)
     length-put =
@@ -221,7 +217,7 @@ module _ (l : Lent) (f : Fits l) where
 
   -- ---- one texture changed, put in or taken out: the slice before those behind are moved
 
-  pub textures-room : textureStride * l .pool .tracked ≤ length (l .textures)
+  textures-room : textureStride * l .pool .tracked ≤ length (l .textures)
   textures-room = omega (arith, f .textures, f .tracked)
 
   one-put : (i : ℕ) (t : VersionState ℕ) → i < l .pool .tracked

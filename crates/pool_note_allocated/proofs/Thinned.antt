@@ -35,7 +35,8 @@ use Rattle.pool_memory.proofs.Rings.{laid-append}
 use Rattle.pool_memory.proofs.Counts.{count-spares}
 use Rattle.pool_memory.proofs.Fits.{Fits}
 use Rattle.pool_memory.proofs.Passes.{records-more}
-use Rattle.pool_memory.proofs.Starts.{placedRecord, length-records}
+use Rattle.pool_memory.proofs.ReadStates.{length-recorded}
+use Rattle.pool_memory.proofs.Starts.{placedRecord}
 use Rattle.pool_memory.proofs.Tracked.{record-read, record-at, shape-at, count-at}
 use Rattle.pool_take_doomed.specs.Given.{givenRecords}
 use Rattle.pool_take_doomed.proofs.Pushed.{given-spares}
@@ -131,7 +132,7 @@ module _ (l : Lent) where
     textures-next i h f =
         let xs = textureRecords 0 0 (map (lessened k) (first i)) in
         count-set xs (l .textures) i (recordOf i .spares - gave i)
-        (length-records 0 0 (map (lessened k) (first i)) ∙ length-map (first i) (lessened k) ∙ length-first i (omega arith)) (omega (arith, f .textures, f .tracked))
+        (length-recorded 0 0 (map (lessened k) (first i)) ∙ length-map (first i) (lessened k) ∙ length-first i (omega arith)) (omega (arith, f .textures, f .tracked))
         ∙ ap (λ (rs : List TextureRecord). over (flat writeTexture rs) (l .textures))
         (sym (ap (textureRecords 0 0) (thin-next i h) ∙ records-more 0 0 (map (lessened k) (first i)) (lessened k (stateOf l i))
         ∙ ap₂ (λ (g n : ℕ). xs ++ (textureRecord g n (lessened k (stateOf l i)) ∷ [])) (grids-before i) (stamps-before i)
@@ -148,7 +149,7 @@ module _ (l : Lent) where
     record-next i h =
         let xs = textureRecords 0 0 (map (lessened k) (first i)) in
         record-over texture-codec xs (l .textures) i
-        (omega (arith, length-records 0 0 (map (lessened k) (first i)), length-map (first i) (lessened k), length-first i h))
+        (omega (arith, length-recorded 0 0 (map (lessened k) (first i)), length-map (first i) (lessened k), length-first i h))
 
     -- ---- the spares
 

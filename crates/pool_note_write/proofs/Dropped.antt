@@ -15,20 +15,20 @@ use Rattle.base_tables.proofs.Records.{take-table}
 use Rattle.pool_rules.specs.Model.{PoolModel}
 use Rattle.pool_records.specs.declared.texture.TextureRecord.{TextureRecord}
 use Rattle.pool_records.specs.Texture.{readTexture, writeTexture, textureIn, recordGrids, recordStamps}
-use Rattle.pool_records.specs.Starts.{startsMoved, StartsMove, gridEnd, stampEnd}
+use Rattle.pool_records.specs.Starts.{lessBy, startsMoved, StartsMove, gridEnd, stampEnd}
 use Rattle.pool_records.specs.RecordConstants.{textureStride}
 use Rattle.pool_memory.specs.Lent.{Lent, lent}
 use Rattle.pool_memory.specs.Writing.{texturesAfter, lentAfter}
 use Rattle.pool_memory.proofs.Fits.{Fits}
 use Rattle.pool_memory.proofs.Runs.{firstGrid, firstStamp}
 use Rattle.pool_memory.proofs.Stays.{textures-fit}
-use Rattle.pool_memory.proofs.Starts.{placedRecord, textures-renewed, renewed-moves}
+use Rattle.pool_memory.proofs.Starts.{placedRecord, textures-renewed, renewed-moves, grid-end-at, stamp-end-at}
 use Rattle.pool_memory.proofs.HistoryRuns.{gridCountAt, stampCountAt, grid-next, stamp-next, grids-in, stamps-in, newest-dropped, stamps-dropped}
 use Rattle.pool_memory.proofs.Written.{used-at, stamps-used-at}
 use Rattle.pool_memory.proofs.Tracked.{grid-at, stamp-at}
 use Rattle.pool_history.specs.declared.run.Used.{Used}
 use Rattle.pool_history.specs.declared.run.HistoryRun.{HistoryRun}
-use Rattle.pool_note_write.specs.Dropped.{runAt, fewer, recordDropped, recordsDropped, newestDropped, stampsDropped, CanDrop}
+use Rattle.pool_note_write.specs.Dropped.{runAt, recordDropped, recordsDropped, newestDropped, stampsDropped, CanDrop}
 use Rattle.pool_note_write.specs.Counts.{withUsed}
 use Rattle.pool_note_write.proofs.Left.{otherState, otherPool, other-record, grids-left, stamps-left, history-left}
 
@@ -51,17 +51,17 @@ module _ (textures newest stamps : List ℕ) (n : ℕ) (used : Used) (i : ℕ) (
   )
 
   -- and those behind it can be moved down by it
-  pub run-moves : (s : List ℕ) → s ≡ recordDropped textures i → StartsMove (fewer (run .grids)) (fewer (run .stamps)) (i + 1) n s
+  pub run-moves : (s : List ℕ) → s ≡ recordDropped textures i → StartsMove (lessBy (run .grids)) (lessBy (run .stamps)) (i + 1) n s
   run-moves s k =
-      subst (StartsMove (fewer (run .grids)) (fewer (run .stamps)) (i + 1) n) (sym k)
-      (subst (λ (r : HistoryRun). StartsMove (fewer (r .grids)) (fewer (r .stamps)) (i + 1) n (recordDropped textures i)) (sym e) (d .behind))
+      subst (StartsMove (lessBy (run .grids)) (lessBy (run .stamps)) (i + 1) n) (sym k)
+      (subst (λ (r : HistoryRun). StartsMove (lessBy (r .grids)) (lessBy (r .stamps)) (i + 1) n (recordDropped textures i)) (sym e) (d .behind))
 
   pub records-left : (s : List ℕ) → s ≡ recordDropped textures i
-      → startsMoved (fewer (run .grids)) (fewer (run .stamps)) (i + 1) n s ≡ recordsDropped textures n (runAt textures n used i) i
+      → startsMoved (lessBy (run .grids)) (lessBy (run .stamps)) (i + 1) n s ≡ recordsDropped textures n (runAt textures n used i) i
   unfolding recordsDropped
   records-left s k =
-      ap (startsMoved (fewer (run .grids)) (fewer (run .stamps)) (i + 1) n) k
-      ∙ ap (λ (r : HistoryRun). startsMoved (fewer (r .grids)) (fewer (r .stamps)) (i + 1) n (recordDropped textures i)) e
+      ap (startsMoved (lessBy (run .grids)) (lessBy (run .stamps)) (i + 1) n) k
+      ∙ ap (λ (r : HistoryRun). startsMoved (lessBy (r .grids)) (lessBy (r .stamps)) (i + 1) n (recordDropped textures i)) e
 
 -- ---- what is left
 
@@ -80,31 +80,11 @@ droppedLent l i = leftBy l i (runAt (l .textures) (l .pool .tracked) (usedIn l) 
 module _ (l : Lent) (f : Fits l) (i : ℕ) (h : i < l .pool .tracked) where
   -- ---- where its grids and its stamps end
 
-  grids-all : firstGrid l (l .pool .tracked) ≡ l .pool .grids
-  unfolding firstGrid
-  grids-all =
-      ap (total recordGrids) (take-table textureStride readTexture (l .pool .tracked) (l .pool .tracked) (l .textures) (omega arith)) ∙ f .claimed
-
-  stamps-all : firstStamp l (l .pool .tracked) ≡ l .pool .stamps
-  unfolding firstStamp
-  stamps-all =
-      ap (total recordStamps) (take-table textureStride readTexture (l .pool .tracked) (l .pool .tracked) (l .textures) (omega arith)) ∙ f .stamps-claimed
-
   grid-ends : gridEnd (l .textures) (l .pool .tracked) (l .pool .grids) i ≡ firstGrid l i + gridCountAt l i
-  unfolding gridEnd
-  grid-ends =
-      either (λ (k : ℕ). k ≡ firstGrid l i + gridCountAt l i) (ltb (i + 1) (l .pool .tracked)) (textureIn (l .textures) (i + 1) .grid) (l .pool .grids)
-      (λ e. grid-at l (i + 1) (ltb-true (i + 1) (l .pool .tracked) e) f ∙ ap (firstGrid l) (add-one i) ∙ grid-next l f i h)
-      (λ e. sym grids-all
-      ∙ ap (firstGrid l) (let q : l .pool .tracked ≡ suc i = omega (arith, ltb-false (i + 1) (l .pool .tracked) e) in q) ∙ grid-next l f i h)
+  grid-ends = grid-end-at l f i h ∙ grid-next l f i h
 
   stamp-ends : stampEnd (l .textures) (l .pool .tracked) (l .pool .stamps) i ≡ firstStamp l i + stampCountAt l i
-  unfolding stampEnd
-  stamp-ends =
-      either (λ (k : ℕ). k ≡ firstStamp l i + stampCountAt l i) (ltb (i + 1) (l .pool .tracked)) (textureIn (l .textures) (i + 1) .stamp) (l .pool .stamps)
-      (λ e. stamp-at l (i + 1) (ltb-true (i + 1) (l .pool .tracked) e) f ∙ ap (firstStamp l) (add-one i) ∙ stamp-next l f i h)
-      (λ e. sym stamps-all
-      ∙ ap (firstStamp l) (let q : l .pool .tracked ≡ suc i = omega (arith, ltb-false (i + 1) (l .pool .tracked) e) in q) ∙ stamp-next l f i h)
+  stamp-ends = stamp-end-at l f i h ∙ stamp-next l f i h
 
   -- so its run is the one that it has
   abbrev heldRun : HistoryRun
@@ -127,9 +107,9 @@ module _ (l : Lent) (f : Fits l) (i : ℕ) (h : i < l .pool .tracked) where
   textures-dropped : recordsDropped (l .textures) (l .pool .tracked) heldRun i ≡ texturesAfter pool l
   unfolding recordsDropped
   textures-dropped =
-      ap₂ (λ (k : ℕ) (t : TextureRecord). startsMoved (fewer (gridCountAt l i)) (fewer (stampCountAt l i)) k (l .pool .tracked) (sets (l .textures) (textureStride * i) (writeTexture t)))
+      ap₂ (λ (k : ℕ) (t : TextureRecord). startsMoved (lessBy (gridCountAt l i)) (lessBy (stampCountAt l i)) k (l .pool .tracked) (sets (l .textures) (textureStride * i) (writeTexture t)))
       (add-one i) (sym (other-record l f i h none))
-      ∙ textures-renewed l pool f (fewer (gridCountAt l i)) (fewer (stampCountAt l i)) i (otherState l f i h none) h refl (sym (used-at l i)) refl
+      ∙ textures-renewed l pool f (lessBy (gridCountAt l i)) (lessBy (stampCountAt l i)) i (otherState l f i h none) h refl (sym (used-at l i)) refl
       (sym (stamps-used-at l i)) refl
 
   pub history-dropped : droppedLent l i ≡ lentAfter pool l
@@ -143,13 +123,13 @@ module _ (l : Lent) (f : Fits l) (i : ℕ) (h : i < l .pool .tracked) where
 
   -- ---- and it can be left so
 
-  moves : StartsMove (fewer (gridCountAt l i)) (fewer (stampCountAt l i)) (i + 1) (l .pool .tracked) (recordDropped (l .textures) i)
+  moves : StartsMove (lessBy (gridCountAt l i)) (lessBy (stampCountAt l i)) (i + 1) (l .pool .tracked) (recordDropped (l .textures) i)
   moves =
-      subst (λ (t : TextureRecord). StartsMove (fewer (gridCountAt l i)) (fewer (stampCountAt l i)) (i + 1) (l .pool .tracked) (sets (l .textures) (textureStride * i) (writeTexture t)))
+      subst (λ (t : TextureRecord). StartsMove (lessBy (gridCountAt l i)) (lessBy (stampCountAt l i)) (i + 1) (l .pool .tracked) (sets (l .textures) (textureStride * i) (writeTexture t)))
       (other-record l f i h none)
-      (subst (λ (k : ℕ). StartsMove (fewer (gridCountAt l i)) (fewer (stampCountAt l i)) k (l .pool .tracked) (sets (l .textures) (textureStride * i) (writeTexture (placedRecord l i (otherState l f i h none)))))
+      (subst (λ (k : ℕ). StartsMove (lessBy (gridCountAt l i)) (lessBy (stampCountAt l i)) k (l .pool .tracked) (sets (l .textures) (textureStride * i) (writeTexture (placedRecord l i (otherState l f i h none)))))
       (sym (add-one i))
-      (renewed-moves l pool f (fewer (gridCountAt l i)) (fewer (stampCountAt l i)) (omega arith) (omega arith) i (otherState l f i h none) h (sym (used-at l i))
+      (renewed-moves l pool f (lessBy (gridCountAt l i)) (lessBy (stampCountAt l i)) (omega arith) (omega arith) i (otherState l f i h none) h (sym (used-at l i))
       (sym (stamps-used-at l i))))
 
   pub can-drop : CanDrop (l .textures) (l .newest) (l .stamps) (l .pool .tracked) (usedIn l) i
@@ -163,5 +143,5 @@ module _ (l : Lent) (f : Fits l) (i : ℕ) (h : i < l .pool .tracked) where
     stamps-end = omega (arith, stamp-ends, stamps-in l f i h);
     stamps-fit = f .stamps-counted;
     behind =
-        subst (λ (r : HistoryRun). StartsMove (fewer (r .grids)) (fewer (r .stamps)) (i + 1) (l .pool .tracked) (recordDropped (l .textures) i)) (sym run-held) moves;
+        subst (λ (r : HistoryRun). StartsMove (lessBy (r .grids)) (lessBy (r .stamps)) (i + 1) (l .pool .tracked) (recordDropped (l .textures) i)) (sym run-held) moves;
   }

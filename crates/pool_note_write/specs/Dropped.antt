@@ -5,9 +5,8 @@ use lib.ListN.{length}
 use lib.Seq.{sets}
 use Rattle.base_blocks.specs.Blocks.{moved}
 use Rattle.pool_records.specs.declared.recorded.Recorded.the-variants.{NoHistory}
-use Rattle.pool_records.specs.declared.shift.Shift.{Shift}
 use Rattle.pool_records.specs.Texture.{writeTexture, textureIn}
-use Rattle.pool_records.specs.Starts.{startsMoved, StartsMove, gridEnd, stampEnd}
+use Rattle.pool_records.specs.Starts.{lessBy, startsMoved, StartsMove, gridEnd, stampEnd, gridsHeld, stampsHeld}
 use Rattle.pool_records.specs.RecordConstants.{textureStride}
 use Rattle.pool_history.specs.declared.run.Used.{Used}
 use Rattle.pool_history.specs.declared.run.HistoryRun.{HistoryRun}
@@ -17,14 +16,10 @@ use Rattle.pool_note_write.specs.History.{recordedAs}
 unfoldable pub runAt : List ℕ → ℕ → Used → ℕ → HistoryRun
 runAt textures n used i = record {
   grid = textureIn textures i .grid;
-  grids = gridEnd textures n (used .grids) i - textureIn textures i .grid;
+  grids = gridsHeld textures n (used .grids) i;
   stamp = textureIn textures i .stamp;
-  stamps = stampEnd textures n (used .stamps) i - textureIn textures i .stamp;
+  stamps = stampsHeld textures n (used .stamps) i;
 }
-
--- down by so many
-abbrev pub fewer : ℕ → Shift
-fewer k = record { less = k; more = 0 }
 
 -- record i without a history
 abbrev pub recordDropped : List ℕ → ℕ → List ℕ
@@ -32,7 +27,7 @@ recordDropped textures i = sets textures (textureStride * i) (writeTexture (reco
 
 -- and those behind it, up to n, moved down by its grids and stamps
 unfoldable pub recordsDropped : List ℕ → ℕ → HistoryRun → ℕ → List ℕ
-recordsDropped textures n run i = startsMoved (fewer (run .grids)) (fewer (run .stamps)) (i + 1) n (recordDropped textures i)
+recordsDropped textures n run i = startsMoved (lessBy (run .grids)) (lessBy (run .stamps)) (i + 1) n (recordDropped textures i)
 
 -- the others' newest stamps and stamps, those behind it moved down
 unfoldable pub newestDropped : List ℕ → Used → HistoryRun → List ℕ
@@ -51,4 +46,4 @@ pub record CanDrop (textures newest stamps : List ℕ) (n : ℕ) (used : Used) (
   pub stamps-begin : textureIn textures i .stamp ≤ stampEnd textures n (used .stamps) i
   pub stamps-end : stampEnd textures n (used .stamps) i ≤ used .stamps
   pub stamps-fit : used .stamps ≤ length stamps
-  pub behind : StartsMove (fewer (runAt textures n used i .grids)) (fewer (runAt textures n used i .stamps)) (i + 1) n (recordDropped textures i)
+  pub behind : StartsMove (lessBy (runAt textures n used i .grids)) (lessBy (runAt textures n used i .stamps)) (i + 1) n (recordDropped textures i)

@@ -13,6 +13,13 @@ use Rattle.pool_records.specs.Texture.{writeTexture, textureIn, textures
 unfoldable pub shiftedBy : Shift → ℕ → ℕ
 shiftedBy m n = n - m .less + m .more
 
+-- down by so many, and up
+abbrev pub lessBy : ℕ → Shift
+lessBy n = record { less = n; more = 0 }
+
+abbrev pub moreBy : ℕ → Shift
+moreBy n = record { less = 0; more = n }
+
 -- a record whose grids and stamps begin elsewhere
 unfoldable pub movedStart : Shift → Shift → TextureRecord → TextureRecord
 movedStart grids stamps t = record {
@@ -50,3 +57,10 @@ gridEnd s n used i = cond (ltb (i + 1) n) (textureIn s (i + 1) .grid) used
 
 unfoldable pub stampEnd : List ℕ → ℕ → ℕ → ℕ → ℕ
 stampEnd s n used i = cond (ltb (i + 1) n) (textureIn s (i + 1) .stamp) used
+
+-- how many grids and stamps it has: from where they begin up to where they end
+abbrev pub gridsHeld : List ℕ → ℕ → ℕ → ℕ → ℕ
+gridsHeld s n used i = gridEnd s n used i - textureIn s i .grid
+
+abbrev pub stampsHeld : List ℕ → ℕ → ℕ → ℕ → ℕ
+stampsHeld s n used i = stampEnd s n used i - textureIn s i .stamp

@@ -15,7 +15,7 @@ use Rattle.pool_rules.specs.TakeSpare.{takeSpare}
 use Rattle.pool_records.specs.declared.texture.TextureRecord.{TextureRecord}
 use Rattle.pool_records.specs.RecordConstants.{textureStride}
 use Rattle.pool_records.specs.Texture.{textureIn}
-use Rattle.pool_records.specs.Starts.{stampEnd}
+use Rattle.pool_records.specs.Starts.{stampEnd, stampsHeld}
 use Rattle.pool_records.specs.Find.{below, hasId}
 use Rattle.pool_memory.specs.declared.pool.Pool.{Pool as Counts}
 use Rattle.pool_memory.specs.Lent.{Lent}
@@ -31,7 +31,6 @@ use Rattle.pool_memory.proofs.Asked.{asked-refused}
 use Rattle.pool_memory.proofs.Tracked.{shape-at, stamps-at}
 use Rattle.pool_access.proofs.Ids as ids
 use Rattle.pool_tracking.specs.Begun.{freshStamps}
-use Rattle.pool_tracking.specs.Holdings.{stampsHeld}
 use Rattle.pool_tracking.specs.Refusal.{mostStamps, trackingRefusal, begunRefusal, foundRefusal, takeRefusal}
 use Rattle.pool_tracking.specs.Cases.{TrackedAt}
 use Rattle.pool_tracking.proofs.Refusals.{take-refused}
@@ -76,7 +75,7 @@ module _ (pool : Counts) (textures : List ℕ) (lent i id : ℕ) (shape : Versio
   begun own = trackingRefusal lent own (pool .stamps) (pool .trackings) shape records
 
   abbrev said-tracked : ℕ
-  said-tracked = cond (sameShape (textureIn textures i .shape) shape) 0 (begun (stampsHeld pool textures i))
+  said-tracked = cond (sameShape (textureIn textures i .shape) shape) 0 (begun (stampsHeld textures (pool .tracked) (pool .stamps) i))
 
   abbrev said-untracked : ℕ
   said-untracked = cond (leb (length textures / textureStride) (pool .tracked)) 5 (begun 0)
@@ -125,8 +124,8 @@ module _ (pool : Counts) (textures : List ℕ) (lent i id : ℕ) (shape : Versio
           same-is : q ≡ sameShape (textureIn textures i .shape) shape
           same-is = e ∙ ap (λ (u : TextureRecord). sameShape (u .shape) shape) is-record
 
-          by-shape : (c : Bool) → q ≡ c → cond c 0 (begun (stampsHeld pool textures i)) ≡ said
-          by-shape c y = sym (ap (λ (d : Bool). cond d 0 (begun (stampsHeld pool textures i))) (sym same-is ∙ y)) ∙ by-found true (not-false b into)
+          by-shape : (c : Bool) → q ≡ c → cond c 0 (begun (stampsHeld textures (pool .tracked) (pool .stamps) i)) ≡ said
+          by-shape c y = sym (ap (λ (d : Bool). cond d 0 (begun (stampsHeld textures (pool .tracked) (pool .stamps) i))) (sym same-is ∙ y)) ∙ by-found true (not-false b into)
 
           pub said-same : q ≡ true → Is (saying 0 0)
           said-same y = record {
@@ -191,7 +190,7 @@ module _ (l : Lent) (i id : ℕ) (shape : VersionShape) (records : Bool) (seq : 
   found-said true e =
       let h = ids.found (l .textures) (l .pool .tracked) i id e in
       ap₂ (λ (s : VersionShape) (n : ℕ). cond (sameShape s shape) 0 n) (sym (shape-at l i (h .0)))
-      (begun-said (stampsHeld (l .pool) (l .textures) i)
+      (begun-said (stampsHeld (l .textures) (l .pool .tracked) (l .pool .stamps) i)
       ∙ ap (begunRefusal (modelOf l) shape records) (stamps-held l f i (h .0) ∙ sym (stamps-at l i (h .0))))
       ∙ ap (foundRefusal (modelOf l) shape records) (sym (found-there l f i (h .0) id at (h .1)))
   found-said false e =

@@ -11,11 +11,10 @@ use Rattle.grid_shapes.specs.Shapes.{isShape, sameShape}
 use Rattle.pool_rules.specs.Model.{limit}
 use Rattle.pool_records.specs.RecordConstants.{textureStride}
 use Rattle.pool_records.specs.Texture.{textureIn, texturesIn}
-use Rattle.pool_records.specs.Starts.{stampEnd}
+use Rattle.pool_records.specs.Starts.{stampEnd, stampsHeld}
 use Rattle.pool_records.specs.Find.{idOf, hasId}
 use Rattle.pool_memory.specs.declared.pool.Pool.{Pool}
 use Rattle.pool_tracking.specs.Begun.{freshStamps}
-use Rattle.pool_tracking.specs.Holdings.{stampsHeld}
 use Rattle.pool_tracking.specs.Refusal.{mostStamps, trackingRefusal}
 use Rattle.pool_take_spare.specs.declared.take_refusal.Refusal.{Refusal}
 
@@ -35,7 +34,7 @@ refusalAt pool textures lent i id shape records seq =
     (cond (ltb limit seq) 3
     (cond (hasId textures (pool .tracked) i id)
     (cond (sameShape (textureIn textures i .shape) shape) 0
-    (trackingRefusal lent (stampsHeld pool textures i) (pool .stamps) (pool .trackings) shape records))
+    (trackingRefusal lent (stampsHeld textures (pool .tracked) (pool .stamps) i) (pool .stamps) (pool .trackings) shape records))
     (cond (leb (length textures / textureStride) (pool .tracked)) 5 (trackingRefusal lent 0 (pool .stamps) (pool .trackings) shape records))))
 
 -- what is said of it; where a tracking begins, also how many stamps its history takes

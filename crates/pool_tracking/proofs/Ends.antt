@@ -12,18 +12,18 @@ use lib.Seq.{take-all}
 use Rattle.base_blocks.specs.Lists.{total}
 use Rattle.pool_records.specs.RecordConstants.{textureStride, textureGridAt, textureStampAt}
 use Rattle.pool_records.specs.Texture.{textureIn, recordGrids, recordStamps}
-use Rattle.pool_records.specs.Starts.{gridEnd, stampEnd}
+use Rattle.pool_records.specs.Starts.{gridEnd, stampEnd, gridsHeld, stampsHeld}
 use Rattle.pool_records.proofs.Starts.{grid-number, stamp-number}
 use Rattle.pool_memory.specs.declared.pool.Pool.{Pool as Counts}
 use Rattle.pool_memory.specs.Lent.{Lent}
 use Rattle.pool_memory.specs.Reading.{trackedRecords}
 use Rattle.pool_memory.proofs.Fits.{Fits}
 use Rattle.pool_memory.proofs.Runs.{firstGrid, firstStamp, tracked-records}
-use Rattle.pool_memory.proofs.HistoryRuns.{grid-next, stamp-next, stamp-bound}
+use Rattle.pool_memory.proofs.HistoryRuns.{grid-last, grid-next, stamp-last, stamp-next, stamp-bound}
+use Rattle.pool_memory.proofs.Starts.{grid-end-at, stamp-end-at}
 use Rattle.pool_memory.proofs.Tracked.{record-read, grid-at, stamp-at}
 use Rattle.pool_tracking.specs.Refusal.{mostStamps}
 use Rattle.pool_tracking.specs.Cases.{recordOf}
-use Rattle.pool_tracking.specs.Holdings.{gridsHeld, stampsHeld}
 use Rattle.pool_tracking.specs.Start.{firstOf, firstAt}
 
 -- ---- as the code reads it
@@ -51,15 +51,6 @@ module _ (l : Lent) (f : Fits l) where
   pub newest-most : length (l .newest) ≤ mostStamps
   newest-most = omega (arith, f .newest, stamps-most)
 
-  -- behind the last one all of them are counted
-  all-grids : (i : ℕ) → l .pool .tracked ≤ i → firstGrid l i ≡ l .pool .grids
-  unfolding firstGrid
-  all-grids i h = ap (total recordGrids) (take-all i (trackedRecords l) (omega (arith, tracked-records l))) ∙ f .claimed
-
-  all-stamps : (i : ℕ) → l .pool .tracked ≤ i → firstStamp l i ≡ l .pool .stamps
-  unfolding firstStamp
-  all-stamps i h = ap (total recordStamps) (take-all i (trackedRecords l) (omega (arith, tracked-records l))) ∙ f .stamps-claimed
-
   -- a texture put in at place i
   pub first-there : (i : ℕ) → i ≤ l .pool .tracked → firstAt (l .pool) (l .textures) i ≡ firstOf (firstGrid l i) (firstStamp l i)
   first-there i h = go (ltb i (l .pool .tracked)) refl
@@ -69,38 +60,24 @@ module _ (l : Lent) (f : Fits l) where
           let k = ltb-true i (l .pool .tracked) e in sym (by-place (l .pool) (l .textures) i true e) ∙ ap₂ firstOf (grid-at l i k f) (stamp-at l i k f)
       go false e =
           let k = ltb-false i (l .pool .tracked) e in
-          sym (by-place (l .pool) (l .textures) i false e) ∙ ap₂ firstOf (sym (all-grids i k)) (sym (all-stamps i k))
+          let last : l .pool .tracked ≡ i = omega (arith, h, k) in
+          sym (by-place (l .pool) (l .textures) i false e)
+          ∙ ap₂ firstOf (sym (grid-last l f) ∙ ap (firstGrid l) last) (sym (stamp-last l f) ∙ ap (firstStamp l) last)
 
   -- those of texture i
   module _ (i : ℕ) (h : i < l .pool .tracked) where
-    pub grid-ends : gridEnd (l .textures) (l .pool .tracked) (l .pool .grids) i ≡ firstGrid l (suc i)
-    unfolding gridEnd
-    grid-ends = go (ltb (i + 1) (l .pool .tracked)) refl ∙ ap (firstGrid l) (add-one i)
-      where
-        go : (b : Bool) → ltb (i + 1) (l .pool .tracked) ≡ b → cond b (textureIn (l .textures) (i + 1) .grid) (l .pool .grids) ≡ firstGrid l (i + 1)
-        go true e = grid-at l (i + 1) (ltb-true (i + 1) (l .pool .tracked) e) f
-        go false e = sym (all-grids (i + 1) (ltb-false (i + 1) (l .pool .tracked) e))
-
-    pub stamp-ends : stampEnd (l .textures) (l .pool .tracked) (l .pool .stamps) i ≡ firstStamp l (suc i)
-    unfolding stampEnd
-    stamp-ends = go (ltb (i + 1) (l .pool .tracked)) refl ∙ ap (firstStamp l) (add-one i)
-      where
-        go : (b : Bool) → ltb (i + 1) (l .pool .tracked) ≡ b → cond b (textureIn (l .textures) (i + 1) .stamp) (l .pool .stamps) ≡ firstStamp l (i + 1)
-        go true e = stamp-at l (i + 1) (ltb-true (i + 1) (l .pool .tracked) e) f
-        go false e = sym (all-stamps (i + 1) (ltb-false (i + 1) (l .pool .tracked) e))
-
     pub grid-begins : recordOf l i .grid ≤ gridEnd (l .textures) (l .pool .tracked) (l .pool .grids) i
-    grid-begins = omega (arith, grid-ends, grid-at l i h f, grid-next l f i h)
+    grid-begins = omega (arith, grid-end-at l f i h, grid-at l i h f, grid-next l f i h)
 
     pub stamp-begins : recordOf l i .stamp ≤ stampEnd (l .textures) (l .pool .tracked) (l .pool .stamps) i
-    stamp-begins = omega (arith, stamp-ends, stamp-at l i h f, stamp-next l f i h)
+    stamp-begins = omega (arith, stamp-end-at l f i h, stamp-at l i h f, stamp-next l f i h)
 
     pub stamp-end-bound : stampEnd (l .textures) (l .pool .tracked) (l .pool .stamps) i ≤ l .pool .stamps
-    stamp-end-bound = omega (arith, stamp-ends, stamp-bound l f (suc i))
+    stamp-end-bound = omega (arith, stamp-end-at l f i h, stamp-bound l f (suc i))
 
     -- as many as its record claims
-    pub grids-held : gridsHeld (l .pool) (l .textures) i ≡ recordGrids (recordOf l i)
-    grids-held = omega (arith, grid-ends, grid-at l i h f, grid-next l f i h, ap recordGrids (record-read l i h))
+    pub grids-held : gridsHeld (l .textures) (l .pool .tracked) (l .pool .grids) i ≡ recordGrids (recordOf l i)
+    grids-held = omega (arith, grid-end-at l f i h, grid-at l i h f, grid-next l f i h, ap recordGrids (record-read l i h))
 
-    pub stamps-held : stampsHeld (l .pool) (l .textures) i ≡ recordStamps (recordOf l i)
-    stamps-held = omega (arith, stamp-ends, stamp-at l i h f, stamp-next l f i h, ap recordStamps (record-read l i h))
+    pub stamps-held : stampsHeld (l .textures) (l .pool .tracked) (l .pool .stamps) i ≡ recordStamps (recordOf l i)
+    stamps-held = omega (arith, stamp-end-at l f i h, stamp-at l i h f, stamp-next l f i h, ap recordStamps (record-read l i h))

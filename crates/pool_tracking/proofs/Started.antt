@@ -21,7 +21,7 @@ use Rattle.pool_rules.proofs.States.{length-insert, total-insert}
 use Rattle.pool_records.specs.RecordConstants.{textureStride}
 use Rattle.pool_records.specs.declared.texture.TextureRecord.{TextureRecord}
 use Rattle.pool_records.specs.Texture.{writeTexture}
-use Rattle.pool_records.specs.Starts.{startsMoved, StartsMove}
+use Rattle.pool_records.specs.Starts.{startsMoved, StartsMove, moreBy}
 use Rattle.pool_records.proofs.Places.{below-length}
 use Rattle.pool_memory.specs.declared.pool.Pool.{Pool as Counts}
 use Rattle.pool_memory.specs.Lent.{Lent, lent}
@@ -42,7 +42,7 @@ use Rattle.pool_tracking.specs.declared.begun.NewTracking.{NewTracking}
 use Rattle.pool_tracking.specs.declared.start.First.{First}
 use Rattle.pool_tracking.specs.Begun.{freshGrids, newRecord}
 use Rattle.pool_tracking.specs.Cases.{Begins, TrackedAt}
-use Rattle.pool_tracking.specs.Start.{moreBy, firstOf, firstAt, recordStarted, zerosPut, oneTracked, StartFits, trackingStarted}
+use Rattle.pool_tracking.specs.Start.{firstOf, firstAt, recordStarted, zerosPut, oneTracked, StartFits, trackingStarted}
 use Rattle.pool_tracking.proofs.Refusals.{shape-passed, take-new, formed-then}
 use Rattle.pool_tracking.proofs.Counts.{counted, counts-after}
 use Rattle.pool_tracking.proofs.Tracked.{not-there}

@@ -9,18 +9,11 @@ use Rattle.pool_records.specs.RecordConstants.{textureStride}
 use Rattle.pool_records.specs.declared.shift.Shift.{Shift}
 use Rattle.pool_records.specs.declared.texture.TextureRecord.{TextureRecord}
 use Rattle.pool_records.specs.Texture.{writeTexture, textureIn, texturesIn}
-use Rattle.pool_records.specs.Starts.{gridEnd, stampEnd}
+use Rattle.pool_records.specs.Starts.{gridEnd, gridsHeld, stampEnd, stampsHeld}
 use Rattle.pool_memory.specs.declared.pool.Pool.{Pool}
 use Rattle.pool_tracking.specs.declared.begun.NewTracking.{NewTracking}
 use Rattle.pool_tracking.specs.declared.holding.Holding.{Holding}
 use Rattle.pool_tracking.specs.Begun.{newRecord}
-
--- how many grids and stamps texture i has: from where they begin up to where they end
-abbrev pub gridsHeld : Pool → List ℕ → ℕ → ℕ
-gridsHeld pool textures i = gridEnd textures (pool .tracked) (pool .grids) i - textureIn textures i .grid
-
-abbrev pub stampsHeld : Pool → List ℕ → ℕ → ℕ
-stampsHeld pool textures i = stampEnd textures (pool .tracked) (pool .stamps) i - textureIn textures i .stamp
 
 unfoldable pub holdingAt : Pool → List ℕ → ℕ → Holding
 holdingAt pool textures i = record {
@@ -28,9 +21,9 @@ holdingAt pool textures i = record {
   spares = textureIn textures i .spares;
   bytes = textureIn textures i .bytes;
   grid = textureIn textures i .grid;
-  grids = gridsHeld pool textures i;
+  grids = gridsHeld textures (pool .tracked) (pool .grids) i;
   stamp = textureIn textures i .stamp;
-  stamps = stampsHeld pool textures i;
+  stamps = stampsHeld textures (pool .tracked) (pool .stamps) i;
 }
 
 -- what is asked to read it: texture i is there, its grids and stamps end behind where they begin, and there are no more spares than can be

@@ -11,9 +11,8 @@ use Rattle.grid_shapes.specs.Shapes.{isShape}
 use Rattle.pool_rules.specs.Model.{limit}
 use Rattle.pool_rules.specs.RuleConstants.{mostPlaces}
 use Rattle.pool_records.specs.RecordConstants.{textureStride}
-use Rattle.pool_records.specs.declared.shift.Shift.{Shift}
 use Rattle.pool_records.specs.Texture.{writeTexture, textureIn}
-use Rattle.pool_records.specs.Starts.{startsMoved, StartsMove}
+use Rattle.pool_records.specs.Starts.{startsMoved, StartsMove, moreBy}
 use Rattle.pool_memory.specs.declared.pool.Pool.{Pool}
 use Rattle.pool_tracking.specs.declared.begun.NewTracking.{NewTracking}
 use Rattle.pool_tracking.specs.declared.start.First.{First}
@@ -27,10 +26,6 @@ firstOf grid stamp = record { grid = grid; stamp = stamp }
 unfoldable pub firstAt : Pool → List ℕ → ℕ → First
 firstAt pool textures i =
     cond (ltb i (pool .tracked)) (firstOf (textureIn textures i .grid) (textureIn textures i .stamp)) (firstOf (pool .grids) (pool .stamps))
-
--- what stands behind moves up
-abbrev pub moreBy : ℕ → Shift
-moreBy n = record { less = 0; more = n }
 
 -- n records and one more, the texture's
 abbrev pub recordStarted : List ℕ → ℕ → NewTracking → ℕ → First → List ℕ

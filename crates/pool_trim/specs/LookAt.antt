@@ -8,7 +8,7 @@ use Rattle.base_blocks.specs.Lists.{listed}
 use Rattle.base_tables.specs.Records.{recordAt}
 use Rattle.pool_records.specs.declared.texture.TextureRecord.{TextureRecord}
 use Rattle.pool_records.specs.Spare.{readSpare}
-use Rattle.pool_records.specs.Starts.{gridEnd, stampEnd}
+use Rattle.pool_records.specs.Starts.{gridsHeld, stampsHeld}
 use Rattle.pool_records.specs.Texture.{writeTexture, textureIn}
 use Rattle.pool_records.specs.Views.{spareOf}
 use Rattle.pool_rules.specs.Model.{Spare}
@@ -47,7 +47,7 @@ unfoldable pub lookAt : ℕ → Counts → List ℕ → List ℕ → ℕ → ℕ
 lookAt now c textures spares i first =
     let t : TextureRecord = textureIn textures i in
     lookOf now t (agedCount now (listed (spareIn spares) first (t .spares)))
-    (gridEnd textures (c .tracked) (c .grids) i - t .grid) (stampEnd textures (c .tracked) (c .stamps) i - t .stamp)
+    (gridsHeld textures (c .tracked) (c .grids) i) (stampsHeld textures (c .tracked) (c .stamps) i)
 
 -- the record after it: its grids and stamps begin behind those of the textures that stay before it
 unfoldable pub lookedRecord : Look → Pass → TextureRecord → TextureRecord

@@ -4,8 +4,8 @@ use mathlib.Core.Path.{ap, _∙_}
 use mathlib.Core.List.{List}
 use Prim.Native.Nat.{ℕ, _-_}
 use native.Mathlib.Omega.{arith}
-use Rattle.pool_records.specs.Starts.{startsMoved}
-use Rattle.pool_forget_texture.specs.Owned.{gridsOut, stampsOut, withoutRecord}
+use Rattle.pool_records.specs.Starts.{lessBy, startsMoved}
+use Rattle.pool_forget_texture.specs.Owned.{withoutRecord}
 use Rattle.pool_forget_texture.proofs.owned.remove_record.Statement.{statement}
 use Rattle.pool_forget_texture.proofs.owned.remove_record.Tie as tie
 
@@ -39,7 +39,7 @@ returns c =
     let r = m .before .before .before .before in
     let a = r .before .before .before .args in
     m .move-starts .ensures
-    ∙ ap (λ (s : List ℕ). startsMoved (gridsOut (a .own)) (stampsOut (a .own)) (a .i) (a .n - 1) s) (r .remove-texture .ensures)
+    ∙ ap (λ (s : List ℕ). startsMoved (lessBy (a .own .grids)) (lessBy (a .own .stamps)) (a .i) (a .n - 1) s) (r .remove-texture .ensures)
 
 pub remove-record-spec : {M : Type 1} → statement M
 remove-record-spec = tie.close (tie.spec remove-texture-requires sub-move-starts move-starts-requires same-length returns)
