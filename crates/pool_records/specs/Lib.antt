@@ -6,5 +6,6 @@ pub mod Retiring
 pub mod Doomed
 pub mod Texture
 pub mod Starts
+pub mod Tilings
 pub mod Find
 pub mod Views

@@ -64,3 +64,15 @@ spareParkedAt = 2
 -- Where a doomed version's record has its bytes.
 abbrev pub doomedBytesAt : ℕ
 doomedBytesAt = 1
+
+-- Where in its history a grid begins is below this: 2^17, and a history has at most 92,160 stamps.
+abbrev pub startSpan : ℕ
+startSpan = 131072
+
+-- A tile's edge is below this: 2^15, and no edge passes 16,384.
+abbrev pub edgeSpan : ℕ
+edgeSpan = 32768
+
+-- What an edge down counts for in a grid's tiling: 2^32, above the start and the edge across.
+abbrev pub downUnit : ℕ
+downUnit = 4294967296

@@ -11,6 +11,7 @@ use Rattle.pool_records.specs.declared.texture.TextureRecord.{TextureRec
 use Rattle.pool_records.specs.RecordConstants.{textureStride}
 use Rattle.pool_records.specs.Recorded.{recordedOf, recordedNumber}
 use Rattle.pool_rules.specs.Model.{gridCount}
+use Rattle.pool_rules.specs.RuleConstants.{gridStride}
 use Rattle.pool_rules.specs.HistorySizes.{historySize}
 use Rattle.pool_records.specs.declared.recorded.Recorded.{Recorded}
 use Rattle.pool_records.specs.declared.recorded.Recorded.the-variants.{Writes, NoHistory}
@@ -63,9 +64,9 @@ texturesIn n s = table textureStride readTexture n s
 
 abbrev pub recordedGrids : Recorded → VersionShape → ℕ
 recordedGrids NoHistory s = 0
-recordedGrids (Writes n) s = gridCount s
+recordedGrids (Writes n) s = gridStride * gridCount s
 
--- how many grids a texture's record claims
+-- how many numbers of `newest` a texture's record claims, two for each of its grids
 abbrev pub recordGrids : TextureRecord → ℕ
 recordGrids t = recordedGrids (t .history) (t .shape)
 

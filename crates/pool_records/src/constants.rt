@@ -47,3 +47,12 @@ pub const SPARE_PARKED_AT: usize = 2;
 
 // Where a doomed version's record has its bytes.
 pub const DOOMED_BYTES_AT: usize = 1;
+
+// Where in its history a grid begins is below this: 2^17, and a history has at most 92,160 stamps.
+pub const START_SPAN: u64 = 1 << 17;
+
+// A tile's edge is below this: 2^15, and no edge passes 16,384.
+pub const EDGE_SPAN: u64 = 1 << 15;
+
+// What an edge down counts for in a grid's tiling: 2^32, above the start and the edge across.
+pub const DOWN_UNIT: u64 = 1 << 32;

@@ -9,6 +9,7 @@ mod retiring;
 mod shift;
 mod spare;
 mod texture;
+mod tiling;
 
 pub use constants::DOOMED_BYTES_AT;
 pub use constants::DOOMED_STRIDE;
@@ -41,3 +42,6 @@ pub use spare::spare_numbers;
 pub use texture::TextureRecord;
 pub use texture::read_texture;
 pub use texture::texture_numbers;
+pub use tiling::GridTiling;
+pub use tiling::read_tiling;
+pub use tiling::tiling_number;

@@ -22,11 +22,11 @@ use Rattle.grid_shapes.proofs.Shapes.{shape-bounds, slices-bound}
 use Rattle.grid_stamps.specs.Grids.{tilingOf, stampCount}
 use Rattle.grid_stamps.specs.StampConstants.{pageStamps}
 use Rattle.grid_stamps.proofs.Tilings.{tiling-ok, count-bound, count-pos}
-use Rattle.pool_rules.specs.Model.{VersionState, gridCount, hasHistory, gridsUsed}
+use Rattle.pool_rules.specs.Model.{VersionState, gridCount, hasHistory}
 use Rattle.pool_rules.specs.Histories.{newHistory}
-use Rattle.pool_rules.specs.HistorySizes.{gridSize, gridPlaces, historySize, gridStart, levelStart, stampsUsed}
+use Rattle.pool_rules.specs.HistorySizes.{gridSize, gridPlaces, historySize, gridStart, levelStart, newestUsed, stampsUsed}
 use Rattle.pool_rules.specs.Formed.{StateFormed}
-use Rattle.pool_rules.specs.RuleConstants.{mostGrids}
+use Rattle.pool_rules.specs.RuleConstants.{gridStride, mostGrids}
 use Rattle.pool_rules.proofs.GridPlaces.{place-level}
 
 abbrev self : ℕ → ℕ
@@ -159,14 +159,16 @@ module _ (s : VersionShape) where
 -- ---- of a pool's textures
 
 module _ {W : Type 0} where
-  state-grids : (t : VersionState W) → StateFormed t → (gridsUsed t ≤ stampsUsed t) × (gridsUsed t ≤ mostGrids)
+  state-grids : (t : VersionState W) → StateFormed t → (newestUsed t ≤ gridStride * stampsUsed t) × (newestUsed t ≤ gridStride * mostGrids)
   state-grids t f = go (hasHistory (t .history))
     where
-      go : (b : Bool) → (cond b (gridCount (t .shape)) 0 ≤ cond b (historySize (t .shape)) 0) × (cond b (gridCount (t .shape)) 0 ≤ mostGrids)
-      go true = (grids-stamped (t .shape) (f .shape), grids-most (t .shape) (f .shape))
+      go : (b : Bool) → (cond b (gridStride * gridCount (t .shape)) 0 ≤ gridStride * cond b (historySize (t .shape)) 0)
+          × (cond b (gridStride * gridCount (t .shape)) 0 ≤ gridStride * mostGrids)
+      go true = (omega (arith, grids-stamped (t .shape) (f .shape)), omega (arith, grids-most (t .shape) (f .shape)))
       go false = (omega arith, omega arith)
 
-  pub grids-room : (ts : List (VersionState W)) → All StateFormed ts → (total gridsUsed ts ≤ total stampsUsed ts) × (total gridsUsed ts ≤ mostGrids * length ts)
+  grids-room : (ts : List (VersionState W)) → All StateFormed ts
+      → (total newestUsed ts ≤ gridStride * total stampsUsed ts) × (total newestUsed ts ≤ gridStride * (mostGrids * length ts))
   unfolding total
   grids-room [] nil = (omega arith, omega arith)
   grids-room (t ∷ ts) (cons f fs) =
@@ -174,9 +176,9 @@ module _ {W : Type 0} where
       let b = grids-room ts fs in
       (omega (arith, a, b), omega (arith, a, b))
 
-  -- so a pool whose stamps and textures fit has room for every grid's newest
+  -- so a pool whose stamps and textures fit has room for every grid's numbers
   pub newest-room : (ts : List (VersionState W)) → All StateFormed ts → (textures stamps newest : ℕ)
-      → length ts ≤ textures → total stampsUsed ts ≤ stamps → newest ≡ min (mostGrids * textures) stamps → total gridsUsed ts ≤ newest
+      → length ts ≤ textures → total stampsUsed ts ≤ stamps → newest ≡ gridStride * min (mostGrids * textures) stamps → total newestUsed ts ≤ newest
   newest-room ts f textures stamps newest a b e = let r = grids-room ts f in omega (arith, r, e)
 
 -- what the rule of 6 accepts fits beside the others', one's own given back

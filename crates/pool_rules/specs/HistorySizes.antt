@@ -1,6 +1,6 @@
 -- Rule: How many stamps a grid and a history take, and where in its history a grid begins (02, W-201): a grid occupies just its columns times rows,
 -- and the grids of a history stand one behind the other, slice by slice, level by level.
-use Prim.Native.Nat.{ℕ, _%_}
+use Prim.Native.Nat.{ℕ, _*_, _%_}
 use mathlib.Core.Bool.{cond}
 use mathlib.Core.List.{List}
 use Rattle.base_blocks.specs.Lists.{listed, total}
@@ -8,6 +8,7 @@ use Rattle.base_unequal.specs.Unequal.{startOf}
 use Rattle.grid_shapes.specs.declared.shape.VersionShape.{VersionShape}
 use Rattle.grid_stamps.specs.Grids.{tilingOf, stampCount}
 use Rattle.pool_rules.specs.Model.{VersionState, gridCount, hasHistory}
+use Rattle.pool_rules.specs.RuleConstants.{gridStride}
 
 -- the stamps of a history's k-th grid
 unfoldable pub gridSize : VersionShape → ℕ → ℕ
@@ -33,3 +34,7 @@ module _ {W : Type 0} where
   -- stamps in use: those of its history
   abbrev pub stampsUsed : VersionState W → ℕ
   stampsUsed t = cond (hasHistory (t .history)) (historySize (t .shape)) 0
+
+  -- numbers of `newest` in use: two for each grid of its history
+  abbrev pub newestUsed : VersionState W → ℕ
+  newestUsed t = cond (hasHistory (t .history)) (gridStride * gridCount (t .shape)) 0

@@ -9,6 +9,10 @@ mostPlaces = 4096
 abbrev pub mostGrids : ℕ
 mostGrids = 90
 
+-- The numbers that `newest` has for each grid: the newest of its stamps, and its tiling.
+abbrev pub gridStride : ℕ
+gridStride = 2
+
 -- Submissions that a spare may wait for a rename, counted from its parking. The Rust: this bound sizes the pool to the demand,
 -- for a texture that is still renamed takes its newest spares first and leaves the oldest to age; eight gives a texture that
 -- stopped being renamed its storage back within about 130 ms at 60 frames a second. Counted from retiring instead, the same

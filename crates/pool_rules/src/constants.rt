@@ -10,6 +10,9 @@ pub const MOST_PLACES: usize = 4096;
 // The most grids of a texture: fifteen levels on each of a cube's six slices.
 pub const MOST_GRIDS: usize = 90;
 
+// The numbers that `newest` has for each grid: the newest of its stamps, and its tiling.
+pub const GRID_STRIDE: usize = 2;
+
 // Submissions that a spare may wait for a rename, counted from its parking. The Rust: this bound sizes the pool to the demand,
 // for a texture that is still renamed takes its newest spares first and leaves the oldest to age; eight gives a texture that
 // stopped being renamed its storage back within about 130 ms at 60 frames a second. Counted from retiring instead, the same
