@@ -11,8 +11,8 @@ use Rattle.base_blocks.specs.Blocks.{moved}
 use Rattle.base_blocks.proofs.Lists.{total-get}
 use Rattle.base_tables.specs.Rings.{laid}
 use Rattle.grid_shapes.specs.Shapes.{bytesOf}
-use Rattle.pool_rules.specs.Model.{Spare, Doomed, VersionState, PoolModel, accepted, spareBytes, doomedBytes, gridsUsed}
-use Rattle.pool_rules.specs.HistorySizes.{stampsUsed}
+use Rattle.pool_rules.specs.Model.{Spare, Doomed, VersionState, PoolModel, accepted, spareBytes, doomedBytes}
+use Rattle.pool_rules.specs.HistorySizes.{newestUsed, stampsUsed}
 use Rattle.pool_rules.specs.Updates.{withTextures, asDoomed, doomSpares}
 use Rattle.pool_rules.specs.ForgetTexture.{forgetTexture}
 use Rattle.pool_rules.proofs.Moves.{as-doomed-bytes, as-doomed-length}
@@ -123,7 +123,7 @@ module _ (l : Lent) (f : Fits l) (i : ℕ) (h : i < l .pool .tracked) where
     own-stamps = omega (arith, stamp-is, stamps-is, stamps-in l f i h)
 
     -- as many as the texture's state has
-    grids-used : own .grids ≡ gridsUsed (stateOf l i)
+    grids-used : own .grids ≡ newestUsed (stateOf l i)
     grids-used = grids-is ∙ ap recordGrids (record-read l i h) ∙ sym (grids-at l i h)
 
     stamps-used : own .stamps ≡ stampsUsed (stateOf l i)
@@ -199,7 +199,7 @@ module _ (l : Lent) (f : Fits l) (i : ℕ) (h : i < l .pool .tracked) where
     tracked = sym (tracked-removed l left i 1 (omega arith) refl) j;
     kept = sym (kept-removed l left (f .kept) (firstSpare l i) (sparesAt l i) spares-there (every-removed l i h)
         ∙ ap (λ (n : ℕ). l .pool .kept - n) (own-spares-are ∙ sym (spares-is own e))) j;
-    grids = less gridsUsed (l .pool .grids) (own .grids) (grids-model l ∙ f .claimed) (grids-used own e) j;
+    grids = less newestUsed (l .pool .grids) (own .grids) (grids-model l ∙ f .claimed) (grids-used own e) j;
     stamps = less stampsUsed (l .pool .stamps) (own .stamps) (stamps-used-model l ∙ f .stamps-claimed) (stamps-used own e) j;
     head = sym (head-stays l left (f .head) (omega (arith, hand-model l (f .hand)))) j;
     popped = sym (hand-model l (f .hand)) j;

@@ -9,10 +9,10 @@ use Rattle.pool_rules.specs.Formed.{Formed}
 use Rattle.pool_records.specs.declared.texture.TextureRecord.{TextureRecord}
 use Rattle.pool_memory.specs.Lent.{Lent, versionPlaces}
 use Rattle.pool_memory.specs.Reading.{trackedRecords, modelOf}
-use Rattle.pool_memory.specs.IsPool.{bytesFit, startsHold}
+use Rattle.pool_memory.specs.IsPool.{bytesFit, startsHold, tilingsFit}
 use Rattle.grid_stamps.specs.StampConstants.{pageStamps}
 use Rattle.pool_records.specs.RecordConstants.{doomedStride, retiringStride, spareStride, textureStride}
-use Rattle.pool_rules.specs.RuleConstants.{mostGrids, mostPlaces}
+use Rattle.pool_rules.specs.RuleConstants.{gridStride, mostGrids, mostPlaces}
 use Rattle.pool_records.specs.Texture.{recordGrids, recordStamps}
 
 pub record Fits (l : Lent) : Type 0 where
@@ -23,7 +23,7 @@ pub record Fits (l : Lent) : Type 0 where
   pub doomed : doomedStride * versionPlaces l ≡ length (l .doomed)
   pub spares : spareStride * versionPlaces l ≡ length (l .spares)
   pub stamps : pageStamps * modelOf l .places .pages ≡ length (l .stamps)
-  pub newest : length (l .newest) ≡ min (mostGrids * modelOf l .places .textures) (length (l .stamps))
+  pub newest : length (l .newest) ≡ gridStride * min (mostGrids * modelOf l .places .textures) (length (l .stamps))
   pub least : 1 ≤ versionPlaces l
   pub most : versionPlaces l ≤ mostPlaces
   pub most-pages : modelOf l .places .pages ≤ mostPlaces
@@ -41,6 +41,8 @@ pub record Fits (l : Lent) : Type 0 where
   pub stamps-claimed : total recordStamps (trackedRecords l) ≡ l .pool .stamps
   -- they hold where their grids and stamps begin
   pub starts : startsHold l ≡ true
+  -- beside the newest stamp of each grid stands its tiling
+  pub tilings : tilingsFit l ≡ true
   -- their bytes are those of their shapes
   pub bytes : bytesFit l ≡ true
   -- the pressure mark is 0 or 1

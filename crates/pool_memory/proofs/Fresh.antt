@@ -1,6 +1,6 @@
--- The grids of a new history: nothing written, so all 0. Assumes nothing.
+-- The grids of a new history: nothing written, so all stamps are 0. Assumes nothing.
 use mathlib.Core.Path.{_≡_, refl, sym, ap, ap₂, _∙_}
-use mathlib.Core.List.{List, [], _∷_, _++_, map, flatMap}
+use mathlib.Core.List.{List, [], _∷_, _++_, flatMap}
 use Prim.Native.Nat.{ℕ, zero, suc, _+_, _*_}
 use lib.ListN.{length, replicate}
 use Rattle.base_blocks.specs.Lists.{listed, total}
@@ -17,6 +17,8 @@ use Rattle.base_unequal.proofs.Starts.{total-inner, total-equal}
 use Rattle.base_blocks.proofs.Listed.{length-listed}
 use native.Mathlib.Nat.{mul-comm}
 use Rattle.pool_rules.proofs.GridPlaces.{new-size}
+use Rattle.pool_records.specs.Tilings.{tilingNumber, freshFrom}
+use Rattle.pool_memory.specs.Writing.{newestFrom}
 use Rattle.pool_memory.proofs.Rewritten.{replicate-add, length-zeros}
 
 -- ---- a new history's grids
@@ -35,9 +37,11 @@ unwritten s =
     (λ j q. record { newest = refl; count = stampCount (tilingOf s (0 + j)); stamps = refl }))
     (all-listed {P = λ (k : ℕ). Unit {0}} (λ (slice : ℕ). slice) 0 (slicesOf s) (λ j q. tt))
 
-unwritten-newest : (gs : List StampGrid) → All Unwritten gs → map (λ (g : StampGrid). g .newest) gs ≡ replicate (length gs) 0
-unwritten-newest [] nil = refl
-unwritten-newest (g ∷ gs) (cons u us) = ap₂ (λ (n : ℕ) (l : List ℕ). n ∷ l) (u .newest) (unwritten-newest gs us)
+-- no newest stamp, and their tilings
+unwritten-newest : (s : VersionShape) (j : ℕ) (gs : List StampGrid) → All Unwritten gs → newestFrom s j gs ≡ freshFrom s j (length gs)
+unfolding newestFrom freshFrom
+unwritten-newest s j [] nil = refl
+unwritten-newest s j (g ∷ gs) (cons u us) = ap₂ (λ (n : ℕ) (l : List ℕ). n ∷ (tilingNumber s j ∷ l)) (u .newest) (unwritten-newest s (suc j) gs us)
 
 -- as many 0 as they have stamps
 unwritten-stamps : (gs : List StampGrid) → All Unwritten gs
@@ -81,8 +85,8 @@ new-stamps s =
     ∙ mul-comm (levelStart s (s .levels)) (slicesOf s)
     ∙ sym (history-size s)
 
-pub fresh-newest : (s : VersionShape) → map (λ (g : StampGrid). g .newest) (newHistory s .grids) ≡ replicate (gridCount s) 0
-fresh-newest s = unwritten-newest (newHistory s .grids) (unwritten s) ∙ ap (λ (n : ℕ). replicate n 0) (new-grids s)
+pub fresh-newest : (s : VersionShape) → newestFrom s 0 (newHistory s .grids) ≡ freshFrom s 0 (gridCount s)
+fresh-newest s = unwritten-newest s 0 (newHistory s .grids) (unwritten s) ∙ ap (freshFrom s 0) (new-grids s)
 
 pub fresh-stamps : (s : VersionShape) → flatMap (λ (g : StampGrid). g .stamps) (newHistory s .grids) ≡ replicate (historySize s) 0
 fresh-stamps s = unwritten-stamps (newHistory s .grids) (unwritten s) ∙ ap (λ (n : ℕ). replicate n 0) (new-stamps s)

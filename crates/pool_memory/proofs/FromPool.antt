@@ -34,14 +34,14 @@ use Rattle.pool_records.specs.declared.recorded.Recorded.the-variants.{Writes, 
 use Rattle.pool_records.specs.declared.texture.TextureRecord.{TextureRecord}
 use Rattle.pool_memory.specs.Lent.{Lent, versionPlaces}
 use Rattle.pool_memory.specs.Reading.{trackedRecords, gridRead, historyRead, spareRead, stateRead, statesRead, retiringRead, doomedRead, modelOf}
-use Rattle.pool_memory.specs.IsPool.{sizesFit, countsFit, runsFit, startsHold, bytesFit, markFits, isGrid, isHistory, isHeldCount, isSpare, isState, isRetiring, isHand, isDoomed, isArrival, isFormed, isPool}
+use Rattle.pool_memory.specs.IsPool.{sizesFit, countsFit, runsFit, startsHold, tilingsFit, bytesFit, markFits, isGrid, isHistory, isHeldCount, isSpare, isState, isRetiring, isHand, isDoomed, isArrival, isFormed, isPool}
 use Rattle.pool_memory.proofs.FitsTests.{all-holds, ascending-holds}
 use Rattle.pool_memory.proofs.Fits.{Fits}
 use Rattle.pool_memory.proofs.Runs.{firstStampIn, kept-states, tracked-model, stamp-starts, stamps-used-model}
 use Rattle.pool_memory.proofs.Rings.{hand-model}
 use Rattle.grid_stamps.specs.StampConstants.{pageStamps}
 use Rattle.pool_records.specs.RecordConstants.{doomedStride, retiringStride, spareStride, textureStride}
-use Rattle.pool_rules.specs.RuleConstants.{mostGrids, mostPlaces}
+use Rattle.pool_rules.specs.RuleConstants.{gridStride, mostGrids, mostPlaces}
 use Rattle.pool_records.specs.Texture.{recordGrids, recordedStamps, recordStamps}
 
 -- ---- 01's conditions of each part
@@ -82,7 +82,7 @@ module _ (l : Lent) (s : VersionShape) (grid stamp : ℕ) where
         → GridFormed (tilingOf s (k % s .levels)) n (gridRead l s grid stamp k)
     unfolding gridRead gridSize
     read-formed n k h e =
-        grid-formed (tilingOf s (k % s .levels)) n (getD (l .newest) (grid + k) 0) (drop (stamp + gridStart s k) (l .stamps))
+        grid-formed (tilingOf s (k % s .levels)) n (getD (l .newest) (grid + gridStride * k) 0) (drop (stamp + gridStart s k) (l .stamps))
         (omega (arith, grid-end s k h, length-drop (stamp + gridStart s k) (l .stamps))) e
 
     history-formed : (h : Recorded) → isHistory (historyRead l s grid stamp h) ≡ true → Given (HistoryFormed s) (historyRead l s grid stamp h)
@@ -233,7 +233,7 @@ module _ (l : Lent) (e : sizesFit l ≡ true) where
   unfolding sizesFit
   whole-stamps = sym (eqb-true _ _ (passed _ e 5))
 
-  pub whole-newest : length (l .newest) ≡ min (mostGrids * modelOf l .places .textures) (length (l .stamps))
+  pub whole-newest : length (l .newest) ≡ gridStride * min (mostGrids * modelOf l .places .textures) (length (l .stamps))
   unfolding sizesFit
   whole-newest = eqb-true _ _ (passed _ e 6)
 
@@ -265,17 +265,21 @@ module _ (l : Lent) (e : isPool l ≡ true) where
   unfolding isPool
   starts-hold = passed _ e 3
 
+  tilings-fit : tilingsFit l ≡ true
+  unfolding isPool
+  tilings-fit = passed _ e 4
+
   bytes-hold : bytesFit l ≡ true
   unfolding isPool
-  bytes-hold = passed _ e 4
+  bytes-hold = passed _ e 5
 
   forming : isFormed (modelOf l) ≡ true
   unfolding isPool
-  forming = passed _ e 6
+  forming = passed _ e 7
 
   marked : l .book .pressed ≤ 1
   unfolding isPool markFits
-  marked = leb-true _ _ (passed _ e 5)
+  marked = leb-true _ _ (passed _ e 6)
 
   grids-claimed : total recordGrids (trackedRecords l) ≡ l .pool .grids
   unfolding runsFit
@@ -360,6 +364,7 @@ module _ (l : Lent) (e : isPool l ≡ true) where
     claimed = grids-claimed;
     stamps-claimed = stamps-claimed;
     starts = starts-hold;
+    tilings = tilings-fit;
     bytes = bytes-hold;
     mark = marked;
     formed = model-formed;

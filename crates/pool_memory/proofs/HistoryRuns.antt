@@ -12,7 +12,7 @@ use Rattle.pool_rules.specs.Model.{WriteHistory, VersionState, PoolModel}
 use Rattle.pool_records.specs.Texture.{readTexture, recordGrids, recordStamps}
 use Rattle.pool_memory.specs.Lent.{Lent}
 use Rattle.pool_memory.specs.Reading.{trackedRecords, modelOf}
-use Rattle.pool_memory.specs.Writing.{gridsOf, newestOf, newestAfter, stampsOf, stampsAfter}
+use Rattle.pool_memory.specs.Writing.{gridsOf, newestFrom, newestOf, newestAfter, stampsOf, stampsAfter}
 use Rattle.pool_memory.proofs.Fits.{Fits}
 use Rattle.pool_memory.proofs.Runs.{firstGrid, firstStamp}
 use Rattle.pool_memory.proofs.Packings.{newestPacking, stampsPacking, from-next, from-bound, from-last, from-order, size-in, inserted-packed, renewed-packed, rewritten-packed, dropped-packed, removed-packed}
@@ -98,9 +98,9 @@ module _ (l : Lent) (f : Fits l) where
     -- its history dropped
     pub newest-dropped : t .history ≡ none
         → moved (l .newest) (firstGrid l i) (firstGrid l i + gridCountAt l i) (l .pool .grids - (firstGrid l i + gridCountAt l i)) ≡ newestAfter p l
-    unfolding newestAfter firstGrid
+    unfolding newestAfter newestFrom firstGrid
     newest-dropped n =
-        dropped-packed (newestPacking l f) p i h t e (ap (λ (o : Option WriteHistory). map (λ (g : StampGrid). g .newest) (gridsOf o)) n)
+        dropped-packed (newestPacking l f) p i h t e (ap (λ (o : Option WriteHistory). newestFrom (t .shape) 0 (gridsOf o)) n)
 
     pub stamps-dropped : t .history ≡ none
         → moved (l .stamps) (firstStamp l i) (firstStamp l i + stampCountAt l i) (l .pool .stamps - (firstStamp l i + stampCountAt l i)) ≡ stampsAfter p l

@@ -3,13 +3,14 @@ use mathlib.Core.Path.{_≡_, sym, ap, _∙_}
 use mathlib.Core.Bool.{cond}
 use mathlib.Core.Option.{Option}
 use mathlib.Core.List.{List, map, flatMap}
-use Prim.Native.Nat.{ℕ}
+use Prim.Native.Nat.{ℕ, _*_}
 use Rattle.base_blocks.specs.Lists.{total}
 use Rattle.grid_shapes.specs.declared.shape.VersionShape.{VersionShape}
 use Rattle.grid_stamps.specs.Grids.{StampGrid}
-use Rattle.pool_rules.specs.Model.{WriteHistory, VersionState, hasHistory, gridCount, gridsUsed}
-use Rattle.pool_rules.specs.HistorySizes.{historySize, stampsUsed}
-use Rattle.pool_memory.specs.Writing.{gridsOf, newestOf, stampsOf}
+use Rattle.pool_rules.specs.Model.{WriteHistory, VersionState, hasHistory, gridCount}
+use Rattle.pool_rules.specs.HistorySizes.{historySize, newestUsed, stampsUsed}
+use Rattle.pool_rules.specs.RuleConstants.{gridStride}
+use Rattle.pool_memory.specs.Writing.{gridsOf, newestFrom, newestOf, stampsOf}
 use Rattle.pool_memory.proofs.Parts.{flat-mapped, total-mapped}
 
 -- what the grids of a texture depend on
@@ -22,7 +23,7 @@ abbrev pub keptHistory : VersionState ℕ → KeptHistory
 keptHistory t = record { id = t .id; shape = t .shape; history = t .history }
 
 abbrev newestIn : KeptHistory → List ℕ
-newestIn t = map (λ (g : StampGrid). g .newest) (gridsOf (t .history))
+newestIn t = newestFrom (t .shape) 0 (gridsOf (t .history))
 
 pub newest-kept : (ts us : List (VersionState ℕ)) → map keptHistory ts ≡ map keptHistory us → flatMap newestOf ts ≡ flatMap newestOf us
 newest-kept ts us e = flat-mapped keptHistory newestIn ts ∙ ap (flatMap newestIn) e ∙ sym (flat-mapped keptHistory newestIn us)
@@ -34,9 +35,9 @@ pub stamps-kept : (ts us : List (VersionState ℕ)) → map keptHistory ts ≡ m
 stamps-kept ts us e = flat-mapped keptHistory stampsIn ts ∙ ap (flatMap stampsIn) e ∙ sym (flat-mapped keptHistory stampsIn us)
 
 abbrev usedIn : KeptHistory → ℕ
-usedIn t = cond (hasHistory (t .history)) (gridCount (t .shape)) 0
+usedIn t = cond (hasHistory (t .history)) (gridStride * gridCount (t .shape)) 0
 
-pub grids-kept : (ts us : List (VersionState ℕ)) → map keptHistory ts ≡ map keptHistory us → total gridsUsed ts ≡ total gridsUsed us
+pub grids-kept : (ts us : List (VersionState ℕ)) → map keptHistory ts ≡ map keptHistory us → total newestUsed ts ≡ total newestUsed us
 grids-kept ts us e = total-mapped keptHistory usedIn ts ∙ ap (total usedIn) e ∙ sym (total-mapped keptHistory usedIn us)
 
 abbrev stampsUsedIn : KeptHistory → ℕ

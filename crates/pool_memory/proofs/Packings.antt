@@ -1,4 +1,4 @@
--- What each texture has in a slice, packed one texture behind the other: the newest stamps of its grids, and its stamps. A law of such a packing is
+-- What each texture has in a slice, packed one texture behind the other: the numbers of its grids, and its stamps. A law of such a packing is
 -- said once, for both. Assumes nothing.
 use mathlib.Core.Path.{_≡_, refl, sym, ap, ap₂, _∙_}
 use mathlib.Core.Bool.{Bool, true, _&&_}
@@ -12,8 +12,10 @@ use lib.Seq.{sets, set-split, take-all, take-take, take-add, drop-drop, length-t
 use borrow.Author.Tests.{eqb-true}
 use lib.Dec.{eqb}
 use Rattle.base_blocks.specs.Lists.{over, total, removed, inserted}
+use Rattle.base_blocks.specs.All.{All, nil, cons}
 use Rattle.base_blocks.specs.Blocks.{moved}
 use Rattle.base_blocks.proofs.Lists.{and-both}
+use Rattle.base_blocks.proofs.All.{all-each, all-drop, all-at}
 use Rattle.base_blocks.proofs.Blocks.{repacked, over-moved}
 use Rattle.base_unequal.specs.Unequal.{startOf, startsFit}
 use Rattle.base_unequal.proofs.Readings.{start-held}
@@ -24,13 +26,16 @@ use Rattle.pool_records.specs.Texture.{readTexture, recordGrids, recordStamps}
 use Rattle.pool_memory.specs.Lent.{Lent}
 use Rattle.pool_memory.specs.Reading.{trackedRecords, stateRead, statesRead, modelOf}
 use Rattle.pool_memory.specs.Writing.{newestOf, stampsOf}
+use Rattle.pool_memory.specs.IsPool.{tilingsHold, tilingsFit}
+use Rattle.pool_memory.proofs.FitsTests.{all-holds}
 use Rattle.pool_memory.proofs.Fits.{Fits}
 use Rattle.pool_memory.proofs.Parts.{total-next, flat-append}
 use Rattle.pool_memory.proofs.Rewritten.{moved-self, listed-run, over-front}
 use Rattle.pool_memory.proofs.Runs.{sparesOf, firstGridIn, firstStampIn, firstSpare, stateOf, tracked-records, tracked-model, grid-starts, stamp-starts, take-states, drop-states, newest-state, stamps-state}
 
--- `wr` is what a texture has in the slice, `size` and `start` how much and from where on by its record; `count` is how much all of them have
-pub record Packing (l : Lent) : Type 0 where
+-- `wr` is what a texture has in the slice, `size` and `start` how much and from where on by its record; `count` is how much all of them have. A record
+-- that is `Good` has what the slice says.
+pub record Packing (l : Lent) : Type 1 where
   pub wr : VersionState ℕ → List ℕ
   pub size : TextureRecord → ℕ
   pub start : TextureRecord → ℕ
@@ -39,9 +44,21 @@ pub record Packing (l : Lent) : Type 0 where
   pub counted : total size (trackedRecords l) ≡ count
   pub room : count ≤ length slice
   pub starts : startsFit size start 0 (trackedRecords l) ≡ true
-  pub one : (first : ℕ) (t : TextureRecord) → start t + size t ≤ length slice → wr (stateRead l first t) ≡ take (size t) (drop (start t) slice)
+  pub Good : TextureRecord → Type 0
+  pub good : All Good (trackedRecords l)
+  pub one : (first : ℕ) (t : TextureRecord) → Good t → start t + size t ≤ length slice → wr (stateRead l first t) ≡ take (size t) (drop (start t) slice)
+
+-- the first of them
+all-take : {A : Type 0} {P : A → Type 0} (n : ℕ) {xs : List A} → All P xs → All P (take n xs)
+all-take zero p = nil
+all-take (suc n) nil = nil
+all-take (suc n) (cons p ps) = cons p (all-take n ps)
 
 module _ (l : Lent) (f : Fits l) where
+  pub tilings-good : All (λ (t : TextureRecord). tilingsHold l t ≡ true) (trackedRecords l)
+  unfolding tilingsFit
+  tilings-good = all-holds (tilingsHold l) (λ t e. e) (trackedRecords l) (f .tilings)
+
   abbrev pub newestPacking : Packing l
   newestPacking = record {
     wr = newestOf;
@@ -52,7 +69,9 @@ module _ (l : Lent) (f : Fits l) where
     counted = f .claimed;
     room = f .grids;
     starts = grid-starts l (f .starts);
-    one = λ first t h. newest-state l first t ∙ listed-run 0 (l .newest) (t .grid) (recordGrids t) h;
+    Good = λ (t : TextureRecord). tilingsHold l t ≡ true;
+    good = tilings-good;
+    one = λ first t e h. newest-state l first t e ∙ listed-run 0 (l .newest) (t .grid) (recordGrids t) h;
   }
 
   abbrev pub stampsPacking : Packing l
@@ -65,7 +84,9 @@ module _ (l : Lent) (f : Fits l) where
     counted = f .stamps-claimed;
     room = f .stamps-counted;
     starts = stamp-starts l (f .starts);
-    one = λ first t h. stamps-state l first t;
+    Good = λ (t : TextureRecord). Unit {0};
+    good = all-each (λ t. tt) (trackedRecords l);
+    one = λ first t e h. stamps-state l first t;
   }
 
 module _ {l : Lent} (k : Packing l) where
@@ -103,16 +124,16 @@ module _ {l : Lent} (k : Packing l) where
 
   -- ---- textures in a row stand one behind the other
 
-  row : (first n : ℕ) (ts : List TextureRecord) → startsFit (k .size) (k .start) n ts ≡ true → n + total (k .size) ts ≤ length (k .slice)
+  row : (first n : ℕ) (ts : List TextureRecord) → All (k .Good) ts → startsFit (k .size) (k .start) n ts ≡ true → n + total (k .size) ts ≤ length (k .slice)
       → flatMap (k .wr) (statesRead l first ts) ≡ take (total (k .size) ts) (drop n (k .slice))
   unfolding statesRead flatMap total startsFit
-  row first n [] e h = refl
-  row first n (t ∷ ts) e h =
+  row first n [] nil e h = refl
+  row first n (t ∷ ts) (cons g gs) e h =
       let q = and-both (eqb (k .start t) n) (startsFit (k .size) (k .start) (n + k .size t) ts) e in
       let at : k .start t ≡ n = eqb-true (k .start t) n (q .0) in
       ap₂ (λ (a b : List ℕ). a ++ b)
-      (k .one first t (omega (arith, at)) ∙ ap (λ (m : ℕ). take (k .size t) (drop m (k .slice))) at)
-      (row (first + t .spares) (n + k .size t) ts (q .1) (omega arith)
+      (k .one first t g (omega (arith, at)) ∙ ap (λ (m : ℕ). take (k .size t) (drop m (k .slice))) at)
+      (row (first + t .spares) (n + k .size t) ts gs (q .1) (omega arith)
       ∙ ap (take (total (k .size) ts)) (sym (drop-drop (k .size t) n (k .slice))))
       ∙ sym (take-add (k .size t) (total (k .size) ts) (drop n (k .slice)))
 
@@ -137,26 +158,27 @@ module _ {l : Lent} (k : Packing l) where
   pub all-packed : flatMap (k .wr) (modelOf l .textures) ≡ take (k .count) (k .slice)
   unfolding modelOf
   all-packed =
-      row 0 0 (trackedRecords l) (k .starts) (omega (arith, k .counted, k .room)) ∙ ap (λ (n : ℕ). take n (k .slice)) (k .counted)
+      row 0 0 (trackedRecords l) (k .good) (k .starts) (omega (arith, k .counted, k .room)) ∙ ap (λ (n : ℕ). take n (k .slice)) (k .counted)
 
   pub before-packed : (i : ℕ) → flatMap (k .wr) (take i (modelOf l .textures)) ≡ take (from i) (k .slice)
   unfolding modelOf
   before-packed i =
       ap (flatMap (k .wr)) (take-states l i 0 (trackedRecords l))
-      ∙ row 0 0 (take i (trackedRecords l)) (starts-front 0 i (trackedRecords l) (k .starts)) (omega (arith, from-bound i, k .room))
+      ∙ row 0 0 (take i (trackedRecords l)) (all-take i (k .good)) (starts-front 0 i (trackedRecords l) (k .starts)) (omega (arith, from-bound i, k .room))
 
   pub later-packed : (i : ℕ) → flatMap (k .wr) (drop i (modelOf l .textures)) ≡ take (k .count - from i) (drop (from i) (k .slice))
   unfolding modelOf
   later-packed i =
       ap (flatMap (k .wr)) (drop-states l i 0 (trackedRecords l))
-      ∙ row (0 + total sparesOf (take i (trackedRecords l))) (0 + from i) (drop i (trackedRecords l)) (starts-rest 0 i (trackedRecords l) (k .starts))
+      ∙ row (0 + total sparesOf (take i (trackedRecords l))) (0 + from i) (drop i (trackedRecords l)) (all-drop i (k .good)) (starts-rest 0 i (trackedRecords l) (k .starts))
       (omega (arith, later i, from-bound i, k .room))
       ∙ ap₂ (λ (n m : ℕ). take n (drop m (k .slice))) (later i) (zero-add (from i))
 
   pub one-packed : (i : ℕ) → i < l .pool .tracked → k .wr (stateOf l i) ≡ take (sizeAt i) (drop (from i) (k .slice))
   unfolding stateOf
   one-packed i h =
-      k .one (firstSpare l i) (getD (trackedRecords l) i (readTexture [])) (omega (arith, start-at i h, size-in i h, k .room))
+      k .one (firstSpare l i) (getD (trackedRecords l) i (readTexture [])) (all-at (trackedRecords l) i (readTexture []) (omega (arith, tracked-records l)) (k .good))
+      (omega (arith, start-at i h, size-in i h, k .room))
       ∙ ap (λ (m : ℕ). take (sizeAt i) (drop m (k .slice))) (start-at i h)
 
   pub length-packed : (i : ℕ) → i < l .pool .tracked → length (k .wr (stateOf l i)) ≡ sizeAt i

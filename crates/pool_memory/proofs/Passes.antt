@@ -11,8 +11,8 @@ use Rattle.base_blocks.specs.Blocks.{moved}
 use Rattle.base_blocks.proofs.Lists.{over-nothing}
 use Rattle.base_tables.specs.Records.{recordAt, table, flat}
 use Rattle.grid_stamps.specs.Grids.{StampGrid}
-use Rattle.pool_rules.specs.Model.{Spare, VersionState, PoolModel, gridsUsed}
-use Rattle.pool_rules.specs.HistorySizes.{stampsUsed}
+use Rattle.pool_rules.specs.Model.{Spare, VersionState, PoolModel}
+use Rattle.pool_rules.specs.HistorySizes.{newestUsed, stampsUsed}
 use Rattle.pool_records.specs.declared.texture.TextureRecord.{TextureRecord}
 use Rattle.pool_records.specs.declared.spare.SpareRecord.{SpareRecord}
 use Rattle.pool_records.specs.Texture.{writeTexture, textureIn}
@@ -20,7 +20,7 @@ use Rattle.pool_records.specs.Spare.{readSpare, writeSpare}
 use Rattle.pool_records.proofs.Codecs.{texture-codec, spare-codec}
 use Rattle.pool_memory.specs.Lent.{Lent}
 use Rattle.pool_memory.specs.Reading.{trackedRecords}
-use Rattle.pool_memory.specs.Writing.{textureRecord, textureRecords, spareRecord, everySpare, gridsOf, newestOf, stampsOf, texturesAfter, sparesAfter, newestAfter, stampsAfter}
+use Rattle.pool_memory.specs.Writing.{textureRecord, textureRecords, spareRecord, everySpare, gridsOf, newestFrom, newestOf, stampsOf, texturesAfter, sparesAfter, newestAfter, stampsAfter}
 use Rattle.pool_memory.proofs.Fits.{Fits}
 use Rattle.pool_memory.proofs.Parts.{flat-append, map-take, map-drop}
 use Rattle.pool_memory.proofs.Packed.{packed-read, packed-put, packed-moved}
@@ -36,7 +36,7 @@ use Rattle.pool_records.specs.RecordConstants.{spareStride, textureStride}
 -- one more behind them
 pub records-more : (grid stamp : ℕ) (ts : List (VersionState ℕ)) (t : VersionState ℕ)
     → textureRecords grid stamp (ts ++ (t ∷ []))
-    ≡ textureRecords grid stamp ts ++ (textureRecord (grid + total gridsUsed ts) (stamp + total stampsUsed ts) t ∷ [])
+    ≡ textureRecords grid stamp ts ++ (textureRecord (grid + total newestUsed ts) (stamp + total stampsUsed ts) t ∷ [])
 unfolding textureRecords
 records-more grid stamp ts t = records-append grid stamp ts (t ∷ [])
 
@@ -80,18 +80,18 @@ module _ (l : Lent) (p q : PoolModel ℕ) (t : VersionState ℕ) (e : q .texture
   -- its record holds as many grids and stamps before it as those packed so far have
   pub texture-packed : textureStride * length (p .textures) + textureStride ≤ length (l .textures)
       → sets (texturesAfter p l) (textureStride * length (p .textures))
-      (writeTexture (textureRecord (total gridsUsed (p .textures)) (total stampsUsed (p .textures)) t))
+      (writeTexture (textureRecord (total newestUsed (p .textures)) (total stampsUsed (p .textures)) t))
       ≡ texturesAfter q l
   unfolding texturesAfter
   texture-packed room =
       let n = length-recorded 0 0 (p .textures) in
-      let r = textureRecord (total gridsUsed (p .textures)) (total stampsUsed (p .textures)) t in
+      let r = textureRecord (total newestUsed (p .textures)) (total stampsUsed (p .textures)) t in
       ap (λ (k : ℕ). sets (over (flat writeTexture (textureRecords 0 0 (p .textures))) (l .textures)) (textureStride * k) (writeTexture r)) (sym n)
       ∙ packed-put texture-codec (l .textures) (textureRecords 0 0 (p .textures)) r (omega arith)
       ∙ ap (λ (xs : List TextureRecord). over (flat writeTexture xs) (l .textures))
       (sym (ap (textureRecords 0 0) e ∙ records-more 0 0 (p .textures) t
       ∙ ap₂ (λ (g m : ℕ). textureRecords 0 0 (p .textures) ++ (textureRecord g m t ∷ []))
-      (zero-add (total gridsUsed (p .textures))) (zero-add (total stampsUsed (p .textures)))))
+      (zero-add (total newestUsed (p .textures))) (zero-add (total stampsUsed (p .textures)))))
 
   more-spares : everySpare (q .textures) ≡ everySpare (p .textures) ++ t .spares
   unfolding flatMap
@@ -123,7 +123,7 @@ module _ (l : Lent) (p q : PoolModel ℕ) (t : VersionState ℕ) (e : q .texture
     unfolding newestAfter firstGrid
     newest-packed grids before n =
         step-packed (newestPacking l f) p q t e i h
-        (ap (λ (x : KeptHistory). map (λ (g : StampGrid). g .newest) (gridsOf (x .history))) same) grids before n
+        (ap (λ (x : KeptHistory). newestFrom (x .shape) 0 (gridsOf (x .history))) same) grids before n
 
     pub stamps-packed : (stamps : ℕ) → stamps ≤ firstStamp l i → length (flatMap stampsOf (p .textures)) ≡ stamps
         → (moved (stampsAfter p l) stamps (firstStamp l i) (stampCountAt l i) ≡ stampsAfter q l)

@@ -14,9 +14,9 @@ use Rattle.base_tables.specs.Rings.{laid}
 use Rattle.base_tables.proofs.Records.{length-flat, reread}
 use Rattle.base_tables.proofs.Rings.{place-in, length-laid}
 use Rattle.base_unequal.specs.Unequal.{startsFit}
-use Rattle.pool_rules.specs.Model.{Retiring, VersionState, Places, PoolModel, gridsUsed, handCount, versionsUsed}
+use Rattle.pool_rules.specs.Model.{Retiring, VersionState, Places, PoolModel, handCount, versionsUsed}
 use Rattle.pool_rules.specs.Open.{arePlaces}
-use Rattle.pool_rules.specs.HistorySizes.{stampsUsed}
+use Rattle.pool_rules.specs.HistorySizes.{newestUsed, stampsUsed}
 use Rattle.pool_rules.specs.Formed.{Formed}
 use Rattle.pool_rules.proofs.HistorySizes.{newest-room}
 use Rattle.pool_records.specs.declared.texture.TextureRecord.{TextureRecord}
@@ -28,16 +28,16 @@ use Rattle.pool_records.proofs.Codecs.{texture-codec, spare-codec}
 use Rattle.pool_memory.specs.Lent.{Lent, versionPlaces}
 use Rattle.pool_memory.specs.Reading.{trackedRecords, statesRead, retiringRead, handRead, doomedRead, modelOf}
 use Rattle.pool_memory.specs.Writing.{textureRecords, spareRecord, retiringRecord, doomedRecord, texturesAfter, everySpare, sparesAfter, newestAfter, stampsAfter, headAfter, handList, retiringAfter, firstAfter, doomedAfter, poolAfter, markOf, pacingAfter, lentAfter}
-use Rattle.pool_memory.specs.IsPool.{startsHold, bytesHold, bytesFit, isPool}
+use Rattle.pool_memory.specs.IsPool.{startsHold, tilingsHold, tilingsFit, bytesHold, bytesFit, isPool}
 use Rattle.pool_memory.proofs.Fits.{Fits}
 use Rattle.pool_memory.proofs.FromPool.{version-places}
 use Rattle.pool_memory.proofs.Runs.{firstGridIn, firstStampIn}
 use Rattle.pool_memory.proofs.ToPool.{fits-pool}
-use Rattle.pool_memory.proofs.ReadStates.{states-back, length-every-spare, length-newests, length-stamps, length-recorded, kept-recorded, grids-recorded, stamps-recorded, bytes-recorded, grid-starts-recorded, stamp-starts-recorded}
+use Rattle.pool_memory.proofs.ReadStates.{states-back, tilings-recorded, length-every-spare, length-newests, length-stamps, length-recorded, kept-recorded, grids-recorded, stamps-recorded, bytes-recorded, grid-starts-recorded, stamp-starts-recorded}
 use Rattle.pool_memory.proofs.ReadRings.{hand-back, queue-back, doomed-back}
 use Rattle.grid_stamps.specs.StampConstants.{pageStamps}
 use Rattle.pool_records.specs.RecordConstants.{doomedStride, retiringStride, spareStride, textureStride}
-use Rattle.pool_rules.specs.RuleConstants.{mostGrids}
+use Rattle.pool_rules.specs.RuleConstants.{gridStride, mostGrids}
 
 -- one version at most in the hand, and a mark is 0 or 1, whatever they are read back from
 hand-few : (o : Option (Retiring ℕ)) → handCount o ≤ 1
@@ -65,7 +65,7 @@ module _ (l : Lent) (p : PoolModel ℕ) (fits : Fits l) (formed : Formed p) (sam
   stamp-room = omega (arith, formed .stamps, ap (λ (n : Places). n .pages) same, fits .stamps)
 
   -- `newest` is as long as the places of textures and the stamps let it be used
-  grid-room : total gridsUsed (p .textures) ≤ length (l .newest)
+  grid-room : total newestUsed (p .textures) ≤ length (l .newest)
   grid-room =
       newest-room (p .textures) (formed .textures) (modelOf l .places .textures) (length (l .stamps)) (length (l .newest)) texture-room stamp-room (fits .newest)
 
@@ -210,6 +210,11 @@ module _ (l : Lent) (p : PoolModel ℕ) (fits : Fits l) (formed : Formed p) (sam
       ap (λ (ts : List TextureRecord). startsFit recordGrids firstGridIn 0 ts && startsFit recordStamps firstStampIn 0 ts) records-back
       ∙ ap₂ (λ (a b : Bool). a && b) (grid-starts-recorded 0 0 (p .textures)) (stamp-starts-recorded 0 0 (p .textures))
 
+  tilings-fit : tilingsFit (lentAfter p l) ≡ true
+  unfolding tilingsFit lentAfter newestAfter over
+  tilings-fit =
+      ap (all (tilingsHold (lentAfter p l))) records-back ∙ tilings-recorded (lentAfter p l) 0 0 (p .textures) (formed .textures) _ refl
+
   pub after-fits : Fits (lentAfter p l)
   unfolding lentAfter poolAfter pacingAfter
   after-fits = record {
@@ -221,7 +226,7 @@ module _ (l : Lent) (p : PoolModel ℕ) (fits : Fits l) (formed : Formed p) (sam
     stamps = ap (λ (n : Places). pageStamps * n .pages) places-kept ∙ fits .stamps ∙ sym stamps-kept;
     newest =
         newest-kept ∙ fits .newest
-        ∙ ap₂ (λ (n : Places) (k : ℕ). min (mostGrids * n .textures) k) (sym places-kept) (sym stamps-kept);
+        ∙ ap₂ (λ (n : Places) (k : ℕ). gridStride * min (mostGrids * n .textures) k) (sym places-kept) (sym stamps-kept);
     least = omega (arith, fits .least, versions-kept);
     most = omega (arith, fits .most, versions-kept);
     most-pages = omega (arith, fits .most-pages, ap (λ (n : Places). n .pages) places-kept);
@@ -236,6 +241,7 @@ module _ (l : Lent) (p : PoolModel ℕ) (fits : Fits l) (formed : Formed p) (sam
     claimed = ap (total recordGrids) records-back ∙ grids-recorded 0 0 (p .textures);
     stamps-claimed = ap (total recordStamps) records-back ∙ stamps-recorded 0 0 (p .textures);
     starts = starts-back;
+    tilings = tilings-fit;
     bytes = bytes-back;
     mark = mark-few (p .pacing .pressed);
     formed = subst (λ (q : PoolModel ℕ). Formed q) (sym read-back) formed;

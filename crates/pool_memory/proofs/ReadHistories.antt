@@ -1,10 +1,10 @@
 -- Histories read back from the packed stamps that they were written to. Assumes nothing.
 use mathlib.Core.Path.{_≡_, refl, sym, ap, ap₂, _∙_}
-use mathlib.Core.List.{List, [], _∷_, _++_, map, flatMap}
+use mathlib.Core.List.{List, [], _∷_, _++_, flatMap}
 use Prim.Native.Nat.{ℕ, zero, suc, _+_, _*_, _<_}
-use native.Mathlib.Nat.{add-zero}
+use native.Mathlib.Nat.{add-zero, zero-add}
 use native.Mathlib.Omega.{arith}
-use lib.ListN.{length, take, drop, getD, length-map, List·getD-append, List·getD-map}
+use lib.ListN.{length, take, drop, getD}
 use lib.Seq.{drop-drop, getD-drop}
 use Rattle.base_blocks.specs.Lists.{listed, total}
 use Rattle.base_blocks.proofs.Listed.{length-listed, listed-same, listed-getD}
@@ -17,8 +17,12 @@ use Rattle.grid_stamps.specs.Grids.{StampGrid, gridIn}
 use Rattle.pool_rules.specs.Model.{WriteHistory, gridCount}
 use Rattle.pool_rules.specs.HistorySizes.{gridSize, gridPlaces, gridStart, historySize}
 use Rattle.pool_rules.specs.Formed.{HistoryFormed}
+use Rattle.pool_rules.specs.RuleConstants.{gridStride}
+use Rattle.pool_records.specs.Tilings.{tilingNumber}
 use Rattle.pool_memory.specs.Lent.{Lent}
 use Rattle.pool_memory.specs.Reading.{gridRead}
+use Rattle.pool_memory.specs.Writing.{newestFrom}
+use Rattle.pool_memory.proofs.NewestNumbers.{newest-of, tiling-of}
 use Rattle.pool_memory.proofs.FitsGrids.{noGrid, grid-of}
 
 -- what a grid has among the stamps
@@ -67,15 +71,25 @@ module _ (s : VersionShape) (h : WriteHistory) (formed : HistoryFormed s h) wher
 
   -- ---- read back, where its grids begin at `grid` and its stamps at `stamp`
 
-  module _ (m : Lent) (grid stamp : ℕ) (others rest : List ℕ) (newests : drop grid (m .newest) ≡ map (λ (g : StampGrid). g .newest) (h .grids) ++ others)
+  -- the tilings beside the newest stamps
+  pub tiling-back : (newest : List ℕ) (grid : ℕ) (others : List ℕ) → drop grid newest ≡ newestFrom s 0 (h .grids) ++ others
+      → (k : ℕ) → k < gridCount s → getD newest (grid + gridStride * k + 1) 0 ≡ tilingNumber s k
+  unfolding gridCount
+  tiling-back newest grid others newests k q =
+      ap (λ (n : ℕ). getD newest n 0) (let e : grid + gridStride * k + 1 ≡ grid + (gridStride * k + 1) = omega arith in e)
+      ∙ sym (getD-drop grid newest (gridStride * k + 1) 0)
+      ∙ ap (λ (l : List ℕ). getD l (gridStride * k + 1) 0) newests
+      ∙ tiling-of s 0 (h .grids) others k (omega (arith, formed .size))
+      ∙ ap (tilingNumber s) (zero-add k)
+
+  module _ (m : Lent) (grid stamp : ℕ) (others rest : List ℕ) (newests : drop grid (m .newest) ≡ newestFrom s 0 (h .grids) ++ others)
       (stamped : drop stamp (m .stamps) ≡ flatMap gridStamps (h .grids) ++ rest) where
-    newest-back : (k : ℕ) → k < length (h .grids) → getD (m .newest) (grid + k) 0 ≡ getD (h .grids) k noGrid .newest
+    newest-back : (k : ℕ) → k < length (h .grids) → getD (m .newest) (grid + gridStride * k) 0 ≡ getD (h .grids) k noGrid .newest
     newest-back k q =
-        let f : StampGrid → ℕ = λ g. g .newest in
-        sym (getD-drop grid (m .newest) k 0)
-        ∙ ap (λ (l : List ℕ). getD l k 0) newests
-        ∙ List·getD-append (map f (h .grids)) others 0 k (omega (arith, length-map (h .grids) f))
-        ∙ List·getD-map f (h .grids) k noGrid
+        sym (getD-drop grid (m .newest) (gridStride * k) 0)
+        ∙ ap (λ (l : List ℕ). getD l (gridStride * k) 0) newests
+        ∙ newest-of s 0 (h .grids) others k noGrid q
+
 
     stamps-back : (k : ℕ) → k < length (h .grids) → take (gridSize s k) (drop (stamp + gridStart s k) (m .stamps)) ≡ getD (h .grids) k noGrid .stamps
     stamps-back k q =

@@ -2,7 +2,7 @@
 use mathlib.Core.Path.{_≡_, refl, sym, ap, ap₂, _∙_}
 use mathlib.Core.Bool.{true, cond}
 use mathlib.Core.List.{List, [], _∷_, _++_, map, flatMap, append-nil}
-use Prim.Native.Nat.{ℕ, zero, suc, _+_, _≤_, _<_}
+use Prim.Native.Nat.{ℕ, zero, suc, _+_, _*_, _≤_, _<_}
 use native.Mathlib.Nat.{add-zero, zero-add, add-assoc}
 use native.Mathlib.Omega.{arith}
 use lib.Dec.{eqb}
@@ -10,26 +10,29 @@ use lib.ListN.{length, take, drop, getD}
 use lib.Seq.{take-add, drop-drop}
 use borrow.Author.Tests.{eqb-true}
 use Rattle.base_blocks.specs.Lists.{listed, all, total}
-use Rattle.base_blocks.proofs.Lists.{and-both}
-use Rattle.base_blocks.proofs.Listed.{length-listed, listed-split, listed-same, map-listed}
+use Rattle.base_blocks.proofs.Lists.{all-get, and-both}
+use Rattle.base_blocks.proofs.Listed.{length-listed, getD-listed, listed-split}
 use Rattle.base_tables.proofs.Records.{length-table}
 use Rattle.grid_shapes.specs.declared.shape.VersionShape.{VersionShape}
 use Rattle.grid_shapes.specs.Shapes.{bytesOf}
 use Rattle.grid_stamps.specs.Grids.{StampGrid, gridIn}
 use Rattle.base_unequal.specs.Unequal.{startOf, startsFit}
 use Rattle.base_unequal.proofs.Readings.{start-held}
-use Rattle.pool_rules.specs.Model.{Spare, VersionState, gridCount, hasHistory, gridsUsed}
-use Rattle.pool_rules.specs.HistorySizes.{gridSize, gridPlaces, gridStart, historySize, stampsUsed}
+use Rattle.pool_rules.specs.Model.{Spare, VersionState, gridCount, hasHistory}
+use Rattle.pool_rules.specs.HistorySizes.{gridPlaces, gridSize, gridStart, historySize, newestUsed, stampsUsed}
 use Rattle.base_unequal.proofs.Starts.{start-none}
+use Rattle.pool_rules.specs.RuleConstants.{gridStride}
 use Rattle.pool_rules.proofs.HistorySizes.{grid-next, grid-last}
 use Rattle.pool_records.specs.declared.recorded.Recorded.{Recorded}
 use Rattle.pool_records.specs.declared.recorded.Recorded.the-variants.{Writes, NoHistory}
 use Rattle.pool_records.specs.declared.texture.TextureRecord.{TextureRecord}
 use Rattle.pool_records.specs.Texture.{readTexture, recordedGrids, recordGrids, recordedStamps, recordStamps}
+use Rattle.pool_records.specs.Tilings.{tilingNumber}
 use Rattle.pool_memory.specs.Lent.{Lent}
 use Rattle.pool_memory.specs.Reading.{trackedRecords, gridRead, historyRead, spareRead, stateRead, statesRead, modelOf}
-use Rattle.pool_memory.specs.IsPool.{bytesHold, bytesFit, startsHold, stateId}
-use Rattle.pool_memory.specs.Writing.{recordedHistory, textureRecord, textureRecords, everySpare, gridsOf, newestOf, stampsOf}
+use Rattle.pool_memory.specs.IsPool.{bytesHold, bytesFit, startsHold, stateId, tilingHolds, tilingsRead, tilingsHold}
+use Rattle.pool_memory.specs.Writing.{recordedHistory, textureRecord, textureRecords, everySpare, gridsOf, newestFrom, newestOf, stampsOf}
+use Rattle.pool_memory.proofs.NewestNumbers.{newest-listed}
 use Rattle.pool_memory.proofs.Parts.{flat-append}
 use Rattle.pool_records.specs.RecordConstants.{textureStride}
 
@@ -39,7 +42,7 @@ sparesOf t = t .spares
 abbrev pub spareCount : VersionState ℕ → ℕ
 spareCount t = length (t .spares)
 
--- the number that stands for a grid in `newest`
+-- a number of `newest`
 abbrev pub newestAt : Lent → ℕ → ℕ
 newestAt l k = getD (l .newest) k 0
 
@@ -84,29 +87,37 @@ module _ (l : Lent) where
   used-read s grid stamp n NoHistory m e f = sym e
   used-read s grid stamp n (Writes k) m e f = sym (f k)
 
-  pub grids-state : (first : ℕ) (t : TextureRecord) → gridsUsed (stateRead l first t) ≡ recordGrids t
+  pub grids-state : (first : ℕ) (t : TextureRecord) → newestUsed (stateRead l first t) ≡ recordGrids t
   unfolding stateRead
   grids-state first t =
-      used-read (t .shape) (t .grid) (t .stamp) (gridCount (t .shape)) (t .history) (λ (h : Recorded). recordedGrids h (t .shape)) refl (λ k. refl)
+      used-read (t .shape) (t .grid) (t .stamp) (gridStride * gridCount (t .shape)) (t .history) (λ (h : Recorded). recordedGrids h (t .shape)) refl (λ k. refl)
 
   pub stamps-used-state : (first : ℕ) (t : TextureRecord) → stampsUsed (stateRead l first t) ≡ recordStamps t
   unfolding stateRead
   stamps-used-state first t =
       used-read (t .shape) (t .grid) (t .stamp) (historySize (t .shape)) (t .history) (λ (h : Recorded). recordedStamps h (t .shape)) refl (λ k. refl)
 
-  -- the newest stamps of its grids
-  newest-read : (s : VersionShape) (grid stamp : ℕ) (h : Recorded)
-      → map (λ (g : StampGrid). g .newest) (gridsOf (historyRead l s grid stamp h)) ≡ listed (newestAt l) grid (recordedGrids h s)
-  unfolding listed gridRead gridIn
-  newest-read s grid stamp NoHistory = refl
-  newest-read s grid stamp (Writes n) =
-      map-listed (λ (g : StampGrid). g .newest) (gridRead l s grid stamp) 0 (gridCount s)
-      ∙ listed-same (λ k. getD (l .newest) (grid + k) 0) (newestAt l) (gridCount s) 0 grid
-      (λ j q. ap (λ (k : ℕ). getD (l .newest) (grid + k) 0) (zero-add j))
+  -- beside each grid's newest stamp its tiling
+  pub tiling-there : (s : VersionShape) (grid : ℕ) → all (tilingHolds l s grid) (gridPlaces s) ≡ true → (k : ℕ) → k < gridCount s
+      → getD (l .newest) (grid + gridStride * k + 1) 0 ≡ tilingNumber s k
+  unfolding tilingHolds
+  tiling-there s grid e k q =
+      eqb-true _ _
+      (sym (ap (tilingHolds l s grid) (getD-listed (λ (j : ℕ). j) 0 (gridCount s) k 0 q ∙ zero-add k))
+      ∙ all-get (tilingHolds l s grid) (gridPlaces s) k 0 e (omega (arith, length-listed (λ (j : ℕ). j) 0 (gridCount s))))
 
-  pub newest-state : (first : ℕ) (t : TextureRecord) → newestOf (stateRead l first t) ≡ listed (newestAt l) (t .grid) (recordGrids t)
-  unfolding stateRead
-  newest-state first t = newest-read (t .shape) (t .grid) (t .stamp) (t .history)
+  -- the numbers of its grids, where their tilings stand beside their newest stamps
+  newest-read : (s : VersionShape) (grid stamp : ℕ) (h : Recorded) → tilingsRead l s grid h ≡ true
+      → newestFrom s 0 (gridsOf (historyRead l s grid stamp h)) ≡ listed (newestAt l) grid (recordedGrids h s)
+  unfolding listed newestFrom gridRead gridIn tilingHolds
+  newest-read s grid stamp NoHistory e = refl
+  newest-read s grid stamp (Writes n) e =
+      newest-listed s (gridRead l s grid stamp) (newestAt l) 0 grid (gridCount s) (λ k q.
+      (ap (λ (j : ℕ). getD (l .newest) (grid + gridStride * j) 0) (zero-add k), ap (tilingNumber s) (zero-add k) ∙ sym (tiling-there s grid e k q)))
+
+  pub newest-state : (first : ℕ) (t : TextureRecord) → tilingsHold l t ≡ true → newestOf (stateRead l first t) ≡ listed (newestAt l) (t .grid) (recordGrids t)
+  unfolding stateRead tilingsHold
+  newest-state first t e = newest-read (t .shape) (t .grid) (t .stamp) (t .history) e
 
   pub none-before : (s : VersionShape) → gridStart s 0 ≡ 0
   unfolding gridStart
@@ -255,9 +266,9 @@ module _ (l : Lent) where
   unfolding modelOf
   kept-model = kept-states 0 (trackedRecords l)
 
-  pub grids-model : total gridsUsed (modelOf l .textures) ≡ total recordGrids (trackedRecords l)
+  pub grids-model : total newestUsed (modelOf l .textures) ≡ total recordGrids (trackedRecords l)
   unfolding modelOf
-  grids-model = used-states gridsUsed recordGrids grids-state 0 (trackedRecords l)
+  grids-model = used-states newestUsed recordGrids grids-state 0 (trackedRecords l)
 
   pub stamps-used-model : total stampsUsed (modelOf l .textures) ≡ total recordStamps (trackedRecords l)
   unfolding modelOf

@@ -16,8 +16,8 @@ use Rattle.base_blocks.specs.Lists.{over, total, removed, inserted}
 use Rattle.base_blocks.specs.Blocks.{moved}
 use Rattle.base_tables.specs.Records.{flat}
 use Rattle.base_tables.proofs.Records.{removed-records, inserted-records, replaced-record, getD-table}
-use Rattle.pool_rules.specs.Model.{VersionState, PoolModel, gridsUsed}
-use Rattle.pool_rules.specs.HistorySizes.{stampsUsed}
+use Rattle.pool_rules.specs.Model.{VersionState, PoolModel}
+use Rattle.pool_rules.specs.HistorySizes.{newestUsed, stampsUsed}
 use Rattle.pool_records.specs.declared.texture.TextureRecord.{TextureRecord}
 use Rattle.pool_records.specs.declared.shift.Shift.{Shift}
 use Rattle.pool_records.specs.Texture.{readTexture, writeTexture, textureIn, recordGrids, recordStamps}
@@ -43,14 +43,14 @@ placedRecord l i t = textureRecord (firstGrid l i) (firstStamp l i) t
 -- those of the first behind which the others begin
 pub records-append : (grid stamp : ℕ) (xs ys : List (VersionState ℕ))
     → textureRecords grid stamp (xs ++ ys)
-    ≡ textureRecords grid stamp xs ++ textureRecords (grid + total gridsUsed xs) (stamp + total stampsUsed xs) ys
+    ≡ textureRecords grid stamp xs ++ textureRecords (grid + total newestUsed xs) (stamp + total stampsUsed xs) ys
 unfolding textureRecords total
 records-append grid stamp [] ys = ap₂ (λ (g n : ℕ). textureRecords g n ys) (sym (add-zero grid)) (sym (add-zero stamp))
 records-append grid stamp (x ∷ xs) ys =
     ap (λ (rs : List TextureRecord). textureRecord grid stamp x ∷ rs)
-    (records-append (grid + gridsUsed x) (stamp + stampsUsed x) xs ys
-    ∙ ap₂ (λ (g n : ℕ). textureRecords (grid + gridsUsed x) (stamp + stampsUsed x) xs ++ textureRecords g n ys)
-    (add-assoc grid (gridsUsed x) (total gridsUsed xs)) (add-assoc stamp (stampsUsed x) (total stampsUsed xs)))
+    (records-append (grid + newestUsed x) (stamp + stampsUsed x) xs ys
+    ∙ ap₂ (λ (g n : ℕ). textureRecords (grid + newestUsed x) (stamp + stampsUsed x) xs ++ textureRecords g n ys)
+    (add-assoc grid (newestUsed x) (total newestUsed xs)) (add-assoc stamp (stampsUsed x) (total stampsUsed xs)))
 
 -- the first of them, and those behind
 records-take : (i grid stamp : ℕ) (ts : List (VersionState ℕ)) → take i (textureRecords grid stamp ts) ≡ textureRecords grid stamp (take i ts)
@@ -58,17 +58,17 @@ unfolding textureRecords
 records-take zero grid stamp ts = refl
 records-take (suc i) grid stamp [] = refl
 records-take (suc i) grid stamp (t ∷ ts) =
-    ap (λ (rs : List TextureRecord). textureRecord grid stamp t ∷ rs) (records-take i (grid + gridsUsed t) (stamp + stampsUsed t) ts)
+    ap (λ (rs : List TextureRecord). textureRecord grid stamp t ∷ rs) (records-take i (grid + newestUsed t) (stamp + stampsUsed t) ts)
 
 records-drop : (i grid stamp : ℕ) (ts : List (VersionState ℕ))
-    → drop i (textureRecords grid stamp ts) ≡ textureRecords (grid + total gridsUsed (take i ts)) (stamp + total stampsUsed (take i ts)) (drop i ts)
+    → drop i (textureRecords grid stamp ts) ≡ textureRecords (grid + total newestUsed (take i ts)) (stamp + total stampsUsed (take i ts)) (drop i ts)
 unfolding textureRecords total
 records-drop zero grid stamp ts = ap₂ (λ (g n : ℕ). textureRecords g n ts) (sym (add-zero grid)) (sym (add-zero stamp))
 records-drop (suc i) grid stamp [] = refl
 records-drop (suc i) grid stamp (t ∷ ts) =
-    records-drop i (grid + gridsUsed t) (stamp + stampsUsed t) ts
+    records-drop i (grid + newestUsed t) (stamp + stampsUsed t) ts
     ∙ ap₂ (λ (g n : ℕ). textureRecords g n (drop i ts))
-    (add-assoc grid (gridsUsed t) (total gridsUsed (take i ts))) (add-assoc stamp (stampsUsed t) (total stampsUsed (take i ts)))
+    (add-assoc grid (newestUsed t) (total newestUsed (take i ts))) (add-assoc stamp (stampsUsed t) (total stampsUsed (take i ts)))
 
 -- the same textures, behind others
 records-moved : (grids stamps : Shift) (grid stamp : ℕ) → grids .less ≤ grid → stamps .less ≤ stamp → (ts : List (VersionState ℕ))
@@ -78,9 +78,9 @@ records-moved grids stamps grid stamp a b [] = refl
 records-moved grids stamps grid stamp a b (t ∷ ts) =
     ap (λ (rs : List TextureRecord). textureRecord (shiftedBy grids grid) (shiftedBy stamps stamp) t ∷ rs)
     (ap₂ (λ (g n : ℕ). textureRecords g n ts)
-    (let e : grid - grids .less + grids .more + gridsUsed t ≡ grid + gridsUsed t - grids .less + grids .more = omega arith in e)
+    (let e : grid - grids .less + grids .more + newestUsed t ≡ grid + newestUsed t - grids .less + grids .more = omega arith in e)
     (let e : stamp - stamps .less + stamps .more + stampsUsed t ≡ stamp + stampsUsed t - stamps .less + stamps .more = omega arith in e)
-    ∙ records-moved grids stamps (grid + gridsUsed t) (stamp + stampsUsed t) (omega arith) (omega arith) ts)
+    ∙ records-moved grids stamps (grid + newestUsed t) (stamp + stampsUsed t) (omega arith) (omega arith) ts)
 
 -- ---- a slice of records, some of which are moved
 
@@ -94,9 +94,9 @@ moved-over grids stamps xs zs k n s a b =
 
 module _ (l : Lent) where
   -- the first i have the grids and the stamps that stand before texture i
-  grids-to : (i : ℕ) → total gridsUsed (take i (modelOf l .textures)) ≡ firstGrid l i
+  grids-to : (i : ℕ) → total newestUsed (take i (modelOf l .textures)) ≡ firstGrid l i
   unfolding modelOf firstGrid
-  grids-to i = ap (total gridsUsed) (take-states l i 0 (trackedRecords l)) ∙ used-states l gridsUsed recordGrids (grids-state l) 0 (take i (trackedRecords l))
+  grids-to i = ap (total newestUsed) (take-states l i 0 (trackedRecords l)) ∙ used-states l newestUsed recordGrids (grids-state l) 0 (take i (trackedRecords l))
 
   stamps-to : (i : ℕ) → total stampsUsed (take i (modelOf l .textures)) ≡ firstStamp l i
   unfolding modelOf firstStamp
@@ -104,14 +104,14 @@ module _ (l : Lent) where
       ap (total stampsUsed) (take-states l i 0 (trackedRecords l))
       ∙ used-states l stampsUsed recordStamps (stamps-used-state l) 0 (take i (trackedRecords l))
 
-  pub grid-next-at : (i : ℕ) → i < l .pool .tracked → firstGrid l (suc i) ≡ firstGrid l i + gridsUsed (stateOf l i)
+  pub grid-next-at : (i : ℕ) → i < l .pool .tracked → firstGrid l (suc i) ≡ firstGrid l i + newestUsed (stateOf l i)
   grid-next-at i h =
       omega (
         arith,
         grids-to (suc i),
         grids-to i,
-        total-next gridsUsed (modelOf l .textures) i (stateOf l 0) (omega (arith, tracked-model l)),
-        ap gridsUsed (model-at l i (stateOf l 0) h),
+        total-next newestUsed (modelOf l .textures) i (stateOf l 0) (omega (arith, tracked-model l)),
+        ap newestUsed (model-at l i (stateOf l 0) h),
       )
 
   pub stamp-next-at : (i : ℕ) → i < l .pool .tracked → firstStamp l (suc i) ≡ firstStamp l i + stampsUsed (stateOf l i)
@@ -132,7 +132,7 @@ module _ (l : Lent) (f : Fits l) where
   rest-records : (j : ℕ) → textureRecords (firstGrid l j) (firstStamp l j) (drop j (modelOf l .textures)) ≡ drop j (trackedRecords l)
   rest-records j =
       ap₂ (λ (g n : ℕ). textureRecords g n (drop j (modelOf l .textures)))
-      (sym (zero-add (total gridsUsed (take j (modelOf l .textures))) ∙ grids-to l j))
+      (sym (zero-add (total newestUsed (take j (modelOf l .textures))) ∙ grids-to l j))
       (sym (zero-add (total stampsUsed (take j (modelOf l .textures))) ∙ stamps-to l j))
       ∙ sym (records-drop j 0 0 (modelOf l .textures))
       ∙ ap (drop j) (records-model l (f .bytes) (f .starts))
@@ -141,13 +141,13 @@ module _ (l : Lent) (f : Fits l) where
   parts-records : (i j : ℕ) (new : List (VersionState ℕ))
       → textureRecords 0 0 (take i (modelOf l .textures) ++ (new ++ drop j (modelOf l .textures)))
       ≡ take i (trackedRecords l) ++ (textureRecords (firstGrid l i) (firstStamp l i) new
-      ++ textureRecords (firstGrid l i + total gridsUsed new) (firstStamp l i + total stampsUsed new) (drop j (modelOf l .textures)))
+      ++ textureRecords (firstGrid l i + total newestUsed new) (firstStamp l i + total stampsUsed new) (drop j (modelOf l .textures)))
   parts-records i j new =
       let ts = modelOf l .textures in
       records-append 0 0 (take i ts) (new ++ drop j ts)
       ∙ ap₂ (λ (rs us : List TextureRecord). rs ++ us) (front-records i)
       (ap₂ (λ (g n : ℕ). textureRecords g n (new ++ drop j ts))
-      (zero-add (total gridsUsed (take i ts)) ∙ grids-to l i) (zero-add (total stampsUsed (take i ts)) ∙ stamps-to l i)
+      (zero-add (total newestUsed (take i ts)) ∙ grids-to l i) (zero-add (total stampsUsed (take i ts)) ∙ stamps-to l i)
       ∙ records-append (firstGrid l i) (firstStamp l i) new (drop j ts))
 
   -- ---- the textures from i up to j replaced by others
@@ -172,7 +172,7 @@ module _ (l : Lent) (f : Fits l) where
         length-append kept (drop j (trackedRecords l))
         ∙ ap₂ (λ (m n : ℕ). m + n) length-kept (length-drop j (trackedRecords l) ∙ ap (λ (n : ℕ). n - j) (tracked-records l))
 
-    parts-moved : grids .more ≡ total gridsUsed new → stamps .more ≡ total stampsUsed new → (p : PoolModel ℕ) → p .textures ≡ take i (modelOf l .textures) ++ (new ++ drop j (modelOf l .textures))
+    parts-moved : grids .more ≡ total newestUsed new → stamps .more ≡ total stampsUsed new → (p : PoolModel ℕ) → p .textures ≡ take i (modelOf l .textures) ++ (new ++ drop j (modelOf l .textures))
         → startsMoved grids stamps (i + length new) (i + length new + (l .pool .tracked - j)) put ≡ texturesAfter p l
     unfolding texturesAfter shiftedBy
     parts-moved b d p e =
@@ -185,7 +185,7 @@ module _ (l : Lent) (f : Fits l) where
         ∙ parts-records i j new
         ∙ ap (λ (xs : List TextureRecord). take i rs ++ (at ++ xs))
         (ap₂ (λ (g n : ℕ). textureRecords g n (drop j ts))
-        (let z : firstGrid l i + total gridsUsed new ≡ firstGrid l j - grids .less + grids .more = omega arith in z)
+        (let z : firstGrid l i + total newestUsed new ≡ firstGrid l j - grids .less + grids .more = omega arith in z)
         (let z : firstStamp l i + total stampsUsed new ≡ firstStamp l j - stamps .less + stamps .more = omega arith in z)
         ∙ records-moved grids stamps (firstGrid l j) (firstStamp l j) (omega arith) (omega arith) (drop j ts)
         ∙ ap (map (movedStart grids stamps)) (rest-records j))
@@ -284,7 +284,7 @@ module _ (l : Lent) (f : Fits l) where
 module _ (l : Lent) (p : PoolModel ℕ) (f : Fits l) where
   -- texture i changed, with as many grids and stamps as before: the others stay
   pub textures-set : (i : ℕ) (t : VersionState ℕ) → i < l .pool .tracked → p .textures ≡ set (modelOf l .textures) i t
-      → gridsUsed t ≡ gridsUsed (stateOf l i) → stampsUsed t ≡ stampsUsed (stateOf l i)
+      → newestUsed t ≡ newestUsed (stateOf l i) → stampsUsed t ≡ stampsUsed (stateOf l i)
       → sets (l .textures) (textureStride * i) (writeTexture (placedRecord l i t)) ≡ texturesAfter p l
   unfolding texturesAfter textureRecords total
   textures-set i t h e a b =
@@ -296,7 +296,7 @@ module _ (l : Lent) (p : PoolModel ℕ) (f : Fits l) where
       ∙ parts-records l f i (suc i) (t ∷ [])
       ∙ ap (λ (xs : List TextureRecord). take i rs ++ (r ∷ xs))
       (ap₂ (λ (g n : ℕ). textureRecords g n (drop (suc i) (modelOf l .textures)))
-      (let z : firstGrid l i + (gridsUsed t + 0) ≡ firstGrid l (suc i) = omega (arith, a, grid-next-at l i h) in z)
+      (let z : firstGrid l i + (newestUsed t + 0) ≡ firstGrid l (suc i) = omega (arith, a, grid-next-at l i h) in z)
       (let z : firstStamp l i + (stampsUsed t + 0) ≡ firstStamp l (suc i) = omega (arith, b, stamp-next-at l i h) in z)
       ∙ rest-records l f (suc i))
       ∙ sym (set-split rs i r (omega (arith, h, tracked-records l)))))
@@ -304,7 +304,7 @@ module _ (l : Lent) (p : PoolModel ℕ) (f : Fits l) where
   module _ (grids stamps : Shift) where
     -- with more or fewer
     pub textures-renewed : (i : ℕ) (t : VersionState ℕ) → i < l .pool .tracked → p .textures ≡ set (modelOf l .textures) i t
-        → grids .less ≡ gridsUsed (stateOf l i) → grids .more ≡ gridsUsed t → stamps .less ≡ stampsUsed (stateOf l i) → stamps .more ≡ stampsUsed t
+        → grids .less ≡ newestUsed (stateOf l i) → grids .more ≡ newestUsed t → stamps .less ≡ stampsUsed (stateOf l i) → stamps .more ≡ stampsUsed t
         → startsMoved grids stamps (suc i) (l .pool .tracked) (sets (l .textures) (textureStride * i) (writeTexture (placedRecord l i t)))
         ≡ texturesAfter p l
     unfolding total textureRecords
@@ -320,7 +320,7 @@ module _ (l : Lent) (p : PoolModel ℕ) (f : Fits l) where
     -- a texture put in before texture i
     pub textures-inserted : (i : ℕ) (t : VersionState ℕ) → textureStride * l .pool .tracked + textureStride ≤ length (l .textures)
         → i ≤ l .pool .tracked → p .textures ≡ inserted i (t ∷ []) (modelOf l .textures)
-        → grids .less ≡ 0 → grids .more ≡ gridsUsed t → stamps .less ≡ 0 → stamps .more ≡ stampsUsed t
+        → grids .less ≡ 0 → grids .more ≡ newestUsed t → stamps .less ≡ 0 → stamps .more ≡ stampsUsed t
         → startsMoved grids stamps (suc i) (suc (l .pool .tracked))
         (sets (moved (l .textures) (textureStride * i + textureStride) (textureStride * i) (textureStride * (l .pool .tracked - i))) (textureStride * i)
         (writeTexture (placedRecord l i t)))
@@ -337,7 +337,7 @@ module _ (l : Lent) (p : PoolModel ℕ) (f : Fits l) where
 
     -- texture i taken out
     pub textures-removed : (i : ℕ) → i < l .pool .tracked → p .textures ≡ removed i 1 (modelOf l .textures)
-        → grids .less ≡ gridsUsed (stateOf l i) → grids .more ≡ 0 → stamps .less ≡ stampsUsed (stateOf l i) → stamps .more ≡ 0
+        → grids .less ≡ newestUsed (stateOf l i) → grids .more ≡ 0 → stamps .less ≡ stampsUsed (stateOf l i) → stamps .more ≡ 0
         → startsMoved grids stamps i (l .pool .tracked - 1)
         (moved (l .textures) (textureStride * i) (textureStride * i + textureStride * 1) (textureStride * (l .pool .tracked - (i + 1))))
         ≡ texturesAfter p l
@@ -355,7 +355,7 @@ module _ (l : Lent) (p : PoolModel ℕ) (f : Fits l) where
 
   module _ (grids stamps : Shift) (gridsFew : grids .more ≤ 90) (stampsFew : stamps .more ≤ 1024 * 90) where
     pub renewed-moves : (i : ℕ) (t : VersionState ℕ) → i < l .pool .tracked
-        → grids .less ≡ gridsUsed (stateOf l i) → stamps .less ≡ stampsUsed (stateOf l i)
+        → grids .less ≡ newestUsed (stateOf l i) → stamps .less ≡ stampsUsed (stateOf l i)
         → StartsMove grids stamps (suc i) (l .pool .tracked) (sets (l .textures) (textureStride * i) (writeTexture (placedRecord l i t)))
     unfolding textureRecords
     renewed-moves i t h a c =
@@ -376,7 +376,7 @@ module _ (l : Lent) (p : PoolModel ℕ) (f : Fits l) where
         (λ k u v. parts-move l f grids stamps i i (t ∷ []) (omega arith) h (omega (arith, a)) (omega (arith, c)) gridsFew stampsFew k (omega (arith, u))
         (omega (arith, v, h)))
 
-    pub removed-moves : (i : ℕ) → i < l .pool .tracked → grids .less ≡ gridsUsed (stateOf l i) → stamps .less ≡ stampsUsed (stateOf l i)
+    pub removed-moves : (i : ℕ) → i < l .pool .tracked → grids .less ≡ newestUsed (stateOf l i) → stamps .less ≡ stampsUsed (stateOf l i)
         → StartsMove grids stamps i (l .pool .tracked - 1)
         (moved (l .textures) (textureStride * i) (textureStride * i + textureStride * 1) (textureStride * (l .pool .tracked - (i + 1))))
     unfolding textureRecords

@@ -8,8 +8,8 @@ use lib.Dec.{ltb}
 use lib.ListN.{length}
 use Rattle.base_blocks.specs.Lists.{ascending, total}
 use Rattle.base_blocks.specs.All.{All, nil, cons}
-use Rattle.pool_rules.specs.Model.{Doomed, VersionState, PoolModel, gridsUsed, doomedBytes}
-use Rattle.pool_rules.specs.HistorySizes.{stampsUsed}
+use Rattle.pool_rules.specs.Model.{Doomed, VersionState, PoolModel, doomedBytes}
+use Rattle.pool_rules.specs.HistorySizes.{newestUsed, stampsUsed}
 use Rattle.pool_rules.specs.Formed.{DoomedFormed}
 use Rattle.pool_records.specs.declared.texture.TextureRecord.{TextureRecord}
 use Rattle.pool_records.specs.Find.{idOf}
@@ -43,7 +43,7 @@ unfolding ascending textureRecords
 ascending-records grid stamp [] = refl
 ascending-records grid stamp (t ∷ []) = refl
 ascending-records grid stamp (t ∷ u ∷ us) =
-    ap (λ (b : Bool). ltb (t .id) (u .id) && b) (ascending-records (grid + gridsUsed t) (stamp + stampsUsed t) (u ∷ us))
+    ap (λ (b : Bool). ltb (t .id) (u .id) && b) (ascending-records (grid + newestUsed t) (stamp + stampsUsed t) (u ∷ us))
 
 -- the bytes of formed versions
 pub doomed-bound : {ds : List (Doomed ℕ)} → All DoomedFormed ds → doomedBytes ds ≤ mostShapeBytes * length ds

@@ -11,8 +11,8 @@ use Rattle.base_blocks.proofs.Lists.{all-get}
 use Rattle.base_blocks.proofs.All.{all-at}
 use Rattle.base_tables.proofs.Records.{getD-table, take-table}
 use Rattle.grid_shapes.specs.Shapes.{isShape, bytesOf}
-use Rattle.pool_rules.specs.Model.{WriteHistory, gridsUsed}
-use Rattle.pool_rules.specs.HistorySizes.{stampsUsed}
+use Rattle.pool_rules.specs.Model.{WriteHistory}
+use Rattle.pool_rules.specs.HistorySizes.{newestUsed, stampsUsed}
 use Rattle.pool_rules.specs.Formed.{Given, HistoryFormed, StateFormed}
 use Rattle.pool_records.specs.declared.texture.TextureRecord.{TextureRecord}
 use Rattle.pool_records.specs.Recorded.{RecordedFits, recordedNumber}
@@ -70,7 +70,7 @@ module _ (l : Lent) (i : ℕ) (h : i < l .pool .tracked) where
   pub count-at : length (stateOf l i .spares) ≡ textureAt l i .spares
   count-at = count-state l i ∙ ap sparesOf record-read
 
-  pub grids-at : gridsUsed (stateOf l i) ≡ recordGrids (textureAt l i)
+  pub grids-at : newestUsed (stateOf l i) ≡ recordGrids (textureAt l i)
   unfolding stateOf
   grids-at = grids-state l (firstSpare l i) (getD (trackedRecords l) i (readTexture [])) ∙ ap recordGrids record-read
 

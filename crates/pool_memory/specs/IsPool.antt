@@ -4,8 +4,9 @@ use mathlib.Core.Bool.{Bool, true, _&&_}
 use mathlib.Core.Option.{Option, none, some}
 use mathlib.Core.List.{[], _∷_}
 use lib.Dec.{leb, ltb, eqb}
-use lib.ListN.{length}
+use lib.ListN.{length, getD}
 use Rattle.base_blocks.specs.Lists.{all, total, ascending, tests}
+use Rattle.grid_shapes.specs.declared.shape.VersionShape.{VersionShape}
 use Rattle.grid_shapes.specs.Shapes.{isShape, bytesOf}
 use Rattle.grid_stamps.specs.Grids.{StampGrid}
 use Rattle.base_blocks.specs.Blocks.{largest}
@@ -13,14 +14,18 @@ use Rattle.base_unequal.specs.Unequal.{startsFit}
 use Rattle.pool_rules.specs.declared.held.Held.{Held}
 use Rattle.pool_rules.specs.declared.held.Held.the-variants.{Known, Unknown}
 use Rattle.pool_rules.specs.Model.{WriteHistory, Spare, Retiring, Doomed, VersionState, PoolModel, limit, spareBytes, doomedBytes}
+use Rattle.pool_rules.specs.HistorySizes.{gridPlaces}
 use Rattle.pool_rules.specs.Open.{arePlaces}
+use Rattle.pool_records.specs.declared.recorded.Recorded.{Recorded}
+use Rattle.pool_records.specs.declared.recorded.Recorded.the-variants.{Writes, NoHistory}
 use Rattle.pool_records.specs.declared.texture.TextureRecord.{TextureRecord}
+use Rattle.pool_records.specs.Tilings.{tilingNumber}
 use Rattle.pool_memory.specs.Lent.{Lent, versionPlaces}
 use Rattle.pool_memory.specs.Reading.{trackedRecords, modelOf}
 use Rattle.grid_shapes.specs.ShapeConstants.{mostShapeBytes}
 use Rattle.grid_stamps.specs.StampConstants.{pageStamps}
 use Rattle.pool_records.specs.RecordConstants.{doomedStride, retiringStride, spareStride, textureStride}
-use Rattle.pool_rules.specs.RuleConstants.{destroySpreadDrains, mostGrids, mostPlaces}
+use Rattle.pool_rules.specs.RuleConstants.{destroySpreadDrains, gridStride, mostGrids, mostPlaces}
 use Rattle.pool_records.specs.Texture.{recordGrids, recordStamps}
 
 -- the slices' lengths are those of whole places, as many as may be lent, and fit together
@@ -32,9 +37,9 @@ sizesFit l = tests (
     ∷ eqb (length (l .doomed)) (doomedStride * versionPlaces l)
     ∷ eqb (length (l .spares)) (spareStride * versionPlaces l)
     ∷ eqb (length (l .stamps)) (pageStamps * modelOf l .places .pages)
-    ∷ eqb (length (l .newest)) (min (mostGrids * modelOf l .places .textures) (length (l .stamps))) ∷ [])
+    ∷ eqb (length (l .newest)) (gridStride * min (mostGrids * modelOf l .places .textures) (length (l .stamps))) ∷ [])
 
--- the counts fit their places: no more textures, versions, grids and stamps than places, one version at most in the hand, and both rings begin inside theirs
+-- the counts fit their places: no more textures, versions, numbers of `newest` and stamps than places, one version at most in the hand, and both rings begin inside theirs
 unfoldable pub countsFit : Lent → Bool
 countsFit l = tests (
     leb (l .pool .tracked) (modelOf l .places .textures)
@@ -45,7 +50,7 @@ countsFit l = tests (
     ∷ leb (l .pool .grids) (length (l .newest))
     ∷ leb (l .pool .stamps) (length (l .stamps)) ∷ [])
 
--- the records claim just the spares, grids and stamps that are counted
+-- the records claim just the spares, numbers of `newest` and stamps that are counted
 unfoldable pub runsFit : Lent → Bool
 runsFit l = tests (
     eqb (total (λ (t : TextureRecord). t .spares) (trackedRecords l)) (l .pool .kept)
@@ -57,6 +62,20 @@ unfoldable pub startsHold : Lent → Bool
 startsHold l =
     startsFit recordGrids (λ (t : TextureRecord). t .grid) 0 (trackedRecords l)
     && startsFit recordStamps (λ (t : TextureRecord). t .stamp) 0 (trackedRecords l)
+
+-- beside the newest stamp of each grid stands its tiling
+unfoldable pub tilingHolds : Lent → VersionShape → ℕ → ℕ → Bool
+tilingHolds l s grid k = eqb (getD (l .newest) (grid + gridStride * k + 1) 0) (tilingNumber s k)
+
+abbrev pub tilingsRead : Lent → VersionShape → ℕ → Recorded → Bool
+tilingsRead l s grid NoHistory = true
+tilingsRead l s grid (Writes n) = all (tilingHolds l s grid) (gridPlaces s)
+
+unfoldable pub tilingsHold : Lent → TextureRecord → Bool
+tilingsHold l t = tilingsRead l (t .shape) (t .grid) (t .history)
+
+unfoldable pub tilingsFit : Lent → Bool
+tilingsFit l = all (tilingsHold l) (trackedRecords l)
 
 -- every record's bytes are those of one version of its shape
 unfoldable pub bytesHold : TextureRecord → Bool
@@ -132,4 +151,4 @@ isFormed p = tests (
     ∷ leb (p .since) (length (p .doomed)) ∷ [])
 
 unfoldable pub isPool : Lent → Bool
-isPool l = tests (sizesFit l ∷ countsFit l ∷ runsFit l ∷ startsHold l ∷ bytesFit l ∷ markFits l ∷ isFormed (modelOf l) ∷ [])
+isPool l = tests (sizesFit l ∷ countsFit l ∷ runsFit l ∷ startsHold l ∷ tilingsFit l ∷ bytesFit l ∷ markFits l ∷ isFormed (modelOf l) ∷ [])

@@ -4,10 +4,10 @@
 --   retiring   a ring of records of 7: the popped version if there is one, then the queue, the oldest first
 --   doomed     a ring of records of 2: the destroy queue, the oldest first
 --   spares     records of 3, packed texture by texture in ascending id, the oldest first
---   newest     one number for each grid in use, the newest of its stamps: texture by texture, slice by slice, level by level
+--   newest     two numbers for each grid in use, the newest of its stamps and its tiling: texture by texture, slice by slice, level by level
 --   stamps     each grid's stamps, row by row, packed as `newest` is
 --
--- Stamps are lent by pages of 1,024; `newest` is as long as can be used: 90 for each texture place, or one for each stamp, whichever is less.
+-- Stamps are lent by pages of 1,024; `newest` is as long as can be used: for 90 grids of each texture place, or one of each stamp, whichever is less.
 -- What stands past the counts and outside the rings is free: it is never read.
 use Prim.Native.Nat.{ℕ, _/_}
 use mathlib.Core.List.{List}

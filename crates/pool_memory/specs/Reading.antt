@@ -1,5 +1,5 @@
 -- Rule: The pool of the model that lent memory stands for.
-use Prim.Native.Nat.{ℕ, zero, suc, _+_, _/_, _%_}
+use Prim.Native.Nat.{ℕ, zero, suc, _+_, _*_, _/_, _%_}
 use mathlib.Core.Option.{Option, none, some}
 use mathlib.Core.List.{List, [], _∷_}
 use lib.Dec.{eqb}
@@ -11,6 +11,7 @@ use Rattle.grid_shapes.specs.declared.shape.VersionShape.{VersionShape}
 use Rattle.grid_stamps.specs.Grids.{StampGrid, gridIn, tilingOf}
 use Rattle.pool_rules.specs.Model.{WriteHistory, Spare, Retiring, Doomed, VersionState, PoolModel, gridCount}
 use Rattle.pool_rules.specs.HistorySizes.{gridStart}
+use Rattle.pool_rules.specs.RuleConstants.{gridStride}
 use Rattle.pool_records.specs.declared.recorded.Recorded.{Recorded}
 use Rattle.pool_records.specs.declared.recorded.Recorded.the-variants.{Writes, NoHistory}
 use Rattle.pool_records.specs.declared.texture.TextureRecord.{TextureRecord}
@@ -29,9 +30,10 @@ trackedRecords l = texturesIn (l .pool .tracked) (l .textures)
 
 -- ---- histories
 
--- the k-th grid of a history whose grids begin at `grid` and whose stamps at `stamp`: slice by slice, level by level, one behind the other
+-- the k-th grid of a history whose numbers begin at `grid` of `newest` and whose stamps at `stamp`: slice by slice, level by level, one behind the
+-- other
 unfoldable pub gridRead : Lent → VersionShape → ℕ → ℕ → ℕ → StampGrid
-gridRead l s grid stamp k = gridIn (tilingOf s (k % s .levels)) (getD (l .newest) (grid + k) 0) (drop (stamp + gridStart s k) (l .stamps))
+gridRead l s grid stamp k = gridIn (tilingOf s (k % s .levels)) (getD (l .newest) (grid + gridStride * k) 0) (drop (stamp + gridStart s k) (l .stamps))
 
 abbrev pub historyRead : Lent → VersionShape → ℕ → ℕ → Recorded → Option WriteHistory
 historyRead l s grid stamp NoHistory = none

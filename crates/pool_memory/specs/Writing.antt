@@ -1,5 +1,5 @@
 -- Rule: What a call leaves in the lent memory: the pool after it, written over what stood there. Numbers that are free stay as they were.
-use Prim.Native.Nat.{ℕ, _+_, _-_}
+use Prim.Native.Nat.{ℕ, suc, _+_, _-_}
 use mathlib.Core.Bool.{Bool, true, false}
 use mathlib.Core.Option.{Option, none, some}
 use mathlib.Core.List.{List, [], _∷_, _++_, map, flatMap}
@@ -7,10 +7,11 @@ use lib.ListN.{length}
 use Rattle.base_blocks.specs.Lists.{over, total}
 use Rattle.base_tables.specs.Records.{flat}
 use Rattle.base_tables.specs.Rings.{placeOf, laid}
+use Rattle.grid_shapes.specs.declared.shape.VersionShape.{VersionShape}
 use Rattle.grid_shapes.specs.Shapes.{bytesOf}
 use Rattle.grid_stamps.specs.Grids.{StampGrid}
-use Rattle.pool_rules.specs.Model.{WriteHistory, Spare, Retiring, Doomed, VersionState, PoolModel, gridsUsed, handCount}
-use Rattle.pool_rules.specs.HistorySizes.{stampsUsed}
+use Rattle.pool_rules.specs.Model.{WriteHistory, Spare, Retiring, Doomed, VersionState, PoolModel, handCount}
+use Rattle.pool_rules.specs.HistorySizes.{newestUsed, stampsUsed}
 use Rattle.pool_records.specs.declared.recorded.Recorded.{Recorded}
 use Rattle.pool_records.specs.declared.recorded.Recorded.the-variants.{Writes, NoHistory}
 use Rattle.pool_records.specs.declared.texture.TextureRecord.{TextureRecord}
@@ -21,6 +22,7 @@ use Rattle.pool_records.specs.Texture.{writeTexture}
 use Rattle.pool_records.specs.Spare.{writeSpare}
 use Rattle.pool_records.specs.Retiring.{writeRetiring}
 use Rattle.pool_records.specs.Doomed.{writeDoomed}
+use Rattle.pool_records.specs.Tilings.{tilingNumber}
 use Rattle.pool_memory.specs.declared.pool.Pool.{Pool as Counts}
 use Rattle.pool_memory.specs.declared.book.PacingBook.{PacingBook}
 use Rattle.pool_memory.specs.Lent.{Lent, lent, versionPlaces}
@@ -51,7 +53,7 @@ textureRecord grid stamp t = record {
 -- the records in ascending id: each texture's grids and stamps begin where those of the textures before it end
 unfoldable pub textureRecords : ℕ → ℕ → List (VersionState ℕ) → List TextureRecord
 textureRecords grid stamp [] = []
-textureRecords grid stamp (t ∷ ts) = textureRecord grid stamp t ∷ textureRecords (grid + gridsUsed t) (stamp + stampsUsed t) ts
+textureRecords grid stamp (t ∷ ts) = textureRecord grid stamp t ∷ textureRecords (grid + newestUsed t) (stamp + stampsUsed t) ts
 
 abbrev pub spareRecord : Spare ℕ → SpareRecord
 spareRecord s = record { view = s .view; held = s .held; parked = s .parked }
@@ -78,8 +80,13 @@ abbrev pub gridsOf : Option WriteHistory → List StampGrid
 gridsOf none = []
 gridsOf (some h) = h .grids
 
+-- what stands for a history's grids from the k-th on: for each the newest of its stamps, then its tiling
+unfoldable pub newestFrom : VersionShape → ℕ → List StampGrid → List ℕ
+newestFrom s k [] = []
+newestFrom s k (g ∷ gs) = g .newest ∷ (tilingNumber s k ∷ newestFrom s (suc k) gs)
+
 abbrev pub newestOf : VersionState ℕ → List ℕ
-newestOf t = map (λ (g : StampGrid). g .newest) (gridsOf (t .history))
+newestOf t = newestFrom (t .shape) 0 (gridsOf (t .history))
 
 unfoldable pub newestAfter : PoolModel ℕ → Lent → List ℕ
 newestAfter p l = over (flatMap newestOf (p .textures)) (l .newest)
@@ -115,7 +122,7 @@ unfoldable pub poolAfter : PoolModel ℕ → Lent → Counts
 poolAfter p l = record {
   tracked = length (p .textures);
   kept = total (λ (t : VersionState ℕ). length (t .spares)) (p .textures);
-  grids = total gridsUsed (p .textures);
+  grids = total newestUsed (p .textures);
   stamps = total stampsUsed (p .textures);
   head = headAfter p l;
   popped = handCount (p .hand);

@@ -16,8 +16,8 @@ use Rattle.base_blocks.proofs.Listed.{map-listed}
 use Rattle.base_tables.proofs.Records.{getD-table}
 use Rattle.grid_shapes.specs.Shapes.{isShape, bytesOf}
 use Rattle.grid_shapes.proofs.ShapeBytes.{bytes-bound}
-use Rattle.pool_rules.specs.Model.{VersionState, gridsUsed}
-use Rattle.pool_rules.specs.HistorySizes.{stampsUsed}
+use Rattle.pool_rules.specs.Model.{VersionState}
+use Rattle.pool_rules.specs.HistorySizes.{newestUsed, stampsUsed}
 use Rattle.pool_rules.specs.Formed.{StateFormed}
 use Rattle.pool_rules.specs.NoteAllocated.{Aged, picked, byAge, countOf, agedOf, pickedIn}
 use Rattle.pool_records.specs.declared.texture.TextureRecord.{TextureRecord}
@@ -110,7 +110,7 @@ module _ (l : Lent) where
       → All (λ (t : TextureRecord). isShape (t .shape) ≡ true) (textureRecords grid stamp ts)
   unfolding textureRecords
   shapes-recorded grid stamp nil = nil
-  shapes-recorded grid stamp (cons {x = t} q qs) = cons (q .shape) (shapes-recorded (grid + gridsUsed t) (stamp + stampsUsed t) qs)
+  shapes-recorded grid stamp (cons {x = t} q qs) = cons (q .shape) (shapes-recorded (grid + newestUsed t) (stamp + stampsUsed t) qs)
 
   module _ (f : Fits l) where
     records-shaped : All (λ (t : TextureRecord). isShape (t .shape) ≡ true) (trackedRecords l)

@@ -13,8 +13,8 @@ use Rattle.base_blocks.specs.Lists.{total}
 use Rattle.base_blocks.specs.All.{All, nil, cons}
 use Rattle.grid_shapes.specs.Shapes.{bytesOf}
 use Rattle.grid_shapes.proofs.ShapeBytes.{bytes-bound}
-use Rattle.pool_rules.specs.Model.{Doomed, VersionState, PoolModel, accepted, gridsUsed, spareBytes, doomedBytes}
-use Rattle.pool_rules.specs.HistorySizes.{stampsUsed}
+use Rattle.pool_rules.specs.Model.{Doomed, VersionState, PoolModel, accepted, spareBytes, doomedBytes}
+use Rattle.pool_rules.specs.HistorySizes.{newestUsed, stampsUsed}
 use Rattle.pool_rules.specs.Updates.{withPacing}
 use Rattle.pool_rules.specs.NoteAllocated.{pressedAfter, countOf, pickedIn, relieved, noteAllocated}
 use Rattle.pool_rules.specs.Formed.{StateFormed}
@@ -125,7 +125,7 @@ module _ (l : Lent) (f : Fits l) (allocated : ℕ) where
     counts-left = sym (λ i. record {
       tracked = (length-map (modelOf l .textures) (lessened (share l excess)) ∙ tracked-model l) i;
       kept = sym (r .count) i;
-      grids = (total-map gridsUsed (lessened (share l excess)) (λ t. refl) (modelOf l .textures) ∙ grids-model l ∙ f .claimed) i;
+      grids = (total-map newestUsed (lessened (share l excess)) (λ t. refl) (modelOf l .textures) ∙ grids-model l ∙ f .claimed) i;
       stamps = (total-map stampsUsed (lessened (share l excess)) (λ t. refl) (modelOf l .textures) ∙ stamps-used-model l ∙ f .stamps-claimed) i;
       head = hand-same i;
       popped = hand-model l (f .hand) i;

@@ -14,8 +14,8 @@ use Rattle.base_blocks.proofs.Listed.{drop-listed, take-listed, map-listed, lis
 use Rattle.base_tables.specs.Records.{recordAt, flat}
 use Rattle.base_tables.specs.Rings.{laid}
 use Rattle.grid_shapes.specs.Shapes.{bytesOf}
-use Rattle.pool_rules.specs.Model.{Spare, Doomed, VersionState, gridsUsed, doomedBytes}
-use Rattle.pool_rules.specs.HistorySizes.{stampsUsed}
+use Rattle.pool_rules.specs.Model.{Spare, Doomed, VersionState, doomedBytes}
+use Rattle.pool_rules.specs.HistorySizes.{newestUsed, stampsUsed}
 use Rattle.pool_rules.specs.Updates.{asDoomed}
 use Rattle.pool_rules.proofs.Lists.{total-map, total-mapped}
 use Rattle.pool_rules.proofs.Moves.{lessened, given, given-count, as-doomed-bytes}
@@ -118,9 +118,9 @@ module _ (l : Lent) where
         ∙ ap (total used) (take-states l i 0 (trackedRecords l))
         ∙ used-states l used size reads 0 (take i (trackedRecords l))
 
-    grids-before : (i : ℕ) → 0 + total gridsUsed (map (lessened k) (first i)) ≡ firstGrid l i
+    grids-before : (i : ℕ) → 0 + total newestUsed (map (lessened k) (first i)) ≡ firstGrid l i
     unfolding firstGrid
-    grids-before i = used-before gridsUsed (λ t. refl) recordGrids (grids-state l) i
+    grids-before i = used-before newestUsed (λ t. refl) recordGrids (grids-state l) i
 
     stamps-before : (i : ℕ) → 0 + total stampsUsed (map (lessened k) (first i)) ≡ firstStamp l i
     unfolding firstStamp

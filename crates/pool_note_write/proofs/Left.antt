@@ -15,10 +15,10 @@ use Rattle.grid_rects.specs.declared.rect.TexelRect.{TexelRect}
 use Rattle.grid_stamps.specs.Grids.{StampGrid, gridIn, tilingOf, stampedBy}
 use Rattle.grid_stamps.proofs.Tilings.{tiling-ok}
 use Rattle.grid_stamps.proofs.Stamps.{length-stamped}
-use Rattle.pool_rules.specs.Model.{WriteHistory, VersionState, PoolModel, hasHistory, gridCount, gridsUsed}
+use Rattle.pool_rules.specs.Model.{WriteHistory, VersionState, PoolModel, hasHistory, gridCount}
 use Rattle.pool_rules.specs.Updates.{withHistory, withTextures}
 use Rattle.pool_rules.specs.Histories.{gridAt, gridPlace, stampWrite, regenerateFrom, stampRegeneration}
-use Rattle.pool_rules.specs.HistorySizes.{gridSize, gridStart, historySize, stampsUsed}
+use Rattle.pool_rules.specs.HistorySizes.{gridSize, gridStart, historySize, newestUsed, stampsUsed}
 use Rattle.pool_rules.proofs.HistorySizes.{grid-size, grid-last}
 use Rattle.pool_records.specs.declared.recorded.Recorded.the-variants.{Writes}
 use Rattle.pool_records.specs.declared.texture.TextureRecord.{TextureRecord}
@@ -65,13 +65,13 @@ module _ (l : Lent) (f : Fits l) (i : ℕ) (h : i < l .pool .tracked) where
     kept-left : total spareCount (set (modelOf l .textures) i otherState) ≡ l .pool .kept
     kept-left = omega (arith, used-set l otherPool spareCount (l .pool .kept) (kept-model l ∙ f .kept) i otherState h refl)
 
-    pub grids-left : total gridsUsed (set (modelOf l .textures) i otherState) + gridsUsed (stateOf l i) ≡ l .pool .grids + gridsUsed otherState
-    grids-left = used-set l otherPool gridsUsed (l .pool .grids) (grids-model l ∙ f .claimed) i otherState h refl
+    pub grids-left : total newestUsed (set (modelOf l .textures) i otherState) + newestUsed (stateOf l i) ≡ l .pool .grids + newestUsed otherState
+    grids-left = used-set l otherPool newestUsed (l .pool .grids) (grids-model l ∙ f .claimed) i otherState h refl
 
     pub stamps-left : total stampsUsed (set (modelOf l .textures) i otherState) + stampsUsed (stateOf l i) ≡ l .pool .stamps + stampsUsed otherState
     stamps-left = used-set l otherPool stampsUsed (l .pool .stamps) (stamps-used-model l ∙ f .stamps-claimed) i otherState h refl
 
-    module _ (grids used : ℕ) (counted : total gridsUsed (set (modelOf l .textures) i otherState) ≡ grids)
+    module _ (grids used : ℕ) (counted : total newestUsed (set (modelOf l .textures) i otherState) ≡ grids)
         (stamped : total stampsUsed (set (modelOf l .textures) i otherState) ≡ used) where
       counts-left : withUsed grids used (l .pool) ≡ poolAfter otherPool l
       unfolding poolAfter modelOf
@@ -108,7 +108,7 @@ module _ (l : Lent) (f : Fits l) (i : ℕ) (h : i < l .pool .tracked) where
     shape = stateOf l i .shape
 
     module _ (new : WriteHistory) where
-      same-grids : gridsUsed (otherState (some new)) ≡ gridsUsed (stateOf l i)
+      same-grids : newestUsed (otherState (some new)) ≡ newestUsed (stateOf l i)
       same-grids = sym (ap (λ (o : Option WriteHistory). cond (hasHistory o) (gridCount shape) 0) has)
 
       same-stamps : stampsUsed (otherState (some new)) ≡ stampsUsed (stateOf l i)

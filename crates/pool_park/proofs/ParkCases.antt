@@ -16,8 +16,8 @@ use Rattle.base_tables.specs.Rings.{placeOf, along, laid}
 use Rattle.base_tables.proofs.Records.{take-table}
 use Rattle.grid_shapes.specs.Shapes.{bytesOf}
 use Rattle.grid_shapes.proofs.ShapeBytes.{bytes-bound}
-use Rattle.pool_rules.specs.Model.{Spare, Retiring, Doomed, VersionState, PoolModel, accepted, refused, guard, find, limit, gridsUsed}
-use Rattle.pool_rules.specs.HistorySizes.{stampsUsed}
+use Rattle.pool_rules.specs.Model.{Spare, Retiring, Doomed, VersionState, PoolModel, accepted, refused, guard, find, limit}
+use Rattle.pool_rules.specs.HistorySizes.{newestUsed, stampsUsed}
 use Rattle.pool_rules.specs.Updates.{withSpares, withTextures, withRetiring, withParked, change, doom}
 use Rattle.pool_rules.specs.Park.{asSpare, parkFound, parkHand, park}
 use Rattle.pool_rules.specs.Formed.{Given, RetiringFormed}
@@ -348,7 +348,7 @@ module _ (l : Lent) (e : isPool l ≡ true) (failed current : ℕ) where
             counts-kept head q = λ j. record {
               tracked = sym (length-change (x .id) (withOne spare) (modelOf l .textures) ∙ tracked-model l) j;
               kept = sym (kept-inserted l stays (fits .kept) end spare end-within every-is) j;
-              grids = sym (total-unchanged gridsUsed (x .id) (withOne spare) (λ t. refl) (modelOf l .textures) ∙ grids-model l ∙ fits .claimed) j;
+              grids = sym (total-unchanged newestUsed (x .id) (withOne spare) (λ t. refl) (modelOf l .textures) ∙ grids-model l ∙ fits .claimed) j;
               stamps = sym (total-unchanged stampsUsed (x .id) (withOne spare) (λ t. refl) (modelOf l .textures) ∙ stamps-used-model l ∙ fits .stamps-claimed) j;
               head = (q ∙ sym (head-parked l stays (fits .head) held refl)) j;
               popped = 0;

@@ -1,8 +1,8 @@
 -- Rule: What stands in `newest` beside a grid's newest stamp: where its stamps begin among those of its history, and its tiles' edges, which are the
 -- shape's. A write finds them there and need not add up the levels before its own. The three are packed into one number.
-use Prim.Native.Nat.{ℕ, _+_, _*_, _/_, _%_, _<_}
+use Prim.Native.Nat.{ℕ, zero, suc, _+_, _*_, _/_, _%_, _<_}
 use mathlib.Core.Path.{_≡_}
-use mathlib.Core.List.{List}
+use mathlib.Core.List.{List, [], _∷_}
 use lib.ListN.{getD}
 use Rattle.grid_shapes.specs.declared.shape.VersionShape.{VersionShape}
 use Rattle.grid_stamps.specs.Grids.{tilingOf}
@@ -33,6 +33,11 @@ gridTiling s k = record {
 
 unfoldable pub tilingNumber : VersionShape → ℕ → ℕ
 tilingNumber s k = packedTiling (gridTiling s k)
+
+-- what stands for n grids of a new history from the k-th on: no stamp yet, and the tiling
+unfoldable pub freshFrom : VersionShape → ℕ → ℕ → List ℕ
+freshFrom s k zero = []
+freshFrom s k (suc n) = 0 ∷ (tilingNumber s k ∷ freshFrom s (suc k) n)
 
 -- what stands for the grid at place p of `newest`
 abbrev pub tilingIn : List ℕ → ℕ → GridTiling

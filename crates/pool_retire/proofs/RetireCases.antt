@@ -10,8 +10,8 @@ use lib.Dec.{leb, ltb}
 use lib.ListN.{length, length-append}
 use lib.Seq.{sets}
 use Rattle.base_tables.specs.Rings.{placeOf}
-use Rattle.pool_rules.specs.Model.{Retiring, VersionState, PoolModel, accepted, guard, find, limit, gridsUsed}
-use Rattle.pool_rules.specs.HistorySizes.{stampsUsed}
+use Rattle.pool_rules.specs.Model.{Retiring, VersionState, PoolModel, accepted, guard, find, limit}
+use Rattle.pool_rules.specs.HistorySizes.{newestUsed, stampsUsed}
 use Rattle.pool_rules.specs.Updates.{withBirth, withTextures, withRetiring, change}
 use Rattle.pool_rules.specs.Retire.{retired, retire}
 use Rattle.pool_rules.proofs.States.{length-change, total-unchanged}
@@ -129,7 +129,7 @@ module _ (l : Lent) (e : isPool l ≡ true) (id view seq : ℕ) where
     counts = λ i. record {
       tracked = sym (length-change id (withBirth seq) (modelOf l .textures) ∙ tracked-model l) i;
       kept = sym (total-unchanged spareCount id (withBirth seq) (λ t. refl) (modelOf l .textures) ∙ kept-model l ∙ fits .kept) i;
-      grids = sym (total-unchanged gridsUsed id (withBirth seq) (λ t. refl) (modelOf l .textures) ∙ grids-model l ∙ fits .claimed) i;
+      grids = sym (total-unchanged newestUsed id (withBirth seq) (λ t. refl) (modelOf l .textures) ∙ grids-model l ∙ fits .claimed) i;
       stamps = sym (total-unchanged stampsUsed id (withBirth seq) (λ t. refl) (modelOf l .textures) ∙ stamps-used-model l ∙ fits .stamps-claimed) i;
       head = sym (head-stays l queued (fits .head) (omega (arith, hand-model l (fits .hand)))) i;
       popped = sym (hand-model l (fits .hand)) i;

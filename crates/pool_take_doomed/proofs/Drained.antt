@@ -18,8 +18,8 @@ use Rattle.pool_records.specs.Texture.{writeTexture}
 use Rattle.pool_records.specs.Spare.{readSpare, writeSpare}
 use Rattle.pool_records.specs.Retiring.{readRetiring}
 use Rattle.pool_records.specs.Doomed.{readDoomed}
-use Rattle.pool_rules.specs.Model.{Spare, Retiring, Doomed, VersionState, PoolModel, gridsUsed, guard}
-use Rattle.pool_rules.specs.HistorySizes.{stampsUsed}
+use Rattle.pool_rules.specs.Model.{Spare, Retiring, Doomed, VersionState, PoolModel, guard}
+use Rattle.pool_rules.specs.HistorySizes.{newestUsed, stampsUsed}
 use Rattle.pool_rules.specs.Updates.{withSpares, withTextures, withRetiring, withParked, withDoomed, withPacing}
 use Rattle.pool_rules.specs.DrainVersions.{everyView, drainVersions}
 use Rattle.pool_memory.specs.declared.pool.Pool.{Pool as Counts}
@@ -51,7 +51,7 @@ emptied-records : (grid stamp : ℕ) (ts : List (VersionState ℕ)) → textureR
 unfolding textureRecords
 emptied-records grid stamp [] = refl
 emptied-records grid stamp (t ∷ ts) =
-    ap (λ (rs : List TextureRecord). spareless (textureRecord grid stamp t) ∷ rs) (emptied-records (grid + gridsUsed t) (stamp + stampsUsed t) ts)
+    ap (λ (rs : List TextureRecord). spareless (textureRecord grid stamp t) ∷ rs) (emptied-records (grid + newestUsed t) (stamp + stampsUsed t) ts)
 
 -- ids, shapes and histories stay
 emptied-histories : (ts : List (VersionState ℕ)) → map keptHistory (emptied ts) ≡ map keptHistory ts

@@ -16,8 +16,8 @@ use Rattle.base_blocks.proofs.Listed.{getD-listed}
 use Rattle.base_tables.specs.Records.{recordAt}
 use Rattle.grid_shapes.specs.declared.shape.VersionShape.{VersionShape}
 use Rattle.grid_shapes.specs.Shapes.{sameShape, bytesOf}
-use Rattle.pool_rules.specs.Model.{Spare, VersionState, PoolModel, find, gridsUsed}
-use Rattle.pool_rules.specs.HistorySizes.{stampsUsed}
+use Rattle.pool_rules.specs.Model.{Spare, VersionState, PoolModel, find}
+use Rattle.pool_rules.specs.HistorySizes.{newestUsed, stampsUsed}
 use Rattle.pool_rules.specs.Updates.{withSpares, withRename, withTextures, withParked, change}
 use Rattle.pool_rules.specs.TakeSpare.{newest, others, takenBytes, takeSpare}
 use Rattle.pool_rules.proofs.States.{length-change, total-change, total-unchanged}
@@ -190,8 +190,8 @@ module _ (l : Lent) (i id : ℕ) (shape : VersionShape) (records : Bool) (seq : 
   tracked-left : l .pool .tracked ≡ length (change id (renamedState seq) (modelOf l .textures))
   tracked-left = sym (length-change id (renamedState seq) (modelOf l .textures) ∙ tracked-model l)
 
-  grids-left : l .pool .grids ≡ total gridsUsed (change id (renamedState seq) (modelOf l .textures))
-  grids-left = sym (total-unchanged gridsUsed id (renamedState seq) (λ (v : VersionState ℕ). refl) (modelOf l .textures) ∙ grids-model l ∙ f .claimed)
+  grids-left : l .pool .grids ≡ total newestUsed (change id (renamedState seq) (modelOf l .textures))
+  grids-left = sym (total-unchanged newestUsed id (renamedState seq) (λ (v : VersionState ℕ). refl) (modelOf l .textures) ∙ grids-model l ∙ f .claimed)
 
   stamps-left : l .pool .stamps ≡ total stampsUsed (change id (renamedState seq) (modelOf l .textures))
   stamps-left =

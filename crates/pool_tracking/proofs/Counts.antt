@@ -4,8 +4,8 @@ use Prim.Native.Nat.{ℕ, _≤_}
 use native.Mathlib.Omega.{arith}
 use lib.ListN.{length}
 use Rattle.base_blocks.specs.Lists.{total}
-use Rattle.pool_rules.specs.Model.{PoolModel, gridsUsed, handCount}
-use Rattle.pool_rules.specs.HistorySizes.{stampsUsed}
+use Rattle.pool_rules.specs.Model.{PoolModel, handCount}
+use Rattle.pool_rules.specs.HistorySizes.{newestUsed, stampsUsed}
 use Rattle.pool_memory.specs.declared.pool.Pool.{Pool as Counts}
 use Rattle.pool_memory.specs.Lent.{Lent}
 use Rattle.pool_memory.specs.Reading.{modelOf}
@@ -42,7 +42,7 @@ begunCounts c grids stamps trackings = counted c (c .tracked) (c .kept) grids st
 module _ (l : Lent) (f : Fits l) (p : PoolModel ℕ) (hand : p .hand ≡ modelOf l .hand) (queue : p .retiring ≡ modelOf l .retiring)
     (cap : l .pool .cap ≡ p .budget .cap) (line : l .pool .line ≡ p .budget .line) where
   pub counts-after : (tracked kept grids stamps doomed : ℕ) → tracked ≡ length (p .textures) → kept ≡ total spareCount (p .textures)
-      → grids ≡ total gridsUsed (p .textures) → stamps ≡ total stampsUsed (p .textures) → doomed ≡ length (p .doomed) → l .pool .doomed ≤ doomed
+      → grids ≡ total newestUsed (p .textures) → stamps ≡ total stampsUsed (p .textures) → doomed ≡ length (p .doomed) → l .pool .doomed ≤ doomed
       → counted (l .pool) tracked kept grids stamps doomed (p .since) (p .trackings) (p .parked) (p .dooming) ≡ poolAfter p l
   unfolding poolAfter
   counts-after tracked kept grids stamps doomed e1 e2 e3 e4 e5 more = λ j. record {

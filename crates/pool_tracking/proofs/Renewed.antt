@@ -16,9 +16,9 @@ use Rattle.grid_shapes.specs.declared.shape.VersionShape.{VersionShape}
 use Rattle.grid_shapes.specs.Shapes.{isShape, sameShape, bytesOf}
 use Rattle.grid_shapes.specs.ShapeConstants.{mostShapeBytes}
 use Rattle.grid_shapes.proofs.ShapeBytes.{bytes-bound}
-use Rattle.pool_rules.specs.Model.{Spare, Doomed, VersionState, PoolModel, find, gridsUsed, doomedBytes, accepted}
+use Rattle.pool_rules.specs.Model.{Spare, Doomed, VersionState, PoolModel, find, doomedBytes, accepted}
 use Rattle.pool_rules.specs.RuleConstants.{mostPlaces}
-use Rattle.pool_rules.specs.HistorySizes.{stampsUsed}
+use Rattle.pool_rules.specs.HistorySizes.{newestUsed, stampsUsed}
 use Rattle.pool_rules.specs.Formed.{Formed}
 use Rattle.pool_rules.specs.Updates.{withTextures, withTrackings, change, asDoomed, doomSpares}
 use Rattle.pool_rules.specs.TakeSpare.{takeSpare}
@@ -165,11 +165,11 @@ module _ (l : Lent) (new : NewTracking) (ok : Begins l new) (h : TrackedAt l (ne
       )
 
   -- its own go out, those of the new history come in
-  grids-changed : total gridsUsed textures-then + recordGrids t ≡ l .pool .grids + grids
+  grids-changed : total newestUsed textures-then + recordGrids t ≡ l .pool .grids + grids
   grids-changed =
       omega (
         arith,
-        total-change gridsUsed (new .id) (λ (v : VersionState ℕ). state) u (modelOf l .textures) (f .formed .ids) there,
+        total-change newestUsed (new .id) (λ (v : VersionState ℕ). state) u (modelOf l .textures) (f .formed .ids) there,
         grids-model l,
         f .claimed,
         grids-at l i (h .0),
@@ -194,7 +194,7 @@ module _ (l : Lent) (new : NewTracking) (ok : Begins l new) (h : TrackedAt l (ne
   stamps-within : firstStamp l i + recordStamps t ≤ l .pool .stamps
   stamps-within = omega (arith, stamps-in l f i (h .0), stamps-there)
 
-  grids-then : l .pool .grids - recordGrids t + grids ≡ total gridsUsed textures-then
+  grids-then : l .pool .grids - recordGrids t + grids ≡ total newestUsed textures-then
   grids-then = omega (arith, grids-changed, grids-within)
 
   stamps-then : l .pool .stamps - recordStamps t + new .stamps ≡ total stampsUsed textures-then
@@ -273,7 +273,7 @@ module _ (l : Lent) (new : NewTracking) (ok : Begins l new) (h : TrackedAt l (ne
         ((λ j. newRecord new (epoch-is j) (grid-is j) (stamp-is j)) ∙ sym (begun-record new epoch (firstGrid l i) (firstStamp l i)))
 
     module _ (fresh : ℕ) (fresh-is : fresh ≡ grids) where
-      grids-out : gridShift hold fresh .less ≡ gridsUsed u
+      grids-out : gridShift hold fresh .less ≡ newestUsed u
       grids-out = grids-is ∙ sym (grids-at l i (h .0))
 
       stamps-out : stampShift hold new .less ≡ stampsUsed u

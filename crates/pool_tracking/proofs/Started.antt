@@ -11,8 +11,8 @@ use lib.Seq.{sets}
 use Rattle.base_blocks.specs.Lists.{total, inserted}
 use Rattle.base_blocks.specs.Blocks.{moved}
 use Rattle.grid_shapes.specs.Shapes.{isShape}
-use Rattle.pool_rules.specs.Model.{VersionState, PoolModel, find, gridsUsed, accepted}
-use Rattle.pool_rules.specs.HistorySizes.{stampsUsed}
+use Rattle.pool_rules.specs.Model.{VersionState, PoolModel, find, accepted}
+use Rattle.pool_rules.specs.HistorySizes.{newestUsed, stampsUsed}
 use Rattle.pool_rules.specs.Formed.{Formed}
 use Rattle.pool_rules.specs.Updates.{withTextures, withTrackings, insert}
 use Rattle.pool_rules.specs.TakeSpare.{takeSpare}
@@ -142,8 +142,8 @@ module _ (l : Lent) (new : NewTracking) (ok : Begins l new) (untracked : Tracked
   kept-then : l .pool .kept ≡ total spareCount (insert state (modelOf l .textures))
   kept-then = omega (arith, total-insert spareCount state (modelOf l .textures), kept-model l, f .kept)
 
-  grids-then : l .pool .grids + grids ≡ total gridsUsed (insert state (modelOf l .textures))
-  grids-then = omega (arith, total-insert gridsUsed state (modelOf l .textures), grids-model l, f .claimed, begun-grids new epoch)
+  grids-then : l .pool .grids + grids ≡ total newestUsed (insert state (modelOf l .textures))
+  grids-then = omega (arith, total-insert newestUsed state (modelOf l .textures), grids-model l, f .claimed, begun-grids new epoch)
 
   stamps-then : l .pool .stamps + new .stamps ≡ total stampsUsed (insert state (modelOf l .textures))
   stamps-then =

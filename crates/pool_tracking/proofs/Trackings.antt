@@ -11,8 +11,8 @@ use Rattle.base_blocks.specs.Blocks.{moved}
 use Rattle.grid_shapes.specs.declared.shape.VersionShape.{VersionShape}
 use Rattle.grid_shapes.specs.Shapes.{isShape, bytesOf}
 use Rattle.grid_stamps.specs.StampConstants.{pageStamps}
-use Rattle.pool_rules.specs.Model.{VersionState, gridsUsed}
-use Rattle.pool_rules.specs.HistorySizes.{stampsUsed}
+use Rattle.pool_rules.specs.Model.{VersionState}
+use Rattle.pool_rules.specs.HistorySizes.{newestUsed, stampsUsed}
 use Rattle.pool_rules.specs.Histories.{newHistory}
 use Rattle.pool_rules.specs.TakeSpare.{newState}
 use Rattle.pool_rules.specs.RuleConstants.{mostGrids}
@@ -98,10 +98,10 @@ module _ (new : NewTracking) (epoch : ℕ) where
 
   -- ---- what its history has
 
-  pub begun-grids : gridsUsed begun ≡ grids
+  pub begun-grids : newestUsed begun ≡ grids
   begun-grids = go (new .records)
     where
-      go : (b : Bool) → gridsUsed (begun-as b) ≡ freshGrids (new .shape) b
+      go : (b : Bool) → newestUsed (begun-as b) ≡ freshGrids (new .shape) b
       go true = refl
       go false = refl
 

@@ -6,8 +6,8 @@ use native.Mathlib.Omega.{arith}
 use lib.ListN.{length}
 use Rattle.base_blocks.specs.Lists.{total}
 use Rattle.base_tables.specs.Rings.{laid}
-use Rattle.pool_rules.specs.Model.{gridsUsed, doomedBytes}
-use Rattle.pool_rules.specs.HistorySizes.{stampsUsed}
+use Rattle.pool_rules.specs.Model.{doomedBytes}
+use Rattle.pool_rules.specs.HistorySizes.{newestUsed, stampsUsed}
 use Rattle.pool_records.specs.Texture.{readTexture, sparesTo}
 use Rattle.pool_records.specs.Doomed.{writeDoomed}
 use Rattle.pool_memory.specs.Lent.{Lent}
@@ -29,7 +29,7 @@ pub record Sofar (l : Lent) (now i : ℕ) (w : Pass) (T D S N P : List ℕ) : Ty
   -- what is left of it, and what was given up
   pub tracked : w .tracked ≡ length (keptTo l now i)
   pub kept : w .kept ≡ length (everySpare (keptTo l now i))
-  pub grids : w .grids ≡ total gridsUsed (keptTo l now i)
+  pub grids : w .grids ≡ total newestUsed (keptTo l now i)
   pub stamps-used : w .stamps ≡ total stampsUsed (keptTo l now i)
   pub count : w .count ≡ length (givenTo l now i)
   pub freed : w .freed ≡ doomedBytes (givenTo l now i)

@@ -12,8 +12,8 @@ use Rattle.base_blocks.specs.Blocks.{moved}
 use Rattle.base_blocks.proofs.Lists.{total-append}
 use Rattle.base_tables.specs.Records.{flat}
 use Rattle.base_tables.specs.Rings.{laid}
-use Rattle.pool_rules.specs.Model.{Doomed, VersionState, PoolModel, gridsUsed}
-use Rattle.pool_rules.specs.HistorySizes.{stampsUsed}
+use Rattle.pool_rules.specs.Model.{Doomed, VersionState, PoolModel}
+use Rattle.pool_rules.specs.HistorySizes.{newestUsed, stampsUsed}
 use Rattle.pool_rules.specs.Trim.{idle, thinned}
 use Rattle.pool_records.specs.declared.texture.TextureRecord.{TextureRecord}
 use Rattle.pool_records.specs.declared.doomed.DoomedRecord.{DoomedRecord}
@@ -122,7 +122,7 @@ module _ (l : Lent) (now i : ℕ) (h : i < l .pool .tracked) where
       abbrev more : keptTo l now (i + 1) ≡ keptTo l now i ++ (looked now (stateOf l i) ∷ [])
       more = stays-next e
 
-      pub textures-stay : (w : Pass) → w .tracked ≡ length (keptTo l now i) → w .grids ≡ total gridsUsed (keptTo l now i)
+      pub textures-stay : (w : Pass) → w .tracked ≡ length (keptTo l now i) → w .grids ≡ total newestUsed (keptTo l now i)
           → w .stamps ≡ total stampsUsed (keptTo l now i) → textureStride * w .tracked + textureStride ≤ length (l .textures)
           → sets (texturesAfter p l) (textureStride * w .tracked) (writeTexture (lookedRecord (lookHere l now i h) w t₀)) ≡ texturesAfter q l
       textures-stay w at grids stamps room =
@@ -178,13 +178,13 @@ module _ (l : Lent) (now i : ℕ) (h : i < l .pool .tracked) where
       same-history : map keptHistory (looked now (stateOf l i) ∷ []) ≡ map keptHistory (stateOf l i ∷ [])
       same-history = ap (λ (x : KeptHistory). x ∷ []) (looked-history now (stateOf l i))
 
-      pub grids-stay : total gridsUsed (keptTo l now (i + 1)) ≡ total gridsUsed (keptTo l now i) + gridCountAt l i
+      pub grids-stay : total newestUsed (keptTo l now (i + 1)) ≡ total newestUsed (keptTo l now i) + gridCountAt l i
       grids-stay =
-          ap (total gridsUsed) more
-          ∙ total-append gridsUsed (keptTo l now i) (looked now (stateOf l i) ∷ [])
-          ∙ ap (λ (n : ℕ). total gridsUsed (keptTo l now i) + n)
+          ap (total newestUsed) more
+          ∙ total-append newestUsed (keptTo l now i) (looked now (stateOf l i) ∷ [])
+          ∙ ap (λ (n : ℕ). total newestUsed (keptTo l now i) + n)
           (grids-kept (looked now (stateOf l i) ∷ []) (stateOf l i ∷ []) same-history
-          ∙ one-used gridsUsed (stateOf l i) ∙ grids-at l i h ∙ sym (ap recordGrids (record-read l i h)))
+          ∙ one-used newestUsed (stateOf l i) ∙ grids-at l i h ∙ sym (ap recordGrids (record-read l i h)))
 
       pub stamps-used-stay : total stampsUsed (keptTo l now (i + 1)) ≡ total stampsUsed (keptTo l now i) + stampCountAt l i
       stamps-used-stay =

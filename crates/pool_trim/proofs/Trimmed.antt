@@ -16,8 +16,8 @@ use Rattle.base_blocks.proofs.Blocks.{moved-none}
 use Rattle.base_blocks.proofs.Listed.{listed-same}
 use Rattle.base_tables.specs.Records.{recordAt}
 use Rattle.base_tables.specs.Rings.{laid}
-use Rattle.pool_rules.specs.Model.{Spare, Doomed, VersionState, gridsUsed, doomedBytes}
-use Rattle.pool_rules.specs.HistorySizes.{stampsUsed}
+use Rattle.pool_rules.specs.Model.{Spare, Doomed, VersionState, doomedBytes}
+use Rattle.pool_rules.specs.HistorySizes.{newestUsed, stampsUsed}
 use Rattle.pool_rules.specs.Trim.{agedCount, thinned, idle}
 use Rattle.pool_records.specs.declared.texture.TextureRecord.{TextureRecord}
 use Rattle.pool_records.specs.declared.spare.SpareRecord.{SpareRecord}
@@ -236,7 +236,7 @@ module _ (l : Lent) (now i : ℕ) (w : Pass) (T D S N P : List ℕ) (f : Fits l)
 
       -- what the two cases share
       further : (tracked : v .tracked ≡ length (keptTo l now (i + 1))) → v .kept ≡ length (everySpare (keptTo l now (i + 1)))
-          → v .grids ≡ total gridsUsed (keptTo l now (i + 1)) → v .stamps ≡ total stampsUsed (keptTo l now (i + 1))
+          → v .grids ≡ total newestUsed (keptTo l now (i + 1)) → v .stamps ≡ total stampsUsed (keptTo l now (i + 1))
           → T′ ≡ texturesAfter (trimmed l now (i + 1)) l
           → S′ ≡ sparesAfter (trimmed l now (i + 1)) l
           → N′ ≡ newestAfter (trimmed l now (i + 1)) l → P′ ≡ stampsAfter (trimmed l now (i + 1)) l
@@ -300,7 +300,7 @@ module _ (l : Lent) (now i : ℕ) (w : Pass) (T D S N P : List ℕ) (f : Fits l)
           further
           (omega (arith, tracked-on, gone, s .tracked, ap length same))
           (omega (arith, kept-on, empty, s .kept, ap (λ (ts : List (VersionState ℕ)). length (everySpare ts)) same))
-          (omega (arith, grids-on, no-grids, s .grids, ap (total gridsUsed) same))
+          (omega (arith, grids-on, no-grids, s .grids, ap (total newestUsed) same))
           (omega (arith, stamps-on, no-stamps, s .stamps-used, ap (total stampsUsed) same))
           (eT
           ∙ ap (λ (c : Bool). cond c T (sets T (textureStride * w .tracked) (writeTexture (lookedRecord look w (textureIn T i)))))
