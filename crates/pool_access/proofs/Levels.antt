@@ -59,29 +59,3 @@ module _ (s : VersionShape) where
 
     pub slices-most : (n one : ℕ) → n ≡ slicesOf s → one ≡ levelStart s (s .levels) → n * one ≤ pageStamps * mostGrids
     slices-most n one e f = omega (arith, slices-stamps n one e f, history-most s shaped)
-
-    module _ (slice level one before : ℕ) (h : slice < slicesOf s) (q : level < s .levels) (f : one ≡ levelStart s (s .levels))
-        (g : before ≡ levelStart s level) where
-      pub slice-fits : slice * one ≤ pageStamps * mostGrids
-      slice-fits =
-          omega (arith, mul-le-mul (let a : slice ≤ 6 = omega (arith, slices-bound s) in a) (let b : one ≤ pageStamps * 15 = omega (arith, f, level-most (s .levels) (omega arith)) in b))
-
-      pub start-fits : slice * one + before ≤ pageStamps * mostGrids + pageStamps * 15
-      start-fits = omega (arith, slice-fits, g, level-most level (omega arith))
-
-      pub start-known : slice * one + before ≡ gridStart s (slice * s .levels + level)
-      unfolding gridCount
-      start-known =
-          ap₂ (λ (a b : ℕ). slice * a + b) f g
-          ∙ sym (grid-start s slice level (omega arith) (inside slice level (slicesOf s) (s .levels) h q))
-        where
-          inside : (a b c d : ℕ) → a < c → b < d → a * d + b ≤ c * d
-          inside a b c d x y = omega (arith, mul-le-mul x (let z : d ≤ d = omega arith in z))
-
-    -- in the first slice nothing stands before the levels
-    pub first-slice : (slice level before : ℕ) → slice ≡ 0 → level < s .levels → slice < slicesOf s → before ≡ levelStart s level
-        → before ≡ gridStart s (slice * s .levels + level)
-    first-slice slice level before e q h g =
-        sym (zero-add before)
-        ∙ ap (λ (k : ℕ). k + before) (sym (zero-mul (levelStart s (s .levels))) ∙ ap (λ (k : ℕ). k * levelStart s (s .levels)) (sym e))
-        ∙ start-known slice level (levelStart s (s .levels)) before h q refl g

@@ -3,3 +3,4 @@ pub mod Fields
 pub mod Levels
 pub mod Moves
 pub mod Ids
+pub mod Axes

@@ -1,10 +1,10 @@
-// The grids that a texture's history has, the stamps that they take, and where one of them begins among these.
+// The grids that a texture's history has, and the stamps that they take.
 ghost use mathlib.Core.Path.{_≡_};
 ghost use mathlib.Core.Bool.{true};
-ghost use Prim.Native.Nat.{_+_, _*_, _≤_, _<_};
-ghost use Rattle.grid_shapes.specs.Shapes.{isShape, slicesOf};
+ghost use Prim.Native.Nat.{_≤_};
+ghost use Rattle.grid_shapes.specs.Shapes.{isShape};
 ghost use Rattle.grid_stamps.specs.Grids.{tilingOf, stampCount};
-ghost use Rattle.pool_rules.specs.HistorySizes.{gridStart, historySize, levelStart};
+ghost use Rattle.pool_rules.specs.HistorySizes.{historySize, levelStart};
 ghost use Rattle.pool_rules.specs.Model.{gridCount};
 ghost use Rattle.pool_rules.specs.RuleConstants.{mostPlaces};
 use grid_shapes::VersionShape;
@@ -53,18 +53,4 @@ pub fn shape_stamps(shape: VersionShape) -> usize
 {
     let one = level_start(shape, shape.levels);
     slices(shape) as usize * one
-}
-
-// Returns how many of its history's stamps stand before a subresource's grid: those of the slices before it, then those of the
-// levels before it. The first slice adds up nothing for the slices.
-pub fn grid_start(shape: VersionShape, slice: u64, level: u64) -> usize
-    requires { ⌜ (isShape shape ≡ true) × (slice < slicesOf shape) × (level < shape .levels) ⌝ }
-    ensures { λ r. ⌜ r ≡ gridStart shape (slice * shape .levels + level) ⌝ }
-{
-    let before = level_start(shape, level);
-    if slice == 0 {
-        return before;
-    }
-    let one = level_start(shape, shape.levels);
-    slice as usize * one + before
 }

@@ -5,10 +5,10 @@ mod retiring;
 mod spare;
 mod starts;
 mod texture;
+mod tilings;
 
 pub use doomed::doomed_at;
 pub use doomed::push_doomed;
-pub use grids::grid_start;
 pub use grids::level_stamps;
 pub use grids::shape_grids;
 pub use grids::shape_stamps;
@@ -26,3 +26,6 @@ pub use texture::insert_texture;
 pub use texture::put_texture;
 pub use texture::remove_texture;
 pub use texture::texture_at;
+pub use tilings::across_at;
+pub use tilings::down_at;
+pub use tilings::start_at;

@@ -65,9 +65,10 @@ module _ (s : VersionShape) where
       (ap (λ (m : ℕ). read m .newest) (sym (add-zero j)) ∙ h 0 (omega arith) .0 ∙ ap at (let e : p + gridStride * 0 ≡ p = omega arith in e))
       (ap₂ (λ (a : ℕ) (l : List ℕ). a ∷ l)
       (ap (tilingNumber s) (sym (add-zero j)) ∙ h 0 (omega arith) .1 ∙ ap at (let e : p + gridStride * 0 + 1 ≡ suc p = omega arith in e))
-      (newest-listed read at (suc j) (suc (suc p)) n (λ k q.
-      (ap (λ (m : ℕ). read m .newest) (let e : suc j + k ≡ j + suc k = omega arith in e) ∙ h (suc k) (omega arith) .0
-      ∙ ap at (let e : p + gridStride * suc k ≡ suc (suc p) + gridStride * k = omega arith in e),
-      ap (tilingNumber s) (let e : suc j + k ≡ j + suc k = omega arith in e) ∙ h (suc k) (omega arith) .1
-      ∙ ap at (let e : p + gridStride * suc k + 1 ≡ suc (suc p) + gridStride * k + 1 = omega arith in e)))))
+      (newest-listed read at (suc j) (suc (suc p)) n (λ k q. (
+        ap (λ (m : ℕ). read m .newest) (let e : suc j + k ≡ j + suc k = omega arith in e) ∙ h (suc k) (omega arith) .0
+            ∙ ap at (let e : p + gridStride * suc k ≡ suc (suc p) + gridStride * k = omega arith in e),
+        ap (tilingNumber s) (let e : suc j + k ≡ j + suc k = omega arith in e) ∙ h (suc k) (omega arith) .1
+            ∙ ap at (let e : p + gridStride * suc k + 1 ≡ suc (suc p) + gridStride * k + 1 = omega arith in e),
+      ))))
       ∙ sym (ap (listed at p) (two-more n))

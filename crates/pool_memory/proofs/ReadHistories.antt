@@ -90,7 +90,6 @@ module _ (s : VersionShape) (h : WriteHistory) (formed : HistoryFormed s h) wher
         ∙ ap (λ (l : List ℕ). getD l (gridStride * k) 0) newests
         ∙ newest-of s 0 (h .grids) others k noGrid q
 
-
     stamps-back : (k : ℕ) → k < length (h .grids) → take (gridSize s k) (drop (stamp + gridStart s k) (m .stamps)) ≡ getD (h .grids) k noGrid .stamps
     stamps-back k q =
         ap₂ (λ (n : ℕ) (l : List ℕ). take n l) (sym (grid-sized k q))
