@@ -267,7 +267,7 @@ def draw_stores():
         ("spares", "3 a version", ((2, GREEN, ("of 7", "of 12")), (4, None, ())), "packed texture by texture, the oldest first"),
         ("retiring", "7 a version", ((1, None, ()), (1, AMBER, ("hand",)), (1, AMBER, ("queue",)), (3, None, ())), "a ring from place `head`: the hand's, then the queue"),
         ("doomed", "2 a version", ((1, RED, ("second",)), (4, None, ()), (1, RED, ("first",))), "a ring from place `first`; this one has wrapped"),
-        ("newest", "1 a grid", ((4, BLUE, ("7", "7", "9", "12")), (2, None, ())), "the largest stamp of each grid in use"),
+        ("newest", "2 a grid", ((4, BLUE, ("7", "7", "9", "12")), (2, None, ())), "the largest stamp of each grid in use, and its tiling"),
         ("stamps", "1,024 a page", ((4, BLUE, ("7", "7", "9", "12"), (176, 40, 112, 56)), (1, None, (), (96,))), "each grid on just its columns times rows"),
     )
     for k, (name, numbers, runs, words) in enumerate(rows):

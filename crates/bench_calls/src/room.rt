@@ -25,9 +25,9 @@ pub fn stamp_places() -> [u64; 4194304] {
     [0; 4194304]
 }
 
-// Returns places for the newest stamps of as many grids as the textures can have.
-pub fn newest_places() -> [u64; 368640] {
-    [0; 368640]
+// Returns places for the newest stamps and the tilings of as many grids as the textures can have.
+pub fn newest_places() -> [u64; 737280] {
+    [0; 737280]
 }
 
 // Returns places for the program's own numbers (notes.rt).

@@ -23,7 +23,7 @@ use pool_records::DOOMED_STRIDE;
 use pool_records::RETIRING_STRIDE;
 use pool_records::SPARE_STRIDE;
 use pool_records::TEXTURE_STRIDE;
-use pool_rules::grid_places;
+use pool_rules::newest_length;
 
 // Runs the rounds, phase after phase. Nothing is done where the memory is not enough for a pool.
 fn run(
@@ -101,14 +101,14 @@ pub fn run_part(
     task: Task,
 )
     requires { ⌜ (t ≤ 4096) × (v ≤ 4096) × (p ≤ 4096) × (90112 ≤ length (now textures)) × (28672 ≤ length (now retiring)) × (8192 ≤ length (now doomed))
-        × (12288 ≤ length (now spares)) × (368640 ≤ length (now newest)) × (4194304 ≤ length (now stamps)) ⌝ }
+        × (12288 ≤ length (now spares)) × (737280 ≤ length (now newest)) × (4194304 ≤ length (now stamps)) ⌝ }
 {
     let a = TEXTURE_STRIDE * t;
     let b = RETIRING_STRIDE * v;
     let c = DOOMED_STRIDE * v;
     let d = SPARE_STRIDE * v;
     let e = PAGE_STAMPS * p;
-    let g = grid_places(t, e);
+    let g = newest_length(t, e);
     run(
         &mut textures[..a],
         &mut retiring[..b],

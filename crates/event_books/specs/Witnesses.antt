@@ -7,7 +7,7 @@ use mathlib.Core.Option.{Option, none, some}
 use mathlib.Core.List.{List, map, flatMap}
 use lib.ListN.{length, take}
 use Rattle.grid_stamps.specs.StampConstants.{pageStamps}
-use Rattle.pool_rules.specs.RuleConstants.{mostGrids}
+use Rattle.pool_rules.specs.RuleConstants.{gridStride, mostGrids}
 use Rattle.pool_records.specs.RecordConstants.{textureStride, retiringStride, doomedStride, spareStride}
 use Rattle.pool_memory.specs.MemoryConstants.{copyStride}
 use Rattle.pool_books.specs.ComputedBooks.{texel}
@@ -21,13 +21,13 @@ use Rattle.event_books.specs.EventLists.{Room, afterEvents, InRenames, A
 
 -- ---- the event program: "lends 8 textures, 64 versions, 6 pages, answers of 90 entries"
 
--- the lengths of its stores, in crates/event_program/src/main.rt: 176, 448, 128, 192, 720 and 6,144
+-- the lengths of its stores, in crates/event_program/src/main.rt: 176, 448, 128, 192, 1,440 and 6,144
 pub record ProgramStores (textures retiring doomed spares newest stamps : List ℕ) : Type 0 where
   pub textures-are : length textures ≡ textureStride * 8
   pub retiring-are : length retiring ≡ retiringStride * 64
   pub doomed-are : length doomed ≡ doomedStride * 64
   pub spares-are : length spares ≡ spareStride * 64
-  pub newest-are : length newest ≡ mostGrids * 8
+  pub newest-are : length newest ≡ gridStride * (mostGrids * 8)
   pub stamps-are : length stamps ≡ pageStamps * 6
 
 -- the lengths of its answer buffers, 630 and 90

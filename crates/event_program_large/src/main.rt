@@ -7,6 +7,7 @@ use pool_records::DOOMED_STRIDE;
 use pool_records::RETIRING_STRIDE;
 use pool_records::SPARE_STRIDE;
 use pool_records::TEXTURE_STRIDE;
+use pool_rules::GRID_STRIDE;
 use pool_rules::MOST_GRIDS;
 
 const TEXTURES: usize = 64;
@@ -36,7 +37,7 @@ fn main() {
     let mut retiring = [0; VERSIONS * RETIRING_STRIDE];
     let mut doomed = [0; VERSIONS * DOOMED_STRIDE];
     let mut spares = [0; VERSIONS * SPARE_STRIDE];
-    let mut newest = [0; TEXTURES * MOST_GRIDS];
+    let mut newest = [0; TEXTURES * MOST_GRIDS * GRID_STRIDE];
     let mut stamps = [0; PAGES * PAGE_STAMPS];
     let mut copies = [0; ENTRIES * COPY_STRIDE];
     let mut views = [0; ENTRIES];

@@ -14,6 +14,7 @@ use pool_records::TEXTURE_STRIDE;
 use pool_retire::Popped;
 use pool_rules::Held;
 use pool_rules::LIMIT;
+use pool_rules::GRID_STRIDE;
 use pool_rules::MOST_GRIDS;
 use pool_take_spare::Taken;
 
@@ -38,7 +39,7 @@ fn trimmed(seq: u64, current: u64) -> AfterTrim {
     let retiring = [0u64; RETIRING_STRIDE];
     let mut doomed = [0u64; DOOMED_STRIDE];
     let mut spares = [0u64; SPARE_STRIDE];
-    let mut newest = [0u64; MOST_GRIDS];
+    let mut newest = [0u64; MOST_GRIDS * GRID_STRIDE];
     let mut stamps = [0u64; PAGE_STAMPS];
     let book = opened_book();
     let begun = pool::take_spare(
@@ -99,7 +100,7 @@ fn print_settled(settled: u64) {
     let retiring = [0u64; RETIRING_STRIDE];
     let doomed = [0u64; DOOMED_STRIDE];
     let spares = [0u64; SPARE_STRIDE];
-    let newest = [0u64; MOST_GRIDS];
+    let newest = [0u64; MOST_GRIDS * GRID_STRIDE];
     let stamps = [0u64; PAGE_STAMPS];
     let answer = pool::pop_retired(
         opened_pool(0),
@@ -125,7 +126,7 @@ fn plan(answers: &mut [u64]) -> PlanAnswer {
     let retiring = [0u64; RETIRING_STRIDE];
     let doomed = [0u64; DOOMED_STRIDE];
     let spares = [0u64; SPARE_STRIDE];
-    let newest = [0u64; MOST_GRIDS];
+    let newest = [0u64; MOST_GRIDS * GRID_STRIDE];
     let stamps = [0u64; PAGE_STAMPS];
     pool::preserve_plan(
         opened_pool(0),

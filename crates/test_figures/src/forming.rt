@@ -10,6 +10,7 @@ use pool_records::RETIRING_STRIDE;
 use pool_records::SPARE_STRIDE;
 use pool_records::TEXTURE_STRIDE;
 use pool_rules::LIMIT;
+use pool_rules::GRID_STRIDE;
 use pool_rules::MOST_GRIDS;
 
 // Returns a pool of one texture place, one version place and one page. Nothing is tracked, and one version of `bytes` bytes is in
@@ -50,7 +51,7 @@ fn outcome(pool: Pool, book: PacingBook) -> u64 {
     let retiring = [0u64; RETIRING_STRIDE];
     let doomed = [0, pool.dooming];
     let spares = [0u64; SPARE_STRIDE];
-    let newest = [0u64; MOST_GRIDS];
+    let newest = [0u64; MOST_GRIDS * GRID_STRIDE];
     let stamps = [0u64; PAGE_STAMPS];
     let formed = is_pool(
         pool,

@@ -11,6 +11,7 @@ use pool_records::DOOMED_STRIDE;
 use pool_records::RETIRING_STRIDE;
 use pool_records::SPARE_STRIDE;
 use pool_records::TEXTURE_STRIDE;
+use pool_rules::GRID_STRIDE;
 use pool_rules::MOST_GRIDS;
 
 // What a take said, and the pool after it.
@@ -56,7 +57,7 @@ fn begin(
 // Prints the outcome of a take whose history needs so many stamps, where another texture's 31 by 32 tiles leave 32.
 fn print_last(needed: u64, last: VersionShape) {
     let mut textures = [0u64; 2 * TEXTURE_STRIDE];
-    let mut newest = [0u64; 2 * MOST_GRIDS];
+    let mut newest = [0u64; 2 * MOST_GRIDS * GRID_STRIDE];
     let mut stamps = [0u64; PAGE_STAMPS];
     let first = begin(
         opened_pool(0),
@@ -74,7 +75,7 @@ fn print_last(needed: u64, last: VersionShape) {
 // Prints the outcome of a take with another shape, whose history needs so many stamps, where the texture's own history has all of them.
 fn print_renewal(needed: u64, next: VersionShape) {
     let mut textures = [0u64; TEXTURE_STRIDE];
-    let mut newest = [0u64; MOST_GRIDS];
+    let mut newest = [0u64; MOST_GRIDS * GRID_STRIDE];
     let mut stamps = [0u64; PAGE_STAMPS];
     let first = begin(
         opened_pool(0),

@@ -10,9 +10,9 @@ use pool_records::DOOMED_STRIDE;
 use pool_records::RETIRING_STRIDE;
 use pool_records::SPARE_STRIDE;
 use pool_records::TEXTURE_STRIDE;
-use pool_rules::grid_places;
+use pool_rules::newest_length;
 
-// Returns the outcome of opening with as many places as given, numbers for the newest stamps, and stamps.
+// Returns the outcome of opening with as many places as given, numbers for the grids, and stamps.
 fn opening(textures: usize, versions: usize, newest: usize, stamps: usize) -> u64
     requires { ⌜ (textures ≤ 4097) × (versions ≤ 4097) ⌝ }
 {
@@ -57,7 +57,7 @@ fn print_pages(pages: usize)
     figure_of(
         b"open_pages",
         pages as u64,
-        opening(1, 1, grid_places(1, stamps), stamps),
+        opening(1, 1, newest_length(1, stamps), stamps),
     );
 }
 
@@ -66,11 +66,11 @@ fn print_page(stamps: usize) {
     figure_of(
         b"open_page_of_stamps",
         stamps as u64,
-        opening(1, 1, grid_places(1, stamps), stamps),
+        opening(1, 1, newest_length(1, stamps), stamps),
     );
 }
 
-// Prints it for a number of newest stamps, with so many texture places and pages.
+// Prints it for a length of `newest`, with so many texture places and pages.
 fn print_newest(textures: usize, pages: usize, newest: usize)
     requires { ⌜ (textures ≤ 4096) × (pages ≤ 4096) ⌝ }
 {
@@ -85,17 +85,17 @@ fn print_newest(textures: usize, pages: usize, newest: usize)
 
 // Prints it on both sides of what is to be lent: 90 a texture place where there are as many stamps, else one a stamp.
 fn print_newests() {
-    print_newest(8, 6, 719);
-    print_newest(8, 6, 720);
-    print_newest(8, 6, 721);
-    print_newest(11, 1, 990);
-    print_newest(12, 1, 1023);
-    print_newest(12, 1, 1024);
-    print_newest(12, 1, 1025);
-    print_newest(12, 1, 1080);
+    print_newest(8, 6, 1439);
+    print_newest(8, 6, 1440);
+    print_newest(8, 6, 1441);
+    print_newest(11, 1, 1980);
+    print_newest(12, 1, 2047);
+    print_newest(12, 1, 2048);
+    print_newest(12, 1, 2049);
+    print_newest(12, 1, 2160);
     print_newest(1, 0, 0);
     print_newest(1, 0, 1);
-    print_newest(4096, 4096, 368640);
+    print_newest(4096, 4096, 737280);
 }
 
 // Prints the outcomes on both sides of each limit.

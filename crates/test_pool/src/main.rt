@@ -6,6 +6,7 @@ use pool_records::DOOMED_STRIDE;
 use pool_records::RETIRING_STRIDE;
 use pool_records::SPARE_STRIDE;
 use pool_records::TEXTURE_STRIDE;
+use pool_rules::GRID_STRIDE;
 use pool_rules::MOST_GRIDS;
 
 // What is lent at most; a list is lent as much of it as its first line asks for. The textures and versions are those of the large event
@@ -31,7 +32,7 @@ fn main() {
     let mut retiring = [0; MOST_VERSIONS * RETIRING_STRIDE];
     let mut doomed = [0; MOST_VERSIONS * DOOMED_STRIDE];
     let mut spares = [0; MOST_VERSIONS * SPARE_STRIDE];
-    let mut newest = [0; MOST_TEXTURES * MOST_GRIDS];
+    let mut newest = [0; MOST_TEXTURES * MOST_GRIDS * GRID_STRIDE];
     let mut stamps = [0; MOST_PAGES * PAGE_STAMPS];
     let mut copies = [0; MOST_ENTRIES * COPY_STRIDE];
     let mut views = [0; MOST_ENTRIES];

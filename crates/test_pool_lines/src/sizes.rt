@@ -9,7 +9,7 @@ use pool_records::RETIRING_STRIDE;
 use pool_records::SPARE_STRIDE;
 use pool_records::TEXTURE_STRIDE;
 use pool_rules::MOST_PLACES;
-use pool_rules::grid_places;
+use pool_rules::newest_length;
 
 // As many numbers as any slice of a list has.
 const MOST_NUMBERS: usize = 65536;
@@ -61,7 +61,7 @@ pub fn lengths_of(line: &[u8]) -> Lengths {
         retiring: RETIRING_STRIDE * versions,
         doomed: DOOMED_STRIDE * versions,
         spares: SPARE_STRIDE * versions,
-        newest: grid_places(textures, stamps),
+        newest: newest_length(textures, stamps),
         stamps,
         copies: COPY_STRIDE * answers,
         views: answers,

@@ -7,7 +7,7 @@ use native.Mathlib.Omega.{arith}
 use lib.ListN.{length, take, drop, replicate, length-append, length-drop}
 use lib.Seq.{length-take-le}
 use Rattle.grid_stamps.specs.StampConstants.{pageStamps}
-use Rattle.pool_rules.specs.RuleConstants.{mostGrids}
+use Rattle.pool_rules.specs.RuleConstants.{gridStride, mostGrids}
 use Rattle.pool_memory.specs.MemoryConstants.{copyStride}
 use Rattle.event_answers.specs.Printed.{mostBytes}
 use Rattle.event_runs.specs.Lines.{longestAnswer}
@@ -36,5 +36,5 @@ pub zeros-room : (k n : ℕ) → k ≤ n → k ≤ length {A = ℕ} (replicate n
 zeros-room k n h = subst (λ (m : ℕ). k ≤ m) (zeros-count n) h
 
 -- as many numbers as the grids of t textures need are there where the most textures' are
-pub grids-fit : (t stamps newest g : ℕ) → t ≤ mostTextures → newest ≡ min (mostGrids * mostTextures) (pageStamps * mostPages) → g ≡ min (mostGrids * t) stamps → g ≤ newest
-grids-fit t stamps newest g h e k = let n : newest ≡ 5760 = e in omega (arith, h, n, k, min-le-left (mostGrids * t) stamps)
+pub grids-fit : (t stamps newest g : ℕ) → t ≤ mostTextures → newest ≡ gridStride * min (mostGrids * mostTextures) (pageStamps * mostPages) → g ≡ gridStride * min (mostGrids * t) stamps → g ≤ newest
+grids-fit t stamps newest g h e k = let n : newest ≡ 11520 = e in omega (arith, h, n, k, min-le-left (mostGrids * t) stamps)

@@ -15,7 +15,7 @@ use pool_records::DOOMED_STRIDE;
 use pool_records::RETIRING_STRIDE;
 use pool_records::SPARE_STRIDE;
 use pool_records::TEXTURE_STRIDE;
-use pool_rules::grid_places;
+use pool_rules::newest_length;
 
 // Returns where the next list begins after `from`: at a line that begins with "=,", or at `to`.
 fn next_list(input: &[u8], from: usize, to: usize) -> usize
@@ -87,7 +87,7 @@ fn run_next(
     let d = DOOMED_STRIDE * versions;
     let s = SPARE_STRIDE * versions;
     let m = PAGE_STAMPS * pages;
-    let g = grid_places(sizes.textures, m);
+    let g = newest_length(sizes.textures, m);
     let c = COPY_STRIDE * answers;
     run_list(
         list,

@@ -21,7 +21,7 @@ slice-aggregate-run-all-5 : tie.Need-slice-aggregate-run-all-5
 slice-aggregate-run-all-5 c = zeros-count 6000
 
 slice-aggregate-run-all-6 : tie.Need-slice-aggregate-run-all-6
-slice-aggregate-run-all-6 c = zeros-count 5760
+slice-aggregate-run-all-6 c = zeros-count 11520
 
 slice-aggregate-run-all-7 : tie.Need-slice-aggregate-run-all-7
 slice-aggregate-run-all-7 c = zeros-count 65536

@@ -26,7 +26,7 @@ slice-aggregate-run-lists-6 : tie.Need-slice-aggregate-run-lists-6
 slice-aggregate-run-lists-6 c = zeros-count 6000
 
 slice-aggregate-run-lists-7 : tie.Need-slice-aggregate-run-lists-7
-slice-aggregate-run-lists-7 c = zeros-count 5760
+slice-aggregate-run-lists-7 c = zeros-count 11520
 
 slice-aggregate-run-lists-8 : tie.Need-slice-aggregate-run-lists-8
 slice-aggregate-run-lists-8 c = zeros-count 262144
@@ -47,7 +47,7 @@ run-lists-requires c κs = (
     retiring-are = sym (zeros-count 14000);
     doomed-are = sym (zeros-count 4000);
     spares-are = sym (zeros-count 6000);
-    newest-are = sym (zeros-count 5760);
+    newest-are = sym (zeros-count 11520);
     stamps-are = sym (zeros-count 262144);
     copies-are = sym (zeros-count 28672);
     views-are = sym (zeros-count 4096);
