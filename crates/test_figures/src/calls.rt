@@ -12,9 +12,9 @@ use pool_records::RETIRING_STRIDE;
 use pool_records::SPARE_STRIDE;
 use pool_records::TEXTURE_STRIDE;
 use pool_retire::Popped;
+use pool_rules::GRID_STRIDE;
 use pool_rules::Held;
 use pool_rules::LIMIT;
-use pool_rules::GRID_STRIDE;
 use pool_rules::MOST_GRIDS;
 use pool_take_spare::Taken;
 

@@ -9,8 +9,8 @@ use pool_memory::Pool;
 use pool_records::RETIRING_STRIDE;
 use pool_records::SPARE_STRIDE;
 use pool_records::TEXTURE_STRIDE;
-use pool_rules::LIMIT;
 use pool_rules::GRID_STRIDE;
+use pool_rules::LIMIT;
 use pool_rules::MOST_GRIDS;
 
 // Returns a pool of one texture place, one version place and one page. Nothing is tracked, and one version of `bytes` bytes is in
