@@ -3,7 +3,7 @@ use mathlib.Core.Path.{_≡_, refl, sym, ap, ap₂, subst, _∙_}
 use mathlib.Core.Bool.{Bool, true, false, cond}
 use mathlib.Core.List.{List}
 use Prim.Native.Nat.{ℕ, _+_, _-_, _*_, _/_, _%_, _≤_, _<_}
-use native.Mathlib.Nat.{add-zero, add-assoc, zero-mul, mul-add-div-right, div-eq-of-lt}
+use native.Mathlib.Nat.{add-zero, zero-mul, mul-add-div-right, div-eq-of-lt}
 use native.Mathlib.Numerals.{add-one}
 use native.Mathlib.Omega.{arith}
 use lib.ListN.{length, take, drop, getD, length-drop}
@@ -21,6 +21,7 @@ use Rattle.grid_stamps.proofs.Tilings.{tiling-ok}
 use Rattle.pool_rules.specs.Model.{UploadFootprint, gridCount}
 use Rattle.pool_rules.specs.HistorySizes.{gridSize, gridStart, levelStart}
 use Rattle.pool_rules.specs.PreservePlan.{sameRect, covers}
+use Rattle.pool_rules.specs.RuleConstants.{gridStride}
 use Rattle.pool_rules.proofs.GridPlaces.{place-level}
 use Rattle.pool_rules.proofs.HistorySizes.{grid-next, grid-end, grid-start, level-none}
 use Rattle.pool_memory.specs.Reading.{gridOn}
@@ -65,7 +66,8 @@ module _ (newest stamps : List ℕ) (s : VersionShape) (u : UploadFootprint) (sl
 
 -- ---- one grid among the stamps
 
-pub grid-fits : (since : Since) (grid stamp held count n m : ℕ) → since ≡ After grid stamp held → GridFits since count n m → (grid < n) × (stamp + count ≤ m)
+pub grid-fits : (since : Since) (grid stamp held count n m : ℕ) → since ≡ After grid stamp held → GridFits since count n m
+    → (grid + gridStride ≤ n) × (stamp + count ≤ m)
 grid-fits since grid stamp held count n m e f = rw e at f
 
 module _ (s : VersionShape) (shaped : isShape s ≡ true) (level : ℕ) (across down : Axis) (a : across ≡ tilingOf s level .across)
@@ -106,9 +108,9 @@ module _ (s : VersionShape) (shaped : isShape s ≡ true) (level : ℕ) (across 
 -- ---- from grid to grid
 
 pub next-after : (s : VersionShape) (level : ℕ) (since : Since) (grid stamp held n : ℕ) → since ≡ After grid stamp held → n ≡ stampCount (tilingOf s level)
-    → After (grid + 1) (stamp + n) held ≡ nextSince s level since
+    → After (grid + gridStride) (stamp + n) held ≡ nextSince s level since
 next-after s level since grid stamp held n e f =
-    ap (λ (k : ℕ). After (grid + 1) (stamp + k) held) f ∙ sym (ap (nextSince s level) e)
+    ap (λ (k : ℕ). After (grid + gridStride) (stamp + k) held) f ∙ sym (ap (nextSince s level) e)
 
 pub next-nothing : (s : VersionShape) (level : ℕ) (since : Since) → since ≡ Nothing → Nothing ≡ nextSince s level since
 next-nothing s level since e = sym (ap (nextSince s level) e)
@@ -123,13 +125,14 @@ module _ (s : VersionShape) where
   pub since-first : (since : Since) → sinceAt s since 0 ≡ since
   since-first Nothing = refl
   since-first (After grid stamp held) =
-      ap₂ (λ (g n : ℕ). After g n held) (add-zero grid) (ap (λ (n : ℕ). stamp + n) first-start ∙ add-zero stamp)
+      ap₂ (λ (g n : ℕ). After g n held) (let none : grid + gridStride * 0 ≡ grid = omega arith in none)
+      (ap (λ (n : ℕ). stamp + n) first-start ∙ add-zero stamp)
 
   pub since-next : (since : Since) (k level : ℕ) → k < gridCount s → level ≡ k % s .levels → nextSince s level (sinceAt s since k) ≡ sinceAt s since (k + 1)
   unfolding gridSize
   since-next Nothing k level h e = refl
   since-next (After grid stamp held) k level h e =
-      ap₂ (λ (g n : ℕ). After g n held) (add-assoc grid k 1)
+      ap₂ (λ (g n : ℕ). After g n held) (let more : grid + gridStride * k + gridStride ≡ grid + gridStride * (k + 1) = omega arith in more)
       (let a = ap (λ (m : ℕ). stampCount (tilingOf s m)) e in
       let b = grid-next s k h in
       let c = ap (gridStart s) (add-one k) in

@@ -22,6 +22,7 @@ use Rattle.pool_rules.specs.Model.{PoolModel, Out, refused, accepted, guard, fi
 use Rattle.pool_rules.specs.Histories.{inShape, gridPlace, gridAt}
 use Rattle.pool_rules.specs.HistorySizes.{gridStart}
 use Rattle.pool_rules.specs.PreservePlan.{covers, boxCopy, copyOf, copies, planFound, preservePlan}
+use Rattle.pool_rules.specs.RuleConstants.{gridStride}
 use Rattle.pool_rules.proofs.GridPlaces.{place-level}
 use Rattle.pool_memory.specs.Lent.{Lent}
 use Rattle.pool_memory.specs.Reading.{gridRead, modelOf, gridOn}
@@ -107,13 +108,13 @@ box-list s slice level (Box r) = refl
 module _ (l : Lent) (s : VersionShape) where
   -- the grid that stands there is the model's
   grid-same : (grid stamp n slice level : ℕ) → slice < slicesOf s → level < s .levels
-      → gridOn s level (l .newest) (l .stamps) (grid + gridPlace s slice level) (stamp + gridStart s (gridPlace s slice level))
+      → gridOn s level (l .newest) (l .stamps) (grid + gridStride * gridPlace s slice level) (stamp + gridStart s (gridPlace s slice level))
       ≡ gridAt s (record { writes = n; grids = listed (gridRead l s grid stamp) 0 (gridCount s) }) slice level
   unfolding gridOn gridRead gridAt gridCount
   grid-same grid stamp n slice level p q =
       let k = gridPlace s slice level in
       let inside : k < slicesOf s * s .levels = omega (arith, tile-place (s .levels) (slicesOf s) level slice q p, mul-comm (s .levels) (slicesOf s)) in
-      ap (λ (m : ℕ). gridIn (tilingOf s m) (getD (l .newest) (grid + k) 0) (drop (stamp + gridStart s k) (l .stamps))) (sym (place-level slice level (s .levels) q))
+      ap (λ (m : ℕ). gridIn (tilingOf s m) (getD (l .newest) (grid + gridStride * k) 0) (drop (stamp + gridStart s k) (l .stamps))) (sym (place-level slice level (s .levels) q))
       ∙ ap (gridRead l s grid stamp) (sym (zero-add k))
       ∙ sym (getD-listed (gridRead l s grid stamp) 0 (slicesOf s * s .levels) k noGrid inside)
 
@@ -126,7 +127,7 @@ module _ (l : Lent) (s : VersionShape) where
   since-list (History grid stamp n) Unknown slice level p q = refl
   since-list (History grid stamp n) (Known k) slice level p q =
       let at = gridPlace s slice level in
-      box-list s slice level (boxSince (tilingOf s level) k (gridOn s level (l .newest) (l .stamps) (grid + at) (stamp + gridStart s at)))
+      box-list s slice level (boxSince (tilingOf s level) k (gridOn s level (l .newest) (l .stamps) (grid + gridStride * at) (stamp + gridStart s at)))
       ∙ ap (λ (g : StampGrid). boxCopy s slice level (boxSince (tilingOf s level) k g)) (grid-same grid stamp n slice level p q)
 
   module _ (f : Found) (held : Held) (u : UploadFootprint) where

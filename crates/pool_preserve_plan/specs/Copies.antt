@@ -16,6 +16,7 @@ use Rattle.grid_stamps.specs.Grids.{tilingOf, stampCount, boxSince}
 use Rattle.pool_rules.specs.Model.{PreserveCopy, UploadFootprint, gridCount}
 use Rattle.pool_rules.specs.HistorySizes.{gridStart, historySize}
 use Rattle.pool_rules.specs.PreservePlan.{sameRect, covers}
+use Rattle.pool_rules.specs.RuleConstants.{gridStride}
 use Rattle.pool_memory.specs.Reading.{gridOn}
 use Rattle.pool_memory.specs.Calls.{copyNumbers}
 use Rattle.pool_preserve_plan.specs.declared.copy.Planned.{Planned}
@@ -30,25 +31,25 @@ footprint u = record { slice = u .slice; level = u .level; cover = u .cover }
 
 -- ---- where the grids stand
 
--- the grids of a history and their stamps are there
+-- the numbers of a history's grids are there, two for each, and so are their stamps
 abbrev pub SinceFits : Since → VersionShape → ℕ → ℕ → Type 0
 SinceFits Nothing s newest stamps = Unit
-SinceFits (After grid stamp held) s newest stamps = (grid + gridCount s ≤ newest) × (stamp + historySize s ≤ stamps)
+SinceFits (After grid stamp held) s newest stamps = (grid + gridStride * gridCount s ≤ newest) × (stamp + historySize s ≤ stamps)
 
--- one grid of so many stamps is
+-- those of one grid of so many stamps are
 abbrev pub GridFits : Since → ℕ → ℕ → ℕ → Type 0
 GridFits Nothing count newest stamps = Unit
-GridFits (After grid stamp held) count newest stamps = (grid < newest) × (stamp + count ≤ stamps)
+GridFits (After grid stamp held) count newest stamps = (grid + gridStride ≤ newest) × (stamp + count ≤ stamps)
 
 -- what bounds the copies from the k-th grid on
 abbrev pub sinceAt : VersionShape → Since → ℕ → Since
 sinceAt s Nothing k = Nothing
-sinceAt s (After grid stamp held) k = After (grid + k) (stamp + gridStart s k) held
+sinceAt s (After grid stamp held) k = After (grid + gridStride * k) (stamp + gridStart s k) held
 
 -- and after the grid of a level
 abbrev pub nextSince : VersionShape → ℕ → Since → Since
 nextSince s level Nothing = Nothing
-nextSince s level (After grid stamp held) = After (grid + 1) (stamp + stampCount (tilingOf s level)) held
+nextSince s level (After grid stamp held) = After (grid + gridStride) (stamp + stampCount (tilingOf s level)) held
 
 -- ---- one subresource
 

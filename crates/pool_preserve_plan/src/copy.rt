@@ -21,6 +21,7 @@ use grid_stamps::down_axis;
 use grid_stamps::stamp_count;
 use grid_views::written_since;
 use pool_memory::COPY_STRIDE;
+use pool_rules::GRID_STRIDE;
 
 // A subresource of a plan: left out, or copied whole or in part.
 pub enum Planned {
@@ -68,8 +69,9 @@ fn copy_unknown(covered: bool) -> Planned
 
 // Plans the copy of a slice's level: none where the upload rewrites it entirely, whole where nothing is known, otherwise the box of
 // what was written after the new version retired. A box that the upload's rectangle covers is copied still: the upload can decline
-// after the rename, and the version must be whole without it. The next grid begins where this one ends, so one tiling serves both;
-// where no grid is to come (`more`), a level that is left out needs none.
+// after the rename, and the version must be whole without it. The level's axes are worked out rather than read beside its newest
+// stamp: they also say where the next grid's stamps begin, which is where this one's end. Where no grid is to come (`more`), a level
+// that is left out needs none.
 pub fn copy_at(
     newest: &[u64],
     stamps: &[u64],
@@ -101,7 +103,7 @@ pub fn copy_at(
     let down = down_axis(shape, level);
     let end = stamp + stamp_count(across, down) as usize;
     let next = Since::After {
-        grid: grid + 1,
+        grid: grid + GRID_STRIDE,
         stamp: end,
         held,
     };

@@ -1,12 +1,13 @@
 -- `copy_at` meets its contract: the grid is cut from the middle of the stamps. Assumes nothing.
 use mathlib.Core.Path.{_≡_, sym, ap, _∙_}
 use mathlib.Core.Bool.{true≢false}
-use Prim.Native.Nat.{_+_, _≤_, _<_}
+use Prim.Native.Nat.{_+_, _≤_}
 use native.Mathlib.Omega.{arith}
 use borrow.Author.Tests.{not-true}
 use lib.ListN.{length}
 use Rattle.base_blocks.proofs.Lists.{and-both}
 use Rattle.grid_stamps.specs.Grids.{tilingOf, stampCount}
+use Rattle.pool_rules.specs.RuleConstants.{gridStride}
 use Rattle.pool_preserve_plan.specs.Copies.{footprint, boxPlanned}
 use Rattle.pool_preserve_plan.proofs.Planned.{planned-covered, planned-unknown, planned-after, grid-fits, axes-ok, count-known, part-ready, part-box, next-after, next-nothing}
 use borrow.Author.Needs.{needs}
@@ -60,7 +61,7 @@ module _ (c : tie.After-stamp-count) where
       count-known (entry .args .shape) (entry .pre .0) (entry .args .level) (c .before .before .across-axis .result) (c .before .down-axis .result)
       (c .before .before .across-axis .ensures) (c .before .down-axis .ensures) (c .stamp-count .result) (c .stamp-count .ensures)
 
-  there : (c .before .before .before .before .before .since .given .0 .0 < length (entry .args .newest .now))
+  there : (c .before .before .before .before .before .since .given .0 .0 + gridStride ≤ length (entry .args .newest .now))
       × (c .before .before .before .before .before .since .given .0 .1 .0 + stampCount (tilingOf (entry .args .shape) (entry .args .level)) ≤ length (entry .args .stamps .now))
   there = grid-fits (entry .args .since) _ _ _ _ _ _ (c .before .before .before .before .before .since .given .1) (entry .pre .1)
 
