@@ -1,2 +1,3 @@
 pub mod GridParts
+pub mod NewestWritten
 pub mod Regenerated

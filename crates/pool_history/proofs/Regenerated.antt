@@ -1,19 +1,18 @@
 -- Laws of a mip regeneration, grid by grid. Assumes nothing.
 use mathlib.Core.Path.{_≡_, refl, sym, ap, ap₂, _∙_}
 use mathlib.Core.Bool.{Bool, true, cond}
-use mathlib.Core.List.{List, [], _∷_, _++_, map, flatMap, map-append, append-nil}
-use Prim.Native.Nat.{ℕ, zero, suc, _+_, _%_, _≤_, _<_}
+use mathlib.Core.List.{List, [], _∷_, _++_, flatMap, append-nil}
+use Prim.Native.Nat.{ℕ, zero, suc, _+_, _*_, _%_, _≤_, _<_}
 use native.Mathlib.Nat.{zero-add, mod-eq-of-lt, mod-self, mod-lt, mod-add-mod}
 use native.Mathlib.Numerals.{add-one}
 use native.Mathlib.Omega.{arith}
 use borrow.Author.Tests.{ne-eqb, eq-eqb}
 use lib.Dec.{eqb}
-use lib.ListN.{length, drop, getD, set, length-append, length-map}
+use lib.ListN.{length, drop, getD, set, length-append}
 use lib.Seq.{sets, drop-set-lt}
 use Rattle.base_blocks.specs.Lists.{listed}
 use Rattle.base_blocks.proofs.Lists.{either}
 use Rattle.base_blocks.proofs.Listed.{length-listed, listed-more}
-use Rattle.base_blocks.proofs.Blocks.{getD-sets-past}
 use Rattle.base_unequal.proofs.Starts.{start-none}
 use Rattle.grid_shapes.specs.declared.shape.VersionShape.{VersionShape}
 use Rattle.grid_shapes.specs.Shapes.{isShape, levelExtent, levelWidth, levelHeight}
@@ -26,12 +25,14 @@ use Rattle.grid_stamps.proofs.Stamps.{length-stamped}
 use Rattle.pool_rules.specs.Model.{gridCount}
 use Rattle.pool_rules.specs.Histories.{regenerateFrom}
 use Rattle.pool_rules.specs.HistorySizes.{gridSize, gridPlaces, gridStart, historySize}
+use Rattle.pool_rules.specs.RuleConstants.{gridStride}
 use Rattle.pool_rules.proofs.HistorySizes.{grid-next, grid-end}
 use Rattle.pool_memory.specs.Reading.{gridOn}
 use Rattle.pool_memory.proofs.Parts.{flat-append}
 use Rattle.pool_memory.proofs.Rewritten.{sets-append}
-use Rattle.pool_history.specs.Remade.{newestStamp, stampsIn, newestWritten, stampsWritten, remadeGrid, remadeGrids}
+use Rattle.pool_history.specs.Remade.{stampsIn, newestWritten, stampsWritten, remadeGrid, remadeGrids}
 use Rattle.pool_history.proofs.GridParts.{length-grid}
+use Rattle.pool_history.proofs.NewestWritten.{elsewhere-stays, written-more}
 
 -- ---- one grid
 
@@ -102,7 +103,7 @@ drop-past n s at (x ∷ xs) h = drop-past n (set s at x) (suc at) xs (omega arit
 
 module _ (s : VersionShape) (shaped : isShape s ≡ true) (n : ℕ) (newest stamps : List ℕ) (grid stamp : ℕ) where
   abbrev remadeAt : ℕ → StampGrid
-  remadeAt k = remadeGrid s n (k % s .levels) (gridOn s (k % s .levels) newest stamps (grid + k) (stamp + gridStart s k))
+  remadeAt k = remadeGrid s n (k % s .levels) (gridOn s (k % s .levels) newest stamps (grid + gridStride * k) (stamp + gridStart s k))
 
   abbrev remade : ℕ → List StampGrid
   remade k = remadeGrids s n newest stamps grid stamp k
@@ -125,11 +126,11 @@ module _ (s : VersionShape) (shaped : isShape s ≡ true) (n : ℕ) (newest stam
     unfolding remadeGrid gridSize
     length-made k h =
         let level = k % s .levels in
-        let g = gridOn s level newest stamps (grid + k) (stamp + gridStart s k) in
+        let g = gridOn s level newest stamps (grid + gridStride * k) (stamp + gridStart s k) in
         let fits : stamp + gridStart s k + stampCount (tilingOf s level) ≤ length stamps = omega (arith, grid-end s k h) in
         either (λ (x : StampGrid). length (x .stamps) ≡ stampCount (tilingOf s level)) (eqb level 0) g
         (stampedBy (tilingOf s level) (wholeLevel (levelWidth s level) (levelHeight s level)) n g)
-        (λ e. length-grid s shaped level newest stamps (grid + k) (stamp + gridStart s k) fits)
+        (λ e. length-grid s shaped level newest stamps (grid + gridStride * k) (stamp + gridStart s k) fits)
         (λ e. length-stamped (tilingOf s level) (tiling-ok s shaped level) (wholeLevel (levelWidth s level) (levelHeight s level)) n g)
 
     -- so the first k of them take what stands before the next
@@ -143,39 +144,34 @@ module _ (s : VersionShape) (shaped : isShape s ≡ true) (n : ℕ) (newest stam
         ∙ ap₂ (λ (a b : ℕ). a + b) (length-stamps k (omega arith)) (length-made k (omega arith))
         ∙ sym (grid-next s k (omega arith))
 
-    module _ (k : ℕ) (h : k < gridCount s) (counted : grid + k < length newest) (newest₁ stamps₁ : List ℕ) (level at : ℕ)
+    module _ (k : ℕ) (h : k < gridCount s) (newest₁ stamps₁ : List ℕ) (level at : ℕ)
         (e : newest₁ ≡ newestWritten newest grid (remade k)) (f : stamps₁ ≡ stampsWritten stamps stamp (remade k))
         (here : level ≡ k % s .levels) (begun : at ≡ stamp + gridStart s k) where
       -- the grid after those made again is as it stood
-      newest-past : getD (newestWritten newest grid (remade k)) (grid + k) 0 ≡ getD newest (grid + k) 0
-      unfolding newestWritten
-      newest-past =
-          let c : length (map newestStamp (remade k)) ≡ k = length-map (remade k) newestStamp ∙ length-remade k in
-          getD-sets-past newest grid (map newestStamp (remade k)) (omega (arith, c)) (grid + k) 0 (omega (arith, c))
+      newest-past : getD (newestWritten newest grid (remade k)) (grid + gridStride * k) 0 ≡ getD newest (grid + gridStride * k) 0
+      newest-past = elsewhere-stays newest grid (remade k) (grid + gridStride * k) (λ j q e. omega (arith, q, e, length-remade k))
 
       stamps-past : drop (stamp + gridStart s k) (stampsWritten stamps stamp (remade k)) ≡ drop (stamp + gridStart s k) stamps
       unfolding stampsWritten
       stamps-past = drop-past (stamp + gridStart s k) stamps stamp (flatMap stampsIn (remade k)) (omega (arith, length-stamps k (omega arith)))
 
-      same-grid : remadeGrid s n level (gridOn s level newest₁ stamps₁ (grid + k) at) ≡ remadeAt k
+      same-grid : remadeGrid s n level (gridOn s level newest₁ stamps₁ (grid + gridStride * k) at) ≡ remadeAt k
       unfolding gridOn
       same-grid =
           ap₂ (λ (x : ℕ) (y : List ℕ). remadeGrid s n level (gridIn (tilingOf s level) x y))
-          (ap (λ (xs : List ℕ). getD xs (grid + k) 0) e ∙ newest-past)
+          (ap (λ (xs : List ℕ). getD xs (grid + gridStride * k) 0) e ∙ newest-past)
           (ap₂ (λ (i : ℕ) (xs : List ℕ). drop i xs) begun f ∙ stamps-past)
-          ∙ ap (λ (i : ℕ). remadeGrid s n i (gridIn (tilingOf s i) (getD newest (grid + k) 0) (drop (stamp + gridStart s k) stamps))) here
+          ∙ ap (λ (i : ℕ). remadeGrid s n i (gridIn (tilingOf s i) (getD newest (grid + gridStride * k) 0) (drop (stamp + gridStart s k) stamps))) here
 
-      pub newest-remade : set newest₁ (grid + k) (remadeGrid s n level (gridOn s level newest₁ stamps₁ (grid + k) at) .newest)
+      pub newest-remade : set newest₁ (grid + gridStride * k) (remadeGrid s n level (gridOn s level newest₁ stamps₁ (grid + gridStride * k) at) .newest)
           ≡ newestWritten newest grid (remade (k + 1))
-      unfolding newestWritten
       newest-remade =
-          ap₂ (λ (xs : List ℕ) (g : StampGrid). set xs (grid + k) (g .newest)) e same-grid
-          ∙ ap (λ (i : ℕ). set (sets newest grid (map newestStamp (remade k))) (grid + i) (remadeAt k .newest)) (sym (length-map (remade k) newestStamp ∙ length-remade k))
-          ∙ sym (sets-append newest grid (map newestStamp (remade k)) (remadeAt k .newest ∷ []))
-          ∙ ap (sets newest grid) (sym (map-append newestStamp (remade k) (remadeAt k ∷ [])))
-          ∙ ap (λ (gs : List StampGrid). sets newest grid (map newestStamp gs)) (sym (ap remade (add-one k) ∙ remade-next k))
+          ap₂ (λ (xs : List ℕ) (g : StampGrid). set xs (grid + gridStride * k) (g .newest)) e same-grid
+          ∙ ap (λ (i : ℕ). set (newestWritten newest grid (remade k)) (grid + gridStride * i) (remadeAt k .newest)) (sym (length-remade k))
+          ∙ sym (written-more newest grid (remade k) (remadeAt k))
+          ∙ ap (newestWritten newest grid) (sym (ap remade (add-one k) ∙ remade-next k))
 
-      pub stamps-remade : sets stamps₁ at (remadeGrid s n level (gridOn s level newest₁ stamps₁ (grid + k) at) .stamps)
+      pub stamps-remade : sets stamps₁ at (remadeGrid s n level (gridOn s level newest₁ stamps₁ (grid + gridStride * k) at) .stamps)
           ≡ stampsWritten stamps stamp (remade (k + 1))
       unfolding stampsWritten flatMap
       stamps-remade =

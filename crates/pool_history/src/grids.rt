@@ -1,28 +1,31 @@
 // The grids of a history, which stand one behind the other: one stamped, all stamped again by a mip regeneration.
 ghost use mathlib.Core.Path.{_≡_};
 ghost use mathlib.Core.Bool.{true};
-ghost use Prim.Native.Nat.{_+_, _%_, _≤_, _<_};
+ghost use Prim.Native.Nat.{_+_, _*_, _%_, _≤_, _<_};
 ghost use lib.ListN.{length, set};
 ghost use lib.Seq.{sets};
 ghost use Rattle.grid_shapes.specs.Shapes.{isShape};
 ghost use Rattle.grid_stamps.specs.Grids.{tilingOf, stampCount, stampedBy};
-ghost use Rattle.pool_history.specs.Remade.{newestWritten, stampsWritten, remadeGrid, remadeGrids};
+ghost use Rattle.pool_history.specs.Remade.{TilingsAt, newestWritten, stampsWritten, remadeGrid, remadeGrids};
 ghost use Rattle.pool_memory.specs.Reading.{gridOn};
+ghost use Rattle.pool_records.specs.Tilings.{EdgesAt};
 ghost use Rattle.pool_rules.specs.HistorySizes.{historySize};
 ghost use Rattle.pool_rules.specs.Model.{gridCount};
+ghost use Rattle.pool_rules.specs.RuleConstants.{gridStride};
 use grid_rects::TexelRect;
 use grid_rects::level_rect;
 use grid_shapes::VersionShape;
 use grid_shapes::level_extent;
-use grid_stamps::across_axis;
-use grid_stamps::down_axis;
 use grid_stamps::stamp;
 use grid_stamps::stamp_count;
+use pool_access::across_at;
+use pool_access::down_at;
 use pool_access::level_stamps;
 use pool_access::shape_grids;
+use pool_rules::GRID_STRIDE;
 
-// Stamps a level's grid with n where the rectangle touches a tile. The grid has place p in `newest`, and its stamps begin at `at`; the
-// others stay. Returns where its stamps end, which is where those of the next grid begin.
+// Stamps a level's grid with n where the rectangle touches a tile. The grid's newest stamp has place p in `newest`, its tiling
+// the next, and its stamps begin at `at`; the others stay. Returns where its stamps end, which is where those of the next grid begin.
 pub fn stamp_grid(
     newest: &mut [u64],
     stamps: &mut [u64],
@@ -33,7 +36,8 @@ pub fn stamp_grid(
     rect: TexelRect,
     n: u64,
 ) -> usize
-    requires { ⌜ (isShape shape ≡ true) × (p < length (now newest)) × (at + stampCount (tilingOf shape level) ≤ length (now stamps)) ⌝ }
+    requires { ⌜ (isShape shape ≡ true) × (p + 1 < length (now newest)) × EdgesAt (now newest) p shape level
+        × (at + stampCount (tilingOf shape level) ≤ length (now stamps)) ⌝ }
     ensures { λ r. ⌜ (r ≡ at + stampCount (tilingOf shape level))
         × (now (newest .exit)
         ≡ set (now (newest .entry)) p
@@ -42,8 +46,8 @@ pub fn stamp_grid(
         ≡ sets (now (stamps .entry)) at
         (stampedBy (tilingOf shape level) rect n (gridOn shape level (now (newest .entry)) (now (stamps .entry)) p at) .stamps)) ⌝ }
 {
-    let across = across_axis(shape, level);
-    let down = down_axis(shape, level);
+    let across = across_at(newest, p, shape, level);
+    let down = down_at(newest, p, shape, level);
     let count = stamp_count(across, down) as usize;
     let end = at + count;
     let latest = stamp(&mut stamps[at..end], across, down, rect, n, newest[p]);
@@ -62,7 +66,8 @@ fn regenerate_grid(
     level: u64,
     n: u64,
 ) -> usize
-    requires { ⌜ (isShape shape ≡ true) × (p < length (now newest)) × (at + stampCount (tilingOf shape level) ≤ length (now stamps)) ⌝ }
+    requires { ⌜ (isShape shape ≡ true) × (p + 1 < length (now newest)) × EdgesAt (now newest) p shape level
+        × (at + stampCount (tilingOf shape level) ≤ length (now stamps)) ⌝ }
     ensures { λ r. ⌜ (r ≡ at + stampCount (tilingOf shape level))
         × (now (newest .exit)
         ≡ set (now (newest .entry)) p (remadeGrid shape n level (gridOn shape level (now (newest .entry)) (now (stamps .entry)) p at) .newest))
@@ -104,7 +109,8 @@ pub fn regenerate_grids(
     shape: VersionShape,
     n: u64,
 )
-    requires { ⌜ (isShape shape ≡ true) × (grid + gridCount shape ≤ length (now newest)) × (stamp + historySize shape ≤ length (now stamps)) ⌝ }
+    requires { ⌜ (isShape shape ≡ true) × (grid + gridStride * gridCount shape ≤ length (now newest)) × TilingsAt (now newest) grid shape
+        × (stamp + historySize shape ≤ length (now stamps)) ⌝ }
     ensures { λ _. ⌜
         (now (newest .exit)
         ≡ newestWritten (now (newest .entry)) grid (remadeGrids shape n (now (newest .entry)) (now (stamps .entry)) grid stamp (gridCount shape)))
@@ -116,7 +122,8 @@ pub fn regenerate_grids(
     let mut level = 0;
     let mut k = 0;
     while k < grids {
-        at = regenerate_grid(newest, stamps, grid + k, at, shape, level, n);
+        let p = grid + GRID_STRIDE * k;
+        at = regenerate_grid(newest, stamps, p, at, shape, level, n);
         level = next_level(level, shape.levels);
         k += 1;
     }

@@ -11,7 +11,7 @@ use lib.Dec.{ltb}
 use lib.ListN.{length, getD}
 use lib.Seq.{getD-drop}
 use Rattle.base_blocks.specs.Lists.{listed}
-use Rattle.base_blocks.proofs.Lists.{and-both}
+use Rattle.base_blocks.proofs.Lists.{and-both, all-get}
 use Rattle.base_tables.specs.Records.{recordAt}
 use Rattle.grid_shapes.specs.declared.shape.VersionShape.{VersionShape}
 use Rattle.grid_shapes.specs.Shapes.{isShape, slicesOf}
@@ -21,21 +21,25 @@ use Rattle.pool_rules.specs.Model.{WriteHistory, gridCount}
 use Rattle.pool_rules.specs.Histories.{inShape, gridPlace}
 use Rattle.pool_rules.specs.HistorySizes.{gridStart, historySize}
 use Rattle.pool_rules.proofs.HistorySizes.{grid-end, grid-size, grids-most}
-use Rattle.pool_rules.specs.RuleConstants.{mostGrids}
+use Rattle.pool_rules.specs.RuleConstants.{gridStride, mostGrids}
 use Rattle.pool_records.specs.declared.recorded.Recorded.{Recorded}
 use Rattle.pool_records.specs.declared.recorded.Recorded.the-variants.{Writes, NoHistory}
 use Rattle.pool_records.specs.declared.texture.TextureRecord.{TextureRecord}
 use Rattle.pool_records.specs.Texture.{readTexture, textureIn, recordedGrids, recordGrids, recordedStamps, recordStamps}
 use Rattle.pool_records.specs.Find.{idOf, hasId}
+use Rattle.pool_records.specs.Tilings.{tilingIn, EdgesAt}
+use Rattle.pool_records.proofs.Tilings.{start-held, edges-held}
 use Rattle.pool_access.proofs.Ids.{found}
 use Rattle.pool_memory.specs.Lent.{Lent}
 use Rattle.pool_memory.specs.Reading.{trackedRecords, gridRead, historyRead, stateRead}
+use Rattle.pool_memory.specs.IsPool.{tilingsRead, tilingsHold, tilingsFit}
 use Rattle.pool_memory.proofs.Fits.{Fits}
-use Rattle.pool_memory.proofs.Runs.{firstGrid, firstStamp, stateOf, grid-held-at, stamp-held-at}
+use Rattle.pool_memory.proofs.Runs.{firstGrid, firstStamp, stateOf, tiling-there, tracked-records, grid-held-at, stamp-held-at}
 use Rattle.pool_memory.proofs.Tracked.{record-read, grid-at, stamp-at, shape-passes}
 use Rattle.pool_memory.proofs.Places.{place, IsTracked}
 use Rattle.pool_memory.proofs.Stays.{ids-ascend, textures-fit}
 use Rattle.pool_memory.proofs.HistoryRuns.{gridCountAt, stampCountAt, grids-in, stamps-in}
+use Rattle.pool_history.specs.Remade.{TilingsAt}
 use Rattle.pool_records.specs.RecordConstants.{textureStride}
 use Rattle.pool_note_write.specs.History.{recordedAt, HistoryAt}
 
@@ -64,12 +68,18 @@ module _ (s : VersionShape) (slice level : ℕ) (e : inShape s slice level ≡ t
   stamps-inside = omega (arith, grid-end s (gridPlace s slice level) place-inside, grid-size s slice level (within .1))
 
 -- the same by a record that was read
-module _ (textures stamps : List ℕ) (i : ℕ) (h : HistoryAt textures stamps i) (t : TextureRecord) (read : t ≡ textureIn textures i) where
+module _ (textures newest stamps : List ℕ) (i : ℕ) (h : HistoryAt textures newest stamps i) (t : TextureRecord) (read : t ≡ textureIn textures i) where
   pub shape-read : isShape (t .shape) ≡ true
   shape-read = ap (λ (x : TextureRecord). isShape (x .shape)) read ∙ h .shape
 
   pub stamps-read : t .stamp + historySize (t .shape) ≤ length stamps
   stamps-read = subst (λ (x : TextureRecord). x .stamp + historySize (x .shape) ≤ length stamps) (sym read) (h .stamps-in)
+
+  pub grids-read : t .grid + gridStride * gridCount (t .shape) ≤ length newest
+  grids-read = subst (λ (x : TextureRecord). x .grid + gridStride * gridCount (x .shape) ≤ length newest) (sym read) (h .grids-in)
+
+  pub tilings-read : TilingsAt newest (t .grid) (t .shape)
+  tilings-read = subst (λ (x : TextureRecord). TilingsAt newest (x .grid) (x .shape)) (sym read) (h .tilings)
 
   module _ (slice level : ℕ) (e : inShape (textureIn textures i .shape) slice level ≡ true) where
     pub inside-read : inShape (t .shape) slice level ≡ true
@@ -78,11 +88,22 @@ module _ (textures stamps : List ℕ) (i : ℕ) (h : HistoryAt textures stamps i
     pub place-few : slice * t .shape .levels + level < mostGrids
     place-few = omega (arith, place-inside (t .shape) slice level inside-read, grids-most (t .shape) shape-read)
 
-    pub place-read : (newest : List ℕ) → textureIn textures i .grid + gridCount (textureIn textures i .shape) ≤ length newest
-        → t .grid + (slice * t .shape .levels + level) < length newest
-    place-read newest k =
-        let m : t .grid + gridCount (t .shape) ≤ length newest = subst (λ (x : TextureRecord). x .grid + gridCount (x .shape) ≤ length newest) (sym read) k in
-        omega (arith, m, place-inside (t .shape) slice level inside-read)
+    pub place-read : t .grid + gridStride * (slice * t .shape .levels + level) + 1 < length newest
+    place-read = omega (arith, grids-read, place-inside (t .shape) slice level inside-read)
+
+    -- beside its newest stamp: where its stamps begin, and its level's edges
+    pub start-beside : tilingIn newest (t .grid + gridStride * (slice * t .shape .levels + level)) .start
+        ≡ gridStart (t .shape) (slice * t .shape .levels + level)
+    start-beside =
+        let k = place-inside (t .shape) slice level inside-read in
+        start-held (t .shape) shape-read newest (t .grid + gridStride * (slice * t .shape .levels + level)) slice level k
+        (within (t .shape) slice level inside-read .1) (tilings-read (slice * t .shape .levels + level) k)
+
+    pub edges-beside : EdgesAt newest (t .grid + gridStride * (slice * t .shape .levels + level)) (t .shape) level
+    edges-beside =
+        let k = place-inside (t .shape) slice level inside-read in
+        edges-held (t .shape) shape-read newest (t .grid + gridStride * (slice * t .shape .levels + level)) slice level k
+        (within (t .shape) slice level inside-read .1) (tilings-read (slice * t .shape .levels + level) k)
 
     pub start-read : t .stamp + gridStart (t .shape) (slice * t .shape .levels + level) + stampCount (tilingOf (t .shape) level) ≤ length stamps
     start-read = omega (arith, stamps-read, stamps-inside (t .shape) slice level inside-read)
@@ -100,9 +121,9 @@ module _ (l : Lent) (f : Fits l) (i : ℕ) (h : i < l .pool .tracked) where
 
   -- the grids and the stamps of a history that is recorded
   module _ (n : ℕ) (e : textureIn (l .textures) i .history ≡ Writes n) where
-    pub grids-recorded : textureIn (l .textures) i .grid + gridCount (textureIn (l .textures) i .shape) ≤ l .pool .grids
+    pub grids-recorded : textureIn (l .textures) i .grid + gridStride * gridCount (textureIn (l .textures) i .shape) ≤ l .pool .grids
     grids-recorded =
-        let c : gridCountAt l i ≡ gridCount (textureIn (l .textures) i .shape) =
+        let c : gridCountAt l i ≡ gridStride * gridCount (textureIn (l .textures) i .shape) =
         ap recordGrids (record-read l i h) ∙ ap (λ (r : Recorded). recordedGrids r (textureIn (l .textures) i .shape)) e in
         omega (arith, c, grid-at l i h f, grids-in l f i h)
 
@@ -111,6 +132,16 @@ module _ (l : Lent) (f : Fits l) (i : ℕ) (h : i < l .pool .tracked) where
         let c : stampCountAt l i ≡ historySize (textureIn (l .textures) i .shape) =
         ap recordStamps (record-read l i h) ∙ ap (λ (r : Recorded). recordedStamps r (textureIn (l .textures) i .shape)) e in
         omega (arith, c, stamp-at l i h f, stamps-in l f i h)
+
+    -- its tilings
+    pub tilings-recorded : TilingsAt (l .newest) (textureIn (l .textures) i .grid) (textureIn (l .textures) i .shape)
+    unfolding tilingsFit tilingsHold
+    tilings-recorded =
+        let t = textureIn (l .textures) i in
+        tiling-there l (t .shape) (t .grid)
+        (ap (tilingsRead l (t .shape) (t .grid)) (sym e)
+        ∙ ap (tilingsHold l) (sym (record-read l i h))
+        ∙ all-get (tilingsHold l) (trackedRecords l) i (readTexture []) (f .tilings) (omega (arith, tracked-records l)))
 
 -- ---- a texture of a pool
 
@@ -173,13 +204,12 @@ module _ (l : Lent) (f : Fits l) (id : ℕ) where
     pub shape-formed : isShape (textureIn (l .textures) at .shape) ≡ true
     shape-formed = shape-passes l at (r .tracked .0) f
 
-    pub grids-there : textureIn (l .textures) at .grid + gridCount (textureIn (l .textures) at .shape) ≤ length (l .newest)
-    grids-there = omega (arith, grids-recorded l f at (r .tracked .0) n (r .history), f .grids)
-
-    pub history-there : HistoryAt (l .textures) (l .stamps) at
+    pub history-there : HistoryAt (l .textures) (l .newest) (l .stamps) at
     history-there = record {
       there = omega (arith, textures-fit l f, r .tracked .0);
       shape = shape-formed;
+      grids-in = omega (arith, grids-recorded l f at (r .tracked .0) n (r .history), f .grids);
+      tilings = tilings-recorded l f at (r .tracked .0) n (r .history);
       stamps-in = omega (arith, stamps-recorded l f at (r .tracked .0) n (r .history), f .stamps-counted);
     }
 
@@ -193,8 +223,5 @@ module _ (l : Lent) (f : Fits l) (id : ℕ) where
       pub tracked-here : i < l .pool .tracked
       tracked-here = subst (λ (k : ℕ). k < l .pool .tracked) (sym q) (r .tracked .0)
 
-      pub history-here : HistoryAt (l .textures) (l .stamps) i
-      history-here = subst (HistoryAt (l .textures) (l .stamps)) (sym q) (history-there n r)
-
-      pub grids-here : textureIn (l .textures) i .grid + gridCount (textureIn (l .textures) i .shape) ≤ length (l .newest)
-      grids-here = subst (λ (k : ℕ). textureIn (l .textures) k .grid + gridCount (textureIn (l .textures) k .shape) ≤ length (l .newest)) (sym q) (grids-there n r)
+      pub history-here : HistoryAt (l .textures) (l .newest) (l .stamps) i
+      history-here = subst (HistoryAt (l .textures) (l .newest) (l .stamps)) (sym q) (history-there n r)

@@ -2,19 +2,14 @@
 use mathlib.Core.Path.{_≡_, refl, sym, ap, ap₂, _∙_, subst}
 use mathlib.Core.Option.{none}
 use mathlib.Core.List.{List}
-use Prim.Native.Nat.{ℕ, suc, _+_, _*_, _-_, _≤_, _<_}
+use Prim.Native.Nat.{ℕ, _+_, _*_, _-_, _≤_, _<_}
 use native.Mathlib.Numerals.{add-one}
 use native.Mathlib.Omega.{arith}
-use borrow.Author.Tests.{ltb-true, ltb-false}
-use lib.Dec.{ltb}
 use lib.ListN.{length}
 use lib.Seq.{sets}
-use Rattle.base_blocks.specs.Lists.{total}
-use Rattle.base_blocks.proofs.Lists.{either}
-use Rattle.base_tables.proofs.Records.{take-table}
 use Rattle.pool_rules.specs.Model.{PoolModel}
 use Rattle.pool_records.specs.declared.texture.TextureRecord.{TextureRecord}
-use Rattle.pool_records.specs.Texture.{readTexture, writeTexture, textureIn, recordGrids, recordStamps}
+use Rattle.pool_records.specs.Texture.{writeTexture, textureIn}
 use Rattle.pool_records.specs.Starts.{lessBy, startsMoved, StartsMove, gridEnd, stampEnd}
 use Rattle.pool_records.specs.RecordConstants.{textureStride}
 use Rattle.pool_memory.specs.Lent.{Lent, lent}

@@ -6,7 +6,7 @@ use mathlib.Core.Option.{Option, some}
 use mathlib.Core.List.{List, flatMap}
 use Prim.Native.Nat.{ℕ, suc, _+_, _*_, _≤_, _<_}
 use native.Mathlib.Omega.{arith}
-use lib.ListN.{length, drop, getD, set, length-set, length-map}
+use lib.ListN.{length, drop, getD, set, length-set}
 use lib.Seq.{sets}
 use Rattle.base_blocks.specs.Lists.{listed, total}
 use Rattle.grid_shapes.specs.declared.shape.VersionShape.{VersionShape}
@@ -19,14 +19,17 @@ use Rattle.pool_rules.specs.Model.{WriteHistory, VersionState, PoolModel, hasHi
 use Rattle.pool_rules.specs.Updates.{withHistory, withTextures}
 use Rattle.pool_rules.specs.Histories.{gridAt, gridPlace, stampWrite, regenerateFrom, stampRegeneration}
 use Rattle.pool_rules.specs.HistorySizes.{gridSize, gridStart, historySize, newestUsed, stampsUsed}
+use Rattle.pool_rules.specs.RuleConstants.{gridStride}
 use Rattle.pool_rules.proofs.HistorySizes.{grid-size, grid-last}
 use Rattle.pool_records.specs.declared.recorded.Recorded.the-variants.{Writes}
 use Rattle.pool_records.specs.declared.texture.TextureRecord.{TextureRecord}
 use Rattle.pool_records.specs.Texture.{writeTexture, textureIn}
+use Rattle.pool_records.specs.Tilings.{tilingNumber}
 use Rattle.pool_memory.specs.Lent.{Lent, lent}
 use Rattle.pool_memory.specs.Reading.{gridRead, modelOf, gridOn}
-use Rattle.pool_memory.specs.Writing.{recordedHistory, gridsOf, texturesAfter, newestAfter, stampsAfter, poolAfter, lentAfter}
+use Rattle.pool_memory.specs.Writing.{recordedHistory, gridsOf, newestFrom, texturesAfter, newestAfter, stampsAfter, poolAfter, lentAfter}
 use Rattle.pool_memory.proofs.Fits.{Fits}
+use Rattle.pool_memory.proofs.NewestNumbers.{length-newest-from}
 use Rattle.pool_memory.proofs.Runs.{spareCount, firstGrid, firstStamp, stateOf, tracked-model, kept-model, grids-model, stamps-used-model}
 use Rattle.pool_memory.proofs.Rings.{head-stays, hand-model, first-stays}
 use Rattle.pool_memory.proofs.Same.{queued-model, doomed-model}
@@ -37,7 +40,8 @@ use Rattle.pool_memory.proofs.Starts.{placedRecord, textures-set}
 use Rattle.pool_memory.proofs.HistoryRuns.{gridCountAt, stampCountAt, stamps-in, newest-rewritten, stamps-rewritten}
 use Rattle.pool_memory.proofs.Written.{gridsAt, all-grids, all-stamps, place-grid, grid-held, newest-stamped, stamps-stamped}
 use Rattle.pool_memory.proofs.Tracked.{record-at, shape-at, grid-at, stamp-at}
-use Rattle.pool_history.specs.Remade.{newestStamp, stampsIn, newestWritten, stampsWritten, remadeGrids}
+use Rattle.pool_history.specs.Remade.{TilingsAt, stampsIn, newestWritten, stampsWritten, remadeGrids}
+use Rattle.pool_history.proofs.NewestWritten.{written-all}
 use Rattle.pool_history.proofs.Regenerated.{regenerate-listed, length-remade, length-stamps}
 use Rattle.pool_note_write.specs.History.{recordedAs, newestPlace, stampsPlace, stampedOn, remadeAt}
 use Rattle.pool_note_write.specs.Counts.{withUsed}
@@ -109,7 +113,7 @@ module _ (l : Lent) (f : Fits l) (i : ℕ) (h : i < l .pool .tracked) where
 
     module _ (new : WriteHistory) where
       same-grids : newestUsed (otherState (some new)) ≡ newestUsed (stateOf l i)
-      same-grids = sym (ap (λ (o : Option WriteHistory). cond (hasHistory o) (gridCount shape) 0) has)
+      same-grids = sym (ap (λ (o : Option WriteHistory). cond (hasHistory o) (gridStride * gridCount shape) 0) has)
 
       same-stamps : stampsUsed (otherState (some new)) ≡ stampsUsed (stateOf l i)
       same-stamps = sym (ap (λ (o : Option WriteHistory). cond (hasHistory o) (historySize shape) 0) has)
@@ -140,9 +144,9 @@ module _ (l : Lent) (f : Fits l) (i : ℕ) (h : i < l .pool .tracked) where
       unfolding stampWrite
       new-grids = ap (λ (o : Option WriteHistory). set (gridsOf o) place stampedGrid) (sym has)
 
-      newest-place : newestPlace (l .textures) i slice level ≡ firstGrid l i + place
+      newest-place : newestPlace (l .textures) i slice level ≡ firstGrid l i + gridStride * place
       unfolding newestPlace
-      newest-place = ap₂ (λ (g : ℕ) (s : VersionShape). g + gridPlace s slice level) (grid-at l i h f) (sym (shape-at l i h))
+      newest-place = ap₂ (λ (g : ℕ) (s : VersionShape). g + gridStride * gridPlace s slice level) (grid-at l i h f) (sym (shape-at l i h))
 
       stamps-place : stampsPlace (l .textures) i slice level ≡ firstStamp l i + gridStart shape place
       unfolding stampsPlace
@@ -172,13 +176,14 @@ module _ (l : Lent) (f : Fits l) (i : ℕ) (h : i < l .pool .tracked) where
           let q = place-grid l i f h old has slice level a b in
           still-left (stampWrite shape slice level r old) _ _
           (ap₂ (λ (p : ℕ) (g : StampGrid). set (l .newest) p (g .newest)) newest-place stamped-on
-          ∙ newest-stamped l f (otherPool afterWrite) i h (otherState afterWrite) refl place stampedGrid q new-grids)
+          ∙ newest-stamped l f (otherPool afterWrite) i h (otherState afterWrite) refl refl place stampedGrid q new-grids)
           (ap₂ (λ (p : ℕ) (g : StampGrid). sets (l .stamps) p (g .stamps)) stamps-place stamped-on
-          ∙ stamps-stamped l f (otherPool afterWrite) i h (otherState afterWrite) refl place stampedGrid q new-grids length-new)
+          ∙ stamps-stamped l f (otherPool afterWrite) i h (otherState afterWrite) refl refl place stampedGrid q new-grids length-new)
 
     -- ---- a regeneration
 
-    module _ (shaped : isShape shape ≡ true) (grids : old .grids ≡ listed (gridRead l shape (firstGrid l i) (firstStamp l i)) 0 (gridCount shape)) where
+    module _ (shaped : isShape shape ≡ true) (grids : old .grids ≡ listed (gridRead l shape (firstGrid l i) (firstStamp l i)) 0 (gridCount shape))
+        (tilings : TilingsAt (l .newest) (textureIn (l .textures) i .grid) (textureIn (l .textures) i .shape)) where
       abbrev afterRegeneration : Option WriteHistory
       afterRegeneration = some (stampRegeneration shape old)
 
@@ -200,10 +205,20 @@ module _ (l : Lent) (f : Fits l) (i : ℕ) (h : i < l .pool .tracked) where
           sym (ap (regenerateFrom shape (suc (old .writes)) 0) grids
           ∙ regenerate-listed shape (suc (old .writes)) (gridRead l shape (firstGrid l i) (firstStamp l i)) 0 (gridCount shape))
 
-      count-made : length (gridsOf afterRegeneration) ≡ gridCountAt l i
+      count-made : length (gridsOf afterRegeneration) ≡ gridCount shape
       count-made =
           ap length (sym made-grids) ∙ length-remade shape shaped (suc (old .writes)) (l .newest) (l .stamps) (firstGrid l i) (firstStamp l i) (gridCount shape)
-          ∙ sym (all-grids l i f h old has)
+
+      numbers-made : length (newestFrom shape 0 (gridsOf afterRegeneration)) ≡ gridCountAt l i
+      numbers-made =
+          length-newest-from shape 0 (gridsOf afterRegeneration) ∙ ap (λ (n : ℕ). gridStride * n) count-made ∙ sym (all-grids l i f h old has)
+
+      -- each beside its tiling, which is there
+      beside : TilingsAt (l .newest) (firstGrid l i) shape
+      beside k q =
+          ap (λ (g : ℕ). getD (l .newest) (g + gridStride * k + 1) 0) (sym (grid-at l i h f))
+          ∙ tilings k (omega (arith, q, ap gridCount (shape-at l i h)))
+          ∙ ap (λ (s : VersionShape). tilingNumber s k) (sym (shape-at l i h))
 
       stamps-made : length (flatMap stampsIn (gridsOf afterRegeneration)) ≡ stampCountAt l i
       stamps-made =
@@ -216,11 +231,11 @@ module _ (l : Lent) (f : Fits l) (i : ℕ) (h : i < l .pool .tracked) where
           (newestWritten (l .newest) (textureIn (l .textures) i .grid) (remadeAt (l .textures) i (suc (old .writes)) (l .newest) (l .stamps)))
           (stampsWritten (l .stamps) (textureIn (l .textures) i .stamp) (remadeAt (l .textures) i (suc (old .writes)) (l .newest) (l .stamps)))
           ≡ lentAfter (otherPool afterRegeneration) l
-      unfolding stampRegeneration newestWritten stampsWritten
+      unfolding stampRegeneration stampsWritten
       history-regenerated =
           still-left (stampRegeneration shape old) _ _
           (ap₂ (newestWritten (l .newest)) (grid-at l i h f) (made-here ∙ made-grids)
-          ∙ newest-rewritten l f (otherPool afterRegeneration) i h (otherState afterRegeneration) refl
-          (length-map (gridsOf afterRegeneration) newestStamp ∙ count-made))
+          ∙ written-all shape (l .newest) (firstGrid l i) (gridsOf afterRegeneration) count-made beside
+          ∙ newest-rewritten l f (otherPool afterRegeneration) i h (otherState afterRegeneration) refl numbers-made)
           (ap₂ (stampsWritten (l .stamps)) (stamp-at l i h f) (made-here ∙ made-grids)
           ∙ stamps-rewritten l f (otherPool afterRegeneration) i h (otherState afterRegeneration) refl stamps-made)

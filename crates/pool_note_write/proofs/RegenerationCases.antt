@@ -28,7 +28,7 @@ use Rattle.pool_memory.proofs.Stays.{ids-ascend, nothing-changed}
 use Rattle.pool_memory.proofs.Tracked.{shape-at}
 use Rattle.pool_history.specs.Remade.{newestWritten, stampsWritten}
 use Rattle.pool_note_write.specs.History.{remadeAt}
-use Rattle.pool_note_write.proofs.AtPlace.{Unrecorded, untracked, unrecorded, Recording, at, history-read, historyIs, has-history, shape-formed}
+use Rattle.pool_note_write.proofs.AtPlace.{Unrecorded, untracked, unrecorded, Recording, at, history-read, historyIs, has-history, shape-formed, tilings-recorded}
 use Rattle.pool_note_write.proofs.Left.{keptLent, history-regenerated}
 use Rattle.pool_note_write.proofs.WriteCases.{same-texture}
 use Rattle.pool_records.specs.Texture.{textureIn}
@@ -96,7 +96,8 @@ module _ (l : Lent) (e : isPool l ≡ true) (id : ℕ) where
     regeneration-done h =
         ap (λ (k : ℕ). (answer tt, remadeLent l i k)) (add-one n)
         ∙ ap (λ (l′ : Lent). (answer tt, l′))
-        (history-regenerated l fits i (rec .tracked .0) old (has-history l fits id n rec) (ap isShape (shape-at l i (rec .tracked .0)) ∙ shape-formed l fits id n rec) refl)
+        (history-regenerated l fits i (rec .tracked .0) old (has-history l fits id n rec) (ap isShape (shape-at l i (rec .tracked .0)) ∙ shape-formed l fits id n rec) refl
+        (tilings-recorded l fits i (rec .tracked .0) n (rec .history)))
         ∙ sym (passes (spent-here ∙ lt-leb limit n h) (set (modelOf l .textures) i (withHistory (some (stampRegeneration shape old)) (stateOf l i)))
         (changed l id (ids-ascend l fits) (rec .tracked) regenerate
         ∙ ap (λ (o : Option WriteHistory). set (modelOf l .textures) i (withHistory (regenerated shape o) (stateOf l i))) (has-history l fits id n rec)))

@@ -10,13 +10,14 @@ use Rattle.grid_stamps.specs.Grids.{StampGrid, tilingOf, stampCount, stampedBy}
 use Rattle.pool_rules.specs.Model.{gridCount}
 use Rattle.pool_rules.specs.Histories.{gridPlace}
 use Rattle.pool_rules.specs.HistorySizes.{gridStart, historySize}
+use Rattle.pool_rules.specs.RuleConstants.{gridStride}
 use Rattle.pool_records.specs.declared.recorded.Recorded.{Recorded}
 use Rattle.pool_records.specs.declared.recorded.Recorded.the-variants.{NoHistory}
 use Rattle.pool_records.specs.declared.texture.TextureRecord.{TextureRecord}
 use Rattle.pool_records.specs.Texture.{textureIn}
 use Rattle.pool_records.specs.Find.{hasId}
 use Rattle.pool_memory.specs.Reading.{gridOn}
-use Rattle.pool_history.specs.Remade.{remadeGrids}
+use Rattle.pool_history.specs.Remade.{TilingsAt, remadeGrids}
 use Rattle.pool_records.specs.RecordConstants.{textureStride}
 
 -- what it says of its history if it is there and has the id
@@ -39,15 +40,18 @@ recordedAs h t = record {
   stamp = t .stamp;
 }
 
--- record i is there, its shape passes 2, and the stamps of a history of that shape lie within the lent ones
-pub record HistoryAt (textures stamps : List ℕ) (i : ℕ) : Type 0 where
+-- record i is there, its shape passes 2, the numbers of `newest` and the stamps of a history of that shape lie within the lent ones, and beside each
+-- grid's newest stamp stands its tiling
+pub record HistoryAt (textures newest stamps : List ℕ) (i : ℕ) : Type 0 where
   pub there : textureStride * i + textureStride ≤ length textures
   pub shape : isShape (textureIn textures i .shape) ≡ true
+  pub grids-in : textureIn textures i .grid + gridStride * gridCount (textureIn textures i .shape) ≤ length newest
+  pub tilings : TilingsAt newest (textureIn textures i .grid) (textureIn textures i .shape)
   pub stamps-in : textureIn textures i .stamp + historySize (textureIn textures i .shape) ≤ length stamps
 
 -- where a subresource's grid stands in `newest`, and where its stamps begin
 unfoldable pub newestPlace : List ℕ → ℕ → ℕ → ℕ → ℕ
-newestPlace textures i slice level = textureIn textures i .grid + gridPlace (textureIn textures i .shape) slice level
+newestPlace textures i slice level = textureIn textures i .grid + gridStride * gridPlace (textureIn textures i .shape) slice level
 
 unfoldable pub stampsPlace : List ℕ → ℕ → ℕ → ℕ → ℕ
 stampsPlace textures i slice level =

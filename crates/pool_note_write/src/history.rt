@@ -7,21 +7,21 @@ ghost use lib.Seq.{sets};
 ghost use Rattle.pool_records.specs.Recorded.{RecordedFits};
 ghost use Rattle.pool_records.specs.Texture.{writeTexture, textureIn};
 ghost use Rattle.pool_rules.specs.Histories.{inShape};
-ghost use Rattle.pool_rules.specs.Model.{gridCount};
 ghost use Rattle.pool_history.specs.Remade.{newestWritten, stampsWritten};
 ghost use Rattle.pool_note_write.specs.History.{recordedAt, recordedAs, HistoryAt, newestPlace, stampsPlace, stampedOn, remadeAt};
 ghost use Rattle.pool_records.specs.RecordConstants.{textureStride};
 use grid_rects::TexelRect;
 use grid_shapes::VersionShape;
 use grid_shapes::slices;
-use pool_access::grid_start;
 use pool_access::has_id;
 use pool_access::put_texture;
+use pool_access::start_at;
 use pool_access::texture_at;
 use pool_history::regenerate_grids;
 use pool_history::stamp_grid;
 use pool_records::Recorded;
 use pool_records::TextureRecord;
+use pool_rules::GRID_STRIDE;
 
 // Returns what record i, where the search for the id ended, says of its history. A texture that is not tracked has none.
 pub fn history_at(textures: &[u64], tracked: usize, i: usize, id: u64) -> Recorded
@@ -67,7 +67,7 @@ pub fn set_history(textures: &mut [u64], i: usize, history: Recorded)
 }
 
 // Stamps the grid of a subresource of texture i with n, where the rectangle touches a tile. The texture's grids stand slice by slice,
-// level by level.
+// level by level; where this one's stamps begin stands beside its newest stamp, so no levels are added up.
 pub fn stamp_subresource(
     textures: &[u64],
     newest: &mut [u64],
@@ -78,9 +78,7 @@ pub fn stamp_subresource(
     rect: TexelRect,
     n: u64,
 )
-    requires { ⌜ HistoryAt (now textures) (now stamps) i
-        × (textureIn (now textures) i .grid + gridCount (textureIn (now textures) i .shape) ≤ length (now newest))
-        × (inShape (textureIn (now textures) i .shape) slice level ≡ true) ⌝ }
+    requires { ⌜ HistoryAt (now textures) (now newest) (now stamps) i × (inShape (textureIn (now textures) i .shape) slice level ≡ true) ⌝ }
     ensures { λ _. ⌜
         (now (newest .exit)
         ≡ set (now (newest .entry)) (newestPlace (now (textures .entry)) i slice level)
@@ -91,8 +89,8 @@ pub fn stamp_subresource(
 {
     let t = texture_at(textures, i);
     let shape = t.shape;
-    let p = t.grid as usize + (slice * shape.levels + level) as usize;
-    let at = t.stamp as usize + grid_start(shape, slice, level);
+    let p = t.grid as usize + GRID_STRIDE * (slice * shape.levels + level) as usize;
+    let at = t.stamp as usize + start_at(newest, p);
     stamp_grid(newest, stamps, p, at, shape, level, rect, n);
 }
 
@@ -104,8 +102,7 @@ pub fn regenerate_history(
     i: usize,
     n: u64,
 )
-    requires { ⌜ HistoryAt (now textures) (now stamps) i
-        × (textureIn (now textures) i .grid + gridCount (textureIn (now textures) i .shape) ≤ length (now newest)) ⌝ }
+    requires { ⌜ HistoryAt (now textures) (now newest) (now stamps) i ⌝ }
     ensures { λ _. ⌜
         (now (newest .exit)
         ≡ newestWritten (now (newest .entry)) (textureIn (now (textures .entry)) i .grid)

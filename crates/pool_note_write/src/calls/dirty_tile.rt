@@ -12,34 +12,38 @@ ghost use Rattle.pool_records.specs.Texture.{textureIn};
 use crate::history::history_at;
 use crate::history::in_shape;
 use grid_stamps::DirtyTile;
-use grid_stamps::across_axis;
-use grid_stamps::down_axis;
 use grid_stamps::stamp_count;
-use pool_access::grid_start;
+use pool_access::across_at;
+use pool_access::down_at;
+use pool_access::start_at;
 use pool_access::texture_at;
 use pool_memory::PacingBook;
 use pool_memory::Pool;
 use pool_records::Recorded;
 use pool_records::find_texture;
+use pool_rules::GRID_STRIDE;
 
-// Finds some tile of a subresource of texture i that is stamped above `held`, in its grid's part of the stamps.
+// Finds some tile of a subresource of texture i that is stamped above `held`, in its grid's part of the stamps: where that begins and its
+// tiles' edges stand beside its newest stamp.
 fn dirty_subresource(
     textures: &[u64],
+    newest: &[u64],
     stamps: &[u64],
     i: usize,
     slice: u64,
     level: u64,
     held: u64,
 ) -> DirtyTile
-    requires { ⌜ HistoryAt (now textures) (now stamps) i × (inShape (textureIn (now textures) i .shape) slice level ≡ true) ⌝ }
+    requires { ⌜ HistoryAt (now textures) (now newest) (now stamps) i × (inShape (textureIn (now textures) i .shape) slice level ≡ true) ⌝ }
     ensures { λ r. ⌜ IsDirtyTile (tilingOf (textureIn (now (textures .entry)) i .shape) level) held
         (stampsOn (now (textures .entry)) i slice level (now (stamps .entry))) r ⌝ }
 {
     let t = texture_at(textures, i);
     let shape = t.shape;
-    let a = t.stamp as usize + grid_start(shape, slice, level);
-    let across = across_axis(shape, level);
-    let down = down_axis(shape, level);
+    let p = t.grid as usize + GRID_STRIDE * (slice * shape.levels + level) as usize;
+    let a = t.stamp as usize + start_at(newest, p);
+    let across = across_at(newest, p, shape, level);
+    let down = down_at(newest, p, shape, level);
     let count = stamp_count(across, down) as usize;
     let e = a + count;
     grid_views::dirty_tile(&stamps[a..e], across, down, held)
@@ -74,5 +78,5 @@ pub fn dirty_tile(
     if !in_shape(t.shape, slice, level) {
         return DirtyTile::NoTile;
     }
-    dirty_subresource(textures, stamps, i, slice, level, held)
+    dirty_subresource(textures, newest, stamps, i, slice, level, held)
 }

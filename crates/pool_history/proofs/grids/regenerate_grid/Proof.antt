@@ -24,8 +24,8 @@ returns c =
     let g = gridOn (a .shape) (a .level) (a .newest .now) (a .stamps .now) (a .p) (a .at) in
     let e = sym (remade-first (a .shape) (a .n) (a .level) g (c .before .if1 .taken)) in (
       ap (λ (i : ℕ). a .at + i) (c .level-stamps .ensures),
-      newest-stands (a .shape) (s .pre .0) (a .level) (a .newest .now) (a .stamps .now) (a .p) (a .at) (s .pre .2) ∙ ap (λ (x : StampGrid). set (a .newest .now) (a .p) (x .newest)) e,
-      stamps-stand (a .shape) (s .pre .0) (a .level) (a .newest .now) (a .stamps .now) (a .p) (a .at) (s .pre .2) ∙ ap (λ (x : StampGrid). sets (a .stamps .now) (a .at) (x .stamps)) e,
+      newest-stands (a .shape) (s .pre .0) (a .level) (a .newest .now) (a .stamps .now) (a .p) (a .at) (s .pre .3) ∙ ap (λ (x : StampGrid). set (a .newest .now) (a .p) (x .newest)) e,
+      stamps-stand (a .shape) (s .pre .0) (a .level) (a .newest .now) (a .stamps .now) (a .p) (a .at) (s .pre .3) ∙ ap (λ (x : StampGrid). sets (a .stamps .now) (a .at) (x .stamps)) e,
     )
 
 level-extent-requires : tie.Need-level-extent-requires

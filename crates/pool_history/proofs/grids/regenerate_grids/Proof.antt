@@ -1,13 +1,15 @@
 -- `regenerate_grids` meets its contract: grid by grid, each beginning where the one before it ends. Assumes nothing.
-use mathlib.Core.Path.{_≡_, refl, ap, _∙_}
+use mathlib.Core.Path.{_≡_, refl, sym, ap, _∙_, subst}
 use Prim.Native.Nat.{ℕ, _+_, _-_, _%_, _≤_, _<_}
 use native.Mathlib.Omega.{arith}
+use mathlib.Core.List.{List}
 use lib.ListN.{length}
 use borrow.Author.Needs.{needs}
 use Rattle.pool_rules.specs.Model.{gridCount}
 use Rattle.pool_rules.specs.HistorySizes.{gridStart}
 use Rattle.pool_rules.proofs.HistorySizes.{grids-most}
-use Rattle.pool_history.specs.Remade.{newestWritten, stampsWritten, remadeGrids}
+use Rattle.pool_history.specs.Remade.{TilingsAt, newestWritten, stampsWritten, remadeGrids}
+use Rattle.pool_history.proofs.NewestWritten.{tilings-stay, edges-there}
 use Rattle.pool_history.proofs.Regenerated.{level-first, next-below, level-after, start-first, start-after, grid-room, remade-none, newest-remade, stamps-remade}
 use Rattle.pool_history.proofs.grids.regenerate_grids.Statement.{statement}
 use Rattle.pool_history.proofs.grids.regenerate_grids.Tie as tie
@@ -35,8 +37,11 @@ loop-holds c =
     let f = level-first (a .shape) (s .pre .0) in
     (search needs, f .0, f .1, omega (arith, start-first (a .shape)), refl, refl, e .0, e .1)
 
-add-regenerate-grid : tie.Need-add-regenerate-grid Inv-loop μ-loop
-add-regenerate-grid c = search needs
+mul-p : tie.Need-mul-p Inv-loop μ-loop
+mul-p c = search needs
+
+add-p : tie.Need-add-p Inv-loop μ-loop
+add-p c = search needs
 
 regenerate-grid-requires : tie.Need-regenerate-grid-requires Inv-loop μ-loop
 regenerate-grid-requires c κs =
@@ -44,10 +49,13 @@ regenerate-grid-requires c κs =
     let s = b .before .before .before .before in
     let a = s .args in
     let counted = b .before .shape-grids .ensures in
-    let test = c .before .before .loop-test .taken in (
+    let more : b .loop .k < gridCount (a .shape) = omega (arith, c .before .before .loop-test .taken, counted) in
+    let beside : TilingsAt (b .loop .newest) (a .grid) (a .shape) =
+    subst (λ (xs : List ℕ). TilingsAt xs (a .grid) (a .shape)) (sym (b .loop .inv .6)) (tilings-stay (a .shape) (a .newest .now) (a .grid) _ (s .pre .2)) in (
       s .pre .0,
-      omega (arith, s .pre .1, b .loop .inv .4, test, counted),
-      omega (arith, s .pre .2, b .loop .inv .5, b .loop .inv .3, grid-room (a .shape) (b .loop .k) (b .loop .level) (omega (arith, test, counted)) (b .loop .inv .2)),
+      omega (arith, s .pre .1, b .loop .inv .4, more),
+      edges-there (a .shape) (s .pre .0) (b .loop .newest) (a .grid) (b .loop .k) (b .loop .level) more beside (b .loop .inv .2),
+      omega (arith, s .pre .3, b .loop .inv .5, b .loop .inv .3, grid-room (a .shape) (b .loop .k) (b .loop .level) more (b .loop .inv .2)),
     )
 
 next-level-requires : tie.Need-next-level-requires Inv-loop μ-loop
@@ -67,8 +75,7 @@ loop-again c =
     let a = s .args in
     let inv = b .loop .inv in
     let counted = b .before .shape-grids .ensures in
-    let more : b .loop .k < gridCount (a .shape) = omega (arith, r .before .before .before .loop-test .taken, counted) in
-    let inside : a .grid + b .loop .k < length (a .newest .now) = omega (arith, s .pre .1) in (
+    let more : b .loop .k < gridCount (a .shape) = omega (arith, r .before .before .before .loop-test .taken, counted) in (
       search needs,
       next-below (c .next-level .result) (b .loop .level) (a .shape .levels) (inv .1) (c .next-level .ensures),
       c .next-level .ensures ∙ level-after (b .loop .level) (b .loop .k) (a .shape .levels) (inv .2),
@@ -76,10 +83,10 @@ loop-again c =
       r .regenerate-grid .kept .0 ∙ inv .4,
       r .regenerate-grid .kept .1 .0 ∙ inv .5,
       r .regenerate-grid .ensures .1
-          ∙ newest-remade (a .shape) (s .pre .0) (a .n) (a .newest .now) (a .stamps .now) (a .grid) (a .stamp) (s .pre .2) (b .loop .k) more inside
+          ∙ newest-remade (a .shape) (s .pre .0) (a .n) (a .newest .now) (a .stamps .now) (a .grid) (a .stamp) (s .pre .3) (b .loop .k) more
           (b .loop .newest) (b .loop .stamps) (b .loop .level) (b .loop .at) (inv .6) (inv .7) (inv .2) (inv .3),
       r .regenerate-grid .ensures .2
-          ∙ stamps-remade (a .shape) (s .pre .0) (a .n) (a .newest .now) (a .stamps .now) (a .grid) (a .stamp) (s .pre .2) (b .loop .k) more inside
+          ∙ stamps-remade (a .shape) (s .pre .0) (a .n) (a .newest .now) (a .stamps .now) (a .grid) (a .stamp) (s .pre .3) (b .loop .k) more
           (b .loop .newest) (b .loop .stamps) (b .loop .level) (b .loop .at) (inv .6) (inv .7) (inv .2) (inv .3),
     )
 
@@ -106,7 +113,8 @@ regenerate-grids-spec =
     μ-loop
     shape-grids-requires
     loop-holds
-    add-regenerate-grid
+    mul-p
+    add-p
     regenerate-grid-requires
     next-level-requires
     add-k

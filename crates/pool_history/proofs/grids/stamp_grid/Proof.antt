@@ -8,27 +8,30 @@ use Rattle.pool_history.proofs.GridParts.{axes-ok, count-known, part-fi
 use Rattle.pool_history.proofs.grids.stamp_grid.Statement.{statement}
 use Rattle.pool_history.proofs.grids.stamp_grid.Tie as tie
 
-across-axis-requires : tie.Need-across-axis-requires
-across-axis-requires c κs = search needs
+across-at-requires : tie.Need-across-at-requires
+across-at-requires c κs = let s = c .before .before .before in (s .pre .1, s .pre .2)
 
-down-axis-requires : tie.Need-down-axis-requires
-down-axis-requires c κs = search needs
+down-at-requires : tie.Need-down-at-requires
+down-at-requires c κs = let s = c .before .before .before .before .before in (s .pre .1, s .pre .2)
 
 stamp-count-requires : tie.Need-stamp-count-requires
 stamp-count-requires c κs =
-    let s = c .before .before .before .before in
+    let s = c .before .before .before .before .before .before in
     let a = s .args in
-    axes-ok (a .shape) (s .pre .0) (a .level) (c .before .across-axis .result) (c .down-axis .result) (c .before .across-axis .ensures) (c .down-axis .ensures)
+    axes-ok (a .shape) (s .pre .0) (a .level) (c .before .before .across-at .result) (c .down-at .result) (c .before .before .across-at .ensures) (c .down-at .ensures)
 
 -- the count is the grid's
-counted : (c : tie.After-stamp-count) → c .stamp-count .result ≡ stampCount (tilingOf (c .before .before .before .before .before .args .shape) (c .before .before .before .before .before .args .level))
-counted c =
-    let s = c .before .before .before .before .before in
-    count-known (s .args .shape) (s .pre .0) (s .args .level) (c .before .before .across-axis .result) (c .before .down-axis .result)
-    (c .before .before .across-axis .ensures) (c .before .down-axis .ensures) (c .stamp-count .result) (c .stamp-count .ensures)
+module _ (w : tie.After-stamp-count) where
+  abbrev start : tie.Start
+  start = w .before .before .before .before .before .before .before
+
+  counted : w .stamp-count .result ≡ stampCount (tilingOf (start .args .shape) (start .args .level))
+  counted =
+      count-known (start .args .shape) (start .pre .0) (start .args .level) (w .before .before .before .across-at .result) (w .before .down-at .result)
+      (w .before .before .before .across-at .ensures) (w .before .down-at .ensures) (w .stamp-count .result) (w .stamp-count .ensures)
 
 add-end : tie.Need-add-end
-add-end c = omega (arith, counted c, c .before .before .before .before .before .pre)
+add-end c = omega (arith, counted c, start c .pre .3)
 
 mul-stamp : tie.Need-mul-stamp
 mul-stamp c = search needs
@@ -40,7 +43,7 @@ part-stamp-start : tie.Need-part-stamp-start
 part-stamp-start c = search needs
 
 part-stamp-end : tie.Need-part-stamp-end
-part-stamp-end c = omega (arith, counted c, c .before .before .before .before .before .pre)
+part-stamp-end c = omega (arith, counted c, start c .pre .3)
 
 mul-stamp-2 : tie.Need-mul-stamp-2
 mul-stamp-2 c = search needs
@@ -51,11 +54,11 @@ slice-read-stamp c = search needs
 stamp-requires : tie.Need-stamp-requires
 stamp-requires c κs =
     let b = c .before .before in
-    let s = b .before .before .before .before .before in
+    let s = start b in
     let a = s .args in
-    part-fits (a .shape) (s .pre .0) (a .level) (a .newest .now) (a .stamps .now) (a .p) (a .at) (s .pre .2) (a .at + b .stamp-count .result - a .at)
-    (b .before .before .across-axis .result) (b .before .down-axis .result) (omega (arith, counted b)) (b .before .before .across-axis .ensures)
-    (b .before .down-axis .ensures)
+    part-fits (a .shape) (s .pre .0) (a .level) (a .newest .now) (a .stamps .now) (a .p) (a .at) (s .pre .3) (a .at + b .stamp-count .result - a .at)
+    (b .before .before .before .across-at .result) (b .before .down-at .result) (omega (arith, counted b)) (b .before .before .before .across-at .ensures)
+    (b .before .down-at .ensures)
 
 mul-newest : tie.Need-mul-newest
 mul-newest c = search needs
@@ -72,23 +75,23 @@ same-length-2 c = search needs
 returns : tie.Need-returns
 returns c =
     let b = c .before .before .before .before .before in
-    let s = b .before .before .before .before .before in
+    let s = start b in
     let a = s .args in
     let d = c .before .before in
     let k = counted b in
-    let t = ap₂ tiled (b .before .before .across-axis .ensures) (b .before .down-axis .ensures) in
+    let t = ap₂ tiled (b .before .before .before .across-at .ensures) (b .before .down-at .ensures) in
     let m : a .at + b .stamp-count .result - a .at ≡ stampCount (tilingOf (a .shape) (a .level)) = omega (arith, k) in (
       ap (λ (i : ℕ). a .at + i) k,
-      newest-back (a .shape) (s .pre .0) (a .level) (a .newest .now) (a .stamps .now) (a .p) (a .at) (s .pre .2) (a .rect) (a .n) _ _ _ m t (d .stamp .ensures .0),
-      part-back (a .shape) (s .pre .0) (a .level) (a .newest .now) (a .stamps .now) (a .p) (a .at) (s .pre .2) (a .rect) (a .n) _ _ _ m t (d .stamp .ensures .1),
+      newest-back (a .shape) (s .pre .0) (a .level) (a .newest .now) (a .stamps .now) (a .p) (a .at) (s .pre .3) (a .rect) (a .n) _ _ _ m t (d .stamp .ensures .0),
+      part-back (a .shape) (s .pre .0) (a .level) (a .newest .now) (a .stamps .now) (a .p) (a .at) (s .pre .3) (a .rect) (a .n) _ _ _ m t (d .stamp .ensures .1),
     )
 
 pub stamp-grid-spec : {M : Type 1} → statement M
 stamp-grid-spec =
     tie.close
     (tie.spec
-    across-axis-requires
-    down-axis-requires
+    across-at-requires
+    down-at-requires
     stamp-count-requires
     add-end
     mul-stamp

@@ -1,13 +1,11 @@
 -- `regenerate_history` meets its contract. Assumes nothing.
-use mathlib.Core.Path.{sym, ap, _∙_, subst}
-use Prim.Native.Nat.{_+_, _≤_}
-use lib.ListN.{length}
+use mathlib.Core.Path.{ap, _∙_}
 use borrow.Author.Needs.{needs}
 use Rattle.pool_rules.specs.Model.{gridCount}
 use Rattle.pool_records.specs.declared.texture.TextureRecord.{TextureRecord}
 use Rattle.pool_history.specs.Remade.{newestWritten, stampsWritten, remadeGrids}
 use Rattle.pool_note_write.specs.History.{remadeAt}
-use Rattle.pool_note_write.proofs.AtPlace.{shape-read, stamps-read}
+use Rattle.pool_note_write.proofs.AtPlace.{shape-read, grids-read, tilings-read, stamps-read}
 use Rattle.pool_note_write.proofs.history.regenerate_history.Statement.{statement}
 use Rattle.pool_note_write.proofs.history.regenerate_history.Tie as tie
 
@@ -19,9 +17,10 @@ regenerate-grids-requires c κs =
     let s = c .before .before .before .before .before .before in
     let a = s .args in
     let read = c .before .before .texture-at .ensures in (
-      shape-read (a .textures .now) (a .stamps .now) (a .i) (s .pre .0) _ read,
-      subst (λ (t : TextureRecord). t .grid + gridCount (t .shape) ≤ length (a .newest .now)) (sym read) (s .pre .1),
-      stamps-read (a .textures .now) (a .stamps .now) (a .i) (s .pre .0) _ read,
+      shape-read (a .textures .now) (a .newest .now) (a .stamps .now) (a .i) (s .pre) _ read,
+      grids-read (a .textures .now) (a .newest .now) (a .stamps .now) (a .i) (s .pre) _ read,
+      tilings-read (a .textures .now) (a .newest .now) (a .stamps .now) (a .i) (s .pre) _ read,
+      stamps-read (a .textures .now) (a .newest .now) (a .stamps .now) (a .i) (s .pre) _ read,
     )
 
 same-length : tie.Need-same-length

@@ -1,5 +1,5 @@
 -- `stamp_subresource` meets its contract. Assumes nothing.
-use mathlib.Core.Path.{ap, _∙_}
+use mathlib.Core.Path.{_≡_, ap, _∙_}
 use Prim.Native.Nat.{ℕ, _+_, _*_, _≤_, _<_}
 use native.Mathlib.Omega.{arith}
 use lib.ListN.{length, set}
@@ -8,11 +8,11 @@ use borrow.Author.Needs.{needs}
 use Rattle.grid_stamps.specs.Grids.{tilingOf, stampCount, stampedBy}
 use Rattle.pool_rules.specs.Histories.{gridPlace}
 use Rattle.pool_rules.specs.HistorySizes.{gridStart}
-use Rattle.pool_rules.specs.RuleConstants.{mostGrids}
+use Rattle.pool_rules.specs.RuleConstants.{gridStride, mostGrids}
 use Rattle.pool_records.specs.declared.texture.TextureRecord.{TextureRecord}
 use Rattle.pool_memory.specs.Reading.{gridOn}
 use Rattle.pool_note_write.specs.History.{newestPlace, stampsPlace, stampedOn}
-use Rattle.pool_note_write.proofs.AtPlace.{within, shape-read, inside-read, place-few, place-read, start-read}
+use Rattle.pool_note_write.proofs.AtPlace.{shape-read, place-few, place-read, start-beside, edges-beside, start-read}
 use Rattle.pool_note_write.proofs.history.stamp_subresource.Statement.{statement}
 use Rattle.pool_note_write.proofs.history.stamp_subresource.Tie as tie
 
@@ -27,20 +27,34 @@ module _ (w : tie.After-texture-at) where
   abbrev place : ℕ
   place = start .args .slice * texture .shape .levels + start .args .level
 
+  abbrev p : ℕ
+  p = texture .grid + gridStride * place
+
   few : place < mostGrids
   few =
       let a = start .args in
-      place-few (a .textures .now) (a .stamps .now) (a .i) (start .pre .0) texture (w .texture-at .ensures) (a .slice) (a .level) (start .pre .2)
+      place-few (a .textures .now) (a .newest .now) (a .stamps .now) (a .i) (start .pre .0) texture (w .texture-at .ensures) (a .slice) (a .level) (start .pre .1)
 
-  below : texture .grid + place < length (start .args .newest .now)
+  below : p + 1 < length (start .args .newest .now)
   below =
       let a = start .args in
-      place-read (a .textures .now) (a .stamps .now) (a .i) (start .pre .0) texture (w .texture-at .ensures) (a .slice) (a .level) (start .pre .2) (a .newest .now) (start .pre .1)
+      place-read (a .textures .now) (a .newest .now) (a .stamps .now) (a .i) (start .pre .0) texture (w .texture-at .ensures) (a .slice) (a .level) (start .pre .1)
 
   room : texture .stamp + gridStart (texture .shape) place + stampCount (tilingOf (texture .shape) (start .args .level)) ≤ length (start .args .stamps .now)
   room =
       let a = start .args in
-      start-read (a .textures .now) (a .stamps .now) (a .i) (start .pre .0) texture (w .texture-at .ensures) (a .slice) (a .level) (start .pre .2)
+      start-read (a .textures .now) (a .newest .now) (a .stamps .now) (a .i) (start .pre .0) texture (w .texture-at .ensures) (a .slice) (a .level) (start .pre .1)
+
+-- its stamps begin where the number beside its newest stamp says
+module _ (v : tie.After-start-at) where
+  abbrev read : tie.After-texture-at
+  read = v .before .before .before .before
+
+  begun : v .start-at .result ≡ gridStart (texture read .shape) (place read)
+  begun =
+      let a = start read .args in
+      v .start-at .ensures
+      ∙ start-beside (a .textures .now) (a .newest .now) (a .stamps .now) (a .i) (start read .pre .0) (texture read) (read .texture-at .ensures) (a .slice) (a .level) (start read .pre .1)
 
 texture-at-requires : tie.Need-texture-at-requires
 texture-at-requires c κs = search needs
@@ -51,29 +65,28 @@ mul-p c = omega (arith, few (c .before .before))
 add-p : tie.Need-add-p
 add-p c = omega (arith, few (c .before .before))
 
+mul-p-2 : tie.Need-mul-p-2
+mul-p-2 c = omega (arith, few (c .before .before))
+
 add-p-2 : tie.Need-add-p-2
 add-p-2 c = omega (arith, below (c .before .before))
 
-grid-start-requires : tie.Need-grid-start-requires
-grid-start-requires c κs =
-    let w = c .before .before in
-    let s = start w in
-    let a = s .args in
-    let q =
-    within (texture w .shape) (a .slice) (a .level) (inside-read (a .textures .now) (a .stamps .now) (a .i) (s .pre .0) (texture w) (w .texture-at .ensures) (a .slice) (a .level) (s .pre .2)) in
-    (shape-read (a .textures .now) (a .stamps .now) (a .i) (s .pre .0) (texture w) (w .texture-at .ensures), q .0, q .1)
+start-at-requires : tie.Need-start-at-requires
+start-at-requires c κs = omega (arith, below (c .before .before .before))
 
 add-at : tie.Need-add-at
-add-at c = omega (arith, room (c .before .before .before), c .grid-start .ensures)
+add-at c = omega (arith, room (read c), begun c)
 
 stamp-grid-requires : tie.Need-stamp-grid-requires
 stamp-grid-requires c κs =
-    let w = c .before .before .before .before .before in
+    let v = c .before .before in
+    let w = read v in
     let s = start w in
     let a = s .args in (
-      shape-read (a .textures .now) (a .stamps .now) (a .i) (s .pre .0) (texture w) (w .texture-at .ensures),
+      shape-read (a .textures .now) (a .newest .now) (a .stamps .now) (a .i) (s .pre .0) (texture w) (w .texture-at .ensures),
       below w,
-      omega (arith, room w, c .before .before .grid-start .ensures),
+      edges-beside (a .textures .now) (a .newest .now) (a .stamps .now) (a .i) (s .pre .0) (texture w) (w .texture-at .ensures) (a .slice) (a .level) (s .pre .1),
+      omega (arith, room w, begun v),
     )
 
 same-length : tie.Need-same-length
@@ -86,22 +99,23 @@ returns : tie.Need-returns
 unfolding newestPlace stampsPlace stampedOn
 returns c =
     let b = c .before .before .before .before in
-    let w = c .before .before .before .before .before .before .before .before .before .before in
+    let v = b .before .before .before in
+    let w = read v in
     let a = start w .args in
-    let read = w .texture-at .ensures in
-    let at = ap (λ (k : ℕ). texture w .stamp + k) (b .before .before .before .grid-start .ensures) in (
+    let e = w .texture-at .ensures in
+    let at = ap (λ (k : ℕ). texture w .stamp + k) (begun v) in (
       b .stamp-grid .ensures .1
-          ∙ ap (λ (k : ℕ). set (a .newest .now) (texture w .grid + place w)
-          (stampedBy (tilingOf (texture w .shape) (a .level)) (a .rect) (a .n) (gridOn (texture w .shape) (a .level) (a .newest .now) (a .stamps .now) (texture w .grid + place w) k) .newest)) at
-          ∙ ap (λ (t : TextureRecord). set (a .newest .now) (t .grid + gridPlace (t .shape) (a .slice) (a .level))
+          ∙ ap (λ (k : ℕ). set (a .newest .now) (p w)
+          (stampedBy (tilingOf (texture w .shape) (a .level)) (a .rect) (a .n) (gridOn (texture w .shape) (a .level) (a .newest .now) (a .stamps .now) (p w) k) .newest)) at
+          ∙ ap (λ (t : TextureRecord). set (a .newest .now) (t .grid + gridStride * gridPlace (t .shape) (a .slice) (a .level))
           (stampedBy (tilingOf (t .shape) (a .level)) (a .rect) (a .n)
-          (gridOn (t .shape) (a .level) (a .newest .now) (a .stamps .now) (t .grid + gridPlace (t .shape) (a .slice) (a .level)) (t .stamp + gridStart (t .shape) (gridPlace (t .shape) (a .slice) (a .level)))) .newest)) read,
+          (gridOn (t .shape) (a .level) (a .newest .now) (a .stamps .now) (t .grid + gridStride * gridPlace (t .shape) (a .slice) (a .level)) (t .stamp + gridStart (t .shape) (gridPlace (t .shape) (a .slice) (a .level)))) .newest)) e,
       b .stamp-grid .ensures .2
           ∙ ap (λ (k : ℕ). sets (a .stamps .now) k
-          (stampedBy (tilingOf (texture w .shape) (a .level)) (a .rect) (a .n) (gridOn (texture w .shape) (a .level) (a .newest .now) (a .stamps .now) (texture w .grid + place w) k) .stamps)) at
+          (stampedBy (tilingOf (texture w .shape) (a .level)) (a .rect) (a .n) (gridOn (texture w .shape) (a .level) (a .newest .now) (a .stamps .now) (p w) k) .stamps)) at
           ∙ ap (λ (t : TextureRecord). sets (a .stamps .now) (t .stamp + gridStart (t .shape) (gridPlace (t .shape) (a .slice) (a .level)))
           (stampedBy (tilingOf (t .shape) (a .level)) (a .rect) (a .n)
-          (gridOn (t .shape) (a .level) (a .newest .now) (a .stamps .now) (t .grid + gridPlace (t .shape) (a .slice) (a .level)) (t .stamp + gridStart (t .shape) (gridPlace (t .shape) (a .slice) (a .level)))) .stamps)) read,
+          (gridOn (t .shape) (a .level) (a .newest .now) (a .stamps .now) (t .grid + gridStride * gridPlace (t .shape) (a .slice) (a .level)) (t .stamp + gridStart (t .shape) (gridPlace (t .shape) (a .slice) (a .level)))) .stamps)) e,
     )
 
 pub stamp-subresource-spec : {M : Type 1} → statement M
@@ -111,8 +125,9 @@ stamp-subresource-spec =
     texture-at-requires
     mul-p
     add-p
+    mul-p-2
     add-p-2
-    grid-start-requires
+    start-at-requires
     add-at
     stamp-grid-requires
     same-length

@@ -37,7 +37,7 @@ module _ (w : tie.After-enum-told) where
       told (here start) (fit start) (start .args .id) (w .before .before .before .find-texture .result) (w .before .before .before .find-texture .ensures) (w .before .before .history-at .result) (Writes count)
       (w .before .before .history-at .ensures) (w .enum-told .given .1)
 
-  held : HistoryAt (start .args .textures .now) (start .args .stamps .now) (w .before .before .before .find-texture .result)
+  held : HistoryAt (start .args .textures .now) (start .args .newest .now) (start .args .stamps .now) (w .before .before .before .find-texture .result)
   held = history-here (here start) (fit start) (start .args .id) (w .before .before .before .find-texture .result) (w .before .before .before .find-texture .ensures) count recording
 
 find-texture-requires : tie.Need-find-texture-requires

@@ -1,17 +1,14 @@
 -- `note_mip_regeneration` meets its contract, case by case. Assumes nothing.
-use Prim.Native.Nat.{ℕ, _+_, _≤_}
+use Prim.Native.Nat.{ℕ}
 use native.Mathlib.Omega.{arith}
-use lib.ListN.{length}
 use borrow.Author.Needs.{needs}
-use Rattle.pool_rules.specs.Model.{gridCount}
-use Rattle.pool_records.specs.Texture.{textureIn}
 use Rattle.pool_records.specs.declared.recorded.Recorded.the-variants.{Writes, NoHistory}
 use Rattle.pool_memory.specs.Lent.{Lent, lent}
 use Rattle.pool_memory.proofs.Fits.{Fits}
 use Rattle.pool_memory.proofs.FromPool.{pool-fits}
 use Rattle.pool_memory.proofs.Stays.{ids-ascend, textures-fit}
 use Rattle.pool_note_write.specs.History.{HistoryAt}
-use Rattle.pool_note_write.proofs.AtPlace.{Recording, told, history-here, grids-here}
+use Rattle.pool_note_write.proofs.AtPlace.{Recording, told, history-here}
 use Rattle.pool_note_write.proofs.RegenerationCases.{regeneration-unrecorded, regeneration-spent, left-regenerated}
 use Rattle.pool_note_write.proofs.calls.note_mip_regeneration.note_mip_regeneration.Statement.{statement}
 use Rattle.pool_note_write.proofs.calls.note_mip_regeneration.note_mip_regeneration.Tie as tie
@@ -37,13 +34,8 @@ module _ (w : tie.After-known-told) where
       told (here start) (fit start) (start .args .id) (w .before .before .before .before .before .find-texture .result) (w .before .before .before .before .before .find-texture .ensures) (w .before .before .before .history-at .result) (Writes count)
       (w .before .before .before .history-at .ensures) (w .before .history .given .1)
 
-  held : HistoryAt (start .args .textures .now) (start .args .stamps .now) (w .before .before .before .before .before .find-texture .result)
+  held : HistoryAt (start .args .textures .now) (start .args .newest .now) (start .args .stamps .now) (w .before .before .before .before .before .find-texture .result)
   held = history-here (here start) (fit start) (start .args .id) (w .before .before .before .before .before .find-texture .result) (w .before .before .before .before .before .find-texture .ensures) count recording
-
-  inside : textureIn (start .args .textures .now) (w .before .before .before .before .before .find-texture .result) .grid
-      + gridCount (textureIn (start .args .textures .now) (w .before .before .before .before .before .find-texture .result) .shape)
-      ≤ length (start .args .newest .now)
-  inside = grids-here (here start) (fit start) (start .args .id) (w .before .before .before .before .before .find-texture .result) (w .before .before .before .before .before .find-texture .ensures) count recording
 
 find-texture-requires : tie.Need-find-texture-requires
 find-texture-requires c κs = let s = c .before .before .before .before .before .before .before in (textures-fit (here s) (fit s), ids-ascend (here s) (fit s))
@@ -85,7 +77,7 @@ add-regenerate-history c = search needs
 
 regenerate-history-requires : tie.Need-regenerate-history-requires
 regenerate-history-requires c κs =
-    let w = c .before .before .before .before in (held w, inside w)
+    held (c .before .before .before .before)
 
 add-t28 : tie.Need-add-t28
 add-t28 c = search needs

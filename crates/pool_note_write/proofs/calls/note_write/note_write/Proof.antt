@@ -1,12 +1,9 @@
 -- `note_write` meets its contract, case by case. Assumes nothing.
 use mathlib.Core.Path.{sym, ap, _∙_}
-use Prim.Native.Nat.{ℕ, _+_, _≤_}
+use Prim.Native.Nat.{ℕ}
 use native.Mathlib.Omega.{arith}
 use borrow.Author.Tests.{not-true, not-false}
-use lib.ListN.{length}
 use borrow.Author.Needs.{needs}
-use Rattle.pool_rules.specs.Model.{gridCount}
-use Rattle.pool_records.specs.Texture.{textureIn}
 use Rattle.pool_rules.specs.Histories.{inShape}
 use Rattle.pool_records.specs.declared.recorded.Recorded.the-variants.{Writes, NoHistory}
 use Rattle.pool_records.specs.declared.texture.TextureRecord.{TextureRecord}
@@ -17,7 +14,7 @@ use Rattle.pool_memory.proofs.Stays.{ids-ascend, textures-fit}
 use Rattle.pool_note_write.specs.History.{HistoryAt}
 use Rattle.pool_note_write.specs.Dropped.{CanDrop}
 use Rattle.pool_note_write.specs.Counts.{withUsed}
-use Rattle.pool_note_write.proofs.AtPlace.{Recording, told, tracked-here, history-here, grids-here}
+use Rattle.pool_note_write.proofs.AtPlace.{Recording, told, tracked-here, history-here}
 use Rattle.pool_note_write.proofs.Dropped.{usedIn, can-drop}
 use Rattle.pool_note_write.proofs.WriteCases.{write-unrecorded, left-outside, left-spent, left-inside}
 use Rattle.pool_note_write.proofs.calls.note_write.note_write.Statement.{statement}
@@ -44,13 +41,8 @@ module _ (w : tie.After-known-told) where
       told (here start) (fit start) (start .args .id) (w .before .before .before .before .before .find-texture .result) (w .before .before .before .before .before .find-texture .ensures) (w .before .before .before .history-at .result) (Writes count)
       (w .before .before .before .history-at .ensures) (w .before .history .given .1)
 
-  held : HistoryAt (start .args .textures .now) (start .args .stamps .now) (w .before .before .before .before .before .find-texture .result)
+  held : HistoryAt (start .args .textures .now) (start .args .newest .now) (start .args .stamps .now) (w .before .before .before .before .before .find-texture .result)
   held = history-here (here start) (fit start) (start .args .id) (w .before .before .before .before .before .find-texture .result) (w .before .before .before .before .before .find-texture .ensures) count recording
-
-  inside : textureIn (start .args .textures .now) (w .before .before .before .before .before .find-texture .result) .grid
-      + gridCount (textureIn (start .args .textures .now) (w .before .before .before .before .before .find-texture .result) .shape)
-      ≤ length (start .args .newest .now)
-  inside = grids-here (here start) (fit start) (start .args .id) (w .before .before .before .before .before .find-texture .result) (w .before .before .before .before .before .find-texture .ensures) count recording
 
   droppable : CanDrop (start .args .textures .now) (start .args .newest .now) (start .args .stamps .now) (start .args .pool .tracked) (usedIn (here start))
       (w .before .before .before .before .before .find-texture .result)
@@ -133,7 +125,6 @@ stamp-subresource-requires c κs =
     let w = c .before .before .before .before .before .before .before .before in
     let a = start w .args in (
       held w,
-      inside w,
       ap (λ (t : TextureRecord). inShape (t .shape) (a .slice) (a .level)) (sym (c .before .before .before .before .before .before .texture-at .ensures)) ∙ sym (c .before .before .before .before .before .in-shape .ensures) ∙ not-false _ (c .before .before .before .before .if1 .left),
     )
 
