@@ -256,7 +256,7 @@ fn where_histories_stand() {
     }
 }
 
-/// One texture without levels of blocks or depths that matter: its history has only tilings, which are given by hand.
+/// One texture of a shape, its bytes and stamps, with a history without writes whose tilings are given by hand.
 fn tiled(shape: [u64; 6], bytes: u64, stamps: u64, tilings: &[u64]) -> Memory {
     let mut memory = Memory::lent(1, 1, 1);
     let record = memory.record_mut(TEXTURES, 0);
@@ -360,15 +360,24 @@ fn lengths_of_newest() {
     }
 }
 
-/// What `stored/pool.asked` has the program print of packed pools and of tilings, number by number, is what the Rust's pool is in our
-/// layout. Numbers that are free, which the Rust lacks, are left out.
-#[test]
-fn asked_dumps() {
-    compare_dumps(3, 2, "packed");
-    compare_dumps(1, 1, "tilings");
+/// The numbers of a put line, behind its word.
+fn put_numbers(put: &str) -> Vec<u64> {
+    put.split(',')
+        .map(|it| it.parse().expect("a number"))
+        .collect()
 }
 
-fn compare_dumps(textures: usize, answers: usize, name: &str) {
+/// What `stored/pool.asked` has the program print of packed pools and of tilings, number by number, is what the Rust's pool is in our
+/// layout. Numbers that are free, which the Rust lacks, are left out. Of the numbers that are put there afterwards the judge says what
+/// the answers by hand say.
+#[test]
+fn asked_dumps() {
+    assert_eq!(compare_dumps(3, 2, "packed"), (3, 26));
+    assert_eq!(compare_dumps(1, 1, "tilings"), (3, 12));
+}
+
+/// Tells how many dumps and how many answers were compared.
+fn compare_dumps(textures: usize, answers: usize, name: &str) -> (usize, usize) {
     let limits = Limits {
         textures,
         versions: 1,
@@ -380,15 +389,32 @@ fn compare_dumps(textures: usize, answers: usize, name: &str) {
     let list = asked.split("\n=,").find(|list| list.starts_with(&header));
     let mut program = Program::new(limits, false);
     let (mut expected, mut dumps) = (None, 0);
+    let (mut damaged, mut judged) = (None, 0);
     for line in list.expect("a list of that name").lines().skip(1) {
-        if line.starts_with("put,") {
-            break;
+        if let Some(put) = line.strip_prefix("put,") {
+            let memory: &mut Memory =
+                damaged.get_or_insert_with(|| program.pool().expect("open").memory(0, 0));
+            let numbers = put_numbers(put);
+            for (index, value) in (numbers[1]..).zip(&numbers[2..]) {
+                *memory.number_mut(numbers[0] as usize, index as usize) = *value;
+            }
+            continue;
+        }
+        if let Some(memory) = &damaged {
+            if let Some(answer) = line.strip_prefix("> ") {
+                assert!(answer.ends_with(" same"), "{answer}");
+                assert_eq!(
+                    faults(memory).is_empty(),
+                    answer.starts_with('0'),
+                    "{:?}",
+                    faults(memory)
+                );
+                judged += 1;
+            }
+            continue;
         }
         if let Some(put) = line.strip_prefix(">> put,") {
-            let numbers: Vec<u64> = put
-                .split(',')
-                .map(|it| it.parse().expect("a number"))
-                .collect();
+            let numbers = put_numbers(put);
             let memory = expected.get_or_insert_with(|| Memory::lent(textures, 1, 1));
             *memory.number_mut(numbers[0] as usize, numbers[1] as usize) = numbers[2];
             continue;
@@ -405,7 +431,7 @@ fn compare_dumps(textures: usize, answers: usize, name: &str) {
             program.run(line.as_bytes(), &mut Vec::new());
         }
     }
-    assert_eq!(dumps, 3);
+    (dumps, judged)
 }
 
 /// The shape that a record names, without what is only compared.
@@ -460,5 +486,103 @@ fn gaps_and_overlaps_in_the_gate() {
         ("full", full),
     ] {
         assert!(times >= 20, "{what}: {times}");
+    }
+}
+
+/// The tilings of a shape's history, worked out beside the judge: start, edge across, edge down.
+fn tilings_of(shape: &RawShape) -> Vec<[u64; 3]> {
+    let block = if matches!(shape.format, 5 | 6) { 4 } else { 1 };
+    let edge = |extent: u32| u64::from(extent.div_ceil(32).max(16).next_multiple_of(block));
+    let mut start = 0;
+    let mut tilings = Vec::new();
+    for grid in 0..shape.grids() as u32 {
+        let (width, height) = shape.level(grid % shape.levels);
+        let (across, down) = (edge(width), edge(height));
+        tilings.push([start, across, down]);
+        start += u64::from(width).div_ceil(across) * u64::from(height).div_ceil(down);
+    }
+    tilings
+}
+
+/// What is wrong with a tiling, by the tilings of its history; none if it is right.
+fn wrong_tiling(number: u64, grid: usize, history: &[[u64; 3]]) -> Option<&'static str> {
+    let [start, across, down] = history[grid];
+    let told = [number % (1 << 17), number >> 17 & 0x7fff, number >> 32];
+    let edges = [told[1], told[2]];
+    let others = history.iter().any(|other| other[1..] == edges);
+    Some(match told {
+        _ if told == history[grid] => return None,
+        _ if number >> 47 > 0 => "past 2^47",
+        _ if number < 1 << 17 => "no edges",
+        [other, ..] if edges == [across, down] && other.abs_diff(start) == 1 => "start one off",
+        [other, ..] if edges == [across, down] && history.iter().any(|it| it[0] == other) => {
+            "another grid's start"
+        }
+        _ if edges == [across, down] => "another start",
+        _ if told[0] == start && edges == [down, across] => "edges exchanged",
+        _ if told[0] == start && others => "another level's edges",
+        _ if others => "another level's tiling",
+        _ if told[0] == start && told[2] == down && told[1].abs_diff(across) == 1 => {
+            "across one off"
+        }
+        _ if told[0] == start && told[1] == across && told[2].abs_diff(down) == 1 => "down one off",
+        _ => "other edges",
+    })
+}
+
+/// Each sort of wrong tiling is in the gate, and tilings of large edges and starts are in pools.
+#[test]
+fn tilings_in_the_gate() {
+    let mut sorts: BTreeMap<&str, usize> = BTreeMap::new();
+    for seed in GATE {
+        let memory = store(seed);
+        let broken = faults(&memory);
+        if !broken.is_empty() && broken != [Condition::Tiling] {
+            continue;
+        }
+        let mut told = std::collections::BTreeSet::new();
+        for place in 0..memory.counts[TRACKED] as usize {
+            let record = memory.record(TEXTURES, place);
+            if record[HISTORY] == 0 {
+                continue;
+            }
+            let history = tilings_of(&shape_of(record));
+            for grid in 0..history.len() {
+                let number = memory.slices[NEWEST][record[FIRST_GRID] as usize + 2 * grid + 1];
+                let wrong = wrong_tiling(number, grid, &history);
+                told.extend(wrong);
+                if broken.is_empty() {
+                    let [start, across, down] = history[grid];
+                    told.extend((across == 512).then_some("pool: 512 across"));
+                    told.extend((down == 512).then_some("pool: 512 down"));
+                    told.extend((across != down).then_some("pool: edges differ"));
+                    told.extend((start >= 1 << 15).then_some("pool: start of 2^15"));
+                }
+            }
+        }
+        let wrong = told.iter().any(|what| !what.starts_with("pool"));
+        assert_eq!(wrong, !broken.is_empty(), "seed {seed}: {told:?}");
+        for what in told {
+            *sorts.entry(what).or_default() += 1;
+        }
+    }
+    for (what, least) in [
+        ("start one off", 5),
+        ("another grid's start", 5),
+        ("across one off", 5),
+        ("down one off", 5),
+        ("edges exchanged", 5),
+        ("another level's edges", 5),
+        ("another level's tiling", 5),
+        ("other edges", 5),
+        ("past 2^47", 5),
+        ("no edges", 5),
+        ("pool: 512 across", 5),
+        ("pool: 512 down", 5),
+        ("pool: edges differ", 20),
+        ("pool: start of 2^15", 2),
+    ] {
+        let times = sorts.get(what).copied().unwrap_or(0);
+        assert!(times >= least, "{what}: {times}");
     }
 }

@@ -26,7 +26,7 @@ const HEAVIEST: usize = 140;
 const SORTS: u64 = 80;
 const MOVES: usize = CONDITIONS.len();
 const TILINGS: usize = MOVES + 8;
-const LIMITS: usize = TILINGS + 2;
+const LIMITS: usize = TILINGS + 3;
 const ANY: usize = LIMITS + 12;
 
 /// Memory from a seed: a pool that one of the Rust's lists made, damaged in one of five ways.

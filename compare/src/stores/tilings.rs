@@ -5,7 +5,7 @@ use super::shapes;
 use crate::random::Random;
 
 /// How many sorts of damage there are.
-pub const SORTS: u64 = 11;
+pub const SORTS: u64 = 12;
 
 /// Pages that the largest history has room in, with some stamps left.
 const MOST_PAGES: usize = 40;
@@ -62,21 +62,21 @@ pub fn mistile(memory: &mut Memory, sort: u64, random: &mut Random) -> bool {
             ..own
         }
         .number(),
-        // The edges of another level, where they are others.
-        5 if (other.across, other.down) == (own.across, own.down) => return false,
-        5 if random.once_in(2) => other.number(),
+        // The edges of another level, where they are others, and its whole tiling.
+        5 | 6 if (other.across, other.down) == (own.across, own.down) => return false,
         5 => Tiling {
             start: own.start,
             ..other
         }
         .number(),
+        6 => other.number(),
         // Past three numbers of 17, 15 and 15 bits, which alone are the right ones.
-        6 => own.number() + (1 << (47 + random.below(17))),
-        7 => return swap_pair(memory, place, newest, own, random),
+        7 => own.number() + (1 << (47 + random.below(17))),
+        8 => return swap_pair(memory, place, newest, own, random),
         // Nothing, or what stood there before tilings did.
-        8 => random.one_of(&[0, 1, memory.slices[NEWEST][newest]]),
+        9 => random.one_of(&[0, 1, memory.slices[NEWEST][newest]]),
         // Two for each other.
-        9 => {
+        10 => {
             let second =
                 record[FIRST_GRID] as usize + STRIDES[NEWEST] * random.below(grids) as usize;
             memory.slices[NEWEST].swap(newest + 1, second + 1);
@@ -90,10 +90,10 @@ pub fn mistile(memory: &mut Memory, sort: u64, random: &mut Random) -> bool {
 
 /// One less, one more, half or double.
 fn near(number: u64, random: &mut Random) -> u64 {
-    match random.below(6) {
-        0 | 1 => number.saturating_sub(1),
-        2 | 3 => number + 1,
-        4 => number / 2,
+    match random.below(8) {
+        0..=2 => number.saturating_sub(1),
+        3..=5 => number + 1,
+        6 => number / 2,
         _ => 2 * number,
     }
 }
