@@ -197,8 +197,12 @@ pub fn next_batch<V>(pool: &TextureVersions<V>) -> usize {
     batch
 }
 
-/// A grid: its newest stamp and its stamps.
-pub type GridRow = (u64, Vec<u64>);
+/// A grid: its newest stamp, its tiles' width and height, and its stamps.
+pub struct GridRow {
+    pub newest: u64,
+    pub tile: [u64; 2],
+    pub stamps: Vec<u64>,
+}
 
 /// A spare: its view number, its held writes if known, its parking number.
 pub type SpareRow = (u64, Option<u64>, u64);
@@ -227,7 +231,11 @@ pub fn textures(pool: &TextureVersions<u64>) -> Vec<TextureRow> {
         tracking: state.epoch,
         history: (state.history.as_ref()).map(|history| {
             let grids = history.grids.iter();
-            let rows = grids.map(|grid| (grid.newest, grid.stamps.to_vec()));
+            let rows = grids.map(|grid| GridRow {
+                newest: grid.newest,
+                tile: [grid.tile_width.into(), grid.tile_height.into()],
+                stamps: grid.stamps.to_vec(),
+            });
             (history.writes, rows.collect())
         }),
         birth: state.live_birth_seq,

@@ -200,9 +200,9 @@ fn dirty(memory: &Memory, id: u64, random: &mut Random) -> (String, String) {
     let slice = random.below(if record[6] == 1 { 6 } else { 1 });
     let level = random.below(levels);
     let before = u128::from(slice) * u128::from(levels) + u128::from(level);
-    let number = record[FIRST_GRID] as usize + before as usize;
+    let newest = record[FIRST_GRID] as usize + STRIDES[NEWEST] * before as usize;
     let grids = grids(memory);
-    let grid = grids.iter().find(|grid| grid.number == number);
+    let grid = grids.iter().find(|grid| grid.newest == newest);
     let stamps = grid.expect("a pool's grid").of(&memory.slices[STAMPS]);
     let columns = grid_columns(record, level) as usize;
     // From the largest stamp that stands there once on, one tile at most is above.

@@ -3,6 +3,7 @@
 use super::judge::{self, CONDITIONS, Condition as C};
 use super::memory::*;
 use super::moves;
+use super::tilings;
 use crate::limited::Limits;
 use crate::lines::lines_of;
 use crate::lists;
@@ -19,15 +20,16 @@ const KINDS: [&str; 7] = [
 ];
 
 /// The most numbers other than 0 in a pool that is taken.
-const HEAVIEST: usize = 110;
+const HEAVIEST: usize = 140;
 
-/// Sorts of damage, by which seeds go in turn: each condition alone, those of `moves`, numbers at their limit, any numbers.
+/// Sorts of damage, by which seeds go in turn: each condition alone, those of `moves`, tilings, numbers at their limit, any numbers.
 const SORTS: u64 = 80;
 const MOVES: usize = CONDITIONS.len();
-const LIMITS: usize = MOVES + 7;
+const TILINGS: usize = MOVES + 8;
+const LIMITS: usize = TILINGS + 3;
 const ANY: usize = LIMITS + 12;
 
-/// Memory from a seed: a pool that one of the Rust's lists made, damaged in one of four ways.
+/// Memory from a seed: a pool that one of the Rust's lists made, damaged in one of five ways.
 pub fn store(seed: u64) -> Memory {
     let mut random = Random::new(seed.wrapping_mul(0x2545_f491_4f6c_dd1d));
     let sort = (seed % SORTS) as usize;
@@ -40,7 +42,13 @@ pub fn store(seed: u64) -> Memory {
                 let target = CONDITIONS[sort];
                 damage(&mut memory, target, &mut random) && is_alone(&memory, target)
             }
-            MOVES..LIMITS => moves::move_histories(&mut memory, sort - MOVES, &mut random),
+            MOVES..TILINGS => moves::move_histories(&mut memory, sort - MOVES, &mut random),
+            // Each sort of damage to a tiling in turn: some need shapes that few pools have, and would be seldom met by chance.
+            TILINGS..LIMITS => {
+                let turn = seed / SORTS * (LIMITS - TILINGS) as u64 + (sort - TILINGS) as u64;
+                tilings::mistile(&mut memory, turn % tilings::SORTS, &mut random)
+                    && is_alone(&memory, C::Tiling)
+            }
             // A number is put at its limit, and the memory is a pool still.
             LIMITS..ANY => {
                 let target = CONDITIONS[random.below(CONDITIONS.len() as u64) as usize];
@@ -176,7 +184,7 @@ fn limited(memory: &Memory, condition: C, random: &mut Random) -> Option<Limited
         C::SpareHeld => return spare(1, MOST + 1),
         C::Parking => return spare(2, MOST),
         C::TexturePlaces => (0, TRACKED, places(TEXTURES)),
-        C::GridPlaces => (0, GRIDS, places(NEWEST)),
+        C::GridPlaces => (0, GRIDS, memory.slices[NEWEST].len() as u64),
         C::VersionPlaces => (0, QUEUED, places(RETIRING) - (used - counts[QUEUED])),
         C::Head => (0, HEAD, places(RETIRING) - 1),
         C::First => (0, FIRST, places(DOOMED) - 1),
@@ -195,6 +203,9 @@ fn limited(memory: &Memory, condition: C, random: &mut Random) -> Option<Limited
 fn to_the_limit(memory: &mut Memory, condition: C, random: &mut Random) -> bool {
     if condition == C::StampPlaces {
         return moves::claim(memory, 0, random);
+    }
+    if condition == C::Tiling {
+        return tilings::widen(memory, random);
     }
     let Some((store, index, most)) = limited(memory, condition, random) else {
         return false;
@@ -240,6 +251,7 @@ fn damage(memory: &mut Memory, condition: C, random: &mut Random) -> bool {
         C::FirstGrid => moves::move_starts(memory, &[FIRST_GRID], random),
         C::FirstStamp => moves::move_starts(memory, &[FIRST_STAMP], random),
         C::Stamps | C::Newest => moves::misstamp(memory, condition, random),
+        C::Tiling => tilings::mistile(memory, random.below(tilings::SORTS), random),
         C::Cap if memory.counts[PARKED] > 0 => {
             memory.counts[CAP] = random.below(memory.counts[PARKED]);
             true
@@ -290,13 +302,14 @@ fn lend_odd(memory: &mut Memory, random: &mut Random) -> bool {
     let slice = random.below(6) as usize;
     let numbers = memory.slices[slice].len();
     if slice == NEWEST && random.once_in(2) {
-        // One a page, ninety a texture, one a stamp: where that is another number.
+        // One number a grid; two a page, two for ninety grids a texture, two a stamp: where that is another number.
         let other = [
-            memory.places(STAMPS),
-            90 * memory.places(TEXTURES),
-            memory.slices[STAMPS].len(),
+            numbers / 2,
+            2 * memory.places(STAMPS),
+            2 * MOST_GRIDS * memory.places(TEXTURES),
+            2 * memory.slices[STAMPS].len(),
         ];
-        memory.slices[NEWEST].resize(other[random.below(3) as usize], 0);
+        memory.slices[NEWEST].resize(other[random.below(4) as usize], 0);
         return true;
     }
     let by = match random.below(3) {
@@ -333,7 +346,7 @@ fn mix_ids(memory: &mut Memory, random: &mut Random) -> bool {
     true
 }
 
-/// One more or one less of what is counted or summed.
+/// One more or one less of what is counted or summed; of the numbers of `newest` also a whole grid's two.
 fn miscount(memory: &mut Memory, condition: C, random: &mut Random) -> bool {
     let step = |number: u64, up: bool| {
         if up {
@@ -346,6 +359,9 @@ fn miscount(memory: &mut Memory, condition: C, random: &mut Random) -> bool {
     let place = random.below(memory.counts[TRACKED].max(1)) as usize;
     let whole = random.once_in(2);
     match condition {
+        C::Grids if whole => {
+            memory.counts[GRIDS] = step(step(memory.counts[GRIDS], up), up);
+        }
         C::Grids => memory.counts[GRIDS] = step(memory.counts[GRIDS], up),
         C::GridStamps => memory.counts[STAMPED] = step(memory.counts[STAMPED], up),
         C::Spares if whole => memory.counts[KEPT] = step(memory.counts[KEPT], up),

@@ -42,7 +42,7 @@ pub fn write_pool(
     memory.book = inspect::book(pool);
 }
 
-/// Writes one texture: its record, its spares and its grids after those of the textures before it.
+/// Writes one texture: its record, its spares and its grids, each with its tiling, after those of the textures before it.
 fn write_texture(memory: &mut Memory, place: usize, row: &TextureRow) {
     for (view, held, parked) in &row.spares {
         let at = memory.counts[KEPT] as usize;
@@ -53,15 +53,21 @@ fn write_texture(memory: &mut Memory, place: usize, row: &TextureRow) {
         memory.counts[KEPT] += 1;
     }
     let (first_grid, first_stamp) = (memory.counts[GRIDS], memory.counts[STAMPED]);
-    for (newest, stamps) in row.history.iter().flat_map(|(_, grids)| grids) {
-        let (grid, at) = (
+    for grid in row.history.iter().flat_map(|(_, grids)| grids) {
+        let (newest, at) = (
             memory.counts[GRIDS] as usize,
             memory.counts[STAMPED] as usize,
         );
-        memory.slices[NEWEST][grid] = *newest;
-        memory.slices[STAMPS][at..][..stamps.len()].copy_from_slice(stamps);
-        memory.counts[GRIDS] += 1;
-        memory.counts[STAMPED] += stamps.len() as u64;
+        // The edges are the Rust's own, so that the judge's are held to them.
+        let tiling = Tiling {
+            start: memory.counts[STAMPED] - first_stamp,
+            across: grid.tile[0],
+            down: grid.tile[1],
+        };
+        memory.slices[NEWEST][newest..][..2].copy_from_slice(&[grid.newest, tiling.number()]);
+        memory.slices[STAMPS][at..][..grid.stamps.len()].copy_from_slice(&grid.stamps);
+        memory.counts[GRIDS] += 2;
+        memory.counts[STAMPED] += grid.stamps.len() as u64;
     }
     let record = memory.record_mut(TEXTURES, place);
     record[0] = row.id;

@@ -7,7 +7,9 @@
 use std::collections::BTreeSet;
 
 use super::memory::*;
-use super::shapes::{grid_count, grids, passes_2, shape_bytes, stamp_count, tracked};
+use super::shapes::{
+    grids, newest_count, passes_2, placed_tilings, shape_bytes, stamp_count, tracked,
+};
 
 /// 2^48: no count and no submission is larger.
 const MOST: u64 = 1 << 48;
@@ -62,6 +64,8 @@ pub enum Condition {
     // "no stamp passes its texture's write count", "each grid's newest is its largest stamp".
     Stamps,
     Newest,
+    // Beside it: where the grid begins among its history's stamps, and 01's "Tile edge" of its level's width and height.
+    Tiling,
     // "spares belong to tracked textures and have their bytes".
     Spares,
     Bytes,
@@ -83,7 +87,7 @@ pub enum Condition {
 use Condition as C;
 
 /// All of them.
-pub const CONDITIONS: [Condition; 45] = [
+pub const CONDITIONS: [Condition; 46] = [
     C::Places,
     C::Lengths,
     C::TexturePlaces,
@@ -118,6 +122,7 @@ pub const CONDITIONS: [Condition; 45] = [
     C::FirstStamp,
     C::Stamps,
     C::Newest,
+    C::Tiling,
     C::Spares,
     C::Bytes,
     C::RetiredBytes,
@@ -131,9 +136,9 @@ pub const CONDITIONS: [Condition; 45] = [
     C::Mark,
 ];
 
-/// The one that is never broken alone. `newest` has ninety numbers a texture place, or one a stamp. As many grids as the records
-/// have are at most ninety a texture, and none has no stamp: where they are those counted, and their stamps within those lent, they
-/// have room.
+/// The one that is never broken alone. `newest` has two numbers for each of ninety grids a texture place, or of one a stamp. As many
+/// grids as the records have are at most ninety a texture, and none has no stamp: where they are those counted, and their stamps
+/// within those lent, they have room.
 pub const NEVER_ALONE: Condition = C::GridPlaces;
 
 impl Condition {
@@ -182,7 +187,7 @@ fn lent_faults(memory: &Memory, broken: &mut BTreeSet<Condition>) {
     let whole = (0..6).all(|at| memory.slices[at].len() % STRIDES[at] == 0);
     let fit = memory.places(DOOMED) == versions
         && memory.places(SPARES) == versions
-        && memory.slices[NEWEST].len() == memory.newest_places();
+        && memory.slices[NEWEST].len() == memory.newest_length();
     ask(broken, C::Lengths, whole && fit);
     let places = 1..=MOST_PLACES;
     let lent = places.contains(&memory.places(TEXTURES))
@@ -199,8 +204,8 @@ fn count_faults(memory: &Memory, broken: &mut BTreeSet<Condition>) {
         C::TexturePlaces,
         counts[TRACKED] <= places(TEXTURES),
     );
-    ask(broken, C::GridPlaces, counts[GRIDS] <= places(NEWEST));
-    let stamps = memory.slices[STAMPS].len() as u64;
+    let [newest, stamps] = [NEWEST, STAMPS].map(|at| memory.slices[at].len() as u64);
+    ask(broken, C::GridPlaces, counts[GRIDS] <= newest);
     ask(broken, C::StampPlaces, counts[STAMPED] <= stamps);
     ask(broken, C::Head, counts[HEAD] < places(RETIRING));
     ask(broken, C::First, counts[FIRST] < places(DOOMED));
@@ -249,8 +254,8 @@ fn texture_faults(memory: &Memory, broken: &mut BTreeSet<Condition>) {
     }
 }
 
-/// The grids and stamps of the histories stand one behind the other in the order of the records, and a record has how many stand
-/// before its own, also where it has none.
+/// The grids and stamps of the histories stand one behind the other in the order of the records, and a record has how many numbers of
+/// `newest` and how many stamps stand before its own, also where it has none.
 fn start_faults(memory: &Memory, broken: &mut BTreeSet<Condition>) {
     let (mut grids, mut stamps) = (0, 0);
     for record in tracked(memory) {
@@ -264,7 +269,7 @@ fn start_faults(memory: &Memory, broken: &mut BTreeSet<Condition>) {
             C::FirstStamp,
             u128::from(record[FIRST_STAMP]) == stamps,
         );
-        grids += grid_count(record);
+        grids += newest_count(record);
         stamps += stamp_count(record);
     }
     ask(broken, C::Grids, u128::from(memory.counts[GRIDS]) == grids);
@@ -280,8 +285,12 @@ fn grid_faults(memory: &Memory, broken: &mut BTreeSet<Condition>) {
         let stamps = grid.of(&memory.slices[STAMPS]);
         let largest = *stamps.iter().max().expect("a level has a tile");
         ask(broken, C::Stamps, largest <= grid.writes);
-        let newest = memory.slices[NEWEST][grid.number];
+        let newest = memory.slices[NEWEST][grid.newest];
         ask(broken, C::Newest, newest == largest);
+    }
+    for (at, tiling) in placed_tilings(memory) {
+        let number = memory.slices[NEWEST][at];
+        ask(broken, C::Tiling, number == tiling.number());
     }
 }
 

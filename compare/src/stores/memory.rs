@@ -2,11 +2,11 @@
 
 use crate::text::push_field;
 
-/// Numbers that a place has in each of the six slices; stamps are lent by the page.
-pub const STRIDES: [usize; 6] = [22, 7, 2, 3, 1, 1_024];
+/// Numbers that a place has in each of the six slices: in `newest` a grid's newest stamp and its tiling; stamps are lent by the page.
+pub const STRIDES: [usize; 6] = [22, 7, 2, 3, 2, 1_024];
 
 /// The most grids of a history: six slices of fifteen levels.
-const MOST_GRIDS: usize = 90;
+pub const MOST_GRIDS: usize = 90;
 
 /// The six slices, by their place in `Memory::slices`.
 pub const TEXTURES: usize = 0;
@@ -16,7 +16,7 @@ pub const SPARES: usize = 3;
 pub const NEWEST: usize = 4;
 pub const STAMPS: usize = 5;
 
-/// The counts, by their place in `Memory::counts`.
+/// The counts, by their place in `Memory::counts`. `GRIDS` counts numbers of `newest`, two for each grid.
 pub const TRACKED: usize = 0;
 pub const KEPT: usize = 1;
 pub const GRIDS: usize = 2;
@@ -38,7 +38,7 @@ pub const SLOT: usize = 8;
 pub const PRESSED: usize = 9;
 pub const EXCESS: usize = 10;
 
-/// What a texture's record has behind its id and the twelve numbers of its shape.
+/// What a texture's record has behind its id and the twelve numbers of its shape. `FIRST_GRID` is a place in `newest`.
 pub const TRACKING: usize = 13;
 pub const HISTORY: usize = 14;
 pub const BIRTH: usize = 15;
@@ -48,6 +48,21 @@ pub const OWN_SPARES: usize = 18;
 pub const BYTES: usize = 19;
 pub const FIRST_GRID: usize = 20;
 pub const FIRST_STAMP: usize = 21;
+
+/// What stands in `newest` behind a grid's newest stamp: how many stamps of its history stand before its own, and its tiles' edges.
+#[derive(Clone, Copy, Debug, PartialEq, Eq)]
+pub struct Tiling {
+    pub start: u64,
+    pub across: u64,
+    pub down: u64,
+}
+
+impl Tiling {
+    /// The three in one number: the start below 2^17, the edge across below 2^32, the edge down above.
+    pub const fn number(&self) -> u64 {
+        self.start + (self.across << 17) + (self.down << 32)
+    }
+}
 
 /// The most values that one put line has behind its store and index.
 const MOST_VALUES: usize = 14;
@@ -63,8 +78,8 @@ pub struct Memory {
 impl Memory {
     /// Zeros, with this many places.
     pub fn lent(textures: usize, versions: usize, pages: usize) -> Self {
-        let newest = newest_places(textures, STRIDES[STAMPS] * pages);
-        let places = [textures, versions, versions, versions, newest, pages];
+        let grids = grid_places(textures, STRIDES[STAMPS] * pages);
+        let places = [textures, versions, versions, versions, grids, pages];
         let slices = std::array::from_fn(|at| vec![0; STRIDES[at] * places[at]]);
         Self {
             counts: [0; 15],
@@ -74,8 +89,8 @@ impl Memory {
     }
 
     /// Numbers that `newest` is to have, by the textures and stamps that are lent.
-    pub fn newest_places(&self) -> usize {
-        newest_places(self.places(TEXTURES), self.slices[STAMPS].len())
+    pub fn newest_length(&self) -> usize {
+        STRIDES[NEWEST] * grid_places(self.places(TEXTURES), self.slices[STAMPS].len())
     }
 
     /// Whole places of a slice.
@@ -161,8 +176,8 @@ impl Memory {
     }
 }
 
-/// One number for each grid that there can be: no more than ninety a texture, nor than stamps.
-fn newest_places(textures: usize, stamps: usize) -> usize {
+/// How many grids there can be: no more than ninety a texture, nor than stamps.
+fn grid_places(textures: usize, stamps: usize) -> usize {
     (MOST_GRIDS * textures).min(stamps)
 }
 

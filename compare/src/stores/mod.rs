@@ -8,3 +8,4 @@ pub mod lines;
 pub mod memory;
 mod moves;
 mod shapes;
+mod tilings;

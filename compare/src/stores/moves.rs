@@ -5,6 +5,7 @@ use super::damage::past;
 use super::judge::{self, Condition as C};
 use super::memory::*;
 use super::shapes;
+use super::tilings;
 use crate::lists::sized;
 use crate::random::Random;
 
@@ -38,11 +39,14 @@ pub fn move_histories(memory: &mut Memory, sort: usize, random: &mut Random) -> 
             let by = random.one_of(&[1, u64::MAX]);
             for at in place + 1..memory.counts[TRACKED] as usize {
                 let record = memory.record_mut(TEXTURES, at);
-                record[FIRST_GRID] = record[FIRST_GRID].wrapping_add(by);
+                record[FIRST_GRID] = record[FIRST_GRID].wrapping_add(by.wrapping_mul(2));
                 record[FIRST_STAMP] = record[FIRST_STAMP].wrapping_add(by);
             }
-            memory.counts[GRIDS] = memory.counts[GRIDS].wrapping_add(by);
+            memory.counts[GRIDS] = memory.counts[GRIDS].wrapping_add(by.wrapping_mul(2));
             memory.counts[STAMPED] = memory.counts[STAMPED].wrapping_add(by);
+            if random.once_in(2) {
+                tilings::put_tilings(memory);
+            }
             return judge::faults(memory).contains(&C::Grids);
         }
         // A history that comes or goes, all else as it was; or numbers that were kept from before one went.
@@ -56,15 +60,28 @@ pub fn move_histories(memory: &mut Memory, sort: usize, random: &mut Random) -> 
             if random.once_in(2) {
                 recount(memory);
             }
+            if random.once_in(2) {
+                tilings::put_tilings(memory);
+            }
             return judge::faults(memory).contains(&C::FirstStamp)
                 || judge::faults(memory).contains(&C::GridStamps);
         }
         // Histories past the end of stamps that are not lent at all.
-        _ => {
+        6 => {
             if !memory.slices[STAMPS].is_empty() || !claim(memory, 1 + random.below(9), random) {
                 return false;
             }
             &[C::GridPlaces, C::StampPlaces]
+        }
+        // The newest stamp where the tiling is to stand, and the tiling in its place.
+        _ => {
+            let grids = shapes::grids(memory);
+            if grids.is_empty() {
+                return false;
+            }
+            let newest = grids[random.below(grids.len() as u64) as usize].newest;
+            memory.slices[NEWEST].swap(newest, newest + 1);
+            &[C::Newest, C::Tiling]
         }
     };
     judge::faults(memory) == broken
@@ -80,7 +97,7 @@ pub fn claim(memory: &mut Memory, past: u64, random: &mut Random) -> bool {
     }
     let place = found[random.below(found.len() as u64) as usize];
     let lent = memory.slices[STAMPS].len() as u64;
-    let others = memory.counts[STAMPED] - own_stamps(memory, place);
+    let others = memory.counts[STAMPED] - own_count(memory, FIRST_STAMP, place);
     let Some(shape) = sized::exactly(random, lent - others + past) else {
         return false;
     };
@@ -93,19 +110,11 @@ pub fn claim(memory: &mut Memory, past: u64, random: &mut Random) -> bool {
     record[6] = shape.kind;
     record[HISTORY] = record[HISTORY].max(1);
     record[BYTES] = shapes::shape_bytes(record);
-    memory.slices[NEWEST].fill(0);
-    memory.slices[STAMPS].fill(0);
-    let (mut grids, mut stamps) = (0, 0);
-    for place in 0..tracked {
-        let record = memory.record_mut(TEXTURES, place);
-        (record[FIRST_GRID], record[FIRST_STAMP]) = (grids, stamps);
-        (grids, stamps) = claimed_ends(memory, place);
-    }
-    recount(memory);
+    tilings::stand_anew(memory);
     true
 }
 
-/// Counts the grids and stamps that end behind the last record's.
+/// Counts the numbers of `newest` and the stamps up to the end of the last record's.
 fn recount(memory: &mut Memory) {
     let last = memory.counts[TRACKED] as usize - 1;
     (memory.counts[GRIDS], memory.counts[STAMPED]) = claimed_ends(memory, last);
@@ -114,15 +123,10 @@ fn recount(memory: &mut Memory) {
 /// Where the record has its grids and its stamps end.
 fn claimed_ends(memory: &Memory, place: usize) -> (u64, u64) {
     let record = memory.record(TEXTURES, place);
-    let grids = shapes::grid_count(record) as u64;
     (
-        record[FIRST_GRID].wrapping_add(grids),
-        record[FIRST_STAMP].wrapping_add(own_stamps(memory, place)),
+        record[FIRST_GRID].wrapping_add(own_count(memory, FIRST_GRID, place)),
+        record[FIRST_STAMP].wrapping_add(own_count(memory, FIRST_STAMP, place)),
     )
-}
-
-fn own_stamps(memory: &Memory, place: usize) -> u64 {
-    shapes::stamp_count(memory.record(TEXTURES, place)) as u64
 }
 
 /// Moves where histories begin, from one record on or of one alone, by the numbers of the record given: up or down, and mostly what
@@ -142,21 +146,58 @@ pub fn move_starts(memory: &mut Memory, numbers: &[usize], random: &mut Random) 
     let up = random.once_in(6);
     let fresh = random.once_in(if up { 3 } else { 2 });
     if fresh {
-        memory.slices[NEWEST].fill(0);
-        memory.slices[STAMPS].fill(0);
+        tilings::unstamp(memory);
     }
-    let by = match random.below(4) {
-        0 | 1 => 1,
-        2 => 1 + random.below(16),
-        // Just where the neighbour begins or ends, which a history of the same size would not tell.
-        _ => own_stamps(memory, place).max(1),
-    };
+    // Two histories of the same shape, the second to stand where the first does: their tilings do not tell.
+    let twin = !up && random.once_in(2);
+    if twin && !make_twin(memory, place) {
+        return false;
+    }
+    let (part, some) = (random.below(4), 1 + random.below(16));
     for number in numbers {
+        // By whole grids, but sometimes so that the two numbers of a grid change their places.
+        let unit = match *number {
+            FIRST_GRID if !random.once_in(4) => 2,
+            _ => 1,
+        };
+        let by = match part {
+            // Just where the neighbour begins or ends, which a history of the same size would not tell.
+            3 => own_count(memory, *number, place).max(unit),
+            _ if twin => own_count(memory, *number, place).max(unit),
+            2 => unit * some,
+            _ => unit,
+        };
         if !move_start(memory, *number, place..last + 1, by, up) {
             return false;
         }
     }
     true
+}
+
+/// How many numbers of `newest` or stamps the record's history has, by the number of the record that says where they begin.
+fn own_count(memory: &Memory, number: usize, place: usize) -> u64 {
+    let record = memory.record(TEXTURES, place);
+    if number == FIRST_GRID {
+        shapes::newest_count(record) as u64
+    } else {
+        shapes::stamp_count(record) as u64
+    }
+}
+
+/// Gives a texture without spares the shape of the one before it, and both a history; all stamps are 0 then.
+fn make_twin(memory: &mut Memory, place: usize) -> bool {
+    if place == 0 || memory.record(TEXTURES, place)[OWN_SPARES] != 0 {
+        return false;
+    }
+    let before = memory.record_mut(TEXTURES, place - 1);
+    before[HISTORY] = before[HISTORY].max(1);
+    let (shape, bytes) = (before[1..13].to_vec(), before[BYTES]);
+    let record = memory.record_mut(TEXTURES, place);
+    record[1..13].copy_from_slice(&shape);
+    record[HISTORY] = record[HISTORY].max(1);
+    record[BYTES] = bytes;
+    tilings::stand_anew(memory);
+    judge::faults(memory).is_empty()
 }
 
 /// The records' number `by` more or less, and what stands in the store from there on.
@@ -204,21 +245,21 @@ pub fn misstamp(memory: &mut Memory, condition: C, random: &mut Random) -> bool 
         1 => 0,
         _ => random.below(grid.stamps as u64) as usize,
     };
-    let (at, newest) = (grid.first + tile, memory.slices[NEWEST][grid.number]);
+    let (at, newest) = (grid.first + tile, memory.slices[NEWEST][grid.newest]);
     if condition == C::Stamps {
         let stamp = past(grid.writes, random);
         memory.slices[STAMPS][at] = stamp;
-        memory.slices[NEWEST][grid.number] = stamp;
+        memory.slices[NEWEST][grid.newest] = stamp;
         return true;
     }
     match random.below(4) {
-        0 => memory.slices[NEWEST][grid.number] = newest.wrapping_sub(1),
-        1 => memory.slices[NEWEST][grid.number] = newest + 1,
+        0 => memory.slices[NEWEST][grid.newest] = newest.wrapping_sub(1),
+        1 => memory.slices[NEWEST][grid.newest] = newest + 1,
         2 => memory.slices[STAMPS][at] = (newest + 1).min(grid.writes),
         // The newest stamp of another grid.
         _ => {
             let other = &grids[random.below(grids.len() as u64) as usize];
-            memory.slices[NEWEST].swap(grid.number, other.number);
+            memory.slices[NEWEST].swap(grid.newest, other.newest);
         }
     }
     true

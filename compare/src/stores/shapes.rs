@@ -13,11 +13,16 @@ fn slices(record: &[u64]) -> u64 {
 }
 
 /// Grids of a texture's history, if it has one: one for each slice and level.
-pub fn grid_count(record: &[u64]) -> u128 {
+fn grid_count(record: &[u64]) -> u128 {
     if record[HISTORY] == 0 {
         return 0;
     }
     u128::from(slices(record)) * u128::from(record[5])
+}
+
+/// Numbers of `newest` that a texture's history has: two for each grid.
+pub fn newest_count(record: &[u64]) -> u128 {
+    2 * grid_count(record)
 }
 
 /// Stamps of a texture's history, if it has one: of each grid the columns times the rows. Levels past the 64th have one tile, as
@@ -77,10 +82,14 @@ pub fn shape_bytes(record: &[u64]) -> u64 {
     (0..record[5]).map(level_bytes).sum::<u64>() * slices(record)
 }
 
-/// "extent / 32 rounded up, at least 16, raised to a multiple of the block edge"; tiles of that edge along the extent.
+/// "extent / 32 rounded up, at least 16, raised to a multiple of the block edge".
+fn tile_edge(extent: u64, block: u64) -> u64 {
+    extent.div_ceil(32).max(16).next_multiple_of(block)
+}
+
+/// Tiles of that edge along the extent.
 fn tiles(extent: u64, block: u64) -> u64 {
-    let edge = extent.div_ceil(32).max(16).next_multiple_of(block);
-    extent.div_ceil(edge)
+    extent.div_ceil(tile_edge(extent, block))
 }
 
 /// Stamps of a level's grid. A format past 8 is taken for one with blocks of one texel.
@@ -97,10 +106,45 @@ fn block_edge(record: &[u64]) -> u64 {
     if matches!(record[1], 5 | 6) { 4 } else { 1 }
 }
 
-/// A grid where its texture's record has it: its number, its first stamp, how many there are, and the texture's writes.
+/// The tilings of a history's grids, slice by slice, level by level: each begins where the grid before it ends. The shape passes 2.
+pub fn tilings(record: &[u64]) -> Vec<Tiling> {
+    let block = block_edge(record);
+    let mut start = 0;
+    let mut tilings = Vec::new();
+    for _ in 0..slices(record) {
+        for level in 0..record[5] {
+            tilings.push(Tiling {
+                start,
+                across: tile_edge(level_extent(record[2], level), block),
+                down: tile_edge(level_extent(record[3], level), block),
+            });
+            start += grid_stamps(record, level);
+        }
+    }
+    tilings
+}
+
+/// Where in `newest` the tiling of each grid is to stand, and which it is: texture by texture, without those that the records have
+/// past its end. All shapes pass 2.
+pub fn placed_tilings(memory: &Memory) -> Vec<(usize, Tiling)> {
+    let length = memory.slices[NEWEST].len() as u128;
+    let mut placed = Vec::new();
+    for record in tracked(memory).filter(|record| record[HISTORY] != 0) {
+        for (grid, tiling) in tilings(record).into_iter().enumerate() {
+            let at = u128::from(record[FIRST_GRID]) + 2 * grid as u128 + 1;
+            if at < length {
+                placed.push((at as usize, tiling));
+            }
+        }
+    }
+    placed
+}
+
+/// A grid where its texture's record has it: the place of its newest stamp, its first stamp, how many there are, and the texture's
+/// writes.
 pub struct Grid {
     pub writes: u64,
-    pub number: usize,
+    pub newest: usize,
     pub first: usize,
     pub stamps: usize,
 }
@@ -117,23 +161,23 @@ impl Grid {
 pub fn grids(memory: &Memory) -> Vec<Grid> {
     let mut grids = Vec::new();
     for record in tracked(memory).filter(|record| record[HISTORY] != 0) {
-        let mut number = u128::from(record[FIRST_GRID]);
+        let mut newest = u128::from(record[FIRST_GRID]);
         let mut first = u128::from(record[FIRST_STAMP]);
         for _ in 0..slices(record) {
             for level in 0..record[5] {
                 let stamps = grid_stamps(record, level);
                 let end = first + u128::from(stamps);
-                if number < memory.slices[NEWEST].len() as u128
+                if newest < memory.slices[NEWEST].len() as u128
                     && end <= memory.slices[STAMPS].len() as u128
                 {
                     grids.push(Grid {
                         writes: record[HISTORY] - 1,
-                        number: number as usize,
+                        newest: newest as usize,
                         first: first as usize,
                         stamps: stamps as usize,
                     });
                 }
-                (number, first) = (number + 1, end);
+                (newest, first) = (newest + 2, end);
             }
         }
     }
