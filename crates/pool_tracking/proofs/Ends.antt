@@ -2,27 +2,23 @@
 use mathlib.Core.Path.{_≡_, refl, sym, ap, ap₂, _∙_}
 use mathlib.Core.Bool.{Bool, true, false, cond}
 use mathlib.Core.List.{List}
-use Prim.Native.Nat.{ℕ, suc, _+_, _*_, _-_, _≤_, _<_}
-use native.Mathlib.Numerals.{add-one}
+use Prim.Native.Nat.{ℕ, suc, _+_, _*_, _≤_, _<_}
 use native.Mathlib.Omega.{arith}
 use borrow.Author.Tests.{lt-ltb, le-ltb, ltb-true, ltb-false}
 use lib.Dec.{ltb}
 use lib.ListN.{length, getD}
-use lib.Seq.{take-all}
-use Rattle.base_blocks.specs.Lists.{total}
 use Rattle.pool_records.specs.RecordConstants.{textureStride, textureGridAt, textureStampAt}
 use Rattle.pool_records.specs.Texture.{textureIn, recordGrids, recordStamps}
 use Rattle.pool_records.specs.Starts.{gridEnd, stampEnd, gridsHeld, stampsHeld}
 use Rattle.pool_records.proofs.Starts.{grid-number, stamp-number}
 use Rattle.pool_memory.specs.declared.pool.Pool.{Pool as Counts}
 use Rattle.pool_memory.specs.Lent.{Lent}
-use Rattle.pool_memory.specs.Reading.{trackedRecords}
 use Rattle.pool_memory.proofs.Fits.{Fits}
-use Rattle.pool_memory.proofs.Runs.{firstGrid, firstStamp, tracked-records}
+use Rattle.pool_memory.proofs.Runs.{firstGrid, firstStamp}
 use Rattle.pool_memory.proofs.HistoryRuns.{grid-last, grid-next, stamp-last, stamp-next, stamp-bound}
 use Rattle.pool_memory.proofs.Starts.{grid-end-at, stamp-end-at}
 use Rattle.pool_memory.proofs.Tracked.{record-read, grid-at, stamp-at}
-use Rattle.pool_tracking.specs.Refusal.{mostStamps}
+use Rattle.pool_tracking.specs.Refusal.{mostNewest, mostStamps}
 use Rattle.pool_tracking.specs.Cases.{recordOf}
 use Rattle.pool_tracking.specs.Start.{firstOf, firstAt}
 
@@ -48,7 +44,7 @@ module _ (l : Lent) (f : Fits l) where
   pub stamps-most : length (l .stamps) ≤ mostStamps
   stamps-most = omega (arith, f .stamps, f .most-pages)
 
-  pub newest-most : length (l .newest) ≤ mostStamps
+  pub newest-most : length (l .newest) ≤ mostNewest
   newest-most = omega (arith, f .newest, stamps-most)
 
   -- a texture put in at place i

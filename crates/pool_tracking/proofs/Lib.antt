@@ -2,6 +2,8 @@ pub mod Refusals
 pub mod Counts
 pub mod Tracked
 pub mod Ends
+pub mod StartsBehind
+pub mod FreshNumbers
 pub mod Trackings
 pub mod Started
 pub mod Renewable

@@ -16,7 +16,7 @@ use Rattle.pool_memory.specs.Lent.{Lent}
 use Rattle.pool_tracking.specs.declared.begun.NewTracking.{NewTracking}
 use Rattle.pool_tracking.specs.declared.holding.Holding.{Holding}
 use Rattle.pool_tracking.specs.Begun.{freshGrids, newRecord}
-use Rattle.pool_tracking.specs.Refusal.{mostStamps}
+use Rattle.pool_tracking.specs.Refusal.{mostNewest, mostStamps}
 use Rattle.pool_tracking.specs.Holdings.{gridShift, stampShift, recordRenewed}
 
 -- what the code asks of a pool in which a texture's tracking is renewed
@@ -39,7 +39,7 @@ pub record Renewable (l : Lent) (new : NewTracking) (hold : Holding) : Type 0 wh
   pub stamps : hold .stamp + hold .stamps ≤ l .pool .stamps
   pub stamps-used : l .pool .stamps ≤ length (l .stamps)
   pub stamps-room : l .pool .stamps + new .stamps ≤ length (l .stamps) + hold .stamps
-  pub newest-most : length (l .newest) ≤ mostStamps
+  pub newest-most : length (l .newest) ≤ mostNewest
   pub stamps-most : length (l .stamps) ≤ mostStamps
   pub moves : (fresh : ℕ) → fresh ≡ freshGrids (new .shape) (new .records)
       → StartsMove (gridShift hold fresh) (stampShift hold new) (new .place + 1) (l .pool .tracked) (recordRenewed (l .textures) new (l .pool .trackings + 1) hold)

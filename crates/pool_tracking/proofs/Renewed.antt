@@ -17,7 +17,7 @@ use Rattle.grid_shapes.specs.Shapes.{isShape, sameShape, bytesOf}
 use Rattle.grid_shapes.specs.ShapeConstants.{mostShapeBytes}
 use Rattle.grid_shapes.proofs.ShapeBytes.{bytes-bound}
 use Rattle.pool_rules.specs.Model.{Spare, Doomed, VersionState, PoolModel, find, doomedBytes, accepted}
-use Rattle.pool_rules.specs.RuleConstants.{mostPlaces}
+use Rattle.pool_rules.specs.RuleConstants.{gridStride, mostPlaces}
 use Rattle.pool_rules.specs.HistorySizes.{newestUsed, stampsUsed}
 use Rattle.pool_rules.specs.Formed.{Formed}
 use Rattle.pool_rules.specs.Updates.{withTextures, withTrackings, change, asDoomed, doomSpares}
@@ -31,10 +31,11 @@ use Rattle.pool_records.specs.RecordConstants.{doomedStride, retiringStride, sp
 use Rattle.pool_records.specs.Texture.{writeTexture, recordGrids, recordStamps}
 use Rattle.pool_records.specs.Starts.{startsMoved, StartsMove}
 use Rattle.pool_records.specs.Doomed.{writeDoomed}
+use Rattle.pool_records.specs.Tilings.{freshFrom}
 use Rattle.pool_memory.specs.declared.pool.Pool.{Pool as Counts}
 use Rattle.pool_memory.specs.Lent.{Lent, lent, versionPlaces}
 use Rattle.pool_memory.specs.Reading.{spareRead, stateRead, modelOf}
-use Rattle.pool_memory.specs.Writing.{doomedRecord, everySpare, newestOf, stampsOf, texturesAfter, sparesAfter, doomedAfter, newestAfter, stampsAfter, poolAfter, lentAfter}
+use Rattle.pool_memory.specs.Writing.{doomedRecord, everySpare, texturesAfter, sparesAfter, doomedAfter, newestAfter, stampsAfter, poolAfter, lentAfter}
 use Rattle.pool_memory.specs.Calls.{answer, takenOf, takeSpareOn}
 use Rattle.pool_memory.proofs.Fits.{Fits}
 use Rattle.pool_memory.proofs.FromPool.{pool-fits}
@@ -45,7 +46,7 @@ use Rattle.pool_memory.proofs.Stays.{put-together, book-stays, ids-ascend, text
 use Rattle.pool_memory.proofs.Places.{changed}
 use Rattle.pool_memory.proofs.Changes.{sparesBefore, every-emptied, spares-removed}
 use Rattle.pool_memory.proofs.HistoryRuns.{gridCountAt, stampCountAt, grids-in, stamps-in, newest-renewed, stamps-renewed}
-use Rattle.pool_memory.proofs.Starts.{placedRecord, textures-renewed, renewed-moves}
+use Rattle.pool_memory.proofs.Starts.{placedRecord, textures-renewed}
 use Rattle.pool_memory.proofs.Asked.{asked-accepted}
 use Rattle.pool_memory.proofs.Tracked.{record-read, spares-to, bytes-at, shape-at, count-at, grid-at, stamp-at, grids-at, stamps-at}
 use Rattle.pool_take_doomed.specs.Given.{givenRecords}
@@ -60,7 +61,8 @@ use Rattle.pool_tracking.proofs.Refusals.{shape-passed, take-renewed, f
 use Rattle.pool_tracking.proofs.Counts.{counted, begunCounts, counts-after}
 use Rattle.pool_tracking.proofs.Tracked.{spares-within, kept-fits, is-there, found-there, here}
 use Rattle.pool_tracking.proofs.Ends.{newest-most, stamps-most, grid-begins, stamp-begins, grids-held, stamps-held}
-use Rattle.pool_tracking.proofs.Trackings.{begun, begun-record, begun-grids, begun-stamps, newest-zeros, stamps-zeros, newest-count, stamps-count, grids-few, stamps-few, zeros-renewed}
+use Rattle.pool_tracking.proofs.StartsBehind.{behind-renewed}
+use Rattle.pool_tracking.proofs.Trackings.{begun, begun-record, begun-grids, begun-stamps, newest-fresh, stamps-zeros, newest-count, stamps-count, grids-few, stamps-few, run-renewed}
 
 module _ (l : Lent) (new : NewTracking) (ok : Begins l new) (h : TrackedAt l (new .place) (new .id))
     (other : sameShape (recordOf l (new .place) .shape) (new .shape) ≡ false) where
@@ -281,7 +283,7 @@ module _ (l : Lent) (new : NewTracking) (ok : Begins l new) (h : TrackedAt l (ne
 
       starts-move : StartsMove (gridShift hold fresh) (stampShift hold new) (i + 1) (l .pool .tracked) written
       starts-move j a b =
-          renewed-moves l renewed f (gridShift hold fresh) (stampShift hold new) (omega (arith, grids-few (new .shape) shaped (new .records), fresh-is))
+          behind-renewed l f renewed (gridShift hold fresh) (stampShift hold new) (omega (arith, grids-few (new .shape) shaped (new .records), fresh-is))
           (omega (arith, stamps-few (new .shape) shaped (new .records), ok .1)) i state (h .0) grids-out stamps-out j (omega (arith, a)) b
 
       textures-left : (textures : List ℕ)
@@ -363,17 +365,21 @@ module _ (l : Lent) (new : NewTracking) (ok : Begins l new) (h : TrackedAt l (ne
         (ap everySpare changed-there ∙ every-emptied l i (h .0) state refl ∙ ap (λ (k : ℕ). removed (firstSpare l i) k (sparesBefore l)) (ap sparesOf (record-read l i (h .0))))
 
     newest-left : (fresh : ℕ) → fresh ≡ grids → (newest : List ℕ)
-        → newest ≡ sets (moved (l .newest) (hold .grid + fresh) (hold .grid + hold .grids) (l .pool .grids - (hold .grid + hold .grids))) (hold .grid) (replicate fresh 0)
+        → newest ≡ sets (moved (l .newest) (hold .grid + fresh) (hold .grid + hold .grids) (l .pool .grids - (hold .grid + hold .grids))) (hold .grid) (freshFrom (new .shape) 0 (fresh / gridStride))
         → newest ≡ newestAfter renewed l
     newest-left fresh e newest q =
-        q ∙ zeros-renewed (l .newest) (l .pool .grids) grid-is fresh (newestOf state) (newest-zeros new epoch ∙ ap (λ (n : ℕ). replicate n 0) (sym e)) (grids-is ∙ sym grids-there)
+        q
+        ∙ run-renewed (l .newest) (l .pool .grids) grid-is (e ∙ sym (newest-count new epoch))
+        (ap (λ (n : ℕ). freshFrom (new .shape) 0 (n / gridStride)) e ∙ sym (newest-fresh new epoch)) (grids-is ∙ sym grids-there)
         ∙ newest-renewed l f renewed i (h .0) state changed-there (omega (arith, newest-count new epoch, grids-room, grids-within, grids-there))
 
     stamps-left : (stamps : List ℕ)
         → stamps ≡ sets (moved (l .stamps) (hold .stamp + new .stamps) (hold .stamp + hold .stamps) (l .pool .stamps - (hold .stamp + hold .stamps))) (hold .stamp) (replicate (new .stamps) 0)
         → stamps ≡ stampsAfter renewed l
     stamps-left stamps q =
-        q ∙ zeros-renewed (l .stamps) (l .pool .stamps) stamp-is (new .stamps) (stampsOf state) (stamps-zeros new epoch ∙ ap (λ (n : ℕ). replicate n 0) (sym (ok .1))) (stamps-is ∙ sym stamps-there)
+        q
+        ∙ run-renewed (l .stamps) (l .pool .stamps) stamp-is (ok .1 ∙ sym (stamps-count new epoch))
+        (ap (λ (n : ℕ). replicate n 0) (ok .1) ∙ sym (stamps-zeros new epoch)) (stamps-is ∙ sym stamps-there)
         ∙ stamps-renewed l f renewed i (h .0) state changed-there (omega (arith, stamps-count new epoch, ok .1, stamps-room, stamps-within, stamps-there))
 
     pub left-renewed : (places fresh : ℕ) (g : Counts) (textures doomed spares newest stamps : List ℕ)
@@ -381,7 +387,7 @@ module _ (l : Lent) (new : NewTracking) (ok : Begins l new) (h : TrackedAt l (ne
         → doomed ≡ laid doomedStride writeDoomed places (l .pool .first) (l .pool .doomed) (givenRecords (l .spares) (hold .bytes) (hold .first) (hold .spares)) (l .doomed)
         → spares ≡ moved (l .spares) (spareStride * hold .first) (spareStride * hold .first + spareStride * hold .spares) (spareStride * (l .pool .kept - (hold .first + hold .spares)))
         → textures ≡ startsMoved (gridShift hold fresh) (stampShift hold new) (i + 1) (l .pool .tracked) (recordRenewed (l .textures) new (l .pool .trackings + 1) hold)
-        → newest ≡ sets (moved (l .newest) (hold .grid + fresh) (hold .grid + hold .grids) (l .pool .grids - (hold .grid + hold .grids))) (hold .grid) (replicate fresh 0)
+        → newest ≡ sets (moved (l .newest) (hold .grid + fresh) (hold .grid + hold .grids) (l .pool .grids - (hold .grid + hold .grids))) (hold .grid) (freshFrom (new .shape) 0 (fresh / gridStride))
         → stamps ≡ sets (moved (l .stamps) (hold .stamp + new .stamps) (hold .stamp + hold .stamps) (l .pool .stamps - (hold .stamp + hold .stamps))) (hold .stamp) (replicate (new .stamps) 0)
         → (
           answer none,

@@ -26,7 +26,7 @@ use Rattle.pool_records.proofs.Places.{below-length}
 use Rattle.pool_memory.specs.declared.pool.Pool.{Pool as Counts}
 use Rattle.pool_memory.specs.Lent.{Lent, lent}
 use Rattle.pool_memory.specs.Reading.{trackedRecords, modelOf}
-use Rattle.pool_memory.specs.Writing.{everySpare, newestOf, stampsOf, poolAfter, newestAfter, stampsAfter, lentAfter}
+use Rattle.pool_memory.specs.Writing.{everySpare, poolAfter, newestAfter, stampsAfter, lentAfter}
 use Rattle.pool_memory.specs.Calls.{answer, takenOf, takeSpareOn}
 use Rattle.pool_memory.proofs.Fits.{Fits}
 use Rattle.pool_memory.proofs.FromPool.{pool-fits, enough}
@@ -36,18 +36,19 @@ use Rattle.pool_memory.proofs.Stays.{put-together, book-stays, ids-ascend, spar
 use Rattle.pool_memory.proofs.Places.{IsTracked, not-found, put-in}
 use Rattle.pool_memory.proofs.Changes.{every-inserted}
 use Rattle.pool_memory.proofs.HistoryRuns.{grid-bound, stamp-bound, newest-inserted, stamps-inserted}
-use Rattle.pool_memory.proofs.Starts.{placedRecord, textures-inserted, inserted-moves}
+use Rattle.pool_memory.proofs.Starts.{placedRecord, textures-inserted}
 use Rattle.pool_memory.proofs.Asked.{asked-accepted}
 use Rattle.pool_tracking.specs.declared.begun.NewTracking.{NewTracking}
 use Rattle.pool_tracking.specs.declared.start.First.{First}
 use Rattle.pool_tracking.specs.Begun.{freshGrids, newRecord}
 use Rattle.pool_tracking.specs.Cases.{Begins, TrackedAt}
-use Rattle.pool_tracking.specs.Start.{firstOf, firstAt, recordStarted, zerosPut, oneTracked, StartFits, trackingStarted}
+use Rattle.pool_tracking.specs.Start.{firstOf, firstAt, recordStarted, zerosPut, freshPut, oneTracked, StartFits, trackingStarted}
 use Rattle.pool_tracking.proofs.Refusals.{shape-passed, take-new, formed-then}
 use Rattle.pool_tracking.proofs.Counts.{counted, counts-after}
 use Rattle.pool_tracking.proofs.Tracked.{not-there}
 use Rattle.pool_tracking.proofs.Ends.{newest-most, stamps-most, first-there}
-use Rattle.pool_tracking.proofs.Trackings.{begun, begun-record, begun-grids, begun-stamps, newest-zeros, stamps-zeros, newest-count, stamps-count, grids-few, stamps-few, zeros-put}
+use Rattle.pool_tracking.proofs.StartsBehind.{behind-inserted}
+use Rattle.pool_tracking.proofs.Trackings.{begun, begun-record, begun-grids, begun-stamps, newest-fresh, stamps-zeros, newest-count, stamps-count, grids-few, stamps-few, run-put}
 
 -- the counts and the three slices that change
 abbrev Left : Type 0
@@ -68,12 +69,12 @@ module _ (pool : Counts) (textures newest stamps : List ℕ) (new : NewTracking)
       → fresh ≡ freshGrids (new .shape) (new .records)
       → textures′ ≡ startsMoved (moreBy fresh) (moreBy (new .stamps)) (new .place + 1) (pool .tracked + 1)
       (recordStarted textures (pool .tracked) new (pool .trackings + 1) first)
-      → newest′ ≡ zerosPut newest (pool .grids) (first .grid) fresh → stamps′ ≡ zerosPut stamps (pool .stamps) (first .stamp) (new .stamps)
+      → newest′ ≡ freshPut newest (pool .grids) (first .grid) fresh (new .shape) → stamps′ ≡ zerosPut stamps (pool .stamps) (first .stamp) (new .stamps)
       → (oneTracked pool fresh (new .stamps), (textures′, (newest′, stamps′))) ≡ trackingStarted pool textures newest stamps new
   unfolding trackingStarted
   started-as first fresh textures′ newest′ stamps′ e1 e2 e3 e4 e5 =
       let tex = e3 ∙ ap₂ (λ (n : ℕ) (a : First). startsMoved (moreBy n) (moreBy (new .stamps)) (new .place + 1) (pool .tracked + 1) (recordStarted textures (pool .tracked) new (pool .trackings + 1) a)) e2 e1 in
-      let newe = e4 ∙ ap₂ (λ (n : ℕ) (a : First). zerosPut newest (pool .grids) (a .grid) n) e2 e1 in
+      let newe = e4 ∙ ap₂ (λ (n : ℕ) (a : First). freshPut newest (pool .grids) (a .grid) n (new .shape)) e2 e1 in
       let sta = e5 ∙ ap (λ (a : First). zerosPut stamps (pool .stamps) (a .stamp) (new .stamps)) e1 in
       λ j. (oneTracked pool (e2 j) (new .stamps), (tex j, (newe j, sta j)))
 
@@ -196,7 +197,7 @@ module _ (l : Lent) (new : NewTracking) (ok : Begins l new) (untracked : Tracked
 
   starts-move : StartsMove (moreBy grids) (moreBy (new .stamps)) (i + 1) (l .pool .tracked + 1) put
   starts-move j a b =
-      inserted-moves l started f (moreBy grids) (moreBy (new .stamps)) (grids-few (new .shape) shaped (new .records))
+      behind-inserted l f started (moreBy grids) (moreBy (new .stamps)) (grids-few (new .shape) shaped (new .records))
       (omega (arith, stamps-few (new .shape) shaped (new .records), ok .1)) i state record-room place-bound refl refl j (omega (arith, a)) (omega (arith, b))
 
   pub start-fits : StartFits (l .pool) (l .textures) (l .newest) (l .stamps) new
@@ -225,14 +226,14 @@ module _ (l : Lent) (new : NewTracking) (ok : Begins l new) (untracked : Tracked
       ∙ counts-after l f started refl refl refl refl (l .pool .tracked + 1) (l .pool .kept) (l .pool .grids + grids) (l .pool .stamps + new .stamps) (l .pool .doomed)
       tracked-then kept-then grids-then stamps-then (sym (doomed-model l)) (omega arith)
 
-  newest-started : zerosPut (l .newest) (l .pool .grids) (firstAt (l .pool) (l .textures) i .grid) grids ≡ newestAfter started l
+  newest-started : freshPut (l .newest) (l .pool .grids) (firstAt (l .pool) (l .textures) i .grid) grids (new .shape) ≡ newestAfter started l
   newest-started =
-      zeros-put (l .newest) (l .pool .grids) grid-is grids (newestOf state) (newest-zeros new epoch)
+      run-put (l .newest) (l .pool .grids) grid-is (sym (newest-count new epoch)) (sym (newest-fresh new epoch))
       ∙ newest-inserted l f started i state put-there (omega (arith, newest-count new epoch, grids-room))
 
   stamps-started : zerosPut (l .stamps) (l .pool .stamps) (firstAt (l .pool) (l .textures) i .stamp) (new .stamps) ≡ stampsAfter started l
   stamps-started =
-      zeros-put (l .stamps) (l .pool .stamps) stamp-is (new .stamps) (stampsOf state) (stamps-zeros new epoch ∙ ap (λ (n : ℕ). replicate n 0) (sym (ok .1)))
+      run-put (l .stamps) (l .pool .stamps) stamp-is (ok .1 ∙ sym (stamps-count new epoch)) (ap (λ (n : ℕ). replicate n 0) (ok .1) ∙ sym (stamps-zeros new epoch))
       ∙ stamps-inserted l f started i state put-there (omega (arith, stamps-count new epoch, ok .1, stamps-room))
 
   pub left-started : (c : Counts) (textures newest stamps : List ℕ)

@@ -1,10 +1,11 @@
 -- Helper: A tracking just begun, as the lent slices have it.
-use Prim.Native.Nat.{ℕ}
+use Prim.Native.Nat.{ℕ, _*_}
 use mathlib.Core.Bool.{Bool, cond}
 use Rattle.grid_shapes.specs.declared.shape.VersionShape.{VersionShape}
 use Rattle.grid_shapes.specs.Shapes.{bytesOf}
 use Rattle.pool_rules.specs.Model.{gridCount}
 use Rattle.pool_rules.specs.HistorySizes.{historySize}
+use Rattle.pool_rules.specs.RuleConstants.{gridStride}
 use Rattle.pool_records.specs.declared.recorded.Recorded.{Recorded}
 use Rattle.pool_records.specs.declared.recorded.Recorded.the-variants.{Writes, NoHistory}
 use Rattle.pool_records.specs.declared.texture.TextureRecord.{TextureRecord}
@@ -14,9 +15,9 @@ use Rattle.pool_tracking.specs.declared.begun.NewTracking.{NewTracking}
 abbrev pub freshHistory : Bool → Recorded
 freshHistory records = cond records (Writes 0) NoHistory
 
--- the grids of that history, and their stamps
+-- the numbers of `newest` that the history takes, and its stamps
 abbrev pub freshGrids : VersionShape → Bool → ℕ
-freshGrids shape records = cond records (gridCount shape) 0
+freshGrids shape records = cond records (gridStride * gridCount shape) 0
 
 abbrev pub freshStamps : VersionShape → Bool → ℕ
 freshStamps shape records = cond records (historySize shape) 0

@@ -8,13 +8,17 @@ use Rattle.base_blocks.specs.Lists.{total}
 use Rattle.grid_shapes.specs.declared.shape.VersionShape.{VersionShape}
 use Rattle.grid_shapes.specs.Shapes.{isShape, sameShape}
 use Rattle.pool_rules.specs.Model.{VersionState, PoolModel, find, limit}
-use Rattle.pool_rules.specs.RuleConstants.{mostPlaces}
+use Rattle.pool_rules.specs.RuleConstants.{gridStride, mostPlaces}
 use Rattle.pool_rules.specs.HistorySizes.{historySize, stampsUsed}
 use Rattle.grid_stamps.specs.StampConstants.{pageStamps}
 
 -- the most stamps that may be lent
 abbrev pub mostStamps : ℕ
 mostStamps = pageStamps * mostPlaces
+
+-- and the most numbers of `newest`
+abbrev pub mostNewest : ℕ
+mostNewest = gridStride * mostStamps
 
 -- a tracking begun: of the `lent` stamps some are used, and `own` of these are given up for it
 unfoldable pub trackingRefusal : (lent own used trackings : ℕ) → VersionShape → Bool → ℕ

@@ -1,5 +1,5 @@
 -- Helper: A texture tracked for the first time: what is asked of the slices that it takes a part in, and what they hold then.
-use Prim.Native.Nat.{ℕ, _+_, _*_, _-_, _≤_, _<_}
+use Prim.Native.Nat.{ℕ, _+_, _*_, _-_, _/_, _≤_, _<_}
 use mathlib.Core.Path.{_≡_}
 use mathlib.Core.Bool.{true, cond}
 use mathlib.Core.List.{List}
@@ -7,17 +7,19 @@ use lib.Dec.{ltb}
 use lib.ListN.{length, replicate}
 use lib.Seq.{sets}
 use Rattle.base_blocks.specs.Blocks.{moved}
+use Rattle.grid_shapes.specs.declared.shape.VersionShape.{VersionShape}
 use Rattle.grid_shapes.specs.Shapes.{isShape}
 use Rattle.pool_rules.specs.Model.{limit}
-use Rattle.pool_rules.specs.RuleConstants.{mostPlaces}
+use Rattle.pool_rules.specs.RuleConstants.{gridStride, mostPlaces}
 use Rattle.pool_records.specs.RecordConstants.{textureStride}
 use Rattle.pool_records.specs.Texture.{writeTexture, textureIn}
 use Rattle.pool_records.specs.Starts.{startsMoved, StartsMove, moreBy}
+use Rattle.pool_records.specs.Tilings.{freshFrom}
 use Rattle.pool_memory.specs.declared.pool.Pool.{Pool}
 use Rattle.pool_tracking.specs.declared.begun.NewTracking.{NewTracking}
 use Rattle.pool_tracking.specs.declared.start.First.{First}
 use Rattle.pool_tracking.specs.Begun.{freshGrids, newRecord}
-use Rattle.pool_tracking.specs.Refusal.{mostStamps}
+use Rattle.pool_tracking.specs.Refusal.{mostNewest, mostStamps}
 
 abbrev pub firstOf : ℕ → ℕ → First
 firstOf grid stamp = record { grid = grid; stamp = stamp }
@@ -37,6 +39,10 @@ recordStarted textures n new epoch first =
 -- a part of a packed slice with n times 0 put in at a place of the `used` numbers
 abbrev pub zerosPut : List ℕ → (used at n : ℕ) → List ℕ
 zerosPut s used at n = sets (moved s (at + n) (at + 0) (used - at)) at (replicate n 0)
+
+-- with the n numbers of a new history's grids
+abbrev pub freshPut : List ℕ → (used at n : ℕ) → VersionShape → List ℕ
+freshPut s used at n shape = sets (moved s (at + n) (at + 0) (used - at)) at (freshFrom shape 0 (n / gridStride))
 
 -- the counts with a texture more, and its grids and stamps
 abbrev pub oneTracked : Pool → (grids stamps : ℕ) → Pool
@@ -65,7 +71,7 @@ module _ (pool : Pool) (textures newest stamps : List ℕ) (new : NewTracking) w
   abbrev grids : ℕ
   grids = freshGrids (new .shape) (new .records)
 
-  -- a place for the record, for the grids and for the stamps, and counts that may grow
+  -- a place for the record, for the numbers of the grids and for the stamps, and counts that may grow
   pub record StartFits : Type 0 where
     pub shaped : isShape (new .shape) ≡ true
     pub place : new .place ≤ pool .tracked
@@ -76,7 +82,7 @@ module _ (pool : Pool) (textures newest stamps : List ℕ) (new : NewTracking) w
     pub stamp : first .stamp ≤ pool .stamps
     pub grids-room : pool .grids + grids ≤ length newest
     pub stamps-room : pool .stamps + new .stamps ≤ length stamps
-    pub newest-most : length newest ≤ mostStamps
+    pub newest-most : length newest ≤ mostNewest
     pub stamps-most : length stamps ≤ mostStamps
     pub moves : StartsMove (moreBy grids) (moreBy (new .stamps)) (new .place + 1) (pool .tracked + 1)
         (recordStarted textures (pool .tracked) new (pool .trackings + 1) first)
@@ -88,6 +94,6 @@ module _ (pool : Pool) (textures newest stamps : List ℕ) (new : NewTracking) w
     (
       startsMoved (moreBy grids) (moreBy (new .stamps)) (new .place + 1) (pool .tracked + 1)
           (recordStarted textures (pool .tracked) new (pool .trackings + 1) first),
-      (zerosPut newest (pool .grids) (first .grid) grids, zerosPut stamps (pool .stamps) (first .stamp) (new .stamps)),
+      (freshPut newest (pool .grids) (first .grid) grids (new .shape), zerosPut stamps (pool .stamps) (first .stamp) (new .stamps)),
     ),
   )

@@ -1,4 +1,4 @@
-// A tracking just begun: its history, the grids of it and its record.
+// A tracking just begun: its history, the numbers of its grids and its record.
 ghost use mathlib.Core.Path.{_≡_};
 ghost use mathlib.Core.Bool.{true};
 ghost use Prim.Native.Nat.{_≤_};
@@ -11,6 +11,7 @@ use grid_shapes::shape_bytes;
 use pool_access::shape_grids;
 use pool_records::Recorded;
 use pool_records::TextureRecord;
+use pool_rules::GRID_STRIDE;
 
 // A tracking that begins: the texture's place among the tracked ones, its id and its shape, whether its writes are recorded, the
 // submission that it begins with, and how many stamps its history takes, which the test for a refusal has added up.
@@ -35,12 +36,16 @@ fn fresh_history(records: bool) -> Recorded
     }
 }
 
-// Returns how many grids that history has.
+// Returns how many numbers of `newest` that history takes.
 pub fn fresh_grids(shape: VersionShape, records: bool) -> usize
     requires { ⌜ gridCount shape ≤ mostPlaces ⌝ }
     ensures { λ r. ⌜ r ≡ freshGrids shape records ⌝ }
 {
-    if records { shape_grids(shape) } else { 0 }
+    if records {
+        GRID_STRIDE * shape_grids(shape)
+    } else {
+        0
+    }
 }
 
 // Returns the texture's record: its grids and its stamps begin at these places.

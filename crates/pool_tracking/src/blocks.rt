@@ -9,7 +9,7 @@ use base_blocks::shift_down;
 use base_blocks::shift_up;
 
 // Moves the n numbers from index `from` on to index `to`.
-fn move_block(s: &mut [u64], to: usize, from: usize, n: usize)
+pub fn move_block(s: &mut [u64], to: usize, from: usize, n: usize)
     requires { ⌜ (to + n ≤ length (now s)) × (from + n ≤ length (now s)) ⌝ }
     ensures { λ _. ⌜ now (s .exit) ≡ moved (now (s .entry)) to from n ⌝ }
 {

@@ -7,8 +7,8 @@ use pool_access::stamp_end;
 use pool_access::texture_at;
 use pool_memory::Pool;
 
-// Where its spares begin, how many there are and the bytes of each; where its grids begin and how many there are, and alike its
-// stamps.
+// Where its spares begin, how many there are and the bytes of each; where its grids' numbers begin in `newest` and how many there
+// are, and alike its stamps.
 pub struct Holding {
     pub first: usize,
     pub spares: usize,

@@ -5,6 +5,7 @@ mod blocks;
 mod holding;
 mod renewal;
 mod start;
+mod tilings;
 
 pub use begun::NewTracking;
 pub use renewal::renew_tracking;

@@ -22,6 +22,7 @@ use crate::begun::new_record;
 use crate::blocks::renew_block;
 use crate::holding::Holding;
 use crate::holding::holding_at;
+use crate::tilings::renew_newest;
 use base_tables::remove_records;
 use pool_access::move_starts;
 use pool_access::put_texture;
@@ -138,7 +139,14 @@ pub fn renew_tracking(
     renew_record(textures, pool.tracked, new, epoch, fresh, old);
     let grids_end = old.grid + old.grids;
     let stamps_end = old.stamp + old.stamps;
-    renew_block(newest, old.grid, old.grids, fresh, pool.grids - grids_end);
+    renew_newest(
+        newest,
+        old.grid,
+        old.grids,
+        fresh,
+        pool.grids - grids_end,
+        shape,
+    );
     renew_block(
         stamps,
         old.stamp,

@@ -11,6 +11,7 @@ use crate::begun::NewTracking;
 use crate::begun::fresh_grids;
 use crate::begun::new_record;
 use crate::blocks::renew_block;
+use crate::tilings::renew_newest;
 use pool_access::insert_texture;
 use pool_access::move_starts;
 use pool_memory::Pool;
@@ -93,7 +94,7 @@ pub fn start_tracking(
     let fresh = fresh_grids(shape, new.records);
     let first = first_at(pool, textures, new.place);
     start_record(textures, pool.tracked, new, epoch, fresh, first);
-    renew_block(newest, first.grid, 0, fresh, pool.grids - first.grid);
+    renew_newest(newest, first.grid, 0, fresh, pool.grids - first.grid, shape);
     renew_block(
         stamps,
         first.stamp,

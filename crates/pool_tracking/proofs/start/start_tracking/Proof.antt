@@ -3,6 +3,7 @@ use mathlib.Core.Path.{ap}
 use native.Mathlib.Omega.{arith}
 use Rattle.pool_rules.proofs.HistorySizes.{grids-most}
 use Rattle.pool_tracking.specs.declared.start.First.{First}
+use Rattle.pool_tracking.proofs.Trackings.{grids-all}
 use Rattle.pool_tracking.proofs.Started.{started-as, moves-as}
 use borrow.Author.Needs.{needs}
 use Rattle.pool_tracking.proofs.start.start_tracking.Statement.{statement}
@@ -23,20 +24,26 @@ start-record-requires c κs =
     let k = b .pre in
     (k .room, k .place, k .shaped, moves-as _ _ _ _ (b .args .new) k _ _ (c .before .first-at .ensures) (c .before .before .before .fresh-grids .ensures))
 
+sub-renew-newest : tie.Need-sub-renew-newest
+sub-renew-newest c = omega (arith, ap (λ (a : First). a .grid) (c .before .before .before .before .before .before .before .first-at .ensures), c .before .before .before .before .before .before .before .before .before .before .before .before .before .before .before .pre .grid)
+
+renew-newest-requires : tie.Need-renew-newest-requires
+renew-newest-requires c κs =
+    let b = c .before .before .before .before .before .before .before .before .before .before .before .before .before .before .before in
+    let k = b .pre in
+    let e = ap (λ (a : First). a .grid) (c .before .before .before .before .before .before .before .first-at .ensures) in
+    let n = c .before .before .before .before .before .before .before .before .before .fresh-grids .ensures in (
+      omega (arith, e, n, k .grid, k .grids-room),
+      omega (arith, e, n, k .grid, k .grids-room),
+      k .shaped,
+      omega (arith, n, grids-all (b .args .new .shape) (b .args .new .records)),
+    )
+
 sub-renew-block : tie.Need-sub-renew-block
-sub-renew-block c = omega (arith, ap (λ (a : First). a .grid) (c .before .before .before .before .before .before .before .first-at .ensures), c .before .before .before .before .before .before .before .before .before .before .before .before .before .before .before .pre .grid)
+sub-renew-block c = omega (arith, ap (λ (a : First). a .stamp) (c .before .before .before .before .before .before .before .before .before .before .before .before .before .first-at .ensures), c .before .before .before .before .before .before .before .before .before .before .before .before .before .before .before .before .before .before .before .before .before .pre .stamp)
 
 renew-block-requires : tie.Need-renew-block-requires
 renew-block-requires c κs =
-    let k = c .before .before .before .before .before .before .before .before .before .before .before .before .before .before .before .pre in
-    let e = ap (λ (a : First). a .grid) (c .before .before .before .before .before .before .before .first-at .ensures) in
-    (omega (arith, e, c .before .before .before .before .before .before .before .before .before .fresh-grids .ensures, k .grid, k .grids-room), omega (arith, e, c .before .before .before .before .before .before .before .before .before .fresh-grids .ensures, k .grid, k .grids-room))
-
-sub-renew-block-2 : tie.Need-sub-renew-block-2
-sub-renew-block-2 c = omega (arith, ap (λ (a : First). a .stamp) (c .before .before .before .before .before .before .before .before .before .before .before .before .before .first-at .ensures), c .before .before .before .before .before .before .before .before .before .before .before .before .before .before .before .before .before .before .before .before .before .pre .stamp)
-
-renew-block-requires-2 : tie.Need-renew-block-requires-2
-renew-block-requires-2 c κs =
     let k = c .before .before .before .before .before .before .before .before .before .before .before .before .before .before .before .before .before .before .before .before .before .pre in
     let e = ap (λ (a : First). a .stamp) (c .before .before .before .before .before .before .before .before .before .before .before .before .before .first-at .ensures) in
     (omega (arith, e, k .stamp, k .stamps-room), omega (arith, e, k .stamp, k .stamps-room))
@@ -65,7 +72,7 @@ same-length-3 c = search needs
 
 returns : tie.Need-returns
 returns c =
-    started-as _ _ _ _ (c .before .before .before .before .before .before .before .before .before .before .before .before .before .before .before .before .before .before .before .before .before .before .before .before .before .before .before .before .args .new) _ _ _ _ _ (c .before .before .before .before .before .before .before .before .before .before .before .before .before .before .before .before .before .before .before .before .first-at .ensures) (c .before .before .before .before .before .before .before .before .before .before .before .before .before .before .before .before .before .before .before .before .before .before .fresh-grids .ensures) (c .before .before .before .before .before .before .before .before .before .before .before .before .before .before .before .before .before .before .start-record .ensures) (c .before .before .before .before .before .before .before .before .before .before .before .before .renew-block .ensures) (c .before .before .before .before .before .before .renew-block2 .ensures)
+    started-as _ _ _ _ (c .before .before .before .before .before .before .before .before .before .before .before .before .before .before .before .before .before .before .before .before .before .before .before .before .before .before .before .before .args .new) _ _ _ _ _ (c .before .before .before .before .before .before .before .before .before .before .before .before .before .before .before .before .before .before .before .before .first-at .ensures) (c .before .before .before .before .before .before .before .before .before .before .before .before .before .before .before .before .before .before .before .before .before .before .fresh-grids .ensures) (c .before .before .before .before .before .before .before .before .before .before .before .before .before .before .before .before .before .before .start-record .ensures) (c .before .before .before .before .before .before .before .before .before .before .before .before .renew-newest .ensures) (c .before .before .before .before .before .before .renew-block .ensures)
 
 pub start-tracking-spec : {M : Type 1} → statement M
-start-tracking-spec = tie.close (tie.spec add-epoch fresh-grids-requires first-at-requires start-record-requires sub-renew-block renew-block-requires sub-renew-block-2 renew-block-requires-2 add-after add-after-2 add-after-3 same-length same-length-2 same-length-3 returns)
+start-tracking-spec = tie.close (tie.spec add-epoch fresh-grids-requires first-at-requires start-record-requires sub-renew-newest renew-newest-requires sub-renew-block renew-block-requires add-after add-after-2 add-after-3 same-length same-length-2 same-length-3 returns)
