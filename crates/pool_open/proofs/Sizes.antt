@@ -10,7 +10,7 @@ use Rattle.base_blocks.specs.Lists.{tests, after}
 use Rattle.base_blocks.proofs.Lists.{passed, not-passed}
 use Rattle.grid_stamps.specs.StampConstants.{pageStamps}
 use Rattle.pool_records.specs.RecordConstants.{doomedStride, retiringStride, spareStride, textureStride}
-use Rattle.pool_rules.specs.RuleConstants.{mostGrids, mostPlaces}
+use Rattle.pool_rules.specs.RuleConstants.{gridStride, mostGrids, mostPlaces}
 use Rattle.pool_rules.specs.Open.{arePlaces}
 use Rattle.pool_memory.specs.Lent.{Lent, versionPlaces}
 use Rattle.pool_memory.specs.Reading.{modelOf}
@@ -30,14 +30,14 @@ too-many-textures textures retiring doomed spares newest stamps h =
     not-passed _ (λ p. let q = leb-true (textures / textureStride) mostPlaces (passed _ p 1) in let y : ⊥ = omega (arith, h, q) in y)
 
 -- the length of `newest`, worked out beside the others
-pub lengths-test : (textures retiring doomed spares newest stamps grids : ℕ) → grids ≡ min (mostGrids * (textures / textureStride)) stamps
+pub lengths-test : (textures retiring doomed spares newest stamps numbers : ℕ) → numbers ≡ gridStride * min (mostGrids * (textures / textureStride)) stamps
     → leb 1 (textures / textureStride) && leb (textures / textureStride) mostPlaces && leb 1 (retiring / retiringStride) && leb (retiring / retiringStride) mostPlaces
     && leb (stamps / pageStamps) mostPlaces && eqb textures (textureStride * (textures / textureStride)) && eqb retiring (retiringStride * (retiring / retiringStride))
     && eqb doomed (doomedStride * (retiring / retiringStride)) && eqb spares (spareStride * (retiring / retiringStride)) && eqb stamps (pageStamps * (stamps / pageStamps))
-    && eqb newest grids
+    && eqb newest numbers
     ≡ lengthsFit textures retiring doomed spares newest stamps
 unfolding lengthsFit tests after
-lengths-test textures retiring doomed spares newest stamps grids e = rw e
+lengths-test textures retiring doomed spares newest stamps numbers e = rw e
 
 pub opened : (l : Lent) → sizesFit l ≡ true → 0 ≡ openNumber l
 unfolding openNumber

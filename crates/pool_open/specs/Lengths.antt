@@ -5,7 +5,7 @@ use mathlib.Core.List.{[], _∷_}
 use lib.Dec.{leb, eqb}
 use Rattle.base_blocks.specs.Lists.{tests}
 use Rattle.grid_stamps.specs.StampConstants.{pageStamps}
-use Rattle.pool_rules.specs.RuleConstants.{mostGrids, mostPlaces}
+use Rattle.pool_rules.specs.RuleConstants.{gridStride, mostGrids, mostPlaces}
 use Rattle.pool_records.specs.RecordConstants.{doomedStride, retiringStride, spareStride, textureStride}
 
 -- the six lengths fit together
@@ -21,4 +21,4 @@ lengthsFit textures retiring doomed spares newest stamps = tests (
     ∷ eqb doomed (doomedStride * (retiring / retiringStride))
     ∷ eqb spares (spareStride * (retiring / retiringStride))
     ∷ eqb stamps (pageStamps * (stamps / pageStamps))
-    ∷ eqb newest (min (mostGrids * (textures / textureStride)) stamps) ∷ [])
+    ∷ eqb newest (gridStride * min (mostGrids * (textures / textureStride)) stamps) ∷ [])

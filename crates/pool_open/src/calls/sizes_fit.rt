@@ -11,10 +11,10 @@ use pool_records::RETIRING_STRIDE;
 use pool_records::SPARE_STRIDE;
 use pool_records::TEXTURE_STRIDE;
 use pool_rules::MOST_PLACES;
-use pool_rules::grid_places;
+use pool_rules::newest_length;
 
-// Tests that slices of these lengths are of whole places, as many as may be lent, and fit together: `newest` has a number for each grid
-// that can be in use. The textures are tested first, so that their grids cannot pass a word.
+// Tests that slices of these lengths are of whole places, as many as may be lent, and fit together: `newest` has two numbers for each
+// grid that can be in use. The textures are tested first, so that their grids cannot pass a word.
 pub fn lengths_fit(
     textures: usize,
     retiring: usize,
@@ -31,7 +31,7 @@ pub fn lengths_fit(
     }
     let versions = retiring / RETIRING_STRIDE;
     let pages = stamps / PAGE_STAMPS;
-    let grids = grid_places(places, stamps);
+    let numbers = newest_length(places, stamps);
     (1 <= places)
         & (places <= MOST_PLACES)
         & (1 <= versions)
@@ -42,7 +42,7 @@ pub fn lengths_fit(
         & (doomed == DOOMED_STRIDE * versions)
         & (spares == SPARE_STRIDE * versions)
         & (stamps == PAGE_STAMPS * pages)
-        & (newest == grids)
+        & (newest == numbers)
 }
 
 // Tests that the lent slices have the sizes that a pool needs, whatever its counts are.

@@ -8,8 +8,8 @@ use Rattle.pool_open.proofs.calls.sizes_fit.lengths_fit.Tie as tie
 returns : tie.Need-returns
 returns c = sym (too-many-textures _ _ _ _ _ _ (c .if1 .taken))
 
-grid-places-requires : tie.Need-grid-places-requires
-grid-places-requires c κs = search needs
+newest-length-requires : tie.Need-newest-length-requires
+newest-length-requires c κs = search needs
 
 mul-result : tie.Need-mul-result
 mul-result c = search needs
@@ -27,14 +27,14 @@ mul-result-5 : tie.Need-mul-result-5
 mul-result-5 c = search needs
 
 returns-2 : tie.Need-returns-2
-returns-2 c = lengths-test _ _ _ _ _ _ _ (c .grid-places .ensures)
+returns-2 c = lengths-test _ _ _ _ _ _ _ (c .newest-length .ensures)
 
 pub lengths-fit-spec : {M : Type 1} → statement M
 lengths-fit-spec =
     tie.close
     (tie.spec
     returns
-    grid-places-requires
+    newest-length-requires
     mul-result
     mul-result-2
     mul-result-3
