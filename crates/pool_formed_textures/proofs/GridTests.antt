@@ -21,13 +21,14 @@ use Rattle.grid_stamps.specs.Grids.{Tiling, tiled, tilingOf, stampCount, gridIn
 use Rattle.grid_stamps.proofs.Tilings.{tiling-ok, count-pos}
 use Rattle.pool_rules.specs.Model.{gridCount}
 use Rattle.pool_rules.specs.HistorySizes.{gridSize, gridPlaces, gridStart, historySize}
-use Rattle.pool_rules.proofs.HistorySizes.{grid-next, grid-end, grid-last}
-use Rattle.pool_rules.specs.RuleConstants.{gridStride}
+use Rattle.pool_rules.proofs.HistorySizes.{grid-next, grid-end, grid-last, history-most}
+use Rattle.grid_stamps.specs.StampConstants.{pageStamps}
+use Rattle.pool_rules.specs.RuleConstants.{gridStride, mostGrids}
 use Rattle.pool_records.specs.declared.tiling.GridTiling.{GridTiling}
 use Rattle.pool_records.specs.Tilings.{packedTiling, TilingFits, gridTiling, tilingNumber}
 use Rattle.pool_records.proofs.Tilings.{tiling-fits}
 use Rattle.pool_memory.specs.IsPool.{isGrid}
-use Rattle.pool_formed_textures.specs.Textures.{ownGrid, ownTiling, gridsFit}
+use Rattle.pool_formed_textures.specs.Textures.{ownGrid, ownTiling, axesTiling, gridsFit}
 use Rattle.pool_formed_textures.proofs.Tests.{fails}
 
 -- ---- one grid
@@ -68,28 +69,16 @@ place k = k
 
 module _ (s : VersionShape) (k at : ℕ) (a d : Axis) (ea : a ≡ tilingOf s (k % s .levels) .across) (ed : d ≡ tilingOf s (k % s .levels) .down) (ek : at ≡ gridStart s k) where
   -- the tiling that the pass has at the k-th
-  abbrev tilingHere : GridTiling
-  tilingHere = record { start = at; across = a .edge; down = d .edge }
-
-  tiling-here : tilingHere ≡ gridTiling s k
+  tiling-here : axesTiling at a d ≡ gridTiling s k
   unfolding gridTiling
   tiling-here = λ j. record { start = ek j; across = ea j .edge; down = ed j .edge }
 
-  pub tiling-ready : isShape s ≡ true → k < gridCount s → TilingFits tilingHere
+  pub tiling-ready : isShape s ≡ true → k < gridCount s → TilingFits (axesTiling at a d)
   tiling-ready h q = subst TilingFits (sym tiling-here) (tiling-fits s h k q)
 
-  module _ (newest : List ℕ) (n : ℕ) (e : n ≡ packedTiling tilingHere) where
-    number-here : n ≡ tilingNumber s k
-    unfolding tilingNumber
-    number-here = e ∙ ap packedTiling tiling-here
-
-    pub tiling-passes : getD newest (gridStride * k + 1) 0 ≡ n → ownTiling s newest k ≡ true
-    unfolding ownTiling
-    tiling-passes q = eq-eqb (getD newest (gridStride * k + 1) 0) (tilingNumber s k) (q ∙ number-here)
-
-    pub tiling-differs : (getD newest (gridStride * k + 1) 0 ≡ n → ⊥) → ownTiling s newest k ≡ false
-    unfolding ownTiling
-    tiling-differs q = ne-eqb (getD newest (gridStride * k + 1) 0) (tilingNumber s k) (λ z. q (z ∙ sym number-here))
+  pub tiling-test : (newest : List ℕ) → eqb (getD newest (gridStride * k + 1) 0) (packedTiling (axesTiling at a d)) ≡ ownTiling s newest k
+  unfolding ownTiling tilingNumber
+  tiling-test newest = ap (λ (t : GridTiling). eqb (getD newest (gridStride * k + 1) 0) (packedTiling t)) tiling-here
 
 module _ (s : VersionShape) (writes : ℕ) (newest stamps : List ℕ) where
   -- the k-th, by its tiling and by where its stamps begin
@@ -105,6 +94,12 @@ module _ (s : VersionShape) (writes : ℕ) (newest stamps : List ℕ) where
       → at + count ≡ gridStart s (k + 1)
   unfolding gridSize
   next-start k at count g h e c t = omega (arith, e, c, ap stampCount t, grid-next s k h, ap (gridStart s) (add-one k))
+
+  -- which is not past the most stamps of a history
+  pub next-room : (k at count : ℕ) (g : Tiling) → isShape s ≡ true → k < gridCount s → at ≡ gridStart s k → count ≡ stampCount g → g ≡ tilingOf s (k % s .levels)
+      → at + count ≤ pageStamps * mostGrids
+  unfolding gridSize
+  next-room k at count g shaped h e c t = omega (arith, e, c, ap stampCount t, grid-end s k h, history-most s shaped)
 
   -- not as many grids
   pub grids-few : (n : ℕ) → n ≡ gridCount s → (length newest ≡ gridStride * n → ⊥) → gridsFit s writes newest stamps ≡ false

@@ -9,6 +9,7 @@ use Rattle.base_blocks.specs.Lists.{all, listed, total, ascending, tests}
 use Rattle.base_tables.specs.Records.{recordAt}
 use Rattle.grid_shapes.specs.declared.shape.VersionShape.{VersionShape}
 use Rattle.grid_shapes.specs.Shapes.{isShape}
+use Rattle.grid_axes.specs.declared.axis.Axis.{Axis}
 use Rattle.grid_stamps.specs.Grids.{StampGrid, gridIn, tilingOf}
 use Rattle.pool_rules.specs.Model.{Spare, limit, gridCount}
 use Rattle.pool_rules.specs.HistorySizes.{gridPlaces, gridStart, historySize}
@@ -16,6 +17,7 @@ use Rattle.pool_rules.specs.RuleConstants.{gridStride}
 use Rattle.pool_records.specs.declared.recorded.Recorded.{Recorded}
 use Rattle.pool_records.specs.declared.recorded.Recorded.the-variants.{Writes, NoHistory}
 use Rattle.pool_records.specs.declared.texture.TextureRecord.{TextureRecord}
+use Rattle.pool_records.specs.declared.tiling.GridTiling.{GridTiling}
 use Rattle.pool_records.specs.Spare.{readSpare}
 use Rattle.pool_records.specs.Views.{spareOf}
 use Rattle.pool_records.specs.Find.{idOf}
@@ -49,6 +51,10 @@ ownGrid s newest stamps k = gridIn (tilingOf s (k % s .levels)) (getD newest (gr
 -- its tiling stands beside its newest stamp
 unfoldable pub ownTiling : VersionShape → List ℕ → ℕ → Bool
 ownTiling s newest k = eqb (getD newest (gridStride * k + 1) 0) (tilingNumber s k)
+
+-- the tiling of a grid of so many columns and rows, whose stamps begin at `start`
+abbrev pub axesTiling : ℕ → Axis → Axis → GridTiling
+axesTiling start across down = record { start = start; across = across .edge; down = down .edge }
 
 -- they are as many as the shape has, every grid passes, and so does what stands beside its newest stamp
 unfoldable pub gridsFit : VersionShape → ℕ → List ℕ → List ℕ → Bool

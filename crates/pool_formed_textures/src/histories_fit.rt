@@ -3,14 +3,16 @@
 ghost use mathlib.Core.Path.{_≡_};
 ghost use mathlib.Core.Bool.{true};
 ghost use Prim.Native.Nat.{_*_, _≤_, _<_};
+ghost use lib.Dec.{eqb};
 ghost use lib.ListN.{length};
 ghost use Rattle.base_blocks.specs.Lists.{all};
 ghost use Rattle.grid_shapes.specs.Shapes.{isShape};
 ghost use Rattle.grid_axes.specs.Axes.{AxisOk};
 ghost use Rattle.grid_stamps.specs.Grids.{gridIn, stampCount, tiled};
 ghost use Rattle.pool_records.specs.Texture.{readTexture, texturesIn};
+ghost use Rattle.pool_records.specs.Tilings.{packedTiling, TilingFits};
 ghost use Rattle.pool_memory.specs.IsPool.{isGrid};
-ghost use Rattle.pool_formed_textures.specs.Textures.{isRecord, gridsFit, historyFits, historiesFit, runFits};
+ghost use Rattle.pool_formed_textures.specs.Textures.{isRecord, axesTiling, gridsFit, historyFits, historiesFit, runFits};
 ghost use Rattle.pool_records.specs.RecordConstants.{textureStride};
 use base_tables::record_at;
 use grid_axes::Axis;
@@ -30,6 +32,19 @@ use pool_records::TEXTURE_STRIDE;
 use pool_records::read_texture;
 use pool_records::tiling_number;
 use pool_rules::GRID_STRIDE;
+
+// Tests that the number is the tiling of a grid of so many columns and rows, whose stamps begin at `start`.
+fn tiling_fits(number: u64, start: usize, across: Axis, down: Axis) -> bool
+    requires { ⌜ TilingFits (axesTiling start across down) ⌝ }
+    ensures { λ r. ⌜ r ≡ eqb number (packedTiling (axesTiling start across down)) ⌝ }
+{
+    let tiling = tiling_number(GridTiling {
+        start: start as u64,
+        across: across.edge,
+        down: down.edge,
+    });
+    number == tiling
+}
 
 // Tests a grid of so many columns and rows, whose stamps stand at the front.
 fn grid_fits(across: Axis, down: Axis, writes: u64, newest: u64, stamps: &[u64]) -> bool
@@ -62,12 +77,7 @@ fn grids_fit(s: VersionShape, writes: u64, newest: &[u64], stamps: &[u64]) -> bo
         if count > stamps.len() - at {
             return false;
         }
-        let tiling = tiling_number(GridTiling {
-            start: at as u64,
-            across: across.edge,
-            down: down.edge,
-        });
-        if newest[GRID_STRIDE * k + 1] != tiling {
+        if !tiling_fits(newest[GRID_STRIDE * k + 1], at, across, down) {
             return false;
         }
         if !grid_fits(across, down, writes, newest[GRID_STRIDE * k], &stamps[at..]) {

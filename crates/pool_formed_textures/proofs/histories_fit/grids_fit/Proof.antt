@@ -13,7 +13,7 @@ use Rattle.pool_rules.specs.HistorySizes.{gridStart}
 use Rattle.pool_rules.proofs.HistorySizes.{grids-most}
 use Rattle.pool_memory.specs.IsPool.{isGrid}
 use Rattle.pool_formed_textures.specs.Textures.{ownGrid, ownTiling}
-use Rattle.pool_formed_textures.proofs.GridTests.{tiling-same, axes-ready, grid-ready, first-start, place, tiling-ready, tiling-passes, tiling-differs, grid-here, next-start, grids-few, grids-short, grids-stop, tilings-stop, grids-done}
+use Rattle.pool_formed_textures.proofs.GridTests.{tiling-same, axes-ready, grid-ready, first-start, place, tiling-ready, tiling-test, grid-here, next-start, next-room, grids-few, grids-short, grids-stop, tilings-stop, grids-done}
 use Rattle.pool_formed_textures.proofs.histories_fit.grids_fit.Statement.{statement}
 use Rattle.pool_formed_textures.proofs.histories_fit.grids_fit.Tie as tie
 
@@ -70,30 +70,31 @@ returns-2 c =
     let q : l .k < gridCount (a .s) = omega (arith, c .before .before .before .before .before .loop-test .taken, c .before .before .before .before .before .before .before .before .shape-grids .ensures) in
     sym (grids-short (a .s) (a .writes) (a .newest .now) (a .stamps .now) (l .k) (l .at) _ _ q (l .inv .2) (c .before .stamp-count .ensures) t (c .if2 .taken))
 
-tiling-number-requires : tie.Need-tiling-number-requires Inv-loop μ-loop
-tiling-number-requires c κs =
-    let z = c .before .before .before .before .before .before .before .before .before .before .before in
-    let l = c .before .before .before .before .before .before .loop in
-    let q : l .k < gridCount (z .args .s) = omega (arith, c .before .before .before .before .before .loop-test .taken, c .before .before .before .before .before .before .before .before .shape-grids .ensures) in
-    tiling-ready (z .args .s) (l .k) (l .at) _ _ (c .before .before .before .across-axis .ensures) (c .before .before .down-axis .ensures) (l .inv .2) (z .pre) q
+mul-tiling-fits : tie.Need-mul-tiling-fits Inv-loop μ-loop
+mul-tiling-fits c = search needs
 
-mul-if3 : tie.Need-mul-if3 Inv-loop μ-loop
-mul-if3 c = search needs
+add-tiling-fits : tie.Need-add-tiling-fits Inv-loop μ-loop
+add-tiling-fits c = search needs
 
-add-if3 : tie.Need-add-if3 Inv-loop μ-loop
-add-if3 c = search needs
+mul-tiling-fits-2 : tie.Need-mul-tiling-fits-2 Inv-loop μ-loop
+mul-tiling-fits-2 c = search needs
 
-mul-if3-2 : tie.Need-mul-if3-2 Inv-loop μ-loop
-mul-if3-2 c = search needs
+shared-slice-read-tiling-fits : tie.Need-shared-slice-read-tiling-fits Inv-loop μ-loop
+shared-slice-read-tiling-fits c = search needs
 
-shared-slice-read-if3 : tie.Need-shared-slice-read-if3 Inv-loop μ-loop
-shared-slice-read-if3 c = search needs
+tiling-fits-requires : tie.Need-tiling-fits-requires Inv-loop μ-loop
+tiling-fits-requires c κs =
+    let z = c .before .before .before .before .before .before .before .before .before .before .before .before in
+    let l = c .before .before .before .before .before .before .before .loop in
+    let q : l .k < gridCount (z .args .s) = omega (arith, c .before .before .before .before .before .before .loop-test .taken, c .before .before .before .before .before .before .before .before .before .shape-grids .ensures) in
+    tiling-ready (z .args .s) (l .k) (l .at) _ _ (c .before .before .before .before .across-axis .ensures) (c .before .before .before .down-axis .ensures) (l .inv .2) (z .pre) q
 
 returns-3 : tie.Need-returns-3 Inv-loop μ-loop
 returns-3 c =
     let a = c .before .before .before .before .before .before .before .before .before .before .before .before .before .before .args in
     let l = c .before .before .before .before .before .before .before .before .before .loop in
-    let f = tiling-differs (a .s) (l .k) (l .at) _ _ (c .before .before .before .before .before .before .across-axis .ensures) (c .before .before .before .before .before .down-axis .ensures) (l .inv .2) (a .newest .now) _ (c .before .before .tiling-number .ensures) (c .if3 .taken) in
+    let t = tiling-test (a .s) (l .k) (l .at) _ _ (c .before .before .before .before .before .before .across-axis .ensures) (c .before .before .before .before .before .down-axis .ensures) (l .inv .2) (a .newest .now) in
+    let f = sym t ∙ sym (c .before .tiling-fits .ensures) ∙ not-true _ (c .if3 .taken) in
     sym (tilings-stop (a .s) (a .writes) (a .newest .now) (a .stamps .now) _ (l .k) (c .before .before .before .before .before .before .before .before .before .before .before .shape-grids .ensures) (l .inv .3) (l .inv .4) (c .before .before .before .before .before .before .before .before .loop-test .taken) f)
 
 mul-grid-fits : tie.Need-mul-grid-fits Inv-loop μ-loop
@@ -132,7 +133,13 @@ returns-4 c =
     sym (grids-stop (a .s) (a .writes) (a .newest .now) (a .stamps .now) _ (l .k) (c .before .before .before .before .before .before .before .before .before .before .before .before .before .before .before .shape-grids .ensures) (l .inv .3) (l .inv .4) (c .before .before .before .before .before .before .before .before .before .before .before .before .loop-test .taken) f)
 
 add-at : tie.Need-add-at Inv-loop μ-loop
-add-at c = search needs
+add-at c =
+    let z = c .before .before .before .before .before .before .before .before .before .before .before .before .before .before .before .before .before .before in
+    let a = z .args in
+    let l = c .before .before .before .before .before .before .before .before .before .before .before .before .before .loop in
+    let t = tiling-same (a .s) _ _ _ (c .before .before .before .before .before .before .before .before .before .before .across-axis .ensures) (c .before .before .before .before .before .before .before .before .before .down-axis .ensures) in
+    let q : l .k < gridCount (a .s) = omega (arith, c .before .before .before .before .before .before .before .before .before .before .before .before .loop-test .taken, c .before .before .before .before .before .before .before .before .before .before .before .before .before .before .before .shape-grids .ensures) in
+    omega (arith, next-room (a .s) (a .writes) (a .newest .now) (a .stamps .now) (l .k) (l .at) _ _ (z .pre) q (l .inv .2) (c .before .before .before .before .before .before .before .before .stamp-count .ensures) t)
 
 add-k : tie.Need-add-k Inv-loop μ-loop
 add-k c = search needs
@@ -149,7 +156,8 @@ loop-again c =
     let t = tiling-same (a .s) _ _ _ ea ed in
     let h = c .before .before .before .before .before .before .before .before .before .before .before .before .loop-test .taken in
     let f = sym (grid-here (a .s) (a .writes) (a .newest .now) (a .stamps .now) (l .k) (l .at) _ t (l .inv .2)) ∙ sym (c .before .grid-fits .ensures) ∙ not-false _ (c .if4 .left) in
-    let g = tiling-passes (a .s) (l .k) (l .at) _ _ ea ed (l .inv .2) (a .newest .now) _ (c .before .before .before .before .before .before .tiling-number .ensures) (c .before .before .before .before .if3 .left) in (
+    let u = tiling-test (a .s) (l .k) (l .at) _ _ ea ed (l .inv .2) (a .newest .now) in
+    let g = sym u ∙ sym (c .before .before .before .before .before .tiling-fits .ensures) ∙ not-false _ (c .before .before .before .before .if3 .left) in (
       omega (arith, h),
       omega (arith, c .before .before .before .before .before .before .before .if2 .left, l .inv .1),
       next-start (a .s) (a .writes) (a .newest .now) (a .stamps .now) (l .k) (l .at) _ _ (omega (arith, h, c .before .before .before .before .before .before .before .before .before .before .before .before .before .before .before .shape-grids .ensures)) (l .inv .2) (c .before .before .before .before .before .before .before .before .stamp-count .ensures) t,
@@ -179,11 +187,11 @@ grids-fit-spec =
     stamp-count-requires
     sub-if2
     returns-2
-    tiling-number-requires
-    mul-if3
-    add-if3
-    mul-if3-2
-    shared-slice-read-if3
+    mul-tiling-fits
+    add-tiling-fits
+    mul-tiling-fits-2
+    shared-slice-read-tiling-fits
+    tiling-fits-requires
     returns-3
     mul-grid-fits
     mul-grid-fits-2
