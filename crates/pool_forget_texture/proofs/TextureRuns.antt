@@ -19,14 +19,14 @@ use Rattle.pool_access.proofs.Totals.{total-with}
 use Rattle.grid_shapes.specs.ShapeConstants.{mostShapeBytes}
 use Rattle.grid_stamps.specs.StampConstants.{pageStamps}
 use Rattle.pool_records.specs.RecordConstants.{textureStride}
-use Rattle.pool_rules.specs.RuleConstants.{mostPlaces}
+use Rattle.pool_rules.specs.RuleConstants.{gridStride, mostPlaces}
 
--- no more grids and stamps are in use than pages can be lent for
+-- no more stamps and numbers of `newest` are in use than pages can be lent for
 module _ (l : Lent) (f : Fits l) where
   pub stamps-few : l .pool .stamps ≤ pageStamps * mostPlaces
   stamps-few = omega (arith, f .stamps-counted, f .stamps, f .most-pages)
 
-  pub grids-few : l .pool .grids ≤ pageStamps * mostPlaces
+  pub grids-few : l .pool .grids ≤ gridStride * (pageStamps * mostPlaces)
   grids-few = omega (arith, f .grids, f .newest, f .stamps, f .most-pages)
 
 module _ (l : Lent) (i : ℕ) (h : i < l .pool .tracked) where

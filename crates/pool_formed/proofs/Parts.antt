@@ -18,11 +18,11 @@ use Rattle.pool_records.specs.declared.texture.TextureRecord.{TextureRecord}
 use Rattle.pool_memory.specs.Lent.{Lent, versionPlaces}
 use Rattle.pool_memory.specs.Reading.{trackedRecords, statesRead, retiringRead, handRead, doomedRead, modelOf}
 use Rattle.pool_memory.proofs.Runs.{grid-starts, stamp-starts}
-use Rattle.pool_memory.specs.IsPool.{sizesFit, countsFit, runsFit, startsHold, bytesHold, bytesFit, markFits, stateId, isSpare, isState, isRetiring, isHand, isDoomed, isArrival, isFormed, isPool}
+use Rattle.pool_memory.specs.IsPool.{sizesFit, countsFit, runsFit, startsHold, tilingsHold, tilingsFit, bytesHold, bytesFit, markFits, stateId, isSpare, isState, isRetiring, isHand, isDoomed, isArrival, isFormed, isPool}
 use Rattle.pool_formed.specs.Parts.{placesHold, retiringAt, retiringFit, doomedAt, doomedFit, ringsFit, numbersFit}
 use Rattle.pool_formed_textures.specs.Textures.{isRecord, modelSpareAt, historyHolds, historiesFit, texturesFit}
 use Rattle.pool_formed_textures.proofs.Tests.{same-test, pass-all}
-use Rattle.pool_formed_textures.proofs.States.{states-ids, states-bytes, states-test}
+use Rattle.pool_formed_textures.proofs.States.{states-ids, states-bytes, recordHolds, records-hold, states-test}
 use Rattle.pool_formed_textures.proofs.HistoryTests.{Walked, walked, walks}
 use Rattle.pool_formed.proofs.RingTests.{hand-test}
 use Rattle.pool_records.specs.RecordConstants.{doomedStride, retiringStride, spareStride, textureStride}
@@ -130,11 +130,15 @@ module _ (l : Lent) where
     unfolding ringsFit
     to-rings = pass-all _ (cons to-queue (cons to-doomed nil))
 
-    module _ (runs : runsFit l ≡ true) (starts : startsHold l ≡ true) (bytes : bytesFit l ≡ true) where
-      -- every record passes, every grid of its history and every spare
+    module _ (runs : runsFit l ≡ true) (starts : startsHold l ≡ true) (tilings : tilingsFit l ≡ true) (bytes : bytesFit l ≡ true) where
+      -- every record's bytes and tilings
+      to-holds : all (recordHolds l) ts ≡ true
+      unfolding bytesFit tilingsFit
+      to-holds = records-hold l ts ∙ ap₂ (λ (a b : Bool). a && b) bytes tilings
+
+      -- every record passes, every grid of its history with its tiling, and every spare
       to-records : all isRecord ts && (all (historyHolds (l .newest) (l .stamps)) ts && all isSpare (listed (modelSpareAt (l .spares)) 0 (total recordSpares ts))) ≡ true
-      unfolding bytesFit
-      to-records = sym (states-test l 0 ts) ∙ ap₂ (λ (a b : Bool). a && b) (c .states) bytes
+      to-records = sym (states-test l 0 ts) ∙ ap₂ (λ (a b : Bool). a && b) (c .states) to-holds
 
       to-histories : historiesOf l ≡ true
       unfolding runsFit
@@ -191,7 +195,7 @@ module _ (l : Lent) where
     unfolding startsHold
     from-starts = ap₂ (λ (a b : Bool). a && b) (from-histories .grid-starts) (from-histories .stamp-starts)
 
-    from-records : all isState (statesRead l 0 ts) && all bytesHold ts ≡ true
+    from-records : all isState (statesRead l 0 ts) && all (recordHolds l) ts ≡ true
     unfolding texturesFit
     from-records =
         states-test l 0 ts
@@ -199,11 +203,18 @@ module _ (l : Lent) where
         (ap₂ (λ (a b : Bool). a && b) (from-histories .holds) (ap (λ (n : ℕ). all isSpare (listed (modelSpareAt (l .spares)) 0 n)) (kept from-runs) ∙ passed _ t 3))
 
     from-states : all isState (statesRead l 0 ts) ≡ true
-    from-states = and-both (all isState (statesRead l 0 ts)) (all bytesHold ts) from-records .0
+    from-states = and-both (all isState (statesRead l 0 ts)) (all (recordHolds l) ts) from-records .0
+
+    from-holds : all bytesHold ts && all (tilingsHold l) ts ≡ true
+    from-holds = sym (records-hold l ts) ∙ and-both (all isState (statesRead l 0 ts)) (all (recordHolds l) ts) from-records .1
 
     from-bytes : bytesFit l ≡ true
     unfolding bytesFit
-    from-bytes = and-both (all isState (statesRead l 0 ts)) (all bytesHold ts) from-records .1
+    from-bytes = and-both (all bytesHold ts) (all (tilingsHold l) ts) from-holds .0
+
+    from-tilings : tilingsFit l ≡ true
+    unfolding tilingsFit
+    from-tilings = and-both (all bytesHold ts) (all (tilingsHold l) ts) from-holds .1
 
     from-mark : markFits l ≡ true
     unfolding numbersFit markFits
@@ -238,16 +249,18 @@ module _ (l : Lent) where
       same-test (isPool l) (tests (partsOf l))
       (λ e.
       let f = few-popped (passed _ e 1) in
-      let m = passed _ e 5 in
-      let c = conditions (passed _ e 6) in
-      pass-all _ (cons (passed _ e 0) (cons (passed _ e 1) (cons (to-numbers f m c) (cons (to-rings f m c) (cons (to-textures f m c (passed _ e 2) (passed _ e 3) (passed _ e 4)) nil))))))
+      let m = passed _ e 6 in
+      let c = conditions (passed _ e 7) in
+      let u = to-textures f m c (passed _ e 2) (passed _ e 3) (passed _ e 4) (passed _ e 5) in
+      pass-all _ (cons (passed _ e 0) (cons (passed _ e 1) (cons (to-numbers f m c) (cons (to-rings f m c) (cons u nil))))))
       (λ e.
       let f = few-popped (passed _ e 1) in
       let n = passed _ e 2 in
       let r = passed _ e 3 in
       let t = passed _ e 4 in
       pass-all _ (cons (passed _ e 0) (cons (passed _ e 1) (cons (from-runs f n r t)
-      (cons (from-starts f n r t) (cons (from-bytes f n r t) (cons (from-mark f n r t) (cons (formed eight (from-parts f n r t)) nil))))))))
+      (cons (from-starts f n r t) (cons (from-tilings f n r t)
+      (cons (from-bytes f n r t) (cons (from-mark f n r t) (cons (formed eight (from-parts f n r t)) nil)))))))))
 
   -- where all but the last pass, the last decides
   pub last-part : length (l .book .arrivals) ≡ destroySpreadDrains → sizesFit l ≡ true → countsFit l ≡ true → numbersOf l ≡ true → ringsOf l ≡ true → texturesOf l ≡ isPool l

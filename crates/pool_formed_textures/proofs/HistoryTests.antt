@@ -2,12 +2,12 @@
 use mathlib.Core.Path.{_≡_, refl, sym, ap, ap₂, _∙_}
 use mathlib.Core.Bool.{Bool, true, _&&_}
 use mathlib.Core.List.{List, [], _∷_}
-use Prim.Native.Nat.{ℕ, zero, suc, _+_, _-_, _≤_, _<_}
+use Prim.Native.Nat.{ℕ, zero, suc, _+_, _*_, _-_, _≤_, _<_}
 use native.Mathlib.Nat.{zero-add}
 use native.Mathlib.Omega.{arith}
 use borrow.Author.Tests.{eqb-true, eq-eqb}
 use lib.Dec.{eqb}
-use lib.ListN.{length, take, drop, length-drop}
+use lib.ListN.{length, take, drop, getD, length-drop}
 use lib.Seq.{getD-take, getD-drop, take-take, drop-drop, length-take-le}
 use Rattle.base_blocks.specs.All.{nil, cons}
 use Rattle.base_blocks.specs.Lists.{all, listed, total}
@@ -17,16 +17,19 @@ use Rattle.base_unequal.specs.Unequal.{startsFit}
 use Rattle.grid_shapes.specs.declared.shape.VersionShape.{VersionShape}
 use Rattle.grid_stamps.specs.Grids.{gridIn}
 use Rattle.pool_rules.specs.Model.{gridCount}
-use Rattle.pool_rules.specs.HistorySizes.{gridSize, gridStart, historySize}
+use Rattle.pool_rules.specs.HistorySizes.{gridSize, gridPlaces, gridStart, historySize}
+use Rattle.pool_rules.specs.RuleConstants.{gridStride}
 use Rattle.pool_rules.proofs.HistorySizes.{grid-end}
 use Rattle.pool_records.specs.declared.recorded.Recorded.{Recorded}
 use Rattle.pool_records.specs.declared.recorded.Recorded.the-variants.{Writes, NoHistory}
 use Rattle.pool_records.specs.declared.texture.TextureRecord.{TextureRecord}
+use Rattle.pool_records.specs.Tilings.{tilingNumber}
 use Rattle.pool_records.specs.Texture.{recordedGrids, recordGrids, recordedStamps, recordStamps}
 use Rattle.pool_memory.specs.IsPool.{isGrid}
 use Rattle.pool_memory.proofs.Runs.{firstGridIn, firstStampIn}
-use Rattle.pool_formed_textures.specs.Textures.{ownGrid, gridsFit, historyFits, gridFrom, gridsHold, historyHolds, historiesFit}
+use Rattle.pool_formed_textures.specs.Textures.{ownGrid, ownTiling, gridsFit, historyFits, gridFrom, tilingFrom, gridsHold, historyHolds, historiesFit}
 use Rattle.pool_formed_textures.proofs.Tests.{pass-all}
+use Rattle.pool_formed_textures.proofs.GridTests.{place}
 
 -- ---- the history of one record
 
@@ -52,6 +55,12 @@ inner (suc g) c (suc m) (x ∷ xs) h = inner g c m xs (omega arith)
 length-part : (from to : ℕ) (xs : List ℕ) → to ≤ length xs → length (take (to - from) (drop from xs)) ≡ to - from
 length-part from to xs h = length-take-le (to - from) (drop from xs) (omega (arith, length-drop from xs))
 
+-- tests that agree at every place from i on agree there together
+all-alike : (p q : ℕ → Bool) (i n : ℕ) → ((k : ℕ) → k < i + n → p k ≡ q k) → all p (listed place i n) ≡ all q (listed place i n)
+unfolding all listed
+all-alike p q i zero h = refl
+all-alike p q i (suc n) h = ap₂ (λ (a b : Bool). a && b) (h i (omega arith)) (all-alike p q (suc i) n (λ k u. h k (omega arith)))
+
 module _ (newest stamps : List ℕ) (grid last stamp end : ℕ) where
   abbrev ownNewest : List ℕ
   ownNewest = take (last - grid) (drop grid newest)
@@ -60,21 +69,33 @@ module _ (newest stamps : List ℕ) (grid last stamp end : ℕ) where
   ownStamps = take (end - stamp) (drop stamp stamps)
 
   -- its grids are those that begin there
-  grid-same : (s : VersionShape) → gridCount s ≤ last - grid → historySize s ≤ end - stamp → (k : ℕ) → k < gridCount s
+  grid-same : (s : VersionShape) → gridStride * gridCount s ≤ last - grid → historySize s ≤ end - stamp → (k : ℕ) → k < gridCount s
       → ownGrid s ownNewest ownStamps k ≡ gridFrom newest stamps s grid stamp k
   unfolding ownGrid gridFrom gridIn gridSize
   grid-same s a b k h = λ i. record {
-    newest = (getD-take (last - grid) (drop grid newest) k 0 (omega arith) ∙ getD-drop grid newest k 0) i;
+    newest = (getD-take (last - grid) (drop grid newest) (gridStride * k) 0 (omega arith) ∙ getD-drop grid newest (gridStride * k) 0) i;
     stamps = (inner (gridStart s k) (gridSize s k) (end - stamp) (drop stamp stamps) (omega (arith, grid-end s k h))
         ∙ ap (take (gridSize s k)) (drop-drop (gridStart s k) stamp stamps)) i;
   }
 
-  grids-same : (s : VersionShape) (writes : ℕ) → gridCount s ≤ last - grid → historySize s ≤ end - stamp
+  grids-same : (s : VersionShape) (writes : ℕ) → gridStride * gridCount s ≤ last - grid → historySize s ≤ end - stamp
       → all (isGrid writes) (listed (ownGrid s ownNewest ownStamps) 0 (gridCount s)) ≡ all (isGrid writes) (listed (gridFrom newest stamps s grid stamp) 0 (gridCount s))
   grids-same s writes a b =
       ap (all (isGrid writes))
       (listed-same (ownGrid s ownNewest ownStamps) (gridFrom newest stamps s grid stamp) (gridCount s) 0 0 (λ j q.
       ap (ownGrid s ownNewest ownStamps) (zero-add j) ∙ grid-same s a b j q ∙ ap (gridFrom newest stamps s grid stamp) (sym (zero-add j))))
+
+  -- and their tilings
+  tiling-same : (s : VersionShape) → gridStride * gridCount s ≤ last - grid → (k : ℕ) → k < gridCount s → ownTiling s ownNewest k ≡ tilingFrom newest s grid k
+  unfolding ownTiling tilingFrom
+  tiling-same s a k h =
+      ap (λ (n : ℕ). eqb n (tilingNumber s k))
+      (getD-take (last - grid) (drop grid newest) (gridStride * k + 1) 0 (omega arith)
+      ∙ getD-drop grid newest (gridStride * k + 1) 0
+      ∙ ap (λ (n : ℕ). getD newest n 0) (let e : grid + (gridStride * k + 1) ≡ grid + gridStride * k + 1 = omega arith in e))
+
+  tilings-same : (s : VersionShape) → gridStride * gridCount s ≤ last - grid → all (ownTiling s ownNewest) (gridPlaces s) ≡ all (tilingFrom newest s grid) (gridPlaces s)
+  tilings-same s a = all-alike (ownTiling s ownNewest) (tilingFrom newest s grid) 0 (gridCount s) (λ k u. tiling-same s a k (omega arith))
 
   module _ (hg : grid ≤ last) (hl : last ≤ length newest) (hs : stamp ≤ end) (he : end ≤ length stamps) where
     -- a history that fits is as large as its part
@@ -82,7 +103,7 @@ module _ (newest stamps : List ℕ) (grid last stamp end : ℕ) where
         → (last ≡ grid + recordedGrids h s) × (end ≡ stamp + recordedStamps h s)
     unfolding gridsFit
     part-size s (Writes n) f =
-        let a = eqb-true (length ownNewest) (gridCount s) (passed _ f 0) in
+        let a = eqb-true (length ownNewest) (gridStride * gridCount s) (passed _ f 0) in
         let b = eqb-true (length ownStamps) (historySize s) (passed _ f 1) in
         (omega (arith, a, hg, length-part grid last newest hl), omega (arith, b, hs, length-part stamp end stamps he))
     part-size s NoHistory f =
@@ -96,7 +117,8 @@ module _ (newest stamps : List ℕ) (grid last stamp end : ℕ) where
     unfolding gridsFit
     part-holds s (Writes n) f =
         let z = part-size s (Writes n) f in
-        sym (grids-same s n (omega (arith, z .0)) (omega (arith, z .1))) ∙ passed _ f 2
+        let room : gridStride * gridCount s ≤ last - grid = omega (arith, z .0) in
+        ap₂ (λ (x y : Bool). x && y) (sym (grids-same s n room (omega (arith, z .1))) ∙ passed _ f 2) (sym (tilings-same s room) ∙ passed _ f 3)
     part-holds s NoHistory f = refl
 
     -- and one that passes there, and is as large, fits
@@ -104,10 +126,12 @@ module _ (newest stamps : List ℕ) (grid last stamp end : ℕ) where
         → gridsHold newest stamps s grid stamp h ≡ true → historyFits s h ownNewest ownStamps ≡ true
     unfolding gridsFit
     part-fits s (Writes n) a b f =
+        let q = and-both (all (isGrid n) (listed (gridFrom newest stamps s grid stamp) 0 (gridCount s))) (all (tilingFrom newest s grid) (gridPlaces s)) f in
+        let room : gridStride * gridCount s ≤ last - grid = omega (arith, a) in
         pass-all _
-        (cons (eq-eqb (length ownNewest) (gridCount s) (omega (arith, a, length-part grid last newest hl)))
+        (cons (eq-eqb (length ownNewest) (gridStride * gridCount s) (omega (arith, a, length-part grid last newest hl)))
         (cons (eq-eqb (length ownStamps) (historySize s) (omega (arith, b, length-part stamp end stamps he)))
-        (cons (grids-same s n (omega (arith, a)) (omega (arith, b)) ∙ f) nil)))
+        (cons (grids-same s n room (omega (arith, b)) ∙ q .0) (cons (tilings-same s room ∙ q .1) nil))))
     part-fits s NoHistory a b f =
         ap₂ (λ (x y : Bool). x && y)
         (eq-eqb (length ownNewest) 0 (omega (arith, a, length-part grid last newest hl)))

@@ -1,6 +1,6 @@
 -- Helper: The textures as the test goes over them: a condition a pass over the lent slices, where `isPool` reads the states that they stand for.
 -- That both say the same is a law; a reader of `is_pool` needs none of this.
-use Prim.Native.Nat.{ℕ, _+_, _%_}
+use Prim.Native.Nat.{ℕ, _+_, _*_, _%_}
 use mathlib.Core.Bool.{Bool, true, _&&_}
 use mathlib.Core.List.{List, [], _∷_}
 use lib.Dec.{leb, eqb}
@@ -9,15 +9,19 @@ use Rattle.base_blocks.specs.Lists.{all, listed, total, ascending, tests}
 use Rattle.base_tables.specs.Records.{recordAt}
 use Rattle.grid_shapes.specs.declared.shape.VersionShape.{VersionShape}
 use Rattle.grid_shapes.specs.Shapes.{isShape}
+use Rattle.grid_axes.specs.declared.axis.Axis.{Axis}
 use Rattle.grid_stamps.specs.Grids.{StampGrid, gridIn, tilingOf}
 use Rattle.pool_rules.specs.Model.{Spare, limit, gridCount}
-use Rattle.pool_rules.specs.HistorySizes.{gridStart, historySize}
+use Rattle.pool_rules.specs.HistorySizes.{gridPlaces, gridStart, historySize}
+use Rattle.pool_rules.specs.RuleConstants.{gridStride}
 use Rattle.pool_records.specs.declared.recorded.Recorded.{Recorded}
 use Rattle.pool_records.specs.declared.recorded.Recorded.the-variants.{Writes, NoHistory}
 use Rattle.pool_records.specs.declared.texture.TextureRecord.{TextureRecord}
+use Rattle.pool_records.specs.declared.tiling.GridTiling.{GridTiling}
 use Rattle.pool_records.specs.Spare.{readSpare}
 use Rattle.pool_records.specs.Views.{spareOf}
 use Rattle.pool_records.specs.Find.{idOf}
+use Rattle.pool_records.specs.Tilings.{tilingNumber}
 use Rattle.pool_memory.specs.declared.pool.Pool.{Pool}
 use Rattle.pool_memory.specs.IsPool.{bytesHold, isGrid, isSpare}
 use Rattle.pool_records.specs.RecordConstants.{spareStride}
@@ -40,31 +44,44 @@ modelSpareAt spares k = spareOf (recordAt spareStride readSpare spares k)
 
 -- ---- histories
 
--- the k-th grid of a history whose grids' newest and whose stamps are just these
+-- the k-th grid of a history whose numbers of `newest` and whose stamps are just these
 unfoldable pub ownGrid : VersionShape → List ℕ → List ℕ → ℕ → StampGrid
-ownGrid s newest stamps k = gridIn (tilingOf s (k % s .levels)) (getD newest k 0) (drop (gridStart s k) stamps)
+ownGrid s newest stamps k = gridIn (tilingOf s (k % s .levels)) (getD newest (gridStride * k) 0) (drop (gridStart s k) stamps)
 
--- they are as many as the shape has, and every grid passes
+-- its tiling stands beside its newest stamp
+unfoldable pub ownTiling : VersionShape → List ℕ → ℕ → Bool
+ownTiling s newest k = eqb (getD newest (gridStride * k + 1) 0) (tilingNumber s k)
+
+-- the tiling of a grid of so many columns and rows, whose stamps begin at `start`
+abbrev pub axesTiling : ℕ → Axis → Axis → GridTiling
+axesTiling start across down = record { start = start; across = across .edge; down = down .edge }
+
+-- they are as many as the shape has, every grid passes, and so does what stands beside its newest stamp
 unfoldable pub gridsFit : VersionShape → ℕ → List ℕ → List ℕ → Bool
 gridsFit s writes newest stamps = tests (
-    eqb (length newest) (gridCount s)
+    eqb (length newest) (gridStride * gridCount s)
     ∷ eqb (length stamps) (historySize s)
-    ∷ all (isGrid writes) (listed (ownGrid s newest stamps) 0 (gridCount s)) ∷ [])
+    ∷ all (isGrid writes) (listed (ownGrid s newest stamps) 0 (gridCount s))
+    ∷ all (ownTiling s newest) (gridPlaces s) ∷ [])
 
 -- without a history there are none
 abbrev pub historyFits : VersionShape → Recorded → List ℕ → List ℕ → Bool
 historyFits s (Writes n) newest stamps = gridsFit s n newest stamps
 historyFits s NoHistory newest stamps = eqb (length newest) 0 && eqb (length stamps) 0
 
--- the k-th grid of a history whose grids begin at `grid` and whose stamps at `stamp`
+-- the k-th grid of a history whose numbers of `newest` begin at `grid` and whose stamps at `stamp`
 unfoldable pub gridFrom : List ℕ → List ℕ → VersionShape → ℕ → ℕ → ℕ → StampGrid
-gridFrom newest stamps s grid stamp k = gridIn (tilingOf s (k % s .levels)) (getD newest (grid + k) 0) (drop (stamp + gridStart s k) stamps)
+gridFrom newest stamps s grid stamp k = gridIn (tilingOf s (k % s .levels)) (getD newest (grid + gridStride * k) 0) (drop (stamp + gridStart s k) stamps)
+
+unfoldable pub tilingFrom : List ℕ → VersionShape → ℕ → ℕ → Bool
+tilingFrom newest s grid k = eqb (getD newest (grid + gridStride * k + 1) 0) (tilingNumber s k)
 
 abbrev pub gridsHold : List ℕ → List ℕ → VersionShape → ℕ → ℕ → Recorded → Bool
-gridsHold newest stamps s grid stamp (Writes n) = all (isGrid n) (listed (gridFrom newest stamps s grid stamp) 0 (gridCount s))
+gridsHold newest stamps s grid stamp (Writes n) =
+    all (isGrid n) (listed (gridFrom newest stamps s grid stamp) 0 (gridCount s)) && all (tilingFrom newest s grid) (gridPlaces s)
 gridsHold newest stamps s grid stamp NoHistory = true
 
--- the grids of a record's history pass, where it says that they begin
+-- the grids of a record's history pass with their tilings, where it says that they begin
 unfoldable pub historyHolds : List ℕ → List ℕ → TextureRecord → Bool
 historyHolds newest stamps t = gridsHold newest stamps (t .shape) (t .grid) (t .stamp) (t .history)
 

@@ -1,16 +1,18 @@
-// The write histories: each begins where the one before it ends, every grid's newest stamp is its largest, and none passes its texture's
-// write count.
+// The write histories: each begins where the one before it ends, every grid's newest stamp is its largest, none passes its texture's write
+// count, and the grid's tiling stands beside it.
 ghost use mathlib.Core.Path.{_≡_};
 ghost use mathlib.Core.Bool.{true};
 ghost use Prim.Native.Nat.{_*_, _≤_, _<_};
+ghost use lib.Dec.{eqb};
 ghost use lib.ListN.{length};
 ghost use Rattle.base_blocks.specs.Lists.{all};
 ghost use Rattle.grid_shapes.specs.Shapes.{isShape};
 ghost use Rattle.grid_axes.specs.Axes.{AxisOk};
 ghost use Rattle.grid_stamps.specs.Grids.{gridIn, stampCount, tiled};
 ghost use Rattle.pool_records.specs.Texture.{readTexture, texturesIn};
+ghost use Rattle.pool_records.specs.Tilings.{packedTiling, TilingFits};
 ghost use Rattle.pool_memory.specs.IsPool.{isGrid};
-ghost use Rattle.pool_formed_textures.specs.Textures.{isRecord, gridsFit, historyFits, historiesFit, runFits};
+ghost use Rattle.pool_formed_textures.specs.Textures.{isRecord, axesTiling, gridsFit, historyFits, historiesFit, runFits};
 ghost use Rattle.pool_records.specs.RecordConstants.{textureStride};
 use base_tables::record_at;
 use grid_axes::Axis;
@@ -22,11 +24,27 @@ use grid_stamps::stamp_count;
 use pool_access::grid_end;
 use pool_access::shape_grids;
 use pool_access::stamp_end;
+use pool_records::GridTiling;
 use pool_records::Recorded;
 use pool_records::TEXTURE_GRID_AT;
 use pool_records::TEXTURE_STAMP_AT;
 use pool_records::TEXTURE_STRIDE;
 use pool_records::read_texture;
+use pool_records::tiling_number;
+use pool_rules::GRID_STRIDE;
+
+// Tests that the number is the tiling of a grid of so many columns and rows, whose stamps begin at `start`.
+fn tiling_fits(number: u64, start: usize, across: Axis, down: Axis) -> bool
+    requires { ⌜ TilingFits (axesTiling start across down) ⌝ }
+    ensures { λ r. ⌜ r ≡ eqb number (packedTiling (axesTiling start across down)) ⌝ }
+{
+    let tiling = tiling_number(GridTiling {
+        start: start as u64,
+        across: across.edge,
+        down: down.edge,
+    });
+    number == tiling
+}
 
 // Tests a grid of so many columns and rows, whose stamps stand at the front.
 fn grid_fits(across: Axis, down: Axis, writes: u64, newest: u64, stamps: &[u64]) -> bool
@@ -39,14 +57,14 @@ fn grid_fits(across: Axis, down: Axis, writes: u64, newest: u64, stamps: &[u64])
     is_largest_stamp(stamps, across, down, newest)
 }
 
-// Tests the grids of a history that has just these newest and just these stamps. Works out a level's tiles once, for the test and for where
-// the next grid begins.
+// Tests the grids of a history that has just these numbers of `newest` and just these stamps. Works out a level's tiles once, for the tests
+// and for where the next grid begins.
 fn grids_fit(s: VersionShape, writes: u64, newest: &[u64], stamps: &[u64]) -> bool
     requires { ⌜ isShape s ≡ true ⌝ }
     ensures { λ r. ⌜ r ≡ gridsFit s writes (now (newest .entry)) (now (stamps .entry)) ⌝ }
 {
     let n = shape_grids(s);
-    if newest.len() != n {
+    if newest.len() != GRID_STRIDE * n {
         return false;
     }
     let mut at = 0;
@@ -59,7 +77,10 @@ fn grids_fit(s: VersionShape, writes: u64, newest: &[u64], stamps: &[u64]) -> bo
         if count > stamps.len() - at {
             return false;
         }
-        if !grid_fits(across, down, writes, newest[k], &stamps[at..]) {
+        if !tiling_fits(newest[GRID_STRIDE * k + 1], at, across, down) {
+            return false;
+        }
+        if !grid_fits(across, down, writes, newest[GRID_STRIDE * k], &stamps[at..]) {
             return false;
         }
         at += count;
@@ -68,7 +89,7 @@ fn grids_fit(s: VersionShape, writes: u64, newest: &[u64], stamps: &[u64]) -> bo
     stamps.len() == at
 }
 
-// Tests the history of a record that has just these newest and just these stamps: none of either without a history.
+// Tests the history of a record that has just these numbers of `newest` and just these stamps: none of either without a history.
 fn history_fits(p: &[u64], newest: &[u64], stamps: &[u64]) -> bool
     requires { ⌜ (textureStride ≤ length (now p)) × (isShape (readTexture (now p) .shape) ≡ true) ⌝ }
     ensures { λ r. ⌜ r ≡ historyFits (readTexture (now (p .entry)) .shape) (readTexture (now (p .entry)) .history) (now (newest .entry)) (now (stamps .entry)) ⌝ }
@@ -89,7 +110,7 @@ fn run_fits(start: u64, at: usize, end: usize, used: usize) -> bool
     (start == at as u64) & (at <= end) & (end <= used)
 }
 
-// Tests the histories of the first n records, which have `grids` grids and `used` stamps together. Takes each to end where the next record
+// Tests the histories of the first n records, which have `grids` numbers of `newest` and `used` stamps together. Takes each to end where the next record
 // says that its own begins, and tests that before it reads, so that nothing past those in use is read and no sum is needed.
 pub fn histories_fit(
     textures: &[u64],

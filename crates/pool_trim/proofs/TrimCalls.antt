@@ -47,7 +47,7 @@ use Rattle.pool_trim.proofs.YoungTextures.{nothing-trimmed}
 use Rattle.grid_shapes.specs.ShapeConstants.{mostShapeBytes}
 use Rattle.grid_stamps.specs.StampConstants.{pageStamps}
 use Rattle.pool_records.specs.RecordConstants.{doomedStride, retiringStride, spareStride, textureStride}
-use Rattle.pool_rules.specs.RuleConstants.{mostPlaces}
+use Rattle.pool_rules.specs.RuleConstants.{gridStride, mostPlaces}
 
 -- ---- what a step asks for
 
@@ -104,7 +104,7 @@ module _ (l : Lent) (f : Fits l) (i : ℕ) (h : i < l .pool .tracked) where
       )
 
       pub pass-fits : (look .aged ≤ look .own) × (w .first + look .own ≤ mostPlaces) × (w .tracked + look .staying ≤ mostPlaces)
-          × (w .kept + (look .own - look .aged) ≤ mostPlaces) × (w .grids + look .grids ≤ pageStamps * mostPlaces)
+          × (w .kept + (look .own - look .aged) ≤ mostPlaces) × (w .grids + look .grids ≤ gridStride * (pageStamps * mostPlaces))
           × (w .stamps + look .stamps ≤ pageStamps * mostPlaces) × (w .count + look .aged ≤ mostPlaces)
           × (w .freed + look .bytes * look .aged < 2 ^ 64)
       pass-fits =

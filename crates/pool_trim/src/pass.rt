@@ -3,7 +3,7 @@ ghost use mathlib.Core.Path.{_≡_};
 ghost use Prim.Native.Nat.{_+_, _-_, _*_, _≤_, _<_, _^_};
 ghost use Rattle.pool_trim.specs.Pass.{noPass, passOn, countsTrimmed};
 ghost use Rattle.grid_stamps.specs.StampConstants.{pageStamps};
-ghost use Rattle.pool_rules.specs.RuleConstants.{mostPlaces};
+ghost use Rattle.pool_rules.specs.RuleConstants.{gridStride, mostPlaces};
 use crate::look_at::Look;
 use pool_memory::Pool;
 
@@ -38,7 +38,7 @@ pub fn no_pass() -> Pass
 pub fn pass_on(pass: Pass, look: Look) -> Pass
     requires { ⌜ (look .aged ≤ look .own) × (pass .first + look .own ≤ mostPlaces)
         × (pass .tracked + look .staying ≤ mostPlaces)
-        × (pass .kept + (look .own - look .aged) ≤ mostPlaces) × (pass .grids + look .grids ≤ pageStamps * mostPlaces)
+        × (pass .kept + (look .own - look .aged) ≤ mostPlaces) × (pass .grids + look .grids ≤ gridStride * (pageStamps * mostPlaces))
         × (pass .stamps + look .stamps ≤ pageStamps * mostPlaces) × (pass .count + look .aged ≤ mostPlaces)
         × (pass .freed + look .bytes * look .aged < 2 ^ 64) ⌝ }
     ensures { λ r. ⌜ r ≡ passOn pass look ⌝ }
