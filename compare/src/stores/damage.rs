@@ -43,7 +43,7 @@ pub fn store(seed: u64) -> Memory {
                 damage(&mut memory, target, &mut random) && is_alone(&memory, target)
             }
             MOVES..TILINGS => moves::move_histories(&mut memory, sort - MOVES, &mut random),
-            // Each sort of damage to a tiling in turn: some need shapes that few pools have, and would be seldom met by chance.
+            // Takes each sort of damage to a tiling in turn: some need shapes that few pools have, and would be seldom met by chance.
             TILINGS..LIMITS => {
                 let turn = seed / SORTS * (LIMITS - TILINGS) as u64 + (sort - TILINGS) as u64;
                 tilings::mistile(&mut memory, turn % tilings::SORTS, &mut random)
@@ -302,7 +302,7 @@ fn lend_odd(memory: &mut Memory, random: &mut Random) -> bool {
     let slice = random.below(6) as usize;
     let numbers = memory.slices[slice].len();
     if slice == NEWEST && random.once_in(2) {
-        // One number a grid; two a page, two for ninety grids a texture, two a stamp: where that is another number.
+        // Lends one number a grid; two a page, two for ninety grids a texture, two a stamp: where that is another number.
         let other = [
             numbers / 2,
             2 * memory.places(STAMPS),

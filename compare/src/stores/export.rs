@@ -58,7 +58,7 @@ fn write_texture(memory: &mut Memory, place: usize, row: &TextureRow) {
             memory.counts[GRIDS] as usize,
             memory.counts[STAMPED] as usize,
         );
-        // The edges are the Rust's own, so that the judge's are held to them.
+        // Takes the edges that the Rust's grid has, so that the judge's are held to them.
         let tiling = Tiling {
             start: memory.counts[STAMPED] - first_stamp,
             across: grid.tile[0],

@@ -58,7 +58,7 @@ pub struct Tiling {
 }
 
 impl Tiling {
-    /// The three in one number: the start below 2^17, the edge across below 2^32, the edge down above.
+    /// Packs the three into one number: the start below 2^17, the edge across below 2^32, the edge down above.
     pub const fn number(&self) -> u64 {
         self.start + (self.across << 17) + (self.down << 32)
     }

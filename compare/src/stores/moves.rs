@@ -73,7 +73,7 @@ pub fn move_histories(memory: &mut Memory, sort: usize, random: &mut Random) -> 
             }
             &[C::GridPlaces, C::StampPlaces]
         }
-        // The newest stamp where the tiling is to stand, and the tiling in its place.
+        // Exchanges the two numbers of a grid.
         _ => {
             let grids = shapes::grids(memory);
             if grids.is_empty() {
@@ -148,22 +148,21 @@ pub fn move_starts(memory: &mut Memory, numbers: &[usize], random: &mut Random) 
     if fresh {
         tilings::unstamp(memory);
     }
-    // Two histories of the same shape, the second to stand where the first does: their tilings do not tell.
+    // Makes two histories of the same shape, the second to stand where the first does: their tilings do not tell.
     let twin = !up && random.once_in(2);
     if twin && !make_twin(memory, place) {
         return false;
     }
     let (part, some) = (random.below(4), 1 + random.below(16));
     for number in numbers {
-        // By whole grids, but sometimes so that the two numbers of a grid change their places.
+        // Moves by whole grids, but sometimes so that the two numbers of a grid are read for each other.
         let unit = match *number {
             FIRST_GRID if !random.once_in(4) => 2,
             _ => 1,
         };
         let by = match part {
-            // Just where the neighbour begins or ends, which a history of the same size would not tell.
-            3 => own_count(memory, *number, place).max(unit),
-            _ if twin => own_count(memory, *number, place).max(unit),
+            // Moves just to where the neighbour begins or ends, which a history of the same size would not tell.
+            _ if twin || part == 3 => own_count(memory, *number, place).max(unit),
             2 => unit * some,
             _ => unit,
         };
@@ -174,7 +173,7 @@ pub fn move_starts(memory: &mut Memory, numbers: &[usize], random: &mut Random) 
     true
 }
 
-/// How many numbers of `newest` or stamps the record's history has, by the number of the record that says where they begin.
+/// Counts the numbers of `newest` or the stamps of the record's history, by the number of the record that says where they begin.
 fn own_count(memory: &Memory, number: usize, place: usize) -> u64 {
     let record = memory.record(TEXTURES, place);
     if number == FIRST_GRID {

@@ -4,7 +4,7 @@ use super::memory::*;
 use super::shapes;
 use crate::random::Random;
 
-/// How many sorts of damage there are.
+/// Sorts of damage, by which callers go in turn.
 pub const SORTS: u64 = 12;
 
 /// Pages that the largest history has room in, with some stamps left.
@@ -25,7 +25,7 @@ pub fn mistile(memory: &mut Memory, sort: u64, random: &mut Random) -> bool {
     let record = memory.record(TEXTURES, place);
     let tilings = shapes::tilings(record);
     let grids = tilings.len() as u64;
-    // The last grid and the first more often than others.
+    // Takes the last grid and the first more often than others: a rule that is wrong at an end of a history is wrong there.
     let grid = match random.below(4) {
         0 => grids - 1,
         1 => 0,
@@ -33,52 +33,20 @@ pub fn mistile(memory: &mut Memory, sort: u64, random: &mut Random) -> bool {
     } as usize;
     let newest = record[FIRST_GRID] as usize + STRIDES[NEWEST] * grid;
     let own = tilings[grid];
-    let other = tilings[random.below(grids) as usize];
+    let second = random.below(grids) as usize;
     let number = match sort {
-        0 => Tiling {
-            start: near(own.start, random),
-            ..own
-        }
-        .number(),
-        // Of another level or slice of the history.
-        1 => Tiling {
-            start: other.start,
-            ..own
-        }
-        .number(),
-        2 => Tiling {
-            across: near(own.across, random),
-            ..own
-        }
-        .number(),
-        3 => Tiling {
-            down: near(own.down, random),
-            ..own
-        }
-        .number(),
-        4 => Tiling {
-            across: own.down,
-            down: own.across,
-            ..own
-        }
-        .number(),
-        // The edges of another level, where they are others, and its whole tiling.
-        5 | 6 if (other.across, other.down) == (own.across, own.down) => return false,
-        5 => Tiling {
-            start: own.start,
-            ..other
-        }
-        .number(),
-        6 => other.number(),
-        // Past three numbers of 17, 15 and 15 bits, which alone are the right ones.
+        0..=6 => match altered(sort, own, tilings[second], random) {
+            Some(tiling) => tiling.number(),
+            None => return false,
+        },
+        // Sets a bit above the three numbers of 17, 15 and 15, which by themselves are the right ones.
         7 => own.number() + (1 << (47 + random.below(17))),
         8 => return swap_pair(memory, place, newest, own, random),
-        // Nothing, or what stood there before tilings did.
+        // Leaves what a store without tilings has there.
         9 => random.one_of(&[0, 1, memory.slices[NEWEST][newest]]),
-        // Two for each other.
+        // Exchanges two of them.
         10 => {
-            let second =
-                record[FIRST_GRID] as usize + STRIDES[NEWEST] * random.below(grids) as usize;
+            let second = record[FIRST_GRID] as usize + STRIDES[NEWEST] * second;
             memory.slices[NEWEST].swap(newest + 1, second + 1);
             return true;
         }
@@ -88,7 +56,45 @@ pub fn mistile(memory: &mut Memory, sort: u64, random: &mut Random) -> bool {
     true
 }
 
-/// One less, one more, half or double.
+/// Gives a tiling in place of a grid's own, by the number of the damage and another grid's tiling; none where that would be no damage.
+fn altered(sort: u64, own: Tiling, other: Tiling, random: &mut Random) -> Option<Tiling> {
+    let Tiling {
+        start,
+        across,
+        down,
+    } = own;
+    let tiling = match sort {
+        0 => Tiling {
+            start: near(start, random),
+            ..own
+        },
+        // Takes the start of another level or slice of the history.
+        1 => Tiling {
+            start: other.start,
+            ..own
+        },
+        2 => Tiling {
+            across: near(across, random),
+            ..own
+        },
+        3 => Tiling {
+            down: near(down, random),
+            ..own
+        },
+        4 => Tiling {
+            start,
+            across: down,
+            down: across,
+        },
+        // Takes the edges of another level, with its start or without: where they are others, since the start alone is damage 1.
+        _ if (other.across, other.down) == (across, down) => return None,
+        5 => Tiling { start, ..other },
+        _ => other,
+    };
+    (tiling != own).then_some(tiling)
+}
+
+/// Gives a number near this one, mostly the next: one less, one more, half or double.
 fn near(number: u64, random: &mut Random) -> u64 {
     match random.below(8) {
         0..=2 => number.saturating_sub(1),
@@ -132,7 +138,7 @@ fn reshape(memory: &mut Memory, place: usize, random: &mut Random) -> bool {
     }
     let extent = random.one_of(&[2, 3]) as usize;
     match random.below(3) {
-        // Blocks of four instead of one, or the other way round.
+        // Takes blocks of four instead of one, or the other way round, which raises some edges.
         0 if matches!(record[1], 5 | 6) => record[1] = random.below(5),
         0 => record[1] = 5 + random.below(2),
         1 => record[extent] *= 2,

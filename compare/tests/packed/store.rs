@@ -1,4 +1,5 @@
-//! A store of stamps in which grids stand one behind the other, as 02's W-201 has it, with a fault or without.
+//! A store of stamps in which grids stand one behind the other, as 02's W-201 has it, with a fault or without. Beside a grid's newest stamp
+//! stands its tiling, which writes and plans go by.
 
 use compare::event::{Call, Event, Plan, Take, Write};
 use compare::limited::Limits;
@@ -20,9 +21,14 @@ pub enum Fault {
     FirstGridStays,
     FreshKeepsStamps,
     SlicesStandInEachOther,
+    FreshKeepsTilings,
+    TilingsStay,
+    StartsCountOtherHistories,
+    EdgesExchanged,
+    EdgesOfTheFirstLevel,
 }
 
-pub const FAULTS: [Fault; 10] = [
+pub const FAULTS: [Fault; 15] = [
     Fault::OwnStampsNotFree,
     Fault::RefusesAtJustEnough,
     Fault::MovesOneStampLess,
@@ -33,6 +39,11 @@ pub const FAULTS: [Fault; 10] = [
     Fault::FirstGridStays,
     Fault::FreshKeepsStamps,
     Fault::SlicesStandInEachOther,
+    Fault::FreshKeepsTilings,
+    Fault::TilingsStay,
+    Fault::StartsCountOtherHistories,
+    Fault::EdgesExchanged,
+    Fault::EdgesOfTheFirstLevel,
 ];
 
 /// A tracked texture.
@@ -47,11 +58,14 @@ struct Record {
 }
 
 impl Record {
-    /// Grids and stamps of its history.
+    /// Numbers of `newest`, two for each grid, and stamps of its history.
     fn sizes(&self) -> (usize, usize) {
         match self.writes {
             None => (0, 0),
-            Some(_) => (self.shape.grids() as usize, self.shape.stamps() as usize),
+            Some(_) => (
+                2 * self.shape.grids() as usize,
+                self.shape.stamps() as usize,
+            ),
         }
     }
 }
@@ -71,7 +85,11 @@ impl Tiles {
         let (width, height) = shape.level(level);
         let block = if matches!(shape.format, 5 | 6) { 4 } else { 1 };
         let edge = |extent: u32| extent.div_ceil(32).max(16).next_multiple_of(block);
-        let (across, down) = (edge(width), edge(height));
+        Self::with_edges(shape, level, edge(width), edge(height))
+    }
+
+    fn with_edges(shape: &RawShape, level: u32, across: u32, down: u32) -> Self {
+        let (width, height) = shape.level(level);
         Self {
             width,
             height,
@@ -85,6 +103,13 @@ impl Tiles {
     fn count(&self) -> usize {
         (self.columns * self.rows) as usize
     }
+}
+
+/// A grid where the store has it: the place of its newest stamp, its first stamp, and its tiles.
+struct Place {
+    newest: usize,
+    first: usize,
+    tiles: Tiles,
 }
 
 pub struct Packed {
@@ -105,7 +130,7 @@ impl Packed {
         Self {
             fault,
             records: Vec::new(),
-            newest: vec![0; stamps.min(90 * limits.textures)],
+            newest: vec![0; 2 * stamps.min(90 * limits.textures)],
             stamps: vec![0; stamps],
             grids: 0,
             used: 0,
@@ -144,14 +169,22 @@ impl Packed {
         let (new_grids, new_stamps) = self.records[at].sizes();
         let grid = self.records[at].first_grid;
         let stamp = self.records[at].first_stamp;
-        let less = usize::from(self.is(Fault::MovesOneGridLess));
-        if !self.is(Fault::NewestStays) {
-            move_part(
-                &mut self.newest,
-                grid + grids..self.grids,
-                grid + new_grids,
-                less,
-            );
+        let less = 2 * usize::from(self.is(Fault::MovesOneGridLess));
+        let before = self.newest.clone();
+        move_part(
+            &mut self.newest,
+            grid + grids..self.grids,
+            grid + new_grids,
+            less,
+        );
+        // Of the two numbers of a grid the first or the second stays where it stood.
+        let stays = match self.fault {
+            Fault::NewestStays => grid + new_grids,
+            Fault::TilingsStay => grid + new_grids + 1,
+            _ => before.len(),
+        };
+        for at in (stays..before.len()).step_by(2) {
+            self.newest[at] = before[at];
         }
         let less = usize::from(self.is(Fault::MovesOneStampLess));
         move_part(
@@ -160,7 +193,12 @@ impl Packed {
             stamp + new_stamps,
             less,
         );
-        fill_part(&mut self.newest, grid..grid + new_grids);
+        for (at, tiling) in (0..new_grids / 2).zip(self.tilings(&shape, stamp)) {
+            put(&mut self.newest, grid + 2 * at, 0);
+            if !self.is(Fault::FreshKeepsTilings) {
+                put(&mut self.newest, grid + 2 * at + 1, tiling);
+            }
+        }
         if !self.is(Fault::FreshKeepsStamps) {
             fill_part(&mut self.stamps, stamp..stamp + new_stamps);
         }
@@ -229,30 +267,59 @@ impl Packed {
         at
     }
 
-    /// Where a slice's level has its grid and its first stamp.
-    fn place(&self, at: usize, slice: u32, level: u32) -> (usize, usize) {
-        let record = &self.records[at];
-        let shape = &record.shape;
-        let sum = |levels: u32| -> usize {
-            (0..levels)
-                .map(|level| Tiles::of(shape, level).count())
-                .sum()
-        };
-        let before = if self.is(Fault::SlicesStandInEachOther) {
-            slice as usize
+    /// The tilings of a shape's grids, slice by slice, level by level: start, edge across times 2^17, edge down times 2^32.
+    fn tilings(&self, shape: &RawShape, first_stamp: usize) -> Vec<u64> {
+        let mut start = if self.is(Fault::StartsCountOtherHistories) {
+            first_stamp
         } else {
-            slice as usize * sum(shape.levels)
+            0
         };
-        (
-            record.first_grid + (slice * shape.levels + level) as usize,
-            record.first_stamp + before + sum(level),
-        )
+        let mut tilings = Vec::new();
+        for slice in 0..shape.slices() {
+            if self.is(Fault::SlicesStandInEachOther) {
+                start = slice as usize;
+            }
+            for level in 0..shape.levels {
+                let cut = if self.is(Fault::EdgesOfTheFirstLevel) {
+                    Tiles::of(shape, 0)
+                } else {
+                    Tiles::of(shape, level)
+                };
+                let (across, down) = if self.is(Fault::EdgesExchanged) {
+                    (cut.down, cut.across)
+                } else {
+                    (cut.across, cut.down)
+                };
+                let edges = (u64::from(across) << 17) + (u64::from(down) << 32);
+                tilings.push(start as u64 + edges);
+                start += Tiles::of(shape, level).count();
+            }
+        }
+        tilings
+    }
+
+    /// Where a slice's level has its grid, by the tiling that stands there.
+    fn place(&self, at: usize, slice: u32, level: u32) -> Place {
+        let record = &self.records[at];
+        let newest = record.first_grid + 2 * (slice * record.shape.levels + level) as usize;
+        let tiling = get(&self.newest, newest + 1);
+        // A fault may leave no edges: any that are not 0 serve.
+        let edge = |number: u64| if number == 0 { 512 } else { number as u32 };
+        let (across, down) = (edge(tiling >> 17 & 0x7fff), edge(tiling >> 32));
+        Place {
+            newest,
+            first: record.first_stamp + (tiling % (1 << 17)) as usize,
+            tiles: Tiles::with_edges(&record.shape, level, across, down),
+        }
     }
 
     /// Puts a stamp on the tiles that the rectangle touches in the level.
     fn stamp(&mut self, at: usize, slice: u32, level: u32, rect: [u64; 4], stamp: u64) {
-        let tiles = Tiles::of(&self.records[at].shape, level);
-        let (grid, first) = self.place(at, slice, level);
+        let Place {
+            newest,
+            first,
+            tiles,
+        } = self.place(at, slice, level);
         let [x, y, width, height] = rect;
         let right = (x + width).min(tiles.width.into());
         let bottom = (y + height).min(tiles.height.into());
@@ -265,7 +332,7 @@ impl Packed {
                 put(&mut self.stamps, first + tile as usize, stamp);
             }
         }
-        put(&mut self.newest, grid, stamp);
+        put(&mut self.newest, newest, stamp);
     }
 
     fn write(&mut self, write: &Write) {
@@ -330,9 +397,12 @@ impl Packed {
         level: u32,
         held: u64,
     ) -> Option<[Option<u64>; 4]> {
-        let tiles = Tiles::of(&self.records[at].shape, level);
-        let (grid, first) = self.place(at, slice, level);
-        if get(&self.newest, grid) <= held {
+        let Place {
+            newest,
+            first,
+            tiles,
+        } = self.place(at, slice, level);
+        if get(&self.newest, newest) <= held {
             return None;
         }
         let later: Vec<(u32, u32)> = (0..tiles.rows)
@@ -385,7 +455,7 @@ impl Packed {
         true
     }
 
-    /// Whether what it counts is what the histories have; asked of a store without a fault.
+    /// Whether what it counts is what the histories have, and each grid's tiling is its own; asked of a store without a fault.
     pub fn is_packed(&self) -> bool {
         let (mut grids, mut stamps) = (0, 0);
         for record in &self.records {
@@ -393,6 +463,12 @@ impl Packed {
                 return false;
             }
             let (more, wide) = record.sizes();
+            let placed = (0..more / 2).zip(self.tilings(&record.shape, stamps));
+            for (at, tiling) in placed {
+                if self.newest[grids + 2 * at + 1] != tiling {
+                    return false;
+                }
+            }
             (grids, stamps) = (grids + more, stamps + wide);
         }
         (self.grids, self.used) == (grids, stamps)
