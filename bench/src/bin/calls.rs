@@ -176,8 +176,7 @@ fn main() {
         println!("{phase} {time} {sum}");
     }
     println!("versions {}", inspect::versions(&work.pool));
-    // Counts as crates/bench_calls does: two numbers of `newest` for each grid.
-    println!("grids {}", 2 * inspect::grids_used(&work.pool));
+    println!("grids {}", inspect::grids_used(&work.pool));
     println!("stamps {}", inspect::stamps_used(&work.pool));
     println!("tracked {}", inspect::tracked(&work.pool));
     println!("trackings {}", inspect::trackings(&work.pool));

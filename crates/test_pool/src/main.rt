@@ -20,8 +20,8 @@ const MOST_PAGES: usize = 64;
 // As many entries as there may be versions (01), so that an answer of any length can be asked for.
 const MOST_ENTRIES: usize = 4096;
 
-// Room for a copy of all that is lent, some 129,500 numbers; for all lists; and for the longest answer.
-const COPY_NUMBERS: usize = 131072;
+// Room for a copy of all that is lent, some 135,300 numbers; for all lists; and for the longest answer.
+const COPY_NUMBERS: usize = 139264;
 
 const INPUT_BYTES: usize = 2097152;
 

@@ -33,7 +33,7 @@ slice-aggregate-run-all-9 : tie.Need-slice-aggregate-run-all-9
 slice-aggregate-run-all-9 c = zeros-count 4096
 
 slice-aggregate-run-all-10 : tie.Need-slice-aggregate-run-all-10
-slice-aggregate-run-all-10 c = zeros-count 131072
+slice-aggregate-run-all-10 c = zeros-count 139264
 
 slice-aggregate-run-all-11 : tie.Need-slice-aggregate-run-all-11
 slice-aggregate-run-all-11 c = zeros-count 655360
