@@ -25,6 +25,8 @@ use Rattle.pool_records.specs.Starts.{shiftedBy, movedStart, startsMoved, Start
 use Rattle.pool_records.specs.RecordConstants.{textureStride}
 use Rattle.pool_records.proofs.Codecs.{texture-codec}
 use Rattle.pool_records.proofs.Starts.{written-moved, written-moves}
+use Rattle.grid_stamps.specs.StampConstants.{pageStamps}
+use Rattle.pool_rules.specs.RuleConstants.{gridStride, mostGrids}
 use Rattle.pool_memory.specs.Lent.{Lent}
 use Rattle.pool_memory.specs.Reading.{trackedRecords, modelOf}
 use Rattle.pool_memory.specs.Writing.{textureRecord, textureRecords, texturesAfter}
@@ -191,7 +193,7 @@ module _ (l : Lent) (f : Fits l) where
         ∙ ap (map (movedStart grids stamps)) (rest-records j))
         ∙ sym (append-assoc (take i rs) at (map (movedStart grids stamps) (drop j rs)))))
 
-    parts-move : grids .more ≤ 90 → stamps .more ≤ 1024 * 90
+    parts-move : grids .more ≤ gridStride * mostGrids → stamps .more ≤ pageStamps * mostGrids
         → StartsMove grids stamps (i + length new) (i + length new + (l .pool .tracked - j)) put
     parts-move few less =
         written-moves grids stamps (kept ++ drop j (trackedRecords l)) (i + length new + (l .pool .tracked - j)) length-put (l .textures) (i + length new) one
@@ -353,7 +355,7 @@ module _ (l : Lent) (p : PoolModel ℕ) (f : Fits l) where
 
   -- ---- and all of them can be moved so
 
-  module _ (grids stamps : Shift) (gridsFew : grids .more ≤ 90) (stampsFew : stamps .more ≤ 1024 * 90) where
+  module _ (grids stamps : Shift) (gridsFew : grids .more ≤ gridStride * mostGrids) (stampsFew : stamps .more ≤ pageStamps * mostGrids) where
     pub renewed-moves : (i : ℕ) (t : VersionState ℕ) → i < l .pool .tracked
         → grids .less ≡ newestUsed (stateOf l i) → stamps .less ≡ stampsUsed (stateOf l i)
         → StartsMove grids stamps (suc i) (l .pool .tracked) (sets (l .textures) (textureStride * i) (writeTexture (placedRecord l i t)))

@@ -2,7 +2,6 @@ pub mod Refusals
 pub mod Counts
 pub mod Tracked
 pub mod Ends
-pub mod StartsBehind
 pub mod FreshNumbers
 pub mod Trackings
 pub mod Started

@@ -46,7 +46,7 @@ use Rattle.pool_memory.proofs.Stays.{put-together, book-stays, ids-ascend, text
 use Rattle.pool_memory.proofs.Places.{changed}
 use Rattle.pool_memory.proofs.Changes.{sparesBefore, every-emptied, spares-removed}
 use Rattle.pool_memory.proofs.HistoryRuns.{gridCountAt, stampCountAt, grids-in, stamps-in, newest-renewed, stamps-renewed}
-use Rattle.pool_memory.proofs.Starts.{placedRecord, textures-renewed}
+use Rattle.pool_memory.proofs.Starts.{placedRecord, textures-renewed, renewed-moves}
 use Rattle.pool_memory.proofs.Asked.{asked-accepted}
 use Rattle.pool_memory.proofs.Tracked.{record-read, spares-to, bytes-at, shape-at, count-at, grid-at, stamp-at, grids-at, stamps-at}
 use Rattle.pool_take_doomed.specs.Given.{givenRecords}
@@ -61,7 +61,6 @@ use Rattle.pool_tracking.proofs.Refusals.{shape-passed, take-renewed, f
 use Rattle.pool_tracking.proofs.Counts.{counted, begunCounts, counts-after}
 use Rattle.pool_tracking.proofs.Tracked.{spares-within, kept-fits, is-there, found-there, here}
 use Rattle.pool_tracking.proofs.Ends.{newest-most, stamps-most, grid-begins, stamp-begins, grids-held, stamps-held}
-use Rattle.pool_tracking.proofs.StartsBehind.{behind-renewed}
 use Rattle.pool_tracking.proofs.Trackings.{begun, begun-record, begun-grids, begun-stamps, newest-fresh, stamps-zeros, newest-count, stamps-count, grids-few, stamps-few, run-renewed}
 
 module _ (l : Lent) (new : NewTracking) (ok : Begins l new) (h : TrackedAt l (new .place) (new .id))
@@ -283,7 +282,7 @@ module _ (l : Lent) (new : NewTracking) (ok : Begins l new) (h : TrackedAt l (ne
 
       starts-move : StartsMove (gridShift hold fresh) (stampShift hold new) (i + 1) (l .pool .tracked) written
       starts-move j a b =
-          behind-renewed l f renewed (gridShift hold fresh) (stampShift hold new) (omega (arith, grids-few (new .shape) shaped (new .records), fresh-is))
+          renewed-moves l renewed f (gridShift hold fresh) (stampShift hold new) (omega (arith, grids-few (new .shape) shaped (new .records), fresh-is))
           (omega (arith, stamps-few (new .shape) shaped (new .records), ok .1)) i state (h .0) grids-out stamps-out j (omega (arith, a)) b
 
       textures-left : (textures : List ℕ)

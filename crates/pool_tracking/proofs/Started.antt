@@ -36,7 +36,7 @@ use Rattle.pool_memory.proofs.Stays.{put-together, book-stays, ids-ascend, spar
 use Rattle.pool_memory.proofs.Places.{IsTracked, not-found, put-in}
 use Rattle.pool_memory.proofs.Changes.{every-inserted}
 use Rattle.pool_memory.proofs.HistoryRuns.{grid-bound, stamp-bound, newest-inserted, stamps-inserted}
-use Rattle.pool_memory.proofs.Starts.{placedRecord, textures-inserted}
+use Rattle.pool_memory.proofs.Starts.{placedRecord, textures-inserted, inserted-moves}
 use Rattle.pool_memory.proofs.Asked.{asked-accepted}
 use Rattle.pool_tracking.specs.declared.begun.NewTracking.{NewTracking}
 use Rattle.pool_tracking.specs.declared.start.First.{First}
@@ -47,7 +47,6 @@ use Rattle.pool_tracking.proofs.Refusals.{shape-passed, take-new, forme
 use Rattle.pool_tracking.proofs.Counts.{counted, counts-after}
 use Rattle.pool_tracking.proofs.Tracked.{not-there}
 use Rattle.pool_tracking.proofs.Ends.{newest-most, stamps-most, first-there}
-use Rattle.pool_tracking.proofs.StartsBehind.{behind-inserted}
 use Rattle.pool_tracking.proofs.Trackings.{begun, begun-record, begun-grids, begun-stamps, newest-fresh, stamps-zeros, newest-count, stamps-count, grids-few, stamps-few, run-put}
 
 -- the counts and the three slices that change
@@ -197,7 +196,7 @@ module _ (l : Lent) (new : NewTracking) (ok : Begins l new) (untracked : Tracked
 
   starts-move : StartsMove (moreBy grids) (moreBy (new .stamps)) (i + 1) (l .pool .tracked + 1) put
   starts-move j a b =
-      behind-inserted l f started (moreBy grids) (moreBy (new .stamps)) (grids-few (new .shape) shaped (new .records))
+      inserted-moves l started f (moreBy grids) (moreBy (new .stamps)) (grids-few (new .shape) shaped (new .records))
       (omega (arith, stamps-few (new .shape) shaped (new .records), ok .1)) i state record-room place-bound refl refl j (omega (arith, a)) (omega (arith, b))
 
   pub start-fits : StartFits (l .pool) (l .textures) (l .newest) (l .stamps) new
