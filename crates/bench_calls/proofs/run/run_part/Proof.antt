@@ -25,8 +25,8 @@ mul-d c = search needs
 mul-e : tie.Need-mul-e
 mul-e c = search needs
 
-grid-places-requires : tie.Need-grid-places-requires
-grid-places-requires c κs = search needs
+newest-length-requires : tie.Need-newest-length-requires
+newest-length-requires c κs = search needs
 
 slice-relend-prefix-run : tie.Need-slice-relend-prefix-run
 slice-relend-prefix-run c = search needs
@@ -56,7 +56,7 @@ slice-relend-prefix-run-5 : tie.Need-slice-relend-prefix-run-5
 slice-relend-prefix-run-5 c = search needs
 
 slice-aggregate-run-5 : tie.Need-slice-aggregate-run-5
-slice-aggregate-run-5 c = let z = c .before .before .before .before .before .before .before .before .before .before .before .before .before in let g = c .before .before .before .before .before .grid-places in sym (length-take-le (g .result) (z .args .newest .now) (grids-fit _ _ _ _ (z .pre .0) (z .pre .7) (g .ensures)))
+slice-aggregate-run-5 c = let z = c .before .before .before .before .before .before .before .before .before .before .before .before .before in let g = c .before .before .before .before .before .newest-length in sym (length-take-le (g .result) (z .args .newest .now) (grids-fit _ _ _ _ (z .pre .0) (z .pre .7) (g .ensures)))
 
 slice-relend-prefix-run-6 : tie.Need-slice-relend-prefix-run-6
 slice-relend-prefix-run-6 c = search needs
@@ -80,7 +80,7 @@ same-length-4 : tie.Need-same-length-4
 same-length-4 c = let z = c .before .before .before .before .before .before .before .before .before .before .before .before .before .before .before .before .before .before .before .before .before .before .before .before .before .before .before .before .before .before in cut-long (spareStride * z .args .v) (z .args .spares .now) (c .before .before .before .before .before .before .before .before .before .before .before .before .before .before .run .last .1 .1 .1 .0) (omega (arith, z .pre .1, z .pre .6)) (c .before .before .before .before .before .before .before .before .before .before .before .before .before .before .run .kept .1 .1 .1 .0)
 
 same-length-5 : tie.Need-same-length-5
-same-length-5 c = let z = c .before .before .before .before .before .before .before .before .before .before .before .before .before .before .before .before .before .before .before .before .before .before .before .before .before .before .before .before .before .before in let g = c .before .before .before .before .before .before .before .before .before .before .before .before .before .before .before .before .before .before .before .before .before .before .grid-places in cut-long (g .result) (z .args .newest .now) (c .before .before .before .before .before .before .before .before .before .before .before .before .before .before .run .last .1 .1 .1 .1 .0) (grids-fit _ _ _ _ (z .pre .0) (z .pre .7) (g .ensures)) (c .before .before .before .before .before .before .before .before .before .before .before .before .before .before .run .kept .1 .1 .1 .1 .0)
+same-length-5 c = let z = c .before .before .before .before .before .before .before .before .before .before .before .before .before .before .before .before .before .before .before .before .before .before .before .before .before .before .before .before .before .before in let g = c .before .before .before .before .before .before .before .before .before .before .before .before .before .before .before .before .before .before .before .before .before .before .newest-length in cut-long (g .result) (z .args .newest .now) (c .before .before .before .before .before .before .before .before .before .before .before .before .before .before .run .last .1 .1 .1 .1 .0) (grids-fit _ _ _ _ (z .pre .0) (z .pre .7) (g .ensures)) (c .before .before .before .before .before .before .before .before .before .before .before .before .before .before .run .kept .1 .1 .1 .1 .0)
 
 same-length-6 : tie.Need-same-length-6
 same-length-6 c = let z = c .before .before .before .before .before .before .before .before .before .before .before .before .before .before .before .before .before .before .before .before .before .before .before .before .before .before .before .before .before .before in cut-long (pageStamps * z .args .p) (z .args .stamps .now) (c .before .before .before .before .before .before .before .before .before .before .before .before .before .before .run .last .1 .1 .1 .1 .1 .0) (omega (arith, z .pre .2, z .pre .8)) (c .before .before .before .before .before .before .before .before .before .before .before .before .before .before .run .kept .1 .1 .1 .1 .1 .0)
@@ -100,7 +100,7 @@ run-part-spec =
     mul-c
     mul-d
     mul-e
-    grid-places-requires
+    newest-length-requires
     slice-relend-prefix-run
     slice-aggregate-run
     slice-relend-prefix-run-2

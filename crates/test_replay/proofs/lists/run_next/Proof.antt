@@ -31,8 +31,8 @@ mul-s c = search needs
 mul-m : tie.Need-mul-m
 mul-m c = search needs
 
-grid-places-requires : tie.Need-grid-places-requires
-grid-places-requires c κs = search needs
+newest-length-requires : tie.Need-newest-length-requires
+newest-length-requires c κs = search needs
 
 mul-c : tie.Need-mul-c
 mul-c c = search needs
@@ -85,7 +85,7 @@ part-run-list-start-5 c = search needs
 
 part-run-list-end-5 : tie.Need-part-run-list-end-5
 part-run-list-end-5 c =
-    grids-fit _ _ _ _ (c .before .before .before .before .before .before .before .sizes-of .ensures .0) (c .before .before .before .before .before .before .before .before .before .before .before .before .before .before .before .before .before .before .before .before .before .pre .0 .newest-are) (c .before .before .before .before .before .grid-places .ensures)
+    grids-fit _ _ _ _ (c .before .before .before .before .before .before .before .sizes-of .ensures .0) (c .before .before .before .before .before .before .before .before .before .before .before .before .before .before .before .before .before .before .before .before .before .pre .0 .newest-are) (c .before .before .before .before .before .newest-length .ensures)
 
 sub-run-list-6 : tie.Need-sub-run-list-6
 sub-run-list-6 c = search needs
@@ -167,7 +167,7 @@ same-length-6 : tie.Need-same-length-6
 same-length-6 c =
     let r = c .before .before .before .before .before .before .before .before .before .before .before .before .before .before .before .before .before .before .before .before .run-list in
     let y = c .before .before .before .before .before .before .before .before .before .before .before .before .before .before .before .before .before .before .before .before .before .before .before .before .before .before .before .before .before .before .before .before .before .sizes-of in
-    let g = c .before .before .before .before .before .before .before .before .before .before .before .before .before .before .before .before .before .before .before .before .before .before .before .before .before .before .before .before .before .before .before .grid-places in
+    let g = c .before .before .before .before .before .before .before .before .before .before .before .before .before .before .before .before .before .before .before .before .before .before .before .before .before .before .before .before .before .before .before .newest-length in
     let s = c .before .before .before .before .before .before .before .before .before .before .before .before .before .before .before .before .before .before .before .before .before .before .before .before .before .before .before .before .before .before .before .before .before .before .before .before .before .before .before .before .before .before .before .before .before .before .before in
     put-back (s .args .newest .now) (r .last .1 .1 .1 .1 .1 .1 .0) (g .result) (grids-fit _ _ _ _ (y .ensures .0) (s .pre .0 .newest-are) (g .ensures)) (r .kept .1 .1 .1 .1 .1 .1 .0)
 
@@ -212,7 +212,7 @@ run-next-spec =
     mul-d
     mul-s
     mul-m
-    grid-places-requires
+    newest-length-requires
     mul-c
     sub-run-list
     part-run-list-start
