@@ -12,7 +12,6 @@ use lib.Seq.{take-all, length-take-le}
 use Rattle.base_blocks.specs.Blocks.{largest}
 use Rattle.base_blocks.specs.Lists.{all, listed, tests, after}
 use Rattle.base_blocks.proofs.Listed.{left, all-stop, all-done}
-use Rattle.base_unequal.proofs.Starts.{start-none}
 use Rattle.grid_shapes.specs.declared.shape.VersionShape.{VersionShape}
 use Rattle.grid_shapes.specs.Shapes.{isShape}
 use Rattle.grid_axes.specs.declared.axis.Axis.{Axis}
@@ -20,7 +19,7 @@ use Rattle.grid_axes.specs.Axes.{AxisOk}
 use Rattle.grid_stamps.specs.Grids.{Tiling, tiled, tilingOf, stampCount, gridIn, largestStamp}
 use Rattle.grid_stamps.proofs.Tilings.{tiling-ok, count-pos}
 use Rattle.pool_rules.specs.Model.{gridCount}
-use Rattle.pool_rules.specs.HistorySizes.{gridSize, gridPlaces, gridStart, historySize}
+use Rattle.pool_rules.specs.HistorySizes.{gridSize, gridStart, historySize}
 use Rattle.pool_rules.proofs.HistorySizes.{grid-next, grid-end, grid-last, history-most}
 use Rattle.grid_stamps.specs.StampConstants.{pageStamps}
 use Rattle.pool_rules.specs.RuleConstants.{gridStride, mostGrids}
@@ -58,10 +57,6 @@ module _ (g : Tiling) (writes newest : ℕ) (stamps : List ℕ) where
   grid-ahead h = rw (lt-leb newest writes h) (and-false (eqb (largest (take (stampCount g) stamps)) newest))
 
 -- ---- the grids of a history, whose numbers of `newest` and whose stamps are just these
-
-pub first-start : (s : VersionShape) → gridStart s 0 ≡ 0
-unfolding gridStart
-first-start s = start-none (gridSize s) (gridPlaces s)
 
 -- the places that the pass over a history's grids goes along
 abbrev pub place : ℕ → ℕ

@@ -9,12 +9,11 @@ use lib.ListN.{length, getD, set}
 use lib.Seq.{sets, getD-set-other, set-getD}
 use Rattle.grid_shapes.specs.declared.shape.VersionShape.{VersionShape}
 use Rattle.grid_shapes.specs.Shapes.{isShape}
-use Rattle.grid_stamps.specs.Grids.{StampGrid, tilingOf}
+use Rattle.grid_stamps.specs.Grids.{StampGrid}
 use Rattle.pool_rules.specs.Model.{gridCount}
 use Rattle.pool_rules.specs.RuleConstants.{gridStride}
-use Rattle.pool_records.specs.declared.tiling.GridTiling.{GridTiling}
-use Rattle.pool_records.specs.Tilings.{readTiling, gridTiling, tilingNumber, tilingIn, EdgesAt}
-use Rattle.pool_records.proofs.Tilings.{grid-tiling}
+use Rattle.pool_records.specs.Tilings.{tilingNumber, EdgesAt}
+use Rattle.pool_records.proofs.Tilings.{edges-held}
 use Rattle.pool_memory.specs.Writing.{newestFrom}
 use Rattle.pool_history.specs.Remade.{TilingsAt, newestWritten}
 
@@ -73,10 +72,4 @@ module _ (s : VersionShape) where
   -- and tell the edges of the k-th grid's level
   pub edges-there : isShape s ≡ true → (newest : List ℕ) (grid k level : ℕ) → k < gridCount s → TilingsAt newest grid s → level ≡ k % s .levels
       → EdgesAt newest (grid + gridStride * k) s level
-  unfolding gridTiling
-  edges-there shaped newest grid k level h beside e =
-      let held : tilingIn newest (grid + gridStride * k) ≡ gridTiling s k = ap readTiling (beside k h) ∙ grid-tiling s shaped k h in
-      record {
-        across = ap (λ (t : GridTiling). t .across) held ∙ ap (λ (m : ℕ). tilingOf s m .across .edge) (sym e);
-        down = ap (λ (t : GridTiling). t .down) held ∙ ap (λ (m : ℕ). tilingOf s m .down .edge) (sym e);
-      }
+  edges-there shaped newest grid k level h beside e = edges-held s shaped newest (grid + gridStride * k) k h (beside k h) level (sym e)

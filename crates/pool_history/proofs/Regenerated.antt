@@ -13,7 +13,6 @@ use lib.Seq.{sets, drop-set-lt}
 use Rattle.base_blocks.specs.Lists.{listed}
 use Rattle.base_blocks.proofs.Lists.{either}
 use Rattle.base_blocks.proofs.Listed.{length-listed, listed-more}
-use Rattle.base_unequal.proofs.Starts.{start-none}
 use Rattle.grid_shapes.specs.declared.shape.VersionShape.{VersionShape}
 use Rattle.grid_shapes.specs.Shapes.{isShape, levelExtent, levelWidth, levelHeight}
 use Rattle.grid_shapes.proofs.Shapes.{shape-bounds}
@@ -24,9 +23,9 @@ use Rattle.grid_stamps.proofs.Tilings.{tiling-ok}
 use Rattle.grid_stamps.proofs.Stamps.{length-stamped}
 use Rattle.pool_rules.specs.Model.{gridCount}
 use Rattle.pool_rules.specs.Histories.{regenerateFrom}
-use Rattle.pool_rules.specs.HistorySizes.{gridSize, gridPlaces, gridStart, historySize}
+use Rattle.pool_rules.specs.HistorySizes.{gridSize, gridStart, historySize}
 use Rattle.pool_rules.specs.RuleConstants.{gridStride}
-use Rattle.pool_rules.proofs.HistorySizes.{grid-next, grid-end}
+use Rattle.pool_rules.proofs.HistorySizes.{grid-first, grid-next, grid-end}
 use Rattle.pool_memory.specs.Reading.{gridOn}
 use Rattle.pool_memory.proofs.Parts.{flat-append}
 use Rattle.pool_memory.proofs.Rewritten.{sets-append}
@@ -77,10 +76,6 @@ level-after level k levels e = ap (λ (i : ℕ). (i + 1) % levels) e ∙ mod-add
 -- ---- where the grids begin
 
 module _ (s : VersionShape) where
-  pub start-first : gridStart s 0 ≡ 0
-  unfolding gridStart
-  start-first = start-none (gridSize s) (gridPlaces s)
-
   -- by a grid's level
   module _ (k level : ℕ) (h : k < gridCount s) (e : level ≡ k % s .levels) where
     size-level : stampCount (tilingOf s level) ≡ gridSize s k
@@ -136,7 +131,7 @@ module _ (s : VersionShape) (shaped : isShape s ≡ true) (n : ℕ) (newest stam
     -- so the first k of them take what stands before the next
     pub length-stamps : (k : ℕ) → k ≤ gridCount s → length (flatMap stampsIn (remade k)) ≡ gridStart s k
     unfolding remadeGrids listed flatMap
-    length-stamps zero h = sym (start-first s)
+    length-stamps zero h = sym (grid-first s)
     length-stamps (suc k) h =
         ap (λ (gs : List StampGrid). length (flatMap stampsIn gs)) (remade-next k)
         ∙ ap length (flat-append stampsIn (remade k) (remadeAt k ∷ []) ∙ ap (λ (xs : List ℕ). flatMap stampsIn (remade k) ++ xs) (append-nil (remadeAt k .stamps)))

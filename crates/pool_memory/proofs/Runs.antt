@@ -20,9 +20,8 @@ use Rattle.base_unequal.specs.Unequal.{startOf, startsFit}
 use Rattle.base_unequal.proofs.Readings.{start-held}
 use Rattle.pool_rules.specs.Model.{Spare, VersionState, gridCount, hasHistory}
 use Rattle.pool_rules.specs.HistorySizes.{gridPlaces, gridSize, gridStart, historySize, newestUsed, stampsUsed}
-use Rattle.base_unequal.proofs.Starts.{start-none}
 use Rattle.pool_rules.specs.RuleConstants.{gridStride}
-use Rattle.pool_rules.proofs.HistorySizes.{grid-next, grid-last}
+use Rattle.pool_rules.proofs.HistorySizes.{grid-first, grid-next, grid-last}
 use Rattle.pool_records.specs.declared.recorded.Recorded.{Recorded}
 use Rattle.pool_records.specs.declared.recorded.Recorded.the-variants.{Writes, NoHistory}
 use Rattle.pool_records.specs.declared.texture.TextureRecord.{TextureRecord}
@@ -119,15 +118,11 @@ module _ (l : Lent) where
   unfolding stateRead tilingsHold
   newest-state first t e = newest-read (t .shape) (t .grid) (t .stamp) (t .history) e
 
-  pub none-before : (s : VersionShape) → gridStart s 0 ≡ 0
-  unfolding gridStart
-  none-before s = start-none (gridSize s) (gridPlaces s)
-
   -- its stamps: those of its first k grids are as many as stand before the next
   stamps-front : (s : VersionShape) (grid stamp k : ℕ) → k ≤ gridCount s
       → flatMap (λ (g : StampGrid). g .stamps) (listed (gridRead l s grid stamp) 0 k) ≡ take (gridStart s k) (drop stamp (l .stamps))
   unfolding flatMap listed gridRead gridIn gridSize
-  stamps-front s grid stamp zero h = sym (ap (λ (n : ℕ). take n (drop stamp (l .stamps))) (none-before s))
+  stamps-front s grid stamp zero h = sym (ap (λ (n : ℕ). take n (drop stamp (l .stamps))) (grid-first s))
   stamps-front s grid stamp (suc k) h =
       let f : StampGrid → List ℕ = λ g. g .stamps in
       let st = drop stamp (l .stamps) in

@@ -18,7 +18,7 @@ use Rattle.pool_rules.specs.Model.{WriteHistory, VersionState, PoolModel, hasHi
 use Rattle.pool_rules.specs.Histories.{gridAt, gridPlace}
 use Rattle.pool_rules.specs.RuleConstants.{gridStride}
 use Rattle.pool_rules.specs.HistorySizes.{gridSize, gridStart, historySize, newestUsed, stampsUsed}
-use Rattle.pool_rules.proofs.HistorySizes.{grid-next, grid-end}
+use Rattle.pool_rules.proofs.HistorySizes.{grid-first, grid-next, grid-end}
 use Rattle.pool_records.specs.declared.recorded.Recorded.{Recorded}
 use Rattle.pool_records.specs.declared.recorded.Recorded.the-variants.{Writes, NoHistory}
 use Rattle.pool_records.specs.Texture.{readTexture, recordedGrids, recordedStamps}
@@ -29,7 +29,7 @@ use Rattle.pool_memory.proofs.Fits.{Fits}
 use Rattle.pool_memory.proofs.NewestNumbers.{length-newest-from, newest-set}
 use Rattle.pool_memory.proofs.Parts.{map-set, upTo, flat-set, total-next}
 use Rattle.pool_memory.proofs.Rewritten.{sets-self, set-sets, sets-part}
-use Rattle.pool_memory.proofs.Runs.{none-before, firstSpare, firstGrid, firstStamp, stateOf, grids-state, stamps-used-state, grid-held-at, stamp-held-at}
+use Rattle.pool_memory.proofs.Runs.{firstSpare, firstGrid, firstStamp, stateOf, grids-state, stamps-used-state, grid-held-at, stamp-held-at}
 use Rattle.pool_memory.proofs.Packings.{newestPacking, stampsPacking, one-packed}
 use Rattle.pool_memory.proofs.HistoryRuns.{gridCountAt, stampCountAt, grids-in, stamps-in, newest-rewritten, stamps-rewritten}
 
@@ -154,7 +154,7 @@ module _ (l : Lent) (f : Fits l) (p : PoolModel ℕ) (i : ℕ) (h : i < l .pool 
   -- and begins where those before it end
   start-of : (j : ℕ) → gridStride * j ≤ gridCountAt l i → upTo (λ (x : StampGrid). x .stamps) j (gridsAt l i) ≡ gridStart (stateOf l i .shape) j
   unfolding total
-  start-of zero r = sym (none-before l (stateOf l i .shape))
+  start-of zero r = sym (grid-first (stateOf l i .shape))
   start-of (suc j) r =
       let s = stateOf l i .shape in
       let a = total-next (λ (x : StampGrid). length (x .stamps)) (gridsAt l i) j noGrid (omega (arith, r, length-grids l i)) in

@@ -28,6 +28,7 @@ use Rattle.pool_records.specs.declared.texture.TextureRecord.{TextureRecord}
 use Rattle.pool_records.specs.Texture.{readTexture, textureIn, recordedGrids, recordGrids, recordedStamps, recordStamps}
 use Rattle.pool_records.specs.Find.{idOf, hasId}
 use Rattle.pool_records.specs.Tilings.{tilingIn, EdgesAt}
+use Rattle.pool_rules.proofs.GridPlaces.{place-level}
 use Rattle.pool_records.proofs.Tilings.{start-held, edges-held}
 use Rattle.pool_access.proofs.Ids.{found}
 use Rattle.pool_memory.specs.Lent.{Lent}
@@ -96,14 +97,14 @@ module _ (textures newest stamps : List ℕ) (i : ℕ) (h : HistoryAt textures n
         ≡ gridStart (t .shape) (slice * t .shape .levels + level)
     start-beside =
         let k = place-inside (t .shape) slice level inside-read in
-        start-held (t .shape) shape-read newest (t .grid + gridStride * (slice * t .shape .levels + level)) slice level k
-        (within (t .shape) slice level inside-read .1) (tilings-read (slice * t .shape .levels + level) k)
+        start-held (t .shape) shape-read newest (t .grid + gridStride * (slice * t .shape .levels + level)) (slice * t .shape .levels + level) k
+        (tilings-read (slice * t .shape .levels + level) k)
 
     pub edges-beside : EdgesAt newest (t .grid + gridStride * (slice * t .shape .levels + level)) (t .shape) level
     edges-beside =
         let k = place-inside (t .shape) slice level inside-read in
-        edges-held (t .shape) shape-read newest (t .grid + gridStride * (slice * t .shape .levels + level)) slice level k
-        (within (t .shape) slice level inside-read .1) (tilings-read (slice * t .shape .levels + level) k)
+        edges-held (t .shape) shape-read newest (t .grid + gridStride * (slice * t .shape .levels + level)) (slice * t .shape .levels + level) k
+        (tilings-read (slice * t .shape .levels + level) k) level (place-level slice level (t .shape .levels) (within (t .shape) slice level inside-read .1))
 
     pub start-read : t .stamp + gridStart (t .shape) (slice * t .shape .levels + level) + stampCount (tilingOf (t .shape) level) ≤ length stamps
     start-read = omega (arith, stamps-read, stamps-inside (t .shape) slice level inside-read)

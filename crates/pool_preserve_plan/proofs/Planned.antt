@@ -19,11 +19,11 @@ use Rattle.grid_stamps.specs.declared.since.Dirty.the-variants.{Box, Clean}
 use Rattle.grid_stamps.specs.Grids.{Tiling, tiled, tilingOf, stampCount, gridIn, boxSince}
 use Rattle.grid_stamps.proofs.Tilings.{tiling-ok}
 use Rattle.pool_rules.specs.Model.{UploadFootprint, gridCount}
-use Rattle.pool_rules.specs.HistorySizes.{gridSize, gridStart, levelStart}
+use Rattle.pool_rules.specs.HistorySizes.{gridSize, gridStart}
 use Rattle.pool_rules.specs.PreservePlan.{sameRect, covers}
 use Rattle.pool_rules.specs.RuleConstants.{gridStride}
 use Rattle.pool_rules.proofs.GridPlaces.{place-level}
-use Rattle.pool_rules.proofs.HistorySizes.{grid-next, grid-end, grid-start, level-none}
+use Rattle.pool_rules.proofs.HistorySizes.{grid-first, grid-next, grid-end}
 use Rattle.pool_memory.specs.Reading.{gridOn}
 use Rattle.pool_preserve_plan.specs.declared.copy.Planned.the-variants.{Skipped, Copied}
 use Rattle.pool_preserve_plan.specs.declared.since.Since.{Since}
@@ -116,17 +116,11 @@ pub next-nothing : (s : VersionShape) (level : ℕ) (since : Since) → since �
 next-nothing s level since e = sym (ap (nextSince s level) e)
 
 module _ (s : VersionShape) where
-  first-start : gridStart s 0 ≡ 0
-  first-start =
-      let a : 0 * s .levels + 0 ≡ 0 = omega (arith, zero-mul (s .levels)) in
-      let b = grid-start s 0 0 (omega arith) (omega (arith, a)) in
-      omega (arith, ap (gridStart s) a, b, zero-mul (levelStart s (s .levels)), level-none s)
-
   pub since-first : (since : Since) → sinceAt s since 0 ≡ since
   since-first Nothing = refl
   since-first (After grid stamp held) =
       ap₂ (λ (g n : ℕ). After g n held) (let none : grid + gridStride * 0 ≡ grid = omega arith in none)
-      (ap (λ (n : ℕ). stamp + n) first-start ∙ add-zero stamp)
+      (ap (λ (n : ℕ). stamp + n) (grid-first s) ∙ add-zero stamp)
 
   pub since-next : (since : Since) (k level : ℕ) → k < gridCount s → level ≡ k % s .levels → nextSince s level (sinceAt s since k) ≡ sinceAt s since (k + 1)
   unfolding gridSize

@@ -2,7 +2,7 @@
 use mathlib.Core.Path.{_≡_, ap, _∙_}
 use mathlib.Core.Bool.{true}
 use mathlib.Core.List.{List}
-use Prim.Native.Nat.{ℕ, suc, _+_, _*_, _/_, _%_, _≤_, _<_}
+use Prim.Native.Nat.{ℕ, _+_, _*_, _/_, _%_, _<_}
 use native.Mathlib.Omega.{arith}
 use lib.ListN.{getD}
 use Rattle.grid_shapes.specs.declared.shape.VersionShape.{VersionShape}
@@ -12,7 +12,6 @@ use Rattle.grid_stamps.proofs.Tilings.{tiling-ok}
 use Rattle.pool_rules.specs.Model.{gridCount}
 use Rattle.pool_rules.specs.HistorySizes.{gridStart}
 use Rattle.pool_rules.proofs.HistorySizes.{grid-end, history-most}
-use Rattle.pool_rules.proofs.GridPlaces.{place-level}
 use Rattle.pool_records.specs.declared.tiling.GridTiling.{GridTiling}
 use Rattle.pool_records.specs.Tilings.{packedTiling, readTiling, TilingFits, gridTiling, tilingNumber, tilingIn, EdgesAt}
 use Rattle.pool_records.specs.RecordConstants.{startSpan, edgeSpan, downUnit}
@@ -47,19 +46,18 @@ module _ (s : VersionShape) (shaped : isShape s ≡ true) where
   unfolding tilingNumber
   grid-tiling k h = tiling-read (gridTiling s k) (tiling-fits k h)
 
-  -- where it stands beside a grid's newest stamp, it tells where the grid begins and its level's edges
-  module _ (newest : List ℕ) (p slice level : ℕ) (h : slice * s .levels + level < gridCount s) (q : level < s .levels)
-      (e : getD newest (p + 1) 0 ≡ tilingNumber s (slice * s .levels + level)) where
-    held : tilingIn newest p ≡ gridTiling s (slice * s .levels + level)
-    held = ap readTiling e ∙ grid-tiling (slice * s .levels + level) h
+  -- where it stands beside the newest stamp of a history's k-th grid, it tells where the grid begins and its level's edges
+  module _ (newest : List ℕ) (p k : ℕ) (h : k < gridCount s) (e : getD newest (p + 1) 0 ≡ tilingNumber s k) where
+    held : tilingIn newest p ≡ gridTiling s k
+    held = ap readTiling e ∙ grid-tiling k h
 
-    pub start-held : tilingIn newest p .start ≡ gridStart s (slice * s .levels + level)
+    pub start-held : tilingIn newest p .start ≡ gridStart s k
     unfolding gridTiling
     start-held = ap (λ (t : GridTiling). t .start) held
 
-    pub edges-held : EdgesAt newest p s level
+    pub edges-held : (level : ℕ) → k % s .levels ≡ level → EdgesAt newest p s level
     unfolding gridTiling
-    edges-held = record {
-      across = ap (λ (t : GridTiling). t .across) held ∙ ap (λ (m : ℕ). tilingOf s m .across .edge) (place-level slice level (s .levels) q);
-      down = ap (λ (t : GridTiling). t .down) held ∙ ap (λ (m : ℕ). tilingOf s m .down .edge) (place-level slice level (s .levels) q);
+    edges-held level at = record {
+      across = ap (λ (t : GridTiling). t .across) held ∙ ap (λ (m : ℕ). tilingOf s m .across .edge) at;
+      down = ap (λ (t : GridTiling). t .down) held ∙ ap (λ (m : ℕ). tilingOf s m .down .edge) at;
     }

@@ -15,7 +15,7 @@ use Rattle.base_blocks.specs.All.{All, nil, cons}
 use Rattle.base_blocks.proofs.Lists.{total-append}
 use Rattle.base_blocks.proofs.Listed.{length-listed, listed-more, getD-listed, listed-split, take-listed}
 use Rattle.base_unequal.specs.Unequal.{startOf}
-use Rattle.base_unequal.proofs.Starts.{start-next, start-end, start-all}
+use Rattle.base_unequal.proofs.Starts.{start-none, start-next, start-end, start-all}
 use Rattle.grid_shapes.specs.declared.shape.VersionShape.{VersionShape}
 use Rattle.grid_shapes.specs.Shapes.{isShape, slicesOf}
 use Rattle.grid_shapes.proofs.Shapes.{shape-bounds, slices-bound}
@@ -54,10 +54,14 @@ total-places f g (suc n) i j h =
     ap f (let e : suc i + k ≡ i + suc k = omega arith in e) ∙ h (suc k) (omega arith) ∙ ap g (let e : j + suc k ≡ suc j + k = omega arith in e)))
 
 module _ (s : VersionShape) where
-  -- ---- a grid ends where the next begins, and the last where its history does
+  -- ---- the first grid begins at 0, a grid ends where the next begins, and the last where its history does
 
   place-at : (k : ℕ) → k < gridCount s → getD (gridPlaces s) k 0 ≡ k
   place-at k h = getD-listed self 0 (gridCount s) k 0 h ∙ (let e : 0 + k ≡ k = omega arith in e)
+
+  pub grid-first : gridStart s 0 ≡ 0
+  unfolding gridStart
+  grid-first = start-none (gridSize s) (gridPlaces s)
 
   pub grid-next : (k : ℕ) → k < gridCount s → gridStart s (suc k) ≡ gridStart s k + gridSize s k
   unfolding gridStart

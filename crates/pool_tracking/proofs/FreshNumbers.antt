@@ -3,7 +3,7 @@ use mathlib.Core.Path.{_≡_, refl, sym, ap, ap₂, _∙_, subst}
 use mathlib.Core.Bool.{true}
 use mathlib.Core.List.{List, [], _∷_, _++_}
 use Prim.Native.Nat.{ℕ, zero, suc, _+_, _*_, _%_, _≤_, _<_}
-use native.Mathlib.Nat.{add-zero, zero-add, zero-mul}
+use native.Mathlib.Nat.{add-zero, zero-add}
 use native.Mathlib.Numerals.{add-one}
 use native.Mathlib.Omega.{arith}
 use lib.ListN.{length, set}
@@ -14,8 +14,8 @@ use Rattle.grid_stamps.specs.Grids.{Tiling, tilingOf, stampCount}
 use Rattle.grid_stamps.specs.StampConstants.{pageStamps}
 use Rattle.pool_rules.specs.Model.{gridCount}
 use Rattle.pool_rules.specs.RuleConstants.{gridStride, mostGrids}
-use Rattle.pool_rules.specs.HistorySizes.{gridSize, gridStart, levelStart}
-use Rattle.pool_rules.proofs.HistorySizes.{grid-next, grid-end, grid-start, level-none, history-most}
+use Rattle.pool_rules.specs.HistorySizes.{gridSize, gridStart}
+use Rattle.pool_rules.proofs.HistorySizes.{grid-next, grid-end, history-most}
 use Rattle.pool_records.specs.declared.tiling.GridTiling.{GridTiling}
 use Rattle.pool_records.specs.Tilings.{packedTiling, TilingFits, gridTiling, tilingNumber, freshFrom}
 use Rattle.pool_records.proofs.Tilings.{tiling-fits}
@@ -55,12 +55,6 @@ module _ (s : VersionShape) where
       ∙ ap (λ (n : ℕ). sets l at (freshFrom s 0 n)) (sym (add-one k))
 
   -- ---- where the grids begin
-
-  pub begins-first : gridStart s 0 ≡ 0
-  begins-first =
-      ap (gridStart s) (let e : 0 ≡ 0 * s .levels + 0 = omega (arith, zero-mul (s .levels)) in e)
-      ∙ grid-start s 0 0 (omega arith) (omega (arith, zero-mul (s .levels)))
-      ∙ (let e : 0 * levelStart s (s .levels) + levelStart s 0 ≡ 0 = omega (arith, zero-mul (levelStart s (s .levels)), level-none s) in e)
 
   pub begins-next : (k count : ℕ) → k < gridCount s → count ≡ stampCount (tilingOf s (k % s .levels)) → gridStart s (k + 1) ≡ gridStart s k + count
   unfolding gridSize

@@ -13,7 +13,8 @@ use Rattle.pool_rules.specs.HistorySizes.{gridStart}
 use Rattle.pool_rules.proofs.HistorySizes.{grids-most}
 use Rattle.pool_memory.specs.IsPool.{isGrid}
 use Rattle.pool_formed_textures.specs.Textures.{ownGrid, ownTiling}
-use Rattle.pool_formed_textures.proofs.GridTests.{tiling-same, axes-ready, grid-ready, first-start, place, tiling-ready, tiling-test, grid-here, next-start, next-room, grids-few, grids-short, grids-stop, tilings-stop, grids-done}
+use Rattle.pool_rules.proofs.HistorySizes.{grid-first}
+use Rattle.pool_formed_textures.proofs.GridTests.{tiling-same, axes-ready, grid-ready, place, tiling-ready, tiling-test, grid-here, next-start, next-room, grids-few, grids-short, grids-stop, tilings-stop, grids-done}
 use Rattle.pool_formed_textures.proofs.histories_fit.grids_fit.Statement.{statement}
 use Rattle.pool_formed_textures.proofs.histories_fit.grids_fit.Tie as tie
 
@@ -42,7 +43,7 @@ loop-holds c =
     let a = c .before .before .before .before .args in (
       search needs,
       search needs,
-      sym (first-start (a .s)),
+      sym (grid-first (a .s)),
       ap (all (isGrid (a .writes))) (left-all (ownGrid (a .s) (a .newest .now) (a .stamps .now)) _),
       ap (all (ownTiling (a .s) (a .newest .now))) (left-all place _),
     )

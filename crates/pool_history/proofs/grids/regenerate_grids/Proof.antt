@@ -10,7 +10,8 @@ use Rattle.pool_rules.specs.HistorySizes.{gridStart}
 use Rattle.pool_rules.proofs.HistorySizes.{grids-most}
 use Rattle.pool_history.specs.Remade.{TilingsAt, newestWritten, stampsWritten, remadeGrids}
 use Rattle.pool_history.proofs.NewestWritten.{tilings-stay, edges-there}
-use Rattle.pool_history.proofs.Regenerated.{level-first, next-below, level-after, start-first, start-after, grid-room, remade-none, newest-remade, stamps-remade}
+use Rattle.pool_rules.proofs.HistorySizes.{grid-first}
+use Rattle.pool_history.proofs.Regenerated.{level-first, next-below, level-after, start-after, grid-room, remade-none, newest-remade, stamps-remade}
 use Rattle.pool_history.proofs.grids.regenerate_grids.Statement.{statement}
 use Rattle.pool_history.proofs.grids.regenerate_grids.Tie as tie
 
@@ -35,7 +36,7 @@ loop-holds c =
     let a = s .args in
     let e = remade-none (a .shape) (s .pre .0) (a .n) (a .newest .now) (a .stamps .now) (a .grid) (a .stamp) in
     let f = level-first (a .shape) (s .pre .0) in
-    (search needs, f .0, f .1, omega (arith, start-first (a .shape)), refl, refl, e .0, e .1)
+    (search needs, f .0, f .1, omega (arith, grid-first (a .shape)), refl, refl, e .0, e .1)
 
 mul-p : tie.Need-mul-p Inv-loop μ-loop
 mul-p c = search needs

@@ -12,7 +12,8 @@ use Rattle.pool_rules.specs.Model.{gridCount}
 use Rattle.pool_rules.specs.RuleConstants.{gridStride}
 use Rattle.pool_rules.specs.HistorySizes.{gridStart}
 use Rattle.pool_records.specs.Tilings.{freshFrom}
-use Rattle.pool_tracking.proofs.FreshNumbers.{none-written, one-written, begins-first, begins-next, made-number, made-fits, start-bound}
+use Rattle.pool_rules.proofs.HistorySizes.{grid-first}
+use Rattle.pool_tracking.proofs.FreshNumbers.{none-written, one-written, begins-next, made-number, made-fits, start-bound}
 use borrow.Author.Needs.{needs}
 use Rattle.pool_tracking.proofs.tilings.put_tilings.Statement.{statement}
 use Rattle.pool_tracking.proofs.tilings.put_tilings.Tie as tie
@@ -27,7 +28,7 @@ abbrev μ-loop : tie.MeasureT-loop
 loop-holds : tie.Need-loop-holds Inv-loop μ-loop
 loop-holds c =
     let a = c .before .args in
-    (search needs, sym (begins-first (a .shape)), refl, none-written (a .shape) (a .newest .now) (a .at))
+    (search needs, sym (grid-first (a .shape)), refl, none-written (a .shape) (a .newest .now) (a .at))
 
 rem-level : tie.Need-rem-level Inv-loop μ-loop
 rem-level c =
