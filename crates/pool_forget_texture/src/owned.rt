@@ -17,7 +17,7 @@ use pool_access::texture_at;
 use pool_memory::Pool;
 use pool_records::Shift;
 
-// Its spares begin at place `first`, its grids at `grid` and their stamps at `stamp`; `bytes` is what each of its versions takes.
+// Its spares begin at place `first`, its `grids` numbers of `newest` at `grid` and its stamps at `stamp`; `bytes` is what each of its versions takes.
 pub struct Owned {
     pub first: usize,
     pub spares: usize,

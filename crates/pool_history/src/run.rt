@@ -5,13 +5,13 @@ ghost use lib.ListN.{length};
 ghost use Rattle.base_blocks.specs.Blocks.{moved};
 use base_blocks::shift_down;
 
-// How many grids and how many stamps are in use.
+// How many numbers of `newest` and how many stamps are in use.
 pub struct Used {
     pub grids: usize,
     pub stamps: usize,
 }
 
-// Where a history's grids and its stamps begin, and how many they are.
+// Where a history's numbers of `newest` and its stamps begin, and how many they are.
 pub struct HistoryRun {
     pub grid: usize,
     pub grids: usize,

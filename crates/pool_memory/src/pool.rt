@@ -1,9 +1,9 @@
 // The pool's counts.
 ghost use mathlib.Core.Path.{_≡_};
 
-// `tracked` textures, `kept` spares, `grids` and their `stamps` in use stand packed at the front of their slices. The retiring ring begins at
-// place `head`: its first `popped` versions, one or none, are 01's hand, and `queued` versions follow. The destroy ring begins at
-// place `first` and has `doomed` versions, of which `since` arrived after the last take. `parked` and `dooming` are the bytes of
+// `tracked` textures, `kept` spares, `grids` numbers of `newest`, two for each grid, and `stamps` stamps are in use, packed at the front of
+// their slices. The retiring ring begins at place `head`: its first `popped` versions, one or none, are 01's hand, and `queued` versions
+// follow. The destroy ring begins at place `first` and has `doomed` versions, of which `since` arrived after the last take. `parked` and `dooming` are the bytes of
 // the spares and of the destroy queue; `cap` and `line` are the budget's. All are numbers: a bool leaves padding that slows copies.
 pub struct Pool {
     pub tracked: usize,

@@ -45,7 +45,7 @@ textureSparesAt = 18
 abbrev pub textureBytesAt : ℕ
 textureBytesAt = 19
 
--- Where a texture's record has the first of its history's grids.
+-- Where a texture's record has where its history begins in `newest`.
 abbrev pub textureGridAt : ℕ
 textureGridAt = 20
 

@@ -33,7 +33,7 @@ pub const TEXTURE_SPARES_AT: usize = 18;
 // Where a texture's record has the bytes of one version.
 pub const TEXTURE_BYTES_AT: usize = 19;
 
-// Where a texture's record has the first of its history's grids.
+// Where a texture's record has where its history begins in `newest`.
 pub const TEXTURE_GRID_AT: usize = 20;
 
 // Where a texture's record has the first of its history's stamps.

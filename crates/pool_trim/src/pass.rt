@@ -7,8 +7,8 @@ ghost use Rattle.pool_rules.specs.RuleConstants.{gridStride, mostPlaces};
 use crate::look_at::Look;
 use pool_memory::Pool;
 
-// The next texture's spares begin at place `first`. Of the textures before it `tracked` stay, with `kept` spares, `grids` grids and
-// their `stamps` stamps, and `count` spares were given up, of `freed` bytes.
+// The next texture's spares begin at place `first`. Of the textures before it `tracked` stay, with `kept` spares, `grids` numbers of
+// `newest` and `stamps` stamps, and `count` spares were given up, of `freed` bytes.
 pub struct Pass {
     pub first: usize,
     pub tracked: usize,
