@@ -10,7 +10,7 @@ use Rattle.base_tables.specs.Records.{table, recordAt}
 use Rattle.base_tables.proofs.Records.{length-table}
 use Rattle.pool_rules.specs.declared.held.Held.{Held}
 use Rattle.pool_books.specs.LentLists.{readCopy}
-use Rattle.event_text.specs.Numbers.{digitsOf}
+use Rattle.base_digits.specs.Digits.{digitsOf}
 use Rattle.event_answers.specs.declared.answer.Answer.{Answer}
 use Rattle.event_answers.specs.declared.answer.Answer.the-variants.{Question, Refused, Done, Spare, NoSpare, Version, NothingSettled, Views, Copies}
 use Rattle.event_answers.specs.Answers.{replyTold, entries, InBuffers}

@@ -12,8 +12,8 @@ use Rattle.pool_rules.specs.declared.held.Held.{Held}
 use Rattle.pool_rules.specs.declared.held.Held.the-variants.{Known, Unknown}
 use Rattle.pool_rules.specs.Model.{PreserveCopy}
 use Rattle.pool_books.specs.LentLists.{readCopy}
-use Rattle.event_text.specs.Numbers.{digitsOf}
-use Rattle.event_text.proofs.Printing.{digits-room}
+use Rattle.base_digits.specs.Digits.{digitsOf}
+use Rattle.base_digits.proofs.Printing.{digits-room}
 use Rattle.event_answers.specs.declared.answer.Answer.{Answer}
 use Rattle.event_answers.specs.declared.answer.Answer.the-variants.{Question, Refused, Done, Spare, NoSpare, Version, NothingSettled, Views, Copies}
 use Rattle.event_answers.specs.Answers.{replyTold, entries}

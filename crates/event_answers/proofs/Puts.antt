@@ -9,9 +9,10 @@ use lib.ListN.{length, take, getD, set, length-append}
 use lib.Seq.{sets}
 use Rattle.base_blocks.proofs.Listed.{left, left-step, left-none, left-all, take-listed, listed-getD}
 use Rattle.pool_memory.proofs.Rewritten.{sets-append}
-use Rattle.event_text.specs.Fields.{comma, lineFeed}
-use Rattle.event_text.specs.Numbers.{digitsOf}
-use Rattle.event_text.proofs.Printing.{digits-room}
+use Rattle.base_digits.specs.Characters.{lineFeed}
+use Rattle.event_text.specs.Fields.{comma}
+use Rattle.base_digits.specs.Digits.{digitsOf}
+use Rattle.base_digits.proofs.Printing.{digits-room}
 use Rattle.event_answers.specs.Printed.{acceptedText, row, acceptedRow}
 use Rattle.event_answers.specs.Put.{Put, fieldsEnded}
 

@@ -10,8 +10,9 @@ use Rattle.pool_rules.specs.declared.held.Held.{Held}
 use Rattle.pool_rules.specs.declared.held.Held.the-variants.{Known, Unknown}
 use Rattle.pool_rules.specs.Model.{PreserveCopy}
 use Rattle.pool_books.specs.Demand3.{Reply, refusal, done, spareTaken, copiesPlanned, versionPopped, viewsHanded}
-use Rattle.event_text.specs.Fields.{comma, dash, lineFeed}
-use Rattle.event_text.specs.Numbers.{digitsOf}
+use Rattle.base_digits.specs.Characters.{lineFeed}
+use Rattle.event_text.specs.Fields.{comma, dash}
+use Rattle.base_digits.specs.Digits.{digitsOf}
 
 -- "?" and "0"
 abbrev pub question : List ℕ

@@ -4,7 +4,8 @@ use mathlib.Core.Path.{_≡_}
 use mathlib.Core.List.{List, [], _∷_, _++_}
 use lib.ListN.{length}
 use lib.Seq.{sets}
-use Rattle.event_text.specs.Fields.{comma, lineFeed}
+use Rattle.base_digits.specs.Characters.{lineFeed}
+use Rattle.event_text.specs.Fields.{comma}
 
 -- text put from `at` on makes `before` into `after`, and ends at `end`
 pub record Put (before : List ℕ) (at : ℕ) (text : List ℕ) (end : ℕ) (after : List ℕ) : Type 0 where

@@ -4,15 +4,15 @@ ghost use mathlib.Core.List.{[], _∷_, flatMap};
 ghost use lib.ListN.{length, take};
 ghost use Rattle.base_tables.specs.Records.{table};
 ghost use Rattle.pool_books.specs.LentLists.{readCopy};
-ghost use Rattle.event_text.specs.Numbers.{digitsOf};
+ghost use Rattle.base_digits.specs.Digits.{digitsOf};
 ghost use Rattle.event_answers.specs.Printed.{copyRow, viewRow, mostRow};
 ghost use Rattle.event_answers.specs.Put.{Put, fieldsEnded};
 ghost use Rattle.pool_memory.specs.MemoryConstants.{copyStride};
 use crate::row::put_field;
 use crate::row::put_last;
 use crate::row::put_row;
-use event_text::put_number;
-use event_text::put_text;
+use base_digits::put_number;
+use base_digits::put_text;
 use pool_memory::COPY_STRIDE;
 
 // Puts a line for each of the first n view numbers.

@@ -4,7 +4,7 @@ ghost use Prim.Native.Nat.{_+_, _≤_};
 ghost use mathlib.Core.List.{[], _∷_};
 ghost use lib.ListN.{length};
 ghost use lib.Seq.{sets};
-ghost use Rattle.event_text.specs.Numbers.{digitsOf};
+ghost use Rattle.base_digits.specs.Digits.{digitsOf};
 ghost use Rattle.event_answers.specs.Answers.{replyTold, entries, InBuffers};
 ghost use Rattle.event_answers.specs.Printed.{acceptedRow, heldField, printed, mostBytes};
 ghost use Rattle.event_answers.specs.Put.{Put};
@@ -17,7 +17,7 @@ use crate::row::put_field;
 use crate::row::put_pair;
 use crate::row::put_row;
 use crate::row::put_words;
-use event_text::put_text;
+use base_digits::put_text;
 use pool_rules::Held;
 
 // Puts the line of a spare from `at` on, and returns where it ends.

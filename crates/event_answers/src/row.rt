@@ -3,11 +3,11 @@ ghost use Prim.Native.Nat.{_+_, _≤_};
 ghost use mathlib.Core.List.{[], _∷_, _++_};
 ghost use lib.ListN.{length};
 ghost use Rattle.event_text.specs.Fields.{comma};
-ghost use Rattle.event_text.specs.Numbers.{digitsOf};
+ghost use Rattle.base_digits.specs.Digits.{digitsOf};
 ghost use Rattle.event_answers.specs.Printed.{acceptedText, acceptedRow, row};
 ghost use Rattle.event_answers.specs.Put.{Put, fieldsEnded};
-use event_text::put_number;
-use event_text::put_text;
+use base_digits::put_number;
+use base_digits::put_text;
 
 // Puts a field that is a number.
 pub fn put_field(out: &mut [u8], at: usize, n: u64) -> usize

@@ -4,7 +4,8 @@ use Prim.Native.Char.{code}
 use Prim.Native.String.{String, [] as end, _∷_ as _then_}
 use mathlib.Core.Path.{_≡_}
 use mathlib.Core.List.{List, [], _∷_}
-use Rattle.event_text.specs.Fields.{comma, dash, lineFeed}
+use Rattle.base_digits.specs.Characters.{lineFeed}
+use Rattle.event_text.specs.Fields.{comma, dash}
 use Rattle.event_lines.specs.Words.{openWord, takeWord, planWord, retireWord, writeWord, regenWord, popWord}
 use Rattle.event_lines.specs.Words.{parkWord, noteWord, doomedWord, drainWord, trimWord, forgetWord}
 use Rattle.event_answers.specs.Printed.{question}

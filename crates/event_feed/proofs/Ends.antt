@@ -9,7 +9,7 @@ use Rattle.event_feed.specs.Feed.{ending, turnBytes}
 use Rattle.event_feed.specs.Places.{part}
 use Rattle.event_feed.specs.Finish.{Filled}
 use Rattle.event_feed.proofs.Parts.{part-length, part-same}
-use Rattle.event_text.specs.Fields.{lineFeed}
+use Rattle.base_digits.specs.Characters.{lineFeed}
 
 -- ---- what a turn feeds
 

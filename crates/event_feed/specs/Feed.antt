@@ -8,7 +8,7 @@ use Rattle.event_sessions.specs.Sessions.{SessionState}
 use Rattle.event_runs.specs.Lines.{wholeLines, output}
 use Rattle.event_runs.specs.Texts.{lastLine, allLines, afterLines, textOutput}
 use Rattle.event_feed.specs.FeedConstants.{keptBytes}
-use Rattle.event_text.specs.Fields.{lineFeed}
+use Rattle.base_digits.specs.Characters.{lineFeed}
 
 -- what is carried from one block to the next
 pub record Carried : Type 0 where

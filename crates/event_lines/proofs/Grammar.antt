@@ -13,7 +13,8 @@ use lib.Seq.{sets, sets-eq}
 use Rattle.base_blocks.specs.Lists.{over, all, tests, after}
 use Rattle.base_blocks.proofs.Lists.{and-both, getD-over-in, getD-over-past, not-passed}
 use Rattle.event_text.specs.Fields.{same, fieldsAfter, firstField, firstLine, dash}
-use Rattle.event_text.specs.Numbers.{isNumber, decimal, value}
+use Rattle.base_digits.specs.Digits.{decimal, value}
+use Rattle.event_text.specs.Numbers.{isNumber}
 use Rattle.event_text.specs.Searches.{indexOf}
 use Rattle.event_text.proofs.Fields.{fields-first, same-true, same-self}
 use Rattle.event_text.proofs.Leading.{no-way, until}

@@ -9,7 +9,8 @@ use lib.Dec.{eqb, ltb, leb}
 use lib.ListN.{length, getD}
 use Rattle.base_blocks.specs.Lists.{all, tests, after}
 use Rattle.base_blocks.proofs.Lists.{and-both, and-assoc, passed}
-use Rattle.event_text.specs.Numbers.{isNumber, decimal}
+use Rattle.base_digits.specs.Digits.{decimal}
+use Rattle.event_text.specs.Numbers.{isNumber}
 use Rattle.event_lines.specs.declared.event.Word.{Word}
 use Rattle.event_lines.specs.Grammar.{Kind, below, held, isKind, areKinds, kindsOf, num}
 use Rattle.event_lines.specs.Reading.{most, limitsOf, limitTests, fits}

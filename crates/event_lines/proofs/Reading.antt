@@ -14,7 +14,8 @@ use lib.Seq.{drop-cons, drop-drop, getD-drop}
 use Rattle.base_blocks.specs.Lists.{all, tests, after}
 use Rattle.base_blocks.proofs.Lists.{not-passed, default-free}
 use Rattle.event_text.specs.Fields.{firstLine, fieldsAfter, same, fieldsOf, dash}
-use Rattle.event_text.specs.Numbers.{isDigit, isNumber, value, decimal, leadingDigits}
+use Rattle.base_digits.specs.Digits.{isDigit, value, decimal}
+use Rattle.event_text.specs.Numbers.{isNumber, leadingDigits}
 use Rattle.event_text.specs.Searches.{indexOf}
 use Rattle.event_text.proofs.Fields.{fields-first, same-true}
 use Rattle.event_text.proofs.Leading.{no-way, until, next, lead-whole, lead-parted, no-digit, AreDigits}

@@ -9,7 +9,7 @@ use lib.Dec.{eqb}
 use lib.ListN.{length, getD, take, drop}
 use lib.Seq.{drop-cons}
 use Rattle.base_blocks.proofs.Lists.{and-both}
-use Rattle.event_text.specs.Eight.{packed}
+use Rattle.base_digits.specs.Packed.{packed}
 use Rattle.event_text.specs.Fields.{comma, firstField, firstLine, same}
 use Rattle.event_text.proofs.EightRead.{four-packed}
 use Rattle.event_text.proofs.FirstLines.{stops, line-until, take-until, until-length}

@@ -5,7 +5,8 @@ use mathlib.Core.List.{List, [], _∷_}
 use lib.Dec.{ltb, eqb}
 use lib.ListN.{getD}
 use Rattle.event_text.specs.Fields.{fieldsOf, same, dash}
-use Rattle.event_text.specs.Numbers.{isNumber, decimal}
+use Rattle.base_digits.specs.Digits.{decimal}
+use Rattle.event_text.specs.Numbers.{isNumber}
 use Rattle.grid_rects.specs.declared.rect.TexelRect.{TexelRect}
 use Rattle.grid_shapes.specs.declared.shape.VersionShape.{VersionShape}
 use Rattle.pool_rules.specs.declared.held.Held.{Held}

@@ -6,7 +6,8 @@ use lib.Dec.{eqb, ltb, leb}
 use lib.ListN.{length, set, replicate}
 use Rattle.base_blocks.specs.Lists.{tests}
 use Rattle.event_text.specs.Fields.{fieldsOf, firstLine, same, dash}
-use Rattle.event_text.specs.Numbers.{isNumber, decimal}
+use Rattle.base_digits.specs.Digits.{decimal}
+use Rattle.event_text.specs.Numbers.{isNumber}
 use Rattle.pool_rules.specs.declared.held.Held.the-variants.{Known, Unknown}
 use Rattle.event_lines.specs.declared.event.Word.{Word}
 use Rattle.event_lines.specs.declared.event.Event.{Event}

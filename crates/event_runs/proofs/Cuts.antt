@@ -9,7 +9,7 @@ use lib.Dec.{eqb}
 use lib.ListN.{take}
 use Rattle.event_runs.specs.Lines.{inFirstLine, wholeLines}
 use Rattle.event_runs.specs.Texts.{inLastLine, lastLine}
-use Rattle.event_text.specs.Fields.{lineFeed}
+use Rattle.base_digits.specs.Characters.{lineFeed}
 
 -- ---- an input in two parts
 

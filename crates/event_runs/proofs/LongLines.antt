@@ -11,7 +11,8 @@ use lib.ListN.{length, take, getD, length-append}
 use lib.Seq.{take-all, length-take-le}
 use Rattle.base_blocks.proofs.Lists.{and-both, passed}
 use Rattle.event_text.specs.Fields.{comma, inFirst, fieldsOf, same, dash}
-use Rattle.event_text.specs.Numbers.{isNumber, decimal}
+use Rattle.base_digits.specs.Digits.{decimal}
+use Rattle.event_text.specs.Numbers.{isNumber}
 use Rattle.event_text.proofs.Fields.{same-length, same-true}
 use Rattle.event_lines.specs.declared.event.Word.{Word}
 use Rattle.event_lines.specs.declared.event.Event.{Event}

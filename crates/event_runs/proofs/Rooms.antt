@@ -16,7 +16,7 @@ use Rattle.event_answers.specs.Printed.{printed, mostBytes}
 use Rattle.event_answers.proofs.Most.{printed-most}
 use Rattle.event_runs.specs.Lines.{longestAnswer}
 use Rattle.pool_memory.specs.MemoryConstants.{copyStride}
-use Rattle.event_text.specs.Fields.{lineFeed}
+use Rattle.base_digits.specs.Characters.{lineFeed}
 
 -- an answer has no more entries than its buffers have room for
 pub entries-most : (a : Answer) (copies views : List ℕ) → InBuffers a copies views → entries a ≤ max (length copies / copyStride) (length views)

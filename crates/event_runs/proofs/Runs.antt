@@ -10,7 +10,8 @@ use lib.Dec.{leb}
 use lib.ListN.{length, take, drop, length-drop}
 use lib.Seq.{sets, length-sets, length-take-le, take-all}
 use Rattle.pool_books.specs.Demand3.{Reply}
-use Rattle.event_text.specs.Fields.{firstLine, lineFeed}
+use Rattle.base_digits.specs.Characters.{lineFeed}
+use Rattle.event_text.specs.Fields.{firstLine}
 use Rattle.event_text.specs.Searches.{indexOf}
 use Rattle.event_text.proofs.FirstLines.{first-index}
 use Rattle.event_lines.specs.declared.event.Event.{Event}

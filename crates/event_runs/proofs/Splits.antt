@@ -9,7 +9,7 @@ use lib.ListN.{length, take, drop, length-drop}
 use lib.Seq.{drop-drop}
 use Rattle.event_text.specs.Searches.{indexOf}
 use Rattle.event_runs.specs.Lines.{inFirstLine, wholeLines}
-use Rattle.event_text.specs.Fields.{lineFeed}
+use Rattle.base_digits.specs.Characters.{lineFeed}
 
 pub first-line : (s : List ℕ) → indexOf lineFeed s < length s
     → wholeLines s ≡ take (indexOf lineFeed s) s ∷ wholeLines (drop (suc (indexOf lineFeed s)) s)

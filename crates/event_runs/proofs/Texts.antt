@@ -18,7 +18,7 @@ use Rattle.event_runs.specs.Lines.{wholeLines, lineOutput, lineState, ou
 use Rattle.event_runs.specs.Texts.{lastLine, ifAny, afterLines}
 use Rattle.event_runs.proofs.LongLines.{cut-unread}
 use Rattle.event_runs.proofs.Cuts.{Unfinished, inFront, lastAfter, First, first-of, line-more, line-last}
-use Rattle.event_text.specs.Fields.{lineFeed}
+use Rattle.base_digits.specs.Characters.{lineFeed}
 
 -- the front of a front with more after it
 pub take-cut : (k : ℕ) (x y : List ℕ) → take k (take k x ++ y) ≡ take k (x ++ y)

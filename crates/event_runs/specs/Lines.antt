@@ -12,7 +12,7 @@ use Rattle.event_answers.specs.Printed.{printed, mostBytes}
 use Rattle.event_sessions.specs.Sessions.{SessionState, stateOf, lineStep}
 use Rattle.event_runs.specs.declared.run.Run.{Run}
 use Rattle.pool_memory.specs.MemoryConstants.{copyStride}
-use Rattle.event_text.specs.Fields.{lineFeed}
+use Rattle.base_digits.specs.Characters.{lineFeed}
 
 -- ---- lines
 

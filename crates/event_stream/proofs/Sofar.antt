@@ -16,7 +16,7 @@ use Rattle.event_feed.specs.Feed.{Carried, first, joinedBlocks, fed, fedOutput,
 use Rattle.event_feed.specs.Places.{Turn}
 use Rattle.event_feed.proofs.Cutting.{fed-append, fed-output-append, fed-plain, fed-holds, every-cutting}
 use Rattle.event_stream.specs.Streams.{whyEnded, whyTooLong, isFull, RunOf}
-use Rattle.event_text.specs.Fields.{lineFeed}
+use Rattle.base_digits.specs.Characters.{lineFeed}
 
 -- no more lines than bytes
 lines-few : (input : List ℕ) → length (wholeLines input) ≤ length input

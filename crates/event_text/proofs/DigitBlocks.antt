@@ -14,7 +14,8 @@ use Rattle.base_blocks.specs.Lists.{all}
 use Rattle.base_blocks.proofs.Lists.{and-both}
 use Rattle.event_text.specs.declared.eight.EightDigits.{EightDigits}
 use Rattle.event_text.specs.Eight.{eightDigits}
-use Rattle.event_text.specs.Numbers.{isDigit, value, decimal, leadingDigits, digitsAt, readOn, StartsDigits}
+use Rattle.base_digits.specs.Digits.{isDigit, value, decimal}
+use Rattle.event_text.specs.Numbers.{leadingDigits, digitsAt, readOn, StartsDigits}
 use Rattle.event_text.proofs.Numbers.{read-one, read-start, value-first, from-drop}
 
 -- ---- the digits in front of a list

@@ -13,10 +13,12 @@ use lib.Seq.{length-take-le, getD-drop, drop-drop, take-add}
 use Rattle.base_blocks.specs.Lists.{all}
 use Rattle.base_blocks.proofs.Lists.{not-passed}
 use Rattle.base_blocks.proofs.Scans.{four-read}
-use Rattle.event_text.specs.Eight.{packed, marksOf, valueOf, eightDigits}
-use Rattle.event_text.specs.Numbers.{isDigit, value, decimal, leadingDigits}
+use Rattle.base_digits.specs.Packed.{packed}
+use Rattle.event_text.specs.Eight.{marksOf, valueOf, eightDigits}
+use Rattle.base_digits.specs.Digits.{isDigit, value, decimal}
+use Rattle.event_text.specs.Numbers.{leadingDigits}
 use Rattle.event_text.proofs.DigitBlocks.{digit-small, lead-all}
-use Rattle.event_text.proofs.Lanes.{packed-below, packed-append, packed-zeros, moved-up}
+use Rattle.base_digits.proofs.Lanes.{packed-below, packed-append, packed-zeros, moved-up}
 use Rattle.event_text.proofs.Marks.{plain, plain-digit, mark, Bytes, below-by, map-itself, plain-word, marks-word, lowest-mark, no-mark, all-unmarked}
 use Rattle.event_text.proofs.EightValues.{Digits, digitsIn, value-eight, room-eight}
 

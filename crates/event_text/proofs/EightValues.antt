@@ -3,22 +3,14 @@ use mathlib.Core.Path.{_≡_, refl, sym, ap, ap₂, _∙_, subst}
 use mathlib.Core.List.{List, [], _∷_, map}
 use Prim.Native.Nat.{ℕ, zero, suc, _+_, _*_, _-_, _/_, _%_, _^_, _≤_, _<_}
 use native.Mathlib.Omega.{arith}
-use lib.Bits.{bitAnd, and-block, and-mask}
+use lib.Bits.{bitAnd, and-mask}
 use lib.ListN.{length, getD}
 use lib.Pow.{high, low}
 use Rattle.base_blocks.proofs.Scans.{from, from-all, from-step, from-none}
-use Rattle.event_text.specs.Eight.{packed, twosOf, foursOf, valueOf}
-use Rattle.event_text.specs.Numbers.{value, decimal}
-use Rattle.event_text.proofs.Lanes.{Below, lanes}
-
--- of each number the lower half
-pub halves : (k j : ℕ) (xs : List ℕ) → Below k (λ x. x) xs → Below k (λ x. 2 ^ j - 1) xs
-    → bitAnd (packed k (map (λ x. x) xs)) (packed k (map (λ x. 2 ^ j - 1) xs)) ≡ packed k (map (λ x. x % 2 ^ j) xs)
-halves k j xs p q = lanes bitAnd and-block refl k (λ x. x) (λ x. 2 ^ j - 1) xs p q ∙ ap (packed k) (same xs)
-  where
-    same : (ys : List ℕ) → map (λ x. bitAnd x (2 ^ j - 1)) ys ≡ map (λ x. x % 2 ^ j) ys
-    same [] = refl
-    same (y ∷ ys) = ap₂ (λ (a : ℕ) (l : List ℕ). a ∷ l) (and-mask y j) (same ys)
+use Rattle.base_digits.specs.Packed.{packed}
+use Rattle.event_text.specs.Eight.{twosOf, foursOf, valueOf}
+use Rattle.base_digits.specs.Digits.{value, decimal}
+use Rattle.base_digits.proofs.Lanes.{Below, halves}
 
 twos-are : (a b c d e f g h : ℕ) → a ≤ 9 → b ≤ 9 → c ≤ 9 → d ≤ 9 → e ≤ 9 → f ≤ 9 → g ≤ 9 → h ≤ 9
     → twosOf (packed 8 (a ∷ b ∷ c ∷ d ∷ e ∷ f ∷ g ∷ h ∷ [])) ≡ packed 16 ((a * 10 + b) ∷ (c * 10 + d) ∷ (e * 10 + f) ∷ (g * 10 + h) ∷ [])

@@ -10,7 +10,8 @@ use lib.Dec.{eqb}
 use lib.ListN.{length, take, drop, getD}
 use Rattle.base_blocks.proofs.Scans.{from, from-step, from-none}
 use Rattle.event_text.specs.Fields.{firstField, firstLine}
-use Rattle.event_text.specs.Numbers.{isDigit, leadingDigits}
+use Rattle.base_digits.specs.Digits.{isDigit}
+use Rattle.event_text.specs.Numbers.{leadingDigits}
 use Rattle.event_text.specs.Searches.{indexOf}
 use Rattle.event_text.proofs.Leading.{no-way, until}
 

@@ -11,7 +11,8 @@ use lib.Seq.{getD-drop}
 use Rattle.base_blocks.specs.Lists.{all, tests, after}
 use Rattle.event_text.specs.declared.number.NumberAt.the-variants.{Ends, Malformed}
 use Rattle.event_text.specs.Fields.{firstField, fieldEnd}
-use Rattle.event_text.specs.Numbers.{isDigit, decimal, isNumber, numberAt, leadingDigits, digitsAt}
+use Rattle.base_digits.specs.Digits.{isDigit, decimal}
+use Rattle.event_text.specs.Numbers.{isNumber, numberAt, leadingDigits, digitsAt}
 
 pub no-way {ℓ} : {A : Type ℓ} → true ≡ false → A
 no-way e = absurd (let z : _≡_ {A = ℕ} 0 1 = cc in let y : ⊥ = omega arith in y)

@@ -3,11 +3,8 @@ pub mod EightRead
 pub mod EightValues
 pub mod Fields
 pub mod FirstLines
-pub mod FourDigits
-pub mod Lanes
 pub mod Leading
 pub mod Marks
 pub mod Numbers
 pub mod Printing
 pub mod Searches
-pub mod ShortNumbers

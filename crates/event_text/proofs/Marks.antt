@@ -13,9 +13,11 @@ use lib.Dec.{eqb}
 use lib.ListN.{length, replicate}
 use Rattle.base_blocks.specs.Lists.{all}
 use Rattle.base_blocks.proofs.Lists.{and-both}
-use Rattle.event_text.specs.Eight.{packed, marksOf}
-use Rattle.event_text.specs.Numbers.{isDigit, leadingDigits}
-use Rattle.event_text.proofs.Lanes.{Below, lanes}
+use Rattle.base_digits.specs.Packed.{packed}
+use Rattle.event_text.specs.Eight.{marksOf}
+use Rattle.base_digits.specs.Digits.{isDigit}
+use Rattle.event_text.specs.Numbers.{leadingDigits}
+use Rattle.base_digits.proofs.Lanes.{Below, lanes}
 use Rattle.event_text.proofs.Leading.{no-way}
 
 -- ---- one byte, by a test of all of them

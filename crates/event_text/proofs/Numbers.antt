@@ -17,7 +17,8 @@ use Rattle.event_text.specs.declared.number.Number.the-variants.{Is, NoN
 use Rattle.event_text.specs.declared.number.NumberAt.{NumberAt}
 use Rattle.event_text.specs.declared.number.NumberAt.the-variants.{Ends, Malformed}
 use Rattle.event_text.specs.Fields.{comma, firstField, fieldEnd}
-use Rattle.event_text.specs.Numbers.{isDigit, value, decimal, isNumber, numberOf, numberAt, leadingDigits, digitsAt, readTests, readOn}
+use Rattle.base_digits.specs.Digits.{isDigit, value, decimal}
+use Rattle.event_text.specs.Numbers.{isNumber, numberOf, numberAt, leadingDigits, digitsAt, readTests, readOn}
 
 -- more digits make no smaller number
 pub value-grows : (v : ℕ) (s : List ℕ) → v ≤ value v s

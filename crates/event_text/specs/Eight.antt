@@ -1,21 +1,17 @@
 -- Helper: The digits that eight bytes start with, and the numbers by which the code tells them all at once.
 use Prim.Native.Nat.{ℕ, _+_, _*_, _/_, _^_}
-use mathlib.Core.List.{List, [], _∷_}
+use mathlib.Core.List.{List}
 use lib.Bits.{bitAnd, bitOr}
 use lib.ListN.{length, take, drop}
 use Rattle.event_text.specs.declared.eight.EightDigits.{EightDigits}
-use Rattle.event_text.specs.Numbers.{decimal, leadingDigits}
+use Rattle.base_digits.specs.Digits.{decimal}
+use Rattle.event_text.specs.Numbers.{leadingDigits}
 
 -- how many digits the eight bytes from `at` on start with, and the number that these are
 unfoldable pub eightDigits : List ℕ → ℕ → EightDigits
 eightDigits text at =
     let f = leadingDigits (take 8 (drop at text)) in
     record { count = length f; value = decimal f }
-
--- numbers of k bits each as one, the first as the lowest
-unfoldable pub packed : ℕ → List ℕ → ℕ
-packed k [] = 0
-packed k (b ∷ bs) = packed k bs * 2 ^ k + b
 
 -- in each byte, 128 where it is above 9
 unfoldable pub marksOf : ℕ → ℕ

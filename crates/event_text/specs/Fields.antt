@@ -4,13 +4,11 @@ use mathlib.Core.Bool.{Bool, true, false, cond, _&&_}
 use mathlib.Core.List.{List, [], _∷_}
 use lib.Dec.{eqb}
 use lib.ListN.{length, drop}
+use Rattle.base_digits.specs.Characters.{lineFeed}
 
--- the byte of ",", and the one that ends a line
+-- the byte of ","
 abbrev pub comma : ℕ
 comma = 44
-
-abbrev pub lineFeed : ℕ
-lineFeed = 10
 
 -- the field "-", which stands for no number
 abbrev pub dash : List ℕ

@@ -1,29 +1,17 @@
 -- Rule: Numbers of a line: 1 to 20 digits, below 2^64. Leading zeros are digits.
 use mathlib.Core.Path.{_≡_}
-use Prim.Native.Nat.{ℕ, zero, suc, _+_, _*_, _-_, _/_, _%_, _^_, _≤_, _<_}
-use mathlib.Core.Bool.{Bool, cond, _&&_}
-use mathlib.Core.List.{List, [], _∷_, _++_}
+use Prim.Native.Nat.{ℕ, _+_, _-_, _^_, _≤_, _<_}
+use mathlib.Core.Bool.{Bool, cond}
+use mathlib.Core.List.{List, [], _∷_}
 use lib.Dec.{leb, ltb}
 use lib.ListN.{length, drop}
 use Rattle.base_blocks.specs.Lists.{all, tests}
+use Rattle.base_digits.specs.Digits.{isDigit, value, decimal}
 use Rattle.event_text.specs.declared.number.Number.{Number}
 use Rattle.event_text.specs.declared.number.Number.the-variants.{Is, NoNumber}
 use Rattle.event_text.specs.declared.number.NumberAt.{NumberAt}
 use Rattle.event_text.specs.declared.number.NumberAt.the-variants.{Ends, Malformed}
 use Rattle.event_text.specs.Fields.{firstField, fieldEnd}
-
--- "0" to "9"
-unfoldable pub isDigit : ℕ → Bool
-isDigit b = leb 48 b && leb b 57
-
--- the number that digits are when they follow those of v
-unfoldable pub value : ℕ → List ℕ → ℕ
-value v [] = v
-value v (b ∷ bs) = value (v * 10 + (b - 48)) bs
-
--- the number that digits are
-unfoldable pub decimal : List ℕ → ℕ
-decimal s = value 0 s
 
 unfoldable pub isNumber : List ℕ → Bool
 isNumber s = tests (all isDigit s ∷ leb 1 (length s) ∷ leb (length s) 20 ∷ ltb (decimal s) (2 ^ 64) ∷ [])
@@ -58,17 +46,3 @@ unfoldable pub StartsDigits : List ℕ → ℕ → ℕ → ℕ → Type 0
 StartsDigits text at v end =
     (at ≤ end) × (end ≤ length text) × (end ≤ at + 19) × (v < 10 ^ (end - at))
     × (readOn v at end (leadingDigits (drop end text)) ≡ digitsAt text at)
-
--- the digits of a number, at most k: its last digit after those of what is left without it
-unfoldable pub digits : ℕ → ℕ → List ℕ
-digits zero n = []
-digits (suc k) n = cond (ltb n 10) ((48 + n) ∷ []) (digits k (n / 10) ++ ((48 + n % 10) ∷ []))
-
--- a number below 2^64 has at most 20; there is no leading zero, and 0 is "0"
-unfoldable pub digitsOf : ℕ → List ℕ
-digitsOf n = digits 20 n
-
--- the last k digits of n, zeros in front where there are fewer
-unfoldable pub lastDigits : ℕ → ℕ → List ℕ
-lastDigits zero n = []
-lastDigits (suc k) n = lastDigits k (n / 10) ++ ((48 + n % 10) ∷ [])

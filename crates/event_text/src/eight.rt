@@ -3,7 +3,8 @@
 ghost use mathlib.Core.Path.{_≡_};
 ghost use Prim.Native.Nat.{_+_, _≤_};
 ghost use lib.ListN.{length, take, drop};
-ghost use Rattle.event_text.specs.Eight.{packed, marksOf, valueOf, eightDigits};
+ghost use Rattle.base_digits.specs.Packed.{packed};
+ghost use Rattle.event_text.specs.Eight.{marksOf, valueOf, eightDigits};
 
 // "0" in each byte.
 const ZEROS: u64 = 3472328296227680304;

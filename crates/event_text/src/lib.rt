@@ -1,12 +1,9 @@
-// The text of the event program: numbers read and printed, and the fields of a line.
-mod digits;
+// The text of the event program: numbers read, and the fields of a line.
 mod eight;
 mod field;
 mod find;
 mod number;
 
-pub use digits::put_number;
-pub use digits::put_text;
 pub use eight::four_bytes;
 pub use field::first_end;
 pub use field::is_word;

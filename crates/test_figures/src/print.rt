@@ -1,8 +1,8 @@
 // A figure's line.
 ghost use Prim.Native.Nat.{_+_, _≤_};
 ghost use lib.ListN.{length};
-use event_text::put_number;
-use event_text::put_text;
+use base_digits::put_number;
+use base_digits::put_text;
 use libc::STDOUT_FILENO;
 
 // Puts a blank and a number, and returns where they end.

@@ -1,8 +1,8 @@
 // An answer, and its text in a buffer.
 ghost use Prim.Native.Nat.{_+_, _≤_};
 ghost use lib.ListN.{length};
-use event_text::put_number;
-use event_text::put_text;
+use base_digits::put_number;
+use base_digits::put_text;
 use grid_rects::TexelRect;
 
 // What follows an answer's first number.

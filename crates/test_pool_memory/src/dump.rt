@@ -2,7 +2,7 @@
 ghost use Prim.Native.Nat.{_≤_};
 ghost use lib.ListN.{length};
 use crate::row::put_field;
-use event_text::put_text;
+use base_digits::put_text;
 use libc::STDOUT_FILENO;
 
 // Puts put,STORE,INDEX,VALUE at the front and returns where it ends.

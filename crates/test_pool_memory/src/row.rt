@@ -1,8 +1,8 @@
 // Numbers put into a line of output.
 ghost use Prim.Native.Nat.{_+_, _≤_};
 ghost use lib.ListN.{length};
-use event_text::put_number;
-use event_text::put_text;
+use base_digits::put_number;
+use base_digits::put_text;
 
 // Puts a number's digits, at most twenty, and returns where they end.
 pub fn put_digits(out: &mut [u8], at: usize, value: u64) -> usize

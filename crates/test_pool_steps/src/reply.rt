@@ -2,9 +2,9 @@
 ghost use Prim.Native.Nat.{_+_, _≤_};
 ghost use lib.ListN.{length};
 ghost use Rattle.event_answers.specs.Printed.{mostRow};
+use base_digits::put_text;
 use event_answers::Answer;
 use event_answers::put_answer;
-use event_text::put_text;
 use libc::STDOUT_FILENO;
 use pool_memory::COPY_STRIDE;
 use test_pool_calls::QueryAnswer;

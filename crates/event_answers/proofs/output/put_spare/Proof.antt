@@ -2,7 +2,7 @@
 use borrow.Author.Needs.{needs}
 use mathlib.Core.Path.{sym, ap}
 use mathlib.Core.List.{[], _∷_}
-use Rattle.event_text.specs.Numbers.{digitsOf}
+use Rattle.base_digits.specs.Digits.{digitsOf}
 use Rattle.pool_rules.specs.declared.held.Held.{Held}
 use Rattle.event_answers.specs.Printed.{acceptedRow, heldField}
 use Rattle.event_answers.proofs.Puts.{put-as, text-put}

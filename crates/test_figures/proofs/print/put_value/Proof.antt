@@ -1,6 +1,6 @@
 -- A number has at most twenty digits. Assumes nothing.
 use native.Mathlib.Omega.{arith}
-use Rattle.event_text.proofs.Printing.{digits-room}
+use Rattle.base_digits.proofs.Printing.{digits-room}
 use borrow.Author.Needs.{needs}
 use Rattle.test_figures.proofs.print.put_value.Statement.{statement}
 use Rattle.test_figures.proofs.print.put_value.Tie as tie

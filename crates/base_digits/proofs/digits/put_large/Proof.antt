@@ -2,9 +2,9 @@
 use borrow.Author.Needs.{needs}
 use native.Mathlib.Omega.{arith}
 use Prim.Native.Nat.{_/_}
-use Rattle.event_text.proofs.ShortNumbers.{eight-behind, room-behind, put-behind}
-use Rattle.event_text.proofs.digits.put_large.Statement.{statement}
-use Rattle.event_text.proofs.digits.put_large.Tie as tie
+use Rattle.base_digits.proofs.ShortNumbers.{eight-behind, room-behind, put-behind}
+use Rattle.base_digits.proofs.digits.put_large.Statement.{statement}
+use Rattle.base_digits.proofs.digits.put_large.Tie as tie
 
 put-short-requires : tie.Need-put-short-requires
 put-short-requires c κs = search needs

@@ -1,9 +1,9 @@
 -- `put_number` meets its contract. Assumes nothing.
 use borrow.Author.Needs.{needs}
 use native.Mathlib.Omega.{arith}
-use Rattle.event_text.proofs.ShortNumbers.{four-behind, room-behind, put-behind}
-use Rattle.event_text.proofs.digits.put_number.Statement.{statement}
-use Rattle.event_text.proofs.digits.put_number.Tie as tie
+use Rattle.base_digits.proofs.ShortNumbers.{four-behind, room-behind, put-behind}
+use Rattle.base_digits.proofs.digits.put_number.Statement.{statement}
+use Rattle.base_digits.proofs.digits.put_number.Tie as tie
 
 put-small-requires : tie.Need-put-small-requires
 put-small-requires c κs = search needs

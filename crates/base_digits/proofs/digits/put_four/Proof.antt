@@ -1,9 +1,9 @@
 -- `put_four` meets its contract. Assumes nothing.
 use borrow.Author.Needs.{needs}
 use lib.ListN.{length-set}
-use Rattle.event_text.proofs.FourDigits.{four-stored}
-use Rattle.event_text.proofs.digits.put_four.Statement.{statement}
-use Rattle.event_text.proofs.digits.put_four.Tie as tie
+use Rattle.base_digits.proofs.FourDigits.{four-stored}
+use Rattle.base_digits.proofs.digits.put_four.Statement.{statement}
+use Rattle.base_digits.proofs.digits.put_four.Tie as tie
 
 four-digits-requires : tie.Need-four-digits-requires
 four-digits-requires c κs = search needs

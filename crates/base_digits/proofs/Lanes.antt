@@ -1,12 +1,13 @@
 -- Laws of numbers packed into one: operations on bits go number by number. Assumes nothing.
-use mathlib.Core.Path.{_≡_, sym, ap, _∙_, subst}
+use mathlib.Core.Path.{_≡_, refl, sym, ap, ap₂, _∙_, subst}
 use mathlib.Core.List.{List, [], _∷_, _++_, map}
-use Prim.Native.Nat.{ℕ, zero, suc, _+_, _*_, _%_, _^_, _<_}
+use Prim.Native.Nat.{ℕ, zero, suc, _+_, _*_, _-_, _%_, _^_, _<_}
 use native.Mathlib.Nat.{add-mul, mul-assoc, add-assoc, zero-mul, mul-one, add-zero, suc-mul}
 use lib.Arith.{digits-lt}
+use lib.Bits.{bitAnd, and-block, and-mask}
 use lib.Pow.{pow-add, pow-pos, low, shl-lt}
 use lib.ListN.{length, replicate}
-use Rattle.event_text.specs.Eight.{packed}
+use Rattle.base_digits.specs.Packed.{packed}
 
 -- f of each has at most k bits
 abbrev pub Below : ℕ → (ℕ → ℕ) → List ℕ → Type 0
@@ -59,3 +60,12 @@ moved-up w k m j a b h e =
     let all : 2 ^ (m * k) * up ≡ 2 ^ w = sym (pow-add 2 (m * k) (j * k)) ∙ ap (λ (x : ℕ). 2 ^ x) e in
     ap (λ (x : ℕ). x % 2 ^ w) (add-mul (a * 2 ^ (m * k)) b up ∙ ap (λ (x : ℕ). x + b * up) (mul-assoc a (2 ^ (m * k)) up ∙ ap (λ (x : ℕ). a * x) all))
     ∙ low a w (subst (λ (x : ℕ). b * up < 2 ^ x) e (shl-lt (m * k) (j * k) h))
+
+-- of each number the lower half
+pub halves : (k j : ℕ) (xs : List ℕ) → Below k (λ x. x) xs → Below k (λ x. 2 ^ j - 1) xs
+    → bitAnd (packed k (map (λ x. x) xs)) (packed k (map (λ x. 2 ^ j - 1) xs)) ≡ packed k (map (λ x. x % 2 ^ j) xs)
+halves k j xs p q = lanes bitAnd and-block refl k (λ x. x) (λ x. 2 ^ j - 1) xs p q ∙ ap (packed k) (same xs)
+  where
+    same : (ys : List ℕ) → map (λ x. bitAnd x (2 ^ j - 1)) ys ≡ map (λ x. x % 2 ^ j) ys
+    same [] = refl
+    same (y ∷ ys) = ap₂ (λ (a : ℕ) (l : List ℕ). a ∷ l) (and-mask y j) (same ys)

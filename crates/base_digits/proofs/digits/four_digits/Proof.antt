@@ -1,9 +1,9 @@
 -- `four_digits` meets its contract. Assumes nothing.
 use borrow.Author.Needs.{needs}
 use native.Mathlib.Omega.{arith}
-use Rattle.event_text.proofs.FourDigits.{tens-of, four-are}
-use Rattle.event_text.proofs.digits.four_digits.Statement.{statement}
-use Rattle.event_text.proofs.digits.four_digits.Tie as tie
+use Rattle.base_digits.proofs.FourDigits.{tens-of, four-are}
+use Rattle.base_digits.proofs.digits.four_digits.Statement.{statement}
+use Rattle.base_digits.proofs.digits.four_digits.Tie as tie
 
 mul-pairs : tie.Need-mul-pairs
 mul-pairs c = search needs

@@ -1,8 +1,8 @@
 -- `put_eight` meets its contract. Assumes nothing.
 use borrow.Author.Needs.{needs}
-use Rattle.event_text.proofs.ShortNumbers.{eight-last}
-use Rattle.event_text.proofs.digits.put_eight.Statement.{statement}
-use Rattle.event_text.proofs.digits.put_eight.Tie as tie
+use Rattle.base_digits.proofs.ShortNumbers.{eight-last}
+use Rattle.base_digits.proofs.digits.put_eight.Statement.{statement}
+use Rattle.base_digits.proofs.digits.put_eight.Tie as tie
 
 put-four-requires : tie.Need-put-four-requires
 put-four-requires c κs = search needs

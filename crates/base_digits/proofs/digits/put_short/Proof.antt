@@ -2,9 +2,9 @@
 use borrow.Author.Needs.{needs}
 use native.Mathlib.Omega.{arith}
 use Prim.Native.Nat.{_/_}
-use Rattle.event_text.proofs.ShortNumbers.{room-four, four-behind, put-behind}
-use Rattle.event_text.proofs.digits.put_short.Statement.{statement}
-use Rattle.event_text.proofs.digits.put_short.Tie as tie
+use Rattle.base_digits.proofs.ShortNumbers.{room-four, four-behind, put-behind}
+use Rattle.base_digits.proofs.digits.put_short.Statement.{statement}
+use Rattle.base_digits.proofs.digits.put_short.Tie as tie
 
 put-small-requires : tie.Need-put-small-requires
 put-small-requires c κs = search needs

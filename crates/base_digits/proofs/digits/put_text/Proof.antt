@@ -6,8 +6,8 @@ use native.Mathlib.Omega.{arith}
 use lib.ListN.{length, length-set}
 use lib.Seq.{paste, paste-zero}
 use Rattle.base_blocks.proofs.Blocks.{copy-step, copy-done}
-use Rattle.event_text.proofs.digits.put_text.Statement.{statement}
-use Rattle.event_text.proofs.digits.put_text.Tie as tie
+use Rattle.base_digits.proofs.digits.put_text.Statement.{statement}
+use Rattle.base_digits.proofs.digits.put_text.Tie as tie
 
 abbrev Inv-loop : tie.InvT-loop
 Inv-loop out₀ at text i₀ out i = (i ≤ length text) × (length out ≡ length out₀) × (out ≡ paste out₀ at text i)

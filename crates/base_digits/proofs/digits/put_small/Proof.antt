@@ -1,9 +1,9 @@
 -- `put_small` meets its contract. Assumes nothing.
 use borrow.Author.Needs.{needs}
 use lib.ListN.{length-set}
-use Rattle.event_text.proofs.ShortNumbers.{put-one, put-two, put-three, put-four}
-use Rattle.event_text.proofs.digits.put_small.Statement.{statement}
-use Rattle.event_text.proofs.digits.put_small.Tie as tie
+use Rattle.base_digits.proofs.ShortNumbers.{put-one, put-two, put-three, put-four}
+use Rattle.base_digits.proofs.digits.put_small.Statement.{statement}
+use Rattle.base_digits.proofs.digits.put_small.Tie as tie
 
 digit-requires : tie.Need-digit-requires
 digit-requires c κs = search needs

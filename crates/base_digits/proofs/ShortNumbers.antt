@@ -9,8 +9,8 @@ use borrow.Author.Tests.{lt-ltb, le-ltb}
 use lib.Dec.{ltb}
 use lib.ListN.{length, set, length-append}
 use lib.Seq.{sets}
-use Rattle.event_text.specs.Numbers.{digits, digitsOf, lastDigits}
-use Rattle.event_text.proofs.Printing.{digits-room, digits-length}
+use Rattle.base_digits.specs.Digits.{digits, digitsOf, lastDigits}
+use Rattle.base_digits.proofs.Printing.{digits-room, digits-length}
 
 -- ---- the digits of a number, by how many it has
 
@@ -59,7 +59,7 @@ of-four n h k =
     ∙ ap (λ (d : ℕ). d ∷ (48 + n / 10 / 10 % 10) ∷ (48 + n / 10 % 10) ∷ (48 + n % 10) ∷ []) e
 
 -- room for more digits than there are changes nothing
-enough : (k j n : ℕ) → k ≤ j → n < 10 ^ suc k → digits (suc j) n ≡ digits (suc k) n
+pub enough : (k j n : ℕ) → k ≤ j → n < 10 ^ suc k → digits (suc j) n ≡ digits (suc k) n
 unfolding digits
 enough zero j n h q = digits-one j n (omega arith) ∙ sym (digits-one zero n (omega arith))
 enough (suc k) zero n h q = absurd (let y : ⊥ = omega arith in y)
@@ -123,7 +123,7 @@ eight-same n =
     (four-same n (n % 100000000) (omega arith))
     ∙ sym (eight-four (n % 100000000))
 
-length-last : (k n : ℕ) → length (lastDigits k n) ≡ k
+pub length-last : (k n : ℕ) → length (lastDigits k n) ≡ k
 unfolding lastDigits
 length-last zero n = refl
 length-last (suc k) n =

@@ -3,8 +3,8 @@ ghost use mathlib.Core.Path.{_≡_};
 ghost use Prim.Native.Nat.{_+_, _≤_, _<_};
 ghost use lib.ListN.{length};
 ghost use lib.Seq.{sets};
-ghost use Rattle.event_text.specs.Eight.{packed};
-ghost use Rattle.event_text.specs.Numbers.{digitsOf, lastDigits};
+ghost use Rattle.base_digits.specs.Packed.{packed};
+ghost use Rattle.base_digits.specs.Digits.{digitsOf, lastDigits};
 
 // The lower four bits of each of two numbers of sixteen.
 const LOW_OF_PAIRS: u64 = 983055;

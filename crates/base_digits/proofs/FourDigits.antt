@@ -7,10 +7,10 @@ use lib.Bits.{bitAnd}
 use lib.Dec.{lit<}
 use lib.ListN.{set}
 use lib.Seq.{sets}
-use Rattle.event_text.specs.Eight.{packed}
-use Rattle.event_text.specs.Numbers.{lastDigits}
-use Rattle.event_text.proofs.EightValues.{halves}
-use Rattle.event_text.proofs.ShortNumbers.{four-last}
+use Rattle.base_digits.specs.Packed.{packed}
+use Rattle.base_digits.specs.Digits.{lastDigits}
+use Rattle.base_digits.proofs.Lanes.{halves}
+use Rattle.base_digits.proofs.ShortNumbers.{four-last}
 
 -- a tenth of a number below 100
 tenth : (q : ℕ) → q < 100 → q * 103 / 1024 ≡ q / 10

@@ -1,0 +1,5 @@
+pub mod Aligned
+pub mod FourDigits
+pub mod Lanes
+pub mod Printing
+pub mod ShortNumbers

@@ -1,0 +1,4 @@
+pub mod Characters
+pub mod Aligned
+pub mod Digits
+pub mod Packed
