@@ -5,7 +5,12 @@ use Rattle.base_digits.specs.Aligned.{right}
 use Rattle.base_digits.specs.Characters.{blank}
 use Rattle.pool_records.specs.declared.texture.TextureRecord.{TextureRecord}
 use Rattle.pool_records.specs.Texture.{textureIn}
-use Rattle.pool_sheet.specs.Sheet.{SheetFields, textureTexts, line}
+use Rattle.pool_sheet.specs.declared.fields.SheetFields.{SheetFields}
+use Rattle.pool_sheet.specs.Sheet.{textureTexts, line}
+
+-- the bytes of a line: its characters and a line feed
+abbrev pub lineBytes : ℕ
+lineBytes = 73
 
 -- what is printed of a texture, by its record
 abbrev pub recordFields : TextureRecord → SheetFields

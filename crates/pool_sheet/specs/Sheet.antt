@@ -12,6 +12,7 @@ use Rattle.base_blocks.specs.Lists.{total}
 use Rattle.base_digits.specs.Aligned.{right}
 use Rattle.base_digits.specs.Characters.{blank, lineFeed}
 use Rattle.base_digits.specs.Digits.{digitsOf}
+use Rattle.pool_sheet.specs.declared.fields.SheetFields.{SheetFields}
 use Rattle.pool_rules.specs.Model.{VersionState, PoolModel, spareBytes}
 
 -- ---- a line
@@ -40,16 +41,8 @@ line texts = characters texts ++ (lineFeed ∷ [])
 
 -- ---- what is printed
 
--- of a texture; `parked` is the bytes of all its spares, `last` the submission of its last rename
-pub record SheetFields : Type 0 where
-  pub id : ℕ
-  pub kind : ℕ
-  pub levels : ℕ
-  pub spares : ℕ
-  pub parked : ℕ
-  pub last : ℕ
-
 module _ {W : Type 0} where
+  -- of a texture: `parked` is the bytes of all its spares, `last` the submission of its last rename
   abbrev pub stateFields : VersionState W → SheetFields
   stateFields t = record {
     id = t .id;

@@ -5,6 +5,7 @@ ghost use Rattle.pool_memory.specs.Lent.{lentBy, atEntry};
 ghost use Rattle.pool_memory.specs.IsPool.{isPool};
 ghost use Rattle.pool_sheet.specs.PrintSheet.{sheetTold, printSheetOn};
 use crate::answer::SheetAnswer;
+use crate::lines::LINE_BYTES;
 use crate::lines::put_head;
 use crate::lines::put_textures;
 use crate::lines::put_totals;
@@ -28,12 +29,17 @@ pub fn print_sheet(
     ensures { λ r. ⌜ (sheetTold r, now (buffer .exit)) ≡ printSheetOn (atEntry pool book textures retiring doomed spares newest stamps) (now (buffer .entry)) ⌝ }
 {
     let tracked = pool.tracked;
-    let size = 73 * (tracked + 2);
+    let size = LINE_BYTES * (tracked + 2);
     if buffer.len() < size {
         return SheetAnswer::ShortBuffer;
     }
     put_head(buffer);
-    put_textures(buffer, 73, textures, tracked);
-    put_totals(buffer, 73 * (tracked + 1), pool.kept as u64, pool.parked);
+    put_textures(buffer, LINE_BYTES, textures, tracked);
+    put_totals(
+        buffer,
+        LINE_BYTES * (tracked + 1),
+        pool.kept as u64,
+        pool.parked,
+    );
     SheetAnswer::Printed(size)
 }
