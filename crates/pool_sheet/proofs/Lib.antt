@@ -1,2 +1,5 @@
 pub mod Columns
+pub mod OfRecords
+pub mod Pages
+pub mod PoolFits
 pub mod Widths
