@@ -64,7 +64,7 @@ module _ (l : Lent) (f : Fits l) where
       ∙ ap₂ (λ (a b : ℕ). line headTexts ++ (textureLines fields ++ line (totalTexts a b))) (sym kept-told) (sym parked-counted)
       ∙ sym (sheet-parts fields)
 
-  fields-length : length fields ≡ l .pool .tracked
+  pub fields-length : length fields ≡ l .pool .tracked
   unfolding poolFields
   fields-length = length-map (modelOf l .textures) stateFields ∙ tracked-model l
 

@@ -2,6 +2,7 @@
 use borrow.Author.Needs.{needs}
 use mathlib.Core.Path.{refl, ap, sym}
 use Prim.Native.Nat.{ℕ, _+_}
+use Rattle.base_digits.specs.Aligned.{right}
 use Rattle.base_digits.specs.Digits.{digitsOf}
 use Rattle.base_digits.proofs.Aligned.{right-length}
 use Rattle.base_digits.proofs.Puts.{put-after}
@@ -33,7 +34,7 @@ returns c =
     let p = c .before .before in
     let a = p .before .before .before .args in (
       refl,
-      put-after 32 (record { ends = ap (λ (k : ℕ). a .at + k) (sym (right-length (a .width) (digitsOf (a .n)) (p .before .before .before .pre .0))); makes = p .put-right .ensures }),
+      put-after {xs = right (a .width) (digitsOf (a .n))} 32 (record { ends = ap (λ (k : ℕ). a .at + k) (sym (right-length (a .width) (digitsOf (a .n)) (p .before .before .before .pre .0))); makes = p .put-right .ensures }),
     )
 
 pub put-column-spec : {M : Type 1} → statement M

@@ -1,7 +1,10 @@
 -- `put_totals` meets its contract: blanks, two columns, blanks. Assumes nothing.
 use borrow.Author.Needs.{needs}
 use mathlib.Core.Path.{refl}
+use mathlib.Core.List.{[], _∷_, _++_}
 use native.Mathlib.Omega.{arith}
+use lib.ListN.{replicate}
+use Rattle.base_digits.specs.Characters.{blank, lineFeed}
 use Rattle.base_digits.proofs.Puts.{put-as, put-then, text-put}
 use Rattle.pool_sheet.proofs.Widths.{four-wide, nineteen-wide, totals-made}
 use Rattle.pool_sheet.proofs.lines.put_totals.Statement.{statement}
@@ -41,8 +44,8 @@ returns c =
     let a0 = c .before .before .before .before .before .before .before .before .before .before .before .before .before .before .before .before .before .before in
     let a = a0 .args in
     put-as (totals-made (a .spares) (a .parked) (a0 .pre .0) (a0 .pre .1))
-    (put-then (record { ends = refl; makes = c .before .before .before .before .before .before .before .before .before .before .before .before .before .before .before .put-blanks .ensures })
-    (put-then (c .before .before .before .before .before .before .before .before .before .before .before .put-column .ensures .1) (put-then (c .before .before .before .before .before .before .before .put-column2 .ensures .1) (text-put _ _ _ (c .before .before .put-text .ensures))))) .makes
+    (put-then {xs = replicate 26 blank} (record { ends = refl; makes = c .before .before .before .before .before .before .before .before .before .before .before .before .before .before .before .put-blanks .ensures })
+    (put-then (c .before .before .before .before .before .before .before .before .before .before .before .put-column .ensures .1) (put-then (c .before .before .before .before .before .before .before .put-column2 .ensures .1) (text-put _ _ (replicate 21 blank ++ (lineFeed ∷ [])) (c .before .before .put-text .ensures))))) .makes
 
 pub put-totals-spec : {M : Type 1} → statement M
 put-totals-spec =
