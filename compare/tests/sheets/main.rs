@@ -1,6 +1,7 @@
 //! Tests the pool sheet and the question program: sheets written by hand from document 02, the grammar, the lists, and wrong
 //! printers that the stored questions have to see.
 
+mod faults;
 mod lists;
 
 use compare::lines;
