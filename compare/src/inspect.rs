@@ -249,6 +249,36 @@ pub fn textures(pool: &TextureVersions<u64>) -> Vec<TextureRow> {
     pool.textures.iter().map(row).collect()
 }
 
+/// Holds what a pool sheet (02, W-202) shows of a texture, but for the parked bytes, which are spares times bytes.
+#[derive(Clone)]
+pub struct SheetRow {
+    pub id: u64,
+    /// 0 flat, 1 cube, 2 volume: the Rust has two flags.
+    pub kind: u64,
+    pub levels: u64,
+    pub spares: u64,
+    /// Bytes of a version of the texture's shape.
+    pub bytes: u64,
+    /// The submission of its latest rename.
+    pub rename: u64,
+}
+
+/// Returns a row for each tracked texture, in ascending id.
+pub fn sheet_rows<V>(pool: &TextureVersions<V>) -> Vec<SheetRow> {
+    let row = |(id, state): (&TextureId, &VersionState<V>)| {
+        let shape = raw_shape(&state.shape);
+        SheetRow {
+            id: id.raw(),
+            kind: shape.kind,
+            levels: shape.levels.into(),
+            spares: state.spares.len() as u64,
+            bytes: state.bytes,
+            rename: state.last_rename_seq,
+        }
+    };
+    pool.textures.iter().map(row).collect()
+}
+
 fn due(pool: &TextureVersions<u64>, id: u64, epoch: u64) -> u64 {
     let mut dues = pool.idle.iter();
     let found = dues.find(|due| (due.1, due.2) == (id, epoch));

@@ -8,7 +8,7 @@ use crate::shape::RawShape;
 use crate::standins::TextureId;
 use crate::stores::export::write_pool;
 use crate::stores::memory::Memory;
-use crate::texture_versions::inspect::{self, Tracking};
+use crate::texture_versions::inspect::{self, SheetRow, Tracking};
 use crate::texture_versions::laws;
 use crate::texture_versions::{
     PreserveCopy, Retiring, TexelRect, TextureVersions, UploadFootprint, VersionBudget,
@@ -206,6 +206,11 @@ impl LimitedPool {
 
     pub fn pending_destroy_bytes(&self) -> u64 {
         inspect::totals(&self.pool)[2]
+    }
+
+    /// Returns what a pool sheet shows of each texture, in ascending id.
+    pub fn sheet_rows(&self) -> Vec<SheetRow> {
+        inspect::sheet_rows(&self.pool)
     }
 
     /// The pool as memory in our layout, both rings begun at the places given.

@@ -6,6 +6,7 @@ use crate::refusal::Refusal;
 use crate::shape::RawShape;
 use crate::stores::lines::{self as lent, Line};
 use crate::text::{push_field, push_number, push_optional};
+use crate::texture_versions::inspect::SheetRow;
 use crate::texture_versions::{PreserveCopy, UploadFootprint};
 
 /// The program between two lines.
@@ -60,6 +61,11 @@ impl Program {
     /// The pool, once opened; for tests.
     pub fn pool(&mut self) -> Option<&mut LimitedPool> {
         self.pool.as_mut()
+    }
+
+    /// Returns what a pool sheet shows of each texture, in ascending id; none before `open`.
+    pub fn sheet_rows(&self) -> Option<Vec<SheetRow>> {
+        self.pool.as_ref().map(LimitedPool::sheet_rows)
     }
 
     /// Runs one line and appends its output lines.

@@ -4,7 +4,7 @@ use std::env;
 use std::io::{self, Write};
 use std::process::ExitCode;
 
-use compare::lists::{self, KINDS};
+use compare::lists::{self, KINDS, sheets};
 use compare::options::{self, SIZES, SIZES_HELP};
 
 fn main() -> ExitCode {
@@ -16,6 +16,7 @@ fn main() -> ExitCode {
         }
         Err(fault) => {
             eprintln!("lists: {fault}\nusage: lists KIND SEED LINES {SIZES}\n       lists kinds");
+            eprintln!("       lists sheets KIND SEED LINES {SIZES}");
             eprintln!("  KIND: {}\n  {SIZES_HELP}", KINDS.join(" "));
             ExitCode::from(2)
         }
@@ -29,6 +30,10 @@ fn list(words: Vec<String>) -> Result<Vec<u8>, String> {
         ["kinds"] => Ok((KINDS.join("\n") + "\n").into_bytes()),
         [kind, seed, lines] => lists::list(kind, number(seed)?, number(lines)?, limits)
             .ok_or(format!("{kind}: no such kind")),
+        ["sheets", kind, seed, lines] => {
+            sheets::asked_list(kind, number(seed)?, number(lines)?, limits)
+                .ok_or(format!("{kind}: no such kind"))
+        }
         _ => Err(format!("not understood: {}", words.join(" "))),
     }
 }

@@ -10,6 +10,7 @@ mod fills;
 mod pressure;
 mod renames;
 mod shapes;
+pub mod sheets;
 pub mod sized;
 mod stamps;
 mod texture;

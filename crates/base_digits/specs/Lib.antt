@@ -1,4 +1,5 @@
-pub mod Characters
 pub mod Aligned
+pub mod Characters
 pub mod Digits
 pub mod Packed
+pub mod Put

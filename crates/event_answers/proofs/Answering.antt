@@ -15,8 +15,10 @@ use Rattle.event_answers.specs.declared.answer.Answer.{Answer}
 use Rattle.event_answers.specs.declared.answer.Answer.the-variants.{Question, Refused, Done, Spare, NoSpare, Version, NothingSettled, Views, Copies}
 use Rattle.event_answers.specs.Answers.{replyTold, entries, InBuffers}
 use Rattle.event_answers.specs.Printed.{question, acceptedText, row, acceptedRow, optional, heldField, regionFields, copyRow, viewRow, replyRows, printed}
-use Rattle.event_answers.specs.Put.{Put, fieldsEnded}
-use Rattle.event_answers.proofs.Puts.{put-as, put-then, row-ended, put-row, put-field, put-accepted}
+use Rattle.base_digits.specs.Put.{Put}
+use Rattle.event_answers.specs.Ended.{fieldsEnded}
+use Rattle.base_digits.proofs.Puts.{put-as, put-then}
+use Rattle.event_answers.proofs.Puts.{row-ended, put-row, put-field, put-accepted}
 use Rattle.pool_memory.specs.MemoryConstants.{copyStride}
 use Rattle.event_text.specs.Fields.{dash}
 

@@ -18,7 +18,7 @@ use Rattle.event_answers.specs.declared.answer.Answer.{Answer}
 use Rattle.event_answers.specs.declared.answer.Answer.the-variants.{Question, Refused, Done, Spare, NoSpare, Version, NothingSettled, Views, Copies}
 use Rattle.event_answers.specs.Answers.{replyTold, entries}
 use Rattle.event_answers.specs.Printed.{question, acceptedText, row, acceptedRow, optional, heldField, regionFields, copyRow, viewRow, replyRows, printed, mostBytes}
-use Rattle.event_answers.specs.Put.{fieldsEnded}
+use Rattle.event_answers.specs.Ended.{fieldsEnded}
 use Rattle.event_answers.proofs.Puts.{row-ended}
 use Rattle.pool_memory.specs.MemoryConstants.{copyStride}
 use Rattle.event_text.specs.Fields.{dash}

@@ -1,3 +1,3 @@
 pub mod Answers
 pub mod Printed
-pub mod Put
+pub mod Ended

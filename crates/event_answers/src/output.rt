@@ -7,7 +7,7 @@ ghost use lib.Seq.{sets};
 ghost use Rattle.base_digits.specs.Digits.{digitsOf};
 ghost use Rattle.event_answers.specs.Answers.{replyTold, entries, InBuffers};
 ghost use Rattle.event_answers.specs.Printed.{acceptedRow, heldField, printed, mostBytes};
-ghost use Rattle.event_answers.specs.Put.{Put};
+ghost use Rattle.base_digits.specs.Put.{Put};
 use crate::answer::Answer;
 use crate::entry::put_copies;
 use crate::entry::put_views;

@@ -5,7 +5,8 @@ ghost use lib.ListN.{length};
 ghost use Rattle.event_text.specs.Fields.{comma};
 ghost use Rattle.base_digits.specs.Digits.{digitsOf};
 ghost use Rattle.event_answers.specs.Printed.{acceptedText, acceptedRow, row};
-ghost use Rattle.event_answers.specs.Put.{Put, fieldsEnded};
+ghost use Rattle.base_digits.specs.Put.{Put};
+ghost use Rattle.event_answers.specs.Ended.{fieldsEnded};
 use base_digits::put_number;
 use base_digits::put_text;
 

@@ -10,6 +10,7 @@ pub mod parked_bytes;
 pub mod pending_destroy_bytes;
 pub mod pop_retired;
 pub mod preserve_plan;
+pub mod print_sheet;
 pub mod records_writes;
 pub mod retire;
 pub mod take_doomed;

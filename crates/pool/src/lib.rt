@@ -2,7 +2,7 @@
 // the caller lends, and answers for any numbers in them: memory that forms no pool is refused with 1 and left as it is. To know
 // that, a call tests all the memory that is in use, so it costs what that memory costs. The same calls without the test, for
 // callers who are proved to pass a pool (or who keep the memory to themselves), are those of `pool_take_spare`, `pool_preserve_plan`, `pool_retire`,
-// `pool_park`, `pool_note_write`, `pool_note_allocated`, `pool_take_doomed` and `pool_trim`.
+// `pool_park`, `pool_note_write`, `pool_note_allocated`, `pool_take_doomed`, `pool_trim` and `pool_sheet`.
 mod calls;
 
 pub use calls::dirty_tile::DirtyAnswer;
@@ -18,6 +18,7 @@ pub use calls::parked_bytes::parked_bytes;
 pub use calls::pending_destroy_bytes::pending_destroy_bytes;
 pub use calls::pop_retired::pop_retired;
 pub use calls::preserve_plan::preserve_plan;
+pub use calls::print_sheet::print_sheet;
 pub use calls::records_writes::RecordsAnswer;
 pub use calls::records_writes::records_writes;
 pub use calls::retire::retire;

@@ -9,7 +9,7 @@ use Rattle.base_tables.specs.Records.{recordAt}
 use Rattle.base_tables.proofs.Records.{table-left}
 use Rattle.pool_books.specs.LentLists.{readCopy}
 use Rattle.event_answers.specs.Printed.{copyRow}
-use Rattle.event_answers.proofs.Puts.{PutTo, put-none, put-next, put-all, put-as}
+use Rattle.base_digits.proofs.Puts.{PutTo, put-none, put-next, put-all, put-as}
 use Rattle.event_answers.proofs.Answering.{copy-from}
 use Rattle.event_answers.proofs.entry.put_copies.Statement.{statement}
 use Rattle.event_answers.proofs.entry.put_copies.Tie as tie

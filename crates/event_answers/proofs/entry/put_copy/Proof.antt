@@ -2,7 +2,7 @@
 use borrow.Author.Needs.{needs}
 use native.Mathlib.Omega.{arith}
 use mathlib.Core.List.{[], _∷_}
-use Rattle.event_answers.proofs.Puts.{text-put, number-put, number-most}
+use Rattle.base_digits.proofs.Puts.{text-put, number-put, number-most}
 use Rattle.event_answers.proofs.Answering.{whole-copy, part-copy}
 use Rattle.event_answers.proofs.entry.put_copy.Statement.{statement}
 use Rattle.event_answers.proofs.entry.put_copy.Tie as tie

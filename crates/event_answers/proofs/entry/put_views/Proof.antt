@@ -6,7 +6,8 @@ use Prim.Native.Nat.{ℕ, _+_, _*_, _-_, _≤_}
 use native.Mathlib.Omega.{arith}
 use lib.ListN.{length, getD}
 use Rattle.event_answers.specs.Printed.{viewRow}
-use Rattle.event_answers.proofs.Puts.{PutTo, put-none, put-next, put-all, put-as, left-take}
+use Rattle.base_digits.proofs.Puts.{PutTo, put-none, put-next, put-all, put-as}
+use Rattle.event_answers.proofs.Puts.{left-take}
 use Rattle.event_answers.proofs.entry.put_views.Statement.{statement}
 use Rattle.event_answers.proofs.entry.put_views.Tie as tie
 

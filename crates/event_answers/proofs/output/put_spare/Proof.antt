@@ -5,7 +5,7 @@ use mathlib.Core.List.{[], _∷_}
 use Rattle.base_digits.specs.Digits.{digitsOf}
 use Rattle.pool_rules.specs.declared.held.Held.{Held}
 use Rattle.event_answers.specs.Printed.{acceptedRow, heldField}
-use Rattle.event_answers.proofs.Puts.{put-as, text-put}
+use Rattle.base_digits.proofs.Puts.{put-as, text-put}
 use Rattle.event_answers.proofs.Answering.{show-unknown}
 use Rattle.event_answers.proofs.output.put_spare.Statement.{statement}
 use Rattle.event_answers.proofs.output.put_spare.Tie as tie

@@ -2,7 +2,7 @@
 use borrow.Author.Needs.{needs}
 use native.Mathlib.Omega.{arith}
 use lib.ListN.{length-set}
-use Rattle.event_answers.proofs.Puts.{put-after-two, number-put, number-most}
+use Rattle.base_digits.proofs.Puts.{put-after-two, number-put, number-most}
 use Rattle.event_answers.proofs.row.put_accepted.Statement.{statement}
 use Rattle.event_answers.proofs.row.put_accepted.Tie as tie
 

@@ -3,7 +3,7 @@ use borrow.Author.Needs.{needs}
 use native.Mathlib.Omega.{arith}
 use mathlib.Core.Path.{_∙_}
 use lib.ListN.{length-set}
-use Rattle.event_answers.proofs.Puts.{put-before, number-put, number-most}
+use Rattle.base_digits.proofs.Puts.{put-before, number-put, number-most}
 use Rattle.event_answers.proofs.row.put_field.Statement.{statement}
 use Rattle.event_answers.proofs.row.put_field.Tie as tie
 

@@ -1,7 +1,7 @@
 -- `put_last` meets its contract. Assumes nothing.
 use borrow.Author.Needs.{needs}
-use Rattle.event_answers.specs.Put.{fieldsEnded}
-use Rattle.event_answers.proofs.Puts.{put-after}
+use Rattle.event_answers.specs.Ended.{fieldsEnded}
+use Rattle.base_digits.proofs.Puts.{put-after}
 use Rattle.event_answers.proofs.row.put_last.Statement.{statement}
 use Rattle.event_answers.proofs.row.put_last.Tie as tie
 

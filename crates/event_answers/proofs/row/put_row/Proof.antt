@@ -1,7 +1,8 @@
 -- `put_row` meets its contract. Assumes nothing.
 use borrow.Author.Needs.{needs}
 use native.Mathlib.Omega.{arith}
-use Rattle.event_answers.proofs.Puts.{put-row, number-put, number-most}
+use Rattle.base_digits.proofs.Puts.{number-put, number-most}
+use Rattle.event_answers.proofs.Puts.{put-row}
 use Rattle.event_answers.proofs.row.put_row.Statement.{statement}
 use Rattle.event_answers.proofs.row.put_row.Tie as tie
 

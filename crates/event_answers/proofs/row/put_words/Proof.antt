@@ -1,7 +1,7 @@
 -- `put_words` meets its contract. Assumes nothing.
 use borrow.Author.Needs.{needs}
 use native.Mathlib.Omega.{arith}
-use Rattle.event_answers.proofs.Puts.{put-then, text-put, number-put, number-most}
+use Rattle.base_digits.proofs.Puts.{put-then, text-put, number-put, number-most}
 use Rattle.event_answers.proofs.row.put_words.Statement.{statement}
 use Rattle.event_answers.proofs.row.put_words.Tie as tie
 

@@ -1,0 +1,3 @@
+pub mod PrintSheet
+pub mod Records
+pub mod Sheet

@@ -1,0 +1,2 @@
+// The call that lib.rt hands on.
+pub mod print_sheet;
