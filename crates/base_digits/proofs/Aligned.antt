@@ -1,14 +1,19 @@
--- Laws of numbers counted and aligned in columns. Assumes nothing.
-use mathlib.Core.Path.{_≡_, sym, ap, ap₂, _∙_}
+-- Laws of numbers counted, aligned in columns and read back. Assumes nothing.
+use mathlib.Core.Path.{_≡_, refl, sym, ap, ap₂, _∙_}
+use mathlib.Core.Bool.{Bool, true, cond, _&&_}
 use mathlib.Core.List.{List, [], _∷_, _++_}
 use Prim.Native.Nat.{ℕ, zero, suc, _+_, _-_, _/_, _%_, _^_, _≤_, _<_}
 use native.Mathlib.Omega.{arith}
-use lib.ListN.{length, replicate, length-append, length-replicate}
-use lib.Seq.{sets}
+use borrow.Author.Tests.{leb-true, ne-eqb}
+use lib.Dec.{leb, eqb}
+use lib.ListN.{length, take, drop, replicate, length-append, length-replicate}
+use lib.Seq.{sets, take-append-seam, drop-append-seam}
+use Rattle.base_blocks.specs.Lists.{all}
+use Rattle.base_blocks.proofs.Lists.{and-both}
 use Rattle.base_digits.specs.Characters.{blank}
 use Rattle.base_digits.specs.Aligned.{right}
-use Rattle.base_digits.specs.Digits.{digits, digitsOf, lastDigits}
-use Rattle.base_digits.proofs.Printing.{digits-length}
+use Rattle.base_digits.specs.Digits.{isDigit, value, decimal, digits, digitsOf, lastDigits}
+use Rattle.base_digits.proofs.Printing.{digits-length, digits-are, digits-value}
 use Rattle.base_digits.proofs.ShortNumbers.{of-one, of-two, of-three, of-four, enough, length-last, four-behind, sets-append}
 
 -- ---- how many digits a number has
@@ -56,3 +61,45 @@ right-put l at w k text s r e q p =
     ∙ ap₂ (λ (t : List ℕ) (i : ℕ). sets t (at + i) text) q (sym (length-replicate k blank))
     ∙ sets-append l at (replicate k blank) text
     ∙ ap (λ (i : ℕ). sets l at (replicate i blank ++ text)) e
+
+-- ---- a number read back from its column
+
+-- without the blanks that a text begins with
+unfoldable unblanked : List ℕ → List ℕ
+unblanked [] = []
+unblanked (b ∷ bs) = cond (eqb b blank) (unblanked bs) (b ∷ bs)
+
+blanks-off : (k : ℕ) (text : List ℕ) → unblanked (replicate k blank ++ text) ≡ unblanked text
+unfolding unblanked
+blanks-off zero text = refl
+blanks-off (suc k) text = blanks-off k text
+
+-- digits begin with no blank
+digits-stay : (text : List ℕ) → all isDigit text ≡ true → unblanked text ≡ text
+unfolding unblanked all isDigit
+digits-stay [] e = refl
+digits-stay (b ∷ bs) e =
+    let d = leb-true 48 b (and-both (leb 48 b) (leb b 57) (and-both (leb 48 b && leb b 57) (all isDigit bs) e .0) .0) in
+    ap (λ (t : Bool). cond t (unblanked bs) (b ∷ bs)) (ne-eqb b blank (λ q. omega (arith, d, q)))
+
+-- the number that stands in a column
+unfoldable columnValue : List ℕ → ℕ
+columnValue text = decimal (unblanked text)
+
+value-back : (w n : ℕ) → n < 2 ^ 64 → columnValue (right w (digitsOf n)) ≡ n
+unfolding columnValue right digitsOf decimal
+value-back w n h =
+    ap (value 0) (blanks-off (w - length (digitsOf n)) (digitsOf n) ∙ digits-stay (digitsOf n) (digits-are 20 n))
+    ∙ digits-value 20 n (omega arith)
+
+-- columns that are the same have the same number
+pub right-same : (w m n : ℕ) → m < 2 ^ 64 → n < 2 ^ 64 → right w (digitsOf m) ≡ right w (digitsOf n) → m ≡ n
+right-same w m n h k e = sym (value-back w m h) ∙ ap columnValue e ∙ value-back w n k
+
+-- texts of one length in front are the same, and what stands behind them
+pub same-front : (xs ys us vs : List ℕ) → length xs ≡ length ys → xs ++ us ≡ ys ++ vs → (xs ≡ ys) × (us ≡ vs)
+same-front xs ys us vs l e =
+    let n : ℕ = length xs in (
+      sym (take-append-seam xs us) ∙ ap (take n) e ∙ ap (λ (k : ℕ). take k (ys ++ vs)) l ∙ take-append-seam ys vs,
+      sym (drop-append-seam xs us) ∙ ap (drop n) e ∙ ap (λ (k : ℕ). drop k (ys ++ vs)) l ∙ drop-append-seam ys vs,
+    )

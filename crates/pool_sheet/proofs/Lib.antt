@@ -1,4 +1,6 @@
+pub mod Claims
 pub mod Columns
+pub mod Determined
 pub mod OfRecords
 pub mod Pages
 pub mod PoolFits

@@ -1,6 +1,6 @@
 -- What the call answers and leaves in its buffer, case by case. Assumes nothing.
-use mathlib.Core.Path.{_≡_, refl, sym, ap, ap₂, _∙_}
-use mathlib.Core.Bool.{true, false}
+use mathlib.Core.Path.{_≡_, sym, ap, ap₂, _∙_}
+use mathlib.Core.Bool.{Bool, true, false, cond}
 use mathlib.Core.List.{List, _++_, append-assoc, flatMap}
 use Prim.Native.Nat.{ℕ, _+_, _*_, _≤_, _<_}
 use native.Mathlib.Omega.{arith}
@@ -37,18 +37,33 @@ unfolding over
 over-put text buffer h =
     sets-eq text buffer 0 (omega arith) ∙ ap (λ (n : ℕ). text ++ drop n buffer) (let e : 0 + length text ≡ length text = omega arith in e)
 
+-- a buffer that is too short, and one that is not
+printed-short : (text buffer : List ℕ) → length buffer < length text → (refusedWith 11, buffer) ≡ printedIn text buffer
+unfolding printedIn
+printed-short text buffer h =
+    sym (ap (λ (b : Bool). cond b (refusedWith 11, buffer) (answer (length text), over text buffer)) (lt-ltb (length buffer) (length text) h))
+
+printed-whole : (text buffer : List ℕ) → length text ≤ length buffer → (answer (length text), over text buffer) ≡ printedIn text buffer
+unfolding printedIn
+printed-whole text buffer h =
+    sym (ap (λ (b : Bool). cond b (refusedWith 11, buffer) (answer (length text), over text buffer)) (le-ltb (length buffer) (length text) h))
+
 module _ (l : Lent) (buffer : List ℕ) where
   pub not-pool : isPool l ≡ false → (refusedWith 1, buffer) ≡ printSheetOn l buffer
   unfolding printSheetOn
-  not-pool e = sym (rw e refl)
+  not-pool e = sym (ap (λ (b : Bool). cond b (printedIn (sheetOf l) buffer) (refusedWith 1, buffer)) e)
 
   module _ (pooled : isPool l ≡ true) where
     f : Fits l
     f = pool-fits l pooled
 
+    -- in a pool the buffer alone says what is answered
+    as-printed : printedIn (sheetOf l) buffer ≡ printSheetOn l buffer
+    unfolding printSheetOn
+    as-printed = sym (ap (λ (b : Bool). cond b (printedIn (sheetOf l) buffer) (refusedWith 1, buffer)) pooled)
+
     pub too-short : length buffer < lineBytes * (l .pool .tracked + 2) → (refusedWith 11, buffer) ≡ printSheetOn l buffer
-    unfolding printSheetOn printedIn
-    too-short h = sym (rw (pooled, lt-ltb (length buffer) (length (sheetOf l)) (omega (arith, h, sheet-bytes l f))) refl)
+    too-short h = printed-short (sheetOf l) buffer (omega (arith, h, sheet-bytes l f)) ∙ as-printed
 
     -- as the code puts it: the head line, the textures' lines behind it, the totals behind these
     module _ (h : lineBytes * (l .pool .tracked + 2) ≤ length buffer) (one two three : List ℕ) (headed : one ≡ sets buffer 0 (line headTexts))
@@ -80,7 +95,7 @@ module _ (l : Lent) (buffer : List ℕ) where
           ∙ over-put (sheetOf l) buffer (omega (arith, h, sheet-bytes l f))
 
       pub page-told : (answer (lineBytes * (l .pool .tracked + 2)), three) ≡ printSheetOn l buffer
-      unfolding printSheetOn printedIn
       page-told =
           ap₂ (λ (n : ℕ) (s : List ℕ). (answer n, s)) (sym (sheet-bytes l f)) page-put
-          ∙ sym (rw (pooled, le-ltb (length buffer) (length (sheetOf l)) (omega (arith, h, sheet-bytes l f))) refl)
+          ∙ printed-whole (sheetOf l) buffer (omega (arith, h, sheet-bytes l f))
+          ∙ as-printed

@@ -1,3 +1,4 @@
 pub mod PrintSheet
 pub mod Records
 pub mod Sheet
+pub mod SheetClaims
