@@ -1,8 +1,8 @@
 -- Laws of the sheet of a session: there is room for it, and it is what the call prints. Assumes nothing.
-use mathlib.Core.Path.{_≡_, refl, sym, ap, _∙_}
+use mathlib.Core.Path.{_≡_, refl, ap, _∙_}
 use mathlib.Core.Bool.{true, false}
-use mathlib.Core.List.{List, []}
-use Prim.Native.Nat.{ℕ, _+_, _*_, _/_, _≤_}
+use mathlib.Core.List.{List}
+use Prim.Native.Nat.{ℕ, _≤_}
 use native.Mathlib.Omega.{arith}
 use borrow.Author.Tests.{le-ltb}
 use lib.ListN.{length, drop, length-append}
@@ -15,8 +15,8 @@ use Rattle.pool_sheet.specs.PrintSheet.{sheetOf, printedIn, printSheetOn}
 use Rattle.pool_sheet.proofs.OfRecords.{sheet-bytes}
 use Rattle.pool_sheet.proofs.Told.{records-there}
 use Rattle.event_sessions.specs.Sessions.{SessionState, HoldsPool}
-use Rattle.event_sheet.specs.Printed.{bytesTold}
-use Rattle.event_sheet.specs.SheetText.{sheetText, mostSheetBytes}
+use Rattle.event_sheet.specs.Printed.{bytesTold, mostSheetBytes}
+use Rattle.event_sheet.specs.SheetText.{sheetText}
 
 -- no more textures are tracked than there are places
 pub sheet-most : (l : Lent) → isPool l ≡ true → length (sheetOf l) ≤ mostSheetBytes (length (l .textures))

@@ -1,21 +1,15 @@
 -- Rule: What a list of events leaves to be printed (02, W-202): the sheet of its pool where it opened one, and nothing where it did not.
-use Prim.Native.Nat.{ℕ, _+_, _*_, _/_}
+use Prim.Native.Nat.{ℕ}
 use mathlib.Core.Bool.{cond}
 use mathlib.Core.List.{List, []}
 use denote.Ref.{now}
-use Rattle.pool_records.specs.RecordConstants.{textureStride}
 use Rattle.pool_memory.specs.Lent.{Slice}
-use Rattle.pool_sheet.specs.Records.{lineBytes}
 use Rattle.pool_sheet.specs.PrintSheet.{sheetOf}
 use Rattle.event_sessions.specs.declared.session.Session.{Session}
 use Rattle.event_sessions.specs.Sessions.{SessionState, stateOf}
 
 unfoldable pub sheetText : SessionState → List ℕ
 sheetText s = cond (s .opened) (sheetOf (s .lent)) []
-
--- the most bytes that it can have where a store of `numbers` is lent for textures: two lines more than there are places
-abbrev pub mostSheetBytes : ℕ → ℕ
-mostSheetBytes numbers = lineBytes * (numbers / textureStride + 2)
 
 -- the state as a contract names it: with the lent slices as they were when the call was made
 abbrev pub stateAtEntry : Session → Slice → Slice → Slice → Slice → Slice → Slice → SessionState
