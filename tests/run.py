@@ -129,6 +129,13 @@ def sheet(*rows):
     return ''.join(line.ljust(72) + '\n' for line in lines).encode()
 
 
+def closed(stream):
+    """The sheet of 01's list, with a standard stream closed."""
+    command = ['/bin/sh', '-c', 'exec "$0" --sheet ' + stream, root + '/run']
+    ran = subprocess.run(command, input=EVENTS, stdout=subprocess.PIPE, stderr=subprocess.PIPE, timeout=60)
+    return ran.returncode, ran.stdout, ran.stderr
+
+
 def sample_sheet(folder):
     """Its whole text and nothing else, of FILE and of standard input, with the word before FILE or after it."""
     expect(sheet((7, 0, 1, 0, 0, 11)), SHEET)
@@ -164,6 +171,7 @@ def no_sheet(folder):
         expect(run(['--sheet'], given), (2, b'', NO_SHEET))
     with open(folder + '/empty', 'wb'):
         expect(run(['--sheet', 'empty'], EVENTS, folder), (2, b'', NO_SHEET))
+    expect(closed('<&-'), (2, b'', NO_SHEET))
 
 
 def sheet_words(folder):
@@ -181,8 +189,7 @@ def unwritten_sheet(folder):
     """Output that takes nothing, or that is closed."""
     with open('/dev/full', 'wb') as full:
         expect(run(['--sheet'], EVENTS, to=full), (2, None, b'run: the sheet cannot be written\n'))
-    ran = subprocess.run(['/bin/sh', '-c', 'exec "$0" --sheet >&-', root + '/run'], input=EVENTS, stderr=subprocess.PIPE, timeout=600)
-    expect((ran.returncode, ran.stderr), (2, b'run: the sheet cannot be written\n'))
+    expect(closed('>&-'), (2, b'', b'run: the sheet cannot be written\n'))
 
 
 # ---- what it prints while it proves
