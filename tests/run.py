@@ -1,5 +1,5 @@
 #!/usr/bin/env python3
-"""Tests of ./run: what a user sees who runs lists of events by it. The program has to be proved and built ('rt check event_program').
+"""Tests of ./run: what a user sees who runs lists of events by it. The programs have to be proved and built ('rt check event_program event_sheet').
 
     tests/run.py    Exit status 0 if every test passed, 1 if one failed.
 
@@ -37,14 +37,32 @@ ANSWERS = b"""1,0
 9,0,0,16,0,16,16
 """
 
+# The sheet that it leaves: version 900, the only spare, was taken again in submission 11.
+SHEET = (b'                  id k lv   sp              parked            last      \n'
+         b'                   7 0  1    0                   0              11      \n'
+         b'                             0                   0                      \n')
+
+# Two textures, one of which has a spare.
+SPARES = b"""open,0
+take,12,2,64,64,1,3,1,0,10
+take,7,2,64,64,1,1,0,1,10
+retire,7,900,10
+take,7,2,64,64,1,1,0,1,11
+retire,7,901,11
+pop,10
+park,0,11
+"""
+
+NO_SHEET = b'run: the list opens no pool, so there is no sheet\n'
+
 
 class Failure(Exception):
     pass
 
 
-def run(words, given=b'', folder=root, home=root, path=None):
+def run(words, given=b'', folder=root, home=root, path=None, to=subprocess.PIPE):
     env = dict(os.environ, **({'PATH': path + ':' + os.environ['PATH']} if path else {}))
-    ran = subprocess.run([home + '/run'] + words, input=given, cwd=folder, env=env, stdout=subprocess.PIPE, stderr=subprocess.PIPE, timeout=600)
+    ran = subprocess.run([home + '/run'] + words, input=given, cwd=folder, env=env, stdout=to, stderr=subprocess.PIPE, timeout=600)
     return ran.returncode, ran.stdout, ran.stderr
 
 
@@ -101,20 +119,92 @@ def sample(folder):
     expect(run([folder + '/-x'], b'x\n', '/'), (0, ANSWERS, b''))
 
 
+# ---- the sheet
+
+def sheet(*rows):
+    """The sheet of textures given by id, kind, levels, spares, parked bytes and last rename."""
+    lines = ['%20s %1s %2s %4s %19s %15s' % ('id', 'k', 'lv', 'sp', 'parked', 'last')]
+    lines += ['%20d %1d %2d %4d %19d %15d' % row for row in rows]
+    lines.append('%20s %1s %2s %4d %19d' % ('', '', '', sum(row[3] for row in rows), sum(row[4] for row in rows)))
+    return ''.join(line.ljust(72) + '\n' for line in lines).encode()
+
+
+def sample_sheet(folder):
+    """Its whole text and nothing else, of FILE and of standard input, with the word before FILE or after it."""
+    expect(sheet((7, 0, 1, 0, 0, 11)), SHEET)
+    expect(run(['--sheet', 'examples/sample.events']), (0, SHEET, b''))
+    expect(run(['examples/sample.events', '--sheet']), (0, SHEET, b''))
+    expect(run(['--sheet'], EVENTS), (0, SHEET, b''))
+    expect(run(['--sheet'], EVENTS[:-1]), (0, SHEET, b''))
+    with open(folder + '/-x', 'wb') as events:
+        events.write(EVENTS)
+    expect(run(['--sheet', './-x'], b'open,0\n', folder), (0, SHEET, b''))
+    expect(run([folder + '/-x', '--sheet'], b'open,0\n', '/'), (0, SHEET, b''))
+
+
+def other_sheets(folder):
+    """A pool just opened; spares, in ascending id; numbers as wide as they can be; as many textures as there can be; and more answers, which are not
+    shown, than a pipe holds."""
+    expect(run(['--sheet'], b'open,0'), (0, sheet(), b''))
+    expect(run(['--sheet'], SPARES), (0, sheet((7, 0, 1, 1, 16384, 11), (12, 1, 3, 0, 0, 10)), b''))
+    most, last = 2**64 - 1, 2**48
+    expect(run(['--sheet'], b'open,0\ntake,%d,2,1,1,1,15,2,0,%d' % (most, last)), (0, sheet((most, 2, 15, 0, 0, last)), b''))
+    events = b'open,0\n' + b''.join(b'take,%d,2,1,1,1,1,0,0,%d\n' % (9 - id, id) for id in range(9))
+    expect(run(['--sheet'], events + 100000 * b'doomed\n'), (0, sheet(*((id, 0, 1, 0, 0, 9 - id) for id in range(2, 10))), b''))
+
+
+def late_open(folder):
+    """Lines before an accepted `open` leave nothing, and one after it opens nothing again."""
+    expect(run(['--sheet'], b'x\n\n' + EVENTS[7:] + b'open\nopen,x\n' + EVENTS + b'open,0\n'), (0, SHEET, b''))
+
+
+def no_sheet(folder):
+    """A list that opens no pool: status 2, one line that says why, and nothing on standard output."""
+    for given in (b'', b'\n', b'open', b'open,x\n', b'OPEN,0\n', b'open,0' + 300 * b'0' + b'\n', EVENTS[7:], 30000 * EVENTS[7:]):
+        expect(run(['--sheet'], given), (2, b'', NO_SHEET))
+    with open(folder + '/empty', 'wb'):
+        expect(run(['--sheet', 'empty'], EVENTS, folder), (2, b'', NO_SHEET))
+
+
+def sheet_words(folder):
+    """A word that is unknown or stands twice, two files, or none that can be read."""
+    with open(folder + '/x', 'wb') as events:
+        events.write(EVENTS)
+    for words in (['--sheets'], ['-sheet'], ['--sheet=x'], ['sheet'], ['--sheet', '--sheet'], ['--sheet', 'x', '--sheet'], ['--sheet', 'x', 'x'],
+                  ['x', '--sheet', 'x'], ['--sheet', '--'], ['--sheet', '-x'], ['--sheet', 'nothing-here'], ['--sheet', ''], ['--sheet', '.']):
+        refused(words, folder)
+    status, out, said = run(['--sheet', '--help'])
+    expect((status, said, b'--sheet' in out), (0, b'', True))
+
+
+def unwritten_sheet(folder):
+    """Output that takes nothing, or that is closed."""
+    with open('/dev/full', 'wb') as full:
+        expect(run(['--sheet'], EVENTS, to=full), (2, None, b'run: the sheet cannot be written\n'))
+    ran = subprocess.run(['/bin/sh', '-c', 'exec "$0" --sheet >&-', root + '/run'], input=EVENTS, stderr=subprocess.PIPE, timeout=600)
+    expect((ran.returncode, ran.stderr), (2, b'run: the sheet cannot be written\n'))
+
+
 # ---- what it prints while it proves
 
-def repository(folder, said, status):
-    """A repository whose program uses two crates, and an rt that says `said` and ends with `status`."""
+def repository(folder, said, status, words=(), given=b'pop,1\n'):
+    """A repository whose program uses two crates, and that of the sheet three, and an rt that says `said` and ends with `status`."""
     shutil.copy(root + '/run', folder)
-    os.makedirs(folder + '/bin')
-    os.makedirs(folder + '/target/bin')
+    os.makedirs(folder + '/bin', exist_ok=True)
+    os.makedirs(folder + '/target/bin', exist_ok=True)
     with open(folder + '/crates.txt', 'w') as out:
-        out.write('# NAME: what it uses directly.\nlow:\nunused: low\nhigh: low io\nevent_program: low high io # the program\n')
-    for name, text in (('bin/rt', 'cat <<"END"\n%sEND\nexit %d\n' % (said, status)), ('target/bin/event_program', 'echo it runs; exec cat\n')):
+        out.write('# NAME: what it uses directly.\nlow:\nunused: low\nhigh: low io\nevent_program: low high io # the program\n'
+                  'printing:\nevent_sheet: low high printing io\n')
+    for name, text in (('bin/rt', 'echo "$@" >"%s/asked"\ncat <<"END"\n%sEND\nexit %d\n' % (folder, said, status)),
+                       ('target/bin/event_program', 'echo it runs; exec cat\n'),
+                       ('target/bin/event_sheet', 'read -r line || exit 0; [ "$line" != fail ] || exit 7; echo "$line"\n')):
         with open(folder + '/' + name, 'w') as out:
             out.write('#!/bin/sh\n' + text)
         os.chmod(folder + '/' + name, 0o755)
-    return run([], b'pop,1\n', '/', folder, folder + '/bin')
+    ran = run(list(words), given, '/', folder, folder + '/bin')
+    with open(folder + '/asked') as asked:
+        expect(asked.read(), 'check event_%s\n' % ('sheet' if words else 'program'))
+    return ran
 
 
 def progress(folder):
@@ -140,7 +230,23 @@ def broken_kit(folder):
     expect((status, out, told.splitlines()[0]), (2, b'', b'run: no toolchain for this machine'))
 
 
-TESTS = (help_is_printed, unknown_words, unreadable_files, sample, progress, failed_proof, broken_kit)
+def sheet_progress(folder):
+    """The crates of the sheet's program are those that are counted. A program that fails says nothing of the list, so it is told apart."""
+    said, told = '', b''
+    for number, name in enumerate(('low', 'high', 'printing', 'event_sheet'), 1):
+        said += 'rt: %s proved (1 s)\n' % name
+        told += b'run: %d of 4 %s proved (1 s)\n' % (number, name.encode())
+    expect(repository(folder, said, 0, ['--sheet']), (0, b'pop,1\n', told))
+    expect(repository(folder, said, 0, ['--sheet'], b''), (2, b'', told + NO_SHEET))
+    expect(repository(folder, said, 0, ['--sheet'], b'fail\n'), (2, b'', told + b'run: the program ended with status 7\n'))
+    status, out, told = repository(folder, said, 1, ['--sheet'])
+    expect((status, out, told.endswith(b'rt check event_sheet prints all that the prover says\n')), (2, b'', True))
+
+
+TESTS = (
+    help_is_printed, unknown_words, unreadable_files, sample, sample_sheet, other_sheets, late_open, no_sheet, sheet_words, unwritten_sheet,
+    progress, failed_proof, broken_kit, sheet_progress,
+)
 
 
 def main():

@@ -1,5 +1,5 @@
 -- Laws of a loop of turns: reading or copying what comes, feeding, writing, and the reason to go on or to stop. Assumes nothing.
-use mathlib.Core.Path.{_≡_, refl, sym, ap, ap₂, _∙_}
+use mathlib.Core.Path.{_≡_, refl, sym, ap, ap₂, _∙_, subst}
 use mathlib.Core.Bool.{Bool, true, false}
 use mathlib.Core.List.{List, [], _∷_}
 use Prim.Native.Nat.{ℕ, zero, suc, _+_, _-_, _*_, _^_, _≤_, _<_}
@@ -15,9 +15,10 @@ use Rattle.event_feed.specs.Feed.{Carried, ending, fed, fedOutput, finished, fi
 use Rattle.event_feed.specs.Places.{part, heldLine, carriedOf, waiting, waits, fedAt, Placed, Ready, Turn}
 use Rattle.event_feed.proofs.Parts.{part-length, part-same}
 use Rattle.event_feed.proofs.Ends.{turn-came, turn-ended}
+use Rattle.event_feed.proofs.Cutting.{fed-holds}
 use Rattle.event_stream.specs.Streams.{whyGoing, whyEnded, whyTooLong, isFull, RunOf}
 use Rattle.event_stream.proofs.Reasons.{Reason, not-full}
-use Rattle.event_stream.proofs.Sofar.{Sofar, Closed, sofar-first, sofar-plain, sofar-holds, sofar-count, sofar-turn, turn-less, stopped-early, stopped-ended}
+use Rattle.event_stream.proofs.Sofar.{Sofar, Closed, sofar-first, sofar-plain, sofar-count, sofar-turn, turn-less, stopped-early, stopped-ended}
 use Rattle.event_sessions.specs.Noted.{freshSession}
 
 -- what is left to do while a run goes on
@@ -33,6 +34,7 @@ left-less (suc k) m n h = omega arith
 
 pub record Going (cs vs size room : ℕ) (s : SessionState) (c : Carried) (at : FeedState) (read written why : ℕ) : Type 0 where
   pub placed : Placed at size
+  pub pool : HoldsPool (c .state)
   pub known : why ≤ whyTooLong
   pub going : why ≡ whyGoing → Sofar cs vs s c read (waiting at) written × (isFull read size written room ≡ false)
   pub ended : why ≡ whyEnded → Closed cs vs s c read written
@@ -41,10 +43,11 @@ pub record Going (cs vs size room : ℕ) (s : SessionState) (c : Carried) (at : 
 abbrev atFirst : FeedState
 atFirst = record { session = freshSession; number = 0; from = 0; held = 0; end = 0; filled = 0 }
 
-pub going-first : (cs vs size room : ℕ) (s : SessionState) (buf : List ℕ) → isFull 0 size 0 room ≡ false
+pub going-first : (cs vs size room : ℕ) (s : SessionState) (buf : List ℕ) → HoldsPool s → isFull 0 size 0 room ≡ false
     → Going cs vs size room s (carriedOf atFirst s buf) atFirst 0 0 whyGoing
-going-first cs vs size room s buf f = record {
+going-first cs vs size room s buf h f = record {
   placed = record { inside = omega arith; within = omega arith; space = λ z. omega arith };
+  pool = h;
   known = omega arith;
   going = λ z. (sofar-first cs vs s, f);
   ended = λ z. absurd (let y : ⊥ = omega arith in y);
@@ -69,8 +72,8 @@ module _ (cs vs size room : ℕ) (s : SessionState) (at : FeedState) (st : Sessi
   same-carried : carriedOf at st now ≡ carriedOf at st buf
   same-carried = λ i. record { state = st; number = at .number; line = same-line i }
 
-  pub going-ready : keptBytes < size → HoldsPool s → (out : List ℕ) → longestAnswer cs vs ≤ length out → Ready cs vs at end st now out
-  going-ready large h out space =
+  pub going-ready : keptBytes < size → (out : List ℕ) → longestAnswer cs vs ≤ length out → Ready cs vs at end st now out
+  going-ready large out space =
       let n = sofar-count cs vs s (carriedOf at st buf) read (waiting at) written so-far in
       let b = going-counts .0 in
       record {
@@ -79,7 +82,7 @@ module _ (cs vs size room : ℕ) (s : SessionState) (at : FeedState) (st : Sessi
         within = omega arith;
         large = omega arith;
         plain = ap wholeLines same-line ∙ sofar-plain cs vs s (carriedOf at st buf) read (waiting at) written so-far;
-        pool = sofar-holds cs vs s (carriedOf at st buf) read (waiting at) written so-far h;
+        pool = g .pool;
         counted = omega arith;
         room = space;
       }
@@ -160,6 +163,7 @@ module _ (cs vs size room : ℕ) (s : SessionState) (at : FeedState) (st : Sessi
           let i = g .placed .inside in
           record {
             placed = p;
+            pool = subst (λ (x : Carried). HoldsPool (x .state)) (sym (t .carried)) (fed-holds cs vs (carriedOf at st now) (take (t .used) (fedAt at end now)) (g .pool));
             known = reason .known;
             going = λ z. let q = reason .going z in (came-turn (let k = q .0 in omega arith), sym is-full ∙ q .1);
             ended = λ z. closed-turn (let k = reason .ended z in omega arith);
@@ -175,10 +179,11 @@ module _ (cs vs size room : ℕ) (s : SessionState) (at : FeedState) (st : Sessi
 
 -- ---- after the loop
 
--- nothing is said where output could not be written
-unwritten : (cs vs size room : ℕ) (s t : SessionState) (read lines written : ℕ) → RunOf cs vs size room s t 2 read lines written
-unwritten cs vs size room s t read lines written = record {
+-- nothing else is said where output could not be written
+unwritten : (cs vs size room : ℕ) (s t : SessionState) (read lines written : ℕ) → HoldsPool t → RunOf cs vs size room s t 2 read lines written
+unwritten cs vs size room s t read lines written h = record {
   stopped = (omega arith, omega arith);
+  pool = h;
   input = [];
   fed-bytes = omega arith;
   ended = λ e. absurd (let y : ⊥ = omega arith in y);
@@ -188,9 +193,9 @@ unwritten cs vs size room s t read lines written = record {
 pub stopped : (cs vs size room : ℕ) (s : SessionState) (c : Carried) (at : FeedState) (read written why : ℕ) → Going cs vs size room s c at read written why
     → (why ≡ whyGoing → ⊥) → RunOf cs vs size room s (c .state) why read (c .number) written
 stopped cs vs size room s c at read written zero g n = absurd (n refl)
-stopped cs vs size room s c at read written (suc zero) g n = stopped-ended cs vs s size room c read written (g .ended refl)
-stopped cs vs size room s c at read written (suc (suc zero)) g n = unwritten cs vs size room s (c .state) read (c .number) written
+stopped cs vs size room s c at read written (suc zero) g n = stopped-ended cs vs s size room c read written (g .pool) (g .ended refl)
+stopped cs vs size room s c at read written (suc (suc zero)) g n = unwritten cs vs size room s (c .state) read (c .number) written (g .pool)
 stopped cs vs size room s c at read written (suc (suc (suc zero))) g n =
     let l = g .long refl in
-    stopped-early cs vs s c read (waiting at) written (l .0) size room (l .1)
+    stopped-early cs vs s c read (waiting at) written (l .0) size room (g .pool) (l .1)
 stopped cs vs size room s c at read written (suc (suc (suc (suc k)))) g n = absurd (let h = g .known in let y : ⊥ = omega arith in y)

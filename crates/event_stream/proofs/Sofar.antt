@@ -14,7 +14,7 @@ use Rattle.event_runs.specs.Texts.{lastLine, allLines, afterLines, textOutput}
 use Rattle.event_runs.proofs.Cuts.{Unfinished}
 use Rattle.event_feed.specs.Feed.{Carried, first, joinedBlocks, fed, fedOutput, finished, finishOutput, fedAll, outputs}
 use Rattle.event_feed.specs.Places.{Turn}
-use Rattle.event_feed.proofs.Cutting.{fed-append, fed-output-append, fed-plain, fed-holds, every-cutting}
+use Rattle.event_feed.proofs.Cutting.{fed-append, fed-output-append, fed-plain, every-cutting}
 use Rattle.event_stream.specs.Streams.{whyEnded, whyTooLong, isFull, RunOf}
 use Rattle.base_digits.specs.Characters.{lineFeed}
 
@@ -55,9 +55,6 @@ module _ (cs vs : ℕ) (s : SessionState) where
   module _ (c : Carried) (read wait written : ℕ) (r : Sofar cs vs s c read wait written) where
     pub sofar-plain : Unfinished (c .line)
     sofar-plain = rw (r .is) (fed-plain cs vs (first s) (r .input))
-
-    pub sofar-holds : HoldsPool s → HoldsPool (c .state)
-    sofar-holds h = rw (r .is) (fed-holds cs vs (first s) (r .input) h)
 
     number-is : c .number ≡ length (wholeLines (r .input))
     unfolding fed
@@ -113,9 +110,10 @@ module _ (cs vs : ℕ) (s : SessionState) where
     -- ---- the end
 
     -- the input was not read to its end
-    pub stopped-early : (size room : ℕ) → isFull read size written room ≡ true → RunOf cs vs size room s (c .state) whyTooLong read (c .number) written
-    stopped-early size room l = record {
+    pub stopped-early : (size room : ℕ) → HoldsPool (c .state) → isFull read size written room ≡ true → RunOf cs vs size room s (c .state) whyTooLong read (c .number) written
+    stopped-early size room h l = record {
       stopped = (omega arith, omega arith);
+      pool = h;
       input = r .input;
       fed-bytes = omega (arith, r .bytes);
       ended = λ e. absurd (let y : ⊥ = omega arith in y);
@@ -123,14 +121,15 @@ module _ (cs vs : ℕ) (s : SessionState) where
     }
 
   -- it was, and its last line was run
-  pub stopped-ended : (size room : ℕ) (c : Carried) (read written : ℕ) → Closed cs vs s c read written → RunOf cs vs size room s (c .state) whyEnded read (c .number) written
+  pub stopped-ended : (size room : ℕ) (c : Carried) (read written : ℕ) → HoldsPool (c .state) → Closed cs vs s c read written → RunOf cs vs size room s (c .state) whyEnded read (c .number) written
   unfolding fedAll outputs joinedBlocks
-  stopped-ended size room c read written z =
+  stopped-ended size room c read written k z =
       let r = z .sofar in
       let e = every-cutting cs vs in
       let one = append-nil (r .input) in
       record {
         stopped = (omega arith, omega arith);
+        pool = k;
         input = r .input;
         fed-bytes = omega (arith, r .bytes);
         ended = λ q. (

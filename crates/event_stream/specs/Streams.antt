@@ -1,13 +1,14 @@
 -- Rule: What can be said of a run of standard input's lines. No contract says which bytes a read brought or a write took, so the input is some list of bytes.
--- But every byte that came was fed; where the input ended, all its lines were run, and as many bytes were given to be written as its output has; and
--- a run stops before that only where output could not be written or a 64-bit number could not count on.
+-- But every byte that came was fed; where the input ended, all its lines were run, and there were as many bytes of output as theirs has, which were given
+-- to be written where output is shown; and a run stops before that only where output could not be written or a 64-bit number could not count on. However
+-- it stops, it leaves a pool once one was opened, so that a caller may go on with it.
 use Prim.Native.Nat.{ℕ, _+_, _^_, _≤_, _<_}
 use mathlib.Core.Path.{_≡_}
 use mathlib.Core.Bool.{Bool, true, cond, _||_}
 use mathlib.Core.List.{List}
 use lib.Dec.{eqb, leb}
 use lib.ListN.{length}
-use Rattle.event_sessions.specs.Sessions.{SessionState}
+use Rattle.event_sessions.specs.Sessions.{SessionState, HoldsPool}
 use Rattle.event_runs.specs.Lines.{wholeLines, output}
 use Rattle.event_runs.specs.Texts.{allLines, afterLines, textOutput}
 
@@ -37,6 +38,8 @@ reasonOf came written full = cond written (cond (eqb came 0) whyEnded (cond full
 
 pub record RunOf (copies views size room : ℕ) (s t : SessionState) (why read lines written : ℕ) : Type 0 where
   pub stopped : (whyGoing < why) × (why ≤ whyTooLong)
+  -- once opened, the stores form a pool
+  pub pool : HoldsPool t
   -- what was fed
   pub input : List ℕ
   pub fed-bytes : length input ≤ read

@@ -53,7 +53,7 @@ pub fn run_list(
             out,
         );
         let filled = at.filled;
-        let wrote = write_out(&out[0..filled]);
+        let wrote = write_out(&out[0..filled], true);
         written += byte_count(wrote.bytes);
         let full = is_full(byte_count(given), buf.len(), written, out.len());
         why = reason(came, wrote.all, full);

@@ -20,7 +20,7 @@ use event_sessions::Session;
 pub struct Stopped {
     // The reason, as in reason.rt.
     pub why: u64,
-    // Bytes read, lines run, bytes written.
+    // Bytes read, lines run, bytes of output.
     pub read: u64,
     pub lines: u64,
     pub written: u64,
@@ -28,8 +28,8 @@ pub struct Stopped {
     pub session: Session,
 }
 
-// Runs all lines of standard input from a fresh session on, and writes their output. A write that fails ends it, since no caller would
-// see the answers after it.
+// Runs all lines of standard input from a fresh session on, and writes their output where it is to be shown. A write that fails ends it, since
+// no caller would see the answers after it.
 pub fn run_all(
     buf: &mut [u8],
     textures: &mut [u64],
@@ -41,6 +41,7 @@ pub fn run_all(
     copies: &mut [u64],
     views: &mut [u64],
     out: &mut [u8],
+    shown: bool,
 ) -> Stopped
     requires { ⌜ (keptBytes < length (now buf)) × (longestAnswer (length (now copies)) (length (now views)) ≤ length (now out)) ⌝ }
     ensures { λ r. ⌜ RunOf (length (now (copies .entry))) (length (now (views .entry))) (length (now (buf .entry))) (length (now (out .entry)))
@@ -73,7 +74,7 @@ pub fn run_all(
             out,
         );
         let filled = at.filled;
-        let wrote = write_out(&out[0..filled]);
+        let wrote = write_out(&out[0..filled], shown);
         written += byte_count(wrote.bytes);
         let full = is_full(read, buf.len(), written, out.len());
         why = reason(came, wrote.all, full);

@@ -3,17 +3,21 @@ ghost use mathlib.Core.Path.{_≡_};
 ghost use lib.ListN.{length};
 use libc::STDOUT_FILENO;
 
-// How many bytes were to be written, and whether all of them were.
+// How many bytes of output there were, and whether all were written that are to be shown.
 pub struct Wrote {
     pub bytes: usize,
     pub all: bool,
 }
 
-// Writes these bytes to standard output. What a write takes no contract can say, so the answer's `all` is what the system said.
-pub fn write_out(bytes: &[u8]) -> Wrote
+// Writes these bytes of output to standard output where they are to be shown. What a write takes no contract can say, so the answer's `all`
+// is what the system said; where nothing is shown nothing can fail.
+pub fn write_out(bytes: &[u8], shown: bool) -> Wrote
     ensures { λ r. ⌜ r .bytes ≡ length (now (bytes .entry)) ⌝ }
 {
-    let all = io::write_all(STDOUT_FILENO, bytes);
+    let mut all = true;
+    if shown {
+        all = io::write_all(STDOUT_FILENO, bytes);
+    }
     Wrote {
         bytes: bytes.len(),
         all,

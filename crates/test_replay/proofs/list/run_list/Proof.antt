@@ -30,7 +30,8 @@ begin-requires c κs = search needs
 loop-holds : tie.Need-loop-holds Inv-loop μ-loop
 loop-holds c =
     let s = c .before .before .before .before .before .before .before .before .before .before .before .before in
-    (rw (c .begin .ensures) (going-first _ _ _ _ _ (s .args .buf .now) (full-first (length (s .args .buf .now)) (length (s .args .out .now)) (search needs) (search needs))), refl, refl, refl, refl, refl, refl, refl, refl, refl, refl, omega arith)
+    let a = s .args in
+    (rw (c .begin .ensures) (going-first _ _ _ _ _ (a .buf .now) (fresh-holds (a .textures .now) (a .retiring .now) (a .doomed .now) (a .spares .now) (a .newest .now) (a .stamps .now)) (full-first (length (a .buf .now)) (length (a .out .now)) (omega (arith, s .good)) (omega (arith, s .good)))), refl, refl, refl, refl, refl, refl, refl, refl, refl, refl, omega arith)
 
 next-part-requires : tie.Need-next-part-requires Inv-loop μ-loop
 next-part-requires c κs =
@@ -68,9 +69,8 @@ feed-requires c κs =
     let s = c .before .before .before .before .before .before .before .before .before .before .before .before .before .before .before .before .before .before .before .before .before .before .before .before .before .before .before .before .before .before in
     let i = l .inv in
     let z = r .kept .1 .1 .0 ∙ i .1 in
-    let a = s .args in
     rw (i .8, i .9)
-    (going-ready _ _ _ _ _ (l .at) _ (l .buf) _ (l .given) (l .written) (l .why) (i .0) (c .before .before .before .before .before .before .before .before .before .before .before .before .before .before .before .before .loop-test .taken) z _ (r .ensures .0) (omega (arith, r .ensures .1, i .1)) (r .ensures .3) (omega (arith, s .pre .0)) (fresh-holds (a .textures .now) (a .retiring .now) (a .doomed .now) (a .spares .now) (a .newest .now) (a .stamps .now)) _ (omega (arith, s .pre .1, i .10)))
+    (going-ready _ _ _ _ _ (l .at) _ (l .buf) _ (l .given) (l .written) (l .why) (i .0) (c .before .before .before .before .before .before .before .before .before .before .before .before .before .before .before .before .loop-test .taken) z _ (r .ensures .0) (omega (arith, r .ensures .1, i .1)) (r .ensures .3) (omega (arith, s .pre .0)) _ (omega (arith, s .pre .1, i .10)))
 
 sub-write-out : tie.Need-sub-write-out Inv-loop μ-loop
 sub-write-out c = search needs

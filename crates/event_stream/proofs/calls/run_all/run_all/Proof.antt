@@ -16,13 +16,13 @@ use Rattle.event_stream.proofs.calls.run_all.run_all.Tie as tie
 use Rattle.event_sessions.specs.Noted.{freshSession}
 
 abbrev Inv-loop : tie.InvT-loop
-Inv-loop buf₀ textures₀ retiring₀ doomed₀ spares₀ newest₀ stamps₀ copies₀ views₀ out₀ at₀ read₀ written₀ why₀ buf textures retiring doomed spares newest stamps copies views out at read written why =
+Inv-loop buf₀ textures₀ retiring₀ doomed₀ spares₀ newest₀ stamps₀ copies₀ views₀ out₀ shown at₀ read₀ written₀ why₀ buf textures retiring doomed spares newest stamps copies views out at read written why =
     Going (length copies₀) (length views₀) (length buf₀) (length out₀) (stateOf freshSession textures₀ retiring₀ doomed₀ spares₀ newest₀ stamps₀)
     (carriedOf at (stateOf (at .session) textures retiring doomed spares newest stamps) buf) at read written why
     × (length buf ≡ length buf₀) × (length textures ≡ length textures₀) × (length retiring ≡ length retiring₀) × (length doomed ≡ length doomed₀) × (length spares ≡ length spares₀) × (length newest ≡ length newest₀) × (length stamps ≡ length stamps₀) × (length copies ≡ length copies₀) × (length views ≡ length views₀) × (length out ≡ length out₀)
 
 abbrev μ-loop : tie.MeasureT-loop
-μ-loop buf₀ textures₀ retiring₀ doomed₀ spares₀ newest₀ stamps₀ copies₀ views₀ out₀ at₀ read₀ written₀ why₀ buf textures retiring doomed spares newest stamps copies views out at read written why =
+μ-loop buf₀ textures₀ retiring₀ doomed₀ spares₀ newest₀ stamps₀ copies₀ views₀ out₀ shown at₀ read₀ written₀ why₀ buf textures retiring doomed spares newest stamps copies views out at read written why =
     leftWhile why (2 * (2 ^ 64 - read) + waiting at)
 
 begin-requires : tie.Need-begin-requires Inv-loop μ-loop
@@ -31,7 +31,8 @@ begin-requires c κs = search needs
 loop-holds : tie.Need-loop-holds Inv-loop μ-loop
 loop-holds c =
     let s = c .before .before .before .before .before .before .before .before .before .before .before in
-    (rw (c .begin .ensures) (going-first _ _ _ _ _ (s .args .buf .now) (full-first (length (s .args .buf .now)) (length (s .args .out .now)) (search needs) (search needs))), refl, refl, refl, refl, refl, refl, refl, refl, refl, refl)
+    let a = s .args in
+    (rw (c .begin .ensures) (going-first _ _ _ _ _ (a .buf .now) (fresh-holds (a .textures .now) (a .retiring .now) (a .doomed .now) (a .spares .now) (a .newest .now) (a .stamps .now)) (full-first (length (a .buf .now)) (length (a .out .now)) (omega (arith, s .good)) (omega (arith, s .good)))), refl, refl, refl, refl, refl, refl, refl, refl, refl, refl)
 
 read-more-requires : tie.Need-read-more-requires Inv-loop μ-loop
 read-more-requires c κs =
@@ -74,9 +75,8 @@ feed-requires c κs =
     let s = c .before .before .before .before .before .before .before .before .before .before .before .before .before .before .before .before .before .before .before .before .before .before .before .before .before .before .before .before .before .before in
     let i = l .inv in
     let z = r .kept .0 ∙ i .1 in
-    let a = s .args in
     rw (i .8, i .9)
-    (going-ready _ _ _ _ _ (l .at) _ (l .buf) _ (l .read) (l .written) (l .why) (i .0) (c .before .before .before .before .before .before .before .before .before .before .before .before .before .before .before .before .before .loop-test .taken) z _ (r .ensures .0) (omega (arith, r .ensures .1, i .1)) (r .ensures .2) (omega (arith, s .pre .0)) (fresh-holds (a .textures .now) (a .retiring .now) (a .doomed .now) (a .spares .now) (a .newest .now) (a .stamps .now)) _ (omega (arith, s .pre .1, i .10)))
+    (going-ready _ _ _ _ _ (l .at) _ (l .buf) _ (l .read) (l .written) (l .why) (i .0) (c .before .before .before .before .before .before .before .before .before .before .before .before .before .before .before .before .before .loop-test .taken) z _ (r .ensures .0) (omega (arith, r .ensures .1, i .1)) (r .ensures .2) (omega (arith, s .pre .0)) _ (omega (arith, s .pre .1, i .10)))
 
 sub-write-out : tie.Need-sub-write-out Inv-loop μ-loop
 sub-write-out c = search needs
