@@ -32,6 +32,7 @@ MORE = {
     'event_stream': ['grid_stamps'],
     'event_program': ['grid_stamps'],
     'event_program_large': ['grid_stamps'],
+    'event_sheet': ['grid_stamps'],
 }
 
 

@@ -1,14 +1,14 @@
 -- The claim about sheets holds: their lines, their columns, and that they determine what is printed. Assumes nothing.
 use mathlib.Core.Path.{_≡_, refl, sym, ap, _∙_, subst}
-use mathlib.Core.Bool.{true}
+use mathlib.Core.Bool.{Bool, true, _&&_}
 use mathlib.Core.List.{List, [], _∷_, _++_, map}
 use Prim.Native.Nat.{ℕ, zero, suc, _+_, _*_, _-_, _^_, _≤_, _<_}
 use native.Mathlib.Omega.{arith}
 use borrow.Author.Tests.{leb-true}
-use lib.Dec.{leb}
+use lib.Dec.{leb, ltb}
 use lib.ListN.{length, drop, getD, replicate}
 use lib.Seq.{getD-drop}
-use Rattle.base_blocks.specs.Lists.{all}
+use Rattle.base_blocks.specs.Lists.{all, ascending}
 use Rattle.base_blocks.specs.All.{All, nil, cons}
 use Rattle.base_blocks.proofs.Lists.{and-both}
 use Rattle.base_blocks.proofs.All.{all-both, all-listed, all-map}
@@ -17,17 +17,19 @@ use Rattle.base_digits.specs.Aligned.{right}
 use Rattle.base_digits.specs.Characters.{blank, lineFeed}
 use Rattle.base_digits.specs.Digits.{isDigit, digits, digitsOf}
 use Rattle.base_digits.proofs.Printing.{digits-are, digits-room}
+use Rattle.pool_rules.specs.Model.{VersionState, PoolModel}
+use Rattle.pool_rules.specs.Formed.{Formed}
 use Rattle.pool_records.specs.declared.texture.TextureRecord.{TextureRecord}
 use Rattle.pool_records.specs.RecordConstants.{textureStride}
 use Rattle.pool_records.specs.Texture.{readTexture, textureIn}
 use Rattle.pool_memory.specs.Lent.{Lent}
 use Rattle.pool_memory.specs.Reading.{trackedRecords, modelOf}
-use Rattle.pool_memory.specs.IsPool.{isPool}
-use Rattle.pool_memory.proofs.FitsTests.{all-holds}
+use Rattle.pool_memory.specs.IsPool.{isPool, stateId}
+use Rattle.pool_memory.proofs.FitsTests.{all-holds, ascending-passes}
 use Rattle.pool_memory.proofs.Fits.{Fits}
 use Rattle.pool_memory.proofs.FromPool.{pool-fits}
 use Rattle.pool_sheet.specs.declared.fields.SheetFields.{SheetFields}
-use Rattle.pool_sheet.specs.Sheet.{lineWidth, columnWidths, inColumns, characters, line, headTexts, textureTexts, totalTexts, allSpares, allParked, sheetTexts, sheet}
+use Rattle.pool_sheet.specs.Sheet.{lineWidth, columnWidths, inColumns, characters, line, headTexts, textureTexts, totalTexts, stateFields, poolFields, allSpares, allParked, sheetTexts, sheet}
 use Rattle.pool_sheet.specs.PrintSheet.{sheetOf}
 use Rattle.pool_sheet.specs.Records.{recordFields, FieldsFit}
 use Rattle.pool_sheet.specs.SheetClaims.{IsLine, Within, Words, fieldsOn, SheetClaims}
@@ -146,6 +148,17 @@ with-words : {fs : List SheetFields} → All FieldsFit fs → All (λ (g : Sheet
 with-words nil nil = nil
 with-words (cons p ps) (cons q qs) = cons (record { fit = p; word = q }) (with-words ps qs)
 
+-- the textures of a pool stand in ascending id, and so do their lines
+states-ascend : (ts : List (VersionState ℕ)) → ascending (λ (f : SheetFields). f .id) (map stateFields ts) ≡ ascending stateId ts
+unfolding ascending
+states-ascend [] = refl
+states-ascend (t ∷ []) = refl
+states-ascend (t ∷ u ∷ ts) = ap (λ (b : Bool). ltb (t .id) (u .id) && b) (states-ascend (u ∷ ts))
+
+fields-ascend : (p : PoolModel ℕ) → Formed p → ascending (λ (f : SheetFields). f .id) (poolFields p) ≡ true
+unfolding poolFields
+fields-ascend p f = states-ascend (p .textures) ∙ ascending-passes (f .ids)
+
 module _ (l : Lent) (pooled : isPool l ≡ true) where
   f : Fits l
   f = pool-fits l pooled
@@ -170,6 +183,7 @@ module _ (l : Lent) (pooled : isPool l ≡ true) where
 
 pub sheet-claims : SheetClaims
 sheet-claims = record {
+  ascend = λ l e. fields-ascend (modelOf l) (pool-fits l e .formed);
   lines-are = λ l e. all-map line texts-line (all-texts l e);
   no-wider = λ l e. all-fitting (all-texts l e);
   determines = λ l m e d v w q. sheet-same (fieldsOn l) (fieldsOn m) (prints l e v) (prints m d w) q;

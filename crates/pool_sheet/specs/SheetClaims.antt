@@ -5,6 +5,7 @@ use mathlib.Core.Bool.{true}
 use mathlib.Core.List.{List, [], _∷_, _++_, map}
 use lib.ListN.{length, getD}
 use Rattle.base_blocks.specs.All.{All}
+use Rattle.base_blocks.specs.Lists.{ascending}
 use Rattle.base_digits.specs.Characters.{lineFeed}
 use Rattle.pool_memory.specs.Lent.{Lent}
 use Rattle.pool_memory.specs.Reading.{modelOf}
@@ -35,6 +36,8 @@ abbrev pub fieldsOn : Lent → List SheetFields
 fieldsOn l = poolFields (modelOf l)
 
 pub record SheetClaims : Type 0 where
+  -- "one line for each texture in ascending id"
+  pub ascend : (l : Lent) → isPool l ≡ true → ascending (λ (f : SheetFields). f .id) (fieldsOn l) ≡ true
   pub lines-are : (l : Lent) → isPool l ≡ true → All IsLine (map line (sheetTexts (fieldsOn l)))
   -- so nothing that is printed is cut off or pushes what follows it
   pub no-wider : (l : Lent) → isPool l ≡ true → All (Within columnWidths) (sheetTexts (fieldsOn l))

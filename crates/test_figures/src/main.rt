@@ -9,6 +9,7 @@ mod histories;
 mod limits;
 mod opening;
 mod print;
+mod sheets;
 mod texts;
 mod uploads;
 
@@ -24,4 +25,5 @@ fn main() {
     copies::print_copies();
     calls::print_calls();
     histories::print_histories();
+    sheets::print_sheets();
 }
