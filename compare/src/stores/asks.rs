@@ -5,12 +5,16 @@ use super::memory::*;
 use super::shapes::{grid_columns, grids, stamp_count};
 use crate::lists::sized;
 use crate::random::Random;
+use crate::sheet::LINE_BYTES;
 
 /// 2^48.
 const MOST: u64 = 1 << 48;
 
 /// Entries of the answer buffers that are lent.
 const ANSWERS: usize = 8;
+
+/// The most bytes of a sheet's buffer that our program lends.
+const MOST_BYTES: u64 = 1_024;
 
 /// A take that is accepted and finds no spare.
 const FRESH: &str = "0,-,-";
@@ -96,7 +100,7 @@ fn submission(random: &mut Random) -> u64 {
 /// A call with any numbers: on memory that forms no pool none of them matters.
 fn any_call(id: u64, random: &mut Random) -> String {
     let seq = submission(random);
-    match random.below(18) {
+    match random.below(19) {
         0 => format!("take,{id},{},1,{seq}", any_shape(random)),
         1 => format!("take,{id},{},0,0,1,2,3,4,1,{seq}", any_shape(random)),
         2 => format!("plan,{id},-,0,0,1"),
@@ -120,6 +124,7 @@ fn any_call(id: u64, random: &mut Random) -> String {
                 "pending".into()
             }
         }
+        17 => format!("sheet,{}", random.below(MOST_BYTES + 1)),
         _ => format!("dirty,{id},0,0,{}", random.below(4)),
     }
 }
@@ -128,7 +133,7 @@ fn any_call(id: u64, random: &mut Random) -> String {
 fn settled_call(memory: &Memory, id: u64, random: &mut Random) -> (String, String) {
     let late = MOST + 1 + random.below(9);
     let refused = |outcome: u64| format!("{outcome}\nsame");
-    match random.below(18) {
+    match random.below(19) {
         0 => (format!("take,{id},2,16385,1,1,1,0,1,{late}"), refused(2)),
         1 => (format!("take,{id},2,1,1,1,1,0,1,{late}"), refused(3)),
         2 => (format!("plan,{id},-,0,0,1"), refused(2)),
@@ -152,6 +157,7 @@ fn settled_call(memory: &Memory, id: u64, random: &mut Random) -> (String, Strin
         11 => (format!("note,{}", memory.counts[LINE]), "0".into()),
         12 => ("drain".into(), drained(memory)),
         13 | 14 => taken(memory, id, random),
+        15 => printed(memory, random),
         _ => dirty(memory, id, random),
     }
 }
@@ -188,6 +194,19 @@ fn taken(memory: &Memory, id: u64, random: &mut Random) -> (String, String) {
         FRESH
     };
     (call, answer.into())
+}
+
+/// The sheet in a buffer of just its bytes, of one fewer or of others: it has a line for each texture between two others.
+fn printed(memory: &Memory, random: &mut Random) -> (String, String) {
+    let size = LINE_BYTES as u64 * (memory.counts[TRACKED] + 2);
+    let others = random.below(MOST_BYTES + 1);
+    let bytes = random.one_of(&[size, size - 1, others]).min(MOST_BYTES);
+    let answer = if bytes < size {
+        "11\nsame".into()
+    } else {
+        format!("0,{size}\nsame")
+    };
+    (format!("sheet,{bytes}"), answer)
 }
 
 /// The dirty tile of a grid of the texture, where one tile or none is stamped above the held count.

@@ -7,6 +7,7 @@ pub mod note_write;
 pub mod park;
 pub mod pop_retired;
 pub mod preserve_plan;
+pub mod print_sheet;
 pub mod retire;
 pub mod take_doomed;
 pub mod take_spare;

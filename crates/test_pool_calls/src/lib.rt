@@ -3,9 +3,11 @@ mod answers;
 mod called;
 mod calls;
 mod making;
+mod queried;
 mod queries;
 
 pub use called::Called;
 pub use making::make_event;
-pub use queries::QueryAnswer;
+pub use queried::Queried;
+pub use queried::QueryAnswer;
 pub use queries::make_query;

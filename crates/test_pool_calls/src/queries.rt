@@ -1,23 +1,13 @@
 // The queries of the checked face, which alter nothing.
+use crate::calls::print_sheet::make_print_sheet;
+use crate::queried::Queried;
+use crate::queried::QueryAnswer;
 use pool::BytesAnswer;
 use pool::DirtyAnswer;
 use pool::RecordsAnswer;
 use pool_memory::PacingBook;
 use pool_memory::Pool;
 use test_pool_lines::OwnLine;
-
-// What a query says.
-pub enum QueryAnswer {
-    // No line is a query.
-    NoQuery,
-    // The memory forms no pool.
-    NoPool,
-    // The memory forms a pool.
-    Formed,
-    Number(u64),
-    Tile { column: u64, row: u64 },
-    NoTile,
-}
 
 // Returns what a number of bytes says.
 fn say_bytes(answer: BytesAnswer) -> QueryAnswer {
@@ -75,8 +65,8 @@ fn say_formed(
     QueryAnswer::NoPool
 }
 
-// Makes the query of a line, if it has one.
-pub fn make_query(
+// Makes the query of a line, if it has one that is lent no buffer.
+fn ask_query(
     pool: Pool,
     book: PacingBook,
     textures: &[u64],
@@ -149,5 +139,46 @@ pub fn make_query(
             held,
         )),
         _ => QueryAnswer::NoQuery,
+    }
+}
+
+// Makes the query of a line, if it has one.
+pub fn make_query(
+    pool: Pool,
+    book: PacingBook,
+    textures: &[u64],
+    retiring: &[u64],
+    doomed: &[u64],
+    spares: &[u64],
+    newest: &[u64],
+    stamps: &[u64],
+    line: OwnLine,
+) -> Queried {
+    match line {
+        OwnLine::Sheet(bytes) => make_print_sheet(
+            pool,
+            book,
+            textures,
+            retiring,
+            doomed,
+            spares,
+            newest,
+            stamps,
+            bytes,
+        ),
+        _ => Queried {
+            answer: ask_query(
+                pool,
+                book,
+                textures,
+                retiring,
+                doomed,
+                spares,
+                newest,
+                stamps,
+                line,
+            ),
+            kept: true,
+        },
     }
 }

@@ -33,6 +33,8 @@ pub enum OwnLine {
         level: u64,
         held: u64,
     },
+    // The bytes of the sheet's buffer.
+    Sheet(u64),
     Dump,
     // An event, or no line of ours.
     Other,
@@ -108,6 +110,9 @@ fn numbers_line(word: &[u8], n: [u64; MOST_FIELDS], count: usize) -> OwnLine {
             level: n[2],
             held: n[3],
         };
+    }
+    if is_word(word, b"sheet") & (count == 1) {
+        return OwnLine::Sheet(n[0]);
     }
     OwnLine::Other
 }

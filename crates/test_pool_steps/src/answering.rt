@@ -166,7 +166,7 @@ fn answer_query(
             reply: Reply::Event(Answer::Question),
         };
     }
-    let answer = make_query(
+    let queried = make_query(
         pool,
         book,
         textures,
@@ -179,7 +179,7 @@ fn answer_query(
     );
     Answered {
         session: with_counts(session, pool, book),
-        reply: Reply::Query(answer),
+        reply: Reply::Query(queried),
     }
 }
 

@@ -7,6 +7,7 @@ use event_answers::Answer;
 use event_answers::put_answer;
 use libc::STDOUT_FILENO;
 use pool_memory::COPY_STRIDE;
+use test_pool_calls::Queried;
 use test_pool_calls::QueryAnswer;
 use test_pool_memory::least;
 use test_pool_memory::put_digits;
@@ -19,7 +20,7 @@ pub enum Reply {
     // Nothing is printed.
     Silent,
     Event(Answer),
-    Query(QueryAnswer),
+    Query(Queried),
 }
 
 // Puts an answer of n views, if they are there and have room, and returns where it ends.
@@ -92,6 +93,7 @@ fn put_query(out: &mut [u8], number: u64, answer: QueryAnswer) -> usize
     match answer {
         QueryAnswer::NoQuery => put_text(out, at, b",?\n"),
         QueryAnswer::NoPool => put_text(out, at, b",1\n"),
+        QueryAnswer::ShortBuffer => put_text(out, at, b",11\n"),
         QueryAnswer::Formed => put_text(out, at, b",0\n"),
         QueryAnswer::Number(told) => put_told(out, at, told),
         QueryAnswer::Tile { column, row } => put_tile(out, at, column, row),
@@ -128,6 +130,14 @@ fn is_followed(reply: Reply) -> bool {
     }
 }
 
+// Returns whether a buffer of bytes, if the line was lent one, is as it was.
+fn is_buffer_kept(reply: Reply) -> bool {
+    match reply {
+        Reply::Query(queried) => queried.kept,
+        _ => true,
+    }
+}
+
 // Returns whether an answer is a refusal.
 fn is_refused(answer: Answer) -> bool {
     match answer {
@@ -143,7 +153,10 @@ fn put_reply(out: &mut [u8], number: u64, reply: Reply, copies: &[u64], views: &
     match reply {
         Reply::Silent => 0,
         Reply::Event(answer) => put_event(out, number, answer, copies, views),
-        Reply::Query(answer) => put_query(out, number, answer),
+        Reply::Query(queried) => {
+            let answer = queried.answer;
+            put_query(out, number, answer)
+        }
     }
 }
 
@@ -161,6 +174,6 @@ pub fn print_reply(
     let end = put_reply(out, number, reply, copies, views);
     print(out, end);
     if is_followed(reply) {
-        print_same(out, number, same);
+        print_same(out, number, same & is_buffer_kept(reply));
     }
 }
