@@ -1,10 +1,8 @@
 // Times the calls of the pool, on memory that forms one: WORKLOAD ORDER TEXTURES ROUNDS [VERSIONS PAGES]. bench/README.md says how it is used.
 mod answered;
-mod arguments;
 mod asked;
 mod call_all;
 mod call_one;
-mod clock;
 mod notes;
 mod opening;
 mod phases;
@@ -15,8 +13,8 @@ mod run;
 mod testing;
 mod totals;
 
-use arguments::argument;
 use asked::bench_stamps;
+use bench_common::argument;
 use grid_stamps::PAGE_STAMPS;
 use phases::Task;
 

@@ -1,5 +1,6 @@
 // The program's own numbers, in one slice: 4,096 that the calls fill, then 4,096 ids, then what each texture's spare holds.
-use std::num::wrapping_add_u64;
+use bench_common::mixed;
+use bench_common::random_from;
 use std::num::wrapping_add_usize;
 
 // Stores a number at place k, where there is one.
@@ -35,18 +36,6 @@ pub fn keep_held(notes: &mut [u64], i: usize, number: u64) {
 // Returns a small id. Ids are in no order, so that a search goes to another place each time.
 fn small_id(i: usize) -> u64 {
     ((i % 65536) * 40503 % 65536) as u64
-}
-
-// Returns another number for each x, with all 64 bits in use after a few times: Marsaglia's xorshift.
-fn mixed(x: u64) -> u64 {
-    let a = x ^ (x << 13);
-    let b = a ^ (a >> 7);
-    b ^ (b << 17)
-}
-
-// Returns a random number of 64 bits.
-fn random_from(x: u64) -> u64 {
-    mixed(mixed(mixed(wrapping_add_u64(x, 88172645463325252))))
 }
 
 // Returns the id of texture i: a small one, or a random one of 64 bits for the order 2.

@@ -1,8 +1,8 @@
 // What is printed.
-use crate::clock::idle_time;
-use crate::printing::line;
 use crate::totals::Totals;
 use crate::totals::total_lines;
+use bench_common::idle_time;
+use bench_common::line;
 use pool_memory::Pool;
 use pool_rules::GRID_STRIDE;
 

@@ -2,8 +2,6 @@
 ghost use Prim.Native.Nat.{_≤_};
 ghost use lib.ListN.{length};
 use crate::call_all::call_all;
-use crate::clock::elapsed;
-use crate::clock::reading;
 use crate::notes::id_at;
 use crate::notes::number_textures;
 use crate::notes::shuffle_ids;
@@ -18,6 +16,8 @@ use crate::report::report;
 use crate::testing::test_lines;
 use crate::totals::added;
 use crate::totals::no_totals;
+use bench_common::elapsed;
+use bench_common::reading;
 use grid_stamps::PAGE_STAMPS;
 use pool_records::DOOMED_STRIDE;
 use pool_records::RETIRING_STRIDE;

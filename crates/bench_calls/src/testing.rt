@@ -1,8 +1,8 @@
 // The test that memory forms a pool, and a plain read of the same memory.
 ghost use Prim.Native.Nat.{_≤_};
-use crate::clock::elapsed;
-use crate::clock::reading;
-use crate::printing::line;
+use bench_common::elapsed;
+use bench_common::line;
+use bench_common::reading;
 use pool_formed::is_pool;
 use pool_memory::PacingBook;
 use pool_memory::Pool;

@@ -9,8 +9,8 @@ use lib.Signed.{yes-nonNeg, natAbs-le, ltZ-no}
 use mir.Syntax.{w64}
 use mir.Val.{Fits, toZ, ofZ}
 use mir.ValLaws.{toZ-ofZ}
-use Rattle.bench_calls.proofs.clock.unsigned.Statement.{statement}
-use Rattle.bench_calls.proofs.clock.unsigned.Tie as tie
+use Rattle.bench_common.proofs.clock.unsigned.Statement.{statement}
+use Rattle.bench_common.proofs.clock.unsigned.Tie as tie
 
 fails : {t : Bool} → t ≡ false → T (not t)
 fails e = subst (λ (b : Bool). T (not b)) (sym e) tt

@@ -1,8 +1,8 @@
 -- `argument` meets its contract: the digits are those of the buffer. Assumes nothing.
 use borrow.Author.Needs.{needs}
 use Prim.Native.Nat.{_-_, _≤_}
-use Rattle.bench_calls.proofs.arguments.argument.Statement.{statement}
-use Rattle.bench_calls.proofs.arguments.argument.Tie as tie
+use Rattle.bench_common.proofs.arguments.argument.Statement.{statement}
+use Rattle.bench_common.proofs.arguments.argument.Tie as tie
 
 abbrev Inv-loop : tie.InvT-loop
 Inv-loop i text n value₀ k₀ value k = k ≤ n

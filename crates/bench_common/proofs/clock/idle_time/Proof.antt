@@ -1,8 +1,8 @@
 -- `idle_time` meets its contract: it ends. Assumes nothing.
 use borrow.Author.Needs.{needs}
 use Prim.Native.Nat.{_-_, _≤_}
-use Rattle.bench_calls.proofs.clock.idle_time.Statement.{statement}
-use Rattle.bench_calls.proofs.clock.idle_time.Tie as tie
+use Rattle.bench_common.proofs.clock.idle_time.Statement.{statement}
+use Rattle.bench_common.proofs.clock.idle_time.Tie as tie
 
 abbrev Inv-loop : tie.InvT-loop
 Inv-loop k sum₀ i₀ sum i = i ≤ k
