@@ -1,4 +1,4 @@
-//! What the programs here have in common: the textures, their ids and the clock, as crates/bench_calls has them.
+//! What the programs here have in common: the textures, their ids and the clock, as crates/bench_calls and crates/bench_common have them.
 
 use compare::standins::mtl::{PixelFormat, StorageMode, Swizzle, TextureCreateFlags, TextureUsage};
 use compare::standins::{TextureCreateDesc, TextureId};
@@ -12,14 +12,25 @@ unsafe extern "C" {
 /// 64 by 64 texels of four bytes, sixteen tiles; where the number of textures is odd, 512 by 512 of one byte, with as many tiles as a page has stamps.
 pub fn bench_desc(n: u64, levels: u32) -> TextureCreateDesc {
     let (format, extent) = if n % 2 == 1 { (0, 512) } else { (2, 64) };
+    square_desc(format, extent, 1, levels, 0)
+}
+
+/// Returns a texture as wide as it is high, by the numbers of its format and its kind.
+pub fn square_desc(
+    format: u64,
+    extent: u32,
+    depth: u32,
+    levels: u32,
+    kind: u64,
+) -> TextureCreateDesc {
     TextureCreateDesc {
         width: extent,
         height: extent,
-        depth: 1,
+        depth,
         levels,
         pixel_format: PixelFormat::numbered(format).expect("a format"),
         storage_mode: StorageMode(0),
-        flags: TextureCreateFlags::of_kind(0).expect("a kind"),
+        flags: TextureCreateFlags::of_kind(kind).expect("a kind"),
         usage_flags: TextureUsage::from_bits(0),
         swizzle_r: Swizzle(0),
         swizzle_g: Swizzle(0),
@@ -46,7 +57,8 @@ fn mixed(x: u64) -> u64 {
     b ^ (b << 17)
 }
 
-fn random_from(x: u64) -> u64 {
+/// Returns a random number of 64 bits, always the same for one `x`.
+pub fn random_from(x: u64) -> u64 {
     mixed(mixed(mixed(x.wrapping_add(88_172_645_463_325_252))))
 }
 
