@@ -19,7 +19,8 @@ pub fn print_sheet(
     stamps: &[u64],
     buffer: &mut [u8],
 ) -> SheetAnswer
-    ensures { λ r. ⌜ (sheetTold r, now (buffer .exit)) ≡ printSheetOn (atEntry pool book textures retiring doomed spares newest stamps) (now (buffer .entry)) ⌝ }
+    ensures { λ r. ⌜ (sheetTold r, now (buffer .exit))
+        ≡ printSheetOn (atEntry pool book textures retiring doomed spares newest stamps) (now (buffer .entry)) ⌝ }
 {
     if !is_pool(
         pool,

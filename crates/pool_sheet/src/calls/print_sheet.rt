@@ -26,7 +26,8 @@ pub fn print_sheet(
     buffer: &mut [u8],
 ) -> SheetAnswer
     requires { ⌜ isPool (lentBy pool book textures retiring doomed spares newest stamps) ≡ true ⌝ }
-    ensures { λ r. ⌜ (sheetTold r, now (buffer .exit)) ≡ printSheetOn (atEntry pool book textures retiring doomed spares newest stamps) (now (buffer .entry)) ⌝ }
+    ensures { λ r. ⌜ (sheetTold r, now (buffer .exit))
+        ≡ printSheetOn (atEntry pool book textures retiring doomed spares newest stamps) (now (buffer .entry)) ⌝ }
 {
     let tracked = pool.tracked;
     let size = LINE_BYTES * (tracked + 2);
