@@ -1,2 +1,4 @@
 pub mod Rects
 pub mod Copies
+pub mod RoundedCopies
+pub mod CopyClaims

@@ -1,9 +1,9 @@
-// What a copy of a region moves.
+// What a copy of a region moves: whole blocks.
 ghost use mathlib.Core.Path.{_≡_};
 ghost use mathlib.Core.Bool.{true};
-ghost use Prim.Native.Nat.{_≤_};
+ghost use Prim.Native.Nat.{_+_, _^_, _≤_, _<_};
 ghost use Rattle.grid_shapes.specs.Outcomes.{ofBytes};
-ghost use Rattle.grid_rects.specs.Copies.{cutSize, regionTexels, copyOutcome, copyBytes};
+ghost use Rattle.grid_rects.specs.Copies.{cutSize, touchedBlocks, cutBlocks, regionBlocks, copyOutcome, copyBytes};
 ghost use Rattle.grid_shapes.specs.Shapes.{isShape};
 use crate::rect::Region;
 use grid_shapes::BytesAnswer;
@@ -25,14 +25,38 @@ pub fn cut_size(extent: u64, start: u64, size: u64) -> u64
     if size < room { size } else { room }
 }
 
-// Returns the texels of the region in a level of `width` by `height`, at one depth.
-fn region_texels(width: u64, height: u64, region: Region) -> u64
-    requires { ⌜ (width ≤ 16384) × (height ≤ 16384) ⌝ }
-    ensures { λ r. ⌜ r ≡ regionTexels width height region ⌝ }
+// Returns how many blocks of `edge` texels, from texel 0 on, `texels` texels from `start` on touch.
+fn touched_blocks(edge: u64, start: u64, texels: u64) -> u64
+    requires { ⌜ (0 < edge) × (start + texels < 2 ^ 64) ⌝ }
+    ensures { λ r. ⌜ r ≡ touchedBlocks edge start texels ⌝ }
+{
+    if texels == 0 {
+        return 0;
+    }
+    let first = start / edge;
+    let last = (start + texels - 1) / edge;
+    last - first + 1
+}
+
+// Returns how many blocks those of `size` texels from `start` on touch that lie within `extent`.
+fn cut_blocks(edge: u64, extent: u64, start: u64, size: u64) -> u64
+    requires { ⌜ 0 < edge ⌝ }
+    ensures { λ r. ⌜ r ≡ cutBlocks edge extent start size ⌝ }
+{
+    let texels = cut_size(extent, start, size);
+    touched_blocks(edge, start, texels)
+}
+
+// Returns how many blocks the region's texels touch in a level of `width` by `height`, at one depth.
+fn region_blocks(edge: u64, width: u64, height: u64, region: Region) -> u64
+    requires { ⌜ (0 < edge) × (width ≤ 16384) × (height ≤ 16384) ⌝ }
+    ensures { λ r. ⌜ r ≡ regionBlocks edge width height region ⌝ }
 {
     match region {
-        Region::Whole => width * height,
-        Region::Part(r) => cut_size(width, r.x, r.width) * cut_size(height, r.y, r.height),
+        Region::Whole => touched_blocks(edge, 0, width) * touched_blocks(edge, 0, height),
+        Region::Part(r) => {
+            cut_blocks(edge, width, r.x, r.width) * cut_blocks(edge, height, r.y, r.height)
+        }
     }
 }
 
@@ -41,13 +65,13 @@ fn level_copy_bytes(s: VersionShape, level: u64, region: Region) -> u64
     requires { ⌜ isShape s ≡ true ⌝ }
     ensures { λ r. ⌜ r ≡ copyBytes s level region ⌝ }
 {
-    let edge = block_edge(s.format);
-    let texels = region_texels(
+    let blocks = region_blocks(
+        block_edge(s.format),
         level_extent(s.width, level),
         level_extent(s.height, level),
         region,
     );
-    texels * level_depth(s, level) * block_bytes(s.format) / (edge * edge)
+    blocks * level_depth(s, level) * block_bytes(s.format)
 }
 
 // Returns the bytes of a copy of the region: 0 in a level that the shape lacks, a refusal for what is no shape.
