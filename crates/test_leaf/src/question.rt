@@ -5,6 +5,7 @@ use crate::answer::Answer;
 use crate::axis::edge_along;
 use crate::axis::tiles_along;
 use crate::budget::budget_of;
+use crate::copy::copy_cost;
 use crate::fields::field_end;
 use crate::grid::grid_since;
 use crate::rect::on_grid;
@@ -27,6 +28,9 @@ fn shape_answer(word: &[u8], fields: &[u8]) -> Answer
     }
     if is_word(word, b"records") {
         return shape_records(fields);
+    }
+    if is_word(word, b"copy") {
+        return copy_cost(fields);
     }
     if is_word(word, b"upload") {
         return upload(fields);

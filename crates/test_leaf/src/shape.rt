@@ -14,7 +14,7 @@ use grid_shapes::VersionShape;
 pub const REFUSED: u64 = 2;
 
 // Returns the shape of format, width, height, depth, levels and kind; all else is 0.
-fn shape_of(n: [u64; 8]) -> VersionShape {
+pub fn shape_of(n: [u64; 8]) -> VersionShape {
     VersionShape {
         format: n[0],
         width: n[1],
