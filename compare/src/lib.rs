@@ -7,6 +7,7 @@
 
 pub mod books;
 pub mod changes;
+pub mod copies;
 pub mod coverage;
 pub mod event;
 #[cfg(feature = "hash_maps")]
