@@ -8,6 +8,7 @@
 pub mod books;
 pub mod changes;
 pub mod copies;
+pub mod cost;
 pub mod coverage;
 pub mod event;
 #[cfg(feature = "hash_maps")]
