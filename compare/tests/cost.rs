@@ -38,18 +38,18 @@ fn boxes_at_level_edges() {
             "open,0",
             take,
             "plan,7,-,0,0,0",
-            // In the last column of tiles, of 2 texels: one block by four.
+            // Writes into the last column of tiles, of 2 texels: one block by four.
             "write,7,0,0,33,3,9,1",
             "plan,7,0,0,0,0",
-            // In the last row too, of 5 texels: 1 by 6 blocks.
+            // Writes into the last row too, of 5 texels: 1 by 6 blocks.
             "write,7,0,0,32,20,1,1",
             "plan,7,0,0,0,0",
             "plan,7,1,0,0,0",
-            // In level 1's last column of tiles, of one texel: 1 by 3 blocks.
+            // Writes into level 1's last column of tiles, of one texel: 1 by 3 blocks.
             "write,7,0,1,16,0,1,1",
             "plan,7,2,0,0,0",
             "plan,7,0,0,0,0",
-            // In level 2, which is one tile, so whole.
+            // Writes into level 2, which is one tile, so that its copy is whole.
             "write,7,0,2,7,4,1,1",
             "plan,7,0,0,0,0",
             "plan,7,4,0,0,0",
@@ -63,7 +63,7 @@ fn boxes_at_level_edges() {
             "11,0,72",
             "13,0,104",
             "14,0,0",
-            // Twice all three levels; four times level 0 besides, twice level 1.
+            // Has all three levels twice whole, level 0 four times besides and level 1 twice.
             "sum,880,3136",
         ],
     );
@@ -79,7 +79,7 @@ fn volumes_and_cubes() {
             "plan,1,-,0,0,0",
             "write,1,0,0,16,0,1,1",
             "plan,1,0,0,0,0",
-            // A cube's slices are copied one by one: six of 2 by 2 blocks of 8 bytes, and six of one.
+            // Copies a cube slice by slice: six of 2 by 2 blocks of 8 bytes, and six of one.
             "take,2,5,5,5,7,2,1,1,1",
             "plan,2,-,0,0,0",
             "plan,2,-,3,1,1",

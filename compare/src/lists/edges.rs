@@ -1,7 +1,7 @@
 //! Writes lists of plans whose boxes end at the edges of levels, for what their copies cost (02, W-203): compressed formats, extents that are no
 //! multiples of a block, several levels, cubes and volumes.
 //!
-//! No list of all kinds: the others have few such boxes, and are stored with answers that are to stay.
+//! Stands beside the other kinds, not among them: those have few such boxes, and some of their lists are stored.
 
 use super::List;
 use super::driver::Driver;
@@ -70,7 +70,7 @@ fn step(driver: &mut Driver) {
             take(driver, at);
         }
         38 => {
-            // Has no history, so that every copy is whole.
+            // Names a texture without a history, so that every copy is whole.
             driver.say("plan,3,-,0,0,0");
         }
         _ => {
@@ -127,7 +127,7 @@ fn write(driver: &mut Driver, at: usize) {
     let (id, shape) = (driver.textures[at].id, driver.textures[at].shape);
     let random = &mut driver.list.random;
     let (slice, mut level) = texture::place(random, &shape);
-    // Mostly one of the first: the last ones have one tile, and a copy of that is whole.
+    // Prefers the first levels: the last ones have one tile, and a copy of that is whole.
     level = level.min(random.below(3) as u32);
     let (width, height) = shape.level(level);
     let [x, w] = side(random, width.into());

@@ -293,7 +293,7 @@ pub fn random_copy(q: &mut Questions, random: &mut Random) {
     let level = match random.below(24) {
         0 => shape[4] + random.below(3),
         1 => random.next() >> random.below(64),
-        // Mostly one of the first: the last ones have few texels.
+        // Prefers the first levels: the last ones have few texels.
         _ => random.below(shape[4]).min(random.below(5)),
     };
     if random.once_in(12) {

@@ -46,11 +46,11 @@ fn each_touched_block_counts_once() {
         ("6,64,64,1,1,0,0,63,63,1,1", "0,16"),
         ("5,64,64,1,1,0,0,0,0,4,4", "0,8"),
         ("5,64,64,1,1,0,0,0,0,5,4", "0,16"),
-        // Two by two texels around a corner of four blocks.
+        // Lies around a corner of four blocks.
         ("5,64,64,1,1,0,0,3,3,2,2", "0,32"),
         ("5,64,64,1,1,0,0,4,4,2,2", "0,8"),
         ("5,64,64,1,1,0,0,2,2,2,2", "0,8"),
-        // As many texels as a block has, from a place inside one.
+        // Has as many texels as a block, from a place inside one on.
         ("5,64,64,1,1,0,0,1,0,4,4", "0,16"),
         ("5,64,64,1,1,0,0,1,1,4,4", "0,32"),
         ("6,64,64,1,1,0,0,3,0,6,1", "0,48"),
@@ -73,7 +73,7 @@ fn formats_without_blocks_give_what_they_gave() {
 #[test]
 fn levels_and_depths() {
     check(&[
-        // 17 by 9, then 8 by 4, 4 by 2, 2 by 1 and from there on 1 by 1.
+        // Has levels of 17 by 9, 8 by 4, 4 by 2, 2 by 1 and from there on 1 by 1.
         ("5,17,9,1,15,0,0,-", "0,120"),
         ("5,17,9,1,15,0,1,-", "0,16"),
         ("5,17,9,1,15,0,2,-", "0,8"),
@@ -86,7 +86,7 @@ fn levels_and_depths() {
         ("2,5,5,3,1,2,0,4,4,9,9", "0,12"),
         ("5,5,5,7,2,2,1,-", "0,24"),
         ("5,5,5,0,1,2,0,-", "0,32"),
-        // Flat ones have one depth, and a copy is one slice of a cube.
+        // Counts one depth of flat ones, and one slice of a cube.
         ("5,5,5,3,1,0,0,-", "0,32"),
         ("5,5,5,3,1,1,0,-", "0,32"),
         ("0,0,0,0,1,0,0,-", "0,1"),
@@ -103,7 +103,7 @@ fn nothing_is_copied() {
         ("5,5,5,1,1,0,0,3,3,0,0", "0,0"),
         ("5,5,5,1,1,0,0,5,0,1,1", "0,0"),
         ("5,5,5,1,1,0,0,0,5,1,1", "0,0"),
-        // The place is in the level's last block, which the level does not fill.
+        // Begins in the level's last block, behind the level's last texel.
         ("5,5,5,1,1,0,0,6,6,1,1", "0,0"),
         ("5,5,5,1,1,0,1,-", "0,0"),
         ("5,5,5,1,1,0,64,-", "0,0"),
@@ -139,10 +139,10 @@ fn bad_shapes() {
         ("5,5,5,1,0,0,0,-", "2"),
         ("5,5,5,1,16,0,0,-", "2"),
         ("5,5,5,1,1,3,0,-", "2"),
-        // Larger than the Rust's numbers: no malformed line.
+        // Passes the Rust's numbers, which makes no malformed line here.
         ("5,4294967296,5,1,1,0,0,-", "2"),
         ("5,5,5,1,1,18446744073709551615,0,-", "2"),
-        // 2 goes before the 0 of a level that is lacking.
+        // Refuses before a level is found lacking.
         ("9,5,5,1,1,0,1,-", "2"),
         ("5,5,5,1,0,0,0,0,0,0,0", "2"),
     ]);
