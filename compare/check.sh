@@ -1,7 +1,7 @@
 #!/usr/bin/env bash
 # The gate's share of the comparison with the Rust: the oracle's own tests, the leaf questions on fixed seeds, damaged stores, then
-# the event programs on lists of events from fixed seeds, with the coverage of outcomes and the two books, lists at other sizes, and
-# questions about a pool.
+# the event programs on lists of events from fixed seeds, with the coverage of outcomes and the two books, lists at other sizes,
+# questions about a pool, and reports on what plans move.
 # Without the Rust's source, or without cargo, it says so and ends with 0: the stored answers are checked by rt ci all the same.
 #
 #   compare/check.sh          builds what is missing, tests and compares
@@ -85,5 +85,13 @@ if [ -x ../target/bin/test_pool_questions ]; then
     LINES=${LINES:-300} ./questions_live.sh ../target/bin/test_pool_questions 1 2 3 4 5 6 7 8 || exit 1
 elif [ -d ../crates/test_pool_questions ]; then
     echo '../target/bin/test_pool_questions is missing: its crate is there, so build it first'
+    exit 1
+fi
+
+# What plans move, by a second implementation of 02's text over the Rust's plans.
+if [ -x ../target/bin/event_cost ]; then
+    LINES=${LINES:-300} ./cost_live.sh ../target/bin/event_cost 1 2 3 4 5 6 7 8 || exit 1
+elif [ -d ../crates/event_cost ]; then
+    echo '../target/bin/event_cost is missing: its crate is there, so build it first'
     exit 1
 fi

@@ -1,5 +1,6 @@
 #!/usr/bin/env bash
-# Compares another program's answers to leaf questions with those of the published Rust, byte by byte.
+# Compares another program's answers to leaf questions with those of the published Rust, byte by byte; those about the bytes of a
+# copy, which the Rust lacks, with src/copies.rs.
 #
 #   compare/leaf_live.sh PROGRAM [SEED ...]
 #

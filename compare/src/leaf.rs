@@ -1,8 +1,10 @@
-//! Leaf questions: one call of a small function each, answered by the published code.
+//! Leaf questions: one call of a small function each, answered by the published code. The bytes of a copy, which it lacks, are answered by
+//! `copies`.
 //!
 //! README.md has the grammar. A second program, in another language, answers the same questions, so the
 //! words and the order of fields are fixed.
 
+use crate::copies::{self, CopyBytes, Region, Shape};
 use crate::event::{rect, shape};
 use crate::format::mapping;
 use crate::refusal::Refusal;
@@ -24,7 +26,12 @@ type Answer = Vec<Option<u64>>;
 
 /// Answers one question, with its line feed.
 pub fn answer(line: &[u8], out: &mut Vec<u8>) {
-    match numbers(line) {
+    answer_by(copies::bytes, line, out);
+}
+
+/// Answers one question with the bytes of a copy by another function, for tests of what the lists can tell.
+pub fn answer_by(copy_bytes: CopyBytes, line: &[u8], out: &mut Vec<u8>) {
+    match numbers(copy_bytes, line) {
         None => out.push(b'?'),
         Some(numbers) => {
             for (at, number) in numbers.into_iter().enumerate() {
@@ -41,7 +48,7 @@ pub fn answer(line: &[u8], out: &mut Vec<u8>) {
 }
 
 /// The answer's fields, or none if the question is malformed.
-fn numbers(line: &[u8]) -> Option<Answer> {
+fn numbers(copy_bytes: CopyBytes, line: &[u8]) -> Option<Answer> {
     let mut fields = Fields::new(line);
     let f = &mut fields;
     let answer = match f.next_field()? {
@@ -55,6 +62,7 @@ fn numbers(line: &[u8]) -> Option<Answer> {
         b"ongrid" => on_grid(f)?,
         b"grid" => grid(f)?,
         b"budget" => budget(f)?,
+        b"copy" => copy(copy_bytes, f)?,
         _ => return None,
     };
     fields.finish(answer)
@@ -148,6 +156,32 @@ fn budget(f: &mut Fields) -> Option<Answer> {
         Some(budget.pressure_above()),
         Some(budget.resume_below()),
     ])
+}
+
+/// Reads all numbers with 64 bits: a shape with a larger one than the Rust has is a bad one, no malformed line.
+fn copy(copy_bytes: CopyBytes, f: &mut Fields) -> Option<Answer> {
+    let shape = Shape {
+        format: f.next_u64()?,
+        width: f.next_u64()?,
+        height: f.next_u64()?,
+        depth: f.next_u64()?,
+        levels: f.next_u64()?,
+        kind: f.next_u64()?,
+    };
+    let level = f.next_u64()?;
+    let region = match f.next_or_none()? {
+        None => None,
+        Some(x) => Some(Region {
+            x,
+            y: f.next_u64()?,
+            width: f.next_u64()?,
+            height: f.next_u64()?,
+        }),
+    };
+    Some(match copy_bytes(&shape, level, region.as_ref()) {
+        Ok(bytes) => vec![Some(0), Some(bytes)],
+        Err(refusal) => vec![Some(refusal.number())],
+    })
 }
 
 /// 0 and the numbers of what there is, or the refusal 2 where there is nothing.

@@ -7,6 +7,8 @@
 
 pub mod books;
 pub mod changes;
+pub mod copies;
+pub mod cost;
 pub mod coverage;
 pub mod event;
 #[cfg(feature = "hash_maps")]

@@ -39,6 +39,12 @@ enum Answer {
     Copies(Vec<PreserveCopy>),
 }
 
+/// Holds a plan that was called: the shape that it went by, and its copies or its refusal.
+pub struct Planned {
+    pub shape: RawShape,
+    pub outcome: Result<Vec<PreserveCopy>, Refusal>,
+}
+
 impl Program {
     pub const fn new(limits: Limits, checks: bool) -> Self {
         Self {
@@ -70,22 +76,40 @@ impl Program {
 
     /// Runs one line and appends its output lines.
     pub fn run(&mut self, line: &[u8], out: &mut Vec<u8>) {
+        let answer = self.answer(line);
+        answer.print(self.line, out);
+        if self.lent && matches!(answer, Answer::Refused(_) | Answer::Number(_)) {
+            push_number(out, self.line);
+            out.extend_from_slice(b",same\n");
+        }
+    }
+
+    /// Runs one line and returns, where it is a plan that is called, what came of it and by which shape.
+    pub fn run_plan(&mut self, line: &[u8]) -> Option<Planned> {
+        let plan = matches!(event::parse(line), Some(Event::Plan(_)));
+        let outcome = match self.answer(line) {
+            Answer::Copies(copies) => Ok(copies),
+            Answer::Refused(refusal) if plan => Err(refusal),
+            _ => return None,
+        };
+        let shape = self.latest?;
+        Some(Planned { shape, outcome })
+    }
+
+    /// Counts a line, runs it and tests the pool behind it.
+    fn answer(&mut self, line: &[u8]) -> Answer {
         self.line += 1;
         let answer = match event::parse(line) {
             Some(event) => self.call(event),
             None if self.lent => self.call_lent(line),
             None => Answer::Question,
         };
-        answer.print(self.line, out);
-        if self.lent && matches!(answer, Answer::Refused(_) | Answer::Number(_)) {
-            push_number(out, self.line);
-            out.extend_from_slice(b",same\n");
-        }
         if self.checks
             && let Some(fault) = self.pool.as_ref().and_then(LimitedPool::fault)
         {
             panic!("{fault}");
         }
+        answer
     }
 
     fn call(&mut self, event: Event) -> Answer {

@@ -4,7 +4,7 @@ use std::env;
 use std::io::{self, Write};
 use std::process::ExitCode;
 
-use compare::lists::{self, KINDS, sheets};
+use compare::lists::{self, KINDS, edges, sheets};
 use compare::options::{self, SIZES, SIZES_HELP};
 
 fn main() -> ExitCode {
@@ -17,7 +17,8 @@ fn main() -> ExitCode {
         Err(fault) => {
             eprintln!("lists: {fault}\nusage: lists KIND SEED LINES {SIZES}\n       lists kinds");
             eprintln!("       lists sheets KIND SEED LINES {SIZES}");
-            eprintln!("  KIND: {}\n  {SIZES_HELP}", KINDS.join(" "));
+            let kinds = KINDS.join(" ");
+            eprintln!("  KIND: {kinds}, or {}\n  {SIZES_HELP}", edges::EDGES);
             ExitCode::from(2)
         }
     }

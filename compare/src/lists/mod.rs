@@ -6,6 +6,7 @@ mod ages;
 mod bursts;
 mod chaos;
 mod driver;
+pub mod edges;
 mod fills;
 mod pressure;
 mod renames;
@@ -108,7 +109,8 @@ pub fn list_beside(
     limits: Limits,
     answering: Answering,
 ) -> Option<Vec<u8>> {
-    let number = KINDS.iter().position(|name| *name == kind)?;
+    let edges = (kind == edges::EDGES).then_some(KINDS.len());
+    let number = KINDS.iter().position(|name| *name == kind).or(edges)?;
     // Kinds of one seed are to differ in their numbers too.
     let random = Random::new(Random::new(seed).next().wrapping_add(number as u64));
     let mut list = List::new(seed, random, wanted, limits, answering);
@@ -121,6 +123,7 @@ pub fn list_beside(
         "ages" => ages::fill(&mut list),
         "shapes" => shapes::fill(&mut list),
         "bursts" => bursts::fill(&mut list),
+        edges::EDGES => edges::fill(&mut list),
         _ => stamps::fill(&mut list),
     }
     Some(list.finish())

@@ -1,6 +1,7 @@
-//! The fixed list: every edge that document 01 and the Rust have in these functions.
+//! The fixed list: every edge that documents 01 and 02 and the Rust have in these functions.
 
 use super::Questions;
+use super::copies;
 use super::rects;
 use super::seeded::add_random;
 use crate::random::Random;
@@ -20,6 +21,7 @@ pub fn fixed() -> Questions {
     malformed(q);
     let mut random = Random::new(0);
     (0..400).for_each(|_| add_random(q, &mut random));
+    copies::copies(q);
     list.without_repeats()
 }
 

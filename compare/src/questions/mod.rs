@@ -2,6 +2,7 @@
 
 use std::collections::BTreeSet;
 
+mod copies;
 mod fixed;
 mod rects;
 mod seeded;
@@ -40,9 +41,11 @@ impl Questions {
     fn without_repeats(&self) -> Self {
         let mut seen = BTreeSet::new();
         let mut list = Self::new();
-        for line in self.text.lines().filter(|line| seen.insert(*line)) {
-            list.line(line);
-        }
+        // Keeps a carriage return, which `lines` would take away with the line feed.
+        let lines = self.text.split_terminator('\n');
+        lines
+            .filter(|line| seen.insert(*line))
+            .for_each(|line| list.line(line));
         list
     }
 

@@ -1,18 +1,27 @@
 //! Random questions from a seed, for the live comparison.
 
 use super::Questions;
+use super::copies::random_copy;
 use super::rects::writes_into;
 use crate::random::Random;
 
-/// So many questions from a seed, without budgets.
+/// So many questions from a seed, without budgets. Every fifth is about a copy.
 pub fn seeded(seed: u64, count: u64) -> Questions {
     let mut list = Questions::new();
     let mut random = Random::new(seed);
-    (0..count).for_each(|_| add_random(&mut list, &mut random));
+    // Draws other numbers, so that the other questions of a seed do not change with these.
+    let mut copies = Random::new(Random::new(!seed).next());
+    for number in 1..=count {
+        if number.is_multiple_of(5) {
+            random_copy(&mut list, &mut copies);
+        } else {
+            add_random(&mut list, &mut random);
+        }
+    }
     list
 }
 
-/// Adds one random question.
+/// Adds one random question about anything but a copy.
 pub fn add_random(q: &mut Questions, random: &mut Random) {
     match random.below(32) {
         0 | 1 => {
@@ -140,9 +149,14 @@ fn damaged(q: &mut Questions, random: &mut Random) {
         &[5, 4, 8, random.below(40), random.below(40), 37, 33],
     );
     let lines: Vec<&str> = good.text().lines().collect();
-    let mut line = lines[random.below(2) as usize].to_string();
+    let line = lines[random.below(2) as usize].to_string();
+    q.line(&damage(line, random));
+}
+
+/// Changes one byte of a question.
+pub fn damage(mut line: String, random: &mut Random) -> String {
     let at = random.below(line.len() as u64) as usize;
     let new = ["", ",", "-", "x", " ", "9", ";", "1,"][random.below(8) as usize];
     line.replace_range(at..=at, new);
-    q.line(&line);
+    line
 }
