@@ -2,7 +2,7 @@
 use Prim.Native.Nat.{ℕ, zero, suc, _+_, _-_, _*_, _/_, _≤_, _<_, min, max}
 use mathlib.Core.Path.{_≡_, refl, sym, ap, ap₂, _∙_}
 use native.Mathlib.Omega.{arith}
-use native.Mathlib.Nat.{add-mul, suc-mul, mul-le-mul, mul-le-mul-right, mul-mul-mul-comm, div-mul-le-self, lt-div-mul-add, le-div-iff-mul-le, div-lt-iff-lt-mul, div-eq-of-lt, div-one, add-div-right, add-mul-div-right, zero-div, le-max-left, le-max-right, le-trans}
+use native.Mathlib.Nat.{add-mul, suc-mul, mul-le-mul, mul-le-mul-right, mul-mul-mul-comm, div-mul-le-self, lt-div-mul-add, le-div-iff-mul-le, div-lt-iff-lt-mul, div-eq-of-lt, add-div-right, add-mul-div-right, zero-div, le-max-left, le-max-right, le-trans}
 use native.Mathlib.Decide.{decLt}
 use borrow.Author.Tests.{ne-eqb}
 use lib.Dec.{eqb}

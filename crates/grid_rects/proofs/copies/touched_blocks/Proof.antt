@@ -26,9 +26,7 @@ div-last : tie.Need-div-last
 div-last c = search needs
 
 sub-result : tie.Need-sub-result
-sub-result c =
-    let a = c .before .args in
-    block-order (a .edge) (c .before .pre .0) (a .start) (a .start + a .texels - 1) (omega (arith, c .if1 .left))
+sub-result c = block-order (c .before .args .edge) (c .before .pre .0) (c .before .args .start) _ (omega (arith, c .if1 .left))
 
 add-result : tie.Need-add-result
 add-result c =
