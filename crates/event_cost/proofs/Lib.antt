@@ -1,2 +1,4 @@
 pub mod Clipping
 pub mod Telling
+pub mod Costing
+pub mod Running
