@@ -56,6 +56,7 @@ module _ (cs vs n : ℕ) (s after : SessionState) (event : Event) (a : Answer) (
   costed sums added p filled end out exit q = record {
     state = ap (λ (r : Option Reply × SessionState). r .1) e;
     costs = p ∙ ap (λ (x : Sums). clippedSums (plus sums x)) line-cost ∙ clip-more sums (eventCost cs vs s event);
-    put = put-as line-row (q .1);
+    length-is = put-as line-row (q .1) .ends;
+    put = put-as line-row (q .1) .makes;
     fits = q .0;
   }

@@ -2,12 +2,12 @@
 use mathlib.Core.Path.{_≡_, refl, sym, ap, ap₂, subst, _∙_}
 use mathlib.Core.List.{List, [], _∷_, _++_, append-nil, append-assoc}
 use Prim.Native.Nat.{ℕ, suc, _+_, _-_, _≤_, _<_}
-use native.Mathlib.Nat.{add-zero}
+use native.Mathlib.Nat.{add-zero, zero-add}
 use native.Mathlib.Omega.{arith}
 use lib.ListN.{length, take, drop, length-append}
 use Rattle.base_digits.specs.Characters.{lineFeed}
 use Rattle.base_digits.specs.Put.{Put}
-use Rattle.base_digits.proofs.Puts.{put-as, put-then}
+use Rattle.base_digits.proofs.Puts.{put-as, put-then, text-put}
 use Rattle.event_text.specs.Fields.{firstLine}
 use Rattle.event_text.specs.Searches.{indexOf}
 use Rattle.event_text.proofs.FirstLines.{first-index}
@@ -78,7 +78,8 @@ run-first cs vs input p z f l h = record {
   state = refl;
   number = sym (add-zero (p .number));
   costs = z;
-  put = record { ends = l; makes = refl };
+  length-is = l;
+  put = refl;
   fits = omega arith;
   pool = h;
 }
@@ -151,6 +152,13 @@ module _ (cs vs : ℕ) (input : List ℕ) (n : ℕ) (s : SessionState) (out : Li
       row-is : eventRow cs vs (p .number + 1) (p .state) (eventOf line) ≡ eventRow cs vs (n + length before + 1) (afterLines cs vs s before) (eventOf line)
       row-is = ap₂ (λ (i : ℕ) (t : SessionState). eventRow cs vs (i + 1) t (eventOf line)) (g .number) (g .state)
 
+      -- what was put before, and the line's output after it
+      all-put : Put out 0 (costRows cs vs n s (before ++ (line ∷ []))) (q .filled) (q .out)
+      all-put =
+          put-as (sym (rows-one cs vs n s before line))
+          (put-then (text-put out 0 (costRows cs vs n s before) (g .length-is ∙ sym (zero-add (length (costRows cs vs n s before))), g .put))
+          (put-as row-is (text-put (p .out) (p .filled) (eventRow cs vs (p .number + 1) (p .state) (eventOf line)) (was-run .length-is, was-run .put))))
+
       pub run-next : p .filled + mostCostRow ≤ length out → LinesRun cs vs input n s out q
       run-next room = record {
         lines = before ++ (line ∷ []);
@@ -161,7 +169,8 @@ module _ (cs vs : ℕ) (input : List ℕ) (n : ℕ) (s : SessionState) (out : Li
         state = state-is;
         number = let e = count-is in let m = g .number in let y : q .number ≡ n + length (before ++ (line ∷ [])) = omega arith in y;
         costs = costs-are;
-        put = put-as (sym (rows-one cs vs n s before line)) (put-then (g .put) (put-as row-is (was-run .put)));
+        length-is = all-put .ends ∙ zero-add (length (costRows cs vs n s (before ++ (line ∷ []))));
+        put = all-put .makes;
         fits = let e = was-run .fits in omega arith;
         pool = rw (r .state) (step-keeps a b (p .state) event (g .pool));
       }

@@ -53,7 +53,7 @@ module _ (cs vs : ℕ) (s t u : SessionState) (sums : Sums) (f : FeedState) (wri
       let l = length-append (costRows cs vs 0 s (run .lines)) (costRows cs vs (0 + length (run .lines)) (afterLines cs vs s (run .lines)) (turn .lines)) in
       let m = ap length rows-are in
       let a = run .output in
-      let b = turn .put .ends in
+      let b = turn .length-is in
       omega arith
 
   pub run-more : (added : Sums) → added ≡ clippedSums (plus sums (r .sums)) → (put : ℕ) → put ≡ r .at .filled

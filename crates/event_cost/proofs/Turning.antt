@@ -85,6 +85,7 @@ module _ (cs vs : ℕ) (f : FeedState) (end to size : ℕ) (s : SessionState) (b
       state = done .run .state;
       number = done .run .number;
       costs = done .run .costs;
+      length-is = done .run .length-is;
       put = done .run .put;
       fits = done .run .fits;
       pool = done .run .pool;

@@ -3,10 +3,11 @@
 use Prim.Native.Nat.{ℕ, _+_, _-_, _^_, min}
 use mathlib.Core.Bool.{Bool, true, false, cond}
 use mathlib.Core.Option.{Option, none, some}
-use mathlib.Core.List.{List, [], _∷_, _++_}
+use mathlib.Core.List.{List, [], _∷_, _++_, flatMap}
 use lib.Dec.{ltb}
 use lib.ListN.{getD}
 use Rattle.base_blocks.specs.Lists.{total}
+use Rattle.base_digits.specs.Characters.{lineFeed}
 use Rattle.base_digits.specs.Digits.{digitsOf}
 use Rattle.grid_shapes.specs.declared.shape.VersionShape.{VersionShape}
 use Rattle.grid_shapes.specs.Outcomes.{Outcome}
@@ -14,10 +15,9 @@ use Rattle.grid_rects.specs.declared.rect.Region.the-variants.{Whole}
 use Rattle.grid_rects.specs.Copies.{copyOutcome}
 use Rattle.pool_rules.specs.Model.{PreserveCopy}
 use Rattle.pool_books.specs.Demand3.{Reply, refusal, done, spareTaken, copiesPlanned, versionPopped, viewsHanded}
-use Rattle.event_text.specs.Fields.{dash}
+use Rattle.event_text.specs.Fields.{comma, dash}
 use Rattle.event_lines.specs.declared.event.Event.{Event}
 use Rattle.event_answers.specs.Printed.{row, acceptedRow}
-use Rattle.event_answers.specs.Ended.{fieldsEnded}
 use Rattle.event_cost.specs.declared.sums.Sums.{Sums}
 
 -- ---- the bytes of copies
@@ -116,9 +116,9 @@ isPlan Event.Unread = false
 unfoldable pub costRow : ℕ → VersionShape → Event → Option Reply → List ℕ
 costRow n s e r = cond (isPlan e) (planRow n s r) []
 
--- the last line: "sum", what was moved, and what would have been
+-- the last line: "sum", then, each behind a comma, what was moved and what would have been, and a line feed
 unfoldable pub sumRow : Sums → List ℕ
-sumRow a = 115 ∷ 117 ∷ 109 ∷ fieldsEnded (sumField (a .moved) ∷ sumField (a .whole) ∷ [])
+sumRow a = 115 ∷ 117 ∷ 109 ∷ (flatMap (λ (f : List ℕ). comma ∷ f) (sumField (a .moved) ∷ sumField (a .whole) ∷ []) ++ (lineFeed ∷ []))
 
 -- no line has more bytes than two numbers of 20 digits, ",0" and what stands behind each; nor has the last more than "sum" and two such numbers
 abbrev pub mostCostRow : ℕ

@@ -3,7 +3,7 @@ use Prim.Native.Nat.{ℕ, _+_, _≤_}
 use mathlib.Core.Path.{_≡_}
 use mathlib.Core.List.{List, [], _∷_, _++_}
 use lib.ListN.{length, drop}
-use Rattle.base_digits.specs.Put.{Put}
+use lib.Seq.{sets}
 use Rattle.event_lines.specs.declared.event.Event.{Event}
 use Rattle.event_lines.specs.Grammar.{eventOf}
 use Rattle.event_sessions.specs.Sessions.{SessionState, stateOf, lineStep, HoldsPool}
@@ -28,7 +28,8 @@ module _ (copies views : ℕ) where
   pub record EventCosted (n : ℕ) (before after : SessionState) (event : Event) (sums added : Sums) (filled end : ℕ) (out exit : List ℕ) : Type 0 where
     pub state : after ≡ lineStep copies views before event .1
     pub costs : added ≡ clippedSums (plus sums (eventCost before event))
-    pub put : Put out filled (eventRow n before event) end exit
+    pub length-is : end ≡ filled + length (eventRow n before event)
+    pub put : exit ≡ sets out filled (eventRow n before event)
     pub fits : end ≤ filled + mostCostRow
 
   -- ---- lines one after the other
@@ -79,7 +80,8 @@ pub record LinesRun (copies views : ℕ) (input : List ℕ) (n : ℕ) (s : Sessi
   pub state : p .state ≡ afterLines copies views s lines
   pub number : p .number ≡ n + length lines
   pub costs : p .sums ≡ clippedSums (costsOf copies views s lines)
-  pub put : Put out 0 (costRows copies views n s lines) (p .filled) (p .out)
+  pub length-is : p .filled ≡ length (costRows copies views n s lines)
+  pub put : p .out ≡ sets out 0 (costRows copies views n s lines)
   pub fits : p .filled ≤ length out
   -- once opened, the stores form a pool
   pub pool : HoldsPool (p .state)

@@ -4,7 +4,7 @@ use Prim.Native.Nat.{ℕ, _+_, _-_, _^_, _≤_, _<_}
 use mathlib.Core.Path.{_≡_}
 use mathlib.Core.List.{List}
 use lib.ListN.{length}
-use Rattle.base_digits.specs.Put.{Put}
+use lib.Seq.{sets}
 use Rattle.event_sessions.specs.Sessions.{SessionState, HoldsPool}
 use Rattle.event_runs.specs.Texts.{afterLines}
 use Rattle.event_feed.specs.declared.feed_state.FeedState.{FeedState}
@@ -35,7 +35,8 @@ pub record TurnCosted (copies views : ℕ) (f : FeedState) (end size : ℕ) (s t
   pub state : t ≡ afterLines copies views s lines
   pub number : r .at .number ≡ f .number + length lines
   pub costs : r .sums ≡ clippedSums (costsOf copies views s lines)
-  pub put : Put out 0 (costRows copies views (f .number) s lines) (r .at .filled) exit
+  pub length-is : r .at .filled ≡ length (costRows copies views (f .number) s lines)
+  pub put : exit ≡ sets out 0 (costRows copies views (f .number) s lines)
   pub fits : r .at .filled ≤ length out
   pub pool : HoldsPool t
   pub placed : Placed (r .at) size

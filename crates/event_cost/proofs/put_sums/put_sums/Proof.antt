@@ -2,9 +2,9 @@
 use borrow.Author.Needs.{needs}
 use mathlib.Core.List.{[], _∷_}
 use native.Mathlib.Omega.{arith}
-use Rattle.base_digits.proofs.Puts.{put-then, text-put}
-use Rattle.event_answers.proofs.Puts.{put-field}
-use Rattle.event_cost.specs.Costs.{sumRow}
+use Rattle.base_digits.proofs.Puts.{put-as, put-then, text-put}
+use Rattle.event_answers.proofs.Puts.{fields-ended, put-field}
+use Rattle.event_cost.specs.Costs.{sumField, sumRow}
 use Rattle.event_cost.proofs.put_sums.put_sums.Statement.{statement}
 use Rattle.event_cost.proofs.put_sums.put_sums.Tie as tie
 
@@ -30,7 +30,7 @@ returns c =
     let t = c .before .before .before .before .before .before .before .before .before .before .put-text .ensures in
     let p = c .before .before .before .before .before .before .put-sum .ensures in
     let q = c .before .before .put-last-sum .ensures in
-    (omega (arith, t .0, p .0, q .0), put-then (text-put _ _ (115 ∷ 117 ∷ 109 ∷ []) t) (put-field _ _ (p .1) (q .1)))
+    (omega (arith, t .0, p .0, q .0), put-then (text-put _ _ (115 ∷ 117 ∷ 109 ∷ []) t) (put-as (fields-ended (sumField (a .sums .moved) ∷ sumField (a .sums .whole) ∷ [])) (put-field _ _ (p .1) (q .1))))
 
 pub put-sums-spec : {M : Type 1} → statement M
 put-sums-spec =
