@@ -4,7 +4,8 @@ use mathlib.Core.List.{List, [], _∷_, _++_, append-nil, append-assoc}
 use Prim.Native.Nat.{ℕ, suc, _+_, _-_, _≤_, _<_}
 use native.Mathlib.Nat.{add-zero, zero-add}
 use native.Mathlib.Omega.{arith}
-use lib.ListN.{length, take, drop, length-append}
+use lib.ListN.{length, take, drop, length-append, length-drop}
+use lib.Seq.{take-add, take-append-add, length-take-le}
 use Rattle.base_digits.specs.Characters.{lineFeed}
 use Rattle.base_digits.specs.Put.{Put}
 use Rattle.base_digits.proofs.Puts.{put-as, put-then, text-put}
@@ -17,8 +18,9 @@ use Rattle.event_lines.specs.Grammar.{eventOf}
 use Rattle.event_sessions.specs.Sessions.{SessionState, HoldsPool, lineStep}
 use Rattle.event_sessions.proofs.Keeps.{step-keeps}
 use Rattle.event_runs.specs.Lines.{wholeLines, lineState}
-use Rattle.event_runs.specs.Texts.{afterLines}
+use Rattle.event_runs.specs.Texts.{lastLine, afterLines}
 use Rattle.event_runs.proofs.Splits.{lineEnd, line-end, line-next, line-none}
+use Rattle.event_runs.proofs.Cuts.{First, first-of, lines-append, last-append, line-more, line-last}
 use Rattle.event_runs.proofs.Texts.{after-append}
 use Rattle.event_cost.specs.declared.sums.Sums.{Sums}
 use Rattle.event_cost.specs.Costs.{noSums, plus, clipped, clippedSums, mostCostRow}
@@ -68,10 +70,11 @@ module _ (cs vs : ℕ) where
 
 pub run-first : (cs vs : ℕ) (input : List ℕ) (p : CostProgress) → p .sums ≡ noSums → p .from ≡ 0 → p .filled ≡ 0 → HoldsPool (p .state)
     → LinesRun cs vs input (p .number) (p .state) (p .out) p
-unfolding afterLines costsOf costRows noSums clippedSums clipped
+unfolding afterLines costsOf costRows noSums clippedSums clipped wholeLines lastLine
 run-first cs vs input p z f l h = record {
   lines = [];
-  first = ap (λ (i : ℕ). wholeLines (drop i input)) (sym f);
+  front = ap (λ (i : ℕ). wholeLines (take i input)) (sym f);
+  whole = ap (λ (i : ℕ). lastLine (take i input)) f;
   inside = omega arith;
   least = omega arith;
   some = λ e. f;
@@ -115,6 +118,12 @@ module _ (cs vs : ℕ) (input : List ℕ) (n : ℕ) (s : SessionState) (out : Li
         line-next input (p .from) (let e = reached in omega arith)
         ∙ ap (λ (j : ℕ). take (j - p .from) (drop (p .from) input) ∷ wholeLines (drop (j + 1) input)) (sym reached)
 
+    is-first : First (drop (p .from) input) line (wholeLines (drop (end + 1) input))
+    is-first = first-of (drop (p .from) input) line (wholeLines (drop (end + 1) input)) left-is
+
+    line-length : length line ≡ end - p .from
+    line-length = length-take-le (end - p .from) (drop (p .from) input) (omega (arith, length-drop (p .from) input, run-end))
+
     module _ (event : Event) (parsed : event ≡ eventOf (firstLine (drop (p .from) input))) (a b : ℕ) (ea : a ≡ cs) (eb : b ≡ vs)
         (q : CostProgress) (is-number : q .number ≡ p .number + 1) (is-from : q .from ≡ end + 1)
         (r : EventCosted a b (p .number + 1) (p .state) (q .state) event (p .sums) (q .sums) (p .filled) (q .filled) (p .out) (q .out)) where
@@ -133,10 +142,26 @@ module _ (cs vs : ℕ) (input : List ℕ) (n : ℕ) (s : SessionState) (out : Li
       count-is : length (before ++ (line ∷ [])) ≡ length before + 1
       count-is = length-append before (line ∷ [])
 
-      first-lines : wholeLines input ≡ (before ++ (line ∷ [])) ++ wholeLines (drop (q .from) input)
-      first-lines =
-          g .first ∙ ap (λ (l : List (List ℕ)). before ++ l) (left-is ∙ ap (λ (j : ℕ). line ∷ wholeLines (drop j input)) (sym is-from))
-          ∙ sym (append-assoc before (line ∷ []) (wholeLines (drop (q .from) input)))
+      front-more : take (q .from) input ≡ take (p .from) input ++ (line ++ (lineFeed ∷ []))
+      front-more =
+          let l = line-length in
+          let e : q .from ≡ p .from + (length line + 1) = omega arith in
+          ap (λ (j : ℕ). take j input) e ∙ take-add (p .from) (length line + 1) input
+          ∙ ap (λ (x : List ℕ). take (p .from) input ++ x) (ap (take (length line + 1)) (is-first .bytes) ∙ take-append-add line (lineFeed ∷ is-first .rest) 1)
+
+      lines-are : before ++ (line ∷ []) ≡ wholeLines (take (q .from) input)
+      unfolding wholeLines
+      lines-are =
+          sym
+          (ap wholeLines front-more ∙ lines-append (take (p .from) input) (line ++ (lineFeed ∷ []))
+          ∙ ap₂ (λ (a : List (List ℕ)) (b : List ℕ). a ++ wholeLines (b ++ (line ++ (lineFeed ∷ [])))) (sym (g .front)) (g .whole)
+          ∙ ap (λ (l : List (List ℕ)). before ++ l) (line-more line [] (is-first .plain)))
+
+      whole-are : lastLine (take (q .from) input) ≡ []
+      unfolding lastLine
+      whole-are =
+          ap lastLine front-more ∙ last-append (take (p .from) input) (line ++ (lineFeed ∷ []))
+          ∙ ap (λ (b : List ℕ). lastLine (b ++ (line ++ (lineFeed ∷ [])))) (g .whole) ∙ line-last line [] (is-first .plain)
 
       state-is : q .state ≡ afterLines cs vs s (before ++ (line ∷ []))
       state-is =
@@ -162,7 +187,8 @@ module _ (cs vs : ℕ) (input : List ℕ) (n : ℕ) (s : SessionState) (out : Li
       pub run-next : p .filled + mostCostRow ≤ length out → LinesRun cs vs input n s out q
       run-next room = record {
         lines = before ++ (line ∷ []);
-        first = first-lines;
+        front = lines-are;
+        whole = whole-are;
         inside = omega arith;
         least = let e = count-is in let l = g .least in omega arith;
         some = λ e. absurd (let l = count-is in let y : ⊥ = omega arith in y);

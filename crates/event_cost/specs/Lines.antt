@@ -2,13 +2,13 @@
 use Prim.Native.Nat.{ℕ, _+_, _≤_}
 use mathlib.Core.Path.{_≡_}
 use mathlib.Core.List.{List, [], _∷_, _++_}
-use lib.ListN.{length, drop}
+use lib.ListN.{length, take, drop}
 use lib.Seq.{sets}
 use Rattle.event_lines.specs.declared.event.Event.{Event}
 use Rattle.event_lines.specs.Grammar.{eventOf}
 use Rattle.event_sessions.specs.Sessions.{SessionState, stateOf, lineStep, HoldsPool}
 use Rattle.event_runs.specs.Lines.{wholeLines, lineState}
-use Rattle.event_runs.specs.Texts.{afterLines}
+use Rattle.event_runs.specs.Texts.{lastLine, afterLines}
 use Rattle.event_cost.specs.declared.sums.Sums.{Sums}
 use Rattle.event_cost.specs.declared.cost_lines.CostedLines.{CostedLines}
 use Rattle.event_cost.specs.Costs.{planCost, plus, noSums, clippedSums, costRow, mostCostRow}
@@ -72,8 +72,9 @@ progressOf r textures retiring doomed spares newest stamps out = record {
 -- no room for another line's output.
 pub record LinesRun (copies views : ℕ) (input : List ℕ) (n : ℕ) (s : SessionState) (out : List ℕ) (p : CostProgress) : Type 0 where
   pub lines : List (List ℕ)
-  -- these are the lines; what is left of the input has the others
-  pub first : wholeLines input ≡ lines ++ wholeLines (drop (p .from) input)
+  -- they are the first `from` bytes of the input, the last with its line feed
+  pub front : lines ≡ wholeLines (take (p .from) input)
+  pub whole : lastLine (take (p .from) input) ≡ []
   pub inside : p .from ≤ length input
   pub least : length lines ≤ p .from
   pub some : length lines ≡ 0 → p .from ≡ 0
