@@ -1,5 +1,6 @@
 #!/usr/bin/env python3
-"""Tests of ./run: what a user sees who runs lists of events by it. The programs have to be proved and built ('rt check event_program event_sheet').
+"""Tests of ./run: what a user sees who runs lists of events by it. The programs have to be proved and built
+('rt check event_program event_sheet event_cost').
 
     tests/run.py    Exit status 0 if every test passed, 1 if one failed.
 
@@ -51,6 +52,12 @@ take,7,2,64,64,1,1,0,1,11
 retire,7,901,11
 pop,10
 park,0,11
+"""
+
+# What its plans cost: a whole level of 64 by 64 texels of 4 bytes, then 16 by 16 texels of it.
+COSTS = b"""3,0,16384
+9,0,1024
+sum,17408,32768
 """
 
 NO_SHEET = b'run: the list opens no pool, so there is no sheet\n'
@@ -192,25 +199,72 @@ def unwritten_sheet(folder):
     expect(closed('>&-'), (2, b'', b'run: the sheet cannot be written\n'))
 
 
+# ---- what plans cost
+
+def sample_costs(folder):
+    expect(run(['--cost', 'examples/sample.events']), (0, COSTS, b''))
+    expect(run(['examples/sample.events', '--cost']), (0, COSTS, b''))
+    expect(run(['--cost'], EVENTS), (0, COSTS, b''))
+    with open(folder + '/-x', 'wb') as events:
+        events.write(EVENTS[:-1])
+    expect(run(['--cost', './-x'], b'open,0\n', folder), (0, COSTS, b''))
+    expect(run([folder + '/-x', '--cost'], b'open,0\n', '/'), (0, COSTS, b''))
+
+
+def no_costs(folder):
+    """Lists without a plan that is called: no lines, no event, no pool, no take line."""
+    for given in (b'', b'\n', b'x', b'open,0\npop,1\n', EVENTS[7:], b'open,0\nplan,7,-,0,0,0\n'):
+        expect(run(['--cost'], given), (0, b'sum,0,0\n', b''))
+    expect(run(['--cost'], b'open,0\ntake,7,2,16385,1,1,1,0,0,1\nplan,7,-,0,0,0'), (0, b'3,2\nsum,0,0\n', b''))
+
+
+def large_costs(folder):
+    """A volume of 16384 by 16384 by 2048 texels of 16 bytes with all its levels, planned until 64 bits do not hold the sum."""
+    each = sum(max(1, 16384 >> level) ** 2 * max(1, 2048 >> level) * 16 for level in range(15))
+    most = (2 ** 64 - 2) // each
+    for plans, last in ((most, b'sum,%d,%d\n' % (most * each, most * each)), (most + 1, b'sum,-,-\n')):
+        status, out, said = run(['--cost'], b'open,0\ntake,1,4,16384,16384,2048,15,2,0,1\n' + plans * b'plan,1,-,0,0,0\n')
+        rows = b''.join(b'%d,0,%d\n' % (line, each) for line in range(3, plans + 3))
+        if (status, out, said) != (0, rows + last, b''):
+            raise Failure('%d, %d bytes for %d, ending %r' % (status, len(out), len(rows + last), out[-80:]))
+
+
+def cost_words(folder):
+    """A word that is unknown, stands twice or beside the other, two files, or none that can be read."""
+    with open(folder + '/x', 'wb') as events:
+        events.write(EVENTS)
+    for words in (['--costs'], ['-cost'], ['--cost=x'], ['cost'], ['--cost', '--cost'], ['--cost', 'x', '--cost'], ['--cost', '--sheet'], ['--sheet', '--cost'],
+                  ['--sheet', 'x', '--cost'], ['--cost', 'x', 'x'], ['--cost', '-x'], ['--cost', 'nothing-here'], ['--cost', '.']):
+        refused(words, folder)
+    together = b'run: --sheet and --cost are given together (./run --help says what there is)\n'
+    expect(run(['--cost', '--sheet']), (2, b'', together))
+    expect(run(['--sheet', '--cost']), (2, b'', together))
+    expect(run(['--cost', '--cost']), (2, b'', b'run: --cost is given twice (./run --help says what there is)\n'))
+    expect(run(['--sheet', '--sheet']), (2, b'', b'run: --sheet is given twice (./run --help says what there is)\n'))
+    status, out, said = run(['--cost', '--help'])
+    expect((status, said, b'--cost' in out), (0, b'', True))
+
+
 # ---- what it prints while it proves
 
 def repository(folder, said, status, words=(), given=b'pop,1\n'):
-    """A repository whose program uses two crates, and that of the sheet three, and an rt that says `said` and ends with `status`."""
+    """A repository whose program uses two crates, and those of the sheet and of the costs three, and an rt that says `said` and ends with `status`."""
     shutil.copy(root + '/run', folder)
     os.makedirs(folder + '/bin', exist_ok=True)
     os.makedirs(folder + '/target/bin', exist_ok=True)
     with open(folder + '/crates.txt', 'w') as out:
         out.write('# NAME: what it uses directly.\nlow:\nunused: low\nhigh: low io\nevent_program: low high io # the program\n'
-                  'printing:\nevent_sheet: low high printing io\n')
+                  'printing:\nevent_sheet: low high printing io\nevent_cost: low high printing io\n')
     for name, text in (('bin/rt', 'echo "$@" >"%s/asked"\ncat <<"END"\n%sEND\nexit %d\n' % (folder, said, status)),
                        ('target/bin/event_program', 'echo it runs; exec cat\n'),
+                       ('target/bin/event_cost', 'echo it sums; exec cat\n'),
                        ('target/bin/event_sheet', 'read -r line || exit 0; [ "$line" != fail ] || exit 7; echo "$line"\n')):
         with open(folder + '/' + name, 'w') as out:
             out.write('#!/bin/sh\n' + text)
         os.chmod(folder + '/' + name, 0o755)
     ran = run(list(words), given, '/', folder, folder + '/bin')
     with open(folder + '/asked') as asked:
-        expect(asked.read(), 'check event_%s\n' % ('sheet' if words else 'program'))
+        expect(asked.read(), 'check event_%s\n' % (words[0][2:] if words else 'program'))
     return ran
 
 
@@ -250,9 +304,20 @@ def sheet_progress(folder):
     expect((status, out, told.endswith(b'rt check event_sheet prints all that the prover says\n')), (2, b'', True))
 
 
+def cost_progress(folder):
+    """The same of the costs, whose program writes as it goes."""
+    said, told = '', b''
+    for number, name in enumerate(('low', 'high', 'printing', 'event_cost'), 1):
+        said += 'rt: %s proved (1 s)\n' % name
+        told += b'run: %d of 4 %s proved (1 s)\n' % (number, name.encode())
+    expect(repository(folder, said, 0, ['--cost']), (0, b'it sums\npop,1\n', told))
+    status, out, told = repository(folder, said, 1, ['--cost'])
+    expect((status, out, told.endswith(b'rt check event_cost prints all that the prover says\n')), (2, b'', True))
+
+
 TESTS = (
     help_is_printed, unknown_words, unreadable_files, sample, sample_sheet, other_sheets, late_open, no_sheet, sheet_words, unwritten_sheet,
-    progress, failed_proof, broken_kit, sheet_progress,
+    sample_costs, no_costs, large_costs, cost_words, progress, failed_proof, broken_kit, sheet_progress, cost_progress,
 )
 
 

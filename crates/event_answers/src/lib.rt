@@ -6,3 +6,6 @@ mod row;
 
 pub use answer::Answer;
 pub use output::put_answer;
+pub use row::put_accepted;
+pub use row::put_field;
+pub use row::put_row;

@@ -3,9 +3,9 @@
 mod calls;
 mod constants;
 mod feed_state;
-mod finish;
+pub mod finish;
 mod keep;
-mod rest_of;
+pub mod rest_of;
 
 pub use calls::feed::feed;
 pub use constants::KEPT_BYTES;

@@ -1,6 +1,6 @@
 // The lines of standard input run on the pool, to standard output, on stores of any size: what the event programs do.
 mod calls;
-mod read_more;
+pub mod read_more;
 
 pub use calls::byte_count::byte_count;
 pub use calls::reason::GOING;

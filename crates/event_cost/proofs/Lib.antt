@@ -1,0 +1,6 @@
+pub mod Clipping
+pub mod Telling
+pub mod Costing
+pub mod Running
+pub mod Turning
+pub mod Summing

@@ -1,0 +1,31 @@
+-- `answered_bytes` meets its contract. Assumes nothing.
+use borrow.Author.Needs.{needs}
+use mathlib.Core.Path.{sym, ap}
+use Rattle.grid_shapes.specs.declared.shape.BytesAnswer.{BytesAnswer}
+use Rattle.grid_shapes.specs.Outcomes.{ofBytes}
+use Rattle.event_cost.specs.Costs.{bytesOf}
+use Rattle.event_cost.proofs.copy_cost.answered_bytes.Statement.{statement}
+use Rattle.event_cost.proofs.copy_cost.answered_bytes.Tie as tie
+
+enum-known-answer : tie.Need-enum-known-answer
+enum-known-answer c = search needs
+
+enum-told : tie.Need-enum-told
+enum-told c = search needs
+
+returns : tie.Need-returns
+unfolding bytesOf ofBytes
+returns c = ap (λ (x : BytesAnswer). bytesOf (ofBytes x)) (sym (c .before .answer .given .1))
+
+returns-2 : tie.Need-returns-2
+unfolding bytesOf ofBytes
+returns-2 c = ap (λ (x : BytesAnswer). bytesOf (ofBytes x)) (sym (c .enum-told .given .1))
+
+pub answered-bytes-spec : {M : Type 1} → statement M
+answered-bytes-spec =
+    tie.close
+    (tie.spec
+    enum-known-answer
+    enum-told
+    returns
+    returns-2)

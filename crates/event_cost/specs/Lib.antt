@@ -1,0 +1,4 @@
+pub mod Costs
+pub mod Told
+pub mod Lines
+pub mod Runs
