@@ -33,6 +33,7 @@ MORE = {
     'event_program': ['grid_stamps'],
     'event_program_large': ['grid_stamps'],
     'event_sheet': ['grid_stamps'],
+    'event_cost': ['grid_stamps'],
 }
 
 

@@ -1,4 +1,4 @@
--- Helper: Bytes of a copy as 01 had them before 02's W-203: texels, not blocks, "times block bytes over texels per block, rounded down". No code computes
+-- Rule: Bytes of a copy as 01 had them before 02's W-203: texels, not blocks, "times block bytes over texels per block, rounded down". No code computes
 -- this: it stands here so that CopyClaims.antt can say what stayed.
 use Prim.Native.Nat.{ℕ, _*_, _/_}
 use Rattle.grid_shapes.specs.declared.shape.VersionShape.{VersionShape}
