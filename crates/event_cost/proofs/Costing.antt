@@ -1,12 +1,11 @@
 -- Laws of a line run and its cost. Assumes nothing.
-use mathlib.Core.Path.{_≡_, refl, sym, ap, ap₂, _∙_}
+use mathlib.Core.Path.{_≡_, sym, ap, _∙_}
 use mathlib.Core.Option.{Option}
 use mathlib.Core.List.{List}
 use Prim.Native.Nat.{ℕ, _+_, _≤_}
 use Rattle.base_tables.specs.Records.{table}
 use Rattle.base_digits.specs.Put.{Put}
 use Rattle.base_digits.proofs.Puts.{put-as}
-use Rattle.grid_shapes.specs.declared.shape.VersionShape.{VersionShape}
 use Rattle.pool_rules.specs.Model.{PreserveCopy}
 use Rattle.pool_books.specs.Demand3.{Reply}
 use Rattle.pool_books.specs.LentLists.{readCopy}

@@ -77,7 +77,6 @@ run-first cs vs input p z f l h = record {
   whole = ap (λ (i : ℕ). lastLine (take i input)) f;
   inside = omega arith;
   least = omega arith;
-  some = λ e. f;
   state = refl;
   number = sym (add-zero (p .number));
   costs = z;
@@ -191,7 +190,6 @@ module _ (cs vs : ℕ) (input : List ℕ) (n : ℕ) (s : SessionState) (out : Li
         whole = whole-are;
         inside = omega arith;
         least = let e = count-is in let l = g .least in omega arith;
-        some = λ e. absurd (let l = count-is in let y : ⊥ = omega arith in y);
         state = state-is;
         number = let e = count-is in let m = g .number in let y : q .number ≡ n + length (before ++ (line ∷ [])) = omega arith in y;
         costs = costs-are;

@@ -1,8 +1,8 @@
 -- Laws of what an answer says of a plan's copies. Assumes nothing.
-use mathlib.Core.Path.{_≡_, refl, sym, ap, _∙_}
-use mathlib.Core.Bool.{Bool, true, false, cond}
+use mathlib.Core.Path.{_≡_, refl, sym, ap}
+use mathlib.Core.Bool.{true, false, cond}
 use mathlib.Core.List.{List, [], _∷_}
-use Prim.Native.Nat.{ℕ, _+_, _*_, _≤_}
+use Prim.Native.Nat.{ℕ, _*_, _≤_}
 use native.Mathlib.Nat.{add-zero}
 use native.Mathlib.Omega.{arith}
 use types.Run.{OneOf, miss}
@@ -13,10 +13,7 @@ use Rattle.base_tables.specs.Records.{table}
 use Rattle.base_tables.proofs.Records.{table-none}
 use Rattle.base_digits.specs.Put.{Put}
 use Rattle.grid_shapes.specs.declared.shape.VersionShape.{VersionShape}
-use Rattle.grid_rects.specs.declared.rect.TexelRect.{TexelRect}
-use Rattle.grid_rects.specs.declared.rect.Region.{Region}
 use Rattle.grid_rects.specs.declared.rect.Region.the-variants.{Whole, Part}
-use Rattle.pool_rules.specs.Model.{PreserveCopy}
 use Rattle.pool_books.specs.LentLists.{readCopy}
 use Rattle.pool_memory.specs.MemoryConstants.{copyStride}
 use Rattle.event_lines.specs.declared.event.Event.{Event}
@@ -26,7 +23,7 @@ use Rattle.event_answers.specs.declared.answer.Answer.the-variants.{Question, R
 use Rattle.event_answers.proofs.answer.Answer.{the-type as answer-type}
 use Rattle.event_answers.specs.Answers.{replyTold, InBuffers}
 use Rattle.event_answers.specs.Printed.{acceptedRow}
-use Rattle.event_cost.specs.Costs.{planBytes, copiesOf, clipped, sumField, planRow, isPlan, costRow}
+use Rattle.event_cost.specs.Costs.{planBytes, copiesOf, clipped, planRow, isPlan, costRow}
 use Rattle.event_cost.specs.Told.{copyCount, rowTold, eventTold}
 use Rattle.event_cost.proofs.Clipping.{field-clipped}
 

@@ -77,7 +77,6 @@ pub record LinesRun (copies views : ℕ) (input : List ℕ) (n : ℕ) (s : Sessi
   pub whole : lastLine (take (p .from) input) ≡ []
   pub inside : p .from ≤ length input
   pub least : length lines ≤ p .from
-  pub some : length lines ≡ 0 → p .from ≡ 0
   pub state : p .state ≡ afterLines copies views s lines
   pub number : p .number ≡ n + length lines
   pub costs : p .sums ≡ clippedSums (costsOf copies views s lines)

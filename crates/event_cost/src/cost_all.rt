@@ -1,5 +1,4 @@
 // The lines of standard input run one after the other: each turn reads where nothing waits, runs lines, and writes the turn's output.
-ghost use mathlib.Core.Path.{_≡_};
 ghost use Prim.Native.Nat.{_≤_, _<_};
 ghost use lib.ListN.{length};
 ghost use Rattle.event_sessions.specs.Sessions.{stateOf};
@@ -23,7 +22,8 @@ use event_stream::write_out;
 pub struct CostedRun {
     // Why it stopped, as in crates/event_stream/src/calls/reason.rt.
     pub why: u64,
-    // Lines run, bytes of output.
+    // Bytes read, lines run, bytes of output.
+    pub read: u64,
     pub lines: u64,
     pub written: u64,
     // What all lines cost.
@@ -52,7 +52,7 @@ pub fn cost_all(
         (now (stamps .entry)))
         (stateOf (r .session) (now (textures .exit)) (now (retiring .exit)) (now (doomed .exit)) (now (spares .exit)) (now (newest .exit))
         (now (stamps .exit)))
-        (r .sums) (r .lines) (r .written) ⌝ }
+        (r .sums) (r .why) (r .read) (r .lines) (r .written) ⌝ }
 {
     let mut at = begin();
     let mut sums = Sums { moved: 0, whole: 0 };
@@ -89,6 +89,7 @@ pub fn cost_all(
     let session = at.session;
     CostedRun {
         why,
+        read,
         lines: at.number,
         written,
         sums,

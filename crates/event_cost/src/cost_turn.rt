@@ -30,14 +30,14 @@ pub fn cost_turn(
     views: &mut [u64],
     out: &mut [u8],
 ) -> CostedTurn
-    requires { ⌜ TurnReady before end (length (now buf))
-        (stateOf (before .session) (now textures) (now retiring) (now doomed) (now spares) (now newest) (now stamps)) ⌝ }
-    ensures { λ r. ⌜ TurnCosted (length (now (copies .entry))) (length (now (views .entry))) before end (length (now (buf .entry)))
+    requires { ⌜ TurnReady before end
+        (stateOf (before .session) (now textures) (now retiring) (now doomed) (now spares) (now newest) (now stamps)) (now buf) (now out) ⌝ }
+    ensures { λ r. ⌜ TurnCosted (length (now (copies .entry))) (length (now (views .entry))) before end
         (stateOf (before .session) (now (textures .entry)) (now (retiring .entry)) (now (doomed .entry)) (now (spares .entry)) (now (newest .entry))
         (now (stamps .entry)))
         (stateOf (r .at .session) (now (textures .exit)) (now (retiring .exit)) (now (doomed .exit)) (now (spares .exit)) (now (newest .exit))
         (now (stamps .exit)))
-        r (now (out .entry)) (now (out .exit)) ⌝ }
+        r (now (buf .entry)) (now (buf .exit)) (now (out .entry)) (now (out .exit)) ⌝ }
 {
     let from = before.from;
     let session = before.session;

@@ -1,5 +1,5 @@
 // The last line of output.
-ghost use Prim.Native.Nat.{_+_, _≤_};
+ghost use Prim.Native.Nat.{_≤_};
 ghost use lib.ListN.{length};
 ghost use Rattle.base_digits.specs.Put.{Put};
 ghost use Rattle.event_cost.specs.Costs.{sumRow, mostSumRow};

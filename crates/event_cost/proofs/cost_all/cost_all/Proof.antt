@@ -1,7 +1,7 @@
--- Turns until the run stops: the lines run so far are some list of lines. The measure falls by the lines that were run and the bytes that were read and used. Assumes nothing.
+-- Turns until the run stops: the lines run so far have the events of some input, of which every byte that came was fed or waits. The measure falls by the bytes that were read and used. Assumes nothing.
 use borrow.Author.Needs.{needs}
 use mathlib.Core.Path.{_≡_, refl, _∙_}
-use Prim.Native.Nat.{_+_, _-_}
+use Prim.Native.Nat.{_-_}
 use native.Mathlib.Omega.{arith}
 use lib.ListN.{length}
 use Rattle.event_sessions.specs.Sessions.{stateOf}
@@ -11,21 +11,21 @@ use Rattle.event_feed.proofs.Parts.{part-length}
 use Rattle.event_stream.proofs.Reasons.{full-first, reason-says}
 use Rattle.event_stream.proofs.Loop.{leftWhile}
 use Rattle.event_cost.specs.Costs.{noSums}
-use Rattle.event_cost.proofs.Summing.{Going, leftOf, going-first, going-counts, going-ready, going-next, going-less}
+use Rattle.event_cost.proofs.Summing.{Going, leftOf, going-first, going-counts, going-ready, going-next, going-less, summed}
 use Rattle.event_cost.proofs.cost_all.cost_all.Statement.{statement}
 use Rattle.event_cost.proofs.cost_all.cost_all.Tie as tie
 
 abbrev Inv-loop : tie.InvT-loop
 Inv-loop buf₀ textures₀ retiring₀ doomed₀ spares₀ newest₀ stamps₀ copies₀ views₀ out₀ at₀ sums₀ read₀ written₀ why₀ buf textures retiring doomed spares newest stamps copies views out at sums read written why =
     Going (length copies₀) (length views₀) (length buf₀) (length out₀) (stateOf freshSession textures₀ retiring₀ doomed₀ spares₀ newest₀ stamps₀)
-    (stateOf (at .session) textures retiring doomed spares newest stamps) at sums read written why
+    (stateOf (at .session) textures retiring doomed spares newest stamps) at buf sums read written why
     × (length buf ≡ length buf₀) × (length textures ≡ length textures₀) × (length retiring ≡ length retiring₀) × (length doomed ≡ length doomed₀)
     × (length spares ≡ length spares₀) × (length newest ≡ length newest₀) × (length stamps ≡ length stamps₀) × (length copies ≡ length copies₀)
     × (length views ≡ length views₀) × (length out ≡ length out₀)
 
 abbrev μ-loop : tie.MeasureT-loop
 μ-loop buf₀ textures₀ retiring₀ doomed₀ spares₀ newest₀ stamps₀ copies₀ views₀ out₀ at₀ sums₀ read₀ written₀ why₀ buf textures retiring doomed spares newest stamps copies views out at sums read written why =
-    leftWhile why (leftOf (length buf₀) read at)
+    leftWhile why (leftOf read at)
 
 begin-requires : tie.Need-begin-requires Inv-loop μ-loop
 begin-requires c κs = search needs
@@ -35,7 +35,7 @@ unfolding noSums
 loop-holds c =
     let s = c .before .before .before .before .before .before .before .before .before .before .before in
     let a = s .args in
-    (rw (c .begin .ensures) (going-first _ _ _ _ _ (fresh-holds (a .textures .now) (a .retiring .now) (a .doomed .now) (a .spares .now) (a .newest .now) (a .stamps .now)) (full-first (length (a .buf .now)) (length (a .out .now)) (omega (arith, s .good)) (omega (arith, s .good)))), refl, refl, refl, refl, refl, refl, refl, refl, refl, refl)
+    (rw (c .begin .ensures) (going-first _ _ _ _ _ (a .buf .now) (fresh-holds (a .textures .now) (a .retiring .now) (a .doomed .now) (a .spares .now) (a .newest .now) (a .stamps .now)) (full-first (length (a .buf .now)) (length (a .out .now)) (omega (arith, s .good)) (omega (arith, s .good)))), refl, refl, refl, refl, refl, refl, refl, refl, refl, refl)
 
 read-more-requires : tie.Need-read-more-requires Inv-loop μ-loop
 read-more-requires c κs =
@@ -48,7 +48,7 @@ add-came : tie.Need-add-came Inv-loop μ-loop
 add-came c =
     let l = c .before .before .before .before .before .before .loop in
     let p = l .inv .0 .placed in
-    omega (arith, p .inside, p .within, going-counts _ _ _ _ _ _ (l .at) (l .sums) (l .read) (l .written) (l .why) (l .inv .0) (c .before .before .before .before .before .loop-test .taken) (l .at .end) (omega arith) (p .within) .0)
+    omega (arith, p .inside, p .within, going-counts _ _ _ _ _ _ (l .at) (l .buf) (l .buf) (l .sums) (l .read) (l .written) (l .why) (l .inv .0) (c .before .before .before .before .before .loop-test .taken) (l .inv .1) (l .at .end) (omega arith) (p .within) refl .0)
 
 sub-came : tie.Need-sub-came Inv-loop μ-loop
 sub-came c =
@@ -67,7 +67,7 @@ add-read c =
     let r = c .before .before .before .before .before .read-more in
     let i = l .inv in
     let z = r .kept .0 ∙ i .1 in
-    omega (arith, going-counts _ _ _ _ _ _ (l .at) (l .sums) (l .read) (l .written) (l .why) (i .0) (c .before .before .before .before .before .before .before .loop-test .taken) _ (r .ensures .0) (omega (arith, r .ensures .1, i .1)) .0, r .ensures .1, i .1, c .byte-count .ensures)
+    omega (arith, going-counts _ _ _ _ _ _ (l .at) (l .buf) _ (l .sums) (l .read) (l .written) (l .why) (i .0) (c .before .before .before .before .before .before .before .loop-test .taken) z _ (r .ensures .0) (omega (arith, r .ensures .1, i .1)) (r .ensures .2) .0, r .ensures .1, i .1, c .byte-count .ensures)
 
 cost-turn-requires : tie.Need-cost-turn-requires Inv-loop μ-loop
 cost-turn-requires c κs =
@@ -75,7 +75,7 @@ cost-turn-requires c κs =
     let r = c .before .before .before .before .before .before .before .before .before .before .before .before .before .before .before .read-more in
     let i = l .inv in
     let z = r .kept .0 ∙ i .1 in
-    rw z (going-ready _ _ _ _ _ _ (l .at) (l .sums) (l .read) (l .written) (l .why) (i .0) (c .before .before .before .before .before .before .before .before .before .before .before .before .before .before .before .before .before .loop-test .taken) _ (r .ensures .0) (omega (arith, r .ensures .1, i .1)) (omega (arith, c .before .before .before .before .before .before .before .before .before .before .before .before .before .before .before .before .before .before .before .before .before .before .before .before .before .before .before .before .before .before .pre .0)))
+    going-ready _ _ _ _ _ _ (l .at) (l .buf) _ (l .sums) (l .read) (l .written) (l .why) (i .0) (c .before .before .before .before .before .before .before .before .before .before .before .before .before .before .before .before .before .loop-test .taken) z _ (r .ensures .0) (omega (arith, r .ensures .1, i .1)) (r .ensures .2) (omega (arith, c .before .before .before .before .before .before .before .before .before .before .before .before .before .before .before .before .before .before .before .before .before .before .before .before .before .before .before .before .before .before .pre .0)) _ (omega (arith, c .before .before .before .before .before .before .before .before .before .before .before .before .before .before .before .before .before .before .before .before .before .before .before .before .before .before .before .before .before .before .pre .1, i .10))
 
 add-sums-requires : tie.Need-add-sums-requires Inv-loop μ-loop
 add-sums-requires c κs = search needs
@@ -106,7 +106,7 @@ add-written c =
     let f = c .before .before .before .before .before .before .before .before .before .before .before .before .before .before .before .before .before .before .before .before .before .before .before .before .before .before .before .cost-turn in
     let o = f .kept .1 .1 .1 .1 .1 .1 .1 .1 .1 .1 .1 .0 in
     let y : c .byte-count2 .result ≡ f .result .at .filled = omega (arith, c .byte-count2 .ensures, c .before .write-out .ensures, part-length 0 (f .result .at .filled - 0) (f .last .1 .1 .1 .1 .1 .1 .1 .1 .1 .1 .1 .0) (omega (arith, f .ensures .fits, o))) in
-    omega (arith, going-counts _ _ _ _ _ _ (l .at) (l .sums) (l .read) (l .written) (l .why) (i .0) (c .before .before .before .before .before .before .before .before .before .before .before .before .before .before .before .before .before .before .before .before .before .before .before .before .before .before .before .before .before .before .before .before .before .before .before .before .before .before .before .before .before .before .before .before .before .loop-test .taken) _ (r .ensures .0) (omega (arith, r .ensures .1, i .1)) .1, f .ensures .fits, i .10)
+    omega (arith, going-counts _ _ _ _ _ _ (l .at) (l .buf) _ (l .sums) (l .read) (l .written) (l .why) (i .0) (c .before .before .before .before .before .before .before .before .before .before .before .before .before .before .before .before .before .before .before .before .before .before .before .before .before .before .before .before .before .before .before .before .before .before .before .before .before .before .before .before .before .before .before .before .before .loop-test .taken) z _ (r .ensures .0) (omega (arith, r .ensures .1, i .1)) (r .ensures .2) .1, f .ensures .fits, i .10)
 
 is-full-requires : tie.Need-is-full-requires Inv-loop μ-loop
 is-full-requires c κs = search needs
@@ -123,9 +123,9 @@ loop-less c =
     let f = c .before .before .before .before .before .before .before .before .before .before .before .before .before .before .before .before .before .before .before .before .before .before .before .before .before .before .before .before .before .cost-turn in
     let o = f .kept .1 .1 .1 .1 .1 .1 .1 .1 .1 .1 .1 .0 in
     let y : c .before .before .byte-count2 .result ≡ f .result .at .filled = omega (arith, c .before .before .byte-count2 .ensures, c .before .before .before .write-out .ensures, part-length 0 (f .result .at .filled - 0) (f .last .1 .1 .1 .1 .1 .1 .1 .1 .1 .1 .1 .0) (omega (arith, f .ensures .fits, o))) in
-    let t = rw (i .8, i .9, z) at (f .ensures) in
+    let t = rw (i .8, i .9) at (f .ensures) in
     let u = rw (f .kept .1 .1 .0 ∙ z, o ∙ i .10) at (c .before .is-full .ensures) in
-    going-less _ _ _ _ _ _ (l .at) (l .sums) (l .read) (l .written) (l .why) (i .0) (c .before .before .before .before .before .before .before .before .before .before .before .before .before .before .before .before .before .before .before .before .before .before .before .before .before .before .before .before .before .before .before .before .before .before .before .before .before .before .before .before .before .before .before .before .before .before .before .loop-test .taken) _ (r .ensures .0) (omega (arith, r .ensures .1, i .1)) _ _ _ _ t (i .10) _ (c .before .before .before .before .before .before .add-sums .ensures) _ (c .before .before .before .before .before .before .before .before .before .before .before .before .before .before .before .before .before .before .before .before .before .before .before .before .before .before .before .before .before .before .before .before .before .before .before .before .before .before .before .before .byte-count .ensures) _ y _ refl _ u _ (reason-says _ _ _ _ (c .reason .ensures))
+    going-less _ _ _ _ _ _ (l .at) (l .buf) _ (l .sums) (l .read) (l .written) (l .why) (i .0) (c .before .before .before .before .before .before .before .before .before .before .before .before .before .before .before .before .before .before .before .before .before .before .before .before .before .before .before .before .before .before .before .before .before .before .before .before .before .before .before .before .before .before .before .before .before .before .before .loop-test .taken) z _ (r .ensures .0) (omega (arith, r .ensures .1, i .1)) (r .ensures .2) _ _ _ _ _ t (f .kept .1 .1 .0 ∙ z) _ (c .before .before .before .before .before .before .add-sums .ensures) _ (c .before .before .before .before .before .before .before .before .before .before .before .before .before .before .before .before .before .before .before .before .before .before .before .before .before .before .before .before .before .before .before .before .before .before .before .before .before .before .before .before .byte-count .ensures) _ y _ refl _ u _ (reason-says _ _ _ _ (c .reason .ensures))
 
 loop-again : tie.Need-loop-again Inv-loop μ-loop
 loop-again c =
@@ -136,9 +136,9 @@ loop-again c =
     let f = c .before .before .before .before .before .before .before .before .before .before .before .before .before .before .before .before .before .before .before .before .before .before .before .before .before .before .before .before .before .cost-turn in
     let o = f .kept .1 .1 .1 .1 .1 .1 .1 .1 .1 .1 .1 .0 in
     let y : c .before .before .byte-count2 .result ≡ f .result .at .filled = omega (arith, c .before .before .byte-count2 .ensures, c .before .before .before .write-out .ensures, part-length 0 (f .result .at .filled - 0) (f .last .1 .1 .1 .1 .1 .1 .1 .1 .1 .1 .1 .0) (omega (arith, f .ensures .fits, o))) in
-    let t = rw (i .8, i .9, z) at (f .ensures) in
+    let t = rw (i .8, i .9) at (f .ensures) in
     let u = rw (f .kept .1 .1 .0 ∙ z, o ∙ i .10) at (c .before .is-full .ensures) in (
-      going-next _ _ _ _ _ _ (l .at) (l .sums) (l .read) (l .written) (l .why) (i .0) (c .before .before .before .before .before .before .before .before .before .before .before .before .before .before .before .before .before .before .before .before .before .before .before .before .before .before .before .before .before .before .before .before .before .before .before .before .before .before .before .before .before .before .before .before .before .before .before .loop-test .taken) _ (r .ensures .0) (omega (arith, r .ensures .1, i .1)) _ _ _ _ t (i .10) _ (c .before .before .before .before .before .before .add-sums .ensures) _ (c .before .before .before .before .before .before .before .before .before .before .before .before .before .before .before .before .before .before .before .before .before .before .before .before .before .before .before .before .before .before .before .before .before .before .before .before .before .before .before .before .byte-count .ensures) _ y _ refl _ u _ (reason-says _ _ _ _ (c .reason .ensures)),
+      going-next _ _ _ _ _ _ (l .at) (l .buf) _ (l .sums) (l .read) (l .written) (l .why) (i .0) (c .before .before .before .before .before .before .before .before .before .before .before .before .before .before .before .before .before .before .before .before .before .before .before .before .before .before .before .before .before .before .before .before .before .before .before .before .before .before .before .before .before .before .before .before .before .before .before .loop-test .taken) z _ (r .ensures .0) (omega (arith, r .ensures .1, i .1)) (r .ensures .2) _ _ _ _ _ t (f .kept .1 .1 .0 ∙ z) _ (c .before .before .before .before .before .before .add-sums .ensures) _ (c .before .before .before .before .before .before .before .before .before .before .before .before .before .before .before .before .before .before .before .before .before .before .before .before .before .before .before .before .before .before .before .before .before .before .before .before .before .before .before .before .byte-count .ensures) _ y _ refl _ u _ (reason-says _ _ _ _ (c .reason .ensures)),
       f .kept .1 .1 .0 ∙ z,
       f .kept .1 .1 .1 .0 ∙ i .2,
       f .kept .1 .1 .1 .1 .0 ∙ i .3,
@@ -182,7 +182,7 @@ same-length-10 : tie.Need-same-length-10 Inv-loop μ-loop
 same-length-10 c = c .before .before .loop .inv .10
 
 returns : tie.Need-returns Inv-loop μ-loop
-returns c = c .before .before .loop .inv .0 .run
+returns c = summed _ _ _ _ _ _ _ _ _ _ _ _ (c .before .before .loop .inv .0)
 
 pub cost-all-spec : {M : Type 1} → statement M
 cost-all-spec =

@@ -1,11 +1,10 @@
 -- A turn meets its contract: the lines that the output has room for, and what they leave of the buffer. Assumes nothing.
 use borrow.Author.Needs.{needs}
-use mathlib.Core.Path.{refl, _∙_}
+use mathlib.Core.Path.{_∙_}
 use Prim.Native.Nat.{_-_}
 use native.Mathlib.Omega.{arith}
-use lib.ListN.{length}
 use Rattle.event_feed.proofs.Parts.{part-short}
-use Rattle.event_cost.proofs.Turning.{run-within, turned}
+use Rattle.event_cost.proofs.Turning.{turn-within, turned}
 use Rattle.event_cost.proofs.cost_turn.cost_turn.Statement.{statement}
 use Rattle.event_cost.proofs.cost_turn.cost_turn.Tie as tie
 
@@ -42,7 +41,7 @@ rest-of-requires c κs =
     let s = c .before .before .before .before .before .before .before .before .before .before .before .before .before .before .before .before .before .before .before .before .before .before .before .before .before .before .before .before .before .before .before .before .before .before .before .before .before .before .before .before .before .before .before .before .before .before .before .before in
     let k = c .before .before .before .before .before .before .before .before .before .before .before .before .before .before .before .before .before .before .before .before .before .before .before .before .before .before .before .before .before .before .before .before .before .before .before .finish in
     let r = c .before .before .before .before .before .before .before .before .before .before .before .before .before .before .before .before .before .before .before .before .before .cost-lines in (
-      run-within _ _ (s .args .before) (s .args .end) (k .result) _ _ (s .args .buf .now) (k .last .0) refl (k .kept .0) (s .pre) (k .ensures) (s .args .out .now) _ (r .ensures),
+      turn-within _ _ (s .args .before) (s .args .end) (k .result) _ (s .args .buf .now) (k .last .0) (s .args .out .now) (k .kept .0) (s .pre) (k .ensures) _ (r .ensures),
       omega (arith, k .ensures .within, k .kept .0),
       omega (arith, s .pre .large, k .kept .0),
     )
@@ -83,8 +82,8 @@ returns c =
     let k = c .before .before .before .before .before .before .before .before .before .before .before .before .before .before .before .before .before .before .before .before .before .before .before .before .before .before .before .before .before .before .before .before .before .before .before .before .before .before .finish in
     let r = c .before .before .before .before .before .before .before .before .before .before .before .before .before .before .before .before .before .before .before .before .before .before .before .before .cost-lines in
     let z = c .before .before .rest-of in
-    turned _ _ (s .args .before) (s .args .end) (k .result) _ _ (s .args .buf .now) (k .last .0) refl (k .kept .0) (s .pre) (k .ensures) (s .args .out .now) _ (r .ensures)
-    (z .result) _ (z .kept .0 ∙ k .kept .0) (z .ensures) (r .result .session)
+    turned _ _ (s .args .before) (s .args .end) (k .result) _ (s .args .buf .now) (k .last .0) (s .args .out .now) (k .kept .0) (s .pre) (k .ensures) _ (r .ensures)
+    (z .result) _ (z .ensures) (r .result .session)
 
 pub cost-turn-spec : {M : Type 1} → statement M
 cost-turn-spec =
