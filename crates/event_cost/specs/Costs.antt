@@ -23,16 +23,16 @@ use Rattle.event_cost.specs.declared.sums.Sums.{Sums}
 -- ---- the bytes of copies
 
 -- the bytes of an outcome: 0 where it is a refusal, which no plan that is accepted meets, since its shape is one
-unfoldable pub bytesOf : Outcome → ℕ
-bytesOf o = getD (o .fields) 0 0
+unfoldable pub acceptedBytes : Outcome → ℕ
+acceptedBytes o = getD (o .fields) 0 0
 
 -- what a copy moves
 unfoldable pub copyCost : VersionShape → PreserveCopy → ℕ
-copyCost s c = bytesOf (copyOutcome s (c .level) (c .region))
+copyCost s c = acceptedBytes (copyOutcome s (c .level) (c .region))
 
 -- what it would move if it were of its whole level
 unfoldable pub wholeCost : VersionShape → PreserveCopy → ℕ
-wholeCost s c = bytesOf (copyOutcome s (c .level) Whole)
+wholeCost s c = acceptedBytes (copyOutcome s (c .level) Whole)
 
 -- what copies move, and what they would move if each were of its whole level
 unfoldable pub planBytes : VersionShape → List PreserveCopy → ℕ

@@ -58,8 +58,8 @@ pub record CostProgress : Type 0 where
   -- the buffer
   pub out : List ℕ
 
-abbrev pub progressOf : CostedLines → List ℕ → List ℕ → List ℕ → List ℕ → List ℕ → List ℕ → List ℕ → CostProgress
-progressOf r textures retiring doomed spares newest stamps out = record {
+abbrev pub costProgress : CostedLines → List ℕ → List ℕ → List ℕ → List ℕ → List ℕ → List ℕ → List ℕ → CostProgress
+costProgress r textures retiring doomed spares newest stamps out = record {
   state = stateOf (r .session) textures retiring doomed spares newest stamps;
   sums = r .sums;
   number = r .number;

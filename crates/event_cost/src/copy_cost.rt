@@ -5,7 +5,7 @@ ghost use lib.ListN.{length};
 ghost use Rattle.grid_shapes.specs.Outcomes.{ofBytes};
 ghost use Rattle.pool_books.specs.LentLists.{readCopy};
 ghost use Rattle.pool_memory.specs.MemoryConstants.{copyStride};
-ghost use Rattle.event_cost.specs.Costs.{bytesOf, copySums};
+ghost use Rattle.event_cost.specs.Costs.{acceptedBytes, copySums};
 use crate::sums::Sums;
 use grid_rects::Region;
 use grid_rects::TexelRect;
@@ -15,7 +15,7 @@ use grid_shapes::VersionShape;
 
 // Returns the bytes that were answered: 0 for what is no shape, which no plan goes by.
 fn answered_bytes(answer: BytesAnswer) -> u64
-    ensures { λ r. ⌜ r ≡ bytesOf (ofBytes answer) ⌝ }
+    ensures { λ r. ⌜ r ≡ acceptedBytes (ofBytes answer) ⌝ }
 {
     match answer {
         BytesAnswer::Bytes(bytes) => bytes,

@@ -2,7 +2,7 @@
 ghost use Prim.Native.Nat.{_+_, _^_, _<_};
 ghost use lib.ListN.{length};
 ghost use Rattle.event_sessions.specs.Sessions.{stateOf, HoldsPool};
-ghost use Rattle.event_cost.specs.Lines.{progressOf, LinesCosted};
+ghost use Rattle.event_cost.specs.Lines.{costProgress, LinesCosted};
 use crate::cost_line::cost_line;
 use crate::sums::Sums;
 use event_lines::parse_first;
@@ -45,7 +45,7 @@ pub fn cost_lines(
     ensures { λ r. ⌜ LinesCosted (length (now (copies .entry))) (length (now (views .entry))) (now (input .entry)) number
         (stateOf session (now (textures .entry)) (now (retiring .entry)) (now (doomed .entry)) (now (spares .entry)) (now (newest .entry))
         (now (stamps .entry))) (now (out .entry))
-        (progressOf r (now (textures .exit)) (now (retiring .exit)) (now (doomed .exit)) (now (spares .exit)) (now (newest .exit))
+        (costProgress r (now (textures .exit)) (now (retiring .exit)) (now (doomed .exit)) (now (spares .exit)) (now (newest .exit))
         (now (stamps .exit)) (now (out .exit))) ⌝ }
 {
     let size = out.len();

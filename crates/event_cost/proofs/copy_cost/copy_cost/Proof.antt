@@ -4,7 +4,7 @@ use mathlib.Core.Path.{ap, _∙_}
 use lib.ListN.{getD}
 use Rattle.grid_rects.specs.Copies.{copyOutcome}
 use Rattle.pool_books.specs.LentLists.{readCopy}
-use Rattle.event_cost.specs.Costs.{bytesOf, copyCost, wholeCost, copySums}
+use Rattle.event_cost.specs.Costs.{acceptedBytes, copyCost, wholeCost, copySums}
 use Rattle.event_cost.proofs.copy_cost.copy_cost.Statement.{statement}
 use Rattle.event_cost.proofs.copy_cost.copy_cost.Tie as tie
 
@@ -32,8 +32,8 @@ returns c =
     let z = c .before .before .before .before .copied-region in
     let a = c .before .before .before .before .before .before .before .args in
     λ i. record {
-      moved = (c .before .answered-bytes .ensures ∙ ap bytesOf (c .before .before .before .copy-bytes .ensures ∙ ap (copyOutcome (a .shape) (getD (a .copy .now) 1 0)) (z .ensures))) i;
-      whole = (c .answered-bytes2 .ensures ∙ ap bytesOf (c .before .before .copy-bytes2 .ensures)) i;
+      moved = (c .before .answered-bytes .ensures ∙ ap acceptedBytes (c .before .before .before .copy-bytes .ensures ∙ ap (copyOutcome (a .shape) (getD (a .copy .now) 1 0)) (z .ensures))) i;
+      whole = (c .answered-bytes2 .ensures ∙ ap acceptedBytes (c .before .before .copy-bytes2 .ensures)) i;
     }
 
 pub copy-cost-spec : {M : Type 1} → statement M

@@ -7,7 +7,7 @@ use lib.ListN.{length}
 use Rattle.event_sessions.specs.Sessions.{stateOf}
 use Rattle.event_runs.proofs.Runs.{end-of, event-of}
 use Rattle.event_cost.specs.Costs.{noSums}
-use Rattle.event_cost.specs.Lines.{LinesRun, progressOf}
+use Rattle.event_cost.specs.Lines.{LinesRun, costProgress}
 use Rattle.event_cost.proofs.Running.{run-first, run-full, run-end, run-done, run-next}
 use Rattle.event_cost.proofs.cost_lines.cost_lines.Statement.{statement}
 use Rattle.event_cost.proofs.cost_lines.cost_lines.Tie as tie
@@ -15,7 +15,7 @@ use Rattle.event_cost.proofs.cost_lines.cost_lines.Tie as tie
 abbrev Inv-loop : tie.InvT-loop
 Inv-loop input number textures₀ retiring₀ doomed₀ spares₀ newest₀ stamps₀ copies₀ views₀ out₀ size run₀ textures retiring doomed spares newest stamps copies views out run =
     LinesRun (length copies₀) (length views₀) input number (stateOf (run₀ .session) textures₀ retiring₀ doomed₀ spares₀ newest₀ stamps₀) out₀
-    (progressOf run textures retiring doomed spares newest stamps out)
+    (costProgress run textures retiring doomed spares newest stamps out)
     × (length textures ≡ length textures₀) × (length retiring ≡ length retiring₀) × (length doomed ≡ length doomed₀) × (length spares ≡ length spares₀)
     × (length newest ≡ length newest₀) × (length stamps ≡ length stamps₀) × (length copies ≡ length copies₀) × (length views ≡ length views₀)
     × (length out ≡ length out₀)
