@@ -1,23 +1,21 @@
 -- Laws of an input that comes in blocks, with answer buffers of cs and vs numbers: lines are told apart by their events alone, and what is cut off a line that
 -- is too long for an event does not show. Assumes nothing.
 use mathlib.Core.Path.{_≡_, refl, sym, ap, ap₂, _∙_}
-use mathlib.Core.Bool.{Bool, true, false, cond}
 use mathlib.Core.List.{List, [], _∷_, _++_, append-nil, map, map-append}
-use Prim.Native.Nat.{ℕ, zero, suc, _+_, _≤_, _<_}
+use Prim.Native.Nat.{ℕ, zero, suc, _+_, _<_}
 use native.Mathlib.Omega.{arith}
-use lib.Dec.{eqb}
 use lib.ListN.{length, take, length-map}
-use Rattle.base_digits.specs.Characters.{lineFeed}
 use Rattle.event_lines.specs.declared.event.Event.{Event}
 use Rattle.event_lines.specs.Grammar.{eventOf}
 use Rattle.event_sessions.specs.Sessions.{SessionState, lineStep}
-use Rattle.event_runs.specs.Lines.{inFirstLine, wholeLines, lineState}
+use Rattle.event_runs.specs.Lines.{wholeLines, lineState}
 use Rattle.event_runs.specs.Texts.{lastLine, ifAny, allLines, afterLines}
-use Rattle.event_runs.proofs.Cuts.{Unfinished, inFront, lines-append, last-append, front-lines, front-last, last-unfinished, take-unfinished, line-more}
+use Rattle.event_runs.proofs.Cuts.{Unfinished, inFront, lines-append, last-append, front-lines, front-last, last-unfinished, take-unfinished}
 use Rattle.event_runs.proofs.LongLines.{cut-unread}
 use Rattle.event_runs.proofs.Texts.{cut-last}
 use Rattle.event_feed.specs.Feed.{ending}
 use Rattle.event_feed.specs.FeedConstants.{keptBytes}
+use Rattle.event_feed.proofs.Cutting.{ending-line}
 use Rattle.event_cost.specs.declared.sums.Sums.{Sums}
 use Rattle.event_cost.specs.Costs.{noSums, plus, clippedSums}
 use Rattle.event_cost.specs.Lines.{eventCost, eventRow, costsOf, costRows}
@@ -114,12 +112,6 @@ module _ (lines more : List (List ℕ)) (input line ys : List ℕ) (e : Same lin
       ap (λ (x : List ℕ). take keptBytes (lastLine (x ++ ys))) l ∙ cut-kept (lastLine input) ys (last-unfinished input)
       ∙ ap (take keptBytes) (sym (last-append input ys))
 
--- a line with the line feed that it lacks is a line, if it has a byte
-ending-line : (x : List ℕ) → Unfinished x → wholeLines (x ++ ending x) ≡ ifAny x
-unfolding ending ifAny wholeLines
-ending-line [] h = refl
-ending-line (b ∷ x) h = line-more (b ∷ x) [] h
-
 -- the input has ended, and its last line was run
 pub same-ended : (lines more : List (List ℕ)) (input line : List ℕ) → Same lines (wholeLines input) → line ≡ take keptBytes (lastLine input)
     → more ≡ wholeLines (line ++ ending line) → Same (lines ++ more) (allLines input)
@@ -136,17 +128,3 @@ same-ended lines more input line e l r =
 -- what is kept of a line is not whole
 pub kept-plain : (input line : List ℕ) → line ≡ take keptBytes (lastLine input) → Unfinished line
 kept-plain input line e = ap wholeLines e ∙ take-unfinished keptBytes (lastLine input) (last-unfinished input)
-
--- no more lines than bytes
-pub lines-few : (input : List ℕ) → length (wholeLines input) ≤ length input
-unfolding wholeLines inFirstLine
-lines-few [] = omega arith
-lines-few (b ∷ bs) = go (eqb b lineFeed) (lines-few bs)
-  where
-    same : (ls : List (List ℕ)) → length (inFirstLine b ls) ≡ length ls
-    same [] = refl
-    same (l ∷ ls) = refl
-
-    go : (t : Bool) → length (wholeLines bs) ≤ length bs → length (cond t ([] ∷ wholeLines bs) (inFirstLine b (wholeLines bs))) ≤ suc (length bs)
-    go true h = omega arith
-    go false h = omega (arith, same (wholeLines bs))

@@ -22,6 +22,7 @@ use Rattle.event_feed.proofs.Parts.{part-length, part-same}
 use Rattle.event_stream.specs.Streams.{whyGoing, whyEnded, isFull}
 use Rattle.event_stream.proofs.Loop.{leftWhile}
 use Rattle.event_stream.proofs.Reasons.{Reason, not-full}
+use Rattle.event_stream.proofs.Sofar.{lines-few}
 use Rattle.event_cost.specs.declared.sums.Sums.{Sums}
 use Rattle.event_cost.specs.declared.cost_turn.CostedTurn.{CostedTurn}
 use Rattle.event_cost.specs.Costs.{noSums, plus, clipped, clippedSums, mostCostRow}
@@ -29,7 +30,7 @@ use Rattle.event_cost.specs.Lines.{costsOf, costRows}
 use Rattle.event_cost.specs.Runs.{TurnReady, TurnCosted, LinesSummed, CostRun}
 use Rattle.event_cost.proofs.Clipping.{clip-added, clip-more}
 use Rattle.event_cost.proofs.Running.{costs-append, rows-append}
-use Rattle.event_cost.proofs.Cutting.{Same, summed-same, same-count, same-more, kept-more, same-ended, kept-plain, lines-few}
+use Rattle.event_cost.proofs.Cutting.{Same, summed-same, same-count, same-more, kept-more, same-ended, kept-plain}
 
 -- ---- lines run, and then a turn
 

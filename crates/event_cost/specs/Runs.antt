@@ -3,14 +3,15 @@
 -- stops, this holds of some list of lines, and it leaves a pool once one was opened.
 use Prim.Native.Nat.{ℕ, _+_, _^_, _≤_, _<_}
 use mathlib.Core.Path.{_≡_}
-use mathlib.Core.List.{List, [], _++_}
-use lib.ListN.{length, take, drop}
+use mathlib.Core.List.{List, []}
+use lib.ListN.{length}
 use lib.Seq.{sets}
 use Rattle.event_sessions.specs.Sessions.{SessionState, HoldsPool}
 use Rattle.event_runs.specs.Lines.{wholeLines}
-use Rattle.event_runs.specs.Texts.{lastLine, allLines, afterLines}
+use Rattle.event_runs.specs.Texts.{allLines, afterLines}
 use Rattle.event_feed.specs.declared.feed_state.FeedState.{FeedState}
 use Rattle.event_feed.specs.FeedConstants.{keptBytes}
+use Rattle.event_feed.specs.BlockFed.{BlockFed}
 use Rattle.event_feed.specs.Places.{heldLine, waits, fedAt, Placed}
 use Rattle.event_stream.specs.Streams.{whyEnded}
 use Rattle.event_cost.specs.declared.sums.Sums.{Sums}
@@ -35,16 +36,6 @@ pub record TurnReady (f : FeedState) (end : ℕ) (s : SessionState) (buf out : L
   pub counted : f .number + length buf < 2 ^ 64
   -- the output's buffer has room for any line's output
   pub room : mostCostRow ≤ length out
-
--- A block was fed after a line that was not whole: its first `used` bytes, which are all of it where nothing is left. The lines that are now whole were
--- run, and of what stands after the last line feed the first bytes are kept.
-pub record BlockFed (line block : List ℕ) (lines : List (List ℕ)) (kept left : List ℕ) : Type 0 where
-  pub used : ℕ
-  pub fits : used ≤ length block
-  pub progress : 0 < length block → 0 < used
-  pub rest : left ≡ drop used block
-  pub run : lines ≡ wholeLines (line ++ take used block)
-  pub keeps : kept ≡ take keptBytes (lastLine (line ++ take used block))
 
 -- what it leaves: the state t after the lines that it ran from state s on
 pub record TurnCosted (copies views : ℕ) (f : FeedState) (end : ℕ) (s t : SessionState) (r : CostedTurn) (buf left out exit : List ℕ) : Type 0 where

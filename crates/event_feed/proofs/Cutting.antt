@@ -21,7 +21,7 @@ long = omega arith
 -- ---- the end of an input
 
 -- a line with the line feed that it lacks is a line, if it has a byte
-ending-line : (x : List ℕ) → Unfinished x → wholeLines (x ++ ending x) ≡ ifAny x
+pub ending-line : (x : List ℕ) → Unfinished x → wholeLines (x ++ ending x) ≡ ifAny x
 unfolding ending ifAny wholeLines
 ending-line [] h = refl
 ending-line (b ∷ x) h = line-more (b ∷ x) [] h

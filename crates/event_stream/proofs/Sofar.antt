@@ -19,7 +19,7 @@ use Rattle.event_stream.specs.Streams.{whyEnded, whyTooLong, isFull, Run
 use Rattle.base_digits.specs.Characters.{lineFeed}
 
 -- no more lines than bytes
-lines-few : (input : List ℕ) → length (wholeLines input) ≤ length input
+pub lines-few : (input : List ℕ) → length (wholeLines input) ≤ length input
 unfolding wholeLines inFirstLine
 lines-few [] = omega arith
 lines-few (b ∷ bs) = go (eqb b lineFeed) (lines-few bs)

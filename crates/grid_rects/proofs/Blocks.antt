@@ -1,11 +1,10 @@
 -- Laws of the blocks that texels touch, over the block's edge: along an axis, and of a region. Assumes nothing.
 use Prim.Native.Nat.{ℕ, zero, suc, _+_, _-_, _*_, _/_, _≤_, _<_, min, max}
-use mathlib.Core.Path.{_≡_, refl, sym, ap, ap₂, _∙_}
+use mathlib.Core.Path.{_≡_, refl, sym, ap, _∙_}
 use native.Mathlib.Omega.{arith}
 use native.Mathlib.Nat.{add-mul, suc-mul, mul-le-mul, mul-le-mul-right, mul-mul-mul-comm, div-mul-le-self, lt-div-mul-add, le-div-iff-mul-le, div-lt-iff-lt-mul, div-eq-of-lt, add-div-right, add-mul-div-right, zero-div, le-max-left, le-max-right, le-trans}
 use native.Mathlib.Decide.{decLt}
 use borrow.Author.Tests.{ne-eqb}
-use lib.Dec.{eqb}
 use Rattle.base_blocks.specs.Lists.{ceilDiv}
 use Rattle.base_blocks.proofs.Numbers.{ceil-below}
 use Rattle.grid_rects.specs.declared.rect.Region.{Region}

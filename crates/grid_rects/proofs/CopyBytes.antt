@@ -4,12 +4,12 @@ use mathlib.Core.Path.{_≡_, refl, sym, ap, _∙_}
 use mathlib.Core.Bool.{true}
 use mathlib.Core.List.{List, [], _∷_}
 use native.Mathlib.Omega.{arith}
-use native.Mathlib.Nat.{mul-le-mul, mul-le-mul-right, mul-comm, mul-assoc, mul-right-comm, div-one, div-le-of-le-mul, one-mul, zero-mul, le-trans}
+use native.Mathlib.Nat.{mul-le-mul, mul-le-mul-right, mul-comm, mul-right-comm, div-one, div-le-of-le-mul, one-mul, zero-mul, le-trans}
 use lib.Dec.{eqb}
-use Rattle.base_blocks.specs.Lists.{listed, total, ceilDiv}
+use Rattle.base_blocks.specs.Lists.{listed, total}
 use Rattle.grid_shapes.specs.declared.shape.VersionShape.{VersionShape}
 use Rattle.grid_rects.specs.declared.rect.Region.{Region}
-use Rattle.grid_rects.specs.declared.rect.Region.the-variants.{Whole, Part}
+use Rattle.grid_rects.specs.declared.rect.Region.the-variants.{Whole}
 use Rattle.grid_shapes.specs.Formats.{blockEdge, blockBytes}
 use Rattle.grid_shapes.specs.Shapes.{isShape, levelExtent, levelWidth, levelHeight, levelDepth, levelBytes, slicesOf, bytesOf}
 use Rattle.grid_rects.specs.Copies.{regionBlocks, copyBytes}

@@ -1,7 +1,7 @@
 -- `grid_rects::copies::level_copy_bytes` meets its contract. Each product is the definition's, which a shape keeps below 2^44.
 use borrow.Author.Needs.{needs}
-use Prim.Native.Nat.{ℕ, _*_, _≤_, _<_}
-use mathlib.Core.Path.{_≡_, sym, _∙_, subst}
+use Prim.Native.Nat.{_*_, _≤_}
+use mathlib.Core.Path.{_≡_, _∙_}
 use native.Mathlib.Omega.{arith}
 use lib.Dec.{lit≤}
 use Rattle.grid_shapes.specs.Shapes.{levelWidth, levelHeight, levelDepth}

@@ -1,7 +1,7 @@
 -- `grid_rects::copies::region_blocks` meets its contract. By the region, whose blocks are no more than the level's texels.
 use borrow.Author.Needs.{needs}
 use Prim.Native.Nat.{_*_}
-use mathlib.Core.Path.{_≡_, sym, _∙_, ap}
+use mathlib.Core.Path.{sym, _∙_, ap}
 use native.Mathlib.Omega.{arith}
 use Rattle.grid_rects.specs.Copies.{regionBlocks}
 use Rattle.grid_rects.proofs.CopyBytes.{region-bound}
