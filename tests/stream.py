@@ -1,7 +1,7 @@
 #!/usr/bin/env python3
-"""Tests of the event programs as processes: what no proof can say, namely what a read brings, where a write goes, and the sizes that `main` lends.
+"""Tests of the two event programs as processes: what no proof can say, namely what a read brings, where a write goes, and the sizes that `main` lends.
 
-    tests/stream.py [SMALL LARGE COST]    the programs to try; by default event_program, event_program_large and event_cost of target/bin
+    tests/stream.py [SMALL LARGE]    the programs to try; by default target/bin/event_program and target/bin/event_program_large
 
 What is expected is written here from document 01 or computed by a formula; none of it was taken from a program. Python's standard library alone.
 Exit status 0 if every test passed, 1 if one failed."""
@@ -357,99 +357,35 @@ def longest_batch(program, small):
     check(program, queued(1201) + [('doomed', '11'), ('doomed', '11')])
 
 
-# ---- the program that prints what plans cost
-
-def costs_of(pairs):
-    """The input of a list, as in `text_of`, and what its plans cost. All their copies are of a level of 64 by 64 texels of 4 bytes."""
-    rows, moved, whole = [], 0, 0
-    for number, (line, answer) in enumerate(pairs, 1):
-        if not line.startswith('plan') or answer == '?':
-            continue
-        outcome, *copies = answer.split(' ')
-        if outcome == '0,%d' % len(copies):
-            boxes = [(64, 64) if copy.endswith('-') else map(int, copy.split(',')[4:]) for copy in copies]
-            bytes_moved = sum(width * height * 4 for width, height in boxes)
-            moved, whole, outcome = moved + bytes_moved, whole + len(copies) * 16384, '0,%d' % bytes_moved
-        rows.append('%d,%s\n' % (number, outcome))
-    return text_of(pairs)[0], ''.join(rows + ['sum,%d,%d\n' % (moved, whole)]).encode()
-
-
-def cost_whole_text(program, small):
-    given, expected = costs_of(ALL_WORDS)
-    same(expected, b'6,0,16384\n12,0,1024\n28,2\nsum,17408,32768\n')
-    same(output_of(program, given), expected)
-    same(output_of(program, given + b'\n'), expected)
-
-
-def cost_empty_input(program, small):
-    for given in (b'', b'\n', b'\n\n', b'x', b'plan', b'open,0'):
-        same(output_of(program, given), b'sum,0,0\n')
-
-
-def cost_long_lines(program, small):
-    """A line that is no plan, though its front or its end is one."""
-    plan, before = b'plan,7,-,0,0,0', b'open,0\ntake,7,2,64,64,1,1,0,1,10\n'
-    for length in (KEPT - 1, KEPT, KEPT + 1, 1000, BLOCK - 1, BLOCK, BLOCK + 1, 3 * BLOCK):
-        for line in (plan.ljust(length, b'x'), plan.ljust(length), plan.rjust(length, b'x'), plan.rjust(length, b',')):
-            same(output_of(program, before + line), b'sum,0,0\n')
-            same(output_of(program, before + line + b'\n' + plan), b'4,0,16384\nsum,16384,16384\n')
-
-
-def cost_parts_of_every_size(program, small):
-    given, expected = costs_of(ALL_WORDS)
-    for size in range(1, 201):
-        same(output_in_parts(program, given, size), expected)
-
-
-def cost_many_lines(program, small):
-    """More lines of output than a block's buffer has room for."""
-    plans = 300000
-    rows = b''.join(b'%d,0,16384\n' % line for line in range(3, plans + 3))
-    given = b'open,0\ntake,7,2,64,64,1,1,0,0,1\n' + plans * b'plan,7,-,0,0,0\n'
-    same(output_of(program, given), rows + b'sum,%d,%d\n' % (plans * 16384, plans * 16384))
-
-
-def cost_output_closes(program, small):
-    block = b'open,0\ntake,7,2,64,64,1,1,0,0,1\n' + 4000 * b'plan,7,-,0,0,0\n'
-    ends([program], block, stdout=subprocess.PIPE, restore_signals=True)
-    ends([program], block, stdout=subprocess.PIPE, restore_signals=False)
-    ends(['/bin/sh', '-c', 'exec "$0" >&-', program], block)
-    with open('/dev/full', 'wb') as full:
-        ends([program], block, stdout=full)
-
-
-def cost_no_input(program, small):
-    no_input(program, small, b'sum,0,0\n')
-
-
 TESTS = (
     whole_text, empty_input, last_line_without_its_feed, long_lines, parts_of_every_size, many_reads, conversation, many_lines,
     output_closes, output_fills, no_input, places, most_grids, longest_plan, longest_drain, longest_batch,
 )
 
-COST_TESTS = (
-    cost_whole_text, cost_empty_input, cost_long_lines, cost_parts_of_every_size, cost_many_lines, cost_output_closes, cost_no_input,
-)
+
+def passes(test, program, small):
+    """Tries a test, and says why it failed."""
+    try:
+        test(program, small)
+        return True
+    except (Failure, OSError, subprocess.TimeoutExpired) as why:
+        print('%s: %s FAILED: %s' % (os.path.basename(program), test.__name__, str(why)[:500]))
+        return False
+
+
+def tell(name, results):
+    """Prints how many of these passed, and ends with 1 if one failed."""
+    print('%s: %d passed, %d failed' % (name, sum(results), len(results) - sum(results)))
+    sys.exit(0 if all(results) else 1)
 
 
 def main():
-    if len(sys.argv) not in (1, 4):
+    if len(sys.argv) not in (1, 3):
         sys.exit(__doc__)
-    programs = [os.path.abspath(p) for p in sys.argv[1:]] or [root + '/target/bin/' + p for p in ('event_program', 'event_program_large', 'event_cost')]
-
-    def passes(test, program, small):
-        try:
-            test(program, small)
-            return True
-        except (Failure, OSError, subprocess.TimeoutExpired) as why:
-            print('%s: %s FAILED: %s' % (os.path.basename(program), test.__name__, str(why)[:500]))
-            return False
-
+    programs = [os.path.abspath(p) for p in sys.argv[1:]] or [root + '/target/bin/event_program', root + '/target/bin/event_program_large']
     with concurrent.futures.ThreadPoolExecutor(len(programs)) as pool:
-        results = list(pool.map(lambda k: [passes(test, programs[k], k == 0) for test in (COST_TESTS if k == 2 else TESTS)], range(len(programs))))
-    passed, failed = sum(map(sum, results)), sum(len(r) - sum(r) for r in results)
-    print('tests/stream.py: %d passed, %d failed' % (passed, failed))
-    sys.exit(1 if failed else 0)
+        results = list(pool.map(lambda k: [passes(test, programs[k], k == 0) for test in TESTS], range(len(programs))))
+    tell('tests/stream.py', sum(results, []))
 
 
 if __name__ == '__main__':
