@@ -13,6 +13,7 @@ mod put_sums;
 mod sums;
 
 ghost use Rattle.event_stream.specs.Lends.{Lends};
+use event_stream::ENDED;
 use grid_stamps::PAGE_STAMPS;
 use pool_memory::COPY_STRIDE;
 use pool_records::DOOMED_STRIDE;
@@ -29,9 +30,6 @@ const VERSIONS: usize = 64;
 const PAGES: usize = 6;
 
 const ENTRIES: usize = 90;
-
-// All lines were run, as `whyEnded` of crates/event_stream/specs/Streams.antt.
-const ENDED: u64 = 1;
 
 // Asks for what document 01 has the event program lend, "8 textures, 64 versions, 6 pages, answers of 90 entries", so that a list is answered
 // here as there. Nothing is done: that `main` may call it is what counts.

@@ -3,6 +3,7 @@ mod calls;
 pub mod read_more;
 
 pub use calls::byte_count::byte_count;
+pub use calls::reason::ENDED;
 pub use calls::reason::GOING;
 pub use calls::reason::is_full;
 pub use calls::reason::reason;

@@ -6,7 +6,7 @@ ghost use Rattle.event_stream.specs.Streams.{isFull, reasonOf};
 pub const GOING: u64 = 0;
 
 // The input has ended, or cannot be read.
-const ENDED: u64 = 1;
+pub const ENDED: u64 = 1;
 
 // Output could not be written.
 const UNWRITTEN: u64 = 2;
