@@ -3,22 +3,8 @@
 //! "The bytes of a copy are therefore the blocks that its texels in the level touch, at all depths, times the block's bytes."
 
 use crate::refusal::Refusal;
-use crate::shape::RawShape;
+use crate::shape::{BLOCKS, RawShape};
 use crate::texture_versions::TexelRect;
-
-/// Gives the edge and the bytes of a block, by format: "Formats 0 to 4: 1 by 1 blocks of 1, 2, 4, 8, 16 bytes. 5 and 6: 4 by 4 blocks of
-/// 8 and 16 bytes. 7 is `Depth32Float`, 8 `Depth32FloatStencil8`: 1 by 1, 4 and 8 bytes." (01)
-const BLOCKS: [(u64, u64); 9] = [
-    (1, 1),
-    (1, 2),
-    (1, 4),
-    (1, 8),
-    (1, 16),
-    (4, 8),
-    (4, 16),
-    (1, 4),
-    (1, 8),
-];
 
 /// Holds a shape's six numbers, before anyone has looked whether it is one.
 #[derive(Clone, Copy, Debug, PartialEq, Eq)]

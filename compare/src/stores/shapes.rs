@@ -1,6 +1,7 @@
 //! What a texture's record says of its shape and its history: from documents 01 and 02, over numbers of any size.
 
 use super::memory::*;
+use crate::shape::BLOCKS;
 
 /// The records of the tracked textures.
 pub fn tracked(memory: &Memory) -> impl Iterator<Item = &[u64]> {
@@ -51,24 +52,9 @@ fn level_extent(base: u64, level: u64) -> u64 {
     base.max(1).checked_shr(level as u32).unwrap_or(0).max(1)
 }
 
-/// "Formats 0 to 4: 1 by 1 blocks of 1, 2, 4, 8, 16 bytes. 5 and 6: 4 by 4 blocks of 8 and 16 bytes. 7 .. 8 ..: 1 by 1, 4 and 8 bytes."
-fn block(format: u64) -> (u64, u64) {
-    [
-        (1, 1),
-        (1, 2),
-        (1, 4),
-        (1, 8),
-        (1, 16),
-        (4, 8),
-        (4, 16),
-        (1, 4),
-        (1, 8),
-    ][format as usize]
-}
-
 /// The bytes of a version of a shape that passes 2: "per level, whole blocks across times down times depth (volumes only) times block bytes; summed; times slices".
 pub fn shape_bytes(record: &[u64]) -> u64 {
-    let (edge, bytes) = block(record[1]);
+    let (edge, bytes) = BLOCKS[record[1] as usize];
     let level_bytes = |level| {
         let across = level_extent(record[2], level).div_ceil(edge);
         let down = level_extent(record[3], level).div_ceil(edge);
