@@ -10,6 +10,7 @@ use native.Mathlib.Omega.{arith}
 use lib.Dec.{ltb}
 use lib.ListN.{length, take, drop, getD}
 use Rattle.base_blocks.specs.Lists.{listed, all, total, ascending}
+use Rattle.base_blocks.proofs.Lists.{all-get}
 
 module _ {ℓ} {A : Type ℓ} (f : ℕ → A) where
   pub length-listed : (i n : ℕ) → length (listed f i n) ≡ n
@@ -66,6 +67,12 @@ pub map-listed {ℓ ℓ′} : {A : Type ℓ} {B : Type ℓ′} (g : A → B) (f 
 unfolding listed
 map-listed g f i zero = refl
 map-listed {B = B} g f i (suc n) = ap (λ (l : List B). g (f i) ∷ l) (map-listed g f (suc i) n)
+
+-- what a test of each number below n shows of one of them
+pub tested-below : (p : ℕ → Bool) (n i : ℕ) → all p (listed (λ (k : ℕ). k) 0 n) ≡ true → i < n → p i ≡ true
+tested-below p n i e h =
+    ap p (sym (getD-listed (λ (k : ℕ). k) 0 n i 0 h ∙ zero-add i))
+    ∙ all-get p (listed (λ (k : ℕ). k) 0 n) i 0 e (omega (arith, length-listed (λ (k : ℕ). k) 0 n))
 
 -- a list lists its own elements
 pub listed-getD {ℓ} : {A : Type ℓ} (d : A) (xs : List A) → listed (λ k. getD xs k d) 0 (length xs) ≡ xs

@@ -1,2 +1,3 @@
 pub mod Axes
+pub mod EdgeTables
 pub mod Spans

@@ -10,3 +10,7 @@ minTileTexels = 16
 -- rename reads; a level of 4,096 texels has tiles of 128.
 abbrev pub maxTilesPerAxis : ℕ
 maxTilesPerAxis = 32
+
+-- The entries of a table of tile edges: one for each share that extents up to 16,384 have, which is 0 to 512.
+abbrev pub edgeEntries : ℕ
+edgeEntries = 513

@@ -1,2 +1,3 @@
 pub mod AxisConstants
 pub mod Axes
+pub mod EdgeTables

@@ -1,12 +1,8 @@
 // One axis of a level, cut into tiles.
 ghost use mathlib.Core.Path.{_≡_};
-ghost use Prim.Native.Nat.{_/_, _≤_, _<_};
-ghost use Rattle.grid_axes.specs.Axes.{tileEdge, axisOf, AxisOk, tilesOf, touchedTiles, SpanIn, spanStart, spanSize};
-use crate::constants::MAX_TILES_PER_AXIS;
+ghost use Prim.Native.Nat.{_/_, _<_};
+ghost use Rattle.grid_axes.specs.Axes.{AxisOk, tilesOf, touchedTiles, SpanIn, spanStart, spanSize};
 use crate::constants::MIN_TILE_TEXELS;
-
-// Added before a division by MAX_TILES_PER_AXIS, so that it rounds up. A difference in the code would ask for one proof more.
-const ROUND_UP: u64 = MAX_TILES_PER_AXIS - 1;
 
 // Texels along the axis, and texels along a tile's side.
 pub struct Axis {
@@ -24,26 +20,6 @@ pub struct Span {
 pub enum Touched {
     Tiles(Span),
     NoTiles,
-}
-
-// Returns the side of a tile along an axis of `extent` texels, in a format of `block`-texel blocks.
-pub fn tile_edge(extent: u64, block: u64) -> u64
-    requires { ⌜ (extent ≤ 16384) × (0 < block) × (block ≤ 16) ⌝ }
-    ensures { λ r. ⌜ r ≡ tileEdge extent block ⌝ }
-{
-    let least = base_blocks::larger(MIN_TILE_TEXELS, (extent + ROUND_UP) / MAX_TILES_PER_AXIS);
-    (least + (block - 1)) / block * block
-}
-
-// Returns the axis of a level of `extent` texels, in a format of `block`-texel blocks.
-pub fn axis_of(extent: u64, block: u64) -> Axis
-    requires { ⌜ (extent ≤ 16384) × (0 < block) × (block ≤ 16) ⌝ }
-    ensures { λ r. ⌜ r ≡ axisOf extent block ⌝ }
-{
-    Axis {
-        extent,
-        edge: tile_edge(extent, block),
-    }
 }
 
 // Returns the tile that a texel lies in. An axis of up to 512 texels has tiles of 16, which need no division.

@@ -7,3 +7,6 @@ pub const MIN_TILE_TEXELS: u64 = 16;
 // The most tiles along an axis. The Rust: this bounds a grid at 1,024 stamps, 8 KiB, whatever the texture's size, and so what a
 // rename reads; a level of 4,096 texels has tiles of 128.
 pub const MAX_TILES_PER_AXIS: u64 = 32;
+
+// The entries of a table of tile edges: one for each share that extents up to 16,384 have, which is 0 to 512.
+pub const EDGE_ENTRIES: usize = 513;

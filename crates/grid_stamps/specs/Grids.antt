@@ -1,6 +1,7 @@
 -- Rule: One subresource's stamp grid (01, "The stamp grid"): a stamp for each tile, row by row, and the newest of them.
 use Prim.Native.Nat.{ℕ, _+_, _*_, _<_, _≤_}
-use mathlib.Core.Bool.{Bool, _&&_, cond}
+use mathlib.Core.Path.{_≡_}
+use mathlib.Core.Bool.{Bool, true, _&&_, cond}
 use mathlib.Core.List.{List, [], _∷_, map, flatMap}
 use lib.Dec.{leb, ltb}
 use lib.ListN.{getD, take, replicate}
@@ -16,6 +17,7 @@ use Rattle.grid_stamps.specs.declared.dirty.DirtyTile.the-variants.{At, 
 use Rattle.grid_shapes.specs.Formats.{blockEdge}
 use Rattle.grid_shapes.specs.Shapes.{levelWidth, levelHeight}
 use Rattle.grid_axes.specs.Axes.{axisOf, AxisOk, tilesOf, isCut, touched, oneTile, spanAround, spanStart, spanSize}
+use Rattle.grid_axes.specs.EdgeTables.{isEdgeTable}
 use Rattle.base_blocks.specs.Blocks.{largest}
 
 -- a level cut into tiles along two axes
@@ -29,6 +31,10 @@ tiled across down = record { across = across; down = down }
 -- how a level of a shape is cut into tiles
 unfoldable pub tilingOf : VersionShape → ℕ → Tiling
 tilingOf s level = tiled (axisOf (levelWidth s level) (blockEdge (s .format))) (axisOf (levelHeight s level) (blockEdge (s .format)))
+
+-- the table of tile edges of the shape's block edge
+abbrev pub TableOf : VersionShape → List ℕ → Type 0
+TableOf s table = isEdgeTable (blockEdge (s .format)) table ≡ true
 
 unfoldable pub columnsOf : Tiling → ℕ
 columnsOf g = tilesOf (g .across)

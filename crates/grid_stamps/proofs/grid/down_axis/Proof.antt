@@ -2,8 +2,8 @@
 use native.Mathlib.Omega.{arith}
 use borrow.Author.Needs.{needs}
 use Rattle.grid_shapes.specs.Shapes.{levelHeight}
-use Rattle.grid_shapes.proofs.Formats.{block-edge-pos, block-edge-bound}
 use Rattle.grid_shapes.proofs.Shapes.{shape-bounds, extent-bound}
+use Rattle.grid_axes.proofs.EdgeTables.{table-length, table-axis}
 use Rattle.grid_stamps.specs.Grids.{tilingOf}
 use Rattle.grid_stamps.proofs.grid.down_axis.Statement.{statement}
 use Rattle.grid_stamps.proofs.grid.down_axis.Tie as tie
@@ -11,21 +11,18 @@ use Rattle.grid_stamps.proofs.grid.down_axis.Tie as tie
 level-extent-requires : tie.Need-level-extent-requires
 level-extent-requires c κs = search needs
 
-block-edge-requires : tie.Need-block-edge-requires
-block-edge-requires c κs = search needs
-
-axis-of-requires : tie.Need-axis-of-requires
-axis-of-requires c κs =
+axis-in-requires : tie.Need-axis-in-requires
+axis-in-requires c κs =
     let s = c .before .before in
-    let f = s .args .s .format in (
-      omega (arith, c .before .level-extent .ensures, extent-bound (s .args .s .height) 16384 (s .args .level) (shape-bounds (s .args .s) (s .pre) .height) (omega arith)),
-      omega (arith, c .block-edge .ensures, block-edge-pos f),
-      omega (arith, c .block-edge .ensures, block-edge-bound f),
-    )
+    let e = extent-bound (s .args .s .height) 16384 (s .args .level) (shape-bounds (s .args .s) (s .pre .0) .height) (omega arith) in
+    (omega (arith, c .level-extent .ensures, e), table-length _ _ (s .pre .1))
 
 returns : tie.Need-returns
 unfolding tilingOf levelHeight
-returns c = rw (c .axis-of .ensures, c .before .before .level-extent .ensures, c .before .block-edge .ensures)
+returns c =
+    let s = c .before .before .before in
+    let e = extent-bound (s .args .s .height) 16384 (s .args .level) (shape-bounds (s .args .s) (s .pre .0) .height) (omega arith) in
+    rw (c .axis-in .ensures, c .before .level-extent .ensures) (table-axis _ _ (s .pre .1) _ e)
 
 pub down-axis-spec : {M : Type 1} → statement M
-down-axis-spec = tie.close (tie.spec level-extent-requires block-edge-requires axis-of-requires returns)
+down-axis-spec = tie.close (tie.spec level-extent-requires axis-in-requires returns)

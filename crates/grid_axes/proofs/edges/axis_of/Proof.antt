@@ -1,8 +1,8 @@
 -- An axis with its tile edge. Assumes nothing.
-use borrow.Author.Needs.{needs}
 use Rattle.grid_axes.specs.Axes.{axisOf}
-use Rattle.grid_axes.proofs.axis.axis_of.Statement.{statement}
-use Rattle.grid_axes.proofs.axis.axis_of.Tie as tie
+use borrow.Author.Needs.{needs}
+use Rattle.grid_axes.proofs.edges.axis_of.Statement.{statement}
+use Rattle.grid_axes.proofs.edges.axis_of.Tie as tie
 
 tile-edge-requires : tie.Need-tile-edge-requires
 tile-edge-requires c κs = search needs
