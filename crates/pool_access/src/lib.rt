@@ -2,6 +2,7 @@
 mod doomed;
 mod grids;
 mod retiring;
+mod slices;
 mod spare;
 mod starts;
 mod texture;
@@ -9,11 +10,12 @@ mod tilings;
 
 pub use doomed::doomed_at;
 pub use doomed::push_doomed;
-pub use grids::level_stamps;
 pub use grids::shape_grids;
 pub use grids::shape_stamps;
 pub use retiring::push_retiring;
 pub use retiring::retiring_at;
+pub use slices::SliceTilings;
+pub use slices::slice_tilings;
 pub use spare::first_spare;
 pub use spare::insert_spare;
 pub use spare::spare_at;
@@ -28,4 +30,5 @@ pub use texture::remove_texture;
 pub use texture::texture_at;
 pub use tilings::across_at;
 pub use tilings::down_at;
+pub use tilings::stamps_at;
 pub use tilings::start_at;

@@ -1,6 +1,7 @@
 -- Helper: The textures as the test goes over them: a condition a pass over the lent slices, where `isPool` reads the states that they stand for.
 -- That both say the same is a law; a reader of `is_pool` needs none of this.
 use Prim.Native.Nat.{ℕ, _+_, _*_, _%_}
+use mathlib.Core.Path.{_≡_}
 use mathlib.Core.Bool.{Bool, true, _&&_}
 use mathlib.Core.List.{List, [], _∷_}
 use lib.Dec.{leb, eqb}
@@ -10,6 +11,7 @@ use Rattle.base_tables.specs.Records.{recordAt}
 use Rattle.grid_shapes.specs.declared.shape.VersionShape.{VersionShape}
 use Rattle.grid_shapes.specs.Shapes.{isShape}
 use Rattle.grid_axes.specs.declared.axis.Axis.{Axis}
+use Rattle.grid_axes.specs.EdgeTables.{isEdgeTable}
 use Rattle.grid_stamps.specs.Grids.{StampGrid, gridIn, tilingOf}
 use Rattle.pool_rules.specs.Model.{Spare, limit, gridCount}
 use Rattle.pool_rules.specs.HistorySizes.{gridPlaces, gridStart, historySize}
@@ -43,6 +45,10 @@ unfoldable pub modelSpareAt : List ℕ → ℕ → Spare ℕ
 modelSpareAt spares k = spareOf (recordAt spareStride readSpare spares k)
 
 -- ---- histories
+
+-- the tables of tile edges, for blocks of 1 texel and of 4
+abbrev pub BothTables : List ℕ → List ℕ → Type 0
+BothTables one four = (isEdgeTable 1 one ≡ true) × (isEdgeTable 4 four ≡ true)
 
 -- the k-th grid of a history whose numbers of `newest` and whose stamps are just these
 unfoldable pub ownGrid : VersionShape → List ℕ → List ℕ → ℕ → StampGrid

@@ -8,15 +8,18 @@ ghost use lib.ListN.{length};
 ghost use Rattle.base_blocks.specs.Lists.{all};
 ghost use Rattle.grid_shapes.specs.Shapes.{isShape};
 ghost use Rattle.grid_axes.specs.Axes.{AxisOk};
-ghost use Rattle.grid_stamps.specs.Grids.{gridIn, stampCount, tiled};
+ghost use Rattle.grid_stamps.specs.Grids.{TableOf, gridIn, stampCount, tiled};
 ghost use Rattle.pool_records.specs.Texture.{readTexture, texturesIn};
 ghost use Rattle.pool_records.specs.Tilings.{packedTiling, TilingFits};
 ghost use Rattle.pool_memory.specs.IsPool.{isGrid};
-ghost use Rattle.pool_formed_textures.specs.Textures.{isRecord, axesTiling, gridsFit, historyFits, historiesFit, runFits};
+ghost use Rattle.pool_formed_textures.specs.Textures.{isRecord, BothTables, axesTiling, gridsFit, historyFits, historiesFit, runFits};
 ghost use Rattle.pool_records.specs.RecordConstants.{textureStride};
 use base_tables::record_at;
 use grid_axes::Axis;
+use grid_axes::TILE_EDGES_1;
+use grid_axes::TILE_EDGES_4;
 use grid_shapes::VersionShape;
+use grid_shapes::block_edge;
 use grid_stamps::across_axis;
 use grid_stamps::down_axis;
 use grid_stamps::is_largest_stamp;
@@ -57,10 +60,10 @@ fn grid_fits(across: Axis, down: Axis, writes: u64, newest: u64, stamps: &[u64])
     is_largest_stamp(stamps, across, down, newest)
 }
 
-// Tests the grids of a history that has just these numbers of `newest` and just these stamps. Works out a level's tiles once, for the tests
-// and for where the next grid begins.
-fn grids_fit(s: VersionShape, writes: u64, newest: &[u64], stamps: &[u64]) -> bool
-    requires { ⌜ isShape s ≡ true ⌝ }
+// Tests the grids of a history that has just these numbers of `newest` and just these stamps, by the table of its format's blocks. Works out
+// a level's tiles once, for the tests and for where the next grid begins.
+fn grids_fit(edges: &[u16], s: VersionShape, writes: u64, newest: &[u64], stamps: &[u64]) -> bool
+    requires { ⌜ (isShape s ≡ true) × TableOf s (now edges) ⌝ }
     ensures { λ r. ⌜ r ≡ gridsFit s writes (now (newest .entry)) (now (stamps .entry)) ⌝ }
 {
     let n = shape_grids(s);
@@ -71,8 +74,8 @@ fn grids_fit(s: VersionShape, writes: u64, newest: &[u64], stamps: &[u64]) -> bo
     let mut k = 0;
     while k < n {
         let level = k as u64 % s.levels;
-        let across = across_axis(s, level);
-        let down = down_axis(s, level);
+        let across = across_axis(edges, s, level);
+        let down = down_axis(edges, s, level);
         let count = stamp_count(across, down) as usize;
         if count > stamps.len() - at {
             return false;
@@ -89,16 +92,22 @@ fn grids_fit(s: VersionShape, writes: u64, newest: &[u64], stamps: &[u64]) -> bo
     stamps.len() == at
 }
 
-// Tests the history of a record that has just these numbers of `newest` and just these stamps: none of either without a history.
-fn history_fits(p: &[u64], newest: &[u64], stamps: &[u64]) -> bool
-    requires { ⌜ (textureStride ≤ length (now p)) × (isShape (readTexture (now p) .shape) ≡ true) ⌝ }
+// Tests the history of a record that has just these numbers of `newest` and just these stamps: none of either without a history. Chooses the table
+// of its format's blocks once for all its grids.
+fn history_fits(one: &[u16], four: &[u16], p: &[u64], newest: &[u64], stamps: &[u64]) -> bool
+    requires { ⌜ (textureStride ≤ length (now p)) × (isShape (readTexture (now p) .shape) ≡ true) × BothTables (now one) (now four) ⌝ }
     ensures { λ r. ⌜ r ≡ historyFits (readTexture (now (p .entry)) .shape) (readTexture (now (p .entry)) .history) (now (newest .entry)) (now (stamps .entry)) ⌝ }
 {
     let t = read_texture(p);
     let shape = t.shape;
     let history = t.history;
     match history {
-        Recorded::Writes(n) => grids_fit(shape, n, newest, stamps),
+        Recorded::Writes(n) => {
+            if block_edge(shape.format) == 1 {
+                return grids_fit(one, shape, n, newest, stamps);
+            }
+            grids_fit(four, shape, n, newest, stamps)
+        }
         Recorded::NoHistory => (newest.len() == 0) & (stamps.len() == 0),
     }
 }
@@ -110,9 +119,11 @@ fn run_fits(start: u64, at: usize, end: usize, used: usize) -> bool
     (start == at as u64) & (at <= end) & (end <= used)
 }
 
-// Tests the histories of the first n records, which have `grids` numbers of `newest` and `used` stamps together. Takes each to end where the next record
-// says that its own begins, and tests that before it reads, so that nothing past those in use is read and no sum is needed.
-pub fn histories_fit(
+// Tests the histories by the tables of tile edges of both kinds of blocks. Takes each history to end where the next record says that its own begins,
+// and tests that before it reads, so that nothing past those in use is read and no sum is needed.
+fn histories_in(
+    one: &[u16],
+    four: &[u16],
     textures: &[u64],
     n: usize,
     grids: usize,
@@ -121,7 +132,7 @@ pub fn histories_fit(
     stamps: &[u64],
 ) -> bool
     requires { ⌜ (textureStride * n ≤ length (now textures)) × (all isRecord (texturesIn n (now textures)) ≡ true)
-        × (grids ≤ length (now newest)) × (used ≤ length (now stamps)) ⌝ }
+        × (grids ≤ length (now newest)) × (used ≤ length (now stamps)) × BothTables (now one) (now four) ⌝ }
     ensures { λ r. ⌜ r ≡ historiesFit (now (newest .entry)) (now (stamps .entry)) grids used 0 0 (texturesIn n (now (textures .entry))) ⌝ }
 {
     let mut grid = 0;
@@ -137,7 +148,7 @@ pub fn histories_fit(
         if !run_fits(p[TEXTURE_STAMP_AT], stamp, end, used) {
             return false;
         }
-        if !history_fits(p, &newest[grid..last], &stamps[stamp..end]) {
+        if !history_fits(one, four, p, &newest[grid..last], &stamps[stamp..end]) {
             return false;
         }
         grid = last;
@@ -145,4 +156,23 @@ pub fn histories_fit(
         i += 1;
     }
     (grid == grids) & (stamp == used)
+}
+
+// Tests the histories of the first n records, which have `grids` numbers of `newest` and `used` stamps together. Copies the tables of tile edges
+// here, once for all histories: each use of a constant array copies the whole of it.
+pub fn histories_fit(
+    textures: &[u64],
+    n: usize,
+    grids: usize,
+    used: usize,
+    newest: &[u64],
+    stamps: &[u64],
+) -> bool
+    requires { ⌜ (textureStride * n ≤ length (now textures)) × (all isRecord (texturesIn n (now textures)) ≡ true)
+        × (grids ≤ length (now newest)) × (used ≤ length (now stamps)) ⌝ }
+    ensures { λ r. ⌜ r ≡ historiesFit (now (newest .entry)) (now (stamps .entry)) grids used 0 0 (texturesIn n (now (textures .entry))) ⌝ }
+{
+    let one = TILE_EDGES_1;
+    let four = TILE_EDGES_4;
+    histories_in(&one, &four, textures, n, grids, used, newest, stamps)
 }

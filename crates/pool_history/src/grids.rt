@@ -20,8 +20,8 @@ use grid_stamps::stamp;
 use grid_stamps::stamp_count;
 use pool_access::across_at;
 use pool_access::down_at;
-use pool_access::level_stamps;
 use pool_access::shape_grids;
+use pool_access::stamps_at;
 use pool_rules::GRID_STRIDE;
 
 // Stamps a level's grid with n where the rectangle touches a tile. The grid's newest stamp has place p in `newest`, its tiling
@@ -75,7 +75,7 @@ fn regenerate_grid(
         ≡ sets (now (stamps .entry)) at (remadeGrid shape n level (gridOn shape level (now (newest .entry)) (now (stamps .entry)) p at) .stamps)) ⌝ }
 {
     if level == 0 {
-        return at + level_stamps(shape, level);
+        return at + stamps_at(newest, p, shape, level);
     }
     let width = level_extent(shape.width, level);
     let height = level_extent(shape.height, level);

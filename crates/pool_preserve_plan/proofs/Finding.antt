@@ -6,6 +6,7 @@ use mathlib.Core.List.{List, []}
 use Prim.Native.Nat.{ℕ, _+_, _≤_, _<_}
 use native.Mathlib.Omega.{arith}
 use lib.ListN.{length, getD}
+use Rattle.base_blocks.proofs.Lists.{all-get}
 use Rattle.base_tables.proofs.Records.{getD-table}
 use Rattle.grid_shapes.specs.declared.shape.VersionShape.{VersionShape}
 use Rattle.grid_shapes.specs.Shapes.{sameShape}
@@ -18,13 +19,14 @@ use Rattle.pool_rules.specs.PreservePlan.{planWith, planFound}
 use Rattle.pool_records.specs.declared.recorded.Recorded.{Recorded}
 use Rattle.pool_records.specs.declared.recorded.Recorded.the-variants.{Writes, NoHistory}
 use Rattle.pool_records.specs.declared.texture.TextureRecord.{TextureRecord}
-use Rattle.pool_records.specs.Texture.{readTexture, textureIn, texturesIn, recordedGrids, recordGrids, recordedStamps, recordStamps}
+use Rattle.pool_records.specs.Texture.{readTexture, textureIn, texturesIn, recordedGrids, recordedStamps}
 use Rattle.pool_records.specs.Find.{idOf, below, hasId}
 use Rattle.pool_memory.specs.Lent.{Lent}
 use Rattle.pool_memory.specs.Reading.{trackedRecords, historyRead, stateRead, modelOf}
+use Rattle.pool_memory.specs.IsPool.{tilingsRead, tilingsHold, tilingsFit}
 use Rattle.pool_memory.proofs.Fits.{Fits}
-use Rattle.pool_memory.proofs.Runs.{firstSpare, stateOf, grid-held-at, stamp-held-at}
-use Rattle.pool_memory.proofs.HistoryRuns.{gridCountAt, stampCountAt, grids-in, stamps-in}
+use Rattle.pool_memory.proofs.Runs.{firstSpare, stateOf, tiling-there, tracked-records, grid-held-at, stamp-held-at}
+use Rattle.pool_memory.proofs.HistoryRuns.{grids-in, stamps-in}
 use Rattle.pool_memory.proofs.Places.{IsTracked}
 use Rattle.pool_memory.proofs.Places as places
 use Rattle.pool_memory.proofs.Stays.{ids-ascend}
@@ -146,41 +148,44 @@ module _ (l : Lent) (fits : Fits l) (id : ℕ) (shape : VersionShape) where
           ap (planFound (modelOf l) shape held u room) (places.not-found l id (ids-ascend l fits) (not-there e))
           ∙ sym (ap (planBy l shape held u room) (found-none (l .textures) (l .pool .tracked) id shape place e))
 
-  -- ---- the grids of what was found are there, and their stamps
+  -- ---- the grids of what was found are there, with their tilings, and their stamps
 
-  abbrev Room : ℕ → ℕ → ℕ → ℕ → Type 0
-  Room grid grids stamp stamps = (grid + grids ≤ length (l .newest)) × (stamp + stamps ≤ length (l .stamps))
+  abbrev Room : VersionShape → ℕ → ℕ → Recorded → Type 0
+  Room s grid stamp h =
+      (grid + recordedGrids h s ≤ length (l .newest)) × (tilingsRead l s grid h ≡ true) × (stamp + recordedStamps h s ≤ length (l .stamps))
 
-  recorded-fits : (grid stamp : ℕ) (h : Recorded) (held : Held) → Room grid (recordedGrids h shape) stamp (recordedStamps h shape)
-      → SinceFits (sinceOf (recordedFound grid stamp h) held) shape (length (l .newest)) (length (l .stamps))
+  recorded-fits : (grid stamp : ℕ) (h : Recorded) (held : Held) → Room shape grid stamp h
+      → SinceFits (sinceOf (recordedFound grid stamp h) held) shape (l .newest) (l .stamps)
   recorded-fits grid stamp NoHistory held q = tt
-  recorded-fits grid stamp (Writes n) (Known k) q = q
+  recorded-fits grid stamp (Writes n) (Known k) q = (q .0, tiling-there l shape grid (q .1), q .2)
   recorded-fits grid stamp (Writes n) Unknown q = tt
 
-  state-fits : (t : TextureRecord) (held : Held) → Room (t .grid) (recordGrids t) (t .stamp) (recordStamps t)
-      → SinceFits (sinceOf (foundOf shape t) held) shape (length (l .newest)) (length (l .stamps))
+  state-fits : (t : TextureRecord) (held : Held) → Room (t .shape) (t .grid) (t .stamp) (t .history)
+      → SinceFits (sinceOf (foundOf shape t) held) shape (l .newest) (l .stamps)
   unfolding foundOf
   state-fits t held q = go (sameShape (t .shape) shape) refl
     where
       go : (b : Bool) → sameShape (t .shape) shape ≡ b
-          → SinceFits (sinceOf (cond b (recordedFound (t .grid) (t .stamp) (t .history)) OtherShape) held) shape (length (l .newest)) (length (l .stamps))
+          → SinceFits (sinceOf (cond b (recordedFound (t .grid) (t .stamp) (t .history)) OtherShape) held) shape (l .newest) (l .stamps)
       go true e =
           recorded-fits (t .grid) (t .stamp) (t .history) held
-          (subst (λ (s : VersionShape). Room (t .grid) (recordedGrids (t .history) s) (t .stamp) (recordedStamps (t .history) s)) (same-shape (t .shape) shape e) q)
+          (subst (λ (s : VersionShape). Room s (t .grid) (t .stamp) (t .history)) (same-shape (t .shape) shape e) q)
       go false e = tt
 
   first-in : place < l .pool .tracked
-      → Room (getD (trackedRecords l) place (readTexture []) .grid) (gridCountAt l place) (getD (trackedRecords l) place (readTexture []) .stamp) (stampCountAt l place)
+      → (let t = getD (trackedRecords l) place (readTexture []) in Room (t .shape) (t .grid) (t .stamp) (t .history))
+  unfolding tilingsFit tilingsHold
   first-in h = (
     omega (arith, grids-in l fits place h, grid-held-at l (fits .starts) place h, fits .grids),
+    all-get (tilingsHold l) (trackedRecords l) place (readTexture []) (fits .tilings) (omega (arith, h, tracked-records l)),
     omega (arith, stamps-in l fits place h, stamp-held-at l (fits .starts) place h, fits .stamps-counted),
   )
 
-  pub found-fits : (held : Held) → SinceFits (sinceOf foundIn held) shape (length (l .newest)) (length (l .stamps))
+  pub found-fits : (held : Held) → SinceFits (sinceOf foundIn held) shape (l .newest) (l .stamps)
   unfolding historyFound
   found-fits held = go (hasId (l .textures) (l .pool .tracked) place id) refl
     where
       go : (b : Bool) → hasId (l .textures) (l .pool .tracked) place id ≡ b
-          → SinceFits (sinceOf foundIn held) shape (length (l .newest)) (length (l .stamps))
+          → SinceFits (sinceOf foundIn held) shape (l .newest) (l .stamps)
       go true e = rw (found-state e) (state-fits (getD (trackedRecords l) place (readTexture [])) held (first-in (within e)))
       go false e = rw (found-none (l .textures) (l .pool .tracked) id shape place e) tt

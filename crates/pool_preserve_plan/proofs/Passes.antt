@@ -19,7 +19,7 @@ use Rattle.pool_memory.proofs.Rewritten.{sets-append}
 use Rattle.pool_preserve_plan.specs.declared.copy.Planned.{Planned}
 use Rattle.pool_preserve_plan.specs.declared.copy.Planned.the-variants.{Skipped, Copied}
 use Rattle.pool_preserve_plan.specs.declared.since.Since.{Since}
-use Rattle.pool_preserve_plan.specs.Copies.{sinceAt, plannedAt, copyList, inOrder, copiesAt, lentCopies, withCopies}
+use Rattle.pool_preserve_plan.specs.Copies.{plannedAt, copyList, inOrder, copiesAt, lentCopies, withCopies}
 use Rattle.pool_preserve_plan.proofs.Planned.{IsPlace, slice-of, level-of}
 use Rattle.pool_memory.specs.MemoryConstants.{copyStride}
 
@@ -80,13 +80,12 @@ unfolding copyList
 list-one p region a b e = ap (λ (x : Planned). copyList x a b) e
 
 -- what the code has planned at place k are the k-th subresource's copies
-pub list-at : (newest stamps : List ℕ) (s : VersionShape) (since from : Since) (u : UploadFootprint) (k slice level : ℕ) (p : Planned)
-    → IsPlace (s .levels) k slice level → from ≡ sinceAt s since k → p ≡ plannedAt newest stamps s from u slice level
-    → copyList p slice level ≡ copiesAt newest stamps s since u k
+pub list-at : (newest stamps : List ℕ) (s : VersionShape) (since : Since) (u : UploadFootprint) (k slice level : ℕ) (p : Planned)
+    → IsPlace (s .levels) k slice level → p ≡ plannedAt newest stamps s since u slice level → copyList p slice level ≡ copiesAt newest stamps s since u k
 unfolding copiesAt
-list-at newest stamps s since from u k slice level p at e f =
-    ap (λ (x : Planned). copyList x slice level) (f ∙ ap (λ (x : Since). plannedAt newest stamps s x u slice level) e)
-    ∙ ap₂ (λ (a b : ℕ). copyList (plannedAt newest stamps s (sinceAt s since k) u a b) a b) (slice-of (s .levels) k slice level at) (level-of (s .levels) k slice level at)
+list-at newest stamps s since u k slice level p at f =
+    ap (λ (x : Planned). copyList x slice level) f
+    ∙ ap₂ (λ (a b : ℕ). copyList (plannedAt newest stamps s since u a b) a b) (slice-of (s .levels) k slice level at) (level-of (s .levels) k slice level at)
 
 -- ---- copies written
 

@@ -38,7 +38,7 @@ use Rattle.pool_preserve_plan.specs.declared.copy.Planned.the-variants.{
 use Rattle.pool_preserve_plan.specs.declared.since.Since.{Since}
 use Rattle.pool_preserve_plan.specs.declared.history.Found.{Found}
 use Rattle.pool_preserve_plan.specs.declared.history.Found.the-variants.{OtherShape, NothingRecorded, History}
-use Rattle.pool_preserve_plan.specs.Copies.{sinceAt, boxPlanned, plannedSince, plannedAt, copyList, inOrder, copiesAt, lentCopies, withCopies}
+use Rattle.pool_preserve_plan.specs.Copies.{boxPlanned, plannedSince, plannedAt, copyList, inOrder, copiesAt, lentCopies, withCopies}
 use Rattle.pool_preserve_plan.proofs.Planned.{place-slice}
 use Rattle.pool_preserve_plan.proofs.Passes.{list-most, with-front}
 use Rattle.pool_preserve_plan.proofs.Finding.{historyIn, spent-found, foundIn, plan-found}
@@ -94,7 +94,7 @@ copies-most newest stamps s since u =
     omega (
       arith,
       in-order-most (copiesAt newest stamps s since u) 1
-          (λ k. list-most (plannedAt newest stamps s (sinceAt s since k) u (k / s .levels) (k % s .levels)) (k / s .levels) (k % s .levels)) (gridCount s),
+          (λ k. list-most (plannedAt newest stamps s since u (k / s .levels) (k % s .levels)) (k / s .levels) (k % s .levels)) (gridCount s),
       mul-one (gridCount s),
     )
 
@@ -119,7 +119,7 @@ module _ (l : Lent) (s : VersionShape) where
       ∙ sym (getD-listed (gridRead l s grid stamp) 0 (slicesOf s * s .levels) k noGrid inside)
 
   since-list : (f : Found) (held : Held) (slice level : ℕ) → slice < slicesOf s → level < s .levels
-      → copyList (plannedSince (l .newest) (l .stamps) s (sinceAt s (sinceOf f held) (gridPlace s slice level)) level) slice level
+      → copyList (plannedSince (l .newest) (l .stamps) s (sinceOf f held) slice level) slice level
       ≡ copyOf s (historyIn l s f) held slice level
   unfolding copyList copyOf
   since-list OtherShape held slice level p q = refl
@@ -131,18 +131,15 @@ module _ (l : Lent) (s : VersionShape) where
       ∙ ap (λ (g : StampGrid). boxCopy s slice level (boxSince (tilingOf s level) k g)) (grid-same grid stamp n slice level p q)
 
   module _ (f : Found) (held : Held) (u : UploadFootprint) where
-    abbrev from : ℕ → Since
-    from k = sinceAt s (sinceOf f held) k
-
     at-list : (slice level : ℕ) → slice < slicesOf s → level < s .levels
         → copiesAt (l .newest) (l .stamps) s (sinceOf f held) u (slice * s .levels + level) ≡ cond (covers u slice level) [] (copyOf s (historyIn l s f) held slice level)
     unfolding copiesAt plannedAt copyList
     at-list slice level p q =
-        ap₂ (λ (a b : ℕ). copyList (plannedAt (l .newest) (l .stamps) s (from (slice * s .levels + level)) u a b) a b)
+        ap₂ (λ (a b : ℕ). copyList (plannedAt (l .newest) (l .stamps) s (sinceOf f held) u a b) a b)
         (place-slice slice level (s .levels) q) (place-level slice level (s .levels) q)
         ∙ go (covers u slice level)
       where
-        go : (b : Bool) → copyList (cond b Skipped (plannedSince (l .newest) (l .stamps) s (from (slice * s .levels + level)) level)) slice level
+        go : (b : Bool) → copyList (cond b Skipped (plannedSince (l .newest) (l .stamps) s (sinceOf f held) slice level)) slice level
             ≡ cond b [] (copyOf s (historyIn l s f) held slice level)
         go true = refl
         go false = since-list f held slice level p q

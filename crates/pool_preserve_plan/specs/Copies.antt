@@ -1,7 +1,8 @@
 -- Helper: A plan's copies, read from the lent grids.
-use Prim.Native.Nat.{ℕ, _+_, _*_, _/_, _%_, _≤_, _<_}
+use Prim.Native.Nat.{ℕ, _+_, _*_, _/_, _%_, _≤_}
 use mathlib.Core.Bool.{cond}
 use mathlib.Core.List.{List, [], _∷_, flatMap}
+use lib.ListN.{length}
 use lib.Seq.{sets}
 use Rattle.base_blocks.specs.Lists.{listed}
 use Rattle.base_tables.specs.Records.{flat}
@@ -12,13 +13,15 @@ use Rattle.grid_rects.specs.declared.rect.Region.the-variants.{Whole, Part}
 use Rattle.grid_rects.specs.Rects.{wholeLevel}
 use Rattle.grid_stamps.specs.declared.since.Dirty.{Dirty}
 use Rattle.grid_stamps.specs.declared.since.Dirty.the-variants.{Box, Clean}
-use Rattle.grid_stamps.specs.Grids.{tilingOf, stampCount, boxSince}
+use Rattle.grid_stamps.specs.Grids.{tilingOf, boxSince}
 use Rattle.pool_rules.specs.Model.{PreserveCopy, UploadFootprint, gridCount}
+use Rattle.pool_rules.specs.Histories.{gridPlace}
 use Rattle.pool_rules.specs.HistorySizes.{gridStart, historySize}
 use Rattle.pool_rules.specs.PreservePlan.{sameRect, covers}
 use Rattle.pool_rules.specs.RuleConstants.{gridStride}
 use Rattle.pool_memory.specs.Reading.{gridOn}
 use Rattle.pool_memory.specs.Calls.{copyNumbers}
+use Rattle.pool_history.specs.Remade.{TilingsAt}
 use Rattle.pool_preserve_plan.specs.declared.copy.Planned.{Planned}
 use Rattle.pool_preserve_plan.specs.declared.copy.Planned.the-variants.{Skipped, Copied}
 use Rattle.pool_preserve_plan.specs.declared.since.Since.{Since}
@@ -31,25 +34,11 @@ footprint u = record { slice = u .slice; level = u .level; cover = u .cover }
 
 -- ---- where the grids stand
 
--- the numbers of a history's grids are there, two for each, and so are their stamps
-abbrev pub SinceFits : Since → VersionShape → ℕ → ℕ → Type 0
+-- the numbers of a history's grids are there, each grid's tiling beside its newest stamp, and so are their stamps
+abbrev pub SinceFits : Since → VersionShape → List ℕ → List ℕ → Type 0
 SinceFits Nothing s newest stamps = Unit
-SinceFits (After grid stamp held) s newest stamps = (grid + gridStride * gridCount s ≤ newest) × (stamp + historySize s ≤ stamps)
-
--- those of one grid of so many stamps are
-abbrev pub GridFits : Since → ℕ → ℕ → ℕ → Type 0
-GridFits Nothing count newest stamps = Unit
-GridFits (After grid stamp held) count newest stamps = (grid + gridStride ≤ newest) × (stamp + count ≤ stamps)
-
--- what bounds the copies from the k-th grid on
-abbrev pub sinceAt : VersionShape → Since → ℕ → Since
-sinceAt s Nothing k = Nothing
-sinceAt s (After grid stamp held) k = After (grid + gridStride * k) (stamp + gridStart s k) held
-
--- and after the grid of a level
-abbrev pub nextSince : VersionShape → ℕ → Since → Since
-nextSince s level Nothing = Nothing
-nextSince s level (After grid stamp held) = After (grid + gridStride) (stamp + stampCount (tilingOf s level)) held
+SinceFits (After grid stamp held) s newest stamps =
+    (grid + gridStride * gridCount s ≤ length newest) × TilingsAt newest grid s × (stamp + historySize s ≤ length stamps)
 
 -- ---- one subresource
 
@@ -59,14 +48,15 @@ boxPlanned s level Clean = Skipped
 boxPlanned s level (Box r) = Copied (cond (sameRect r (wholeLevel (levelWidth s level) (levelHeight s level))) Whole (Part r))
 
 -- whole where nothing is known, otherwise the box since the held writes
-abbrev pub plannedSince : List ℕ → List ℕ → VersionShape → Since → ℕ → Planned
-plannedSince newest stamps s Nothing level = Copied Whole
-plannedSince newest stamps s (After grid stamp held) level =
-    boxPlanned s level (boxSince (tilingOf s level) held (gridOn s level newest stamps grid stamp))
+abbrev pub plannedSince : List ℕ → List ℕ → VersionShape → Since → ℕ → ℕ → Planned
+plannedSince newest stamps s Nothing slice level = Copied Whole
+plannedSince newest stamps s (After grid stamp held) slice level =
+    let k = gridPlace s slice level in
+    boxPlanned s level (boxSince (tilingOf s level) held (gridOn s level newest stamps (grid + gridStride * k) (stamp + gridStart s k)))
 
 -- left out where the upload rewrites it entirely
 unfoldable pub plannedAt : List ℕ → List ℕ → VersionShape → Since → UploadFootprint → ℕ → ℕ → Planned
-plannedAt newest stamps s since u slice level = cond (covers u slice level) Skipped (plannedSince newest stamps s since level)
+plannedAt newest stamps s since u slice level = cond (covers u slice level) Skipped (plannedSince newest stamps s since slice level)
 
 abbrev pub copyNumbersOf : ℕ → ℕ → Region → List ℕ
 copyNumbersOf slice level region = copyNumbers (record { slice = slice; level = level; region = region })
@@ -85,7 +75,7 @@ inOrder f n = flatMap f (listed (λ (k : ℕ). k) 0 n)
 -- those of the k-th subresource: slice by slice, level by level
 unfoldable pub copiesAt : List ℕ → List ℕ → VersionShape → Since → UploadFootprint → ℕ → List PreserveCopy
 copiesAt newest stamps s since u k =
-    copyList (plannedAt newest stamps s (sinceAt s since k) u (k / s .levels) (k % s .levels)) (k / s .levels) (k % s .levels)
+    copyList (plannedAt newest stamps s since u (k / s .levels) (k % s .levels)) (k / s .levels) (k % s .levels)
 
 unfoldable pub lentCopies : List ℕ → List ℕ → VersionShape → Since → UploadFootprint → List PreserveCopy
 lentCopies newest stamps s since u = inOrder (copiesAt newest stamps s since u) (gridCount s)

@@ -1,13 +1,12 @@
 // One subresource's copy.
 ghost use mathlib.Core.Path.{_≡_};
-ghost use mathlib.Core.Bool.{true, cond};
-ghost use lib.ListN.{length};
+ghost use mathlib.Core.Bool.{true};
+ghost use Prim.Native.Nat.{_<_};
 ghost use Rattle.grid_shapes.specs.Shapes.{isShape};
-ghost use Rattle.grid_rects.specs.declared.rect.Region.the-variants.{Whole};
-ghost use Rattle.grid_stamps.specs.Grids.{tilingOf, stampCount};
+ghost use Rattle.pool_rules.specs.Histories.{gridPlace};
+ghost use Rattle.pool_rules.specs.Model.{gridCount};
 ghost use Rattle.pool_rules.specs.PreservePlan.{sameRect};
-ghost use Rattle.pool_preserve_plan.specs.declared.copy.Planned.the-variants.{Skipped, Copied};
-ghost use Rattle.pool_preserve_plan.specs.Copies.{boxPlanned, GridFits, footprint, plannedAt, nextSince, copyNumbersOf};
+ghost use Rattle.pool_preserve_plan.specs.Copies.{boxPlanned, SinceFits, footprint, plannedAt, copyNumbersOf};
 use crate::since::Since;
 use crate::since::Upload;
 use grid_rects::Region;
@@ -16,10 +15,11 @@ use grid_rects::level_rect;
 use grid_shapes::VersionShape;
 use grid_shapes::level_extent;
 use grid_stamps::Dirty;
-use grid_stamps::across_axis;
-use grid_stamps::down_axis;
 use grid_stamps::stamp_count;
 use grid_views::written_since;
+use pool_access::across_at;
+use pool_access::down_at;
+use pool_access::start_at;
 use pool_memory::COPY_STRIDE;
 use pool_rules::GRID_STRIDE;
 
@@ -27,12 +27,6 @@ use pool_rules::GRID_STRIDE;
 pub enum Planned {
     Skipped,
     Copied(Region),
-}
-
-// A subresource's copy, and what bounds the copies after it.
-pub struct Step {
-    pub planned: Planned,
-    pub since: Since,
 }
 
 // Tells whether two rectangles are equal.
@@ -57,21 +51,10 @@ fn box_planned(shape: VersionShape, level: u64, dirty: Dirty) -> Planned
     Planned::Copied(Region::Part(part))
 }
 
-// Plans the copy where nothing is known: whole, unless the upload rewrites the level entirely.
-fn copy_unknown(covered: bool) -> Planned
-    ensures { λ r. ⌜ r ≡ cond covered Skipped (Copied Whole) ⌝ }
-{
-    if covered {
-        return Planned::Skipped;
-    }
-    Planned::Copied(Region::Whole)
-}
-
-// Plans the copy of a slice's level: none where the upload rewrites it entirely, whole where nothing is known, otherwise the box of
-// what was written after the new version retired. A box that the upload's rectangle covers is copied still: the upload can decline
-// after the rename, and the version must be whole without it. The level's axes are worked out rather than read beside its newest
-// stamp: they also say where the next grid's stamps begin, which is where this one's end. Where no grid is to come (`more`), a level
-// that is left out needs none.
+// Plans the copy of a slice's level, the k-th of the plan: none where the upload rewrites it entirely, whole where nothing is known,
+// otherwise the box of what was written after the new version retired. A box that the upload's rectangle covers is copied still: the
+// upload can decline after the rename, and the version must be whole without it. A level whose newest stamp is at most `held` is left
+// out at once; of any other, where its stamps begin and its tiles' edges stand beside that stamp.
 pub fn copy_at(
     newest: &[u64],
     stamps: &[u64],
@@ -80,45 +63,29 @@ pub fn copy_at(
     upload: Upload,
     slice: u64,
     level: u64,
-    more: bool,
-) -> Step
-    requires { ⌜ (isShape shape ≡ true) × GridFits since (stampCount (tilingOf shape level)) (length (now newest)) (length (now stamps)) ⌝ }
-    ensures { λ r. ⌜ (r .planned ≡ plannedAt (now (newest .entry)) (now (stamps .entry)) shape since (footprint upload) slice level)
-        × (more ≡ true → r .since ≡ nextSince shape level since) ⌝ }
+    k: usize,
+) -> Planned
+    requires { ⌜ (isShape shape ≡ true) × SinceFits since shape (now newest) (now stamps) × (k < gridCount shape) × (level < shape .levels)
+        × (k ≡ gridPlace shape slice level) ⌝ }
+    ensures { λ r. ⌜ r ≡ plannedAt (now (newest .entry)) (now (stamps .entry)) shape since (footprint upload) slice level ⌝ }
 {
     let covered = upload.cover & ((slice == upload.slice) & (level == upload.level));
-    let Since::After { grid, stamp, held } = since else {
-        return Step {
-            planned: copy_unknown(covered),
-            since: Since::Nothing,
-        };
-    };
-    if covered & !more {
-        return Step {
-            planned: Planned::Skipped,
-            since,
-        };
-    }
-    let across = across_axis(shape, level);
-    let down = down_axis(shape, level);
-    let end = stamp + stamp_count(across, down) as usize;
-    let next = Since::After {
-        grid: grid + GRID_STRIDE,
-        stamp: end,
-        held,
-    };
     if covered {
-        return Step {
-            planned: Planned::Skipped,
-            since: next,
-        };
+        return Planned::Skipped;
     }
-    let dirty = written_since(&stamps[stamp..end], across, down, newest[grid], held);
-    let planned = box_planned(shape, level, dirty);
-    Step {
-        planned,
-        since: next,
+    let Since::After { grid, stamp, held } = since else {
+        return Planned::Copied(Region::Whole);
+    };
+    let p = grid + GRID_STRIDE * k;
+    if newest[p] <= held {
+        return Planned::Skipped;
     }
+    let start = stamp + start_at(newest, p);
+    let across = across_at(newest, p, shape, level);
+    let down = down_at(newest, p, shape, level);
+    let end = start + stamp_count(across, down) as usize;
+    let dirty = written_since(&stamps[start..end], across, down, newest[p], held);
+    box_planned(shape, level, dirty)
 }
 
 // Returns the seven numbers of a copy: slice, level, whole or not, left, top, width, height.

@@ -32,29 +32,17 @@ pub fn count_copies(
     since: Since,
     upload: Upload,
 ) -> usize
-    requires { ⌜ (isShape shape ≡ true) × SinceFits since shape (length (now newest)) (length (now stamps)) ⌝ }
+    requires { ⌜ (isShape shape ≡ true) × SinceFits since shape (now newest) (now stamps) ⌝ }
     ensures { λ r. ⌜ r ≡ length (lentCopies (now (newest .entry)) (now (stamps .entry)) shape since (footprint upload)) ⌝ }
 {
     let all = shape_grids(shape);
     let levels = shape.levels;
-    let mut from = since;
     let mut at = Subresource { slice: 0, level: 0 };
     let mut count = 0;
     let mut k = 0;
     while k < all {
-        let step = copy_at(
-            newest,
-            stamps,
-            shape,
-            from,
-            upload,
-            at.slice,
-            at.level,
-            k + 1 < all,
-        );
-        let planned = step.planned;
+        let planned = copy_at(newest, stamps, shape, since, upload, at.slice, at.level, k);
         count += copy_count(planned);
-        from = step.since;
         at = next_subresource(at, levels);
         k += 1;
     }

@@ -54,8 +54,8 @@ pub fn find_history(textures: &[u64], tracked: usize, id: u64, shape: VersionSha
     }
 }
 
-// Returns what bounds the copies from that grid on, where the held writes are known: a spare of unknown contents gets every level
-// whole.
+// Returns what bounds the copies by the history that begins there, where the held writes are known: a spare of unknown contents gets
+// every level whole.
 fn since_held(grid: usize, stamp: usize, held: Held) -> Since
     ensures { λ r. ⌜ r ≡ sinceHeld grid stamp held ⌝ }
 {

@@ -27,7 +27,7 @@ fn is_short(
     upload: Upload,
     room: usize,
 ) -> bool
-    requires { ⌜ (isShape shape ≡ true) × SinceFits since shape (length (now newest)) (length (now stamps)) ⌝ }
+    requires { ⌜ (isShape shape ≡ true) × SinceFits since shape (now newest) (now stamps) ⌝ }
     ensures { λ r. ⌜ r ≡ ltb room (length (lentCopies (now (newest .entry)) (now (stamps .entry)) shape since (footprint upload))) ⌝ }
 {
     if shape_grids(shape) <= room {
@@ -55,7 +55,7 @@ pub fn plan_refusal(
     upload: Upload,
     room: usize,
 ) -> u64
-    requires { ⌜ SinceFits since shape (length (now newest)) (length (now stamps)) ⌝ }
+    requires { ⌜ SinceFits since shape (now newest) (now stamps) ⌝ }
     ensures { λ r. ⌜ r ≡ planRefusal shape found (footprint upload)
         (length (lentCopies (now (newest .entry)) (now (stamps .entry)) shape since (footprint upload))) room ⌝ }
 {

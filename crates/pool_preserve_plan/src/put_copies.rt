@@ -41,7 +41,7 @@ pub fn put_copies(
     since: Since,
     upload: Upload,
 ) -> usize
-    requires { ⌜ (isShape shape ≡ true) × SinceFits since shape (length (now newest)) (length (now stamps))
+    requires { ⌜ (isShape shape ≡ true) × SinceFits since shape (now newest) (now stamps)
         × (copyStride * length (lentCopies (now newest) (now stamps) shape since (footprint upload)) ≤ length (now buffer)) ⌝ }
     ensures { λ r. ⌜ (r ≡ length (lentCopies (now (newest .entry)) (now (stamps .entry)) shape since (footprint upload)))
         × (now (buffer .exit)
@@ -49,24 +49,12 @@ pub fn put_copies(
 {
     let all = shape_grids(shape);
     let levels = shape.levels;
-    let mut from = since;
     let mut at = Subresource { slice: 0, level: 0 };
     let mut count = 0;
     let mut k = 0;
     while k < all {
-        let step = copy_at(
-            newest,
-            stamps,
-            shape,
-            from,
-            upload,
-            at.slice,
-            at.level,
-            k + 1 < all,
-        );
-        let planned = step.planned;
+        let planned = copy_at(newest, stamps, shape, since, upload, at.slice, at.level, k);
         count = put_copy(buffer, count, planned, at.slice, at.level);
-        from = step.since;
         at = next_subresource(at, levels);
         k += 1;
     }

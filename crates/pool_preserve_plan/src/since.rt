@@ -1,7 +1,7 @@
 // What a plan goes by.
 
-// What bounds the copies, where both are known: where the two numbers of the next grid of the texture's history stand in `newest` and
-// where its stamps begin, and the writes that the new version holds.
+// What bounds the copies, where both are known: where the texture's history begins in `newest` and in the stamps, and the writes that
+// the new version holds.
 pub enum Since {
     After {
         grid: usize,

@@ -1,24 +1,15 @@
 -- The numbers of a new history's grids, written grid by grid: each grid's tiling, and the run of them one longer. Assumes nothing.
-use mathlib.Core.Path.{_≡_, refl, sym, ap, ap₂, _∙_, subst}
-use mathlib.Core.Bool.{true}
+use mathlib.Core.Path.{_≡_, refl, sym, ap, ap₂, _∙_}
 use mathlib.Core.List.{List, [], _∷_, _++_}
-use Prim.Native.Nat.{ℕ, zero, suc, _+_, _*_, _%_, _≤_, _<_}
+use Prim.Native.Nat.{ℕ, zero, suc, _+_, _*_}
 use native.Mathlib.Nat.{add-zero, zero-add}
 use native.Mathlib.Numerals.{add-one}
 use native.Mathlib.Omega.{arith}
 use lib.ListN.{length, set}
 use lib.Seq.{sets}
 use Rattle.grid_shapes.specs.declared.shape.VersionShape.{VersionShape}
-use Rattle.grid_shapes.specs.Shapes.{isShape}
-use Rattle.grid_stamps.specs.Grids.{Tiling, tilingOf, stampCount}
-use Rattle.grid_stamps.specs.StampConstants.{pageStamps}
-use Rattle.pool_rules.specs.Model.{gridCount}
-use Rattle.pool_rules.specs.RuleConstants.{gridStride, mostGrids}
-use Rattle.pool_rules.specs.HistorySizes.{gridSize, gridStart}
-use Rattle.pool_rules.proofs.HistorySizes.{grid-next, grid-end, history-most}
-use Rattle.pool_records.specs.declared.tiling.GridTiling.{GridTiling}
-use Rattle.pool_records.specs.Tilings.{packedTiling, TilingFits, gridTiling, tilingNumber, freshFrom}
-use Rattle.pool_records.proofs.Tilings.{tiling-fits}
+use Rattle.pool_rules.specs.RuleConstants.{gridStride}
+use Rattle.pool_records.specs.Tilings.{tilingNumber, freshFrom}
 use Rattle.pool_memory.proofs.Rewritten.{sets-append}
 
 module _ (s : VersionShape) where
@@ -53,34 +44,3 @@ module _ (s : VersionShape) where
       ∙ sym (sets-append l at (freshFrom s 0 k) (0 ∷ (tilingNumber s (0 + k) ∷ [])))
       ∙ ap (sets l at) (sym (fresh-more 0 k))
       ∙ ap (λ (n : ℕ). sets l at (freshFrom s 0 n)) (sym (add-one k))
-
-  -- ---- where the grids begin
-
-  pub begins-next : (k count : ℕ) → k < gridCount s → count ≡ stampCount (tilingOf s (k % s .levels)) → gridStart s (k + 1) ≡ gridStart s k + count
-  unfolding gridSize
-  begins-next k count h e = omega (arith, e, grid-next s k h, ap (gridStart s) (add-one k))
-
-  -- ---- the k-th grid's tiling, as the code has it
-
-  module _ (k start : ℕ) (g : Tiling) (begins : start ≡ gridStart s k) (across : g .across ≡ tilingOf s (k % s .levels) .across)
-      (down : g .down ≡ tilingOf s (k % s .levels) .down) where
-    abbrev made : GridTiling
-    made = record { start = start; across = g .across .edge; down = g .down .edge }
-
-    made-is : made ≡ gridTiling s k
-    unfolding gridTiling
-    made-is = λ j. record { start = begins j; across = across j .edge; down = down j .edge }
-
-    pub made-number : packedTiling made ≡ tilingNumber s k
-    unfolding tilingNumber
-    made-number = ap packedTiling made-is
-
-    module _ (shaped : isShape s ≡ true) (h : k < gridCount s) where
-      pub made-fits : TilingFits made
-      made-fits = subst TilingFits (sym made-is) (tiling-fits s shaped k h)
-
-  -- the sum stays within a history's stamps
-  module _ (shaped : isShape s ≡ true) where
-    pub start-bound : (k count : ℕ) → k < gridCount s → count ≡ stampCount (tilingOf s (k % s .levels)) → gridStart s k + count ≤ pageStamps * mostGrids
-    unfolding gridSize
-    start-bound k count h e = omega (arith, e, grid-end s k h, history-most s shaped)

@@ -11,34 +11,26 @@ ghost use Rattle.pool_rules.specs.RuleConstants.{gridStride};
 ghost use Rattle.pool_records.specs.Tilings.{freshFrom};
 use crate::blocks::move_block;
 use grid_shapes::VersionShape;
-use grid_stamps::across_axis;
-use grid_stamps::down_axis;
-use grid_stamps::stamp_count;
-use pool_records::GridTiling;
-use pool_records::tiling_number;
+use pool_access::slice_tilings;
 use pool_rules::GRID_STRIDE;
 
-// Writes the numbers of the first n grids of a new history from index `at` on. Each grid's stamps begin where those of the one
-// before it end, so that no grid needs a look at the levels before it.
+// Writes the numbers of the first n grids of a new history from index `at` on. A slice's grids begin where those of the slice before it
+// end, so that no grid needs a look at the levels before it. Where no history begins, no table is read.
 fn put_tilings(newest: &mut [u64], at: usize, n: usize, shape: VersionShape)
     requires { ⌜ (isShape shape ≡ true) × (n ≤ gridCount shape) × (at + gridStride * n ≤ length (now newest)) ⌝ }
     ensures { λ _. ⌜ now (newest .exit) ≡ sets (now (newest .entry)) at (freshFrom shape 0 n) ⌝ }
 {
-    let mut start = 0;
+    if n == 0 {
+        return;
+    }
+    let slice = slice_tilings(shape);
     let mut k = 0;
     while k < n {
         let level = k as u64 % shape.levels;
-        let across = across_axis(shape, level);
-        let down = down_axis(shape, level);
-        let tiling = tiling_number(GridTiling {
-            start,
-            across: across.edge,
-            down: down.edge,
-        });
+        let before = k as u64 / shape.levels * slice.stamps;
         let p = at + GRID_STRIDE * k;
         newest[p] = 0;
-        newest[p + 1] = tiling;
-        start += stamp_count(across, down);
+        newest[p + 1] = before + slice.levels[level as usize];
         k += 1;
     }
 }

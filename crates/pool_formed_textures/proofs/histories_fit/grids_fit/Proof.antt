@@ -19,28 +19,28 @@ use Rattle.pool_formed_textures.proofs.histories_fit.grids_fit.Statemen
 use Rattle.pool_formed_textures.proofs.histories_fit.grids_fit.Tie as tie
 
 abbrev Inv-loop : tie.InvT-loop
-Inv-loop s writes newest stamps n at₀ k₀ at k =
+Inv-loop edges s writes newest stamps n at₀ k₀ at k =
     (k ≤ n) × (at ≤ length stamps) × (at ≡ gridStart s k)
     × (all (isGrid writes) (left (ownGrid s newest stamps) n k) ≡ all (isGrid writes) (listed (ownGrid s newest stamps) 0 n))
     × (all (ownTiling s newest) (left place n k) ≡ all (ownTiling s newest) (listed place 0 n))
 
 abbrev μ-loop : tie.MeasureT-loop
-μ-loop s writes newest stamps n at₀ k₀ at k = n - k
+μ-loop edges s writes newest stamps n at₀ k₀ at k = n - k
 
 shape-grids-requires : tie.Need-shape-grids-requires Inv-loop μ-loop
-shape-grids-requires c κs = omega (arith, grids-most (c .before .before .args .s) (c .before .before .pre))
+shape-grids-requires c κs = omega (arith, grids-most (c .before .before .before .args .s) (c .before .before .before .pre .0))
 
 mul-if1 : tie.Need-mul-if1 Inv-loop μ-loop
-mul-if1 c = omega (arith, c .shape-grids .ensures, grids-most (c .before .before .before .args .s) (c .before .before .before .pre))
+mul-if1 c = omega (arith, c .shape-grids .ensures, grids-most (c .before .before .before .before .args .s) (c .before .before .before .before .pre .0))
 
 returns : tie.Need-returns Inv-loop μ-loop
 returns c =
-    let a = c .before .before .before .before .args in
+    let a = c .before .before .before .before .before .args in
     sym (grids-few (a .s) (a .writes) (a .newest .now) (a .stamps .now) _ (c .before .shape-grids .ensures) (c .if1 .taken))
 
 loop-holds : tie.Need-loop-holds Inv-loop μ-loop
 loop-holds c =
-    let a = c .before .before .before .before .args in (
+    let a = c .before .before .before .before .before .args in (
       search needs,
       search needs,
       sym (grid-first (a .s)),
@@ -49,7 +49,7 @@ loop-holds c =
     )
 
 rem-level : tie.Need-rem-level Inv-loop μ-loop
-rem-level c = omega (arith, shape-bounds (c .before .before .before .before .before .before .before .args .s) (c .before .before .before .before .before .before .before .pre) .levels-pos)
+rem-level c = omega (arith, shape-bounds (c .before .before .before .before .before .before .before .before .args .s) (c .before .before .before .before .before .before .before .before .pre .0) .levels-pos)
 
 across-axis-requires : tie.Need-across-axis-requires Inv-loop μ-loop
 across-axis-requires c κs = search needs
@@ -58,14 +58,14 @@ down-axis-requires : tie.Need-down-axis-requires Inv-loop μ-loop
 down-axis-requires c κs = search needs
 
 stamp-count-requires : tie.Need-stamp-count-requires Inv-loop μ-loop
-stamp-count-requires c κs = axes-ready (c .before .before .before .before .before .before .before .before .before .args .s) _ _ _ (c .before .across-axis .ensures) (c .down-axis .ensures) (c .before .before .before .before .before .before .before .before .before .pre)
+stamp-count-requires c κs = axes-ready (c .before .before .before .before .before .before .before .before .before .before .args .s) _ _ _ (c .before .across-axis .ensures) (c .down-axis .ensures) (c .before .before .before .before .before .before .before .before .before .before .pre .0)
 
 sub-if2 : tie.Need-sub-if2 Inv-loop μ-loop
 sub-if2 c = search needs
 
 returns-2 : tie.Need-returns-2 Inv-loop μ-loop
 returns-2 c =
-    let a = c .before .before .before .before .before .before .before .before .before .before .before .args in
+    let a = c .before .before .before .before .before .before .before .before .before .before .before .before .args in
     let l = c .before .before .before .before .before .before .loop in
     let t = tiling-same (a .s) _ _ _ (c .before .before .before .across-axis .ensures) (c .before .before .down-axis .ensures) in
     let q : l .k < gridCount (a .s) = omega (arith, c .before .before .before .before .before .loop-test .taken, c .before .before .before .before .before .before .before .before .shape-grids .ensures) in
@@ -85,14 +85,14 @@ shared-slice-read-tiling-fits c = search needs
 
 tiling-fits-requires : tie.Need-tiling-fits-requires Inv-loop μ-loop
 tiling-fits-requires c κs =
-    let z = c .before .before .before .before .before .before .before .before .before .before .before .before in
+    let z = c .before .before .before .before .before .before .before .before .before .before .before .before .before in
     let l = c .before .before .before .before .before .before .before .loop in
     let q : l .k < gridCount (z .args .s) = omega (arith, c .before .before .before .before .before .before .loop-test .taken, c .before .before .before .before .before .before .before .before .before .shape-grids .ensures) in
-    tiling-ready (z .args .s) (l .k) (l .at) _ _ (c .before .before .before .before .across-axis .ensures) (c .before .before .before .down-axis .ensures) (l .inv .2) (z .pre) q
+    tiling-ready (z .args .s) (l .k) (l .at) _ _ (c .before .before .before .before .across-axis .ensures) (c .before .before .before .down-axis .ensures) (l .inv .2) (z .pre .0) q
 
 returns-3 : tie.Need-returns-3 Inv-loop μ-loop
 returns-3 c =
-    let a = c .before .before .before .before .before .before .before .before .before .before .before .before .before .before .args in
+    let a = c .before .before .before .before .before .before .before .before .before .before .before .before .before .before .before .args in
     let l = c .before .before .before .before .before .before .before .before .before .loop in
     let t = tiling-test (a .s) (l .k) (l .at) _ _ (c .before .before .before .before .before .before .across-axis .ensures) (c .before .before .before .before .before .down-axis .ensures) (l .inv .2) (a .newest .now) in
     let f = sym t ∙ sym (c .before .tiling-fits .ensures) ∙ not-true _ (c .if3 .taken) in
@@ -108,7 +108,7 @@ shared-slice-read-grid-fits : tie.Need-shared-slice-read-grid-fits Inv-loop μ-l
 shared-slice-read-grid-fits c = search needs
 
 mul-grid-fits-3 : tie.Need-mul-grid-fits-3 Inv-loop μ-loop
-mul-grid-fits-3 c = search needs
+mul-grid-fits-3 c = omega (arith, c .before .before .before .before .before .before .before .before .before .before .loop .inv .1, c .before .before .before .before .before .before .before .before .before .before .before .before .before .before .before .before .good)
 
 sub-grid-fits : tie.Need-sub-grid-fits Inv-loop μ-loop
 sub-grid-fits c = search needs
@@ -121,13 +121,13 @@ part-grid-fits-end c = search needs
 
 grid-fits-requires : tie.Need-grid-fits-requires Inv-loop μ-loop
 grid-fits-requires c κs =
-    let z = c .before .before .before .before .before .before .before .before .before .before .before .before .before .before .before .before in
+    let z = c .before .before .before .before .before .before .before .before .before .before .before .before .before .before .before .before .before in
     let t = c .before .before .before .before .before .before .before .before .before .before .before .loop .at in
-    grid-ready (z .args .s) _ _ _ (c .before .before .before .before .before .before .before .before .across-axis .ensures) (c .before .before .before .before .before .before .before .down-axis .ensures) (z .args .stamps .now) t _ (z .pre) (c .before .before .before .before .before .before .stamp-count .ensures) (c .before .before .before .before .before .if2 .left)
+    grid-ready (z .args .s) _ _ _ (c .before .before .before .before .before .before .before .before .across-axis .ensures) (c .before .before .before .before .before .before .before .down-axis .ensures) (z .args .stamps .now) t _ (z .pre .0) (c .before .before .before .before .before .before .stamp-count .ensures) (c .before .before .before .before .before .if2 .left)
 
 returns-4 : tie.Need-returns-4 Inv-loop μ-loop
 returns-4 c =
-    let a = c .before .before .before .before .before .before .before .before .before .before .before .before .before .before .before .before .before .before .args in
+    let a = c .before .before .before .before .before .before .before .before .before .before .before .before .before .before .before .before .before .before .before .args in
     let l = c .before .before .before .before .before .before .before .before .before .before .before .before .before .loop in
     let t = tiling-same (a .s) _ _ _ (c .before .before .before .before .before .before .before .before .before .before .across-axis .ensures) (c .before .before .before .before .before .before .before .before .before .down-axis .ensures) in
     let f = sym (grid-here (a .s) (a .writes) (a .newest .now) (a .stamps .now) (l .k) (l .at) _ t (l .inv .2)) ∙ sym (c .before .grid-fits .ensures) ∙ not-true _ (c .if4 .taken) in
@@ -135,12 +135,12 @@ returns-4 c =
 
 add-at : tie.Need-add-at Inv-loop μ-loop
 add-at c =
-    let z = c .before .before .before .before .before .before .before .before .before .before .before .before .before .before .before .before .before .before in
+    let z = c .before .before .before .before .before .before .before .before .before .before .before .before .before .before .before .before .before .before .before in
     let a = z .args in
     let l = c .before .before .before .before .before .before .before .before .before .before .before .before .before .loop in
     let t = tiling-same (a .s) _ _ _ (c .before .before .before .before .before .before .before .before .before .before .across-axis .ensures) (c .before .before .before .before .before .before .before .before .before .down-axis .ensures) in
     let q : l .k < gridCount (a .s) = omega (arith, c .before .before .before .before .before .before .before .before .before .before .before .before .loop-test .taken, c .before .before .before .before .before .before .before .before .before .before .before .before .before .before .before .shape-grids .ensures) in
-    omega (arith, next-room (a .s) (a .writes) (a .newest .now) (a .stamps .now) (l .k) (l .at) _ _ (z .pre) q (l .inv .2) (c .before .before .before .before .before .before .before .before .stamp-count .ensures) t)
+    omega (arith, next-room (a .s) (a .writes) (a .newest .now) (a .stamps .now) (l .k) (l .at) _ _ (z .pre .0) q (l .inv .2) (c .before .before .before .before .before .before .before .before .stamp-count .ensures) t)
 
 add-k : tie.Need-add-k Inv-loop μ-loop
 add-k c = search needs
@@ -150,7 +150,7 @@ loop-less c = search needs
 
 loop-again : tie.Need-loop-again Inv-loop μ-loop
 loop-again c =
-    let a = c .before .before .before .before .before .before .before .before .before .before .before .before .before .before .before .before .before .before .args in
+    let a = c .before .before .before .before .before .before .before .before .before .before .before .before .before .before .before .before .before .before .before .args in
     let l = c .before .before .before .before .before .before .before .before .before .before .before .before .before .loop in
     let ea = c .before .before .before .before .before .before .before .before .before .before .across-axis .ensures in
     let ed = c .before .before .before .before .before .before .before .before .before .down-axis .ensures in
@@ -168,7 +168,7 @@ loop-again c =
 
 returns-5 : tie.Need-returns-5 Inv-loop μ-loop
 returns-5 c =
-    let a = c .before .before .before .before .before .before .args in
+    let a = c .before .before .before .before .before .before .before .args in
     let l = c .before .loop in
     grids-done (a .s) (a .writes) (a .newest .now) (a .stamps .now) _ (l .k) (c .before .before .before .shape-grids .ensures) (l .inv .3) (l .inv .4) (l .at) (c .before .before .if1 .left) (c .loop-test .left) (l .inv .0) (l .inv .2)
 

@@ -11,19 +11,22 @@ use Rattle.pool_history.proofs.grids.regenerate_grid.Statement.{stateme
 use Rattle.pool_history.proofs.grids.regenerate_grid.Tie as tie
 use Rattle.pool_memory.specs.Reading.{gridOn}
 
-level-stamps-requires : tie.Need-level-stamps-requires
-level-stamps-requires c κs = search needs
+stamps-at-requires : tie.Need-stamps-at-requires
+stamps-at-requires c κs = search needs
 
 add-result : tie.Need-add-result
 add-result c = search needs
 
+same-length : tie.Need-same-length
+same-length c = search needs
+
 returns : tie.Need-returns
 returns c =
-    let s = c .before .before .before .before in
+    let s = c .before .before .before .before .before in
     let a = s .args in
     let g = gridOn (a .shape) (a .level) (a .newest .now) (a .stamps .now) (a .p) (a .at) in
-    let e = sym (remade-first (a .shape) (a .n) (a .level) g (c .before .if1 .taken)) in (
-      ap (λ (i : ℕ). a .at + i) (c .level-stamps .ensures),
+    let e = sym (remade-first (a .shape) (a .n) (a .level) g (c .before .before .if1 .taken)) in (
+      ap (λ (i : ℕ). a .at + i) (c .stamps-at .ensures),
       newest-stands (a .shape) (s .pre .0) (a .level) (a .newest .now) (a .stamps .now) (a .p) (a .at) (s .pre .3) ∙ ap (λ (x : StampGrid). set (a .newest .now) (a .p) (x .newest)) e,
       stamps-stand (a .shape) (s .pre .0) (a .level) (a .newest .now) (a .stamps .now) (a .p) (a .at) (s .pre .3) ∙ ap (λ (x : StampGrid). sets (a .stamps .now) (a .at) (x .stamps)) e,
     )
@@ -40,11 +43,11 @@ level-rect-requires c κs = search needs
 stamp-grid-requires : tie.Need-stamp-grid-requires
 stamp-grid-requires c κs = search needs
 
-same-length : tie.Need-same-length
-same-length c = search needs
-
 same-length-2 : tie.Need-same-length-2
 same-length-2 c = search needs
+
+same-length-3 : tie.Need-same-length-3
+same-length-3 c = search needs
 
 returns-2 : tie.Need-returns-2
 returns-2 c =
@@ -64,13 +67,14 @@ pub regenerate-grid-spec : {M : Type 1} → statement M
 regenerate-grid-spec =
     tie.close
     (tie.spec
-    level-stamps-requires
+    stamps-at-requires
     add-result
+    same-length
     returns
     level-extent-requires
     level-extent-requires-2
     level-rect-requires
     stamp-grid-requires
-    same-length
     same-length-2
+    same-length-3
     returns-2)
