@@ -1,5 +1,5 @@
 //! Leaf questions: one call of a small function each, answered by the published code. The bytes of a copy, which it lacks, are answered by
-//! `copies`.
+//! `copies`; the tables of tile edges, which it lacks too, by its `tile_edge` at the extents of an entry.
 //!
 //! README.md has the grammar. A second program, in another language, answers the same questions, so the
 //! words and the order of fields are fixed.
@@ -21,17 +21,45 @@ const LAST_LEVEL: u32 = 14;
 /// The largest extent of a level.
 const WIDEST: u32 = 16_384;
 
+/// The last index of a table of tile edges (02, W-204).
+const LAST_ENTRY: u64 = 512;
+
+/// How many extents have the same index.
+const EXTENTS_OF_AN_ENTRY: u32 = 32;
+
 /// An answer's fields: numbers, or "-" for no box.
 type Answer = Vec<Option<u64>>;
 
-/// Answers one question, with its line feed.
-pub fn answer(line: &[u8], out: &mut Vec<u8>) {
-    answer_by(copies::bytes, line, out);
+/// Returns the tile edge along an axis of an extent, the first number, in blocks of an edge, the second.
+pub type TileEdge<'a> = &'a dyn Fn(u32, u32) -> u32;
+
+/// Returns an entry of a table of tile edges by the block's edge and the index, none if there is no such table or entry.
+pub type TableEntry<'a> = &'a dyn Fn(u64, u64) -> Option<u32>;
+
+/// Holds the functions that a test may replace by wrong ones, to see what the lists can tell.
+#[derive(Clone, Copy)]
+pub struct Functions<'a> {
+    pub copy_bytes: CopyBytes,
+    pub tile_edge: TileEdge<'a>,
+    pub table_entry: TableEntry<'a>,
 }
 
-/// Answers one question with the bytes of a copy by another function, for tests of what the lists can tell.
-pub fn answer_by(copy_bytes: CopyBytes, line: &[u8], out: &mut Vec<u8>) {
-    match numbers(copy_bytes, line) {
+impl Functions<'_> {
+    pub const RIGHT: Self = Self {
+        copy_bytes: copies::bytes,
+        tile_edge: &inspect::tile_edge,
+        table_entry: &|block, index| table_entry(&inspect::tile_edge, block, index),
+    };
+}
+
+/// Answers one question, with its line feed.
+pub fn answer(line: &[u8], out: &mut Vec<u8>) {
+    answer_by(&Functions::RIGHT, line, out);
+}
+
+/// Answers one question by the functions given.
+pub fn answer_by(functions: &Functions, line: &[u8], out: &mut Vec<u8>) {
+    match numbers(functions, line) {
         None => out.push(b'?'),
         Some(numbers) => {
             for (at, number) in numbers.into_iter().enumerate() {
@@ -48,13 +76,14 @@ pub fn answer_by(copy_bytes: CopyBytes, line: &[u8], out: &mut Vec<u8>) {
 }
 
 /// The answer's fields, or none if the question is malformed.
-fn numbers(copy_bytes: CopyBytes, line: &[u8]) -> Option<Answer> {
+fn numbers(functions: &Functions, line: &[u8]) -> Option<Answer> {
     let mut fields = Fields::new(line);
     let f = &mut fields;
     let answer = match f.next_field()? {
         b"level_extent" => level_extent(f)?,
-        b"tile_edge" => along_axis(f, inspect::tile_edge)?,
+        b"tile_edge" => along_axis(f, functions.tile_edge)?,
         b"tiles" => along_axis(f, inspect::tiles)?,
+        b"table" => table(functions.table_entry, f)?,
         b"bytes" => of_shape(f, |shape| shape.bytes())?,
         b"slices" => of_shape(f, |shape| u64::from(shape.slices()))?,
         b"records" => records(f)?,
@@ -62,7 +91,7 @@ fn numbers(copy_bytes: CopyBytes, line: &[u8]) -> Option<Answer> {
         b"ongrid" => on_grid(f)?,
         b"grid" => grid(f)?,
         b"budget" => budget(f)?,
-        b"copy" => copy(copy_bytes, f)?,
+        b"copy" => copy(functions.copy_bytes, f)?,
         _ => return None,
     };
     fields.finish(answer)
@@ -78,6 +107,33 @@ fn level_extent(f: &mut Fields) -> Option<Answer> {
 fn along_axis(f: &mut Fields, number: impl Fn(u32, u32) -> u32) -> Option<Answer> {
     let (extent, block) = (f.next_u32()?, f.next_u32()?);
     matches!(block, 1 | 4).then(|| vec![Some(u64::from(number(extent, block)))])
+}
+
+/// Reads both numbers with 64 bits: a larger one than the Rust has is a block or an index that is not there.
+fn table(table_entry: TableEntry, f: &mut Fields) -> Option<Answer> {
+    let (block, index) = (f.next_u64()?, f.next_u64()?);
+    Some(vec![Some(u64::from(table_entry(block, index)?))])
+}
+
+/// Returns an entry of a block's table, "indexed by extent over 32 rounded up, with 513 entries from 0 to 512" (02, W-204): the tile edge
+/// at the extents that have this index.
+///
+/// The Rust has no tables. Its edge at the first of these extents has to be that at the last one, or it has no such table either.
+pub fn table_entry(tile_edge: TileEdge, block: u64, index: u64) -> Option<u32> {
+    if !matches!(block, 1 | 4) || index > LAST_ENTRY {
+        return None;
+    }
+    let (block, index) = (block as u32, index as u32);
+    let last = EXTENTS_OF_AN_ENTRY * index;
+    // Is the last one again, 0, in entry 0.
+    let first = last.saturating_sub(EXTENTS_OF_AN_ENTRY - 1);
+    let edge = tile_edge(last, block);
+    assert_eq!(
+        tile_edge(first, block),
+        edge,
+        "block {block}: the edges at {first} and {last} differ"
+    );
+    Some(edge)
 }
 
 fn of_shape(f: &mut Fields, number: impl Fn(&VersionShape) -> u64) -> Option<Answer> {

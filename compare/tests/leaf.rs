@@ -154,7 +154,7 @@ fn malformed_lines() {
 fn the_lists() {
     let fixed = questions::fixed();
     let count = fixed.text().lines().count();
-    assert!((4_000..=7_000).contains(&count), "{count} questions");
+    assert!((9_000..=10_000).contains(&count), "{count} questions");
     assert_eq!(answers(fixed.text()).lines().count(), count);
     assert!(!fixed.text().contains("budget"));
     assert_eq!(fixed.text(), questions::fixed().text());

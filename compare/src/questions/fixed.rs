@@ -4,6 +4,7 @@ use super::Questions;
 use super::copies;
 use super::rects;
 use super::seeded::add_random;
+use super::tables;
 use crate::random::Random;
 
 /// The fixed list, without budgets.
@@ -22,6 +23,7 @@ pub fn fixed() -> Questions {
     let mut random = Random::new(0);
     (0..400).for_each(|_| add_random(q, &mut random));
     copies::copies(q);
+    tables::tables(q);
     list.without_repeats()
 }
 

@@ -6,6 +6,7 @@ mod copies;
 mod fixed;
 mod rects;
 mod seeded;
+mod tables;
 
 pub use fixed::{budgets, fixed};
 pub use seeded::seeded;

@@ -3,25 +3,27 @@
 use super::Questions;
 use super::copies::random_copy;
 use super::rects::writes_into;
+use super::tables::random_table;
 use crate::random::Random;
 
-/// So many questions from a seed, without budgets. Every fifth is about a copy.
+/// So many questions from a seed, without budgets. Every fifth is about a copy, and the one before every fourth of these about a table.
 pub fn seeded(seed: u64, count: u64) -> Questions {
     let mut list = Questions::new();
     let mut random = Random::new(seed);
-    // Draws other numbers, so that the other questions of a seed do not change with these.
-    let mut copies = Random::new(Random::new(!seed).next());
+    // Draw other numbers, so that the other questions of a seed do not change with these.
+    let mut others = Random::new(!seed);
+    let (mut copies, mut tables) = (Random::new(others.next()), Random::new(others.next()));
     for number in 1..=count {
-        if number.is_multiple_of(5) {
-            random_copy(&mut list, &mut copies);
-        } else {
-            add_random(&mut list, &mut random);
+        match number % 20 {
+            0 | 5 | 10 | 15 => random_copy(&mut list, &mut copies),
+            19 => random_table(&mut list, &mut tables),
+            _ => add_random(&mut list, &mut random),
         }
     }
     list
 }
 
-/// Adds one random question about anything but a copy.
+/// Adds one random question about anything but a copy and a table.
 pub fn add_random(q: &mut Questions, random: &mut Random) {
     match random.below(32) {
         0 | 1 => {

@@ -5,11 +5,16 @@ mod faults;
 mod worked;
 
 use compare::copies::CopyBytes;
-use compare::{copies, leaf, lines, questions};
+use compare::leaf::{self, Functions};
+use compare::{copies, lines, questions};
 
 /// Returns the answers to a whole input, the bytes of a copy being those of the function given.
 pub fn answers(copy_bytes: CopyBytes, text: &str) -> String {
-    let answer = |line: &[u8], out: &mut Vec<u8>| leaf::answer_by(copy_bytes, line, out);
+    let functions = Functions {
+        copy_bytes,
+        ..Functions::RIGHT
+    };
+    let answer = |line: &[u8], out: &mut Vec<u8>| leaf::answer_by(&functions, line, out);
     let bytes = lines::answer_bytes(text.as_bytes(), answer);
     String::from_utf8(bytes).expect("the answers are plain text")
 }

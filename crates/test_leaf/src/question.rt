@@ -3,6 +3,7 @@ ghost use Prim.Native.Nat.{_≤_};
 ghost use lib.ListN.{length};
 use crate::answer::Answer;
 use crate::axis::edge_along;
+use crate::axis::table_entry;
 use crate::axis::tiles_along;
 use crate::budget::budget_of;
 use crate::copy::copy_cost;
@@ -53,6 +54,9 @@ fn field_answer(word: &[u8], fields: &[u8]) -> Answer
     }
     if is_word(word, b"tiles") {
         return tiles_along(fields);
+    }
+    if is_word(word, b"table") {
+        return table_entry(fields);
     }
     if is_word(word, b"grid") {
         return grid_since(fields);

@@ -1,6 +1,7 @@
 -- Both axes are good ones. Assumes nothing.
 use borrow.Author.Needs.{needs}
 use Rattle.grid_axes.proofs.Axes.{axis-ok}
+use Rattle.grid_axes.proofs.EdgeTables.{block-pos, block-most}
 use Rattle.test_figures.proofs.extents.stamps.Statement.{statement}
 use Rattle.test_figures.proofs.extents.stamps.Tie as tie
 
@@ -11,7 +12,7 @@ stamp-count-requires : tie.Need-stamp-count-requires
 stamp-count-requires c κs =
     let a = c .before .args in
     let p = c .before .pre in
-    let ok = axis-ok (a .extent) (a .block) (p .1) (p .0) (p .2) in
+    let ok = axis-ok (a .extent) (a .block) (block-pos _ (p .1)) (p .0) (block-most _ (p .1)) in
     rw (c .axis-of .ensures) (ok, ok)
 
 returns : tie.Need-returns

@@ -1,5 +1,6 @@
 -- The axis is a good one. Assumes nothing.
 use Rattle.grid_axes.proofs.Axes.{axis-ok}
+use Rattle.grid_axes.proofs.EdgeTables.{block-pos, block-most}
 use borrow.Author.Needs.{needs}
 use Rattle.test_figures.proofs.extents.tile_count.Statement.{statement}
 use Rattle.test_figures.proofs.extents.tile_count.Tie as tie
@@ -11,7 +12,7 @@ tiles-requires : tie.Need-tiles-requires
 tiles-requires c κs =
     let a = c .before .args in
     let p = c .before .pre in
-    rw (c .axis-of .ensures) (axis-ok (a .extent) (a .block) (p .1) (p .0) (p .2))
+    rw (c .axis-of .ensures) (axis-ok (a .extent) (a .block) (block-pos _ (p .1)) (p .0) (block-most _ (p .1)))
 
 returns : tie.Need-returns
 returns c = search needs

@@ -1,9 +1,12 @@
 -- The axes of a level of a format: its block edge is 1 to 4, so both are good. Assumes nothing.
 use Prim.Native.Nat.{_≤_, _<_}
+use mathlib.Core.Path.{ap, _∙_}
 use native.Mathlib.Omega.{arith}
 use borrow.Author.Needs.{needs}
 use Rattle.grid_shapes.proofs.Formats.{block-edge-pos, block-edge-bound}
+use Rattle.grid_axes.specs.EdgeTables.{hasTable}
 use Rattle.grid_axes.proofs.Axes.{axis-ok}
+use Rattle.grid_stamps.proofs.Tilings.{format-table}
 use Rattle.test_leaf.proofs.grid.since_in.Statement.{statement}
 use Rattle.test_leaf.proofs.grid.since_in.Tie as tie
 
@@ -12,13 +15,13 @@ block-edge-requires c κs = search needs
 
 axis-of-requires : tie.Need-axis-of-requires
 axis-of-requires c κs =
-    let f = c .before .before .args .format in
-    omega (arith, c .block-edge .ensures, block-edge-pos f, block-edge-bound f)
+    let s = c .before .before in
+    (s .pre .0 .0, ap hasTable (c .block-edge .ensures) ∙ format-table (s .args .format))
 
 axis-of-requires-2 : tie.Need-axis-of-requires-2
 axis-of-requires-2 c κs =
-    let f = c .before .before .before .args .format in
-    omega (arith, c .before .block-edge .ensures, block-edge-pos f, block-edge-bound f)
+    let s = c .before .before .before in
+    (s .pre .0 .1, ap hasTable (c .before .block-edge .ensures) ∙ format-table (s .args .format))
 
 since-requires : tie.Need-since-requires
 since-requires c κs =
