@@ -26,6 +26,19 @@ fn test_all(
     stamps: &[u64],
     k: u64,
 ) -> Timed {
+    // Tests once before the clock starts, so that the first pass is no slower than the others.
+    if !is_pool(
+        pool,
+        book,
+        textures,
+        retiring,
+        doomed,
+        spares,
+        newest,
+        stamps,
+    ) {
+        return Timed { time: 0, sum: 0 };
+    }
     let start = reading();
     let mut sum = 0;
     let mut i = 0;

@@ -10,14 +10,20 @@ Inv-loop pool book textures retiring doomed spares newest stamps k start sum₀ 
 abbrev μ-loop : tie.MeasureT-loop
 μ-loop pool book textures retiring doomed spares newest stamps k start sum₀ i₀ sum i = k - i
 
+is-pool-requires : tie.Need-is-pool-requires Inv-loop μ-loop
+is-pool-requires c κs = search needs
+
+returns : tie.Need-returns Inv-loop μ-loop
+returns c = search needs
+
 reading-requires : tie.Need-reading-requires Inv-loop μ-loop
 reading-requires c κs = search needs
 
 loop-holds : tie.Need-loop-holds Inv-loop μ-loop
 loop-holds c = search needs
 
-is-pool-requires : tie.Need-is-pool-requires Inv-loop μ-loop
-is-pool-requires c κs = search needs
+is-pool-requires-2 : tie.Need-is-pool-requires-2 Inv-loop μ-loop
+is-pool-requires-2 c κs = search needs
 
 wrapping-add-u64-requires : tie.Need-wrapping-add-u64-requires Inv-loop μ-loop
 wrapping-add-u64-requires c κs = search needs
@@ -34,8 +40,8 @@ loop-again c = search needs
 elapsed-requires : tie.Need-elapsed-requires Inv-loop μ-loop
 elapsed-requires c κs = search needs
 
-returns : tie.Need-returns Inv-loop μ-loop
-returns c = search needs
+returns-2 : tie.Need-returns-2 Inv-loop μ-loop
+returns-2 c = search needs
 
 pub test-all-spec : {M : Type 1} → statement M
 test-all-spec =
@@ -43,12 +49,14 @@ test-all-spec =
     (tie.spec
     Inv-loop
     μ-loop
+    is-pool-requires
+    returns
     reading-requires
     loop-holds
-    is-pool-requires
+    is-pool-requires-2
     wrapping-add-u64-requires
     add-i
     loop-less
     loop-again
     elapsed-requires
-    returns)
+    returns-2)
