@@ -26,7 +26,8 @@ fn test_all(
     stamps: &[u64],
     k: u64,
 ) -> Timed {
-    // Tests once before the clock starts, so that the first pass is no slower than the others.
+    // Tests once before the clock starts, so that the first pass is no slower than the others. With a single call of `is_pool` in the program
+    // the compiler would inline it, and with it this function into `main`, whose stack would then hold the memory of all sizes at once.
     if !is_pool(
         pool,
         book,

@@ -45,7 +45,7 @@ module _ (s : VersionShape) where
     level-bound (suc k) = omega (arith, level-next s k, level-bound k, count-bound (tilingOf s k) (tiling-ok s shaped k))
 
     -- up to any level of the shape: fifteen pages at most
-    pub level-most : (k : ℕ) → k ≤ s .levels → levelStart s k ≤ pageStamps * 15
+    level-most : (k : ℕ) → k ≤ s .levels → levelStart s k ≤ pageStamps * 15
     level-most k h = omega (arith, level-bound k, shape-bounds s shaped .levels-bound)
 
     -- one level more

@@ -76,7 +76,7 @@ module _ (s : VersionShape) where
   -- ---- every grid's
 
   -- the k-th grid's tiling is that of its level in the first slice, by the stamps of the slices before it later
-  pub sliced-number : isShape s ≡ true → (k : ℕ) → k < gridCount s
+  sliced-number : isShape s ≡ true → (k : ℕ) → k < gridCount s
       → k / s .levels * levelStart s (s .levels) + tilingNumber s (k % s .levels) ≡ tilingNumber s k
   unfolding tilingNumber packedTiling gridTiling
   sliced-number shaped k h =

@@ -14,10 +14,13 @@ use grid_stamps::stamp_count;
 use pool_records::GridTiling;
 use pool_records::tiling_number;
 
+// The most levels that a shape has (refusal 2).
+const MOST_LEVELS: usize = 15;
+
 // A slice of a history: for each level what stands beside its grid's newest stamp in the first slice, and the stamps of all its grids.
 // In every other slice the grids begin by as many stamps later as the slices before it have.
 pub struct SliceTilings {
-    pub levels: [u64; 15],
+    pub levels: [u64; MOST_LEVELS],
     pub stamps: u64,
 }
 
@@ -26,7 +29,7 @@ fn tilings_in(edges: &[u16], shape: VersionShape) -> SliceTilings
     requires { ⌜ (isShape shape ≡ true) × TableOf shape (now edges) ⌝ }
     ensures { λ r. ⌜ SliceOf shape r ⌝ }
 {
-    let mut levels = [0; 15];
+    let mut levels = [0; MOST_LEVELS];
     let mut start = 0;
     let mut level = 0;
     while level < shape.levels {

@@ -1,3 +1,3 @@
-pub mod GridParts
+pub mod StampedParts
 pub mod NewestWritten
 pub mod Regenerated

@@ -1,21 +1,18 @@
 -- The newest stamps of a history's grids written, each at its grid's place: what stands elsewhere stays, and so do the tilings beside them. Assumes nothing.
 use mathlib.Core.Path.{_≡_, refl, sym, ap, ap₂, _∙_}
-use mathlib.Core.Bool.{true}
 use mathlib.Core.List.{List, [], _∷_, _++_}
-use Prim.Native.Nat.{ℕ, suc, _+_, _*_, _%_, _<_}
+use Prim.Native.Nat.{ℕ, suc, _+_, _*_, _<_}
 use native.Mathlib.Nat.{add-zero, zero-add}
 use native.Mathlib.Omega.{arith}
 use lib.ListN.{length, getD, set}
 use lib.Seq.{sets, getD-set-other, set-getD}
 use Rattle.grid_shapes.specs.declared.shape.VersionShape.{VersionShape}
-use Rattle.grid_shapes.specs.Shapes.{isShape}
 use Rattle.grid_stamps.specs.Grids.{StampGrid}
 use Rattle.pool_rules.specs.Model.{gridCount}
 use Rattle.pool_rules.specs.RuleConstants.{gridStride}
-use Rattle.pool_records.specs.Tilings.{tilingNumber, EdgesAt}
-use Rattle.pool_records.proofs.Tilings.{edges-held}
+use Rattle.pool_records.specs.Tilings.{tilingNumber, TilingsAt}
 use Rattle.pool_memory.specs.Writing.{newestFrom}
-use Rattle.pool_history.specs.Remade.{TilingsAt, newestWritten}
+use Rattle.pool_history.specs.Remade.{newestWritten}
 
 -- a number that is no grid's newest stamp stays
 pub elsewhere-stays : (newest : List ℕ) (grid : ℕ) (gs : List StampGrid) (p : ℕ) → ((j : ℕ) → j < length gs → p ≡ grid + gridStride * j → ⊥)
@@ -68,8 +65,3 @@ module _ (s : VersionShape) where
   pub tilings-stay : (newest : List ℕ) (grid : ℕ) (gs : List StampGrid) → TilingsAt newest grid s → TilingsAt (newestWritten newest grid gs) grid s
   tilings-stay newest grid gs beside k h =
       elsewhere-stays newest grid gs (grid + gridStride * k + 1) (λ j q e. omega (arith, e)) ∙ beside k h
-
-  -- and tell the edges of the k-th grid's level
-  pub edges-there : isShape s ≡ true → (newest : List ℕ) (grid k level : ℕ) → k < gridCount s → TilingsAt newest grid s → level ≡ k % s .levels
-      → EdgesAt newest (grid + gridStride * k) s level
-  edges-there shaped newest grid k level h beside e = edges-held s shaped newest (grid + gridStride * k) k h (beside k h) level (sym e)

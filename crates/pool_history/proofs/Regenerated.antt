@@ -27,10 +27,10 @@ use Rattle.pool_rules.specs.HistorySizes.{gridSize, gridStart, historySize}
 use Rattle.pool_rules.specs.RuleConstants.{gridStride}
 use Rattle.pool_rules.proofs.HistorySizes.{grid-first, grid-next, grid-end}
 use Rattle.pool_memory.specs.Reading.{gridOn}
+use Rattle.pool_memory.proofs.GridParts.{length-grid}
 use Rattle.pool_memory.proofs.Parts.{flat-append}
 use Rattle.pool_memory.proofs.Rewritten.{sets-append}
 use Rattle.pool_history.specs.Remade.{stampsIn, newestWritten, stampsWritten, remadeGrid, remadeGrids}
-use Rattle.pool_history.proofs.GridParts.{length-grid}
 use Rattle.pool_history.proofs.NewestWritten.{elsewhere-stays, written-more}
 
 -- ---- one grid
@@ -72,21 +72,6 @@ next-below next level levels h e = omega (arith, e, mod-lt (level + 1) {m = leve
 
 pub level-after : (level k levels : ℕ) → level ≡ k % levels → (level + 1) % levels ≡ (k + 1) % levels
 level-after level k levels e = ap (λ (i : ℕ). (i + 1) % levels) e ∙ mod-add-mod k levels 1
-
--- ---- where the grids begin
-
-module _ (s : VersionShape) where
-  -- by a grid's level
-  module _ (k level : ℕ) (h : k < gridCount s) (e : level ≡ k % s .levels) where
-    size-level : stampCount (tilingOf s level) ≡ gridSize s k
-    unfolding gridSize
-    size-level = ap (λ (i : ℕ). stampCount (tilingOf s i)) e
-
-    pub start-after : gridStart s k + stampCount (tilingOf s level) ≡ gridStart s (k + 1)
-    start-after = omega (arith, size-level, grid-next s k h, ap (gridStart s) (add-one k))
-
-    pub grid-room : gridStart s k + stampCount (tilingOf s level) ≤ historySize s
-    grid-room = omega (arith, size-level, grid-end s k h)
 
 -- ---- a run of numbers stored: what stands past it stays
 

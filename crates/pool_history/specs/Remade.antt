@@ -1,25 +1,18 @@
 -- Helper: The grids of a history after a mip regeneration, read off the memory before it, and written back over it.
-use Prim.Native.Nat.{ℕ, _+_, _*_, _%_, _<_}
-use mathlib.Core.Path.{_≡_}
+use Prim.Native.Nat.{ℕ, _+_, _*_, _%_}
 use mathlib.Core.Bool.{cond}
 use mathlib.Core.List.{List, [], _∷_, flatMap}
 use lib.Dec.{eqb}
-use lib.ListN.{getD, set}
+use lib.ListN.{set}
 use lib.Seq.{sets}
 use Rattle.base_blocks.specs.Lists.{listed}
 use Rattle.grid_shapes.specs.declared.shape.VersionShape.{VersionShape}
 use Rattle.grid_shapes.specs.Shapes.{levelWidth, levelHeight}
 use Rattle.grid_rects.specs.Rects.{wholeLevel}
 use Rattle.grid_stamps.specs.Grids.{StampGrid, tilingOf, stampedBy}
-use Rattle.pool_rules.specs.Model.{gridCount}
 use Rattle.pool_rules.specs.HistorySizes.{gridStart}
 use Rattle.pool_rules.specs.RuleConstants.{gridStride}
-use Rattle.pool_records.specs.Tilings.{tilingNumber}
 use Rattle.pool_memory.specs.Reading.{gridOn}
-
--- beside the newest stamp of each grid of a history of the shape, whose numbers begin at `grid`, stands its tiling
-abbrev pub TilingsAt : List ℕ → ℕ → VersionShape → Type 0
-TilingsAt newest grid s = (k : ℕ) → k < gridCount s → getD newest (grid + gridStride * k + 1) 0 ≡ tilingNumber s k
 
 abbrev pub newestStamp : StampGrid → ℕ
 newestStamp g = g .newest

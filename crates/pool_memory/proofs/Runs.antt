@@ -1,7 +1,7 @@
 -- The model's textures are what the slices say: run by run, their records, spares, grids and stamps stand one behind the other. Assumes nothing.
 use mathlib.Core.Path.{_≡_, refl, sym, ap, ap₂, _∙_}
 use mathlib.Core.Bool.{true, cond}
-use mathlib.Core.List.{List, [], _∷_, _++_, map, flatMap, append-nil}
+use mathlib.Core.List.{List, [], _∷_, _++_, flatMap, append-nil}
 use Prim.Native.Nat.{ℕ, zero, suc, _+_, _*_, _≤_, _<_}
 use native.Mathlib.Nat.{add-zero, zero-add, add-assoc}
 use native.Mathlib.Omega.{arith}
@@ -26,10 +26,10 @@ use Rattle.pool_records.specs.declared.recorded.Recorded.{Recorded}
 use Rattle.pool_records.specs.declared.recorded.Recorded.the-variants.{Writes, NoHistory}
 use Rattle.pool_records.specs.declared.texture.TextureRecord.{TextureRecord}
 use Rattle.pool_records.specs.Texture.{readTexture, recordedGrids, recordGrids, recordedStamps, recordStamps}
-use Rattle.pool_records.specs.Tilings.{tilingNumber}
+use Rattle.pool_records.specs.Tilings.{tilingNumber, TilingsAt}
 use Rattle.pool_memory.specs.Lent.{Lent}
 use Rattle.pool_memory.specs.Reading.{trackedRecords, gridRead, historyRead, spareRead, stateRead, statesRead, modelOf}
-use Rattle.pool_memory.specs.IsPool.{bytesHold, bytesFit, startsHold, stateId, tilingHolds, tilingsRead, tilingsHold}
+use Rattle.pool_memory.specs.IsPool.{bytesHold, bytesFit, startsHold, stateId, tilingHolds, tilingsRead, tilingsHold, tilingsFit}
 use Rattle.pool_memory.specs.Writing.{recordedHistory, textureRecord, textureRecords, everySpare, gridsOf, newestFrom, newestOf, stampsOf}
 use Rattle.pool_memory.proofs.NewestNumbers.{newest-listed}
 use Rattle.pool_memory.proofs.Parts.{flat-append}
@@ -97,8 +97,7 @@ module _ (l : Lent) where
       used-read (t .shape) (t .grid) (t .stamp) (historySize (t .shape)) (t .history) (λ (h : Recorded). recordedStamps h (t .shape)) refl (λ k. refl)
 
   -- beside each grid's newest stamp its tiling
-  pub tiling-there : (s : VersionShape) (grid : ℕ) → all (tilingHolds l s grid) (gridPlaces s) ≡ true → (k : ℕ) → k < gridCount s
-      → getD (l .newest) (grid + gridStride * k + 1) 0 ≡ tilingNumber s k
+  pub tiling-there : (s : VersionShape) (grid : ℕ) → all (tilingHolds l s grid) (gridPlaces s) ≡ true → TilingsAt (l .newest) grid s
   unfolding tilingHolds
   tiling-there s grid e k q =
       eqb-true _ _
@@ -235,6 +234,11 @@ module _ (l : Lent) where
 
   pub tracked-records : length (trackedRecords l) ≡ l .pool .tracked
   tracked-records = length-table textureStride readTexture (l .pool .tracked) (l .textures)
+
+  -- beside each texture's newest stamps their tilings
+  pub tilings-held-at : tilingsFit l ≡ true → (i : ℕ) → i < l .pool .tracked → tilingsHold l (getD (trackedRecords l) i (readTexture [])) ≡ true
+  unfolding tilingsFit
+  tilings-held-at e i h = all-get (tilingsHold l) (trackedRecords l) i (readTexture []) e (omega (arith, h, tracked-records))
 
   pub tracked-model : length (modelOf l .textures) ≡ l .pool .tracked
   unfolding modelOf

@@ -11,7 +11,7 @@ use lib.Dec.{ltb}
 use lib.ListN.{length, getD}
 use lib.Seq.{getD-drop}
 use Rattle.base_blocks.specs.Lists.{listed}
-use Rattle.base_blocks.proofs.Lists.{and-both, all-get}
+use Rattle.base_blocks.proofs.Lists.{and-both}
 use Rattle.base_tables.specs.Records.{recordAt}
 use Rattle.grid_shapes.specs.declared.shape.VersionShape.{VersionShape}
 use Rattle.grid_shapes.specs.Shapes.{isShape, slicesOf}
@@ -27,20 +27,19 @@ use Rattle.pool_records.specs.declared.recorded.Recorded.the-variants.{Writes, 
 use Rattle.pool_records.specs.declared.texture.TextureRecord.{TextureRecord}
 use Rattle.pool_records.specs.Texture.{readTexture, textureIn, recordedGrids, recordGrids, recordedStamps, recordStamps}
 use Rattle.pool_records.specs.Find.{idOf, hasId}
-use Rattle.pool_records.specs.Tilings.{tilingIn, EdgesAt}
+use Rattle.pool_records.specs.Tilings.{tilingIn, EdgesAt, TilingsAt}
 use Rattle.pool_rules.proofs.GridPlaces.{place-level}
 use Rattle.pool_records.proofs.Tilings.{start-held, edges-held}
 use Rattle.pool_access.proofs.Ids.{found}
 use Rattle.pool_memory.specs.Lent.{Lent}
 use Rattle.pool_memory.specs.Reading.{trackedRecords, gridRead, historyRead, stateRead}
-use Rattle.pool_memory.specs.IsPool.{tilingsRead, tilingsHold, tilingsFit}
+use Rattle.pool_memory.specs.IsPool.{tilingsRead, tilingsHold}
 use Rattle.pool_memory.proofs.Fits.{Fits}
-use Rattle.pool_memory.proofs.Runs.{firstGrid, firstStamp, stateOf, tiling-there, tracked-records, grid-held-at, stamp-held-at}
+use Rattle.pool_memory.proofs.Runs.{firstGrid, firstStamp, stateOf, tiling-there, tilings-held-at, grid-held-at, stamp-held-at}
 use Rattle.pool_memory.proofs.Tracked.{record-read, grid-at, stamp-at, shape-passes}
 use Rattle.pool_memory.proofs.Places.{place, IsTracked}
 use Rattle.pool_memory.proofs.Stays.{ids-ascend, textures-fit}
 use Rattle.pool_memory.proofs.HistoryRuns.{gridCountAt, stampCountAt, grids-in, stamps-in}
-use Rattle.pool_history.specs.Remade.{TilingsAt}
 use Rattle.pool_records.specs.RecordConstants.{textureStride}
 use Rattle.pool_note_write.specs.History.{recordedAt, HistoryAt}
 
@@ -136,13 +135,13 @@ module _ (l : Lent) (f : Fits l) (i : ℕ) (h : i < l .pool .tracked) where
 
     -- its tilings
     pub tilings-recorded : TilingsAt (l .newest) (textureIn (l .textures) i .grid) (textureIn (l .textures) i .shape)
-    unfolding tilingsFit tilingsHold
+    unfolding tilingsHold
     tilings-recorded =
         let t = textureIn (l .textures) i in
         tiling-there l (t .shape) (t .grid)
         (ap (tilingsRead l (t .shape) (t .grid)) (sym e)
         ∙ ap (tilingsHold l) (sym (record-read l i h))
-        ∙ all-get (tilingsHold l) (trackedRecords l) i (readTexture []) (f .tilings) (omega (arith, tracked-records l)))
+        ∙ tilings-held-at l (f .tilings) i h)
 
 -- ---- a texture of a pool
 

@@ -24,7 +24,7 @@ use Rattle.pool_rules.proofs.HistorySizes.{grid-size, grid-last}
 use Rattle.pool_records.specs.declared.recorded.Recorded.the-variants.{Writes}
 use Rattle.pool_records.specs.declared.texture.TextureRecord.{TextureRecord}
 use Rattle.pool_records.specs.Texture.{writeTexture, textureIn}
-use Rattle.pool_records.specs.Tilings.{tilingNumber}
+use Rattle.pool_records.specs.Tilings.{tilingNumber, TilingsAt}
 use Rattle.pool_memory.specs.Lent.{Lent, lent}
 use Rattle.pool_memory.specs.Reading.{gridRead, modelOf, gridOn}
 use Rattle.pool_memory.specs.Writing.{recordedHistory, gridsOf, newestFrom, texturesAfter, newestAfter, stampsAfter, poolAfter, lentAfter}
@@ -40,7 +40,7 @@ use Rattle.pool_memory.proofs.Starts.{placedRecord, textures-set}
 use Rattle.pool_memory.proofs.HistoryRuns.{gridCountAt, stampCountAt, stamps-in, newest-rewritten, stamps-rewritten}
 use Rattle.pool_memory.proofs.Written.{gridsAt, all-grids, all-stamps, place-grid, grid-held, newest-stamped, stamps-stamped}
 use Rattle.pool_memory.proofs.Tracked.{record-at, shape-at, grid-at, stamp-at}
-use Rattle.pool_history.specs.Remade.{TilingsAt, stampsIn, newestWritten, stampsWritten, remadeGrids}
+use Rattle.pool_history.specs.Remade.{stampsIn, newestWritten, stampsWritten, remadeGrids}
 use Rattle.pool_history.proofs.NewestWritten.{written-all}
 use Rattle.pool_history.proofs.Regenerated.{regenerate-listed, length-remade, length-stamps}
 use Rattle.pool_note_write.specs.History.{recordedAs, newestPlace, stampsPlace, stampedOn, remadeAt}

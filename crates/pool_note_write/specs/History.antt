@@ -16,8 +16,9 @@ use Rattle.pool_records.specs.declared.recorded.Recorded.the-variants.{NoHistor
 use Rattle.pool_records.specs.declared.texture.TextureRecord.{TextureRecord}
 use Rattle.pool_records.specs.Texture.{textureIn}
 use Rattle.pool_records.specs.Find.{hasId}
+use Rattle.pool_records.specs.Tilings.{TilingsAt}
 use Rattle.pool_memory.specs.Reading.{gridOn}
-use Rattle.pool_history.specs.Remade.{TilingsAt, remadeGrids}
+use Rattle.pool_history.specs.Remade.{remadeGrids}
 use Rattle.pool_records.specs.RecordConstants.{textureStride}
 
 -- what it says of its history if it is there and has the id

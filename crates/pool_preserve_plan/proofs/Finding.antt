@@ -6,7 +6,6 @@ use mathlib.Core.List.{List, []}
 use Prim.Native.Nat.{ℕ, _+_, _≤_, _<_}
 use native.Mathlib.Omega.{arith}
 use lib.ListN.{length, getD}
-use Rattle.base_blocks.proofs.Lists.{all-get}
 use Rattle.base_tables.proofs.Records.{getD-table}
 use Rattle.grid_shapes.specs.declared.shape.VersionShape.{VersionShape}
 use Rattle.grid_shapes.specs.Shapes.{sameShape}
@@ -23,9 +22,9 @@ use Rattle.pool_records.specs.Texture.{readTexture, textureIn, texturesIn, reco
 use Rattle.pool_records.specs.Find.{idOf, below, hasId}
 use Rattle.pool_memory.specs.Lent.{Lent}
 use Rattle.pool_memory.specs.Reading.{trackedRecords, historyRead, stateRead, modelOf}
-use Rattle.pool_memory.specs.IsPool.{tilingsRead, tilingsHold, tilingsFit}
+use Rattle.pool_memory.specs.IsPool.{tilingsRead, tilingsHold}
 use Rattle.pool_memory.proofs.Fits.{Fits}
-use Rattle.pool_memory.proofs.Runs.{firstSpare, stateOf, tiling-there, tracked-records, grid-held-at, stamp-held-at}
+use Rattle.pool_memory.proofs.Runs.{firstSpare, stateOf, tiling-there, tilings-held-at, grid-held-at, stamp-held-at}
 use Rattle.pool_memory.proofs.HistoryRuns.{grids-in, stamps-in}
 use Rattle.pool_memory.proofs.Places.{IsTracked}
 use Rattle.pool_memory.proofs.Places as places
@@ -174,10 +173,10 @@ module _ (l : Lent) (fits : Fits l) (id : ℕ) (shape : VersionShape) where
 
   first-in : place < l .pool .tracked
       → (let t = getD (trackedRecords l) place (readTexture []) in Room (t .shape) (t .grid) (t .stamp) (t .history))
-  unfolding tilingsFit tilingsHold
+  unfolding tilingsHold
   first-in h = (
     omega (arith, grids-in l fits place h, grid-held-at l (fits .starts) place h, fits .grids),
-    all-get (tilingsHold l) (trackedRecords l) place (readTexture []) (fits .tilings) (omega (arith, h, tracked-records l)),
+    tilings-held-at l (fits .tilings) place h,
     omega (arith, stamps-in l fits place h, stamp-held-at l (fits .starts) place h, fits .stamps-counted),
   )
 

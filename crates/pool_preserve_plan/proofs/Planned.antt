@@ -21,12 +21,11 @@ use Rattle.pool_rules.specs.HistorySizes.{gridStart}
 use Rattle.pool_rules.specs.PreservePlan.{sameRect, covers}
 use Rattle.pool_rules.specs.RuleConstants.{gridStride}
 use Rattle.pool_rules.proofs.GridPlaces.{place-level}
+use Rattle.pool_rules.proofs.HistorySizes.{grid-room}
 use Rattle.pool_records.specs.Tilings.{tilingIn, EdgesAt}
-use Rattle.pool_records.proofs.Tilings.{start-held}
+use Rattle.pool_records.proofs.Tilings.{start-held, edges-there}
 use Rattle.pool_memory.specs.Reading.{gridOn}
-use Rattle.pool_history.proofs.GridParts.{part-grid}
-use Rattle.pool_history.proofs.NewestWritten.{edges-there}
-use Rattle.pool_history.proofs.Regenerated.{grid-room}
+use Rattle.pool_memory.proofs.GridParts.{part-grid}
 use Rattle.pool_preserve_plan.specs.declared.copy.Planned.the-variants.{Skipped, Copied}
 use Rattle.pool_preserve_plan.specs.declared.since.Since.{Since}
 use Rattle.pool_preserve_plan.specs.declared.since.Since.the-variants.{After, Nothing}

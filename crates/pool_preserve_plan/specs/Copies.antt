@@ -19,9 +19,9 @@ use Rattle.pool_rules.specs.Histories.{gridPlace}
 use Rattle.pool_rules.specs.HistorySizes.{gridStart, historySize}
 use Rattle.pool_rules.specs.PreservePlan.{sameRect, covers}
 use Rattle.pool_rules.specs.RuleConstants.{gridStride}
+use Rattle.pool_records.specs.Tilings.{TilingsAt}
 use Rattle.pool_memory.specs.Reading.{gridOn}
 use Rattle.pool_memory.specs.Calls.{copyNumbers}
-use Rattle.pool_history.specs.Remade.{TilingsAt}
 use Rattle.pool_preserve_plan.specs.declared.copy.Planned.{Planned}
 use Rattle.pool_preserve_plan.specs.declared.copy.Planned.the-variants.{Skipped, Copied}
 use Rattle.pool_preserve_plan.specs.declared.since.Since.{Since}

@@ -1,5 +1,5 @@
 -- A grid's tiling read back from its number. Assumes nothing.
-use mathlib.Core.Path.{_≡_, ap, _∙_}
+use mathlib.Core.Path.{_≡_, sym, ap, _∙_}
 use mathlib.Core.Bool.{true}
 use mathlib.Core.List.{List}
 use Prim.Native.Nat.{ℕ, _+_, _*_, _/_, _%_, _<_}
@@ -11,9 +11,10 @@ use Rattle.grid_stamps.specs.Grids.{tilingOf}
 use Rattle.grid_stamps.proofs.Tilings.{tiling-ok}
 use Rattle.pool_rules.specs.Model.{gridCount}
 use Rattle.pool_rules.specs.HistorySizes.{gridStart}
+use Rattle.pool_rules.specs.RuleConstants.{gridStride}
 use Rattle.pool_rules.proofs.HistorySizes.{grid-end, history-most}
 use Rattle.pool_records.specs.declared.tiling.GridTiling.{GridTiling}
-use Rattle.pool_records.specs.Tilings.{packedTiling, readTiling, TilingFits, gridTiling, tilingNumber, tilingIn, EdgesAt}
+use Rattle.pool_records.specs.Tilings.{packedTiling, readTiling, TilingFits, gridTiling, tilingNumber, tilingIn, EdgesAt, TilingsAt}
 use Rattle.pool_records.specs.RecordConstants.{startSpan, edgeSpan, downUnit}
 
 pub tiling-read : (t : GridTiling) → TilingFits t → readTiling (packedTiling t) ≡ t
@@ -61,3 +62,8 @@ module _ (s : VersionShape) (shaped : isShape s ≡ true) where
       across = ap (λ (t : GridTiling). t .across) held ∙ ap (λ (m : ℕ). tilingOf s m .across .edge) at;
       down = ap (λ (t : GridTiling). t .down) held ∙ ap (λ (m : ℕ). tilingOf s m .down .edge) at;
     }
+
+  -- the same of the k-th grid of a history all of whose tilings stand there
+  pub edges-there : (newest : List ℕ) (grid k level : ℕ) → k < gridCount s → TilingsAt newest grid s → level ≡ k % s .levels
+      → EdgesAt newest (grid + gridStride * k) s level
+  edges-there newest grid k level h beside e = edges-held newest (grid + gridStride * k) k h (beside k h) level (sym e)

@@ -6,7 +6,9 @@ use mathlib.Core.List.{List, [], _∷_}
 use lib.ListN.{getD}
 use Rattle.grid_shapes.specs.declared.shape.VersionShape.{VersionShape}
 use Rattle.grid_stamps.specs.Grids.{tilingOf}
+use Rattle.pool_rules.specs.Model.{gridCount}
 use Rattle.pool_rules.specs.HistorySizes.{gridStart}
+use Rattle.pool_rules.specs.RuleConstants.{gridStride}
 use Rattle.pool_records.specs.declared.tiling.GridTiling.{GridTiling}
 use Rattle.pool_records.specs.RecordConstants.{startSpan, edgeSpan, downUnit}
 
@@ -47,3 +49,7 @@ tilingIn newest p = readTiling (getD newest (p + 1) 0)
 pub record EdgesAt (newest : List ℕ) (p : ℕ) (s : VersionShape) (level : ℕ) : Type 0 where
   pub across : tilingIn newest p .across ≡ tilingOf s level .across .edge
   pub down : tilingIn newest p .down ≡ tilingOf s level .down .edge
+
+-- beside the newest stamp of each grid of a history of the shape, whose numbers begin at `grid`, stands its tiling
+abbrev pub TilingsAt : List ℕ → ℕ → VersionShape → Type 0
+TilingsAt newest grid s = (k : ℕ) → k < gridCount s → getD newest (grid + gridStride * k + 1) 0 ≡ tilingNumber s k

@@ -6,6 +6,7 @@ use mathlib.Core.Option.{none, some}
 use mathlib.Core.List.{List, [], _∷_}
 use Prim.Native.Nat.{ℕ, zero, suc, _+_, _*_, _-_, _%_, _≤_, _<_, min}
 use native.Mathlib.Nat.{add-zero, zero-add, zero-mul, suc-mul, mul-suc, mul-le-mul}
+use native.Mathlib.Numerals.{add-one}
 use native.Mathlib.Omega.{arith}
 use lib.Dec.{ltb}
 use lib.ListN.{length, getD}
@@ -132,6 +133,18 @@ module _ (s : VersionShape) where
   pub grid-size : (slice level : ℕ) → level < s .levels → gridSize s (slice * s .levels + level) ≡ stampCount (tilingOf s level)
   unfolding gridSize
   grid-size slice level h = ap countAt (place-level slice level (s .levels) h)
+
+  -- and begins and ends by it
+  module _ (k level : ℕ) (h : k < gridCount s) (e : level ≡ k % s .levels) where
+    size-level : stampCount (tilingOf s level) ≡ gridSize s k
+    unfolding gridSize
+    size-level = ap countAt e
+
+    pub start-after : gridStart s k + stampCount (tilingOf s level) ≡ gridStart s (k + 1)
+    start-after = omega (arith, size-level, grid-next k h, ap (gridStart s) (add-one k))
+
+    pub grid-room : gridStart s k + stampCount (tilingOf s level) ≤ historySize s
+    grid-room = omega (arith, size-level, grid-end k h)
 
   -- ---- bounds
 

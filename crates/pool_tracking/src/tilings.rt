@@ -15,7 +15,8 @@ use pool_access::slice_tilings;
 use pool_rules::GRID_STRIDE;
 
 // Writes the numbers of the first n grids of a new history from index `at` on. A slice's grids begin where those of the slice before it
-// end, so that no grid needs a look at the levels before it. Where no history begins, no table is read.
+// end: the start stands lowest in a grid's number, so that the stamps of the slices before it are added to the first slice's number. Where no
+// history begins, no table is read.
 fn put_tilings(newest: &mut [u64], at: usize, n: usize, shape: VersionShape)
     requires { ⌜ (isShape shape ≡ true) × (n ≤ gridCount shape) × (at + gridStride * n ≤ length (now newest)) ⌝ }
     ensures { λ _. ⌜ now (newest .exit) ≡ sets (now (newest .entry)) at (freshFrom shape 0 n) ⌝ }

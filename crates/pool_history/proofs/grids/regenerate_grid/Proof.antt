@@ -5,7 +5,7 @@ use lib.ListN.{set}
 use lib.Seq.{sets}
 use borrow.Author.Needs.{needs}
 use Rattle.grid_stamps.specs.Grids.{StampGrid}
-use Rattle.pool_history.proofs.GridParts.{newest-stands, stamps-stand}
+use Rattle.pool_history.proofs.StampedParts.{newest-stands, stamps-stand}
 use Rattle.pool_history.proofs.Regenerated.{remade-first, remade-later}
 use Rattle.pool_history.proofs.grids.regenerate_grid.Statement.{statement}
 use Rattle.pool_history.proofs.grids.regenerate_grid.Tie as tie

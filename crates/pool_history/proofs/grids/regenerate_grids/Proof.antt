@@ -7,11 +7,12 @@ use lib.ListN.{length}
 use borrow.Author.Needs.{needs}
 use Rattle.pool_rules.specs.Model.{gridCount}
 use Rattle.pool_rules.specs.HistorySizes.{gridStart}
-use Rattle.pool_rules.proofs.HistorySizes.{grids-most}
-use Rattle.pool_history.specs.Remade.{TilingsAt, newestWritten, stampsWritten, remadeGrids}
-use Rattle.pool_history.proofs.NewestWritten.{tilings-stay, edges-there}
-use Rattle.pool_rules.proofs.HistorySizes.{grid-first}
-use Rattle.pool_history.proofs.Regenerated.{level-first, next-below, level-after, start-after, grid-room, remade-none, newest-remade, stamps-remade}
+use Rattle.pool_rules.proofs.HistorySizes.{grid-first, start-after, grid-room, grids-most}
+use Rattle.pool_records.specs.Tilings.{TilingsAt}
+use Rattle.pool_records.proofs.Tilings.{edges-there}
+use Rattle.pool_history.specs.Remade.{newestWritten, stampsWritten, remadeGrids}
+use Rattle.pool_history.proofs.NewestWritten.{tilings-stay}
+use Rattle.pool_history.proofs.Regenerated.{level-first, next-below, level-after, remade-none, newest-remade, stamps-remade}
 use Rattle.pool_history.proofs.grids.regenerate_grids.Statement.{statement}
 use Rattle.pool_history.proofs.grids.regenerate_grids.Tie as tie
 

@@ -4,7 +4,9 @@ use Prim.Native.Nat.{ℕ, _+_, _-_}
 use native.Mathlib.Omega.{arith}
 use borrow.Author.Needs.{needs}
 use Rattle.grid_stamps.specs.Grids.{tiled, tilingOf, stampCount}
-use Rattle.pool_history.proofs.GridParts.{axes-ok, count-known, part-fits, newest-back, part-back}
+use Rattle.pool_memory.proofs.GridParts.{part-fits}
+use Rattle.pool_access.proofs.Levels.{axes-ok, count-known}
+use Rattle.pool_history.proofs.StampedParts.{newest-back, part-back}
 use Rattle.pool_history.proofs.grids.stamp_grid.Statement.{statement}
 use Rattle.pool_history.proofs.grids.stamp_grid.Tie as tie
 

@@ -6,7 +6,8 @@ use lib.ListN.{length}
 use Rattle.grid_stamps.specs.Grids.{tilingOf, stampCount}
 use Rattle.pool_rules.specs.HistorySizes.{gridStart}
 use Rattle.pool_rules.specs.RuleConstants.{gridStride}
-use Rattle.pool_history.proofs.GridParts.{axes-ok, count-known, part-fits}
+use Rattle.pool_memory.proofs.GridParts.{part-fits}
+use Rattle.pool_access.proofs.Levels.{axes-ok, count-known}
 use Rattle.pool_preserve_plan.specs.Copies.{footprint, boxPlanned}
 use Rattle.pool_preserve_plan.proofs.Planned.{planned-covered, planned-unknown, planned-after, planned-held, GridThere, grid-there, part-box}
 use borrow.Author.Needs.{needs}

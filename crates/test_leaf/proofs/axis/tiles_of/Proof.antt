@@ -2,7 +2,6 @@
 use Prim.Native.Nat.{_≤_, _<_}
 use mathlib.Core.Path.{ap, _∙_}
 use native.Mathlib.Omega.{arith}
-use borrow.Author.Needs.{needs}
 use Rattle.base_blocks.specs.Lists.{ceilDiv}
 use Rattle.base_blocks.proofs.Numbers.{ceil-least}
 use Rattle.grid_axes.specs.Axes.{tileEdge, axisOf, tilesOf}

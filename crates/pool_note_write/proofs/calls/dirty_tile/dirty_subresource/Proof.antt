@@ -12,7 +12,8 @@ use Rattle.pool_rules.specs.HistorySizes.{gridStart}
 use Rattle.pool_rules.specs.RuleConstants.{gridStride, mostGrids}
 use Rattle.pool_records.specs.declared.texture.TextureRecord.{TextureRecord}
 use Rattle.pool_records.specs.Tilings.{EdgesAt}
-use Rattle.pool_history.proofs.GridParts.{axes-ok, count-known, part-fits}
+use Rattle.pool_memory.proofs.GridParts.{part-fits}
+use Rattle.pool_access.proofs.Levels.{axes-ok, count-known}
 use Rattle.pool_note_write.proofs.AtPlace.{shape-read, place-few, place-read, start-beside, edges-beside, start-read}
 use Rattle.pool_note_write.proofs.QueryCases.{dirty-part}
 use Rattle.pool_note_write.proofs.calls.dirty_tile.dirty_subresource.Statement.{statement}

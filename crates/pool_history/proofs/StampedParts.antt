@@ -1,59 +1,27 @@
--- A grid lent on as the part from its first stamp to its last, and put back. Assumes nothing.
-use mathlib.Core.Path.{_≡_, sym, ap, ap₂, _∙_, subst}
+-- A grid stamped in its part of the stamps, and put back. Assumes nothing.
+use mathlib.Core.Path.{_≡_, sym, ap, ap₂, _∙_}
 use mathlib.Core.Bool.{true}
 use mathlib.Core.List.{List, [], _++_, append-nil, append-assoc}
 use Prim.Native.Nat.{ℕ, _+_, _≤_}
 use native.Mathlib.Omega.{arith}
-use lib.ListN.{length, take, drop, getD, set, length-drop}
-use lib.Seq.{sets, sets-eq, length-take-le, drop-drop, drop-length, take-take, set-getD}
+use lib.ListN.{length, take, drop, getD, set}
+use lib.Seq.{sets, sets-eq, drop-drop, drop-length, set-getD}
 use Rattle.base_blocks.specs.Lists.{over}
 use Rattle.grid_shapes.specs.declared.shape.VersionShape.{VersionShape}
 use Rattle.grid_shapes.specs.Shapes.{isShape}
 use Rattle.grid_rects.specs.declared.rect.TexelRect.{TexelRect}
-use Rattle.grid_axes.specs.declared.axis.Axis.{Axis}
-use Rattle.grid_axes.specs.Axes.{AxisOk}
-use Rattle.grid_stamps.specs.Grids.{Tiling, tiled, StampGrid, gridIn, tilingOf, stampCount, stampedBy}
+use Rattle.grid_stamps.specs.Grids.{Tiling, StampGrid, gridIn, tilingOf, stampCount, stampedBy}
 use Rattle.grid_stamps.proofs.Tilings.{tiling-ok}
 use Rattle.grid_stamps.proofs.Stamps.{length-stamped}
 use Rattle.pool_memory.specs.Reading.{gridOn}
+use Rattle.pool_memory.proofs.GridParts.{part-long, part-grid}
 use Rattle.pool_memory.proofs.Rewritten.{sets-self}
 use Rattle.pool_history.specs.Remade.{newestStamp}
-
-module _ (s : VersionShape) (shaped : isShape s ≡ true) (level : ℕ) (across down : Axis) (f : across ≡ tilingOf s level .across)
-    (g : down ≡ tilingOf s level .down) where
-  pub axes-ok : AxisOk across × AxisOk down
-  axes-ok = let ok = tiling-ok s shaped level in (subst AxisOk (sym f) (ok .across), subst AxisOk (sym g) (ok .down))
-
-  pub count-known : (r : ℕ) → r ≡ stampCount (tiled across down) → r ≡ stampCount (tilingOf s level)
-  count-known r e = e ∙ ap stampCount (ap₂ tiled f g)
 
 module _ (s : VersionShape) (shaped : isShape s ≡ true) (level : ℕ) (newest stamps : List ℕ) (p at : ℕ)
     (room : at + stampCount (tilingOf s level) ≤ length stamps) where
   abbrev count : ℕ
   count = stampCount (tilingOf s level)
-
-  part-long : (m : ℕ) → m ≡ count → length (take m (drop at stamps)) ≡ count
-  part-long m e = length-take-le m (drop at stamps) (omega (arith, length-drop at stamps)) ∙ e
-
-  -- the part is the grid
-  pub part-grid : (m : ℕ) (g : Tiling) → m ≡ count → g ≡ tilingOf s level
-      → gridIn g (getD newest p 0) (take m (drop at stamps)) ≡ gridOn s level newest stamps p at
-  unfolding gridOn gridIn
-  part-grid m g e f =
-      ap₂ (λ (h : Tiling) (i : ℕ). gridIn h (getD newest p 0) (take i (drop at stamps))) f e
-      ∙ (λ i. record { newest = getD newest p 0; stamps = take-take count count (drop at stamps) (omega arith) i })
-
-  -- what it has to be to be lent on
-  pub part-fits : (m : ℕ) (across down : Axis) → m ≡ count → across ≡ tilingOf s level .across → down ≡ tilingOf s level .down
-      → AxisOk across × AxisOk down × (stampCount (tiled across down) ≤ length (take m (drop at stamps)))
-  part-fits m across down e f g =
-      let ok = tiling-ok s shaped level in
-      (subst AxisOk (sym f) (ok .across), subst AxisOk (sym g) (ok .down), omega (arith, part-long m e, ap stampCount (ap₂ tiled f g)))
-
-  -- a grid's stamps, stamped or not, are as many as its tiles
-  pub length-grid : length (gridOn s level newest stamps p at .stamps) ≡ count
-  unfolding gridOn gridIn
-  length-grid = length-take-le count (drop at stamps) (omega (arith, length-drop at stamps))
 
   -- one written where it stands
   pub newest-stands : newest ≡ set newest p (gridOn s level newest stamps p at .newest)
@@ -70,7 +38,7 @@ module _ (s : VersionShape) (shaped : isShape s ≡ true) (level : ℕ) (newest 
 
     part-same : (m : ℕ) (g : Tiling) → m ≡ count → g ≡ tilingOf s level
         → stampedBy g r n (gridIn g (getD newest p 0) (take m (drop at stamps))) ≡ stampedGrid
-    part-same m g e f = ap₂ (λ (x : Tiling) (y : StampGrid). stampedBy x r n y) f (part-grid m g e f)
+    part-same m g e f = ap₂ (λ (x : Tiling) (y : StampGrid). stampedBy x r n y) f (part-grid s shaped level newest stamps p at room m g e f)
 
     -- the newest stamp that the stamping says
     pub newest-back : (m : ℕ) (g : Tiling) (latest : ℕ) → m ≡ count → g ≡ tilingOf s level
@@ -86,7 +54,7 @@ module _ (s : VersionShape) (shaped : isShape s ≡ true) (level : ℕ) (newest 
     part-back m g part e f h =
         let new = stampedGrid in
         let ln : length (new .stamps) ≡ count = length-stamped (tilingOf s level) (tiling-ok s shaped level) r n (gridOn s level newest stamps p at) in
-        let lp = part-long m e in
+        let lp = part-long s shaped level newest stamps p at room m e in
         let none : drop (length (new .stamps)) (take m (drop at stamps)) ≡ [] =
         ap (λ (i : ℕ). drop i (take m (drop at stamps))) (let q : length (new .stamps) ≡ length (take m (drop at stamps)) = omega (arith, ln, lp) in q)
         ∙ drop-length (take m (drop at stamps)) in
