@@ -104,7 +104,8 @@ def declare(folder, copied):
     os.makedirs(folder)
     mods = ''
     for c in copied:
-        for f in sorted(os.listdir('%s/crates/%s/src' % (root, c))):
+        # A folder below src/ has no types (grid_axes: tables).
+        for f in sorted(f for f in os.listdir('%s/crates/%s/src' % (root, c)) if f.endswith('.rt')):
             text = open('%s/crates/%s/src/%s' % (root, c, f)).read()
             types = re.findall(r'^pub (?:struct|enum) .*?^}\n', text, re.M | re.S)
             if types:
