@@ -41,7 +41,7 @@ if [ -x ../target/bin/test_pool ]; then
         cat -- "$log"
         exit 1
     }
-    for condition in Newest FirstStamp Tiling Oldest; do
+    for condition in Newest FirstStamp Tiling; do
         if ./stores_live.sh --wrong "$condition" ../target/bin/test_pool 0 2000 >"$log" 2>&1; then
             printf 'a judge without its condition %s was not seen\n' "$condition"
             exit 1

@@ -5,7 +5,7 @@
 #   compare/replay_live.sh PROGRAM [SEED ...]
 #
 # PROGRAM reads lists as crates/test_replay does. In the environment: LINES, the lines of each list (2000), and KINDS, the kinds of lists
-# (all, and spares). Without seeds a fixed set is used.
+# (all). Without seeds a fixed set is used.
 # Ends with 0 if every output is equal, or if the Rust's source is not at hand; else with another number. The first list that is answered
 # differently is left in difference.events in the build folder.
 set -u
@@ -38,7 +38,7 @@ fi
 
 cargo build --release --offline -q || fail 'the build over the published source failed'
 built=${CARGO_TARGET_DIR:-target}/release
-read -r -d '' -a kinds <<<"${KINDS:-$("$built/lists" kinds) spares}"
+read -r -d '' -a kinds <<<"${KINDS:-$("$built/lists" kinds)}"
 
 # Textures, versions, pages, answers. The first two have room for more than eight histories of ninety grids in one page.
 sizes=('16 64 1 90' '12 64 1 90' '9 20 2 90' '64 2000 13 90' '3 7 1 5' '4 8 0 90')

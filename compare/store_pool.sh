@@ -42,9 +42,6 @@ replayed_lists() {
     done
     seeded_list stamps 4 800 16 64 1 90
     seeded_list stamps 5 100 4 8 0 90
-    # Several spares of a texture, and each call that takes some of them away (02, W-205).
-    seeded_list spares 1 400 8 64 6 90
-    seeded_list spares 2 400 3 8 1 90
 }
 
 # The same lists with the pacing book lent from the first line on.

@@ -4,7 +4,7 @@ use std::collections::BTreeMap;
 
 use compare::limited::Limits;
 use compare::lines::lines_of;
-use compare::lists::{self, KINDS, OTHER_KINDS};
+use compare::lists::{self, KINDS};
 use compare::program::Program;
 use compare::shape::RawShape;
 use compare::stores::asks::ask;
@@ -51,7 +51,7 @@ fn each_condition_fails_alone_in_the_gate_and_is_missed() {
 /// Every pool that a list of the Rust's reaches is one, wherever its rings begin.
 #[test]
 fn the_rusts_pools_form_pools() {
-    for kind in KINDS.iter().chain(&OTHER_KINDS) {
+    for kind in KINDS {
         for seed in 0..16 {
             let limits = Limits {
                 textures: 6,
@@ -79,8 +79,8 @@ const OF_16: u64 = 68_721_573_888;
 fn small() -> Memory {
     let mut memory = Memory::lent(2, 4, 1);
     memory.counts = [1, 1, 2, 16, 3, 0, 1, 2, 1, 1, 1, 16_384, 50, 20_000, 0];
-    memory.record_mut(TEXTURES, 0).copy_from_slice(&[
-        7, 2, 64, 64, 1, 1, 0, 0, 0, 0, 0, 0, 0, 1, 2, 0, 0, 0, 1, 5, 16_384, 0, 0,
+    memory.slices[TEXTURES][..22].copy_from_slice(&[
+        7, 2, 64, 64, 1, 1, 0, 0, 0, 0, 0, 0, 0, 1, 2, 0, 0, 0, 1, 16_384, 0, 0,
     ]);
     memory
         .record_mut(RETIRING, 3)
@@ -101,7 +101,6 @@ fn a_small_pool_and_its_limits() {
         faults(&memory)
     };
     let limit = 1 << 48;
-    let retired = 3 * STRIDES[RETIRING];
     for (store, index, most, condition) in [
         (0, TRACKINGS, limit, Condition::Trackings),
         (0, CAP, u64::MAX, Condition::Cap),
@@ -113,9 +112,10 @@ fn a_small_pool_and_its_limits() {
         (2, TRACKING, limit, Condition::Tracking),
         (2, HISTORY, limit + 1, Condition::WriteCount),
         (2, BIRTH, limit, Condition::Birth),
-        (3, retired + RETIRED_HELD, limit, Condition::RetiredHeld),
-        (3, retired + RETIRED_BYTES, 1 << 44, Condition::RetiredBytes),
-        (5, SPARE_HELD, limit + 1, Condition::SpareHeld),
+        (3, 21 + 5, limit, Condition::RetiredHeld),
+        (3, 21 + 6, 1 << 44, Condition::RetiredBytes),
+        (5, 1, limit + 1, Condition::SpareHeld),
+        (5, 2, limit, Condition::Parking),
     ] {
         assert_eq!(told(store, index, most), [], "{condition:?}");
         if most < u64::MAX {
@@ -127,7 +127,7 @@ fn a_small_pool_and_its_limits() {
     assert_eq!(told(0, PARKED, 16_383), [Condition::ParkedTotal]);
     assert_eq!(told(0, DOOMING, 51), [Condition::DestroyTotal]);
     assert_eq!(
-        told(2, LEVELS, 0),
+        told(2, 5, 0),
         [Condition::Levels, Condition::Grids, Condition::GridStamps]
     );
     // Four by four tiles: the sixteenth stamp counts, the seventeenth number is free.
@@ -140,9 +140,9 @@ fn a_small_pool_and_its_limits() {
     }
     assert_eq!(told(6, 2, 9), []);
     // What is outside the rings and past the counts is free.
-    assert_eq!(told(2, STRIDES[TEXTURES], 7), []);
-    assert_eq!(told(3, RETIRED_SEQ, u64::MAX), []);
-    assert_eq!(told(4, DOOMED_BYTES, u64::MAX), []);
+    assert_eq!(told(2, 22, 7), []);
+    assert_eq!(told(3, 2, u64::MAX), []);
+    assert_eq!(told(4, 1, u64::MAX), []);
 }
 
 /// Three textures, the second of two levels (16 and 4 stamps), the third of one tile; the middle one may have no history.
@@ -161,10 +161,9 @@ fn packed(middle: bool) -> Memory {
     let bytes = [4_096, 5_120, 1];
     for place in 0..3 {
         let record = memory.record_mut(TEXTURES, place);
-        record[ID] = place as u64;
-        record[FORMAT..=KIND].copy_from_slice(&shapes[place]);
+        record[0] = place as u64;
+        record[1..7].copy_from_slice(&shapes[place]);
         record[HISTORY] = if place == 1 && !middle { 0 } else { 3 };
-        record[OLDEST] = NO_SPARES;
         record[BYTES] = bytes[place];
         [record[FIRST_GRID], record[FIRST_STAMP]] = starts[place];
     }
@@ -261,9 +260,8 @@ fn where_histories_stand() {
 fn tiled(shape: [u64; 6], bytes: u64, stamps: u64, tilings: &[u64]) -> Memory {
     let mut memory = Memory::lent(1, 1, 1);
     let record = memory.record_mut(TEXTURES, 0);
-    record[FORMAT..=KIND].copy_from_slice(&shape);
+    record[1..7].copy_from_slice(&shape);
     record[HISTORY] = 1;
-    record[OLDEST] = NO_SPARES;
     record[BYTES] = bytes;
     memory.counts[TRACKED] = 1;
     memory.counts[STAMPED] = stamps;
@@ -374,29 +372,20 @@ fn put_numbers(put: &str) -> Vec<u64> {
 /// the answers by hand say.
 #[test]
 fn asked_dumps() {
-    assert_eq!(compare_dumps([3, 1, 1, 2], "packed"), (3, 26));
-    assert_eq!(compare_dumps([1, 1, 1, 1], "tilings"), (3, 12));
-    assert_eq!(compare_dumps([2, 4, 0, 4], "oldest"), (0, 17));
-    assert_eq!(compare_dumps([1, 2, 0, 2], "oldest_taken"), (0, 3));
-    assert_eq!(compare_dumps([1, 1, 0, 1], "oldest_taken_last"), (0, 3));
-    assert_eq!(compare_dumps([1, 3, 0, 3], "oldest_trimmed"), (0, 3));
-    assert_eq!(compare_dumps([1, 2, 0, 2], "oldest_relieved"), (0, 3));
-    assert_eq!(compare_dumps([1, 1, 0, 1], "oldest_drained"), (0, 3));
-    assert_eq!(compare_dumps([2, 2, 0, 2], "oldest_forgotten"), (0, 3));
-    assert_eq!(compare_dumps([1, 1, 0, 1], "oldest_reshaped"), (0, 2));
+    assert_eq!(compare_dumps(3, 2, "packed"), (3, 26));
+    assert_eq!(compare_dumps(1, 1, "tilings"), (3, 12));
 }
 
-/// Tells how many dumps and how many answers were compared of the list with these sizes: textures, versions, pages, answers.
-fn compare_dumps(sizes: [usize; 4], name: &str) -> (usize, usize) {
-    let [textures, versions, pages, answers] = sizes;
+/// Tells how many dumps and how many answers were compared.
+fn compare_dumps(textures: usize, answers: usize, name: &str) -> (usize, usize) {
     let limits = Limits {
         textures,
-        versions,
-        pages,
+        versions: 1,
+        pages: 1,
         answers,
     };
     let asked = include_str!("../stored/pool.asked");
-    let header = format!("{textures},{versions},{pages},{answers},{name}\n");
+    let header = format!("{textures},1,1,{answers},{name}\n");
     let list = asked.split("\n=,").find(|list| list.starts_with(&header));
     let mut program = Program::new(limits, false);
     let (mut expected, mut dumps) = (None, 0);
@@ -426,7 +415,7 @@ fn compare_dumps(sizes: [usize; 4], name: &str) -> (usize, usize) {
         }
         if let Some(put) = line.strip_prefix(">> put,") {
             let numbers = put_numbers(put);
-            let memory = expected.get_or_insert_with(|| Memory::lent(textures, versions, pages));
+            let memory = expected.get_or_insert_with(|| Memory::lent(textures, 1, 1));
             *memory.number_mut(numbers[0] as usize, numbers[1] as usize) = numbers[2];
             continue;
         }
@@ -448,12 +437,12 @@ fn compare_dumps(sizes: [usize; 4], name: &str) -> (usize, usize) {
 /// The shape that a record names, without what is only compared.
 fn shape_of(record: &[u64]) -> RawShape {
     RawShape {
-        format: record[FORMAT],
-        width: record[WIDTH] as u32,
-        height: record[HEIGHT] as u32,
-        depth: record[DEPTH] as u32,
-        levels: record[LEVELS] as u32,
-        kind: record[KIND],
+        format: record[1],
+        width: record[2] as u32,
+        height: record[3] as u32,
+        depth: record[4] as u32,
+        levels: record[5] as u32,
+        kind: record[6],
         compared: [0; 6],
     }
 }

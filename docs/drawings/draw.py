@@ -263,7 +263,7 @@ def draw_stores():
     d = Drawing("stores", 1080, 540, "The six lent slices")
     d.text(30, 38, "The six lent slices of u64: filled places, and free places that are never read", size=16, anchor="start", weight="bold")
     rows = (
-        ("textures", "23 a texture", ((3, BLUE, ("7", "9", "12")), (3, None, ())), "tracked textures, packed, ascending id"),
+        ("textures", "22 a texture", ((3, BLUE, ("7", "9", "12")), (3, None, ())), "tracked textures, packed, ascending id"),
         ("spares", "3 a version", ((2, GREEN, ("of 7", "of 12")), (4, None, ())), "packed texture by texture, the oldest first"),
         ("retiring", "7 a version", ((1, None, ()), (1, AMBER, ("hand",)), (1, AMBER, ("queue",)), (3, None, ())), "a ring from place `head`: the hand's, then the queue"),
         ("doomed", "2 a version", ((1, RED, ("second",)), (4, None, ()), (1, RED, ("first",))), "a ring from place `first`; this one has wrapped"),

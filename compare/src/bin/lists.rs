@@ -4,7 +4,7 @@ use std::env;
 use std::io::{self, Write};
 use std::process::ExitCode;
 
-use compare::lists::{self, KINDS, OTHER_KINDS, sheets};
+use compare::lists::{self, KINDS, edges, sheets};
 use compare::options::{self, SIZES, SIZES_HELP};
 
 fn main() -> ExitCode {
@@ -18,8 +18,7 @@ fn main() -> ExitCode {
             eprintln!("lists: {fault}\nusage: lists KIND SEED LINES {SIZES}\n       lists kinds");
             eprintln!("       lists sheets KIND SEED LINES {SIZES}");
             let kinds = KINDS.join(" ");
-            let others = OTHER_KINDS.join(" or ");
-            eprintln!("  KIND: {kinds}, {others}\n  {SIZES_HELP}");
+            eprintln!("  KIND: {kinds}, or {}\n  {SIZES_HELP}", edges::EDGES);
             ExitCode::from(2)
         }
     }

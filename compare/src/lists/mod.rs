@@ -13,7 +13,6 @@ mod renames;
 mod shapes;
 pub mod sheets;
 pub mod sized;
-pub mod spares;
 mod stamps;
 mod texture;
 
@@ -26,9 +25,6 @@ use crate::replies::{Replies, Reply};
 pub const KINDS: [&str; 9] = [
     "renames", "texels", "chaos", "pressure", "fills", "ages", "shapes", "bursts", "stamps",
 ];
-
-/// Names kinds that stand beside those: no list of theirs is stored by `lists kinds`.
-pub const OTHER_KINDS: [&str; 2] = [edges::EDGES, spares::SPARES];
 
 /// Answers one line, appending to the output. A test may put something else than the Rust here.
 pub type Answering<'a> = Box<dyn FnMut(&[u8], &mut Vec<u8>) + 'a>;
@@ -113,8 +109,8 @@ pub fn list_beside(
     limits: Limits,
     answering: Answering,
 ) -> Option<Vec<u8>> {
-    let all = KINDS.iter().chain(&OTHER_KINDS);
-    let number = all.into_iter().position(|name| *name == kind)?;
+    let edges = (kind == edges::EDGES).then_some(KINDS.len());
+    let number = KINDS.iter().position(|name| *name == kind).or(edges)?;
     // Kinds of one seed are to differ in their numbers too.
     let random = Random::new(Random::new(seed).next().wrapping_add(number as u64));
     let mut list = List::new(seed, random, wanted, limits, answering);
@@ -128,7 +124,6 @@ pub fn list_beside(
         "shapes" => shapes::fill(&mut list),
         "bursts" => bursts::fill(&mut list),
         edges::EDGES => edges::fill(&mut list),
-        spares::SPARES => spares::fill(&mut list),
         _ => stamps::fill(&mut list),
     }
     Some(list.finish())

@@ -2,7 +2,7 @@
 
 use super::judge::{Condition, faults};
 use super::memory::*;
-use super::shapes::{first_spares, grid_columns, grids, stamp_count};
+use super::shapes::{grid_columns, grids, stamp_count};
 use crate::lists::sized;
 use crate::random::Random;
 use crate::sheet::LINE_BYTES;
@@ -54,9 +54,8 @@ pub fn ask(memory: &Memory, seed: u64, unasked: Option<Condition>) -> Asked {
             say("shape,2,16385,1,1,1,0,0,0,0,0,0,0", "");
         }
         say(&call, &answer);
-        // "No accepted call on a pool leaves anything else": a full one may take no further stamp, and each record keeps the number of the
-        // spare that is its oldest now.
-        if !answer.ends_with("same") {
+        // What an accepted take leaves is a pool, and a full one may take no further stamp.
+        if call.starts_with("take") && answer == FRESH {
             say("formed", "0\nsame");
         }
     } else {
@@ -75,7 +74,7 @@ fn some_id(memory: &Memory, random: &mut Random) -> u64 {
     if places == 0 || random.once_in(3) {
         return random.below(20);
     }
-    memory.record(TEXTURES, random.below(places) as usize)[ID]
+    memory.record(TEXTURES, random.below(places) as usize)[0]
 }
 
 /// The six fields of a shape: mostly a good one.
@@ -134,7 +133,7 @@ fn any_call(id: u64, random: &mut Random) -> String {
 fn settled_call(memory: &Memory, id: u64, random: &mut Random) -> (String, String) {
     let late = MOST + 1 + random.below(9);
     let refused = |outcome: u64| format!("{outcome}\nsame");
-    match random.below(26) {
+    match random.below(19) {
         0 => (format!("take,{id},2,16385,1,1,1,0,1,{late}"), refused(2)),
         1 => (format!("take,{id},2,1,1,1,1,0,1,{late}"), refused(3)),
         2 => (format!("plan,{id},-,0,0,1"), refused(2)),
@@ -159,7 +158,6 @@ fn settled_call(memory: &Memory, id: u64, random: &mut Random) -> (String, Strin
         12 => ("drain".into(), drained(memory)),
         13 | 14 => taken(memory, id, random),
         15 => printed(memory, random),
-        16..=22 => moved_spares(memory, id, random),
         _ => dirty(memory, id, random),
     }
 }
@@ -168,67 +166,12 @@ fn settled_call(memory: &Memory, id: u64, random: &mut Random) -> (String, Strin
 fn tracked(memory: &Memory, id: u64) -> Option<&[u64]> {
     (0..memory.counts[TRACKED] as usize)
         .map(|place| memory.record(TEXTURES, place))
-        .find(|record| record[ID] == id)
+        .find(|record| record[0] == id)
 }
 
 /// Whether the texture is tracked with a history.
 fn records(memory: &Memory, id: u64) -> bool {
     tracked(memory, id).is_some_and(|record| record[HISTORY] != 0)
-}
-
-/// A call that adds a spare or takes some away, where there are any: W-205's taking, parking, relief, trimming and forgetting. Draining is
-/// asked beside it.
-fn moved_spares(memory: &Memory, id: u64, random: &mut Random) -> (String, String) {
-    let done = "0".to_string();
-    match random.below(7) {
-        0..=2 => spare_taken(memory, id, random),
-        3 => {
-            let parked = format!("park,0,{}", submission(random).min(MOST));
-            let empty = memory.counts[POPPED] == 0;
-            (parked, if empty { "10\nsame".into() } else { done })
-        }
-        // Past the line, by some of the spares' bytes.
-        4 => {
-            let excess = 1 + random.below(memory.counts[PARKED] + 1);
-            let allocated = memory.counts[LINE].saturating_add(excess);
-            (format!("note,{allocated}"), done)
-        }
-        // About the age of the oldest spare, if the texture has any.
-        5 => {
-            let parked = tracked(memory, id).map_or(0, |record| record[OLDEST]);
-            let now = parked.min(MOST - 10) + 7 + random.below(4);
-            (format!("trim,{now}"), done)
-        }
-        _ => (format!("forget,{id}"), done),
-    }
-}
-
-/// A take of a tracked texture in its own shape: its newest spare, if it has one.
-fn spare_taken(memory: &Memory, id: u64, random: &mut Random) -> (String, String) {
-    // Leaves out numbers that the line has no room for: it takes those that are compared only up to 255.
-    let fits = |record: &[u64]| record[COMPARED].iter().all(|number| *number < 256);
-    let place = (0..memory.counts[TRACKED] as usize).find(|place| {
-        let record = memory.record(TEXTURES, *place);
-        record[ID] == id && fits(record)
-    });
-    let Some(place) = place else {
-        return (format!("forget,{id}"), "0".into());
-    };
-    let record = memory.record(TEXTURES, place);
-    let shape: Vec<String> = record[SHAPE].iter().map(u64::to_string).collect();
-    let (shape, records) = (shape.join(","), random.below(2));
-    let end = first_spares(memory)[place] as usize + record[OWN_SPARES] as usize;
-    let answer = if record[OWN_SPARES] == 0 {
-        FRESH.into()
-    } else {
-        let spare = memory.record(SPARES, end - 1);
-        let held = match spare[SPARE_HELD] {
-            0 => "-".to_string(),
-            count => (count - 1).to_string(),
-        };
-        format!("0,{},{held}", spare[SPARE_VIEW])
-    };
-    (format!("take,{id},{shape},{records},7"), answer)
 }
 
 /// A take that needs as many stamps as are free, the id's own counted as free, or one more: 6.
@@ -272,8 +215,8 @@ fn dirty(memory: &Memory, id: u64, random: &mut Random) -> (String, String) {
     let Some(record) = tracked(memory, id).filter(|record| record[HISTORY] != 0) else {
         return (format!("dirty,{id},0,0,0"), none);
     };
-    let levels = record[LEVELS];
-    let slice = random.below(if record[KIND] == 1 { 6 } else { 1 });
+    let levels = record[5];
+    let slice = random.below(if record[6] == 1 { 6 } else { 1 });
     let level = random.below(levels);
     let before = u128::from(slice) * u128::from(levels) + u128::from(level);
     let newest = record[FIRST_GRID] as usize + STRIDES[NEWEST] * before as usize;
@@ -301,11 +244,11 @@ fn drained(memory: &Memory) -> String {
     let counts = &memory.counts;
     let queue = memory.ring(RETIRING, counts[HEAD] + counts[POPPED], counts[QUEUED]);
     let mut views: Vec<u64> = queue
-        .map(|place| memory.record(RETIRING, place)[RETIRED_VIEW])
+        .map(|place| memory.record(RETIRING, place)[1])
         .collect();
     let waiting = memory.ring(DOOMED, counts[FIRST], counts[WAITING]);
-    views.extend(waiting.map(|place| memory.record(DOOMED, place)[DOOMED_VIEW]));
-    views.extend((0..counts[KEPT] as usize).map(|place| memory.record(SPARES, place)[SPARE_VIEW]));
+    views.extend(waiting.map(|place| memory.record(DOOMED, place)[0]));
+    views.extend((0..counts[KEPT] as usize).map(|place| memory.record(SPARES, place)[0]));
     let lines = views.iter().map(|view| format!("\n{view}"));
     format!("0,{}{}", views.len(), lines.collect::<String>())
 }

@@ -1,42 +1,39 @@
-//! Damage to pools: one condition broken, a number at its limit, or any few numbers altered.
-
-use std::ops::Range;
+//! Pools from seeds, and damage to them: one condition broken, a number at its limit, or any few numbers altered.
 
 use super::judge::{self, CONDITIONS, Condition as C};
 use super::memory::*;
 use super::moves;
-use super::oldest;
-use super::pools::pool;
 use super::tilings;
+use crate::limited::Limits;
+use crate::lines::lines_of;
+use crate::lists;
+use crate::program::Program;
 use crate::random::Random;
 
 /// 2^48 and 2^44.
 const MOST: u64 = 1 << 48;
 const MOST_BYTES: u64 = 1 << 44;
 
-/// Sorts of damage, by which seeds go in turn: each condition alone, those of `moves`, tilings, the oldest spare's number, numbers at
-/// their limit, any numbers.
-const SORTS: u64 = 86;
+/// The kinds of lists that make pools small enough.
+const KINDS: [&str; 7] = [
+    "texels", "ages", "pressure", "fills", "bursts", "stamps", "stamps",
+];
+
+/// The most numbers other than 0 in a pool that is taken.
+const HEAVIEST: usize = 140;
+
+/// Sorts of damage, by which seeds go in turn: each condition alone, those of `moves`, tilings, numbers at their limit, any numbers.
+const SORTS: u64 = 80;
 const MOVES: usize = CONDITIONS.len();
 const TILINGS: usize = MOVES + 8;
-const NUMBERS: usize = TILINGS + 3;
-const LIMITS: usize = NUMBERS + 5;
+const LIMITS: usize = TILINGS + 3;
 const ANY: usize = LIMITS + 12;
 
-/// The most pools that are tried: far more than any damage needs, unless the judge does not see it.
-const MOST_TRIES: usize = 100_000;
-
-/// Memory from a seed: a pool that one of the Rust's lists made, damaged in one of six ways.
+/// Memory from a seed: a pool that one of the Rust's lists made, damaged in one of five ways.
 pub fn store(seed: u64) -> Memory {
-    let [_, memory] = damaged(seed);
-    memory
-}
-
-/// Returns the pool of a seed, and the memory that damage made of it.
-pub fn damaged(seed: u64) -> [Memory; 2] {
     let mut random = Random::new(seed.wrapping_mul(0x2545_f491_4f6c_dd1d));
     let sort = (seed % SORTS) as usize;
-    for _ in 0..MOST_TRIES {
+    loop {
         let pool = pool(&mut random);
         let mut memory = pool.clone();
         let done = match sort {
@@ -46,14 +43,11 @@ pub fn damaged(seed: u64) -> [Memory; 2] {
                 damage(&mut memory, target, &mut random) && is_alone(&memory, target)
             }
             MOVES..TILINGS => moves::move_histories(&mut memory, sort - MOVES, &mut random),
-            TILINGS..NUMBERS => {
-                let kind = turn(seed, TILINGS..NUMBERS) % tilings::SORTS;
-                tilings::mistile(&mut memory, kind, &mut random) && is_alone(&memory, C::Tiling)
-            }
-            NUMBERS..LIMITS => {
-                let kind = turn(seed, NUMBERS..LIMITS) % oldest::SORTS;
-                oldest::misdate(&mut memory, kind, &mut random)
-                    && is_alone(&memory, oldest::broken(kind))
+            // Takes each sort of damage to a tiling in turn: some need shapes that few pools have, and would be seldom met by chance.
+            TILINGS..LIMITS => {
+                let turn = seed / SORTS * (LIMITS - TILINGS) as u64 + (sort - TILINGS) as u64;
+                tilings::mistile(&mut memory, turn % tilings::SORTS, &mut random)
+                    && is_alone(&memory, C::Tiling)
             }
             // A number is put at its limit, and the memory is a pool still.
             LIMITS..ANY => {
@@ -68,29 +62,72 @@ pub fn damaged(seed: u64) -> [Memory; 2] {
             }
         };
         if done {
-            return [pool, memory];
+            return memory;
         }
     }
-    panic!("seed {seed}: no pool was found that the judge sees damaged so");
-}
-
-/// Counts the seeds before this one whose sort is in the range: by it damage of several sorts is taken in turn, since some need pools that
-/// few lists make, and would be seldom met by chance.
-fn turn(seed: u64, sorts: Range<usize>) -> u64 {
-    seed / SORTS * sorts.len() as u64 + seed % SORTS - sorts.start as u64
-}
-
-/// Returns the name of the damage to what a record keeps of its oldest spare that is done for the seed, if it is one of those.
-pub fn oldest_damage(seed: u64) -> Option<String> {
-    let sorts = NUMBERS..LIMITS;
-    let done = sorts.contains(&((seed % SORTS) as usize));
-    done.then(|| oldest::name(turn(seed, sorts) % oldest::SORTS))
 }
 
 /// Whether the condition alone is broken, or is the one that cannot be.
 fn is_alone(memory: &Memory, condition: C) -> bool {
     let broken = judge::faults(memory);
     broken == [condition] || (condition == judge::NEVER_ALONE && broken.contains(&condition))
+}
+
+/// A pool as a list left it, with some numbers in the places that are free.
+fn pool(random: &mut Random) -> Memory {
+    loop {
+        let limits = Limits {
+            textures: random.within(1, 4) as usize,
+            versions: random.within(1, 8) as usize,
+            pages: random.one_of(&[0, 1, 1, 1, 2, 3, 7]) as usize,
+            answers: 8,
+        };
+        let kind = KINDS[random.below(KINDS.len() as u64) as usize];
+        let list = lists::list(kind, random.next(), random.within(2, 70), limits)
+            .expect("there is such a kind");
+        let mut program = Program::new(limits, false);
+        lines_of(&list).for_each(|line| program.run(line, &mut Vec::new()));
+        let mut place = || random.below(limits.versions as u64) as usize;
+        let (head, first) = (place(), place());
+        let Some(pool) = program.pool() else { continue };
+        let mut memory = pool.memory(head, first);
+        if memory.weight() <= HEAVIEST {
+            fill_free(&mut memory, random);
+            return memory;
+        }
+    }
+}
+
+/// Puts numbers where nothing is read: past the counts, outside the rings.
+fn fill_free(memory: &mut Memory, random: &mut Random) {
+    for _ in 0..random.below(4) {
+        let slice = random.below(6) as usize;
+        let free: Vec<usize> = free_indexes(memory, slice);
+        if !free.is_empty() {
+            let index = free[random.below(free.len() as u64) as usize];
+            memory.slices[slice][index] = random.next() >> random.below(64);
+        }
+    }
+}
+
+fn free_indexes(memory: &Memory, slice: usize) -> Vec<usize> {
+    let counts = &memory.counts;
+    let packed = |stride: usize, count: usize| {
+        (stride * counts[count] as usize..memory.slices[slice].len()).collect()
+    };
+    let ring = |head: usize, count: u64| {
+        let used: Vec<usize> = memory.ring(slice, counts[head], count).collect();
+        let free = |index: &usize| !used.contains(&(index / STRIDES[slice]));
+        (0..memory.slices[slice].len()).filter(free).collect()
+    };
+    match slice {
+        TEXTURES => packed(STRIDES[TEXTURES], TRACKED),
+        RETIRING => ring(HEAD, counts[POPPED] + counts[QUEUED]),
+        DOOMED => ring(FIRST, counts[WAITING]),
+        SPARES => packed(STRIDES[SPARES], KEPT),
+        NEWEST => packed(1, GRIDS),
+        _ => packed(1, STAMPED),
+    }
 }
 
 /// A number that a condition limits: its store, its index and the largest that it may be.
@@ -108,12 +145,12 @@ fn limited(memory: &Memory, condition: C, random: &mut Random) -> Option<Limited
         Some((store, index, most))
     };
     match condition {
-        C::Format => return texture(FORMAT, 8),
-        C::Width => return texture(WIDTH, 16_384),
-        C::Height => return texture(HEIGHT, 16_384),
-        C::Depth => return texture(DEPTH, 2_048),
-        C::Levels => return texture(LEVELS, 15),
-        C::Kind => return texture(KIND, 2),
+        C::Format => return texture(1, 8),
+        C::Width => return texture(2, 16_384),
+        C::Height => return texture(3, 16_384),
+        C::Depth => return texture(4, 2_048),
+        C::Levels => return texture(5, 15),
+        C::Kind => return texture(6, 2),
         C::Tracking => return texture(TRACKING, MOST),
         C::WriteCount => return texture(HISTORY, MOST + 1),
         C::Birth => return texture(BIRTH, MOST),
@@ -129,12 +166,12 @@ fn limited(memory: &Memory, condition: C, random: &mut Random) -> Option<Limited
     };
     let retiring = counts[POPPED] + counts[QUEUED];
     match condition {
-        C::Submission => return ring(RETIRING, HEAD, retiring, RETIRED_SEQ, MOST),
-        C::RetiredTracking => return ring(RETIRING, HEAD, retiring, RETIRED_TRACKING, MOST),
-        C::RetiredBirth => return ring(RETIRING, HEAD, retiring, RETIRED_BIRTH, MOST),
-        C::RetiredHeld => return ring(RETIRING, HEAD, retiring, RETIRED_HELD, MOST),
-        C::RetiredBytes => return ring(RETIRING, HEAD, retiring, RETIRED_BYTES, MOST_BYTES),
-        C::DoomedBytes => return ring(DOOMED, FIRST, counts[WAITING], DOOMED_BYTES, MOST_BYTES),
+        C::Submission => return ring(RETIRING, HEAD, retiring, 2, MOST),
+        C::RetiredTracking => return ring(RETIRING, HEAD, retiring, 3, MOST),
+        C::RetiredBirth => return ring(RETIRING, HEAD, retiring, 4, MOST),
+        C::RetiredHeld => return ring(RETIRING, HEAD, retiring, 5, MOST),
+        C::RetiredBytes => return ring(RETIRING, HEAD, retiring, 6, MOST_BYTES),
+        C::DoomedBytes => return ring(DOOMED, FIRST, counts[WAITING], 1, MOST_BYTES),
         _ => {}
     }
     let places = |slice: usize| memory.places(slice) as u64;
@@ -144,8 +181,8 @@ fn limited(memory: &Memory, condition: C, random: &mut Random) -> Option<Limited
         Some((store, index, most))
     };
     Some(match condition {
-        C::SpareHeld => return spare(SPARE_HELD, MOST + 1),
-        C::Parking => return spare(SPARE_PARKED, MOST),
+        C::SpareHeld => return spare(1, MOST + 1),
+        C::Parking => return spare(2, MOST),
         C::TexturePlaces => (0, TRACKED, places(TEXTURES)),
         C::GridPlaces => (0, GRIDS, memory.slices[NEWEST].len() as u64),
         C::VersionPlaces => (0, QUEUED, places(RETIRING) - (used - counts[QUEUED])),
@@ -170,9 +207,6 @@ fn to_the_limit(memory: &mut Memory, condition: C, random: &mut Random) -> bool 
     if condition == C::Tiling {
         return tilings::widen(memory, random);
     }
-    if condition == C::Oldest {
-        return oldest::date(memory, random);
-    }
     let Some((store, index, most)) = limited(memory, condition, random) else {
         return false;
     };
@@ -189,9 +223,8 @@ fn settle(memory: &mut Memory, condition: C) {
             let places: Vec<usize> = memory
                 .ring(DOOMED, counts[FIRST], counts[WAITING])
                 .collect();
-            let sum = |total: u64, place: usize| {
-                total.wrapping_add(memory.record(DOOMED, place)[DOOMED_BYTES])
-            };
+            let sum =
+                |total: u64, place: usize| total.wrapping_add(memory.record(DOOMED, place)[1]);
             memory.counts[DOOMING] = places.into_iter().fold(0, sum);
         }
         C::Spares | C::Bytes => {
@@ -199,9 +232,7 @@ fn settle(memory: &mut Memory, condition: C) {
             memory.counts[PARKED] = records
                 .map(|record| record[OWN_SPARES].wrapping_mul(record[BYTES]))
                 .fold(0, u64::wrapping_add);
-            oldest::keep_oldest(memory);
         }
-        C::Parking => oldest::keep_oldest(memory),
         C::Cap => memory.counts[CAP] = counts[PARKED],
         _ => {}
     }
@@ -221,7 +252,6 @@ fn damage(memory: &mut Memory, condition: C, random: &mut Random) -> bool {
         C::FirstStamp => moves::move_starts(memory, &[FIRST_STAMP], random),
         C::Stamps | C::Newest => moves::misstamp(memory, condition, random),
         C::Tiling => tilings::mistile(memory, random.below(tilings::SORTS), random),
-        C::Oldest => oldest::misdate(memory, random.below(oldest::SORTS), random),
         C::Cap if memory.counts[PARKED] > 0 => {
             memory.counts[CAP] = random.below(memory.counts[PARKED]);
             true
@@ -302,15 +332,15 @@ fn mix_ids(memory: &mut Memory, random: &mut Random) -> bool {
     }
     let place = random.below(memory.counts[TRACKED] - 1) as usize;
     let (id, next) = (
-        memory.record(TEXTURES, place)[ID],
-        memory.record(TEXTURES, place + 1)[ID],
+        memory.record(TEXTURES, place)[0],
+        memory.record(TEXTURES, place + 1)[0],
     );
     match random.below(3) {
-        0 => memory.record_mut(TEXTURES, place + 1)[ID] = id,
-        1 => memory.record_mut(TEXTURES, place)[ID] = next.saturating_add(random.below(2)),
+        0 => memory.record_mut(TEXTURES, place + 1)[0] = id,
+        1 => memory.record_mut(TEXTURES, place)[0] = next.saturating_add(random.below(2)),
         _ => {
-            memory.record_mut(TEXTURES, place)[ID] = next;
-            memory.record_mut(TEXTURES, place + 1)[ID] = id;
+            memory.record_mut(TEXTURES, place)[0] = next;
+            memory.record_mut(TEXTURES, place + 1)[0] = id;
         }
     }
     true

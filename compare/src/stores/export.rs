@@ -70,15 +70,14 @@ fn write_texture(memory: &mut Memory, place: usize, row: &TextureRow) {
         memory.counts[STAMPED] += grid.stamps.len() as u64;
     }
     let record = memory.record_mut(TEXTURES, place);
-    record[ID] = row.id;
-    record[SHAPE].copy_from_slice(&row.shape);
+    record[0] = row.id;
+    record[1..13].copy_from_slice(&row.shape);
     record[TRACKING] = row.tracking;
     record[HISTORY] = row.history.as_ref().map_or(0, |(writes, _)| writes + 1);
     record[BIRTH] = row.birth;
     record[RENAME] = row.rename;
     record[DUE] = row.due;
     record[OWN_SPARES] = row.spares.len() as u64;
-    record[OLDEST] = (row.spares.first()).map_or(NO_SPARES, |(_, _, parked)| *parked);
     record[BYTES] = row.bytes;
     record[FIRST_GRID] = first_grid;
     record[FIRST_STAMP] = first_stamp;

@@ -1,6 +1,6 @@
 //! Whether lent memory forms a pool: document 01's paragraph "Stores form a pool when", read over numbers, with 02's grids "without
-//! overlap or gap" (W-201) in place of pages, its stored number of the oldest spare (W-205), and what our layout asks so that they can
-//! be read (docs/DECISIONS.md, "What `isPool` asks beyond 01's words").
+//! overlap or gap" (W-201) in place of pages, and what our layout asks so that they can be read (docs/DECISIONS.md, "What `isPool`
+//! asks beyond 01's words").
 //!
 //! Written from the text, to be held against the test that the program makes. Sums are of 128 bits: nothing wraps.
 
@@ -8,8 +8,7 @@ use std::collections::BTreeSet;
 
 use super::memory::*;
 use super::shapes::{
-    grids, newest_count, oldest_numbers, passes_2, placed_tilings, shape_bytes, stamp_count,
-    tracked,
+    grids, newest_count, passes_2, placed_tilings, shape_bytes, stamp_count, tracked,
 };
 
 /// 2^48: no count and no submission is larger.
@@ -70,8 +69,6 @@ pub enum Condition {
     // "spares belong to tracked textures and have their bytes".
     Spares,
     Bytes,
-    // "the parking number of the spare parked first in the texture's record, or none where it has no spares".
-    Oldest,
     // "no version's bytes pass 2^44".
     RetiredBytes,
     DoomedBytes,
@@ -90,7 +87,7 @@ pub enum Condition {
 use Condition as C;
 
 /// All of them.
-pub const CONDITIONS: [Condition; 47] = [
+pub const CONDITIONS: [Condition; 46] = [
     C::Places,
     C::Lengths,
     C::TexturePlaces,
@@ -128,7 +125,6 @@ pub const CONDITIONS: [Condition; 47] = [
     C::Tiling,
     C::Spares,
     C::Bytes,
-    C::Oldest,
     C::RetiredBytes,
     C::DoomedBytes,
     C::ParkedTotal,
@@ -224,19 +220,19 @@ fn count_faults(memory: &Memory, broken: &mut BTreeSet<Condition>) {
 }
 
 fn texture_faults(memory: &Memory, broken: &mut BTreeSet<Condition>) {
-    let ids: Vec<u64> = tracked(memory).map(|record| record[ID]).collect();
+    let ids: Vec<u64> = tracked(memory).map(|record| record[0]).collect();
     ask(
         broken,
         C::Ids,
         ids.is_sorted_by(|before, after| before < after),
     );
     for record in tracked(memory) {
-        ask(broken, C::Format, record[FORMAT] <= 8);
-        ask(broken, C::Width, record[WIDTH] <= 16_384);
-        ask(broken, C::Height, record[HEIGHT] <= 16_384);
-        ask(broken, C::Depth, record[DEPTH] <= 2_048);
-        ask(broken, C::Levels, (1..=15).contains(&record[LEVELS]));
-        ask(broken, C::Kind, record[KIND] <= 2);
+        ask(broken, C::Format, record[1] <= 8);
+        ask(broken, C::Width, record[2] <= 16_384);
+        ask(broken, C::Height, record[3] <= 16_384);
+        ask(broken, C::Depth, record[4] <= 2_048);
+        ask(broken, C::Levels, (1..=15).contains(&record[5]));
+        ask(broken, C::Kind, record[6] <= 2);
         ask(broken, C::Tracking, record[TRACKING] <= MOST);
         // The history is the write count and one.
         ask(broken, C::WriteCount, record[HISTORY] <= MOST + 1);
@@ -253,7 +249,6 @@ fn texture_faults(memory: &Memory, broken: &mut BTreeSet<Condition>) {
         .map(|record| u128::from(record[OWN_SPARES]))
         .sum();
     ask(broken, C::Spares, kept == u128::from(memory.counts[KEPT]));
-    oldest_faults(memory, broken);
     if tracked(memory).all(passes_2) {
         grid_faults(memory, broken);
     }
@@ -285,15 +280,6 @@ fn start_faults(memory: &Memory, broken: &mut BTreeSet<Condition>) {
     );
 }
 
-/// "A pool whose stored number is not that of its oldest spare is no pool" (02, W-205). A number that no parking number can be stands for
-/// none, so a texture without spares has that one alone, and one with spares another.
-fn oldest_faults(memory: &Memory, broken: &mut BTreeSet<Condition>) {
-    for (record, oldest) in tracked(memory).zip(oldest_numbers(memory)) {
-        let holds = oldest.is_none_or(|number| record[OLDEST] == number);
-        ask(broken, C::Oldest, holds);
-    }
-}
-
 fn grid_faults(memory: &Memory, broken: &mut BTreeSet<Condition>) {
     for grid in grids(memory) {
         let stamps = grid.of(&memory.slices[STAMPS]);
@@ -322,20 +308,20 @@ fn waiting(memory: &Memory) -> impl Iterator<Item = &[u64]> {
 
 fn version_faults(memory: &Memory, broken: &mut BTreeSet<Condition>) {
     for record in retiring(memory) {
-        ask(broken, C::Submission, record[RETIRED_SEQ] <= MOST);
-        ask(broken, C::RetiredTracking, record[RETIRED_TRACKING] <= MOST);
-        ask(broken, C::RetiredBirth, record[RETIRED_BIRTH] <= MOST);
-        ask(broken, C::RetiredHeld, record[RETIRED_HELD] <= MOST);
-        ask(broken, C::RetiredBytes, record[RETIRED_BYTES] <= MOST_BYTES);
+        ask(broken, C::Submission, record[2] <= MOST);
+        ask(broken, C::RetiredTracking, record[3] <= MOST);
+        ask(broken, C::RetiredBirth, record[4] <= MOST);
+        ask(broken, C::RetiredHeld, record[5] <= MOST);
+        ask(broken, C::RetiredBytes, record[6] <= MOST_BYTES);
     }
     for record in waiting(memory) {
-        ask(broken, C::DoomedBytes, record[DOOMED_BYTES] <= MOST_BYTES);
+        ask(broken, C::DoomedBytes, record[1] <= MOST_BYTES);
     }
     for place in 0..memory.counts[KEPT] as usize {
         let record = memory.record(SPARES, place);
         // Held writes are 0 where unknown, else the count and one.
-        ask(broken, C::SpareHeld, record[SPARE_HELD] <= MOST + 1);
-        ask(broken, C::Parking, record[SPARE_PARKED] <= MOST);
+        ask(broken, C::SpareHeld, record[1] <= MOST + 1);
+        ask(broken, C::Parking, record[2] <= MOST);
     }
 }
 
@@ -347,9 +333,7 @@ fn total_faults(memory: &Memory, broken: &mut BTreeSet<Condition>) {
         C::ParkedTotal,
         u128::from(memory.counts[PARKED]) == parked,
     );
-    let dooming: u128 = waiting(memory)
-        .map(|record| u128::from(record[DOOMED_BYTES]))
-        .sum();
+    let dooming: u128 = waiting(memory).map(|record| u128::from(record[1])).sum();
     ask(
         broken,
         C::DestroyTotal,

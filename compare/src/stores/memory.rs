@@ -1,11 +1,9 @@
 //! The memory that a caller lends, in the layout of docs/POOL.md ("What is lent"): numbers and nothing else.
 
-use std::ops::Range;
-
 use crate::text::push_field;
 
 /// Numbers that a place has in each of the six slices: in `newest` a grid's newest stamp and its tiling; stamps are lent by the page.
-pub const STRIDES: [usize; 6] = [23, 7, 2, 3, 2, 1_024];
+pub const STRIDES: [usize; 6] = [22, 7, 2, 3, 2, 1_024];
 
 /// The most grids of a history: six slices of fifteen levels.
 pub const MOST_GRIDS: usize = 90;
@@ -40,49 +38,16 @@ pub const SLOT: usize = 8;
 pub const PRESSED: usize = 9;
 pub const EXCESS: usize = 10;
 
-/// What a texture's record has. `FIRST_GRID` is a place in `newest`.
-pub const ID: usize = 0;
-pub const FORMAT: usize = 1;
-pub const WIDTH: usize = 2;
-pub const HEIGHT: usize = 3;
-pub const DEPTH: usize = 4;
-pub const LEVELS: usize = 5;
-pub const KIND: usize = 6;
+/// What a texture's record has behind its id and the twelve numbers of its shape. `FIRST_GRID` is a place in `newest`.
 pub const TRACKING: usize = 13;
 pub const HISTORY: usize = 14;
 pub const BIRTH: usize = 15;
 pub const RENAME: usize = 16;
 pub const DUE: usize = 17;
 pub const OWN_SPARES: usize = 18;
-pub const OLDEST: usize = 19;
-pub const BYTES: usize = 20;
-pub const FIRST_GRID: usize = 21;
-pub const FIRST_STAMP: usize = 22;
-
-/// The twelve numbers of a record's shape: those above from the format to the kind, and those that are compared only, which are storage
-/// mode, usage and four swizzle bytes.
-pub const SHAPE: Range<usize> = FORMAT..TRACKING;
-pub const COMPARED: Range<usize> = KIND + 1..TRACKING;
-
-/// What a record has for the oldest spare's parking number where there are no spares: 2^64 - 1, which no parking number is.
-pub const NO_SPARES: u64 = u64::MAX;
-
-/// What a spare's record has.
-pub const SPARE_VIEW: usize = 0;
-pub const SPARE_HELD: usize = 1;
-pub const SPARE_PARKED: usize = 2;
-
-/// What the record of a retired version has behind its id.
-pub const RETIRED_VIEW: usize = 1;
-pub const RETIRED_SEQ: usize = 2;
-pub const RETIRED_TRACKING: usize = 3;
-pub const RETIRED_BIRTH: usize = 4;
-pub const RETIRED_HELD: usize = 5;
-pub const RETIRED_BYTES: usize = 6;
-
-/// What the record of a version to be destroyed has.
-pub const DOOMED_VIEW: usize = 0;
-pub const DOOMED_BYTES: usize = 1;
+pub const BYTES: usize = 19;
+pub const FIRST_GRID: usize = 20;
+pub const FIRST_STAMP: usize = 21;
 
 /// What stands in `newest` behind a grid's newest stamp: how many stamps of its history stand before its own, and its tiles' edges.
 #[derive(Clone, Copy, Debug, PartialEq, Eq)]

@@ -7,7 +7,5 @@ pub mod judge;
 pub mod lines;
 pub mod memory;
 mod moves;
-mod oldest;
-mod pools;
 mod shapes;
 mod tilings;

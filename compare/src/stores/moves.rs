@@ -102,12 +102,12 @@ pub fn claim(memory: &mut Memory, past: u64, random: &mut Random) -> bool {
         return false;
     };
     let record = memory.record_mut(TEXTURES, place);
-    record[FORMAT] = shape.format;
-    record[WIDTH] = shape.width.into();
-    record[HEIGHT] = shape.height.into();
-    record[DEPTH] = shape.depth.into();
-    record[LEVELS] = shape.levels.into();
-    record[KIND] = shape.kind;
+    record[1] = shape.format;
+    record[2] = shape.width.into();
+    record[3] = shape.height.into();
+    record[4] = shape.depth.into();
+    record[5] = shape.levels.into();
+    record[6] = shape.kind;
     record[HISTORY] = record[HISTORY].max(1);
     record[BYTES] = shapes::shape_bytes(record);
     tilings::stand_anew(memory);
@@ -190,9 +190,9 @@ fn make_twin(memory: &mut Memory, place: usize) -> bool {
     }
     let before = memory.record_mut(TEXTURES, place - 1);
     before[HISTORY] = before[HISTORY].max(1);
-    let (shape, bytes) = (before[SHAPE].to_vec(), before[BYTES]);
+    let (shape, bytes) = (before[1..13].to_vec(), before[BYTES]);
     let record = memory.record_mut(TEXTURES, place);
-    record[SHAPE].copy_from_slice(&shape);
+    record[1..13].copy_from_slice(&shape);
     record[HISTORY] = record[HISTORY].max(1);
     record[BYTES] = bytes;
     tilings::stand_anew(memory);

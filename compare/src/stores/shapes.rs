@@ -1,4 +1,4 @@
-//! What a texture's record says of its shape, its history and its spares: from documents 01 and 02, over numbers of any size.
+//! What a texture's record says of its shape and its history: from documents 01 and 02, over numbers of any size.
 
 use super::memory::*;
 use crate::shape::BLOCKS;
@@ -10,7 +10,7 @@ pub fn tracked(memory: &Memory) -> impl Iterator<Item = &[u64]> {
 
 /// Slices of a shape's kind: six of a cube.
 fn slices(record: &[u64]) -> u64 {
-    if record[KIND] == 1 { 6 } else { 1 }
+    if record[6] == 1 { 6 } else { 1 }
 }
 
 /// Grids of a texture's history, if it has one: one for each slice and level.
@@ -18,7 +18,7 @@ fn grid_count(record: &[u64]) -> u128 {
     if record[HISTORY] == 0 {
         return 0;
     }
-    u128::from(slices(record)) * u128::from(record[LEVELS])
+    u128::from(slices(record)) * u128::from(record[5])
 }
 
 /// Numbers of `newest` that a texture's history has: two for each grid.
@@ -32,19 +32,19 @@ pub fn stamp_count(record: &[u64]) -> u128 {
     if record[HISTORY] == 0 {
         return 0;
     }
-    let levels = record[LEVELS];
+    let levels = record[5];
     let some = (0..levels.min(64)).map(|level| u128::from(grid_stamps(record, level)));
     u128::from(slices(record)) * (some.sum::<u128>() + u128::from(levels.saturating_sub(64)))
 }
 
 /// Whether a record's shape passes refusal 2.
 pub fn passes_2(record: &[u64]) -> bool {
-    record[FORMAT] <= 8
-        && record[WIDTH] <= 16_384
-        && record[HEIGHT] <= 16_384
-        && record[DEPTH] <= 2_048
-        && (1..=15).contains(&record[LEVELS])
-        && record[KIND] <= 2
+    record[1] <= 8
+        && record[2] <= 16_384
+        && record[3] <= 16_384
+        && record[4] <= 2_048
+        && (1..=15).contains(&record[5])
+        && record[6] <= 2
 }
 
 /// "(base, at least 1) shifted right by the level, at least 1".
@@ -54,18 +54,18 @@ fn level_extent(base: u64, level: u64) -> u64 {
 
 /// The bytes of a version of a shape that passes 2: "per level, whole blocks across times down times depth (volumes only) times block bytes; summed; times slices".
 pub fn shape_bytes(record: &[u64]) -> u64 {
-    let (edge, bytes) = BLOCKS[record[FORMAT] as usize];
+    let (edge, bytes) = BLOCKS[record[1] as usize];
     let level_bytes = |level| {
-        let across = level_extent(record[WIDTH], level).div_ceil(edge);
-        let down = level_extent(record[HEIGHT], level).div_ceil(edge);
-        let deep = if record[KIND] == 2 {
-            level_extent(record[DEPTH], level)
+        let across = level_extent(record[2], level).div_ceil(edge);
+        let down = level_extent(record[3], level).div_ceil(edge);
+        let deep = if record[6] == 2 {
+            level_extent(record[4], level)
         } else {
             1
         };
         across * down * deep * bytes
     };
-    (0..record[LEVELS]).map(level_bytes).sum::<u64>() * slices(record)
+    (0..record[5]).map(level_bytes).sum::<u64>() * slices(record)
 }
 
 /// "extent / 32 rounded up, at least 16, raised to a multiple of the block edge".
@@ -80,20 +80,16 @@ fn tiles(extent: u64, block: u64) -> u64 {
 
 /// Stamps of a level's grid. A format past 8 is taken for one with blocks of one texel.
 fn grid_stamps(record: &[u64], level: u64) -> u64 {
-    grid_columns(record, level) * tiles(level_extent(record[HEIGHT], level), block_edge(record))
+    grid_columns(record, level) * tiles(level_extent(record[3], level), block_edge(record))
 }
 
 /// Columns of a level's grid.
 pub fn grid_columns(record: &[u64], level: u64) -> u64 {
-    tiles(level_extent(record[WIDTH], level), block_edge(record))
+    tiles(level_extent(record[2], level), block_edge(record))
 }
 
 fn block_edge(record: &[u64]) -> u64 {
-    if matches!(record[FORMAT], 5 | 6) {
-        4
-    } else {
-        1
-    }
+    if matches!(record[1], 5 | 6) { 4 } else { 1 }
 }
 
 /// The tilings of a history's grids, slice by slice, level by level: each begins where the grid before it ends. The shape passes 2.
@@ -102,11 +98,11 @@ pub fn tilings(record: &[u64]) -> Vec<Tiling> {
     let mut start = 0;
     let mut tilings = Vec::new();
     for _ in 0..slices(record) {
-        for level in 0..record[LEVELS] {
+        for level in 0..record[5] {
             tilings.push(Tiling {
                 start,
-                across: tile_edge(level_extent(record[WIDTH], level), block),
-                down: tile_edge(level_extent(record[HEIGHT], level), block),
+                across: tile_edge(level_extent(record[2], level), block),
+                down: tile_edge(level_extent(record[3], level), block),
             });
             start += grid_stamps(record, level);
         }
@@ -154,7 +150,7 @@ pub fn grids(memory: &Memory) -> Vec<Grid> {
         let mut newest = u128::from(record[FIRST_GRID]);
         let mut first = u128::from(record[FIRST_STAMP]);
         for _ in 0..slices(record) {
-            for level in 0..record[LEVELS] {
+            for level in 0..record[5] {
                 let stamps = grid_stamps(record, level);
                 let end = first + u128::from(stamps);
                 if newest < memory.slices[NEWEST].len() as u128
@@ -172,28 +168,4 @@ pub fn grids(memory: &Memory) -> Vec<Grid> {
         }
     }
     grids
-}
-
-/// Returns the place of each tracked texture's first spare: behind the spares of the textures before it.
-pub fn first_spares(memory: &Memory) -> Vec<u128> {
-    let mut first = 0;
-    let mut places = Vec::new();
-    for record in tracked(memory) {
-        places.push(first);
-        first += u128::from(record[OWN_SPARES]);
-    }
-    places
-}
-
-/// Returns the number that each tracked texture's record is to keep of its oldest spare: the parking number of the one parked first,
-/// whatever those of the others, or the number for none. Leaves it open where the records have that spare past the end of what is lent.
-pub fn oldest_numbers(memory: &Memory) -> Vec<Option<u64>> {
-    let places = memory.places(SPARES) as u128;
-    tracked(memory)
-        .zip(first_spares(memory))
-        .map(|(record, first)| match record[OWN_SPARES] {
-            0 => Some(NO_SPARES),
-            _ => (first < places).then(|| memory.record(SPARES, first as usize)[SPARE_PARKED]),
-        })
-        .collect()
 }

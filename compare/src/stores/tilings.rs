@@ -136,11 +136,11 @@ fn reshape(memory: &mut Memory, place: usize, random: &mut Random) -> bool {
     if record[OWN_SPARES] != 0 {
         return false;
     }
-    let extent = random.one_of(&[WIDTH as u64, HEIGHT as u64]) as usize;
+    let extent = random.one_of(&[2, 3]) as usize;
     match random.below(3) {
         // Takes blocks of four instead of one, or the other way round, which raises some edges.
-        0 if matches!(record[FORMAT], 5 | 6) => record[FORMAT] = random.below(5),
-        0 => record[FORMAT] = 5 + random.below(2),
+        0 if matches!(record[1], 5 | 6) => record[1] = random.below(5),
+        0 => record[1] = 5 + random.below(2),
         1 => record[extent] *= 2,
         _ => record[extent] = (record[extent] + 1 + random.below(32)).min(16_384),
     }
@@ -171,15 +171,15 @@ pub fn widen(memory: &mut Memory, random: &mut Random) -> bool {
         (narrow, wide)
     };
     let record = memory.record_mut(TEXTURES, place);
-    record[FORMAT] = random.below(9);
-    (record[WIDTH], record[HEIGHT]) = if largest {
+    record[1] = random.below(9);
+    (record[2], record[3]) = if largest {
         (wide, wide)
     } else {
         (width, height)
     };
-    record[DEPTH] = 1;
-    record[LEVELS] = if largest { 15 } else { random.within(1, 15) };
-    record[KIND] = if largest {
+    record[4] = 1;
+    record[5] = if largest { 15 } else { random.within(1, 15) };
+    record[6] = if largest {
         1
     } else {
         random.one_of(&[0, 0, 1])

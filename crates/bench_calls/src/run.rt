@@ -70,7 +70,7 @@ pub fn run_part(
     p: usize,
     task: Task,
 )
-    requires { (t ≤ 4096) × (v ≤ 4096) × (p ≤ 4096) × (94208 ≤ length textures.old) × (28672 ≤ length retiring.old) × (8192 ≤ length doomed.old)
+    requires { (t ≤ 4096) × (v ≤ 4096) × (p ≤ 4096) × (90112 ≤ length textures.old) × (28672 ≤ length retiring.old) × (8192 ≤ length doomed.old)
         × (12288 ≤ length spares.old) × (737280 ≤ length newest.old) × (4194304 ≤ length stamps.old) }
 {
     let a = TEXTURE_STRIDE * t;

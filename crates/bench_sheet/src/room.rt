@@ -1,8 +1,8 @@
 // Memory for 4,096 textures and versions, and for no history.
 
 // Returns places for textures.
-pub fn texture_places() -> [u64; 94208] {
-    [0; 94208]
+pub fn texture_places() -> [u64; 90112] {
+    [0; 90112]
 }
 
 // Returns places for retiring versions.

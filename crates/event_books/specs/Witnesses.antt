@@ -18,7 +18,7 @@ use Rattle.event_books.specs.EventLists.{Room, after_events, InRenames, AgreeThr
 
 -- ---- the event program: "lends 8 textures, 64 versions, 6 pages, answers of 90 entries"
 
--- the lengths of its stores, in crates/event_program/src/main.rt: 184, 448, 128, 192, 1,440 and 6,144
+-- the lengths of its stores, in crates/event_program/src/main.rt: 176, 448, 128, 192, 1,440 and 6,144
 pub record ProgramStores (textures retiring doomed spares newest stamps : List ℕ) : Type 0 where
   pub textures_are : length textures ≡ texture_stride * 8
   pub retiring_are : length retiring ≡ retiring_stride * 64

@@ -3,20 +3,17 @@
 ghost use Rattle.std.specs.Prelude.{◌≡◌, ◌⊎◌, ◌+◌, ◌*◌, ◌-◌, ◌≤◌, ◌<◌, length};
 ghost use Rattle.std.proofs.lemmas.List.Edits.{sets};
 ghost use Rattle.base_blocks.specs.Blocks.{moved};
-ghost use Rattle.base_blocks.specs.Lists.{listed, total};
+ghost use Rattle.base_blocks.specs.Lists.{total};
 ghost use Rattle.base_tables.specs.Records.{record_at};
 ghost use Rattle.pool_records.specs.Held.{HeldFits};
-ghost use Rattle.pool_records.specs.Oldest.{oldest_number};
 ghost use Rattle.pool_records.specs.Spare.{read_spare, write_spare};
 ghost use Rattle.pool_records.specs.Texture.{textures_in};
-ghost use Rattle.pool_records.specs.Views.{spare_in};
 ghost use Rattle.pool_records.specs.RecordConstants.{spare_stride, texture_stride};
 ghost use Rattle.pool_rules.specs.RuleConstants.{most_places};
 
 use base_tables::{insert_record, record_at};
 use pool_records::{
-    NO_SPARES, SPARE_PARKED_AT, SPARE_STRIDE, SpareRecord, TEXTURE_SPARES_AT, TEXTURE_STRIDE,
-    read_spare, spare_numbers,
+    SPARE_STRIDE, SpareRecord, TEXTURE_SPARES_AT, TEXTURE_STRIDE, read_spare, spare_numbers,
 };
 
 // Returns record k.
@@ -36,17 +33,6 @@ pub fn insert_spare(s: &mut [u64], n: usize, k: usize, x: SpareRecord)
 {
     let numbers = spare_numbers(x);
     insert_record(s, SPARE_STRIDE, n, k, &numbers);
-}
-
-// Returns the parking number of the oldest of the n spares from place `first` on, or NO_SPARES.
-pub fn oldest_parked(spares: &[u64], first: usize, n: usize) -> u64
-    requires { spare_stride * (first + n) ≤ length spares.now }
-    ensures { result ≡ oldest_number (listed (spare_in spares.now) first n) }
-{
-    if n == 0 {
-        return NO_SPARES;
-    }
-    spares[SPARE_STRIDE * first + SPARE_PARKED_AT]
 }
 
 // Counts the spares of the first i textures, which is where those of texture i begin. It reads one number of each record.

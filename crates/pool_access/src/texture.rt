@@ -1,4 +1,4 @@
-// The textures' records: twenty-three numbers each, packed in ascending id from the front of their slice.
+// The textures' records: twenty-two numbers each, packed in ascending id from the front of their slice.
 ghost use Rattle.std.specs.Prelude.{◌≡◌, ◌+◌, ◌*◌, ◌-◌, ◌≤◌, ◌<◌, length};
 ghost use Rattle.std.proofs.lemmas.List.Edits.{sets};
 ghost use Rattle.base_blocks.specs.Blocks.{moved};

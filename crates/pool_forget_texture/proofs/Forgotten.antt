@@ -220,10 +220,10 @@ module _ (l : Lent) (f : Fits l) (i : ℕ) (h : i < l.pool.tracked) where
       ap (λ rs. laid doomed_stride write_doomed (version_places l) l.pool.first l.pool.doomed rs l.doomed) (sym out_records)
       ∙ doomed_pushed l left f.first (omega (arith, f.doomed)) (doomed_fit_lem l f) out refl
 
-  spares_left_lem : moved l.spares (spare_stride * spares_to T i) (spare_stride * spares_to T i + spare_stride * (texture_in T i).spares)
+  spares_left : moved l.spares (spare_stride * spares_to T i) (spare_stride * spares_to T i + spare_stride * (texture_in T i).spares)
       (spare_stride * (l.pool.kept - (spares_to T i + (texture_in T i).spares)))
       ≡ spares_after left l
-  spares_left_lem =
+  spares_left =
       sym (ap₂ (λ (k n : ℕ). moved l.spares (spare_stride * k) (spare_stride * k + spare_stride * n) (spare_stride * (l.pool.kept - (k + n)))) (spares_to_lem l i h) own_spares_are)
       ∙ spares_removed l left f.kept (omega (arith, f.spares, f.versions)) (first_spare l i) (spares_at l i)
       spares_there (every_removed l i h)
@@ -264,7 +264,7 @@ module _ (l : Lent) (f : Fits l) (i : ℕ) (h : i < l.pool.tracked) where
       (given_records l.spares o.bytes o.first o.spares) l.doomed) e
       ∙ doomed_left)
       (e4 ∙ ap (λ (o : Owned). moved l.spares (spare_stride * o.first) (spare_stride * o.first + spare_stride * o.spares) (spare_stride * (l.pool.kept - (o.first + o.spares)))) e
-      ∙ spares_left_lem)
+      ∙ spares_left)
       (e5 ∙ ap₂ (λ (k n : ℕ). moved l.newest k (k + n) (l.pool.grids - (k + n))) (grid_is own e) (grids_is own e) ∙ newest_left)
       (e6 ∙ ap₂ (λ (k n : ℕ). moved l.stamps k (k + n) (l.pool.stamps - (k + n))) (stamp_is own e) (stamps_is own e) ∙ stamps_left)
 

@@ -15,16 +15,14 @@ use Rattle.base_blocks.proofs.Listed.{length_listed}
 use Rattle.pool_rules.specs.Model.{Places, limit, spare_bytes, doomed_bytes}
 use Rattle.pool_rules.specs.Open.{are_places}
 use Rattle.pool_records.specs.declared.texture.TextureRecord.{TextureRecord}
-use Rattle.pool_records.specs.Views.{spare_in}
 use Rattle.pool_memory.specs.Lent.{Lent, version_places}
 use Rattle.pool_memory.specs.Reading.{tracked_records, states_read, retiring_read, hand_read, doomed_read, model_of}
 use Rattle.pool_memory.proofs.Runs.{grid_starts, stamp_starts}
-use Rattle.pool_memory.specs.IsPool.{sizes_fit, counts_fit, runs_fit, starts_hold, tilings_hold, tilings_fit, bytes_hold, bytes_fit, oldest_fit, mark_fits, state_id, is_spare, is_state, is_retiring, is_hand, is_doomed, is_arrival, is_formed, is_pool}
+use Rattle.pool_memory.specs.IsPool.{sizes_fit, counts_fit, runs_fit, starts_hold, tilings_hold, tilings_fit, bytes_hold, bytes_fit, mark_fits, state_id, is_spare, is_state, is_retiring, is_hand, is_doomed, is_arrival, is_formed, is_pool}
 use Rattle.pool_formed.specs.Parts.{places_hold, retiring_at, retiring_fit, doomed_at, doomed_fit, rings_fit, numbers_fit}
-use Rattle.pool_formed_textures.specs.Textures.{is_record, spares_hold, history_holds, histories_fit, textures_fit}
+use Rattle.pool_formed_textures.specs.Textures.{is_record, model_spare_at, history_holds, histories_fit, textures_fit}
 use Rattle.pool_formed_textures.proofs.Tests.{same_test, pass_all}
-use Rattle.pool_formed_textures.proofs.States.{states_ids, states_bytes, oldest_held, spares_hold_lem, record_holds, records_hold, states_test}
-use Rattle.pool_formed_textures.proofs.Claims.{spares_claimed}
+use Rattle.pool_formed_textures.proofs.States.{states_ids, states_bytes, record_holds, records_hold, states_test}
 use Rattle.pool_formed_textures.proofs.HistoryTests.{Walked, walked, walks}
 use Rattle.pool_formed.proofs.RingTests.{hand_test}
 use Rattle.pool_records.specs.RecordConstants.{doomed_stride, retiring_stride, spare_stride, texture_stride}
@@ -132,15 +130,14 @@ module _ (l : Lent) where
     unfolding rings_fit
     to_rings = pass_all _ (cons to_queue (cons to_doomed nil))
 
-    module _ (runs : runs_fit l ≡ true) (starts : starts_hold l ≡ true) (tilings : tilings_fit l ≡ true) (bytes : bytes_fit l ≡ true)
-        (oldest : oldest_fit l ≡ true) where
+    module _ (runs : runs_fit l ≡ true) (starts : starts_hold l ≡ true) (tilings : tilings_fit l ≡ true) (bytes : bytes_fit l ≡ true) where
       -- every record's bytes and tilings
       to_holds : all (record_holds l) ts ≡ true
       unfolding bytes_fit tilings_fit
       to_holds = records_hold l ts ∙ ap₂ (λ (a b : Bool). a && b) bytes tilings
 
       -- every record passes, every grid of its history with its tiling, and every spare
-      to_records : all is_record ts && (all (history_holds l.newest l.stamps) ts && all is_spare (listed (spare_in l.spares) 0 (total record_spares ts))) ≡ true
+      to_records : all is_record ts && (all (history_holds l.newest l.stamps) ts && all is_spare (listed (model_spare_at l.spares) 0 (total record_spares ts))) ≡ true
       to_records = sym (states_test l 0 ts) ∙ ap₂ (λ (a b : Bool). a && b) c.states to_holds
 
       to_histories : histories_of l ≡ true
@@ -154,11 +151,6 @@ module _ (l : Lent) where
             holds = (and_both (all (history_holds l.newest l.stamps) ts) _ (and_both (all is_record ts) _ to_records).1).0;
           })
 
-      -- the records claim just the spares counted, and have the parking numbers of the oldest
-      to_spares : spares_hold l.spares l.pool.kept 0 ts ≡ true
-      unfolding oldest_fit
-      to_spares = spares_hold_lem l l.pool.kept 0 ts (zero-add (total record_spares ts) ∙ kept runs) oldest
-
       to_textures : textures_of l ≡ true
       unfolding textures_fit
       to_textures =
@@ -167,8 +159,8 @@ module _ (l : Lent) where
           pass_all _
           (cons (sym (states_ids l 0 ts) ∙ c.ids)
           (cons q.0
-          (cons to_spares
-          (cons (ap (λ (n : ℕ). all is_spare (listed (spare_in l.spares) 0 n)) (sym (kept runs)) ∙ r.1)
+          (cons (eq-eqb l.pool.kept (total record_spares ts) (sym (kept runs)))
+          (cons (ap (λ (n : ℕ). all is_spare (listed (model_spare_at l.spares) 0 n)) (sym (kept runs)) ∙ r.1)
           (cons (ap (eqb l.pool.parked) (sym (states_bytes l 0 ts)) ∙ c.parked) (cons to_histories nil))))))
 
   -- ---- and what passes them forms a pool
@@ -182,12 +174,9 @@ module _ (l : Lent) where
     unfolding rings_fit
     from_doomed = passed _ r 1
 
-    from_spares : spares_hold l.spares l.pool.kept 0 ts ≡ true
+    from_kept : l.pool.kept ≡ total record_spares ts
     unfolding textures_fit
-    from_spares = passed _ t 2
-
-    from_kept : total record_spares ts ≡ l.pool.kept
-    from_kept = sym (zero-add (total record_spares ts)) ∙ spares_claimed l.spares l.pool.kept 0 ts from_spares
+    from_kept = eqb-true l.pool.kept (total record_spares ts) (passed _ t 2)
 
     from_histories : Walked l.newest l.stamps l.pool.grids l.pool.stamps 0 0 ts
     unfolding textures_fit
@@ -198,7 +187,7 @@ module _ (l : Lent) where
     from_runs =
         let w = from_histories in
         pass_all _
-        (cons (eq-eqb (total record_spares ts) l.pool.kept from_kept)
+        (cons (eq-eqb (total record_spares ts) l.pool.kept (sym from_kept))
         (cons (eq-eqb (total record_grids ts) l.pool.grids (sym (zero-add (total record_grids ts)) ∙ w.grid_sum))
         (cons (eq-eqb (total record_stamps ts) l.pool.stamps (sym (zero-add (total record_stamps ts)) ∙ w.stamp_sum)) nil)))
 
@@ -211,7 +200,7 @@ module _ (l : Lent) where
     from_records =
         states_test l 0 ts
         ∙ ap₂ (λ (a b : Bool). a && b) (passed _ t 1)
-        (ap₂ (λ (a b : Bool). a && b) from_histories.holds (ap (λ (n : ℕ). all is_spare (listed (spare_in l.spares) 0 n)) from_kept ∙ passed _ t 3))
+        (ap₂ (λ (a b : Bool). a && b) from_histories.holds (ap (λ (n : ℕ). all is_spare (listed (model_spare_at l.spares) 0 n)) (kept from_runs) ∙ passed _ t 3))
 
     from_states : all is_state (states_read l 0 ts) ≡ true
     from_states = (and_both (all is_state (states_read l 0 ts)) (all (record_holds l) ts) from_records).0
@@ -222,10 +211,6 @@ module _ (l : Lent) where
     from_bytes : bytes_fit l ≡ true
     unfolding bytes_fit
     from_bytes = (and_both (all bytes_hold ts) (all (tilings_hold l) ts) from_holds).0
-
-    from_oldest : oldest_fit l ≡ true
-    unfolding oldest_fit
-    from_oldest = oldest_held l l.pool.kept 0 ts from_spares
 
     from_tilings : tilings_fit l ≡ true
     unfolding tilings_fit
@@ -264,9 +249,9 @@ module _ (l : Lent) where
       same_test (is_pool l) (tests (parts_of l))
       (λ e.
       let f = few_popped (passed _ e 1) in
-      let m = passed _ e 7 in
-      let c = conditions (passed _ e 8) in
-      let u = to_textures f m c (passed _ e 2) (passed _ e 3) (passed _ e 4) (passed _ e 5) (passed _ e 6) in
+      let m = passed _ e 6 in
+      let c = conditions (passed _ e 7) in
+      let u = to_textures f m c (passed _ e 2) (passed _ e 3) (passed _ e 4) (passed _ e 5) in
       pass_all _ (cons (passed _ e 0) (cons (passed _ e 1) (cons (to_numbers f m c) (cons (to_rings f m c) (cons u nil))))))
       (λ e.
       let f = few_popped (passed _ e 1) in
@@ -275,7 +260,7 @@ module _ (l : Lent) where
       let t = passed _ e 4 in
       pass_all _ (cons (passed _ e 0) (cons (passed _ e 1) (cons (from_runs f n r t)
       (cons (from_starts f n r t) (cons (from_tilings f n r t)
-      (cons (from_bytes f n r t) (cons (from_oldest f n r t) (cons (from_mark f n r t) (cons (formed eight (from_parts f n r t)) nil))))))))))
+      (cons (from_bytes f n r t) (cons (from_mark f n r t) (cons (formed eight (from_parts f n r t)) nil)))))))))
 
   -- where all but the last pass, the last decides
   pub last_part : length l.book.arrivals ≡ destroy_spread_drains → sizes_fit l ≡ true → counts_fit l ≡ true → numbers_of l ≡ true → rings_of l ≡ true → textures_of l ≡ is_pool l

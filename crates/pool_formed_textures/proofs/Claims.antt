@@ -1,65 +1,46 @@
--- What the records claim together, as the passes add it up, with the parking numbers of the oldest spares. Assumes nothing.
-use mathlib.Core.Path.{◌≡◌, sym, ap, ap₂, ◌∙◌}
-use mathlib.Core.Bool.{Bool, true, false, ◌&&◌}
+-- What the records claim together, as the passes add it up. Assumes nothing.
+use mathlib.Core.Path.{◌≡◌, ap, ◌∙◌}
+use mathlib.Core.Bool.{Bool, true, false}
 use mathlib.Core.List.{List, [], ◌∷◌}
-use Prim.Native.Nat.{ℕ, ◌+◌, ◌*◌, ◌≤◌, ◌<◌}
+use Prim.Native.Nat.{ℕ, ◌+◌, ◌*◌, ◌-◌, ◌≤◌, ◌<◌}
 use native.Mathlib.Nat.{mul-le-mul_right}
 use native.Mathlib.Omega.{arith}
-use borrow.Author.Tests.{eqb-true}
+use borrow.Author.Tests.{eq-eqb, ne_eqb, eqb-true}
 use lib.Dec.{eqb}
-use Rattle.base_blocks.specs.Lists.{all, listed, total}
-use Rattle.base_blocks.proofs.Lists.{and_both, not_passed}
-use Rattle.base_blocks.proofs.Listed.{left, left_step, left_none, total_more}
+use Rattle.base_blocks.specs.Lists.{all, total}
+use Rattle.base_blocks.proofs.Lists.{and_both}
+use Rattle.base_blocks.proofs.Listed.{left, total_more, total_done}
 use Rattle.grid_shapes.specs.Shapes.{bytes_of}
 use Rattle.grid_shapes.proofs.ShapeBytes.{bytes_bound}
 use Rattle.pool_records.specs.declared.texture.TextureRecord.{TextureRecord}
-use Rattle.pool_records.specs.Oldest.{oldest_number}
-use Rattle.pool_records.specs.Views.{spare_in}
-use Rattle.pool_formed_textures.specs.Textures.{is_record, oldest_holds, spares_hold}
+use Rattle.pool_formed_textures.specs.Textures.{is_record}
+use Rattle.pool_formed_textures.proofs.Tests.{same_test}
 use Rattle.pool_formed_textures.proofs.RecordTests.{record_shape}
 use Rattle.grid_shapes.specs.ShapeConstants.{most_shape_bytes}
 use Rattle.pool_rules.specs.RuleConstants.{most_places}
 use Rattle.pool_records.specs.Texture.{texture_in, record_spares, record_bytes, textures_in}
 
--- ---- spares claimed: those of each record begin where those before it end
+-- ---- spares claimed: what is left of them
 
--- all of them are those counted
-pub spares_claimed : (spares : List ℕ) (kept first : ℕ) (ts : List TextureRecord) → spares_hold spares kept first ts ≡ true → first + total record_spares ts ≡ kept
-unfolding spares_hold total
-spares_claimed spares kept first [] e = omega (arith, eqb-true first kept e)
-spares_claimed spares kept first (t ∷ ts) e =
-    let q = and_both (oldest_holds spares first t) (spares_hold spares kept (first + t.spares) ts) e in
-    omega (arith, spares_claimed spares kept (first + t.spares) ts q.1)
+taken_off : (a k c r : ℕ) → k ≡ c → k ≤ a → eqb a (c + r) ≡ eqb (a - k) r
+taken_off a k c r e h =
+    same_test (eqb a (c + r)) (eqb (a - k) r) (λ p. eq-eqb (a - k) r (omega (arith, e, eqb-true a (c + r) p))) (λ p. eq-eqb a (c + r) (omega (arith, e, h, eqb-true (a - k) r p)))
 
-module _ (spares s : List ℕ) (n kept i first : ℕ) where
-  abbrev rest_holds : ℕ → ℕ → Bool
-  rest_holds j a = spares_hold spares kept a (left (texture_in s) n j)
+module _ (s : List ℕ) (n i a : ℕ) where
+  abbrev claim_from : ℕ → ℕ → Bool
+  claim_from j b = eqb b (total record_spares (left (texture_in s) n j))
 
-  pub claim_done : n ≤ i → rest_holds i first ≡ eqb first kept
-  unfolding spares_hold
-  claim_done h = rw (left_none (texture_in s) n i h)
+  pub claim_done : n ≤ i → claim_from i a ≡ eqb a 0
+  claim_done h = ap (eqb a) (total_done (texture_in s) n record_spares i h)
 
   module _ (h : i < n) (k : ℕ) (e : k ≡ (texture_in s i).spares) where
-    claim_step : rest_holds i first ≡ oldest_holds spares first (texture_in s i) && rest_holds (i + 1) (first + (texture_in s i).spares)
-    unfolding spares_hold
-    claim_step = rw (left_step (texture_in s) n i h)
+    pub claim_more : k ≤ a → claim_from i a ≡ claim_from (i + 1) (a - k)
+    claim_more q =
+        ap (eqb a) (total_more (texture_in s) n record_spares i h) ∙ taken_off a k (texture_in s i).spares (total record_spares (left (texture_in s) n (i + 1))) e q
 
-    -- it claims more than are left
-    pub claim_short : kept < first + k → rest_holds i first ≡ false
+    pub claim_short : a < k → claim_from i a ≡ false
     claim_short q =
-        not_passed (rest_holds i first)
-        (λ p. let y : ⊥ = omega (arith, q, e, spares_claimed spares kept first (left (texture_in s) n i) p, total_more (texture_in s) n record_spares i h) in y)
-
-    module _ (number : ℕ) (en : number ≡ (texture_in s i).oldest) (fits : Bool) (ef : fits ≡ eqb number (oldest_number (listed (spare_in spares) first k))) where
-      same_number : oldest_holds spares first (texture_in s i) ≡ fits
-      same_number = sym (ef ∙ ap₂ (λ (m j : ℕ). eqb m (oldest_number (listed (spare_in spares) first j))) en e)
-
-      -- its number is another
-      pub claim_other : fits ≡ false → rest_holds i first ≡ false
-      claim_other f = claim_step ∙ rw (same_number ∙ f)
-
-      pub claim_more : fits ≡ true → rest_holds i first ≡ rest_holds (i + 1) (first + k)
-      claim_more f = claim_step ∙ rw (same_number ∙ f) (ap (λ (m : ℕ). rest_holds (i + 1) (first + m)) (sym e))
+        ne_eqb a (total record_spares (left (texture_in s) n i)) (λ z. let y : ⊥ = omega (arith, z, e, total_more (texture_in s) n record_spares i h) in y)
 
 -- ---- parked bytes
 

@@ -27,7 +27,7 @@ use Rattle.pool_memory.proofs.Runs.{bytes_held}
 use Rattle.pool_formed_textures.specs.Textures.{writes_fit, is_record}
 use Rattle.pool_formed_textures.proofs.Tests.{fails}
 use Rattle.grid_shapes.specs.ShapeConstants.{most_shape_bytes}
-use Rattle.pool_records.specs.RecordConstants.{texture_grid_at, texture_oldest_at, texture_spares_at, texture_stamp_at, texture_stride}
+use Rattle.pool_records.specs.RecordConstants.{texture_grid_at, texture_spares_at, texture_stamp_at, texture_stride}
 use Rattle.pool_rules.specs.RuleConstants.{most_places}
 
 -- ---- records
@@ -112,10 +112,6 @@ module _ (s : List ℕ) (i : ℕ) (p : List ℕ) (e : p ≡ take texture_stride 
   pub read_spares : get_or p texture_spares_at 0 ≡ (texture_in s i).spares
   unfolding read_texture
   read_spares = ap (λ (t : TextureRecord). t.spares) (texture_read s i p e)
-
-  pub read_oldest : get_or p texture_oldest_at 0 ≡ (texture_in s i).oldest
-  unfolding read_texture
-  read_oldest = ap (λ (t : TextureRecord). t.oldest) (texture_read s i p e)
 
   pub read_grid : get_or p texture_grid_at 0 ≡ (texture_in s i).grid
   unfolding read_texture

@@ -3,11 +3,9 @@ use mathlib.Core.Path.{◌≡◌, refl, sym, ap, ap₂, ◌∙◌}
 use mathlib.Core.Bool.{Bool, true, false, ◌&&◌, and-false, and-true}
 use mathlib.Core.List.{List, [], ◌∷◌}
 use Prim.Native.Nat.{ℕ, ◌+◌, ◌*◌}
-use native.Mathlib.Omega.{arith}
-use borrow.Author.Tests.{eq-eqb}
 use lib.Dec.{leb, ltb}
 use Rattle.base_blocks.specs.Lists.{all, total, ascending, listed, tests, after}
-use Rattle.base_blocks.proofs.Lists.{and_both, all_append}
+use Rattle.base_blocks.proofs.Lists.{all_append}
 use Rattle.base_blocks.proofs.Listed.{length_listed, listed_split}
 use Rattle.grid_shapes.specs.Shapes.{is_shape, bytes_of}
 use Rattle.pool_rules.specs.Model.{limit, spare_bytes, grid_count}
@@ -15,10 +13,9 @@ use Rattle.pool_records.specs.declared.recorded.Recorded.{Recorded}
 use Rattle.pool_records.specs.declared.recorded.Recorded.TheVariants.{Writes, NoHistory}
 use Rattle.pool_records.specs.declared.texture.TextureRecord.{TextureRecord}
 use Rattle.pool_records.specs.Find.{id_of}
-use Rattle.pool_records.specs.Views.{spare_in}
 use Rattle.pool_memory.specs.Reading.{grid_read, history_read, spare_read, state_read, states_read}
-use Rattle.pool_memory.specs.IsPool.{bytes_hold, oldest_from, is_grid, is_spare, state_id, is_history, is_state, tiling_holds, tilings_read, tilings_hold}
-use Rattle.pool_formed_textures.specs.Textures.{writes_fit, is_record, oldest_holds, spares_hold, grid_from, tiling_from, grids_hold, history_holds}
+use Rattle.pool_memory.specs.IsPool.{bytes_hold, is_grid, is_spare, state_id, is_history, is_state, tiling_holds, tilings_read, tilings_hold}
+use Rattle.pool_formed_textures.specs.Textures.{writes_fit, is_record, model_spare_at, grid_from, tiling_from, grids_hold, history_holds}
 use Rattle.pool_memory.specs.Lent.{Lent}
 use Rattle.pool_records.specs.Texture.{record_spares, record_bytes}
 
@@ -58,24 +55,6 @@ module _ (l : Lent) where
   states_bytes first (t ∷ ts) =
       ap₂ (λ (a b : ℕ). a + b) (ap (λ (k : ℕ). bytes_of t.shape * k) (length_listed (spare_read l) first t.spares)) (states_bytes (first + t.spares) ts)
 
-  -- ---- every record has the parking number of its oldest spare
-
-  pub oldest_held : (kept first : ℕ) (ts : List TextureRecord) → spares_hold l.spares kept first ts ≡ true → oldest_from l first ts ≡ true
-  unfolding spares_hold oldest_from spare_read
-  oldest_held kept first [] e = refl
-  oldest_held kept first (t ∷ ts) e =
-      let q = and_both (oldest_holds l.spares first t) (spares_hold l.spares kept (first + t.spares) ts) e in
-      ap₂ (λ (a b : Bool). a && b) q.0 (oldest_held kept (first + t.spares) ts q.1)
-
-  -- where that is so, and the records claim just those counted, the pass over the spares claimed says so
-  pub spares_hold_lem : (kept first : ℕ) (ts : List TextureRecord) → first + total record_spares ts ≡ kept → oldest_from l first ts ≡ true
-      → spares_hold l.spares kept first ts ≡ true
-  unfolding spares_hold oldest_from spare_read total
-  spares_hold_lem kept first [] k e = eq-eqb first kept (omega (arith, k))
-  spares_hold_lem kept first (t ∷ ts) k e =
-      let q = and_both (oldest_holds l.spares first t) (oldest_from l (first + t.spares) ts) e in
-      ap₂ (λ (a b : Bool). a && b) q.0 (spares_hold_lem kept (first + t.spares) ts (omega (arith, k)) q.1)
-
   -- ---- every state passes and every record's bytes and tilings hold: every record, every grid with its tiling and every spare
 
   -- the grids of a history pass by their stamps, whatever stands beside these
@@ -105,11 +84,11 @@ module _ (l : Lent) where
       ap (λ (b : Bool). record_holds t && b) (records_hold ts) ∙ by_two (bytes_hold t) (tilings_hold l t) (all bytes_hold ts) (all (tilings_hold l) ts)
 
   abbrev spares_from : ℕ → ℕ → Bool
-  spares_from first n = all is_spare (listed (spare_in l.spares) first n)
+  spares_from first n = all is_spare (listed (model_spare_at l.spares) first n)
 
   state_test : (first : ℕ) (t : TextureRecord) → is_state (state_read l first t) && record_holds t
       ≡ is_record t && (history_holds l.newest l.stamps t && spares_from first t.spares)
-  unfolding is_state is_record history_holds tilings_hold state_read spare_read tests after
+  unfolding is_state is_record history_holds tilings_hold state_read spare_read model_spare_at tests after
   state_test first t =
       let x = is_shape t.shape && leb t.epoch limit && leb t.birth limit && leb t.rename limit && leb t.due limit in
       ap (λ (b : Bool). x && b && spares_from first t.spares && record_holds t) (history_test t t.history)
@@ -118,7 +97,7 @@ module _ (l : Lent) where
 
   spares_split : (first m n : ℕ) → spares_from first (m + n) ≡ spares_from first m && spares_from (first + m) n
   spares_split first m n =
-      ap (all is_spare) (listed_split (spare_in l.spares) first m n) ∙ all_append is_spare (listed (spare_in l.spares) first m) (listed (spare_in l.spares) (first + m) n)
+      ap (all is_spare) (listed_split (model_spare_at l.spares) first m n) ∙ all_append is_spare (listed (model_spare_at l.spares) first m) (listed (model_spare_at l.spares) (first + m) n)
 
   pub states_test : (first : ℕ) (ts : List TextureRecord) → all is_state (states_read l first ts) && all record_holds ts
       ≡ all is_record ts && (all (history_holds l.newest l.stamps) ts && spares_from first (total record_spares ts))

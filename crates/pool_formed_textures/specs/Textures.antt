@@ -2,25 +2,27 @@
 -- That both say the same is a law; a reader of `is_pool` needs none of this.
 use Rattle.std.specs.Prelude.{ℕ, ◌+◌, ◌*◌, ◌%◌, ◌≡◌, Bool, true, ◌&&◌, List, [], ◌∷◌, leb, eqb, length, drop, get_or}
 use Rattle.base_blocks.specs.Lists.{all, listed, total, ascending, tests}
+use Rattle.base_tables.specs.Records.{record_at}
 use Rattle.grid_shapes.specs.declared.shape.VersionShape.{VersionShape}
 use Rattle.grid_shapes.specs.Shapes.{is_shape}
 use Rattle.grid_axes.specs.declared.axis.Axis.{Axis}
 use Rattle.grid_axes.specs.EdgeTables.{is_edge_table}
 use Rattle.grid_stamps.specs.Grids.{StampGrid, grid_in, tiling_of}
-use Rattle.pool_rules.specs.Model.{limit, grid_count}
+use Rattle.pool_rules.specs.Model.{Spare, limit, grid_count}
 use Rattle.pool_rules.specs.HistorySizes.{grid_places, grid_start, history_size}
 use Rattle.pool_rules.specs.RuleConstants.{grid_stride}
 use Rattle.pool_records.specs.declared.recorded.Recorded.{Recorded}
 use Rattle.pool_records.specs.declared.recorded.Recorded.TheVariants.{Writes, NoHistory}
 use Rattle.pool_records.specs.declared.texture.TextureRecord.{TextureRecord}
 use Rattle.pool_records.specs.declared.tiling.GridTiling.{GridTiling}
-use Rattle.pool_records.specs.Oldest.{oldest_number}
-use Rattle.pool_records.specs.Views.{spare_in}
+use Rattle.pool_records.specs.Spare.{read_spare}
+use Rattle.pool_records.specs.Views.{spare_of}
 use Rattle.pool_records.specs.Find.{id_of}
 use Rattle.pool_records.specs.Tilings.{tiling_number}
 use Rattle.pool_memory.specs.declared.pool.Pool.{Pool}
 use Rattle.pool_memory.specs.IsPool.{bytes_hold, is_grid, is_spare}
-use Rattle.pool_records.specs.Texture.{record_grids, record_stamps, record_bytes, textures_in}
+use Rattle.pool_records.specs.RecordConstants.{spare_stride}
+use Rattle.pool_records.specs.Texture.{record_grids, record_stamps, record_spares, record_bytes, textures_in}
 
 -- ---- textures
 
@@ -34,16 +36,8 @@ is_record t = tests (
     is_shape t.shape ∷ leb t.epoch limit ∷ leb t.birth limit ∷ leb t.rename limit ∷ leb t.due limit ∷ writes_fit t.history
     ∷ bytes_hold t ∷ [])
 
--- ---- spares
-
--- a record has the parking number of its texture's oldest spare, or none where it has no spares; they begin at place `first`
-abbrev pub oldest_holds : List ℕ → ℕ → TextureRecord → Bool
-oldest_holds spares first t = eqb t.oldest (oldest_number (listed (spare_in spares) first t.spares))
-
--- each texture's spares begin where those before it end, its record has the number of the oldest, and the last end with those counted
-unfoldable pub spares_hold : List ℕ → ℕ → ℕ → List TextureRecord → Bool
-spares_hold spares kept first [] = eqb first kept
-spares_hold spares kept first (t ∷ ts) = oldest_holds spares first t && spares_hold spares kept (first + t.spares) ts
+unfoldable pub model_spare_at : List ℕ → ℕ → Spare ℕ
+model_spare_at spares k = spare_of (record_at spare_stride read_spare spares k)
 
 -- ---- histories
 
@@ -112,7 +106,7 @@ textures_fit pool slice spares newest stamps =
     tests (
     ascending id_of ts
     ∷ all is_record ts
-    ∷ spares_hold spares pool.kept 0 ts
-    ∷ all is_spare (listed (spare_in spares) 0 pool.kept)
+    ∷ eqb pool.kept (total record_spares ts)
+    ∷ all is_spare (listed (model_spare_at spares) 0 pool.kept)
     ∷ eqb pool.parked (total record_bytes ts)
     ∷ histories_fit newest stamps pool.grids pool.stamps 0 0 ts ∷ [])

@@ -28,7 +28,7 @@ pub fn textures_fit(
     if !records_fit(textures, n) {
         return false;
     }
-    if !runs_fit(textures, n, spares, pool.kept) {
+    if !runs_fit(textures, n, pool.kept) {
         return false;
     }
     if !spares_fit(spares, pool.kept) {

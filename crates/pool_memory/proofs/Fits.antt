@@ -9,7 +9,7 @@ use Rattle.pool_rules.specs.Formed.{Formed}
 use Rattle.pool_records.specs.declared.texture.TextureRecord.{TextureRecord}
 use Rattle.pool_memory.specs.Lent.{Lent, version_places}
 use Rattle.pool_memory.specs.Reading.{tracked_records, model_of}
-use Rattle.pool_memory.specs.IsPool.{bytes_fit, oldest_fit, starts_hold, tilings_fit}
+use Rattle.pool_memory.specs.IsPool.{bytes_fit, starts_hold, tilings_fit}
 use Rattle.grid_stamps.specs.StampConstants.{page_stamps}
 use Rattle.pool_records.specs.RecordConstants.{doomed_stride, retiring_stride, spare_stride, texture_stride}
 use Rattle.pool_rules.specs.RuleConstants.{grid_stride, most_grids, most_places}
@@ -45,8 +45,6 @@ pub record Fits (l : Lent) : Type 0 where
   pub tilings : tilings_fit l ≡ true
   -- their bytes are those of their shapes
   pub bytes : bytes_fit l ≡ true
-  -- their parking numbers are those of their oldest spares
-  pub oldest : oldest_fit l ≡ true
   -- the pressure mark is 0 or 1
   pub mark : l.book.pressed ≤ 1
   -- 01's conditions

@@ -13,7 +13,7 @@ use Rattle.pool_rules.specs.Formed.{Formed}
 use Rattle.pool_rules.proofs.Closure.{opened_formed}
 use Rattle.pool_memory.specs.Lent.{Lent, lent}
 use Rattle.pool_memory.specs.Reading.{states_read, model_of}
-use Rattle.pool_memory.specs.IsPool.{sizes_fit, starts_hold, tilings_fit, bytes_fit, oldest_from, oldest_fit}
+use Rattle.pool_memory.specs.IsPool.{sizes_fit, starts_hold, tilings_fit, bytes_fit}
 use Rattle.pool_memory.specs.Calls.{opened_pool, opened_book}
 use Rattle.pool_memory.proofs.Fits.{Fits}
 use Rattle.pool_memory.proofs.FromPool.{are_places_lem, whole_textures, whole_retiring, whole_doomed, whole_spares, whole_stamps, whole_newest, some_version, most_versions_lem, most_pages_lem}
@@ -27,7 +27,7 @@ module _ (working : ℕ) (textures retiring doomed spares newest stamps : List �
   opened_model = refl
 
   pub opened_fits : sizes_fit new ≡ true → Fits new
-  unfolding opened_pool opened_book table listed all total starts_fit starts_hold tilings_fit bytes_fit oldest_fit oldest_from
+  unfolding opened_pool opened_book table listed all total starts_fit starts_hold tilings_fit bytes_fit
   opened_fits e = record {
     places = are_places_lem new e;
     textures = whole_textures new e;
@@ -52,7 +52,6 @@ module _ (working : ℕ) (textures retiring doomed spares newest stamps : List �
     starts = refl;
     tilings = refl;
     bytes = refl;
-    oldest = refl;
     mark = omega arith;
     formed = subst (λ (p : PoolModel ℕ). Formed p) (sym opened_model) (opened_formed (model_of new).places (are_places_lem new e) working);
   }

@@ -34,7 +34,7 @@ use Rattle.pool_records.specs.declared.recorded.Recorded.TheVariants.{Writes, No
 use Rattle.pool_records.specs.declared.texture.TextureRecord.{TextureRecord}
 use Rattle.pool_memory.specs.Lent.{Lent, version_places}
 use Rattle.pool_memory.specs.Reading.{tracked_records, grid_read, history_read, spare_read, state_read, states_read, retiring_read, doomed_read, model_of}
-use Rattle.pool_memory.specs.IsPool.{sizes_fit, counts_fit, runs_fit, starts_hold, tilings_fit, bytes_fit, oldest_fit, mark_fits, is_grid, is_history, is_held_count, is_spare, is_state, is_retiring, is_hand, is_doomed, is_arrival, is_formed, is_pool}
+use Rattle.pool_memory.specs.IsPool.{sizes_fit, counts_fit, runs_fit, starts_hold, tilings_fit, bytes_fit, mark_fits, is_grid, is_history, is_held_count, is_spare, is_state, is_retiring, is_hand, is_doomed, is_arrival, is_formed, is_pool}
 use Rattle.pool_memory.proofs.FitsTests.{all_holds, ascending_holds}
 use Rattle.pool_memory.proofs.Fits.{Fits}
 use Rattle.pool_memory.proofs.Runs.{first_stamp_in, kept_states, tracked_model, stamp_starts, stamps_used_model}
@@ -273,17 +273,13 @@ module _ (l : Lent) (e : is_pool l ≡ true) where
   unfolding is_pool
   bytes_hold_lem = passed _ e 5
 
-  oldest_hold : oldest_fit l ≡ true
-  unfolding is_pool
-  oldest_hold = passed _ e 6
-
   forming : is_formed (model_of l) ≡ true
   unfolding is_pool
-  forming = passed _ e 8
+  forming = passed _ e 7
 
   marked : l.book.pressed ≤ 1
   unfolding is_pool mark_fits
-  marked = leb-true _ _ (passed _ e 7)
+  marked = leb-true _ _ (passed _ e 6)
 
   grids_claimed : total record_grids (tracked_records l) ≡ l.pool.grids
   unfolding runs_fit
@@ -370,7 +366,6 @@ module _ (l : Lent) (e : is_pool l ≡ true) where
     starts = starts_hold_lem;
     tilings = tilings_fit_lem;
     bytes = bytes_hold_lem;
-    oldest = oldest_hold;
     mark = marked;
     formed = model_formed;
   }

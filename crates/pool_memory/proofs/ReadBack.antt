@@ -28,10 +28,10 @@ use Rattle.pool_records.proofs.Codecs.{texture_codec, spare_codec}
 use Rattle.pool_memory.specs.Lent.{Lent, version_places}
 use Rattle.pool_memory.specs.Reading.{tracked_records, states_read, retiring_read, hand_read, doomed_read, model_of}
 use Rattle.pool_memory.specs.Writing.{texture_records, spare_record, retiring_record, doomed_record, textures_after, every_spare, spares_after, newest_after, stamps_after, head_after, hand_list, retiring_after, first_after, doomed_after, pool_after, mark_of, pacing_after, lent_after}
-use Rattle.pool_memory.specs.IsPool.{starts_hold, tilings_hold, tilings_fit, bytes_hold, bytes_fit, oldest_fit, is_pool}
+use Rattle.pool_memory.specs.IsPool.{starts_hold, tilings_hold, tilings_fit, bytes_hold, bytes_fit, is_pool}
 use Rattle.pool_memory.proofs.Fits.{Fits}
 use Rattle.pool_memory.proofs.FromPool.{version_places_lem}
-use Rattle.pool_memory.proofs.Runs.{first_grid_in, first_stamp_in, oldest_model}
+use Rattle.pool_memory.proofs.Runs.{first_grid_in, first_stamp_in}
 use Rattle.pool_memory.proofs.ToPool.{fits_pool}
 use Rattle.pool_memory.proofs.ReadStates.{states_back, tilings_recorded, length_every_spare, length_newests, length_stamps, length_recorded, kept_recorded, grids_recorded, stamps_recorded, bytes_recorded, grid_starts_recorded, stamp_starts_recorded}
 use Rattle.pool_memory.proofs.ReadRings.{hand_back, queue_back, doomed_back}
@@ -204,10 +204,6 @@ module _ (l : Lent) (p : PoolModel ℕ) (fits : Fits l) (formed : Formed p) (sam
   unfolding bytes_fit
   bytes_back = ap (all bytes_hold) records_back ∙ bytes_recorded 0 0 p.textures
 
-  oldest_back : oldest_fit (lent_after p l) ≡ true
-  oldest_back =
-      oldest_model (lent_after p l) (ap (λ (q : PoolModel ℕ). texture_records 0 0 q.textures) read_back ∙ sym records_back)
-
   starts_back : starts_hold (lent_after p l) ≡ true
   unfolding starts_hold
   starts_back =
@@ -247,7 +243,6 @@ module _ (l : Lent) (p : PoolModel ℕ) (fits : Fits l) (formed : Formed p) (sam
     starts = starts_back;
     tilings = tilings_fit_lem;
     bytes = bytes_back;
-    oldest = oldest_back;
     mark = mark_few p.pacing.pressed;
     formed = subst (λ (q : PoolModel ℕ). Formed q) (sym read_back) formed;
   }

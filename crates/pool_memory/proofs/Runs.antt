@@ -8,7 +8,7 @@ use native.Mathlib.Omega.{arith}
 use lib.Dec.{eqb}
 use lib.ListN.{length, take, drop, get_or}
 use lib.Seq.{take-add, drop-drop}
-use borrow.Author.Tests.{eqb-true, eq-eqb}
+use borrow.Author.Tests.{eqb-true}
 use Rattle.base_blocks.specs.Lists.{listed, all, total}
 use Rattle.base_blocks.proofs.Lists.{all_get, and_both}
 use Rattle.base_blocks.proofs.Listed.{length_listed, get_or_listed, listed_split}
@@ -27,10 +27,9 @@ use Rattle.pool_records.specs.declared.recorded.Recorded.TheVariants.{Writes, No
 use Rattle.pool_records.specs.declared.texture.TextureRecord.{TextureRecord}
 use Rattle.pool_records.specs.Texture.{read_texture, recorded_grids, record_grids, recorded_stamps, record_stamps}
 use Rattle.pool_records.specs.Tilings.{tiling_number, TilingsAt}
-use Rattle.pool_records.specs.Oldest.{oldest_number}
 use Rattle.pool_memory.specs.Lent.{Lent}
 use Rattle.pool_memory.specs.Reading.{tracked_records, grid_read, history_read, spare_read, state_read, states_read, model_of}
-use Rattle.pool_memory.specs.IsPool.{bytes_hold, bytes_fit, oldest_from, oldest_fit, starts_hold, state_id, tiling_holds, tilings_read, tilings_hold, tilings_fit}
+use Rattle.pool_memory.specs.IsPool.{bytes_hold, bytes_fit, starts_hold, state_id, tiling_holds, tilings_read, tilings_hold, tilings_fit}
 use Rattle.pool_memory.specs.Writing.{recorded_history, texture_record, texture_records, every_spare, grids_of, newest_from, newest_of, stamps_of}
 use Rattle.pool_memory.proofs.NewestNumbers.{newest_listed}
 use Rattle.pool_memory.proofs.Parts.{flat_append}
@@ -64,11 +63,10 @@ module _ (l : Lent) where
   recorded_read s grid stamp NoHistory = refl
   recorded_read s grid stamp (Writes n) = refl
 
-  -- a texture that was read is written as its record, where the record's bytes are those of its shape and its parking number that of the oldest spare
-  pub record_state : (first : ℕ) (t : TextureRecord) → t.bytes ≡ bytes_of t.shape
-      → t.oldest ≡ oldest_number (listed (spare_read l) first t.spares) → texture_record t.grid t.stamp (state_read l first t) ≡ t
+  -- a texture that was read is written as its record, where the record's bytes are those of its shape
+  pub record_state : (first : ℕ) (t : TextureRecord) → t.bytes ≡ bytes_of t.shape → texture_record t.grid t.stamp (state_read l first t) ≡ t
   unfolding state_read
-  record_state first t e o = λ j. record {
+  record_state first t e = λ j. record {
     id = t.id;
     shape = t.shape;
     epoch = t.epoch;
@@ -77,7 +75,6 @@ module _ (l : Lent) where
     rename = t.rename;
     due = t.due;
     spares = length_listed (spare_read l) first t.spares j;
-    oldest = sym o j;
     bytes = sym e j;
     grid = t.grid;
     stamp = t.stamp;
@@ -156,44 +153,21 @@ module _ (l : Lent) where
   length_states first [] = refl
   length_states first (t ∷ ts) = ap suc (length_states (first + t.spares) ts)
 
-  -- their records, where these hold the bytes of their shapes, the parking numbers of their oldest spares and where their grids and stamps begin
-  pub records_states : (first grid stamp : ℕ) (ts : List TextureRecord) → all bytes_hold ts ≡ true → oldest_from l first ts ≡ true
+  -- their records, where these hold the bytes of their shapes and where their grids and stamps begin
+  pub records_states : (first grid stamp : ℕ) (ts : List TextureRecord) → all bytes_hold ts ≡ true
       → starts_fit record_grids first_grid_in grid ts ≡ true → starts_fit record_stamps first_stamp_in stamp ts ≡ true
       → texture_records grid stamp (states_read l first ts) ≡ ts
-  unfolding states_read all texture_records starts_fit oldest_from
-  records_states first grid stamp [] e o a b = refl
-  records_states first grid stamp (t ∷ ts) e o a b =
+  unfolding states_read all texture_records starts_fit
+  records_states first grid stamp [] e a b = refl
+  records_states first grid stamp (t ∷ ts) e a b =
       let q = and_both (bytes_hold t) (all bytes_hold ts) e in
-      let own : ℕ = oldest_number (listed (spare_read l) first t.spares) in
-      let r = and_both (eqb t.oldest own) (oldest_from l (first + t.spares) ts) o in
       let u = and_both (eqb t.grid grid) (starts_fit record_grids first_grid_in (grid + record_grids t) ts) a in
       let v = and_both (eqb t.stamp stamp) (starts_fit record_stamps first_stamp_in (stamp + record_stamps t) ts) b in
       ap₂ (λ (x : TextureRecord) (xs : List TextureRecord). x ∷ xs)
       (ap₂ (λ (g n : ℕ). texture_record g n (state_read l first t)) (sym (eqb-true _ _ u.0)) (sym (eqb-true _ _ v.0))
-      ∙ record_state first t (bytes_held t q.0) (eqb-true t.oldest own r.0))
+      ∙ record_state first t (bytes_held t q.0))
       (ap₂ (λ (g n : ℕ). texture_records (grid + g) (stamp + n) (states_read l (first + t.spares) ts)) (grids_state first t) (stamps_used_state first t)
-      ∙ records_states (first + t.spares) (grid + record_grids t) (stamp + record_stamps t) ts q.1 r.1 u.1 v.1)
-
-  -- records that are those of the states read hold the parking numbers of their oldest spares
-  oldest_states : (first grid stamp : ℕ) (ts : List TextureRecord) → texture_records grid stamp (states_read l first ts) ≡ ts → oldest_from l first ts ≡ true
-  unfolding states_read state_read texture_records oldest_from
-  oldest_states first grid stamp [] e = refl
-  oldest_states first grid stamp (t ∷ ts) e =
-      rw (eq-eqb t.oldest (oldest_number (listed (spare_read l) first t.spares)) (sym (ap (λ (xs : List TextureRecord). (get_or xs 0 t).oldest) e)))
-      (oldest_states (first + t.spares) _ _ ts (ap (drop 1) e))
-
-  -- and one among them
-  oldest_held : (i first : ℕ) (ts : List TextureRecord) (d : TextureRecord) → oldest_from l first ts ≡ true → i < length ts
-      → (get_or ts i d).oldest ≡ oldest_number (listed (spare_read l) (first + total spares_of (take i ts)) (get_or ts i d).spares)
-  unfolding oldest_from total
-  oldest_held i first [] d o h = absurd (let y : ⊥ = omega arith in y)
-  oldest_held zero first (t ∷ ts) d o h =
-      eqb-true _ _ (and_both (eqb t.oldest (oldest_number (listed (spare_read l) first t.spares))) (oldest_from l (first + t.spares) ts) o).0
-      ∙ ap (λ (a : ℕ). oldest_number (listed (spare_read l) a t.spares)) (sym (add-zero first))
-  oldest_held (suc i) first (t ∷ ts) d o h =
-      oldest_held i (first + t.spares) ts d
-      (and_both (eqb t.oldest (oldest_number (listed (spare_read l) first t.spares))) (oldest_from l (first + t.spares) ts) o).1 (omega arith)
-      ∙ ap (λ (a : ℕ). oldest_number (listed (spare_read l) a (get_or ts i d).spares)) (add_assoc first t.spares (total spares_of (take i ts)))
+      ∙ records_states (first + t.spares) (grid + record_grids t) (stamp + record_stamps t) ts q.1 u.1 v.1)
 
   -- their spares
   pub spares_states : (first : ℕ) (ts : List TextureRecord) → every_spare (states_read l first ts) ≡ listed (spare_read l) first (total spares_of ts)
@@ -279,22 +253,9 @@ module _ (l : Lent) where
   unfolding starts_hold
   stamp_starts e = (and_both (starts_fit record_grids first_grid_in 0 (tracked_records l)) (starts_fit record_stamps first_stamp_in 0 (tracked_records l)) e).1
 
-  pub records_model : bytes_fit l ≡ true → oldest_fit l ≡ true → starts_hold l ≡ true → texture_records 0 0 (model_of l).textures ≡ tracked_records l
-  unfolding model_of bytes_fit oldest_fit
-  records_model e o f = records_states 0 0 0 (tracked_records l) e o (grid_starts f) (stamp_starts f)
-
-  pub oldest_model : texture_records 0 0 (model_of l).textures ≡ tracked_records l → oldest_fit l ≡ true
-  unfolding model_of oldest_fit
-  oldest_model e = oldest_states 0 0 0 (tracked_records l) e
-
-  pub oldest_held_at : oldest_fit l ≡ true → (i : ℕ) → i < l.pool.tracked
-      → (get_or (tracked_records l) i (read_texture [])).oldest
-      ≡ oldest_number (listed (spare_read l) (first_spare i) (get_or (tracked_records l) i (read_texture [])).spares)
-  unfolding oldest_fit first_spare
-  oldest_held_at o i h =
-      oldest_held i 0 (tracked_records l) (read_texture []) o (omega (arith, h, tracked_records_lem))
-      ∙ ap (λ (a : ℕ). oldest_number (listed (spare_read l) a (get_or (tracked_records l) i (read_texture [])).spares))
-      (zero-add (total spares_of (take i (tracked_records l))))
+  pub records_model : bytes_fit l ≡ true → starts_hold l ≡ true → texture_records 0 0 (model_of l).textures ≡ tracked_records l
+  unfolding model_of bytes_fit
+  records_model e f = records_states 0 0 0 (tracked_records l) e (grid_starts f) (stamp_starts f)
 
   pub spares_model : every_spare (model_of l).textures ≡ listed (spare_read l) 0 (total spares_of (tracked_records l))
   unfolding model_of

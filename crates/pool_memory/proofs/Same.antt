@@ -108,7 +108,7 @@ module _ (l : Lent) where
     after_same = λ i. record {
       pool = pool_same i;
       book = book_same f.mark i;
-      textures = textures_same l (model_of l) (omega (arith, f.textures, f.tracked)) (records_model l f.bytes f.oldest f.starts) i;
+      textures = textures_same l (model_of l) (omega (arith, f.textures, f.tracked)) (records_model l f.bytes f.starts) i;
       retiring = retiring_same l (model_of l) f.head (omega (arith, f.retiring)) f.hand (omega (arith, f.versions)) refl refl i;
       doomed = doomed_same l (model_of l) f.first (omega (arith, f.doomed)) (omega (arith, f.versions)) refl i;
       spares = spares_same l (model_of l) (omega (arith, f.spares, f.kept, f.versions)) refl i;

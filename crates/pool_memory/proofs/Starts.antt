@@ -129,7 +129,7 @@ module _ (l : Lent) where
 module _ (l : Lent) (f : Fits l) where
   -- the records of the first i, and of those from j on
   front_records : (i : ℕ) → texture_records 0 0 (take i (model_of l).textures) ≡ take i (tracked_records l)
-  front_records i = sym (records_take i 0 0 (model_of l).textures) ∙ ap (take i) (records_model l f.bytes f.oldest f.starts)
+  front_records i = sym (records_take i 0 0 (model_of l).textures) ∙ ap (take i) (records_model l f.bytes f.starts)
 
   rest_records : (j : ℕ) → texture_records (first_grid l j) (first_stamp l j) (drop j (model_of l).textures) ≡ drop j (tracked_records l)
   rest_records j =
@@ -137,7 +137,7 @@ module _ (l : Lent) (f : Fits l) where
       (sym (zero-add (total newest_used (take j (model_of l).textures)) ∙ grids_to l j))
       (sym (zero-add (total stamps_used (take j (model_of l).textures)) ∙ stamps_to l j))
       ∙ sym (records_drop j 0 0 (model_of l).textures)
-      ∙ ap (drop j) (records_model l f.bytes f.oldest f.starts)
+      ∙ ap (drop j) (records_model l f.bytes f.starts)
 
   -- the records of textures, of which those between i and j are others
   parts_records : (i j : ℕ) (new : List (VersionState ℕ))

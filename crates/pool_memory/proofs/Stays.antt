@@ -54,7 +54,7 @@ doomed_bound (cons d ds) = omega (arith, d.bytes, doomed_bound ds)
 module _ (l : Lent) (f : Fits l) where
   pub ids_ascend : ascending id_of (tracked_records l) ≡ true
   ids_ascend =
-      ap (ascending id_of) (sym (records_model l f.bytes f.oldest f.starts)) ∙ ascending_records 0 0 (model_of l).textures
+      ap (ascending id_of) (sym (records_model l f.bytes f.starts)) ∙ ascending_records 0 0 (model_of l).textures
       ∙ ascending_passes f.formed.ids
 
   pub textures_fit_lem : texture_stride * l.pool.tracked ≤ length l.textures
@@ -81,7 +81,7 @@ module _ (l : Lent) (f : Fits l) where
         ∙ (λ i. record { arrivals = (sym e i).arrivals; slot = (sym e i).slot; pressed = mark_of (sym e i).pressed; excess = (sym e i).excess })
 
     pub textures_stay : texture_records 0 0 p.textures ≡ texture_records 0 0 (model_of l).textures → l.textures ≡ textures_after p l
-    textures_stay e = sym (textures_same l p textures_fit_lem (e ∙ records_model l f.bytes f.oldest f.starts))
+    textures_stay e = sym (textures_same l p textures_fit_lem (e ∙ records_model l f.bytes f.starts))
 
     pub spares_stay : every_spare p.textures ≡ every_spare (model_of l).textures → l.spares ≡ spares_after p l
     spares_stay e = sym (spares_same l p spares_fit e)

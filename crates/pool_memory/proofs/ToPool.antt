@@ -94,5 +94,5 @@ module _ (l : Lent) (f : Fits l) where
   pub fits_pool : is_pool l ≡ true
   unfolding is_pool
   fits_pool =
-      every (cons sizes_pass (cons counts_pass (cons runs_pass (cons f.starts (cons f.tilings (cons f.bytes (cons f.oldest
-      (cons mark_passes (cons (formed_passes (model_of l) f.formed) nil)))))))))
+      every (cons sizes_pass (cons counts_pass (cons runs_pass (cons f.starts (cons f.tilings (cons f.bytes (cons mark_passes
+      (cons (formed_passes (model_of l) f.formed) nil))))))))

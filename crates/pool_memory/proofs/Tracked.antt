@@ -16,14 +16,13 @@ use Rattle.pool_rules.specs.HistorySizes.{newest_used, stamps_used}
 use Rattle.pool_rules.specs.Formed.{Given, HistoryFormed, StateFormed}
 use Rattle.pool_records.specs.declared.texture.TextureRecord.{TextureRecord}
 use Rattle.pool_records.specs.Recorded.{RecordedFits, recorded_number}
-use Rattle.pool_records.specs.Oldest.{oldest_number}
 use Rattle.pool_records.specs.Texture.{read_texture, texture_in, textures_in, record_grids, record_stamps}
 use Rattle.pool_memory.specs.Lent.{Lent}
 use Rattle.pool_memory.specs.Reading.{tracked_records, state_read, model_of}
 use Rattle.pool_memory.specs.Writing.{recorded_history, texture_record}
 use Rattle.pool_memory.specs.IsPool.{bytes_hold, bytes_fit}
 use Rattle.pool_memory.proofs.Fits.{Fits}
-use Rattle.pool_memory.proofs.Runs.{spares_of, first_grid_in, first_stamp_in, first_spare, first_grid, first_stamp, state_of, tracked_records_lem, tracked_model, model_at, bytes_held, oldest_held_at, record_state, grids_state, stamps_used_state, grid_held_at, stamp_held_at}
+use Rattle.pool_memory.proofs.Runs.{spares_of, first_grid_in, first_stamp_in, first_spare, first_grid, first_stamp, state_of, tracked_records_lem, tracked_model, model_at, bytes_held, record_state, grids_state, stamps_used_state, grid_held_at, stamp_held_at}
 use Rattle.pool_memory.proofs.Starts.{placed_record}
 use Rattle.pool_memory.proofs.Changes.{count_state}
 use Rattle.pool_records.specs.RecordConstants.{texture_stride}
@@ -62,11 +61,7 @@ module _ (l : Lent) (i : ℕ) (h : i < l.pool.tracked) where
   unfolding state_of
   record_at_lem f =
       ap₂ (λ (g n : ℕ). texture_record g n (state_of l i)) (sym (grid_held_at l f.starts i h)) (sym (stamp_held_at l f.starts i h))
-      ∙ record_state l (first_spare l i) (get_or (tracked_records l) i (read_texture [])) (bytes_tracked f) (oldest_held_at l f.oldest i h) ∙ record_read
-
-  -- it has the parking number of its oldest spare
-  pub oldest_at : Fits l → (texture_at l i).oldest ≡ oldest_number (state_of l i).spares
-  oldest_at f = ap (λ (t : TextureRecord). t.oldest) (sym (record_at_lem f))
+      ∙ record_state l (first_spare l i) (get_or (tracked_records l) i (read_texture [])) (bytes_tracked f) ∙ record_read
 
   pub shape_at : (state_of l i).shape ≡ (texture_at l i).shape
   unfolding state_of state_read

@@ -1,7 +1,7 @@
 -- Rule: Whether lent memory forms a pool (01, "Outcomes"): what the packing needs, then 01's conditions in 01's order.
-use Rattle.std.specs.Prelude.{ℕ, ◌+◌, ◌*◌, min, Bool, true, ◌&&◌, List, [], ◌∷◌, leb, ltb, eqb, length, get_or}
+use Rattle.std.specs.Prelude.{ℕ, ◌+◌, ◌*◌, min, Bool, true, ◌&&◌, [], ◌∷◌, leb, ltb, eqb, length, get_or}
 use Rattle.std.proofs.Math.Option.{Option, none, some}
-use Rattle.base_blocks.specs.Lists.{listed, all, total, ascending, tests}
+use Rattle.base_blocks.specs.Lists.{all, total, ascending, tests}
 use Rattle.grid_shapes.specs.declared.shape.VersionShape.{VersionShape}
 use Rattle.grid_shapes.specs.Shapes.{is_shape, bytes_of}
 use Rattle.grid_stamps.specs.Grids.{StampGrid}
@@ -16,9 +16,8 @@ use Rattle.pool_records.specs.declared.recorded.Recorded.{Recorded}
 use Rattle.pool_records.specs.declared.recorded.Recorded.TheVariants.{Writes, NoHistory}
 use Rattle.pool_records.specs.declared.texture.TextureRecord.{TextureRecord}
 use Rattle.pool_records.specs.Tilings.{tiling_number}
-use Rattle.pool_records.specs.Oldest.{oldest_number}
 use Rattle.pool_memory.specs.Lent.{Lent, version_places}
-use Rattle.pool_memory.specs.Reading.{tracked_records, spare_read, model_of}
+use Rattle.pool_memory.specs.Reading.{tracked_records, model_of}
 use Rattle.grid_shapes.specs.ShapeConstants.{most_shape_bytes}
 use Rattle.grid_stamps.specs.StampConstants.{page_stamps}
 use Rattle.pool_records.specs.RecordConstants.{doomed_stride, retiring_stride, spare_stride, texture_stride}
@@ -80,15 +79,6 @@ bytes_hold t = eqb t.bytes (bytes_of t.shape)
 
 unfoldable pub bytes_fit : Lent → Bool
 bytes_fit l = all bytes_hold (tracked_records l)
-
--- every record's parking number is that of its texture's oldest spare, or none where it has no spares. The first record's spares begin at place `first`,
--- each later one's behind those before it.
-unfoldable pub oldest_from : Lent → ℕ → List TextureRecord → Bool
-oldest_from l first [] = true
-oldest_from l first (t ∷ ts) = eqb t.oldest (oldest_number (listed (spare_read l) first t.spares)) && oldest_from l (first + t.spares) ts
-
-unfoldable pub oldest_fit : Lent → Bool
-oldest_fit l = oldest_from l 0 (tracked_records l)
 
 -- the pressure mark is 0 or 1
 unfoldable pub mark_fits : Lent → Bool
@@ -157,4 +147,4 @@ is_formed p = tests (
     ∷ leb p.since (length p.doomed) ∷ [])
 
 unfoldable pub is_pool : Lent → Bool
-is_pool l = tests (sizes_fit l ∷ counts_fit l ∷ runs_fit l ∷ starts_hold l ∷ tilings_fit l ∷ bytes_fit l ∷ oldest_fit l ∷ mark_fits l ∷ is_formed (model_of l) ∷ [])
+is_pool l = tests (sizes_fit l ∷ counts_fit l ∷ runs_fit l ∷ starts_hold l ∷ tilings_fit l ∷ bytes_fit l ∷ mark_fits l ∷ is_formed (model_of l) ∷ [])

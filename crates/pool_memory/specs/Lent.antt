@@ -1,6 +1,6 @@
 -- Rule: What a caller lends a call: the counts, the pacing book and six slices.
 --
---   textures   a record of 23 numbers for each tracked texture, packed in ascending id
+--   textures   a record of 22 numbers for each tracked texture, packed in ascending id
 --   retiring   a ring of records of 7: the popped version if there is one, then the queue, the oldest first
 --   doomed     a ring of records of 2: the destroy queue, the oldest first
 --   spares     records of 3, packed texture by texture in ascending id, the oldest first

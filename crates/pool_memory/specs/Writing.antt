@@ -18,7 +18,6 @@ use Rattle.pool_records.specs.declared.retiring.RetiringRecord.{RetiringRecord}
 use Rattle.pool_records.specs.declared.doomed.DoomedRecord.{DoomedRecord}
 use Rattle.pool_records.specs.Texture.{write_texture}
 use Rattle.pool_records.specs.Spare.{write_spare}
-use Rattle.pool_records.specs.Oldest.{oldest_number}
 use Rattle.pool_records.specs.Retiring.{write_retiring}
 use Rattle.pool_records.specs.Doomed.{write_doomed}
 use Rattle.pool_records.specs.Tilings.{tiling_number}
@@ -44,7 +43,6 @@ texture_record grid stamp t = record {
   rename = t.rename;
   due = t.due;
   spares = length t.spares;
-  oldest = oldest_number t.spares;
   bytes = bytes_of t.shape;
   grid = grid;
   stamp = stamp;

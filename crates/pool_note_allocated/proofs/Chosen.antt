@@ -114,7 +114,7 @@ module _ (l : Lent) where
 
   module _ (f : Fits l) where
     records_shaped : All (λ (t : TextureRecord). is_shape t.shape ≡ true) (tracked_records l)
-    records_shaped = rw (records_model l f.bytes f.oldest f.starts) at (shapes_recorded 0 0 f.formed.textures)
+    records_shaped = rw (records_model l f.bytes f.starts) at (shapes_recorded 0 0 f.formed.textures)
 
     bytes_most : {ts : List TextureRecord} → All (λ (t : TextureRecord). is_shape t.shape ≡ true) ts → total record_bytes ts ≤ most_shape_bytes * total record_spares ts
     unfolding total record_bytes

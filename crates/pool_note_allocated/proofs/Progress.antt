@@ -4,7 +4,7 @@ use mathlib.Core.List.{List, map, flat_map}
 use Prim.Native.Nat.{ℕ, suc, ◌+◌, ◌-◌, ◌*◌, ◌≤◌, ◌<◌, ◌^◌}
 use native.Mathlib.Numerals.{add-one}
 use native.Mathlib.Omega.{arith}
-use lib.ListN.{length, take}
+use lib.ListN.{length, take, set}
 use Rattle.base_blocks.specs.Lists.{over, total}
 use Rattle.base_blocks.specs.Blocks.{moved}
 use Rattle.base_blocks.proofs.Listed.{listed_same}
@@ -29,10 +29,10 @@ use Rattle.pool_memory.proofs.Stays.{textures_fit_lem, doomed_fit_lem}
 use Rattle.pool_take_doomed.specs.Given.{given_records}
 use Rattle.pool_relief_line.specs.Line.{IsLine, taken_at, gives}
 use Rattle.pool_relief_line.specs.Parked.{parked_at, parkings, bytes_from, HasBytes}
-use Rattle.pool_note_allocated.specs.NoteAllocated.{relieved_pool, spares_given, spares_left, Relieves}
+use Rattle.pool_note_allocated.specs.NoteAllocated.{relieved_pool, spares_given, Relieves}
 use Rattle.pool_note_allocated.proofs.Thinned.{first_next, textures_to, spares_to, doomed_to, kept_to, bytes_to, textures_next, record_next, kept_most, kept_next, spares_next, spare_next, doomed_next, bytes_next, none_given, none_counted, all_given}
 use Rattle.pool_note_allocated.proofs.Chosen.{share, freed_to, countable, share_gives, share_most, freed_next, freed_fits}
-use Rattle.pool_records.specs.RecordConstants.{doomed_stride, spare_stride, texture_stride}
+use Rattle.pool_records.specs.RecordConstants.{doomed_stride, spare_stride, texture_spares_at, texture_stride}
 
 -- the numbers and slices as they are when the first i textures have given what was picked of them
 pub record Progress (l : Lent) (excess line i from kept bytes sum : ℕ) (textures doomed spares : List ℕ) : Type 0 where
@@ -112,7 +112,7 @@ module _ (l : Lent) (excess line : ℕ) where
     module _ {n count given freed : ℕ} {textures' doomed' spares' : List ℕ} (had : n ≡ here.spares)
         (gave : count ≡ gives sum excess (bytes_of here.shape) line (parkings spares from n)) (bytes-given : given ≡ bytes_of here.shape * count)
         (freed-by : freed ≡ sum + bytes_of here.shape * taken_at sum excess (bytes_of here.shape) line (parkings spares from n))
-        (t : textures' ≡ spares_left textures spares i from n count)
+        (t : textures' ≡ set textures (texture_stride * i + texture_spares_at) (n - count))
         (d : doomed' ≡ laid doomed_stride write_doomed (version_places l) l.pool.first (l.pool.doomed + (from - kept)) (given_records spares (bytes_of here.shape) from count) doomed)
         (s : spares' ≡ moved spares (spare_stride * kept) (spare_stride * (from + count)) (spare_stride * (n - count)))
         (long-t : length textures' ≡ length textures) (long-d : length doomed' ≡ length doomed) (long-s : length spares' ≡ length spares) where
@@ -139,13 +139,6 @@ module _ (l : Lent) (excess line : ℕ) where
 
       le : k (state_of l i) ≤ stood.spares
       le = share_most l f excess line L i h
-
-      records_turn : spares_left textures spares i from n count ≡ textures_to l k (suc i)
-      records_turn =
-          ap₂ (λ (ts ss : List ℕ). spares_left ts ss i from n count) p.records p.runs
-          ∙ ap₂ (λ (x c : ℕ). spares_left (textures_to l k i) (spares_to l k i) i x n c) p.first count_share
-          ∙ ap (λ (m : ℕ). spares_left (textures_to l k i) (spares_to l k i) i (first_spare l i) m (k (state_of l i))) had_stood
-          ∙ textures_next l k i h le f
 
       ring_turn : laid doomed_stride write_doomed (version_places l) l.pool.first (l.pool.doomed + (from - kept)) (given_records spares (bytes_of here.shape) from count) doomed
           ≡ doomed_to l k (suc i)
@@ -175,7 +168,7 @@ module _ (l : Lent) (excess line : ℕ) where
             freed-by ∙ ap₂ (λ (b : ℕ) (ps : List ℕ). sum + b * taken_at sum excess b line ps) shape_stood numbers_stood
             ∙ ap (λ (m : ℕ). m + bytes_of stood.shape * taken_at m excess (bytes_of stood.shape) line (parkings l.spares (first_spare l i) stood.spares)) p.freed
             ∙ freed_next l f excess line L i h;
-        records = t ∙ records_turn;
+        records = t ∙ ap₂ (λ (a : List ℕ) (v : ℕ). set a (texture_stride * i + texture_spares_at) v) p.records (ap₂ (λ (a b : ℕ). a - b) had_stood count_share) ∙ textures_next l k i h f;
         ring = d ∙ ring_turn;
         runs = s ∙ runs_turn;
         textured = long-t ∙ p.textured;

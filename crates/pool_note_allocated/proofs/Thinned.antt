@@ -5,7 +5,7 @@ use mathlib.Core.List.{List, [], ◌∷◌, ◌++◌, map, flat_map, map-append,
 use Prim.Native.Nat.{ℕ, suc, ◌+◌, ◌-◌, ◌*◌, ◌≤◌, ◌<◌}
 use native.Mathlib.Nat.{zero-add}
 use native.Mathlib.Omega.{arith}
-use lib.ListN.{length, take, drop, length-map, length-drop}
+use lib.ListN.{length, take, drop, set, length-map, length-drop}
 use lib.Seq.{take-suc, take_all, length-take-le}
 use Rattle.base_blocks.specs.Lists.{listed, over, total}
 use Rattle.base_blocks.specs.Blocks.{moved}
@@ -25,8 +25,6 @@ use Rattle.pool_records.specs.declared.doomed.DoomedRecord.{DoomedRecord}
 use Rattle.pool_records.specs.Texture.{read_texture, write_texture, texture_in, record_grids, record_stamps}
 use Rattle.pool_records.specs.Spare.{read_spare, write_spare}
 use Rattle.pool_records.specs.Doomed.{write_doomed}
-use Rattle.pool_records.specs.Oldest.{oldest_number}
-use Rattle.pool_records.specs.Views.{spare_of, spare_in}
 use Rattle.pool_records.proofs.Codecs.{texture_codec, spare_codec}
 use Rattle.pool_memory.specs.Lent.{Lent, version_places}
 use Rattle.pool_memory.specs.Reading.{tracked_records, spare_read, state_read, model_of}
@@ -42,9 +40,8 @@ use Rattle.pool_memory.proofs.Starts.{placed_record}
 use Rattle.pool_memory.proofs.Tracked.{record_read, record_at_lem, shape_at, count_at}
 use Rattle.pool_take_doomed.specs.Given.{given_records}
 use Rattle.pool_take_doomed.proofs.Pushed.{given_spares}
-use Rattle.pool_note_allocated.specs.NoteAllocated.{spares_left}
-use Rattle.pool_note_allocated.proofs.Written.{record_over, moved_run, with_left, left_set}
-use Rattle.pool_records.specs.RecordConstants.{doomed_stride, spare_stride}
+use Rattle.pool_note_allocated.proofs.Written.{record_over, moved_run, with_count, count_set}
+use Rattle.pool_records.specs.RecordConstants.{doomed_stride, spare_stride, texture_spares_at, texture_stride}
 
 module _ (l : Lent) where
   -- the record of texture i
@@ -108,6 +105,52 @@ module _ (l : Lent) where
     length_first : (i : ℕ) → i ≤ l.pool.tracked → length (first i) ≡ i
     length_first i h = length-take-le i (model_of l).textures (omega (arith, tracked_model l))
 
+    -- ---- the textures' records
+
+    -- those before texture i have the grids and stamps that they had
+    used_before : (used : VersionState ℕ → ℕ) → ((t : VersionState ℕ) → used (lessened k t) ≡ used t) → (size : TextureRecord → ℕ)
+        → ((at : ℕ) (t : TextureRecord) → used (state_read l at t) ≡ size t) → (i : ℕ)
+        → 0 + total used (map (lessened k) (first i)) ≡ total size (take i (tracked_records l))
+    unfolding model_of
+    used_before used same size reads i =
+        zero-add (total used (map (lessened k) (first i)))
+        ∙ total_map used (lessened k) same (first i)
+        ∙ ap (total used) (take_states l i 0 (tracked_records l))
+        ∙ used_states l used size reads 0 (take i (tracked_records l))
+
+    grids_before : (i : ℕ) → 0 + total newest_used (map (lessened k) (first i)) ≡ first_grid l i
+    unfolding first_grid
+    grids_before i = used_before newest_used (λ t. refl) record_grids (grids_state l) i
+
+    stamps_before : (i : ℕ) → 0 + total stamps_used (map (lessened k) (first i)) ≡ first_stamp l i
+    unfolding first_stamp
+    stamps_before i = used_before stamps_used (λ t. refl) record_stamps (stamps_used_state l) i
+
+    pub textures_next : (i : ℕ) → i < l.pool.tracked → Fits l
+        → set (textures_to i) (texture_stride * i + texture_spares_at) ((record_of i).spares - gave i) ≡ textures_to (suc i)
+    unfolding textures_to
+    textures_next i h f =
+        let xs = texture_records 0 0 (map (lessened k) (first i)) in
+        count_set xs l.textures i ((record_of i).spares - gave i)
+        (length_recorded 0 0 (map (lessened k) (first i)) ∙ length-map (first i) (lessened k) ∙ length_first i (omega arith)) (omega (arith, f.textures, f.tracked))
+        ∙ ap (λ (rs : List TextureRecord). over (flat write_texture rs) l.textures)
+        (sym (ap (texture_records 0 0) (thin_next i h) ∙ records_more 0 0 (map (lessened k) (first i)) (lessened k (state_of l i))
+        ∙ ap₂ (λ (g n : ℕ). xs ++ (texture_record g n (lessened k (state_of l i)) ∷ [])) (grids_before i) (stamps_before i)
+        ∙ ap (λ (t : TextureRecord). xs ++ (t ∷ [])) thinner))
+      where
+        thinner : placed_record l i (lessened k (state_of l i)) ≡ with_count ((record_of i).spares - gave i) (record_of i)
+        thinner =
+            ap (λ (n : ℕ). with_count n (placed_record l i (state_of l i))) (length-drop (gave i) (state_of l i).spares ∙ ap (λ (n : ℕ). n - gave i) (count_at l i h))
+            ∙ ap (with_count ((record_of i).spares - gave i)) (record_at_lem l i h f)
+
+    -- the record of texture i, while those before it are written
+    pub record_next : (i : ℕ) → i ≤ l.pool.tracked → texture_in (textures_to i) i ≡ record_of i
+    unfolding textures_to
+    record_next i h =
+        let xs = texture_records 0 0 (map (lessened k) (first i)) in
+        record_over texture_codec xs l.textures i
+        (omega (arith, length_recorded 0 0 (map (lessened k) (first i)), length-map (first i) (lessened k), length_first i h))
+
     -- ---- the spares
 
     kept_length : (i : ℕ) → length (map spare_record (every_spare (map (lessened k) (first i)))) ≡ kept_to i
@@ -132,16 +175,13 @@ module _ (l : Lent) where
         omega (arith, length-drop (gave i) (state_of l i).spares, count_at l i h) in e)
 
     -- the spares that texture i keeps are those after the ones that it gave
-    left_spares : (i : ℕ) → i < l.pool.tracked → gave i ≤ (record_of i).spares
-        → drop (gave i) (state_of l i).spares ≡ listed (spare_read l) (first_spare l i + gave i) ((record_of i).spares - gave i)
-    left_spares i h le = ap (drop (gave i)) (state_spares i h) ∙ drop_listed (spare_read l) (gave i) (first_spare l i) (record_of i).spares le
-
     kept_run : (i : ℕ) → i < l.pool.tracked → gave i ≤ (record_of i).spares
         → map spare_record (drop (gave i) (state_of l i).spares)
         ≡ listed (record_at spare_stride read_spare l.spares) (first_spare l i + gave i) ((record_of i).spares - gave i)
     unfolding spare_read
     kept_run i h le =
-        ap (map spare_record) (left_spares i h le) ∙ map_listed spare_record (spare_read l) (first_spare l i + gave i) ((record_of i).spares - gave i)
+        ap (map spare_record) (ap (drop (gave i)) (state_spares i h) ∙ drop_listed (spare_read l) (gave i) (first_spare l i) (record_of i).spares le)
+        ∙ map_listed spare_record (spare_read l) (first_spare l i + gave i) ((record_of i).spares - gave i)
 
     every_next : (i : ℕ) → i < l.pool.tracked
         → map spare_record (every_spare (map (lessened k) (first (suc i))))
@@ -165,71 +205,11 @@ module _ (l : Lent) where
         moved_run spare_codec xs l.spares (kept_to i) (from + g) (c - g) (kept_length i) (omega (arith, kept_most i)) (omega arith)
         ∙ ap (λ (rs : List SpareRecord). over (flat write_spare rs) l.spares) (sym (every_next i h ∙ ap (λ (rs : List SpareRecord). xs ++ rs) (kept_run i h le)))
 
-    -- a spare that is still to be read is what it was
+    -- a parking number that is still to be read is what it was
     pub spare_next : (i j : ℕ) → first_spare l i ≤ j → record_at spare_stride read_spare (spares_to i) j ≡ record_at spare_stride read_spare l.spares j
     unfolding spares_to
     spare_next i j h =
         record_over spare_codec (map spare_record (every_spare (map (lessened k) (first i)))) l.spares j (omega (arith, kept_length i, kept_most i))
-
-    -- the spares that texture i keeps, as they are read before they move down
-    left_run : (i : ℕ) → i < l.pool.tracked → gave i ≤ (record_of i).spares
-        → listed (spare_in (spares_to i)) (first_spare l i + gave i) ((record_of i).spares - gave i) ≡ drop (gave i) (state_of l i).spares
-    unfolding spare_read
-    left_run i h le =
-        let from = first_spare l i + gave i in
-        listed_same (spare_in (spares_to i)) (spare_read l) ((record_of i).spares - gave i) from from (λ j q. ap spare_of (spare_next i (from + j) (omega arith)))
-        ∙ sym (left_spares i h le)
-
-    -- ---- the textures' records
-
-    -- those before texture i have the grids and stamps that they had
-    used_before : (used : VersionState ℕ → ℕ) → ((t : VersionState ℕ) → used (lessened k t) ≡ used t) → (size : TextureRecord → ℕ)
-        → ((at : ℕ) (t : TextureRecord) → used (state_read l at t) ≡ size t) → (i : ℕ)
-        → 0 + total used (map (lessened k) (first i)) ≡ total size (take i (tracked_records l))
-    unfolding model_of
-    used_before used same size reads i =
-        zero-add (total used (map (lessened k) (first i)))
-        ∙ total_map used (lessened k) same (first i)
-        ∙ ap (total used) (take_states l i 0 (tracked_records l))
-        ∙ used_states l used size reads 0 (take i (tracked_records l))
-
-    grids_before : (i : ℕ) → 0 + total newest_used (map (lessened k) (first i)) ≡ first_grid l i
-    unfolding first_grid
-    grids_before i = used_before newest_used (λ t. refl) record_grids (grids_state l) i
-
-    stamps_before : (i : ℕ) → 0 + total stamps_used (map (lessened k) (first i)) ≡ first_stamp l i
-    unfolding first_stamp
-    stamps_before i = used_before stamps_used (λ t. refl) record_stamps (stamps_used_state l) i
-
-    pub textures_next : (i : ℕ) → i < l.pool.tracked → gave i ≤ (record_of i).spares → Fits l
-        → spares_left (textures_to i) (spares_to i) i (first_spare l i) (record_of i).spares (gave i) ≡ textures_to (suc i)
-    unfolding textures_to spares_left
-    textures_next i h le f =
-        let xs = texture_records 0 0 (map (lessened k) (first i)) in
-        left_set xs l.textures i ((record_of i).spares - gave i) oldest
-        (length_recorded 0 0 (map (lessened k) (first i)) ∙ length-map (first i) (lessened k) ∙ length_first i (omega arith)) (omega (arith, f.textures, f.tracked))
-        ∙ ap (λ (rs : List TextureRecord). over (flat write_texture rs) l.textures)
-        (sym (ap (texture_records 0 0) (thin_next i h) ∙ records_more 0 0 (map (lessened k) (first i)) (lessened k (state_of l i))
-        ∙ ap₂ (λ (g n : ℕ). xs ++ (texture_record g n (lessened k (state_of l i)) ∷ [])) (grids_before i) (stamps_before i)
-        ∙ ap (λ (t : TextureRecord). xs ++ (t ∷ [])) thinner))
-      where
-        oldest : ℕ
-        oldest = oldest_number (listed (spare_in (spares_to i)) (first_spare l i + gave i) ((record_of i).spares - gave i))
-
-        thinner : placed_record l i (lessened k (state_of l i)) ≡ with_left ((record_of i).spares - gave i) oldest (record_of i)
-        thinner =
-            ap₂ (λ (n o : ℕ). with_left n o (placed_record l i (state_of l i)))
-            (length-drop (gave i) (state_of l i).spares ∙ ap (λ (n : ℕ). n - gave i) (count_at l i h))
-            (ap oldest_number (sym (left_run i h le)))
-            ∙ ap (with_left ((record_of i).spares - gave i) oldest) (record_at_lem l i h f)
-
-    -- the record of texture i, while those before it are written
-    pub record_next : (i : ℕ) → i ≤ l.pool.tracked → texture_in (textures_to i) i ≡ record_of i
-    unfolding textures_to
-    record_next i h =
-        let xs = texture_records 0 0 (map (lessened k) (first i)) in
-        record_over texture_codec xs l.textures i
-        (omega (arith, length_recorded 0 0 (map (lessened k) (first i)), length-map (first i) (lessened k), length_first i h))
 
     -- ---- the destroy ring
 

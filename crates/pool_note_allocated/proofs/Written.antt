@@ -15,7 +15,7 @@ use Rattle.base_tables.proofs.Records.{Codec, length_flat, flat_append, flat_tab
 use Rattle.pool_records.specs.declared.texture.TextureRecord.{TextureRecord}
 use Rattle.pool_records.specs.Texture.{read_texture, write_texture, texture_in}
 use Rattle.pool_records.proofs.Codecs.{texture_codec}
-use Rattle.pool_records.specs.RecordConstants.{texture_oldest_at, texture_spares_at, texture_stride}
+use Rattle.pool_records.specs.RecordConstants.{texture_spares_at, texture_stride}
 
 -- ---- a run of records, written out
 
@@ -58,15 +58,15 @@ module _ {ℓ} {A : Type ℓ} {w : ℕ} {rd : List ℕ → A} {wr : A → List �
       (let q : w * to + w * n ≡ length (flat wr (xs ++ listed (record_at w rd s) from n)) =
       omega (arith, lp, lm, length-append p m, ap length (flat_append wr xs (listed (record_at w rd s) from n))) in q)
 
--- ---- two numbers of a record written
+-- ---- one number of a record written
 
 set_past : (p q : List ℕ) (j v : ℕ) → set (p ++ q) (length p + j) v ≡ p ++ set q j v
 set_past [] q j v = ap (λ (n : ℕ). set q n v) (zero-add j)
 set_past (x ∷ p) q j v = ap (λ (n : ℕ). set (x ∷ p ++ q) n v) (suc-add (length p) j) ∙ ap (λ (l : List ℕ). x ∷ l) (set_past p q j v)
 
--- a texture's record with another number of spares, and the parking number of the oldest of these
-abbrev pub with_left : ℕ → ℕ → TextureRecord → TextureRecord
-with_left n oldest t = record {
+-- a texture's record with another number of spares
+abbrev pub with_count : ℕ → TextureRecord → TextureRecord
+with_count n t = record {
   id = t.id;
   shape = t.shape;
   epoch = t.epoch;
@@ -75,32 +75,25 @@ with_left n oldest t = record {
   rename = t.rename;
   due = t.due;
   spares = n;
-  oldest = oldest;
   bytes = t.bytes;
   grid = t.grid;
   stamp = t.stamp;
 }
 
-left_front : (q : List ℕ) (n o : ℕ) → texture_stride ≤ length q
-    → set (set q texture_spares_at n) texture_oldest_at o ≡ over (flat write_texture (with_left n o (read_texture q) ∷ [])) q
+count_front : (q : List ℕ) (v : ℕ) → texture_stride ≤ length q → set q texture_spares_at v ≡ over (flat write_texture (with_count v (read_texture q) ∷ [])) q
 unfolding write_texture over flat
-left_front q n o h =
-    ap (λ (l : List ℕ). set (set l texture_spares_at n) texture_oldest_at o)
-    (sym (take-append-drop texture_stride q) ∙ ap (λ (l : List ℕ). l ++ drop texture_stride q) (sym (texture_codec.back q h)))
+count_front q v h = ap (λ (l : List ℕ). set l texture_spares_at v) (sym (take-append-drop texture_stride q) ∙ ap (λ (l : List ℕ). l ++ drop texture_stride q) (sym (texture_codec.back q h)))
 
--- these two numbers of the record after those written
-pub left_set : (xs : List TextureRecord) (s : List ℕ) (i n o : ℕ) → length xs ≡ i → texture_stride * i + texture_stride ≤ length s
-    → set (set (over (flat write_texture xs) s) (texture_stride * i + texture_spares_at) n) (texture_stride * i + texture_oldest_at) o
-    ≡ over (flat write_texture (xs ++ (with_left n o (texture_in s i) ∷ []))) s
+-- the number of spares of the record after those written
+pub count_set : (xs : List TextureRecord) (s : List ℕ) (i v : ℕ) → length xs ≡ i → texture_stride * i + texture_stride ≤ length s
+    → set (over (flat write_texture xs) s) (texture_stride * i + texture_spares_at) v ≡ over (flat write_texture (xs ++ (with_count v (texture_in s i) ∷ []))) s
 unfolding over record_at
-left_set xs s i n o e h =
+count_set xs s i v e h =
     let p = flat write_texture xs in
-    let q = drop (length p) s in
     let lp : length p ≡ texture_stride * i = length_flat texture_codec xs ∙ ap (λ (k : ℕ). texture_stride * k) e in
-    ap (λ (k : ℕ). set (set (p ++ q) (k + 18) n) (k + 19) o) (sym lp)
-    ∙ ap (λ (l : List ℕ). set l (length p + 19) o) (set_past p q 18 n)
-    ∙ set_past p (set q 18 n) 19 o
-    ∙ ap (λ (l : List ℕ). p ++ l) (left_front q n o (omega (arith, length-drop (length p) s, lp)))
-    ∙ sym (over_append p (flat write_texture (with_left n o (read_texture q) ∷ [])) s)
-    ∙ ap (λ (l : List ℕ). over l s) (sym (flat_append write_texture xs (with_left n o (read_texture q) ∷ [])))
-    ∙ ap (λ (k : ℕ). over (flat write_texture (xs ++ (with_left n o (read_texture (drop k s)) ∷ []))) s) lp
+    ap (λ (k : ℕ). set (p ++ drop (length p) s) (k + 18) v) (sym lp)
+    ∙ set_past p (drop (length p) s) 18 v
+    ∙ ap (λ (l : List ℕ). p ++ l) (count_front (drop (length p) s) v (omega (arith, length-drop (length p) s, lp)))
+    ∙ sym (over_append p (flat write_texture (with_count v (read_texture (drop (length p) s)) ∷ [])) s)
+    ∙ ap (λ (l : List ℕ). over l s) (sym (flat_append write_texture xs (with_count v (read_texture (drop (length p) s)) ∷ [])))
+    ∙ ap (λ (k : ℕ). over (flat write_texture (xs ++ (with_count v (read_texture (drop k s)) ∷ []))) s) lp

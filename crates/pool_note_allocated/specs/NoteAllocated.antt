@@ -1,14 +1,10 @@
 -- Helper: The pool after a relief of `excess` bytes, as the lent slices have it.
-use Rattle.std.specs.Prelude.{ℕ, ◌+◌, ◌-◌, ◌*◌, ◌≡◌, eqb, take, set}
+use Rattle.std.specs.Prelude.{ℕ, ◌+◌, ◌-◌, ◌≡◌, eqb, take}
 use mathlib.Core.List.{List, flat_map}
-use Rattle.base_blocks.specs.Lists.{listed}
 use Rattle.grid_shapes.specs.Shapes.{bytes_of}
 use Rattle.pool_rules.specs.Model.{Doomed, VersionState, PoolModel, doomed_bytes}
 use Rattle.pool_rules.specs.Updates.{as_doomed}
 use Rattle.pool_rules.specs.NoteAllocated.{pressed_after, count_of, picked_in, relieved}
-use Rattle.pool_records.specs.Oldest.{oldest_number}
-use Rattle.pool_records.specs.Views.{spare_in}
-use Rattle.pool_records.specs.RecordConstants.{texture_oldest_at, texture_spares_at, texture_stride}
 use Rattle.pool_memory.specs.declared.pool.Pool.{Pool as Counts}
 use Rattle.pool_memory.specs.declared.book.PacingBook.{PacingBook}
 use Rattle.pool_memory.specs.Lent.{Lent}
@@ -22,13 +18,6 @@ relieved_pool excess l = relieved (picked_in excess (model_of l)) (model_of l)
 abbrev pub spares_given : ℕ → Lent → List (Doomed ℕ)
 spares_given excess l =
     flat_map (λ (t : VersionState ℕ). as_doomed (bytes_of t.shape) (take (count_of t.id (picked_in excess (model_of l))) t.spares)) (model_of l).textures
-
--- the textures' records when texture i, whose n spares begin at place `from`, gave up the oldest `count`: its record has how many are left, and the
--- parking number of the oldest of these
-unfoldable pub spares_left : List ℕ → List ℕ → ℕ → ℕ → ℕ → ℕ → List ℕ
-spares_left textures spares i from n count =
-    set (set textures (texture_stride * i + texture_spares_at) (n - count))
-    (texture_stride * i + texture_oldest_at) (oldest_number (listed (spare_in spares) (from + count) (n - count)))
 
 -- what relief leaves: `kept` spares, the slices as they are then, and the bytes of the spares given up
 pub record Relieves (l : Lent) (excess kept bytes : ℕ) (textures doomed spares : List ℕ) : Type 0 where

@@ -1,5 +1,5 @@
 // Relief: each texture, in ascending id, gives the spares that were picked of it.
-ghost use Rattle.std.specs.Prelude.{◌≡◌, true, ◌+◌, ◌-◌, ◌*◌, ◌≤◌, ◌<◌, ◌^◌, length};
+ghost use Rattle.std.specs.Prelude.{◌≡◌, true, ◌+◌, ◌-◌, ◌*◌, ◌≤◌, ◌<◌, ◌^◌, length, set};
 ghost use Rattle.base_blocks.specs.Blocks.{moved};
 ghost use Rattle.base_tables.specs.Rings.{laid};
 ghost use Rattle.grid_shapes.specs.Shapes.{bytes_of};
@@ -10,8 +10,8 @@ ghost use Rattle.pool_memory.specs.IsPool.{is_pool};
 ghost use Rattle.pool_take_doomed.specs.Given.{given_records};
 ghost use Rattle.pool_relief_line.specs.Line.{IsLine, taken_at, gives};
 ghost use Rattle.pool_relief_line.specs.Parked.{parkings, bytes_from, HasBytes};
-ghost use Rattle.pool_note_allocated.specs.NoteAllocated.{Relieves, spares_left};
-ghost use Rattle.pool_records.specs.RecordConstants.{doomed_stride, spare_stride, texture_stride};
+ghost use Rattle.pool_note_allocated.specs.NoteAllocated.{Relieves};
+ghost use Rattle.pool_records.specs.RecordConstants.{doomed_stride, spare_stride, texture_spares_at, texture_stride};
 
 use crate::give::give_spares;
 use pool_memory::{PacingBook, Pool};
@@ -51,7 +51,7 @@ fn relieve_texture(
         × (result.bytes ≡ bytes_of (texture_in textures.old i).shape * result.count)
         × (result.freed ≡ freed + bytes_of (texture_in textures.old i).shape
         * taken_at freed excess (bytes_of (texture_in textures.old i).shape) line (parkings spares.old from result.spares))
-        × (textures.new ≡ spares_left textures.old spares.old i from result.spares result.count)
+        × (textures.new ≡ set textures.old (texture_stride * i + texture_spares_at) (result.spares - result.count))
         × (doomed.new ≡ laid doomed_stride write_doomed cap first queued
         (given_records spares.old (bytes_of (texture_in textures.old i).shape) from result.count) doomed.old)
         × (spares.new ≡ moved spares.old (spare_stride * to) (spare_stride * (from + result.count)) (spare_stride * (result.spares - result.count))) }

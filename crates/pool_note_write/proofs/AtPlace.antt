@@ -9,8 +9,10 @@ use native.Mathlib.Nat.{mul_comm}
 use borrow.Author.Tests.{lt-ltb, ltb-true, eq-eqb}
 use lib.Dec.{ltb}
 use lib.ListN.{length, get_or}
+use lib.Seq.{get_or-drop}
 use Rattle.base_blocks.specs.Lists.{listed}
 use Rattle.base_blocks.proofs.Lists.{and_both}
+use Rattle.base_tables.specs.Records.{record_at}
 use Rattle.grid_shapes.specs.declared.shape.VersionShape.{VersionShape}
 use Rattle.grid_shapes.specs.Shapes.{is_shape, slices_of}
 use Rattle.grid_stamps.specs.Grids.{tiling_of, stamp_count}
@@ -38,7 +40,19 @@ use Rattle.pool_memory.proofs.Tracked.{record_read, grid_at_lem, stamp_at_lem, s
 use Rattle.pool_memory.proofs.Places.{place, IsTracked}
 use Rattle.pool_memory.proofs.Stays.{ids_ascend, textures_fit_lem}
 use Rattle.pool_memory.proofs.HistoryRuns.{grid_count_at, stamp_count_at, grids_in, stamps_in_lem}
+use Rattle.pool_records.specs.RecordConstants.{texture_stride}
 use Rattle.pool_note_write.specs.History.{recorded_at, HistoryAt}
+
+-- ---- two numbers of record i
+
+module _ (s : List ℕ) (i : ℕ) where
+  pub grid_number : get_or s (texture_stride * i + 20) 0 ≡ (texture_in s i).grid
+  unfolding record_at read_texture
+  grid_number = sym (get_or-drop (texture_stride * i) s 20 0)
+
+  pub stamp_number : get_or s (texture_stride * i + 21) 0 ≡ (texture_in s i).stamp
+  unfolding record_at read_texture
+  stamp_number = sym (get_or-drop (texture_stride * i) s 21 0)
 
 -- ---- a subresource of a shape: its grid is one of a history's, and its stamps are among these
 

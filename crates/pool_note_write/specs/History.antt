@@ -32,7 +32,6 @@ recorded_as h t = record {
   rename = t.rename;
   due = t.due;
   spares = t.spares;
-  oldest = t.oldest;
   bytes = t.bytes;
   grid = t.grid;
   stamp = t.stamp;

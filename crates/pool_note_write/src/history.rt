@@ -51,7 +51,6 @@ pub fn set_history(textures: &mut [u64], i: usize, history: Recorded)
         rename: t.rename,
         due: t.due,
         spares: t.spares,
-        oldest: t.oldest,
         bytes: t.bytes,
         grid: t.grid,
         stamp: t.stamp,

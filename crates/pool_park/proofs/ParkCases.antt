@@ -29,7 +29,6 @@ use Rattle.pool_records.specs.Held.{HeldFits}
 use Rattle.pool_records.specs.Recorded.{RecordedFits}
 use Rattle.pool_records.specs.Texture.{read_texture, write_texture}
 use Rattle.pool_records.specs.Spare.{write_spare}
-use Rattle.pool_records.specs.Oldest.{oldest_number}
 use Rattle.pool_records.specs.Doomed.{write_doomed}
 use Rattle.pool_records.specs.Retiring.{read_retiring}
 use Rattle.pool_records.specs.Find.{below, has_id}
@@ -72,14 +71,7 @@ places l = length l.retiring / retiring_stride
 abbrev with_one : Spare ℕ → VersionState ℕ → VersionState ℕ
 with_one s t = with_spares (t.spares ++ (s ∷ [])) t
 
--- the oldest spare when one more stands behind the others
-oldest_one : (s : Spare ℕ) (ss : List (Spare ℕ)) → cond (eqb (length ss) 0) s.parked (oldest_number ss) ≡ oldest_number (ss ++ (s ∷ []))
-unfolding oldest_number
-oldest_one s [] = refl
-oldest_one s (u ∷ us) = rw (ne_eqb (suc (length us)) 0 (λ q. let y : ⊥ = omega arith in y))
-
-record_one : (grid stamp : ℕ) (s : Spare ℕ) (t : VersionState ℕ)
-    → one_more s.parked (texture_record grid stamp t) ≡ texture_record grid stamp (with_one s t)
+record_one : (grid stamp : ℕ) (s : Spare ℕ) (t : VersionState ℕ) → one_more (texture_record grid stamp t) ≡ texture_record grid stamp (with_one s t)
 record_one grid stamp s t = λ i. record {
   id = t.id;
   shape = t.shape;
@@ -89,7 +81,6 @@ record_one grid stamp s t = λ i. record {
   rename = t.rename;
   due = t.due;
   spares = sym (length-append t.spares (s ∷ [])) i;
-  oldest = oldest_one s t.spares i;
   bytes = bytes_of t.shape;
   grid = grid;
   stamp = stamp;
@@ -372,10 +363,10 @@ module _ (l : Lent) (e : is_pool l ≡ true) (failed current : ℕ) where
               line = l.pool.line;
             }
 
-            textures_kept : sets l.textures (texture_stride * i) (write_texture (one_more current (texture_at l i))) ≡ textures_after stays l
+            textures_kept : sets l.textures (texture_stride * i) (write_texture (one_more (texture_at l i))) ≡ textures_after stays l
             textures_kept =
                 ap (λ (t : TextureRecord). sets l.textures (texture_stride * i) (write_texture t))
-                (ap (one_more current) (sym (record_at_lem l i there fits)) ∙ record_one (first_grid l i) (first_stamp l i) spare (state_of l i))
+                (ap one_more (sym (record_at_lem l i there fits)) ∙ record_one (first_grid l i) (first_stamp l i) spare (state_of l i))
                 ∙ textures_set l stays fits i (with_one spare (state_of l i)) there grown_is refl refl
 
             spares_kept : sets (moved l.spares (spare_stride * end + spare_stride) (spare_stride * end) (spare_stride * (l.pool.kept - end))) (spare_stride * end)
@@ -384,15 +375,14 @@ module _ (l : Lent) (e : is_pool l ≡ true) (failed current : ℕ) where
 
             pub park_kept : (head : ℕ) (s : SpareRecord) (c : Counts) (textures spares : List ℕ) → head ≡ place_of (places l) l.pool.head 1
                 → s ≡ spare_parked failed current x
-                → textures ≡ sets l.textures (texture_stride * i) (write_texture (one_more s.parked (texture_at l i)))
+                → textures ≡ sets l.textures (texture_stride * i) (write_texture (one_more (texture_at l i)))
                 → spares ≡ sets (moved l.spares (spare_stride * end + spare_stride) (spare_stride * end) (spare_stride * (l.pool.kept - end))) (spare_stride * end) (write_spare s)
                 → c ≡ hand_kept head bytes l.pool
                 → (told_number 0, lent c l.book textures l.retiring l.doomed spares l.newest l.stamps) ≡ park_on l failed current
             park_kept head s c textures spares e1 e2 e3 e4 e5 =
                 decides (Kept bytes) (sym taken ∙ told) (lent c l.book textures l.retiring l.doomed spares l.newest l.stamps)
                 (put_together stays l c l.book textures l.retiring l.doomed spares l.newest l.stamps
-                (e5 ∙ counts_kept head e1) (book_stays l fits stays refl)
-                (e3 ∙ ap (λ (y : SpareRecord). sets l.textures (texture_stride * i) (write_texture (one_more y.parked (texture_at l i)))) e2 ∙ textures_kept)
+                (e5 ∙ counts_kept head e1) (book_stays l fits stays refl) (e3 ∙ textures_kept)
                 (sym (retiring_parked l stays fits.head (omega (arith, fits.retiring)) fits.hand (ring_fits l fits) held refl refl))
                 (doomed_stay l fits stays refl)
                 (e4 ∙ ap (λ (y : SpareRecord). sets (moved l.spares (spare_stride * end + spare_stride) (spare_stride * end) (spare_stride * (l.pool.kept - end))) (spare_stride * end)

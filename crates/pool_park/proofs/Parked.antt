@@ -129,12 +129,12 @@ held_fits failed v h = go (not (eqb failed 0) && leb v.birth failed)
 
 -- a texture's record with one more spare, and the spare after those that it has; u is the record that was read, m the spares before the texture's
 module _ (a : List ℕ) (i : ℕ) (u : TextureRecord) (read : u ≡ texture_in a i) where
-  pub keep_history : (w : TextureRecord) (parked : ℕ) → w ≡ one_more parked u → RecordedFits (texture_in a i).history → RecordedFits w.history
-  keep_history w parked more h = subst (λ (t : TextureRecord). RecordedFits t.history) (sym (more ∙ ap (one_more parked) read)) h
+  pub keep_history : (w : TextureRecord) → w ≡ one_more u → RecordedFits (texture_in a i).history → RecordedFits w.history
+  keep_history w more h = subst (λ (t : TextureRecord). RecordedFits t.history) (sym (more ∙ ap one_more read)) h
 
-  pub keep_record : (w : TextureRecord) (parked : ℕ) → w ≡ one_more parked u → (r : List ℕ) → r ≡ sets a (texture_stride * i) (write_texture w)
-      → r ≡ sets a (texture_stride * i) (write_texture (one_more parked (texture_in a i)))
-  keep_record w parked more r put = put ∙ ap (λ (t : TextureRecord). sets a (texture_stride * i) (write_texture t)) (more ∙ ap (one_more parked) read)
+  pub keep_record : (w : TextureRecord) → w ≡ one_more u → (r : List ℕ) → r ≡ sets a (texture_stride * i) (write_texture w)
+      → r ≡ sets a (texture_stride * i) (write_texture (one_more (texture_in a i)))
+  keep_record w more r put = put ∙ ap (λ (t : TextureRecord). sets a (texture_stride * i) (write_texture t)) (more ∙ ap one_more read)
 
   module _ (m : ℕ) (before : m ≡ total (λ (t : TextureRecord). t.spares) (textures_in i a)) where
     end_is : m + u.spares ≡ spares_end a i

@@ -31,13 +31,9 @@ held_parked failed v = cond (not (eqb failed 0) && leb v.birth failed) Unknown (
 abbrev pub spare_parked : ℕ → ℕ → RetiringRecord → SpareRecord
 spare_parked failed current v = record { view = v.view; held = held_parked failed v; parked = current }
 
--- the parking number of its oldest spare when one more is parked: that one's, where it had none
-abbrev pub oldest_with : ℕ → TextureRecord → ℕ
-oldest_with parked t = cond (eqb t.spares 0) parked t.oldest
-
--- a texture with one more spare, parked in that submission
-abbrev pub one_more : ℕ → TextureRecord → TextureRecord
-one_more parked t = record {
+-- a texture with one more spare
+abbrev pub one_more : TextureRecord → TextureRecord
+one_more t = record {
   id = t.id;
   shape = t.shape;
   epoch = t.epoch;
@@ -46,7 +42,6 @@ one_more parked t = record {
   rename = t.rename;
   due = t.due;
   spares = t.spares + 1;
-  oldest = oldest_with parked t;
   bytes = t.bytes;
   grid = t.grid;
   stamp = t.stamp;

@@ -7,7 +7,7 @@ ghost use Rattle.pool_records.specs.Held.{HeldFits};
 ghost use Rattle.pool_records.specs.Recorded.{RecordedFits};
 ghost use Rattle.pool_records.specs.Spare.{write_spare};
 ghost use Rattle.pool_records.specs.Texture.{write_texture, texture_in, textures_in};
-ghost use Rattle.pool_park.specs.Park.{held_parked, spare_parked, oldest_with, one_more, spares_end};
+ghost use Rattle.pool_park.specs.Park.{held_parked, spare_parked, one_more, spares_end};
 ghost use Rattle.pool_records.specs.RecordConstants.{spare_stride, texture_stride};
 ghost use Rattle.pool_rules.specs.RuleConstants.{most_places};
 
@@ -39,25 +39,13 @@ pub fn spare_parked(v: RetiringRecord, failed: u64, current: u64) -> SpareRecord
     }
 }
 
-// Returns the parking number of the texture's oldest spare when one more is parked: the spare parked first, whatever its number, stays
-// the oldest.
-fn oldest_with(t: TextureRecord, parked: u64) -> u64
-    ensures { result ≡ oldest_with parked t }
-{
-    if t.spares == 0 {
-        return parked;
-    }
-    t.oldest
-}
-
-// Returns a texture's record with one more spare, which is parked in the submission `parked`.
-fn one_more(t: TextureRecord, parked: u64) -> TextureRecord
+// Returns a texture's record with one more spare.
+fn one_more(t: TextureRecord) -> TextureRecord
     requires { t.spares ≤ most_places }
-    ensures { result ≡ one_more parked t }
+    ensures { result ≡ one_more t }
 {
     let mut u = t;
     u.spares = t.spares + 1;
-    u.oldest = oldest_with(t, parked);
     u
 }
 
@@ -74,7 +62,7 @@ pub fn keep_version(
         × (spares_end textures.old i ≤ kept) × (kept ≤ most_places) × (spare_stride * kept + spare_stride ≤ length spares.old) × HeldFits x.held
         × (texture_stride * tracked ≤ length textures.old) × (i < tracked) × (total (λ t. t.spares) (textures_in tracked textures.old) ≡ kept) }
     ensures { (textures.new
-        ≡ sets textures.old (texture_stride * i) (write_texture (one_more x.parked (texture_in textures.old i))))
+        ≡ sets textures.old (texture_stride * i) (write_texture (one_more (texture_in textures.old i))))
         × (spares.new
         ≡ sets (moved spares.old (spare_stride * spares_end textures.old i + spare_stride)
         (spare_stride * spares_end textures.old i) (spare_stride * (kept - spares_end textures.old i)))
@@ -83,5 +71,5 @@ pub fn keep_version(
     let t = texture_at(textures, i);
     let end = first_spare(textures, tracked, kept, i) + t.spares as usize;
     insert_spare(spares, kept, end, x);
-    put_texture(textures, i, one_more(t, x.parked));
+    put_texture(textures, i, one_more(t));
 }

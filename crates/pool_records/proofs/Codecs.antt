@@ -14,12 +14,12 @@ use Rattle.pool_records.specs.Texture.{read_texture, write_texture}
 use Rattle.pool_records.proofs.Counts.{held_number_lem, number_held, recorded_number_lem, number_recorded}
 use Rattle.pool_records.specs.RecordConstants.{doomed_stride, retiring_stride, spare_stride, texture_stride}
 
--- simp takes `lit<` only at a number that it sees, so these two say theirs in digits: readers of 3 and of 23 numbers
+-- simp takes `lit<` only at a number that it sees, so these two say theirs in digits: readers of 3 and of 22 numbers
 spare_front : (l : List ℕ) → read_spare (take 3 l) ≡ read_spare l
 unfolding read_spare
 spare_front l = simp (get_or-take, lit<, tt {0})
 
-texture_front : (l : List ℕ) → read_texture (take 23 l) ≡ read_texture l
+texture_front : (l : List ℕ) → read_texture (take 22 l) ≡ read_texture l
 unfolding read_texture
 texture_front l = simp (get_or-take, lit<, tt {0})
 
@@ -63,7 +63,6 @@ texture_codec = record {
     rename = a.rename;
     due = a.due;
     spares = a.spares;
-    oldest = a.oldest;
     bytes = a.bytes;
     grid = a.grid;
     stamp = a.stamp;

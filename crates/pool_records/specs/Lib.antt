@@ -2,7 +2,6 @@ pub mod RecordConstants
 pub mod Held
 pub mod Recorded
 pub mod Spare
-pub mod Oldest
 pub mod Retiring
 pub mod Doomed
 pub mod Texture

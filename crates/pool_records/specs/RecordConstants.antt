@@ -3,7 +3,7 @@ use Rattle.std.specs.Prelude.{ℕ}
 
 -- The numbers of a texture's record.
 abbrev pub texture_stride : ℕ
-texture_stride = 23
+texture_stride = 22
 
 -- The numbers of a retiring version's record.
 abbrev pub retiring_stride : ℕ
@@ -41,25 +41,17 @@ texture_due_at = 17
 abbrev pub texture_spares_at : ℕ
 texture_spares_at = 18
 
--- Where a texture's record has the parking number of its oldest spare, or no_spares.
-abbrev pub texture_oldest_at : ℕ
-texture_oldest_at = 19
-
 -- Where a texture's record has the bytes of one version.
 abbrev pub texture_bytes_at : ℕ
-texture_bytes_at = 20
+texture_bytes_at = 19
 
 -- Where a texture's record has where its history begins in `newest`.
 abbrev pub texture_grid_at : ℕ
-texture_grid_at = 21
+texture_grid_at = 20
 
 -- Where a texture's record has the first of its history's stamps.
 abbrev pub texture_stamp_at : ℕ
-texture_stamp_at = 22
-
--- Stands for the parking number of the oldest spare where there are no spares: 2^64 - 1, past every submission, so that it is never old.
-abbrev pub no_spares : ℕ
-no_spares = 18446744073709551615
+texture_stamp_at = 21
 
 -- Where a spare's record has the writes that it holds: 0 for unknown, or the count and one.
 abbrev pub spare_held_at : ℕ

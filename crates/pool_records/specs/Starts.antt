@@ -27,7 +27,6 @@ moved_start grids stamps t = record {
   rename = t.rename;
   due = t.due;
   spares = t.spares;
-  oldest = t.oldest;
   bytes = t.bytes;
   grid = shifted_by grids t.grid;
   stamp = shifted_by stamps t.stamp;

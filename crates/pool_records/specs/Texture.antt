@@ -1,6 +1,5 @@
--- Rule: A texture's record: twenty-three numbers, of which the second to the thirteenth are the shape, the nineteenth and the twentieth how many
--- spares it has and the parking number of the oldest, and the last three the bytes of one version of the shape and where its history's grids begin:
--- the first of them in `newest`, and the first of their stamps.
+-- Rule: A texture's record: twenty-two numbers, of which the second to the thirteenth are the shape and the last three are the bytes of one version
+-- of it and where its history's grids begin: the first of them in `newest`, and the first of their stamps.
 use Rattle.std.specs.Prelude.{ℕ, ◌*◌, List, [], ◌∷◌, ◌++◌, get_or}
 use Rattle.base_blocks.specs.Lists.{total}
 use Rattle.base_tables.specs.Records.{record_at, table}
@@ -45,15 +44,14 @@ read_texture s = record {
   rename = get_or s 16 0;
   due = get_or s 17 0;
   spares = get_or s 18 0;
-  oldest = get_or s 19 0;
-  bytes = get_or s 20 0;
-  grid = get_or s 21 0;
-  stamp = get_or s 22 0;
+  bytes = get_or s 19 0;
+  grid = get_or s 20 0;
+  stamp = get_or s 21 0;
 }
 
 unfoldable pub write_texture : TextureRecord → List ℕ
 write_texture x =
-    x.id ∷ (shape_numbers x.shape ++ (x.epoch ∷ recorded_number x.history ∷ x.birth ∷ x.rename ∷ x.due ∷ x.spares ∷ x.oldest ∷ x.bytes ∷ x.grid ∷ x.stamp ∷ []))
+    x.id ∷ (shape_numbers x.shape ++ (x.epoch ∷ recorded_number x.history ∷ x.birth ∷ x.rename ∷ x.due ∷ x.spares ∷ x.bytes ∷ x.grid ∷ x.stamp ∷ []))
 
 -- record i of the textures' slice, and the first n
 abbrev pub texture_in : List ℕ → ℕ → TextureRecord

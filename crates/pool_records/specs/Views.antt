@@ -1,19 +1,12 @@
 -- Rule: The records as the model's, where a version's views are one number.
-use Rattle.std.specs.Prelude.{ℕ, List}
-use Rattle.base_tables.specs.Records.{record_at}
+use Rattle.std.specs.Prelude.{ℕ}
 use Rattle.pool_rules.specs.Model.{Spare, Retiring, Doomed}
 use Rattle.pool_records.specs.declared.spare.SpareRecord.{SpareRecord}
 use Rattle.pool_records.specs.declared.retiring.RetiringRecord.{RetiringRecord}
 use Rattle.pool_records.specs.declared.doomed.DoomedRecord.{DoomedRecord}
-use Rattle.pool_records.specs.RecordConstants.{spare_stride}
-use Rattle.pool_records.specs.Spare.{read_spare}
 
 abbrev pub spare_of : SpareRecord → Spare ℕ
 spare_of x = record { view = x.view; held = x.held; parked = x.parked }
-
--- spare k of the spares' slice
-abbrev pub spare_in : List ℕ → ℕ → Spare ℕ
-spare_in spares k = spare_of (record_at spare_stride read_spare spares k)
 
 abbrev pub retiring_of : RetiringRecord → Retiring ℕ
 retiring_of x = record { id = x.id; view = x.view; seq = x.seq; epoch = x.epoch; birth = x.birth; held = x.held; bytes = x.bytes }

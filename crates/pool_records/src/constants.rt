@@ -1,7 +1,7 @@
 // The numbers that have a name, each with its reason.
 
 // The numbers of a texture's record.
-pub const TEXTURE_STRIDE: usize = 23;
+pub const TEXTURE_STRIDE: usize = 22;
 
 // The numbers of a retiring version's record.
 pub const RETIRING_STRIDE: usize = 7;
@@ -30,21 +30,14 @@ pub const TEXTURE_DUE_AT: usize = 17;
 // Where a texture's record has how many spares it has.
 pub const TEXTURE_SPARES_AT: usize = 18;
 
-// Where a texture's record has the parking number of its oldest spare, or NO_SPARES.
-pub const TEXTURE_OLDEST_AT: usize = 19;
-
 // Where a texture's record has the bytes of one version.
-pub const TEXTURE_BYTES_AT: usize = 20;
+pub const TEXTURE_BYTES_AT: usize = 19;
 
 // Where a texture's record has where its history begins in `newest`.
-pub const TEXTURE_GRID_AT: usize = 21;
+pub const TEXTURE_GRID_AT: usize = 20;
 
 // Where a texture's record has the first of its history's stamps.
-pub const TEXTURE_STAMP_AT: usize = 22;
-
-// Stands for the parking number of the oldest spare where there are no spares: 2^64 - 1, past every submission, so that it is never
-// old.
-pub const NO_SPARES: u64 = 0xffff_ffff_ffff_ffff;
+pub const TEXTURE_STAMP_AT: usize = 21;
 
 // Where a spare's record has the writes that it holds: 0 for unknown, or the count and one.
 pub const SPARE_HELD_AT: usize = 1;

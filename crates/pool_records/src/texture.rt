@@ -1,7 +1,6 @@
-// A tracked texture. Twenty-three numbers: the id first, so that a search reads one number a record, then the shape's twelve; after the
-// count of its spares the parking number of the oldest, so that a trim learns from the record whether any of them aged; near the end
-// the bytes of one version of that shape, so that no call works them out again; last where its history's grids begin, in `newest` and
-// in the stamps, so that no call adds up those of the textures before it.
+// A tracked texture. Twenty-two numbers: the id first, so that a search reads one number a record, then the shape's twelve; near the
+// end the bytes of one version of that shape, so that no call works them out again; last where its history's grids begin, in `newest`
+// and in the stamps, so that no call adds up those of the textures before it.
 ghost use Rattle.std.specs.Prelude.{◌≡◌, ◌≤◌, length};
 ghost use Rattle.pool_records.specs.Recorded.{RecordedFits};
 ghost use Rattle.pool_records.specs.Texture.{read_texture, write_texture};
@@ -9,8 +8,7 @@ ghost use Rattle.pool_records.specs.RecordConstants.{texture_stride};
 
 use crate::constants::{
     TEXTURE_BYTES_AT, TEXTURE_DUE_AT, TEXTURE_GRID_AT, TEXTURE_HISTORY_AT, TEXTURE_KIND_AT,
-    TEXTURE_LEVELS_AT, TEXTURE_OLDEST_AT, TEXTURE_RENAME_AT, TEXTURE_SPARES_AT, TEXTURE_STAMP_AT,
-    TEXTURE_STRIDE,
+    TEXTURE_LEVELS_AT, TEXTURE_RENAME_AT, TEXTURE_SPARES_AT, TEXTURE_STAMP_AT, TEXTURE_STRIDE,
 };
 use crate::recorded::{Recorded, read_recorded, recorded_number};
 use grid_shapes::VersionShape;
@@ -25,7 +23,6 @@ pub struct TextureRecord {
     pub rename: u64,
     pub due: u64,
     pub spares: u64,
-    pub oldest: u64,
     pub bytes: u64,
     pub grid: u64,
     pub stamp: u64,
@@ -60,7 +57,6 @@ pub fn read_texture(p: &[u64]) -> TextureRecord
         rename: p[TEXTURE_RENAME_AT],
         due: p[TEXTURE_DUE_AT],
         spares: p[TEXTURE_SPARES_AT],
-        oldest: p[TEXTURE_OLDEST_AT],
         bytes: p[TEXTURE_BYTES_AT],
         grid: p[TEXTURE_GRID_AT],
         stamp: p[TEXTURE_STAMP_AT],
@@ -77,7 +73,7 @@ pub fn texture_numbers(x: TextureRecord) -> [u64; TEXTURE_STRIDE]
     let n = recorded_number(history);
     [
         x.id, s.format, s.width, s.height, s.depth, s.levels, s.kind, s.storage, s.usage, s.red,
-        s.green, s.blue, s.alpha, x.epoch, n, x.birth, x.rename, x.due, x.spares, x.oldest,
-        x.bytes, x.grid, x.stamp,
+        s.green, s.blue, s.alpha, x.epoch, n, x.birth, x.rename, x.due, x.spares, x.bytes, x.grid,
+        x.stamp,
     ]
 }

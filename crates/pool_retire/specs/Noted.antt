@@ -50,7 +50,6 @@ born_at seq t = record {
   rename = t.rename;
   due = t.due;
   spares = t.spares;
-  oldest = t.oldest;
   bytes = t.bytes;
   grid = t.grid;
   stamp = t.stamp;

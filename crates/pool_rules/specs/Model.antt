@@ -135,12 +135,6 @@ module _ {W : Type 0} where
   abbrev pub spare_bytes : VersionState W → ℕ
   spare_bytes t = bytes_of t.shape * length t.spares
 
-  -- the parking number of a texture's oldest spare, or none where it has no spares: that of the spare parked first, whatever the numbers of those
-  -- parked after it
-  abbrev pub oldest_parked : List (Spare W) → Option ℕ
-  oldest_parked [] = none
-  oldest_parked (s ∷ ss) = some s.parked
-
   abbrev pub doomed_bytes : List (Doomed W) → ℕ
   doomed_bytes ds = total (λ (d : Doomed W). d.bytes) ds
 

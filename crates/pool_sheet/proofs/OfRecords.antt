@@ -40,7 +40,7 @@ module _ (l : Lent) (f : Fits l) where
 
   pub fields_records : fields ≡ map record_fields (tracked_records l)
   unfolding pool_fields
-  fields_records = sym (records_fields 0 0 (model_of l).textures) ∙ ap (map record_fields) (records_model l f.bytes f.oldest f.starts)
+  fields_records = sym (records_fields 0 0 (model_of l).textures) ∙ ap (map record_fields) (records_model l f.bytes f.starts)
 
   -- the textures' lines are those of the records
   pub lines_records : flat_map record_line (tracked_records l) ≡ texture_lines fields

@@ -15,7 +15,7 @@ use Rattle.pool_records.specs.declared.texture.TextureRecord.{TextureRecord}
 use Rattle.pool_records.specs.Texture.{read_texture, write_texture, texture_in, textures_in}
 use Rattle.pool_records.proofs.Codecs.{texture_codec}
 use Rattle.pool_take_doomed.specs.DrainVersions.{spareless, cleared}
-use Rattle.pool_records.specs.RecordConstants.{no_spares, texture_oldest_at, texture_spares_at, texture_stride}
+use Rattle.pool_records.specs.RecordConstants.{texture_spares_at, texture_stride}
 
 -- an element of the second of two lists set
 set_past : (a b : List ℕ) (k x : ℕ) → set (a ++ b) (length a + k) x ≡ a ++ set b k x
@@ -24,8 +24,8 @@ set_past (y ∷ a) b k x =
     ap (λ (i : ℕ). set (y ∷ (a ++ b)) i x) (let e : suc (length a) + k ≡ suc (length a + k) = omega arith in e)
     ∙ ap (λ (l : List ℕ). y ∷ l) (set_past a b k x)
 
--- number 18 of a record is how many spares it has, and number 19 the parking number of the oldest
-set_spares : (t : TextureRecord) (b : List ℕ) → set (set (write_texture t ++ b) 18 0) 19 no_spares ≡ write_texture (spareless t) ++ b
+-- the last but one of a record's numbers is how many spares it has
+set_spares : (t : TextureRecord) (b : List ℕ) → set (write_texture t ++ b) 18 0 ≡ write_texture (spareless t) ++ b
 unfolding write_texture
 set_spares t b = refl
 
@@ -60,19 +60,17 @@ module _ (s : List ℕ) (i : ℕ) (fits : texture_stride * i + texture_stride �
       ∙ flat_append write_texture (map spareless (listed f 0 i)) (spareless (f i) ∷ [])
       ∙ ap (λ (l : List ℕ). flat write_texture (map spareless (listed f 0 i)) ++ l) (append-nil (write_texture (spareless (f i))))
 
-  pub cleared_more : set (set (cleared i s) (texture_stride * i + texture_spares_at) 0) (texture_stride * i + texture_oldest_at) no_spares ≡ cleared (i + 1) s
+  pub cleared_more : set (cleared i s) (texture_stride * i + texture_spares_at) 0 ≡ cleared (i + 1) s
   unfolding cleared over
   cleared_more =
       let t = texture_in s i in
       let rest = drop (texture_stride * i + texture_stride) s in
       let longer : length (front ++ write_texture (spareless t)) ≡ texture_stride * i + texture_stride =
       length-append front (write_texture (spareless t)) ∙ ap₂ (λ (a b : ℕ). a + b) length_front (texture_codec.long (spareless t)) in
-      let both : List ℕ → ℕ → List ℕ = λ l k. set (set l (k + 18) 0) (k + 19) no_spares in
-      ap (λ (k : ℕ). both (front ++ drop k s) (texture_stride * i)) length_front
-      ∙ ap (both (front ++ drop (texture_stride * i) s)) (sym length_front)
-      ∙ ap (λ (l : List ℕ). set l (length front + 19) no_spares) (set_past front (drop (texture_stride * i) s) 18 0)
-      ∙ set_past front (set (drop (texture_stride * i) s) 18 0) 19 no_spares
-      ∙ ap (λ (l : List ℕ). front ++ set (set l 18 0) 19 no_spares) parted
+      ap (λ (k : ℕ). set (front ++ drop k s) (texture_stride * i + texture_spares_at) 0) length_front
+      ∙ ap (λ (k : ℕ). set (front ++ drop (texture_stride * i) s) (k + 18) 0) (sym length_front)
+      ∙ set_past front (drop (texture_stride * i) s) 18 0
+      ∙ ap (λ (l : List ℕ). front ++ set l texture_spares_at 0) parted
       ∙ ap (λ (l : List ℕ). front ++ l) (set_spares t rest)
       ∙ sym (append_assoc front (write_texture (spareless t)) rest)
       ∙ ap (λ (k : ℕ). (front ++ write_texture (spareless t)) ++ drop k s) (sym longer)

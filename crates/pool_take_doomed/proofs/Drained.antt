@@ -14,7 +14,6 @@ use Rattle.base_tables.specs.Records.{record_at, flat}
 use Rattle.base_tables.specs.Rings.{place_of, along}
 use Rattle.base_tables.proofs.Rings.{place_near}
 use Rattle.pool_records.specs.declared.texture.TextureRecord.{TextureRecord}
-use Rattle.pool_records.specs.Oldest.{oldest_number}
 use Rattle.pool_records.specs.Texture.{write_texture}
 use Rattle.pool_records.specs.Spare.{read_spare, write_spare}
 use Rattle.pool_records.specs.Retiring.{read_retiring}
@@ -49,7 +48,7 @@ abbrev emptied : List (VersionState ℕ) → List (VersionState ℕ)
 emptied ts = map (with_spares []) ts
 
 emptied_records : (grid stamp : ℕ) (ts : List (VersionState ℕ)) → texture_records grid stamp (emptied ts) ≡ map spareless (texture_records grid stamp ts)
-unfolding texture_records oldest_number
+unfolding texture_records
 emptied_records grid stamp [] = refl
 emptied_records grid stamp (t ∷ ts) =
     ap (λ (rs : List TextureRecord). spareless (texture_record grid stamp t) ∷ rs) (emptied_records (grid + newest_used t) (stamp + stamps_used t) ts)
@@ -186,7 +185,7 @@ module _ (l : Lent) (f : Fits l) where
   unfolding cleared textures_after
   textures_drained =
       ap (λ (rs : List TextureRecord). over (flat write_texture rs) l.textures)
-      (sym (emptied_records 0 0 (model_of l).textures ∙ ap (map spareless) (records_model l f.bytes f.oldest f.starts)))
+      (sym (emptied_records 0 0 (model_of l).textures ∙ ap (map spareless) (records_model l f.bytes f.starts)))
 
   spares_drained : l.spares ≡ spares_after rest l
   unfolding spares_after over flat

@@ -8,7 +8,7 @@ use Rattle.pool_records.specs.Texture.{write_texture, textures_in}
 use Rattle.pool_memory.specs.declared.pool.Pool.{Pool}
 use Rattle.pool_memory.specs.declared.book.PacingBook.{PacingBook}
 use Rattle.pool_take_doomed.specs.Views.{column}
-use Rattle.pool_records.specs.RecordConstants.{doomed_stride, no_spares, retiring_stride, spare_stride}
+use Rattle.pool_records.specs.RecordConstants.{doomed_stride, retiring_stride, spare_stride}
 use Rattle.pool_rules.specs.RuleConstants.{destroy_spread_drains}
 
 -- the views of the queue, then of the destroy queue, then of the spares
@@ -52,7 +52,6 @@ spareless t = record {
   rename = t.rename;
   due = t.due;
   spares = 0;
-  oldest = no_spares;
   bytes = t.bytes;
   grid = t.grid;
   stamp = t.stamp;

@@ -24,12 +24,11 @@ use Rattle.pool_rules.proofs.States.{length_change, total_change, total_unchange
 use Rattle.pool_records.specs.declared.texture.TextureRecord.{TextureRecord}
 use Rattle.pool_records.specs.declared.spare.SpareRecord.{SpareRecord}
 use Rattle.pool_records.specs.Texture.{write_texture, texture_in, spares_to}
-use Rattle.pool_records.specs.Oldest.{oldest_number}
 use Rattle.pool_records.specs.Recorded.{RecordedFits}
 use Rattle.pool_memory.specs.declared.pool.Pool.{Pool as Counts}
 use Rattle.pool_memory.specs.Lent.{Lent, lent}
 use Rattle.pool_memory.specs.Reading.{spare_read, state_read, model_of}
-use Rattle.pool_memory.specs.Writing.{recorded_history, texture_record, every_spare, pool_after, spares_after, lent_after}
+use Rattle.pool_memory.specs.Writing.{texture_record, every_spare, pool_after, spares_after, lent_after}
 use Rattle.pool_memory.specs.Calls.{Told, answer, TakenVersion, taken_of, take_spare_on}
 use Rattle.pool_memory.proofs.Fits.{Fits}
 use Rattle.pool_memory.proofs.FromPool.{pool_fits}
@@ -43,11 +42,11 @@ use Rattle.pool_memory.proofs.Starts.{placed_record, textures_set}
 use Rattle.pool_memory.proofs.Asked.{asked_accepted}
 use Rattle.pool_memory.proofs.Tracked.{record_read, spares_to_lem, bytes_at, record_at_lem, shape_at, count_at}
 use Rattle.pool_tracking.specs.Cases.{Accepted, record_of, TrackedAt}
-use Rattle.pool_take_spare.specs.TakeNewest.{oldest_left, renamed_record, NewestFits, one_taken, renamed_at, newest_at, spare_at, none_taken, spare_taken, newest_taken}
+use Rattle.pool_take_spare.specs.TakeNewest.{renamed_record, NewestFits, one_taken, renamed_at, newest_at, spare_at, none_taken, spare_taken, newest_taken}
 use Rattle.pool_tracking.proofs.Refusals.{take_tracked_lem}
 use Rattle.pool_tracking.proofs.Counts.{counted, counts_after}
 use Rattle.pool_tracking.proofs.Tracked.{spares_within, kept_fits, is_there, found_there, here}
-use Rattle.pool_records.specs.RecordConstants.{no_spares, spare_stride, texture_stride}
+use Rattle.pool_records.specs.RecordConstants.{spare_stride, texture_stride}
 
 -- ---- lists
 
@@ -73,30 +72,9 @@ fewer [] = refl
 fewer (s ∷ []) = refl
 fewer (s ∷ t ∷ ts) = ap suc (fewer (t ∷ ts)) ∙ (let e : suc (suc (length ts) - 1) ≡ suc (suc (length ts)) - 1 = omega arith in e)
 
--- the newest taken, the oldest stays unless it was the only one
-oldest_left_lem : (ss : List (Spare ℕ)) → oldest_number (others ss) ≡ oldest_left (oldest_number ss) (length ss - 1)
-unfolding oldest_number
-oldest_left_lem [] = refl
-oldest_left_lem (s ∷ []) = refl
-oldest_left_lem (s ∷ u ∷ us) =
-    sym (ap (λ (b : Bool). cond b no_spares s.parked) (ne_eqb (suc (suc (length us)) - 1) 0 (λ q. let y : ⊥ = omega (arith, q) in y)))
-
 renamed_record_lem : (grid stamp seq : ℕ) (u : VersionState ℕ)
     → texture_record grid stamp (renamed_state seq u) ≡ renamed_record seq (length u.spares - 1) (texture_record grid stamp u)
-renamed_record_lem grid stamp seq u = λ i. record {
-  id = u.id;
-  shape = u.shape;
-  epoch = u.epoch;
-  history = recorded_history u.history;
-  birth = u.birth;
-  rename = seq;
-  due = u.due;
-  spares = fewer u.spares i;
-  oldest = oldest_left_lem u.spares i;
-  bytes = bytes_of u.shape;
-  grid = grid;
-  stamp = stamp;
-}
+renamed_record_lem grid stamp seq u = ap (λ (n : ℕ). renamed_record seq n (texture_record grid stamp u)) (fewer u.spares)
 
 -- a renamed record has its history still
 pub renamed_fits : (x t u : TextureRecord) (seq left : ℕ) → RecordedFits u.history → x ≡ renamed_record seq left t → t ≡ u → RecordedFits x.history

@@ -7,16 +7,12 @@ use Rattle.base_tables.specs.Records.{record_at}
 use Rattle.pool_rules.specs.RuleConstants.{most_places}
 use Rattle.pool_records.specs.declared.texture.TextureRecord.{TextureRecord}
 use Rattle.pool_records.specs.declared.spare.SpareRecord.{SpareRecord}
-use Rattle.pool_records.specs.RecordConstants.{no_spares, spare_stride, texture_stride}
+use Rattle.pool_records.specs.RecordConstants.{spare_stride, texture_stride}
 use Rattle.pool_records.specs.Recorded.{RecordedFits}
 use Rattle.pool_records.specs.Spare.{read_spare}
 use Rattle.pool_records.specs.Texture.{write_texture, texture_in, spares_to}
 use Rattle.pool_memory.specs.declared.pool.Pool.{Pool}
 use Rattle.pool_memory.specs.Calls.{Told, answer, TakenVersion}
-
--- the parking number of its oldest spare when `left` are left: the newest are taken, so the oldest stays while there is one
-abbrev pub oldest_left : ℕ → ℕ → ℕ
-oldest_left oldest left = cond (eqb left 0) no_spares oldest
 
 -- its record after the rename: `left` spares are left
 abbrev pub renamed_record : ℕ → ℕ → TextureRecord → TextureRecord
@@ -29,7 +25,6 @@ renamed_record seq left t = record {
   rename = seq;
   due = t.due;
   spares = left;
-  oldest = oldest_left t.oldest left;
   bytes = t.bytes;
   grid = t.grid;
   stamp = t.stamp;

@@ -1,24 +1,13 @@
 // The rename of a texture that is tracked with the same shape: it takes the newest spare.
 ghost use Rattle.std.specs.Prelude.{◌≡◌};
 ghost use Rattle.pool_take_spare.specs.Answer.{taken_told};
-ghost use Rattle.pool_take_spare.specs.TakeNewest.{oldest_left, renamed_record, NewestFits, newest_taken};
+ghost use Rattle.pool_take_spare.specs.TakeNewest.{renamed_record, NewestFits, newest_taken};
 
 use crate::answer::{TakeAnswer, Taken};
 use base_tables::remove_records;
 use pool_access::{put_texture, spare_at, spares_before, texture_at};
 use pool_memory::Pool;
-use pool_records::{NO_SPARES, SPARE_STRIDE, TextureRecord};
-
-// Returns the parking number of the oldest of `left` spares, where `oldest` was that of the oldest before the newest was taken: it is
-// the same one as long as any is left.
-fn oldest_left(oldest: u64, left: u64) -> u64
-    ensures { result ≡ oldest_left oldest left }
-{
-    if left == 0 {
-        return NO_SPARES;
-    }
-    oldest
-}
+use pool_records::{SPARE_STRIDE, TextureRecord};
 
 // Returns the texture's record after the rename, which keeps it tracked for another STATE_MAX_IDLE_SUBMITS submissions.
 fn renamed(t: TextureRecord, seq: u64, left: u64) -> TextureRecord
@@ -27,7 +16,6 @@ fn renamed(t: TextureRecord, seq: u64, left: u64) -> TextureRecord
     let mut u = t;
     u.rename = seq;
     u.spares = left;
-    u.oldest = oldest_left(t.oldest, left);
     u
 }
 

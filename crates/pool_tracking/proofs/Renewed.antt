@@ -355,9 +355,9 @@ module _ (l : Lent) (new : NewTracking) (ok : Begins l new) (h : TrackedAt l new
         ∙ ap (λ (rs : List DoomedRecord). laid doomed_stride write_doomed (version_places l) l.pool.first l.pool.doomed rs l.doomed) given_records_lem
         ∙ doomed_pushed l renewed f.first (omega (arith, f.doomed)) (doomed_fit_lem l f) given refl
 
-    spares_left_lem : (spares : List ℕ) → spares ≡ moved l.spares (spare_stride * hold.first) (spare_stride * hold.first + spare_stride * hold.spares) (spare_stride * (l.pool.kept - (hold.first + hold.spares)))
+    spares_left : (spares : List ℕ) → spares ≡ moved l.spares (spare_stride * hold.first) (spare_stride * hold.first + spare_stride * hold.spares) (spare_stride * (l.pool.kept - (hold.first + hold.spares)))
         → spares ≡ spares_after renewed l
-    spares_left_lem spares q =
+    spares_left spares q =
         q
         ∙ ap₂ (λ (a b : ℕ). moved l.spares (spare_stride * a) (spare_stride * a + spare_stride * b) (spare_stride * (l.pool.kept - (a + b)))) first_is spares_is
         ∙ spares_removed l renewed f.kept (kept_fits l f i h.0) (first_spare l i) t.spares (spares_within l f i h.0)
@@ -397,5 +397,5 @@ module _ (l : Lent) (new : NewTracking) (ok : Begins l new) (h : TrackedAt l new
         ap (λ (m : Lent). (answer none, m))
         (put_together renewed l (begun_counts g (l.pool.grids - hold.grids + fresh) (l.pool.stamps - hold.stamps + new.stamps) (l.pool.trackings + 1)) l.book textures l.retiring doomed spares newest stamps
         (counts_left fresh e2 g e3) (book_stays l f renewed refl) (textures_left fresh e2 textures e6) (retiring_stay l f renewed refl refl)
-        (doomed_left places e1 doomed e4) (spares_left_lem spares e5) (newest_left fresh e2 newest e7) (stamps_left stamps e8))
+        (doomed_left places e1 doomed e4) (spares_left spares e5) (newest_left fresh e2 newest e7) (stamps_left stamps e8))
         ∙ sym ruled

@@ -10,8 +10,6 @@ use lib.Seq.{sets}
 use Rattle.base_blocks.specs.Blocks.{moved}
 use Rattle.grid_shapes.specs.declared.shape.VersionShape.{VersionShape}
 use Rattle.grid_shapes.specs.Shapes.{is_shape, bytes_of}
-use Rattle.pool_records.specs.Oldest.{oldest_number}
-use Rattle.pool_records.specs.RecordConstants.{no_spares}
 use Rattle.grid_stamps.specs.StampConstants.{page_stamps}
 use Rattle.pool_rules.specs.Model.{VersionState, grid_count}
 use Rattle.pool_rules.specs.HistorySizes.{newest_used, stamps_used}
@@ -47,7 +45,6 @@ module _ (new : NewTracking) (epoch : ℕ) where
         rename = new.seq;
         due = new.seq;
         spares = 0;
-        oldest = no_spares;
         bytes = bytes;
         grid = grid;
         stamp = stamp;
@@ -62,7 +59,6 @@ module _ (new : NewTracking) (epoch : ℕ) where
     rename = new.seq;
     due = new.seq;
     spares = 0;
-    oldest = no_spares;
     bytes = q j;
     grid = grid;
     stamp = stamp;
@@ -75,7 +71,7 @@ module _ (new : NewTracking) (epoch : ℕ) where
   begun_as b = new_state new.id new.shape b epoch new.seq
 
   pub begun_record : (grid stamp : ℕ) → texture_record grid stamp begun ≡ new_record new epoch grid stamp
-  unfolding new_history oldest_number
+  unfolding new_history
   begun_record grid stamp = go new.records
     where
       go : (b : Bool) → texture_record grid stamp (begun_as b) ≡ record {
@@ -87,7 +83,6 @@ module _ (new : NewTracking) (epoch : ℕ) where
         rename = new.seq;
         due = new.seq;
         spares = 0;
-        oldest = no_spares;
         bytes = bytes_of new.shape;
         grid = grid;
         stamp = stamp;

@@ -2,7 +2,6 @@
 use Rattle.std.specs.Prelude.{ℕ, ◌*◌, Bool, cond}
 use Rattle.grid_shapes.specs.declared.shape.VersionShape.{VersionShape}
 use Rattle.grid_shapes.specs.Shapes.{bytes_of}
-use Rattle.pool_records.specs.RecordConstants.{no_spares}
 use Rattle.pool_rules.specs.Model.{grid_count}
 use Rattle.pool_rules.specs.HistorySizes.{history_size}
 use Rattle.pool_rules.specs.RuleConstants.{grid_stride}
@@ -33,7 +32,6 @@ new_record new epoch grid stamp = record {
   rename = new.seq;
   due = new.seq;
   spares = 0;
-  oldest = no_spares;
   bytes = bytes_of new.shape;
   grid = grid;
   stamp = stamp;

@@ -7,7 +7,7 @@ ghost use Rattle.pool_tracking.specs.Begun.{fresh_history, fresh_grids, new_reco
 
 use grid_shapes::{VersionShape, shape_bytes};
 use pool_access::shape_grids;
-use pool_records::{NO_SPARES, Recorded, TextureRecord};
+use pool_records::{Recorded, TextureRecord};
 use pool_rules::GRID_STRIDE;
 
 // A tracking that begins: the texture's place among the tracked ones, its id and its shape, whether its writes are recorded, the
@@ -62,7 +62,6 @@ pub fn new_record(new: NewTracking, epoch: u64, grid: usize, stamp: usize) -> Te
         rename: new.seq,
         due: new.seq,
         spares: 0,
-        oldest: NO_SPARES,
         bytes: shape_bytes(shape),
         grid: grid as u64,
         stamp: stamp as u64,

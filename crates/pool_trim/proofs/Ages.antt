@@ -1,5 +1,5 @@
 -- Laws of ages: a spare idle past the bound, the oldest of them counted, and a texture looked at. Assumes nothing.
-use mathlib.Core.Path.{◌≡◌, refl, sym, ap, ap₂, ◌∙◌}
+use mathlib.Core.Path.{◌≡◌, sym, ap, ap₂, ◌∙◌}
 use mathlib.Core.Bool.{Bool, true, false, cond, ◌&&◌}
 use mathlib.Core.List.{List, [], ◌∷◌}
 use Prim.Native.Nat.{ℕ, suc, ◌+◌, ◌-◌, ◌*◌, ◌≤◌, ◌<◌}
@@ -8,18 +8,17 @@ use native.Mathlib.Decide.{dec_lt}
 use native.Mathlib.Omega.{arith}
 use borrow.Author.Tests.{lt-ltb, le-ltb}
 use lib.Dec.{ltb, eqb}
-use lib.ListN.{length, drop, get_or}
+use lib.ListN.{length, get_or}
 use lib.Seq.{get_or-drop}
 use Rattle.base_blocks.specs.Lists.{listed}
-use Rattle.base_blocks.proofs.Listed.{length_listed, drop_listed}
 use Rattle.base_tables.specs.Records.{record_at}
 use Rattle.pool_records.specs.declared.texture.TextureRecord.{TextureRecord}
-use Rattle.pool_records.specs.Oldest.{oldest_number}
+use Rattle.pool_records.specs.Spare.{read_spare}
 use Rattle.pool_records.specs.Texture.{read_texture, texture_in}
 use Rattle.pool_rules.specs.Model.{Spare}
 use Rattle.pool_rules.specs.Trim.{aged, aged_count}
-use Rattle.pool_trim.specs.LookAt.{is_idle, due_after}
-use Rattle.pool_records.specs.RecordConstants.{texture_bytes_at, texture_due_at, texture_grid_at, texture_rename_at, texture_stamp_at, texture_stride}
+use Rattle.pool_trim.specs.LookAt.{spare_in, is_idle, due_after}
+use Rattle.pool_records.specs.RecordConstants.{spare_parked_at, spare_stride, texture_bytes_at, texture_due_at, texture_grid_at, texture_rename_at, texture_stamp_at, texture_stride}
 use Rattle.pool_rules.specs.RuleConstants.{spare_max_idle_submits, state_max_idle_submits}
 
 -- no sum is needed to test an age
@@ -42,23 +41,10 @@ module _ (now : ℕ) where
       go true h = omega arith
       go false h = omega arith
 
-  -- where the oldest is young none is given up, since it comes first; of none there is none to give up
-  pub young_oldest : (ss : List (Spare ℕ)) → now - spare_max_idle_submits ≤ oldest_number ss → aged_count now ss ≡ 0
-  unfolding aged_count oldest_number
-  young_oldest [] h = refl
-  young_oldest (s ∷ ss) h =
-      ap (λ (b : Bool). cond b (suc (aged_count now ss)) 0) (le-ltb (s.parked + spare_max_idle_submits) now (omega arith))
-
   module _ (f : ℕ → Spare ℕ) (first n : ℕ) where
     -- of those from the k-th on
     abbrev pub aged_from : ℕ → ℕ
     aged_from k = aged_count now (listed f (first + k) (n - k))
-
-    -- what is left of them
-    pub left_listed : listed f (first + aged_count now (listed f first n)) (n - aged_count now (listed f first n))
-        ≡ drop (aged_count now (listed f first n)) (listed f first n)
-    left_listed =
-        sym (drop_listed f (aged_count now (listed f first n)) first n (omega (arith, aged_most (listed f first n), length_listed f first n)))
 
     pub aged_start : 0 + aged_from 0 ≡ aged_count now (listed f first n)
     aged_start = zero-add _ ∙ ap₂ (λ (i m : ℕ). aged_count now (listed f i m)) (add-zero first) (sub-zero n)
@@ -86,6 +72,11 @@ module _ (now : ℕ) where
     pub aged_end : (k : ℕ) → n ≤ k → aged_from k ≡ 0
     unfolding aged_count listed
     aged_end k h = ap (λ (m : ℕ). aged_count now (listed f (first + k) m)) (let e : n - k ≡ 0 = omega arith in e)
+
+-- a spare's parking is the third number of its record
+pub parked_at_lem : (spares : List ℕ) (j : ℕ) → (spare_in spares j).parked ≡ get_or spares (spare_stride * j + spare_parked_at) 0
+unfolding record_at read_spare
+parked_at_lem spares j = get_or-drop (spare_stride * j) spares spare_parked_at 0
 
 -- ---- a texture's numbers
 

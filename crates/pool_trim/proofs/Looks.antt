@@ -18,7 +18,6 @@ use Rattle.pool_rules.specs.Updates.{with_due, as_doomed}
 use Rattle.pool_rules.specs.Trim.{aged, aged_count, thinned, is_empty, idle, looked_at}
 use Rattle.pool_rules.proofs.Moves.{as_doomed_bytes, as_doomed_length}
 use Rattle.pool_records.specs.declared.texture.TextureRecord.{TextureRecord}
-use Rattle.pool_records.specs.Oldest.{oldest_number}
 use Rattle.pool_memory.specs.Lent.{Lent}
 use Rattle.pool_memory.specs.Reading.{spare_read}
 use Rattle.pool_memory.specs.Writing.{recorded_history, texture_record, doomed_record}
@@ -43,9 +42,9 @@ use Rattle.pool_records.specs.Texture.{texture_in, spares_to}
 not_none : (n : ℕ) → eqb (suc n) 0 ≡ false
 not_none n = ne_eqb (suc n) 0 (λ e. let y : ⊥ = omega arith in y)
 
-no_spares_lem : (ss : List (Spare ℕ)) → is_empty ss ≡ eqb (length ss) 0
-no_spares_lem [] = refl
-no_spares_lem (s ∷ ss) = sym (not_none (length ss))
+no_spares : (ss : List (Spare ℕ)) → is_empty ss ≡ eqb (length ss) 0
+no_spares [] = refl
+no_spares (s ∷ ss) = sym (not_none (length ss))
 
 module _ (now : ℕ) (t : VersionState ℕ) where
   -- how many of its spares are given up
@@ -72,7 +71,6 @@ module _ (now : ℕ) (t : VersionState ℕ) where
       rename = t.rename;
       due = cond (aged now t.due) (cond (aged now t.rename) now t.rename) t.due;
       spares = length (drop count t.spares);
-      oldest = oldest_number (drop count t.spares);
       bytes = bytes_of t.shape;
       grid = grid;
       stamp = stamp;
@@ -88,7 +86,6 @@ module _ (now : ℕ) (t : VersionState ℕ) where
           rename = t.rename;
           due = cond b (cond (aged now t.rename) now t.rename) t.due;
           spares = length (drop count t.spares);
-          oldest = oldest_number (drop count t.spares);
           bytes = bytes_of t.shape;
           grid = grid;
           stamp = stamp;
@@ -100,7 +97,7 @@ module _ (now : ℕ) (t : VersionState ℕ) where
   unfolding is_idle
   idle_record grid stamp =
       ap (λ (b : Bool). aged now t.due && (aged now t.rename && b))
-      (no_spares_lem (drop count t.spares) ∙ ap (λ (n : ℕ). eqb n 0) (length-drop count t.spares))
+      (no_spares (drop count t.spares) ∙ ap (λ (n : ℕ). eqb n 0) (length-drop count t.spares))
 
 -- ---- texture i of a pool
 
@@ -108,12 +105,8 @@ module _ (l : Lent) (now i : ℕ) (h : i < l.pool.tracked) where
   abbrev t₀ : TextureRecord
   t₀ = texture_in l.textures i
 
-  -- the look at such a record with these spares
-  abbrev pub look_with : TextureRecord → List (Spare ℕ) → Look
-  look_with t ss = look_of now t (aged_count now ss) (oldest_number (drop (aged_count now ss) ss)) (grid_count_at l i) (stamp_count_at l i)
-
   abbrev pub look_here : Look
-  look_here = look_with t₀ (state_of l i).spares
+  look_here = look_of now t₀ (count now (state_of l i)) (grid_count_at l i) (stamp_count_at l i)
 
   pub few : count now (state_of l i) ≤ t₀.spares
   few = omega (arith, aged_most now (state_of l i).spares, count_at l i h)
@@ -146,7 +139,6 @@ module _ (l : Lent) (now i : ℕ) (h : i < l.pool.tracked) where
         rename = t.rename;
         due = cond (aged now t.due) (cond (aged now t.rename) now t.rename) t.due;
         spares = n;
-        oldest = oldest_number (drop (count now (state_of l i)) (state_of l i).spares);
         bytes = t.bytes;
         grid = w.grids;
         stamp = w.stamps;
@@ -190,13 +182,11 @@ module _ (l : Lent) (now i : ℕ) (h : i < l.pool.tracked) where
 
 -- ---- the look put together from its parts; b is whether the texture is dropped
 
-pub look_made : (now : ℕ) (t : TextureRecord) (n o g m own aged oldest grid grids stamp stamps due bytes : ℕ) (b : Bool) → own ≡ t.spares → aged ≡ n
-    → oldest ≡ o → grid ≡ t.grid → grids ≡ g → stamp ≡ t.stamp → stamps ≡ m → due ≡ due_after now t → bytes ≡ t.bytes
-    → b ≡ is_idle now t (own - aged)
+pub look_made : (now : ℕ) (t : TextureRecord) (n g m own aged grid grids stamp stamps due bytes : ℕ) (b : Bool) → own ≡ t.spares → aged ≡ n
+    → grid ≡ t.grid → grids ≡ g → stamp ≡ t.stamp → stamps ≡ m → due ≡ due_after now t → bytes ≡ t.bytes → b ≡ is_idle now t (own - aged)
     → record {
       own = own;
       aged = aged;
-      oldest = oldest;
       staying = cond b 0 1;
       grid = grid;
       grids = cond b 0 grids;
@@ -205,19 +195,18 @@ pub look_made : (now : ℕ) (t : TextureRecord) (n o g m own aged oldest grid gr
       due = due;
       bytes = bytes;
     }
-    ≡ look_of now t n o g m
+    ≡ look_of now t n g m
 unfolding look_of
-look_made now t n o g m own aged oldest grid grids stamp stamps due bytes b e1 e2 e3 e4 e5 e6 e7 e8 e9 e10 =
-    let out : b ≡ is_idle now t (t.spares - n) = e10 ∙ ap₂ (λ (x y : ℕ). is_idle now t (x - y)) e1 e2 in
+look_made now t n g m own aged grid grids stamp stamps due bytes b e1 e2 e3 e4 e5 e6 e7 e8 e9 =
+    let out : b ≡ is_idle now t (t.spares - n) = e9 ∙ ap₂ (λ (x y : ℕ). is_idle now t (x - y)) e1 e2 in
     λ j. record {
       own = e1 j;
       aged = e2 j;
-      oldest = e3 j;
       staying = ap (λ (c : Bool). cond c 0 1) out j;
-      grid = e4 j;
-      grids = ap₂ (λ (c : Bool) (k : ℕ). cond c 0 k) out e5 j;
-      stamp = e6 j;
-      stamps = ap₂ (λ (c : Bool) (k : ℕ). cond c 0 k) out e7 j;
-      due = e8 j;
-      bytes = e9 j;
+      grid = e3 j;
+      grids = ap₂ (λ (c : Bool) (k : ℕ). cond c 0 k) out e4 j;
+      stamp = e5 j;
+      stamps = ap₂ (λ (c : Bool) (k : ℕ). cond c 0 k) out e6 j;
+      due = e7 j;
+      bytes = e8 j;
     }

@@ -13,12 +13,12 @@ use Rattle.base_tables.proofs.Records.{rewritten}
 use Rattle.pool_records.specs.declared.texture.TextureRecord.{TextureRecord}
 use Rattle.pool_records.specs.Texture.{write_texture, texture_in}
 use Rattle.pool_records.proofs.Codecs.{texture_codec}
-use Rattle.pool_access.proofs.Fields.{spares_number, oldest_number_lem}
+use Rattle.pool_access.proofs.Fields.{spares_number}
 use Rattle.pool_trim.specs.declared.look_at.Look.{Look}
 use Rattle.pool_trim.specs.declared.pass.Pass.{Pass}
 use Rattle.pool_trim.specs.LookAt.{looked_record, looked_put}
 use Rattle.pool_trim.proofs.Ages.{due_at}
-use Rattle.pool_records.specs.RecordConstants.{texture_due_at, texture_oldest_at, texture_spares_at, texture_stride}
+use Rattle.pool_records.specs.RecordConstants.{texture_due_at, texture_spares_at, texture_stride}
 
 module _ (T : List ℕ) (i : ℕ) (look : Look) (w : Pass) where
   abbrev t₀ : TextureRecord
@@ -42,12 +42,9 @@ module _ (T : List ℕ) (i : ℕ) (look : Look) (w : Pass) where
   abbrev spares : ℕ
   spares = get_or T (texture_stride * i + texture_spares_at) 0
 
-  abbrev oldest : ℕ
-  oldest = get_or T (texture_stride * i + texture_oldest_at) 0
-
-  as_it_stands : due ≡ look.due → spares ≡ look.own - look.aged → oldest ≡ look.oldest → t₀.grid ≡ w.grids → t₀.stamp ≡ w.stamps → looked_record look w t₀ ≡ t₀
+  as_it_stands : due ≡ look.due → spares ≡ look.own - look.aged → t₀.grid ≡ w.grids → t₀.stamp ≡ w.stamps → looked_record look w t₀ ≡ t₀
   unfolding looked_record
-  as_it_stands d n o g s = λ j. record {
+  as_it_stands d n g s = λ j. record {
     id = t₀.id;
     shape = t₀.shape;
     epoch = t₀.epoch;
@@ -56,26 +53,20 @@ module _ (T : List ℕ) (i : ℕ) (look : Look) (w : Pass) where
     rename = t₀.rename;
     due = (sym d ∙ sym (due_at T i)) j;
     spares = (sym n ∙ spares_number T i) j;
-    oldest = (sym o ∙ oldest_number_lem T i) j;
     bytes = t₀.bytes;
     grid = sym g j;
     stamp = sym s j;
   }
 
   pub put_same : (look.staying ≡ 0 → ⊥) → texture_stride * i + texture_stride ≤ length T → look.grid ≡ t₀.grid → look.stamp ≡ t₀.stamp
-      → eqb w.tracked i && eqb look.grid w.grids && eqb look.stamp w.stamps && eqb due look.due && eqb spares (look.own - look.aged)
-      && eqb oldest look.oldest
-      ≡ true
+      → eqb w.tracked i && eqb look.grid w.grids && eqb look.stamp w.stamps && eqb due look.due && eqb spares (look.own - look.aged) ≡ true
       → T ≡ looked_put T i look w
   put_same h fits g s e =
-      let six = and_both (eqb w.tracked i && eqb look.grid w.grids && eqb look.stamp w.stamps && eqb due look.due
-      && eqb spares (look.own - look.aged)) _ e in
-      let five = and_both (eqb w.tracked i && eqb look.grid w.grids && eqb look.stamp w.stamps && eqb due look.due) _ six.0 in
+      let five = and_both (eqb w.tracked i && eqb look.grid w.grids && eqb look.stamp w.stamps && eqb due look.due) _ e in
       let four = and_both (eqb w.tracked i && eqb look.grid w.grids && eqb look.stamp w.stamps) (eqb due look.due) five.0 in
       let three = and_both (eqb w.tracked i && eqb look.grid w.grids) (eqb look.stamp w.stamps) four.0 in
       let two = and_both (eqb w.tracked i) (eqb look.grid w.grids) three.0 in
       let stands = as_it_stands (eqb-true due look.due four.1) (eqb-true spares (look.own - look.aged) five.1)
-      (eqb-true oldest look.oldest six.1)
       (sym g ∙ eqb-true look.grid w.grids two.1) (sym s ∙ eqb-true look.stamp w.stamps three.1) in
       sym (ap₂ (λ (k : ℕ) (r : TextureRecord). sets T (texture_stride * k) (write_texture r)) (eqb-true w.tracked i two.0) stands
       ∙ rewritten texture_codec (i + 1) T (omega arith) i (omega arith))

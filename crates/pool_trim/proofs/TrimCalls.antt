@@ -8,18 +8,16 @@ use borrow.Author.Tests.{lt-ltb, le-ltb}
 use lib.Dec.{ltb}
 use lib.ListN.{length, take, length-append}
 use lib.Seq.{take_all}
-use Rattle.base_blocks.specs.Lists.{keep, listed, total}
+use Rattle.base_blocks.specs.Lists.{keep, total}
 use Rattle.pool_rules.specs.Model.{Doomed, VersionState, PoolModel, refused, accepted, limit, spare_bytes, doomed_bytes}
 use Rattle.pool_rules.specs.Updates.{with_textures, doom_spares}
 use Rattle.pool_rules.specs.Trim.{aged_count, thinned, idle, looked_at, trim}
 use Rattle.pool_rules.proofs.Moves.{given_bytes}
 use Rattle.pool_rules.proofs.Lists.{total_cut}
 use Rattle.pool_records.specs.declared.texture.TextureRecord.{TextureRecord}
-use Rattle.pool_records.specs.Oldest.{oldest_number}
 use Rattle.pool_records.specs.Recorded.{RecordedFits}
 use Rattle.pool_records.specs.Starts.{grid_end, stamp_end}
 use Rattle.pool_records.specs.Texture.{read_texture, texture_in}
-use Rattle.pool_records.specs.Views.{spare_in}
 use Rattle.pool_memory.specs.declared.pool.Pool.{Pool as Counts}
 use Rattle.pool_memory.specs.Lent.{Lent, lent, version_places}
 use Rattle.pool_memory.specs.Reading.{model_of}
@@ -44,7 +42,7 @@ use Rattle.pool_trim.specs.NothingAged.{all_young}
 use Rattle.pool_forget_texture.proofs.TextureRuns.{spares_within, grids_few, stamps_few}
 use Rattle.pool_trim.proofs.Steps.{given_to, kept_to}
 use Rattle.pool_trim.proofs.Sofar.{Sofar}
-use Rattle.pool_trim.proofs.Trimmed.{Seen, seen, record_now, oldest_now, grid_end_now, stamp_end_now, grid_read_lem, stamp_read}
+use Rattle.pool_trim.proofs.Trimmed.{Seen, seen, record_now, grid_end_now, stamp_end_now, grid_read_lem, stamp_read}
 use Rattle.pool_trim.proofs.YoungTextures.{nothing_trimmed}
 use Rattle.grid_shapes.specs.ShapeConstants.{most_shape_bytes}
 use Rattle.grid_stamps.specs.StampConstants.{page_stamps}
@@ -60,7 +58,6 @@ module _ (l : Lent) (f : Fits l) (i : ℕ) (h : i < l.pool.tracked) where
   module _ (now : ℕ) (w : Pass) (T D S N P : List ℕ) (s : Sofar l now i w T D S N P) where
     pub look_fits : (texture_stride * l.pool.tracked ≤ length T) × (i < l.pool.tracked)
         × (spare_stride * (w.first + (texture_in T i).spares) ≤ length S)
-        × ((texture_in T i).oldest ≡ oldest_number (listed (spare_in S) w.first (texture_in T i).spares))
         × ((texture_in T i).grid ≤ grid_end T l.pool.tracked l.pool.grids i)
         × ((texture_in T i).stamp ≤ stamp_end T l.pool.tracked l.pool.stamps i)
     look_fits =
@@ -68,7 +65,6 @@ module _ (l : Lent) (f : Fits l) (i : ℕ) (h : i < l.pool.tracked) where
           omega (arith, s.t_long, textures_fit_lem l f),
           h,
           omega (arith, s.s_long, s.first, ap (λ (t : TextureRecord). t.spares) here, spares_within l i h f, f.versions, f.spares),
-          oldest_now l now i w T D S N P f h s,
           omega (arith, grid_end_now l now i w T D S N P f h s),
           omega (arith, stamp_end_now l now i w T D S N P f h s),
         )
@@ -225,7 +221,7 @@ module _ (l : Lent) (pool : is_pool l ≡ true) (now : ℕ) where
       ∙ sym (asked_accepted (λ a. a) l (λ (p : PoolModel ℕ). trim p now) pool tt (trimmed l now l.pool.tracked) (rule_done h))
 
   -- nothing has aged
-  pub trim_nothing : now ≤ limit → {b : Bool} → b ≡ all_young now l.textures l.pool.tracked → b ≡ true
+  pub trim_nothing : now ≤ limit → {b : Bool} → b ≡ all_young now l.textures l.spares l.pool.tracked → b ≡ true
       → (answer tt, l) ≡ trim_on l now
   trim_nothing h e t = trim_done h l (sym (nothing_trimmed l (pool_fits l pool) now (sym e ∙ t)))
 

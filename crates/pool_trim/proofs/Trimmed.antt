@@ -21,12 +21,11 @@ use Rattle.pool_rules.specs.HistorySizes.{newest_used, stamps_used}
 use Rattle.pool_rules.specs.Trim.{aged_count, thinned, idle}
 use Rattle.pool_records.specs.declared.texture.TextureRecord.{TextureRecord}
 use Rattle.pool_records.specs.declared.spare.SpareRecord.{SpareRecord}
-use Rattle.pool_records.specs.Oldest.{oldest_number}
 use Rattle.pool_records.specs.Starts.{grid_end, stamp_end}
 use Rattle.pool_records.specs.Texture.{read_texture, write_texture, texture_in, spares_to}
 use Rattle.pool_records.specs.Spare.{read_spare}
 use Rattle.pool_records.specs.Doomed.{write_doomed}
-use Rattle.pool_records.specs.Views.{spare_of, spare_in}
+use Rattle.pool_records.specs.Views.{spare_of}
 use Rattle.pool_memory.specs.Lent.{Lent}
 use Rattle.pool_memory.specs.Reading.{spare_read}
 use Rattle.pool_memory.specs.Writing.{doomed_record, every_spare, newest_of, stamps_of, textures_after, spares_after, newest_after, stamps_after}
@@ -34,17 +33,16 @@ use Rattle.pool_memory.proofs.Fits.{Fits}
 use Rattle.pool_memory.proofs.Runs.{first_grid, first_stamp, state_of}
 use Rattle.pool_memory.proofs.HistoryRuns.{grid_count_at, stamp_count_at, grid_next, stamp_next, grids_in, stamps_in_lem}
 use Rattle.pool_memory.proofs.Stays.{textures_fit_lem}
-use Rattle.pool_memory.proofs.Tracked.{grid_at_lem, stamp_at_lem, oldest_at}
+use Rattle.pool_memory.proofs.Tracked.{grid_at_lem, stamp_at_lem}
 use Rattle.pool_memory.proofs.Passes.{texture_unread, spare_unread}
 use Rattle.pool_take_doomed.specs.Given.{given_records}
 use Rattle.pool_access.proofs.Totals.{total_next}
 use Rattle.pool_trim.specs.declared.look_at.Look.{Look}
 use Rattle.pool_trim.specs.declared.pass.Pass.{Pass}
-use Rattle.pool_trim.specs.LookAt.{look_of, look_at, looked_record, looked_put}
+use Rattle.pool_trim.specs.LookAt.{spare_in, look_of, look_at, looked_record, looked_put}
 use Rattle.pool_trim.specs.Pass.{pass_on, given_one, trimmed}
 use Rattle.pool_forget_texture.proofs.TextureRuns.{spares_in, spares_within, grids_end, stamps_end}
-use Rattle.pool_trim.proofs.Ages.{left_listed}
-use Rattle.pool_trim.proofs.Looks.{count, look_with, look_here, few, idle_here, none_left, given_count, given_bytes, bytes_few, given_records_lem}
+use Rattle.pool_trim.proofs.Looks.{count, look_here, few, idle_here, none_left, given_count, given_bytes, bytes_few, given_records_lem}
 use Rattle.pool_trim.proofs.Sofar.{Sofar}
 use Rattle.pool_trim.proofs.Steps.{textures_as, spares_as, newest_as, stamps_as, given_to, kept_to, given_next, dropped_next, doomed_next, textures_stay, spares_stay, newest_stays, stamps_stay, tracked_stays, kept_stay, grids_stay, stamps_used_stay}
 use Rattle.grid_shapes.specs.ShapeConstants.{most_shape_bytes}
@@ -108,21 +106,11 @@ module _ (l : Lent) (now i : ℕ) (w : Pass) (T D S N P : List ℕ) (f : Fits l)
   look_now : look_at now l.pool T S i w.first ≡ look_here l now i h
   unfolding look_at
   look_now =
-      let t = texture_in T i in
-      let k = aged_count now (listed (spare_in S) w.first t.spares) in
-      ap₂ (look_of now t k (oldest_number (listed (spare_in S) (w.first + k) (t.spares - k))))
-      (let z : grid_end T l.pool.tracked l.pool.grids i - t.grid ≡ grid_count_at l i = omega (arith, grid_end_now) in z)
-      (let z : stamp_end T l.pool.tracked l.pool.stamps i - t.stamp ≡ stamp_count_at l i = omega (arith, stamp_end_now) in z)
-      ∙ ap (λ (ss : List (Spare ℕ)). look_of now t k (oldest_number ss) (grid_count_at l i) (stamp_count_at l i))
-      (left_listed now (spare_in S) w.first t.spares)
-      ∙ ap (λ (u : TextureRecord). look_with l now i h u (listed (spare_in S) w.first u.spares)) record_now
-      ∙ ap (look_with l now i h t₀) spares_now
-
-  -- its parking number is that of its oldest spare still
-  pub oldest_now : (texture_in T i).oldest ≡ oldest_number (listed (spare_in S) w.first (texture_in T i).spares)
-  oldest_now =
-      ap (λ (t : TextureRecord). t.oldest) record_now ∙ oldest_at l i h f
-      ∙ sym (ap (λ (t : TextureRecord). oldest_number (listed (spare_in S) w.first t.spares)) record_now ∙ ap oldest_number spares_now)
+      ap₂ (look_of now (texture_in T i) (aged_count now (listed (spare_in S) w.first (texture_in T i).spares)))
+      (let z : grid_end T l.pool.tracked l.pool.grids i - (texture_in T i).grid ≡ grid_count_at l i = omega (arith, grid_end_now) in z)
+      (let z : stamp_end T l.pool.tracked l.pool.stamps i - (texture_in T i).stamp ≡ stamp_count_at l i = omega (arith, stamp_end_now) in z)
+      ∙ ap (λ (t : TextureRecord). look_of now t (aged_count now (listed (spare_in S) w.first t.spares)) (grid_count_at l i) (stamp_count_at l i)) record_now
+      ∙ ap (λ (ss : List (Spare ℕ)). look_of now t₀ (aged_count now ss) (grid_count_at l i) (stamp_count_at l i)) spares_now
 
   given_now : (b k : ℕ) → given_records S b w.first k ≡ given_records l.spares b (spares_to l.textures i) k
   unfolding given_records

@@ -1,92 +1,129 @@
 -- Laws of textures that a trim leaves as they are: how one is told by its numbers, and that a pool of such textures stays. Assumes nothing.
 use mathlib.Core.Path.{◌≡◌, refl, sym, ap, ap₂, ◌∙◌, subst}
-use mathlib.Core.Bool.{Bool, true, false, ◌&&◌, ◌||◌, not, and-false, true≢false, false≢true}
+use mathlib.Core.Bool.{Bool, true, false, ◌&&◌, not, and-false}
 use mathlib.Core.List.{List, [], ◌∷◌, ◌++◌, flat_map, append-nil}
 use Prim.Native.Nat.{ℕ, ◌+◌, ◌-◌, ◌*◌, ◌≤◌, ◌<◌}
 use native.Mathlib.Nat.{add-zero, zero-add, sub-zero}
 use native.Mathlib.Omega.{arith}
-use borrow.Author.Tests.{lt-ltb, le-ltb, ltb-true, ltb-false, not-true}
-use lib.Dec.{ltb}
+use borrow.Author.Tests.{lt-ltb, le-ltb, eq-eqb, ne_eqb, eqb-true, not-true}
+use lib.Dec.{eqb}
 use lib.ListN.{length, get_or}
 use lib.Seq.{take_all}
-use Rattle.base_blocks.specs.Lists.{all, total}
+use Rattle.base_blocks.specs.Lists.{listed, all, total}
 use Rattle.base_blocks.specs.All.{All, nil, cons}
-use Rattle.base_blocks.proofs.Lists.{and_both}
-use Rattle.base_blocks.proofs.Listed.{listed_get_d, tested_below, left, left_all, all_more, all_stop, all_done}
+use Rattle.base_blocks.proofs.Lists.{and_both, all_get}
+use Rattle.base_blocks.proofs.Listed.{length_listed, get_or_listed, listed_get_d, left, left_all, all_more, all_stop, all_done}
 use Rattle.base_blocks.proofs.All.{all_listed}
 use Rattle.pool_rules.specs.Model.{Doomed, VersionState, PoolModel}
 use Rattle.pool_rules.specs.Updates.{with_textures, doom_spares}
 use Rattle.pool_rules.specs.Trim.{aged, aged_count}
 use Rattle.pool_records.specs.declared.texture.TextureRecord.{TextureRecord}
-use Rattle.pool_records.specs.Texture.{texture_in}
+use Rattle.pool_records.specs.Texture.{read_texture, texture_in, spares_to}
 use Rattle.pool_memory.specs.Lent.{Lent}
-use Rattle.pool_memory.specs.Reading.{state_read, model_of}
+use Rattle.pool_memory.specs.Reading.{spare_read, state_read, model_of}
 use Rattle.pool_memory.specs.Writing.{lent_after}
 use Rattle.pool_memory.proofs.Fits.{Fits}
 use Rattle.pool_memory.proofs.Runs.{state_of, tracked_model, model_at}
 use Rattle.pool_memory.proofs.Stays.{nothing_changed}
-use Rattle.pool_memory.proofs.Tracked.{record_read, oldest_at}
-use Rattle.pool_access.proofs.Fields.{oldest_number_lem}
+use Rattle.pool_memory.proofs.Tracked.{record_read}
+use Rattle.pool_access.proofs.Totals.{total_none, total_next, total_with}
+use Rattle.pool_access.proofs.Fields.{spares_number}
+use Rattle.pool_forget_texture.proofs.TextureRuns.{spares_in}
+use Rattle.pool_trim.specs.LookAt.{spare_in}
 use Rattle.pool_trim.specs.Pass.{trimmed_one, given_one, trimmed}
-use Rattle.pool_trim.specs.NothingAged.{aged_spare, young_at, all_young}
-use Rattle.pool_trim.proofs.Ages.{young_oldest, due_at}
-use Rattle.pool_records.specs.RecordConstants.{texture_due_at, texture_oldest_at, texture_stride}
+use Rattle.pool_trim.specs.NothingAged.{young_at, all_young}
+use Rattle.pool_trim.proofs.Ages.{aged_from, aged_start, aged_more, aged_stop, aged_end, parked_at_lem, due_at}
+use Rattle.pool_records.specs.RecordConstants.{spare_parked_at, spare_stride, texture_due_at, texture_spares_at, texture_stride}
 use Rattle.pool_rules.specs.RuleConstants.{spare_max_idle_submits, state_max_idle_submits}
 
 -- ---- the loop over n textures
 
-module _ (now : ℕ) (textures : List ℕ) (n : ℕ) where
-  -- of the n, those from the i-th on answer for all
-  abbrev pub young_from : ℕ → Type 0
-  young_from i = all (young_at now textures) (left (λ k. k) n i) ≡ all_young now textures n
+-- the first i are young, and the spares of the next begin at place `first`
+pub record YoungTo (now : ℕ) (textures spares : List ℕ) (n i first : ℕ) : Type 0 where
+  pub at : i ≤ n
+  pub begin : first ≡ spares_to textures i
+  pub rest : all (young_at now textures spares) (left (λ k. k) n i) ≡ all_young now textures spares n
 
-  pub young_start : young_from 0
-  unfolding all_young
-  young_start = ap (all (young_at now textures)) (left_all (λ k. k) n)
+pub young_start : (now : ℕ) (textures spares : List ℕ) (n : ℕ) → YoungTo now textures spares n 0 0
+unfolding all_young
+young_start now textures spares n = record {
+  at = omega arith;
+  begin = sym (total_none texture_stride read_texture (λ (t : TextureRecord). t.spares) textures);
+  rest = ap (all (young_at now textures spares)) (left_all (λ k. k) n);
+}
 
-  module _ (i : ℕ) (rest : young_from i) where
-    pub young_end : n ≤ i → true ≡ all_young now textures n
-    young_end h = sym (all_done (λ k. k) n (young_at now textures) i h) ∙ rest
+module _ {now n i first : ℕ} {textures spares : List ℕ} (s : YoungTo now textures spares n i first) where
+  pub young_end : n ≤ i → true ≡ all_young now textures spares n
+  young_end h = sym (all_done (λ k. k) n (young_at now textures spares) i h) ∙ s.rest
 
-    -- the numbers that are read, each against a bound
-    module _ (recent young : ℕ) (h : i < n) where
-      abbrev t₀ : TextureRecord
-      t₀ = texture_in textures i
+  module _ (h : i < n) where
+    abbrev t₀ : TextureRecord
+    t₀ = texture_in textures i
 
-      abbrev due : ℕ
-      due = get_or textures (texture_stride * i + texture_due_at) 0
+    -- the numbers that are read
+    abbrev due : ℕ
+    due = get_or textures (texture_stride * i + texture_due_at) 0
 
-      abbrev oldest : ℕ
-      oldest = get_or textures (texture_stride * i + texture_oldest_at) 0
+    abbrev own : ℕ
+    own = get_or textures (texture_stride * i + texture_spares_at) 0
 
-      -- no bound is too high: a number below it aged
-      pub young_stop : recent ≤ now - state_max_idle_submits → young ≤ now - spare_max_idle_submits → ltb due recent || ltb oldest young ≡ true
-          → false ≡ all_young now textures n
+    abbrev parked : ℕ
+    parked = get_or spares (spare_stride * first + spare_parked_at) 0
+
+    -- its spares lie within the slice
+    pub run_fits : spare_stride * spares_to textures n ≤ length spares → spare_stride * (first + own) ≤ length spares
+    run_fits fits = omega (arith, s.begin, spares_number textures i, total_with texture_stride read_texture (λ (t : TextureRecord). t.spares) textures i n h)
+
+    stop : young_at now textures spares i ≡ false → false ≡ all_young now textures spares n
+    stop e = sym (all_stop (λ k. k) n (young_at now textures spares) i h e) ∙ s.rest
+
+    next : young_at now textures spares i ≡ true → YoungTo now textures spares n (i + 1) (first + own)
+    next e = record {
+      at = omega arith;
+      begin = omega (arith, s.begin, spares_number textures i, total_next texture_stride read_texture (λ (t : TextureRecord). t.spares) textures i);
+      rest = sym (all_more (λ k. k) n (young_at now textures spares) i h e) ∙ s.rest;
+    }
+
+    -- how many it gives up
+    abbrev given : ℕ
+    given = aged_count now (listed (spare_in spares) (spares_to textures i) t₀.spares)
+
+    given_from : 0 + aged_from now (spare_in spares) (spares_to textures i) t₀.spares 0 ≡ given
+    given_from = aged_start now (spare_in spares) (spares_to textures i) t₀.spares
+
+    -- the first spare is the oldest
+    parked_first : (spare_in spares (spares_to textures i + 0)).parked ≡ parked
+    parked_first =
+        ap (λ (k : ℕ). (spare_in spares k).parked) (let q : spares_to textures i + 0 ≡ first = omega (arith, s.begin) in q)
+        ∙ parked_at_lem spares first
+
+    pub due_aged : due < now - state_max_idle_submits → false ≡ all_young now textures spares n
+    unfolding young_at
+    due_aged d = stop (ap (λ (b : Bool). not b && eqb given 0) (lt-ltb (t₀.due + state_max_idle_submits) now (omega (arith, due_at textures i))))
+
+    pub oldest_aged : (own ≡ 0 → ⊥) → parked < now - spare_max_idle_submits → false ≡ all_young now textures spares n
+    unfolding young_at
+    oldest_aged some q =
+        let more = aged_more now (spare_in spares) (spares_to textures i) t₀.spares 0 (omega (arith, some, spares_number textures i))
+        (omega (arith, parked_first)) in
+        stop (ap (λ (b : Bool). not (aged now t₀.due) && b) (ne_eqb given 0 (λ z. let w : ⊥ = omega (arith, given_from, more) in w))
+        ∙ and-false (not (aged now t₀.due)))
+
+    module _ (d : now - state_max_idle_submits ≤ due) where
+      none_aged : given ≡ 0 → young_at now textures spares i ≡ true
       unfolding young_at
-      young_stop r y e = sym (all_stop (λ k. k) n (young_at now textures) i h (go (ltb due recent) (ltb oldest young) refl refl e)) ∙ rest
-        where
-          go : (a b : Bool) → ltb due recent ≡ a → ltb oldest young ≡ b → a || b ≡ true → young_at now textures i ≡ false
-          go true b p q z =
-              ap (λ (c : Bool). not c && not (aged_spare now t₀.oldest))
-              (lt-ltb (t₀.due + state_max_idle_submits) now (omega (arith, ltb-true due recent p, due_at textures i)))
-          go false true p q z =
-              ap (λ (c : Bool). not (aged now t₀.due) && not c)
-              (lt-ltb (t₀.oldest + spare_max_idle_submits) now (omega (arith, ltb-true oldest young q, oldest_number_lem textures i)))
-              ∙ and-false (not (aged now t₀.due))
-          go false false p q z = absurd (false≢true z)
+      none_aged q = ap₂ (λ (a b : Bool). not a && b) (le-ltb (t₀.due + state_max_idle_submits) now (omega (arith, due_at textures i))) (eq-eqb given 0 q)
 
-      -- none is too low: a number that is not below it did not age
-      pub young_more : now - state_max_idle_submits ≤ recent → now - spare_max_idle_submits ≤ young → ltb due recent || ltb oldest young ≡ false → young_from (i + 1)
-      unfolding young_at
-      young_more r y e = sym (all_more (λ k. k) n (young_at now textures) i h (go (ltb due recent) (ltb oldest young) refl refl e)) ∙ rest
-        where
-          go : (a b : Bool) → ltb due recent ≡ a → ltb oldest young ≡ b → a || b ≡ false → young_at now textures i ≡ true
-          go false false p q z =
-              ap₂ (λ (c d : Bool). not c && not d)
-              (le-ltb (t₀.due + state_max_idle_submits) now (omega (arith, ltb-false due recent p, due_at textures i)))
-              (le-ltb (t₀.oldest + spare_max_idle_submits) now (omega (arith, ltb-false oldest young q, oldest_number_lem textures i)))
-          go false true p q z = absurd (true≢false z)
-          go true b p q z = absurd (true≢false z)
+      pub no_spares : own ≡ 0 → YoungTo now textures spares n (i + 1) (first + own)
+      no_spares none =
+          let end = aged_end now (spare_in spares) (spares_to textures i) t₀.spares 0 (omega (arith, none, spares_number textures i)) in
+          next (none_aged (omega (arith, given_from, end)))
+
+      pub oldest_young : (own ≡ 0 → ⊥) → now - spare_max_idle_submits ≤ parked → YoungTo now textures spares n (i + 1) (first + own)
+      oldest_young some q =
+          let none = aged_stop now (spare_in spares) (spares_to textures i) t₀.spares 0 (omega (arith, some, spares_number textures i))
+          (omega (arith, parked_first)) in
+          next (none_aged (omega (arith, given_from, none)))
 
 -- ---- textures of the model that a trim leaves as they are
 
@@ -129,16 +166,24 @@ pool_stays p = λ j. record {
 
 -- ---- a pool all of whose textures are young
 
-module _ (l : Lent) (f : Fits l) (now : ℕ) (young : all_young now l.textures l.pool.tracked ≡ true) where
+module _ (l : Lent) (f : Fits l) (now : ℕ) (young : all_young now l.textures l.spares l.pool.tracked ≡ true) where
+  young_at_lem : (i : ℕ) → i < l.pool.tracked → young_at now l.textures l.spares i ≡ true
+  unfolding all_young
+  young_at_lem i h =
+      let test = young_at now l.textures l.spares in
+      let n = l.pool.tracked in
+      ap test (sym (get_or_listed (λ k. k) 0 n i 0 h ∙ zero-add i))
+      ∙ all_get test (listed (λ k. k) 0 n) i 0 young (omega (arith, length_listed (λ k. k) 0 n))
+
   state_young : (i : ℕ) → i < l.pool.tracked → Young now (state_of l i)
-  unfolding all_young young_at state_of state_read
+  unfolding young_at state_of state_read spare_read
   state_young i h =
       let t = texture_in l.textures i in
-      let tests = and_both (not (aged now t.due)) (not (aged_spare now t.oldest)) (tested_below (young_at now l.textures) l.pool.tracked i young h) in
-      let parked = ltb-false (t.oldest + spare_max_idle_submits) now (not-true (aged_spare now t.oldest) tests.1) in
+      let given = aged_count now (listed (spare_in l.spares) (spares_to l.textures i) t.spares) in
+      let tests = and_both (not (aged now t.due)) (eqb given 0) (young_at_lem i h) in
       record {
         due = ap (λ (u : TextureRecord). aged now u.due) (record_read l i h) ∙ not-true (aged now t.due) tests.0;
-        spares = young_oldest now (state_of l i).spares (omega (arith, parked, oldest_at l i h f));
+        spares = ap (aged_count now) (spares_in l i h) ∙ eqb-true given 0 tests.1;
       }
 
   all_young_lem : All (Young now) (model_of l).textures

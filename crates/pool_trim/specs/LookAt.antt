@@ -1,17 +1,22 @@
 -- Helper: What a trim does with one texture, by its record and its spares.
-use Rattle.std.specs.Prelude.{ℕ, ◌+◌, ◌-◌, ◌*◌, Bool, cond, ◌&&◌, List, eqb}
+use Rattle.std.specs.Prelude.{ℕ, ◌-◌, ◌*◌, Bool, cond, ◌&&◌, List, eqb}
 use Rattle.std.proofs.lemmas.List.Edits.{sets}
 use Rattle.base_blocks.specs.Lists.{listed}
+use Rattle.base_tables.specs.Records.{record_at}
 use Rattle.pool_records.specs.declared.texture.TextureRecord.{TextureRecord}
-use Rattle.pool_records.specs.Oldest.{oldest_number}
+use Rattle.pool_records.specs.Spare.{read_spare}
 use Rattle.pool_records.specs.Starts.{grids_held, stamps_held}
 use Rattle.pool_records.specs.Texture.{write_texture, texture_in}
-use Rattle.pool_records.specs.Views.{spare_in}
+use Rattle.pool_records.specs.Views.{spare_of}
+use Rattle.pool_rules.specs.Model.{Spare}
 use Rattle.pool_rules.specs.Trim.{aged, aged_count}
 use Rattle.pool_memory.specs.declared.pool.Pool.{Pool as Counts}
 use Rattle.pool_trim.specs.declared.look_at.Look.{Look}
 use Rattle.pool_trim.specs.declared.pass.Pass.{Pass}
-use Rattle.pool_records.specs.RecordConstants.{texture_stride}
+use Rattle.pool_records.specs.RecordConstants.{spare_stride, texture_stride}
+
+abbrev pub spare_in : List ℕ → ℕ → Spare ℕ
+spare_in spares k = spare_of (record_at spare_stride read_spare spares k)
 
 -- dropped: its due number and its last rename aged, and no spares are left
 unfoldable pub is_idle : ℕ → TextureRecord → ℕ → Bool
@@ -20,12 +25,11 @@ is_idle now t left = aged now t.due && (aged now t.rename && eqb left 0)
 unfoldable pub due_after : ℕ → TextureRecord → ℕ
 due_after now t = cond (aged now t.due) (cond (aged now t.rename) now t.rename) t.due
 
--- `count` of its spares aged, and the oldest of the others was parked at `oldest`; its history has so many grids and stamps
-unfoldable pub look_of : ℕ → TextureRecord → ℕ → ℕ → ℕ → ℕ → Look
-look_of now t count oldest grids stamps = record {
+-- `count` of its spares aged; its history has so many grids and stamps
+unfoldable pub look_of : ℕ → TextureRecord → ℕ → ℕ → ℕ → Look
+look_of now t count grids stamps = record {
   own = t.spares;
   aged = count;
-  oldest = oldest;
   staying = cond (is_idle now t (t.spares - count)) 0 1;
   grid = t.grid;
   grids = cond (is_idle now t (t.spares - count)) 0 grids;
@@ -39,8 +43,7 @@ look_of now t count oldest grids stamps = record {
 unfoldable pub look_at : ℕ → Counts → List ℕ → List ℕ → ℕ → ℕ → Look
 look_at now c textures spares i first =
     let t : TextureRecord = texture_in textures i in
-    let count : ℕ = aged_count now (listed (spare_in spares) first t.spares) in
-    look_of now t count (oldest_number (listed (spare_in spares) (first + count) (t.spares - count)))
+    look_of now t (aged_count now (listed (spare_in spares) first t.spares))
     (grids_held textures c.tracked c.grids i) (stamps_held textures c.tracked c.stamps i)
 
 -- the record after it: its grids and stamps begin behind those of the textures that stay before it
@@ -54,7 +57,6 @@ looked_record look pass t = record {
   rename = t.rename;
   due = look.due;
   spares = look.own - look.aged;
-  oldest = look.oldest;
   bytes = t.bytes;
   grid = pass.grids;
   stamp = pass.stamps;

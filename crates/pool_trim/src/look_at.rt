@@ -1,30 +1,27 @@
 // What a trim does with one texture.
 ghost use Rattle.std.specs.Prelude.{◌≡◌, ◌+◌, ◌-◌, ◌*◌, ◌≤◌, ◌<◌, length};
 ghost use Rattle.base_blocks.specs.Lists.{listed};
-ghost use Rattle.pool_records.specs.Oldest.{oldest_number};
 ghost use Rattle.pool_records.specs.Starts.{grid_end, stamp_end};
 ghost use Rattle.pool_records.specs.Texture.{texture_in};
-ghost use Rattle.pool_records.specs.Views.{spare_in};
 ghost use Rattle.pool_rules.specs.Trim.{aged_count};
-ghost use Rattle.pool_trim.specs.LookAt.{is_idle, due_after, look_at};
+ghost use Rattle.pool_trim.specs.LookAt.{spare_in, is_idle, due_after, look_at};
 ghost use Rattle.pool_records.specs.RecordConstants.{spare_stride, texture_stride};
 
-use pool_access::{grid_end, oldest_parked, stamp_end};
+use pool_access::{grid_end, stamp_end};
 use pool_memory::Pool;
 use pool_records::{
     SPARE_PARKED_AT, SPARE_STRIDE, TEXTURE_BYTES_AT, TEXTURE_DUE_AT, TEXTURE_GRID_AT,
-    TEXTURE_OLDEST_AT, TEXTURE_RENAME_AT, TEXTURE_SPARES_AT, TEXTURE_STAMP_AT, TEXTURE_STRIDE,
+    TEXTURE_RENAME_AT, TEXTURE_SPARES_AT, TEXTURE_STAMP_AT, TEXTURE_STRIDE,
 };
 use pool_rules::{SPARE_MAX_IDLE_SUBMITS, STATE_MAX_IDLE_SUBMITS};
 
-// Of its `own` spares the oldest `aged` are given up, `bytes` each, and the oldest of those left was parked at `oldest`. Its grids begin at
-// `grid` in `newest` and their stamps at `stamp`. It stays tracked (`staying` is 1) with `grids` numbers of `newest`, `stamps` stamps and
-// the number `due`, or it is dropped (`staying`, `grids` and `stamps` are 0).
+// Of its `own` spares the oldest `aged` are given up, `bytes` each. Its grids begin at `grid` in `newest` and their stamps at `stamp`. It
+// stays tracked (`staying` is 1) with `grids` numbers of `newest`, `stamps` stamps and the number `due`, or it is dropped (`staying`,
+// `grids` and `stamps` are 0).
 #[derive(Drop)]
 pub struct Look {
     pub own: usize,
     pub aged: usize,
-    pub oldest: u64,
     pub staying: usize,
     pub grid: usize,
     pub grids: usize,
@@ -58,47 +55,6 @@ pub fn aged_count(spares: &[u64], first: usize, n: usize, current: u64) -> usize
         k += 1;
     }
     k
-}
-
-// Counts, of the `own` spares of texture i, which begin at place `first`, those idle past the bound. Its record tells whether the oldest is,
-// so that spares are read only then.
-fn aged_of(
-    textures: &[u64],
-    spares: &[u64],
-    i: usize,
-    first: usize,
-    own: usize,
-    current: u64,
-) -> usize
-    requires { (texture_stride * i + texture_stride ≤ length textures.now) × (spare_stride * (first + own) ≤ length spares.now)
-        × ((texture_in textures.now i).oldest ≡ oldest_number (listed (spare_in spares.now) first own)) }
-    ensures { (result ≤ own) × (result ≡ aged_count current (listed (spare_in spares.now) first own)) }
-{
-    let young = before(current, SPARE_MAX_IDLE_SUBMITS);
-    if textures[TEXTURE_STRIDE * i + TEXTURE_OLDEST_AT] >= young {
-        return 0;
-    }
-    aged_count(spares, first, own, current)
-}
-
-// Returns the parking number of the oldest spare that texture i has left, or NO_SPARES, after the oldest `aged` are given up. Where none
-// is, its record has that number, so that no spare is read.
-fn oldest_left(
-    textures: &[u64],
-    spares: &[u64],
-    i: usize,
-    first: usize,
-    own: usize,
-    aged: usize,
-) -> u64
-    requires { (texture_stride * i + texture_stride ≤ length textures.now) × (spare_stride * (first + own) ≤ length spares.now) × (aged ≤ own)
-        × ((texture_in textures.now i).oldest ≡ oldest_number (listed (spare_in spares.now) first own)) }
-    ensures { result ≡ oldest_number (listed (spare_in spares.now) (first + aged) (own - aged)) }
-{
-    if aged == 0 {
-        return textures[TEXTURE_STRIDE * i + TEXTURE_OLDEST_AT];
-    }
-    oldest_parked(spares, first + aged, own - aged)
 }
 
 // Tells whether texture i, with `left` spares, is dropped. Its state is far smaller than a spare, so that it is kept longer.
@@ -139,14 +95,12 @@ pub fn look_at(
 ) -> Look
     requires { (texture_stride * pool.tracked ≤ length textures.now) × (i < pool.tracked)
         × (spare_stride * (first + (texture_in textures.now i).spares) ≤ length spares.now)
-        × ((texture_in textures.now i).oldest ≡ oldest_number (listed (spare_in spares.now) first (texture_in textures.now i).spares))
         × ((texture_in textures.now i).grid ≤ grid_end textures.now pool.tracked pool.grids i)
         × ((texture_in textures.now i).stamp ≤ stamp_end textures.now pool.tracked pool.stamps i) }
     ensures { result ≡ look_at current pool textures.now spares.now i first }
 {
     let own = textures[TEXTURE_STRIDE * i + TEXTURE_SPARES_AT] as usize;
-    let aged = aged_of(textures, spares, i, first, own, current);
-    let oldest = oldest_left(textures, spares, i, first, own, aged);
+    let aged = aged_count(spares, first, own, current);
     let grid = textures[TEXTURE_STRIDE * i + TEXTURE_GRID_AT] as usize;
     let grids = grid_end(textures, pool.tracked, pool.grids, i) - grid;
     let stamp = textures[TEXTURE_STRIDE * i + TEXTURE_STAMP_AT] as usize;
@@ -157,7 +111,6 @@ pub fn look_at(
         return Look {
             own,
             aged,
-            oldest,
             staying: 0,
             grid,
             grids: 0,
@@ -170,7 +123,6 @@ pub fn look_at(
     Look {
         own,
         aged,
-        oldest,
         staying: 1,
         grid,
         grids,

@@ -6,7 +6,7 @@ use Rattle.event_cost.proofs.main.Statement.{statement}
 use Rattle.event_cost.proofs.main.Tie as tie
 
 slice-aggregate-lends : tie.Need-slice-aggregate-lends
-slice-aggregate-lends c = zeros_count 184
+slice-aggregate-lends c = zeros_count 176
 
 slice-aggregate-lends-2 : tie.Need-slice-aggregate-lends-2
 slice-aggregate-lends-2 c = zeros_count 448
@@ -31,7 +31,7 @@ slice-aggregate-lends-8 c = zeros_count _
 
 lends-requires : tie.Need-lends-requires
 lends-requires c κs = record {
-  textures_are = sym (zeros_count 184);
+  textures_are = sym (zeros_count 176);
   retiring_are = sym (zeros_count 448);
   doomed_are = sym (zeros_count 128);
   spares_are = sym (zeros_count 192);
@@ -51,7 +51,7 @@ slice-aggregate-cost-all : tie.Need-slice-aggregate-cost-all
 slice-aggregate-cost-all c = search rules
 
 slice-aggregate-cost-all-2 : tie.Need-slice-aggregate-cost-all-2
-slice-aggregate-cost-all-2 c = zeros_count 184
+slice-aggregate-cost-all-2 c = zeros_count 176
 
 slice-aggregate-cost-all-3 : tie.Need-slice-aggregate-cost-all-3
 slice-aggregate-cost-all-3 c = zeros_count 448

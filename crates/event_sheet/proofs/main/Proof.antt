@@ -9,7 +9,7 @@ use Rattle.event_sheet.proofs.main.Statement.{statement}
 use Rattle.event_sheet.proofs.main.Tie as tie
 
 slice-aggregate-lends : tie.Need-slice-aggregate-lends
-slice-aggregate-lends c = zeros_count 184
+slice-aggregate-lends c = zeros_count 176
 
 slice-aggregate-lends-2 : tie.Need-slice-aggregate-lends-2
 slice-aggregate-lends-2 c = zeros_count 448
@@ -34,7 +34,7 @@ slice-aggregate-lends-8 c = zeros_count _
 
 lends-requires : tie.Need-lends-requires
 lends-requires c κs = record {
-  textures_are = sym (zeros_count 184);
+  textures_are = sym (zeros_count 176);
   retiring_are = sym (zeros_count 448);
   doomed_are = sym (zeros_count 128);
   spares_are = sym (zeros_count 192);
@@ -54,7 +54,7 @@ slice-aggregate-run-all : tie.Need-slice-aggregate-run-all
 slice-aggregate-run-all c = search rules
 
 slice-aggregate-run-all-2 : tie.Need-slice-aggregate-run-all-2
-slice-aggregate-run-all-2 c = zeros_count 184
+slice-aggregate-run-all-2 c = zeros_count 176
 
 slice-aggregate-run-all-3 : tie.Need-slice-aggregate-run-all-3
 slice-aggregate-run-all-3 c = zeros_count 448
@@ -108,7 +108,7 @@ put-sheet-requires : tie.Need-put-sheet-requires
 put-sheet-requires c κs =
     let r = c.before.before.before.before.before.before.before.before.before.before.before.before.before.before.before.before.before.before.run-all in
     let o = c.before.before.before.before.before.before.before.before.before.before.before.before.before.before.before.before.before.before.before.before.before.before.before.before.before.before.before.before.before.large-buffer2 in
-    (r.ensures.pool, omega (arith, r.auto.1.0, zeros_count 184, r.auto.1.1.1.1.1.1.1.1.1.0, o.ensures))
+    (r.ensures.pool, omega (arith, r.auto.1.0, zeros_count 176, r.auto.1.1.1.1.1.1.1.1.1.0, o.ensures))
 
 sub-write-out : tie.Need-overflow-sub-write-out
 sub-write-out c = search rules

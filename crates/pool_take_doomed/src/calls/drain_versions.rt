@@ -13,8 +13,7 @@ use crate::copy_column::copy_column;
 use base_tables::ring_drop;
 use pool_memory::{PacingBook, Pool};
 use pool_records::{
-    DOOMED_STRIDE, NO_SPARES, RETIRING_STRIDE, SPARE_STRIDE, TEXTURE_OLDEST_AT, TEXTURE_SPARES_AT,
-    TEXTURE_STRIDE,
+    DOOMED_STRIDE, RETIRING_STRIDE, SPARE_STRIDE, TEXTURE_SPARES_AT, TEXTURE_STRIDE,
 };
 use pool_rules::DESTROY_SPREAD_DRAINS;
 
@@ -80,7 +79,6 @@ fn clear_spares(textures: &mut [u64], n: usize)
     let mut i = 0;
     while i < n {
         textures[TEXTURE_STRIDE * i + TEXTURE_SPARES_AT] = 0;
-        textures[TEXTURE_STRIDE * i + TEXTURE_OLDEST_AT] = NO_SPARES;
         i += 1;
     }
 }

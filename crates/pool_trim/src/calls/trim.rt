@@ -18,8 +18,7 @@ use pool_access::{put_texture, texture_at};
 use pool_forget_texture::move_down;
 use pool_memory::{DoneAnswer, PacingBook, Pool};
 use pool_records::{
-    RETIRING_STRIDE, SPARE_STRIDE, TEXTURE_DUE_AT, TEXTURE_OLDEST_AT, TEXTURE_SPARES_AT,
-    TEXTURE_STRIDE,
+    RETIRING_STRIDE, SPARE_STRIDE, TEXTURE_DUE_AT, TEXTURE_SPARES_AT, TEXTURE_STRIDE,
 };
 use pool_rules::LIMIT;
 use pool_take_doomed::push_spares;
@@ -41,14 +40,12 @@ fn put_looked(textures: &mut [u64], i: usize, look: Look, pass: Pass)
         & (look.stamp == pass.stamps)
         & (textures[TEXTURE_STRIDE * i + TEXTURE_DUE_AT] == look.due)
         & (textures[TEXTURE_STRIDE * i + TEXTURE_SPARES_AT] == left)
-        & (textures[TEXTURE_STRIDE * i + TEXTURE_OLDEST_AT] == look.oldest)
     {
         return;
     }
     let mut t = texture_at(textures, i);
     t.due = look.due;
     t.spares = left;
-    t.oldest = look.oldest;
     t.grid = pass.grids as u64;
     t.stamp = pass.stamps as u64;
     put_texture(textures, pass.tracked, t);
@@ -142,7 +139,7 @@ pub fn trim(
     if current > LIMIT {
         return DoneAnswer { pool, outcome: 3 };
     }
-    if nothing_aged(textures, pool.tracked, current) {
+    if nothing_aged(textures, spares, pool.tracked, current) {
         return DoneAnswer { pool, outcome: 0 };
     }
     let counts = trim_textures(

@@ -14,7 +14,7 @@ slice-aggregate-run-lists-2 : tie.Need-slice-aggregate-run-lists-2
 slice-aggregate-run-lists-2 c = zeros_count 512
 
 slice-aggregate-run-lists-3 : tie.Need-slice-aggregate-run-lists-3
-slice-aggregate-run-lists-3 c = zeros_count 1472
+slice-aggregate-run-lists-3 c = zeros_count 1408
 
 slice-aggregate-run-lists-4 : tie.Need-slice-aggregate-run-lists-4
 slice-aggregate-run-lists-4 c = zeros_count 14000
@@ -43,7 +43,7 @@ slice-aggregate-run-lists-11 c = zeros_count 1048576
 run-lists-requires : tie.Need-run-lists-requires
 run-lists-requires c κs = (
   record {
-    textures_are = sym (zeros_count 1472);
+    textures_are = sym (zeros_count 1408);
     retiring_are = sym (zeros_count 14000);
     doomed_are = sym (zeros_count 4000);
     spares_are = sym (zeros_count 6000);

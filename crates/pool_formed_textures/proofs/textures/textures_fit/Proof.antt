@@ -5,8 +5,7 @@ use borrow.Author.Rules.{rules}
 use borrow.Author.Tests.{not-true, not-false}
 use Rattle.pool_formed_textures.specs.Textures.{textures_fit}
 use Rattle.pool_formed_textures.proofs.Tests.{fails}
-use Rattle.pool_formed_textures.proofs.Claims.{spares_claimed}
-use Rattle.pool_formed_textures.proofs.TextureTests.{textures_last, parked_other}
+use Rattle.pool_formed_textures.proofs.TextureTests.{claimed_spares, textures_last, parked_other}
 use Rattle.pool_formed_textures.proofs.textures.textures_fit.Statement.{statement}
 use Rattle.pool_formed_textures.proofs.textures.textures_fit.Tie as tie
 
@@ -25,7 +24,7 @@ unfolding textures_fit
 returns-2 c = sym (fails _ 1 (sym c.before.records_fit.ensures ∙ not-true _ c.if2.true))
 
 runs-fit-requires : tie.Need-runs-fit-requires
-runs-fit-requires c κs = let p = c.before.before.before.before.before.before.before.before.requires in (p.0, p.1)
+runs-fit-requires c κs = c.before.before.before.before.before.before.before.before.requires.0
 
 returns-3 : tie.Need-returns-3
 unfolding textures_fit
@@ -41,7 +40,7 @@ returns-4 c = sym (fails _ 3 (sym c.before.spares_fit.ensures ∙ not-true _ c.i
 parked-bytes-requires : tie.Need-parked-bytes-requires
 parked-bytes-requires c κs =
     let runs = sym c.before.before.before.Runs-Fit.ensures ∙ not-false _ c.before.before.if3.false in
-    (c.before.before.before.before.before.before.before.before.before.before.before.before.requires.0, sym c.before.before.before.before.before.records_fit.ensures ∙ not-false _ c.before.before.before.before.if2.false, omega (arith, spares_claimed _ _ 0 _ runs, c.before.before.before.before.before.before.before.before.before.before.before.before.requires.2))
+    (c.before.before.before.before.before.before.before.before.before.before.before.before.requires.0, sym c.before.before.before.before.before.records_fit.ensures ∙ not-false _ c.before.before.before.before.if2.false, omega (arith, claimed_spares _ _ runs, c.before.before.before.before.before.before.before.before.before.before.before.before.requires.2))
 
 returns-5 : tie.Need-returns-5
 unfolding textures_fit

@@ -3,7 +3,7 @@ use Prim.Native.Nat.{◌-◌}
 use native.Mathlib.Omega.{arith}
 use borrow.Author.Rules.{rules}
 use Rattle.pool_note_write.specs.Dropped.{run_at}
-use Rattle.pool_records.proofs.Starts.{grid_number, stamp_number}
+use Rattle.pool_note_write.proofs.AtPlace.{grid_number, stamp_number}
 use Rattle.pool_note_write.proofs.dropping.history_run.Statement.{statement}
 use Rattle.pool_note_write.proofs.dropping.history_run.Tie as tie
 

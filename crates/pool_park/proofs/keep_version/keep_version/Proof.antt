@@ -44,7 +44,7 @@ put-texture-requires c κs =
     let a = c.before.before.before.before.before.before.before.before.before.before.before.before.args in
     let pre = c.before.before.before.before.before.before.before.before.before.before.before.before.requires in
     let t = c.before.before.before.before.before.before.before.before.texture-at in
-    (pre.0, keep_history a.textures.now a.i t.result t.ensures c.one_more.result a.x.parked c.one_more.ensures pre.1)
+    (pre.0, keep_history a.textures.now a.i t.result t.ensures c.one_more.result c.one_more.ensures pre.1)
 
 same_length : tie.Need-same-length
 same_length c = search rules
@@ -58,7 +58,7 @@ returns c =
     let t = c.before.before.before.before.before.before.before.before.before.before.before.texture-at in
     let m = c.before.before.before.before.before.before.before.before.before.first-spare in
     let more = c.before.before.before.one_more in (
-      keep_record a.textures.now a.i t.result t.ensures more.result a.x.parked more.ensures _ c.before.before.put-texture.ensures,
+      keep_record a.textures.now a.i t.result t.ensures more.result more.ensures _ c.before.before.put-texture.ensures,
       keep_spare a.textures.now a.i t.result t.ensures m.result m.ensures a.spares.now a.kept a.x _
           c.before.before.before.before.before.before.before.insert-spare.ensures,
     )

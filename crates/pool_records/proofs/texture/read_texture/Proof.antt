@@ -73,12 +73,9 @@ shared-slice-read-t15-2 c = search rules
 shared-slice-read-t13-2 : tie.Need-shared-slice-read-t13-2
 shared-slice-read-t13-2 c = search rules
 
-shared-slice-read-t11-2 : tie.Need-shared-slice-read-t11-2
-shared-slice-read-t11-2 c = search rules
-
 returns : tie.Need-returns
 unfolding read_texture
-returns c = rw c.before.before.before.before.before.before.before.before.before.before.read-recorded.ensures
+returns c = rw c.before.before.before.before.before.before.before.before.before.read-recorded.ensures
 
 pub read-texture-spec : {M : Type 1} → statement M
 read-texture-spec =
@@ -107,5 +104,4 @@ read-texture-spec =
     shared-slice-read-t17-2
     shared-slice-read-t15-2
     shared-slice-read-t13-2
-    shared-slice-read-t11-2
     returns)

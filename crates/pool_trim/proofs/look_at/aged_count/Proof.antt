@@ -5,9 +5,8 @@ use Prim.Native.Nat.{◌+◌, ◌-◌, ◌≤◌, ◌<◌}
 use native.Mathlib.Omega.{arith}
 use Rattle.base_blocks.specs.Lists.{listed}
 use Rattle.pool_rules.specs.Trim.{aged_count}
-use Rattle.pool_records.specs.Views.{spare_in}
-use Rattle.pool_access.proofs.Fields.{parked_number_lem}
-use Rattle.pool_trim.proofs.Ages.{aged_from, aged_start, aged_more, aged_stop, aged_end}
+use Rattle.pool_trim.specs.LookAt.{spare_in}
+use Rattle.pool_trim.proofs.Ages.{aged_from, aged_start, aged_more, aged_stop, aged_end, parked_at_lem}
 use Rattle.pool_trim.proofs.look_at.aged_count.Statement.{statement}
 use Rattle.pool_trim.proofs.look_at.aged_count.Tie as tie
 use Rattle.pool_rules.specs.RuleConstants.{spare_max_idle_submits}
@@ -46,7 +45,7 @@ returns c =
     let b = c.before.before.before in
     let a = b.before.before.before.args in
     let j = a.first + b.loop.k in
-    let stop : a.current - spare_max_idle_submits ≤ (spare_in a.spares.now j).parked = omega (arith, b.before.before2.ensures, parked_number_lem a.spares.now j, c.if1.true) in
+    let stop : a.current - spare_max_idle_submits ≤ (spare_in a.spares.now j).parked = omega (arith, b.before.before2.ensures, parked_at_lem a.spares.now j, c.if1.true) in
     let e = aged_stop a.current (spare_in a.spares.now) a.first a.n b.loop.k c.before.before.loop-test.true stop in
     (b.loop.invariant.0, omega (arith, e, b.loop.invariant.1))
 
@@ -61,7 +60,7 @@ loop-again c =
     let b = c.before.before.before in
     let a = b.before.before.before.args in
     let j = a.first + b.loop.k in
-    let on : (spare_in a.spares.now j).parked < a.current - spare_max_idle_submits = omega (arith, b.before.before2.ensures, parked_number_lem a.spares.now j, c.if1.false) in
+    let on : (spare_in a.spares.now j).parked < a.current - spare_max_idle_submits = omega (arith, b.before.before2.ensures, parked_at_lem a.spares.now j, c.if1.false) in
     let e = aged_more a.current (spare_in a.spares.now) a.first a.n b.loop.k c.before.before.loop-test.true on in
     (search rules, sym e ∙ b.loop.invariant.1)
 

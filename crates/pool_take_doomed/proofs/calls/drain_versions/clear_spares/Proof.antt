@@ -8,7 +8,7 @@ use Rattle.pool_take_doomed.proofs.Cleared.{cleared_none, cleared_more}
 use borrow.Author.Rules.{rules}
 use Rattle.pool_take_doomed.proofs.calls.drain_versions.clear_spares.Statement.{statement}
 use Rattle.pool_take_doomed.proofs.calls.drain_versions.clear_spares.Tie as tie
-use Rattle.pool_records.specs.RecordConstants.{no_spares, texture_oldest_at, texture_spares_at, texture_stride}
+use Rattle.pool_records.specs.RecordConstants.{texture_spares_at, texture_stride}
 
 abbrev invariant-loop : tie.invariant-loop
 invariant-loop textures₀ n i₀ textures i = (i ≤ n) × (length textures ≡ length textures₀) × (textures ≡ cleared i textures₀)
@@ -31,20 +31,6 @@ mul-textures-2 c = search rules
 slice-write-textures : tie.Need-slice-write-textures invariant-loop decreases-loop
 slice-write-textures c = search rules
 
-mul-textures-3 : tie.Need-overflow-mul-textures-3 invariant-loop decreases-loop
-mul-textures-3 c = search rules
-
-add-textures-2 : tie.Need-overflow-add-textures-2 invariant-loop decreases-loop
-add-textures-2 c = search rules
-
-mul-textures-4 : tie.Need-overflow-mul-textures-4 invariant-loop decreases-loop
-mul-textures-4 c = search rules
-
-slice-write-textures-2 : tie.Need-slice-write-textures-2 invariant-loop decreases-loop
-slice-write-textures-2 c =
-    let l = c.before in
-    omega (arith, length-set l.loop.textures (texture_stride * l.loop.i + texture_spares_at) 0, l.loop.invariant.1, l.before.requires, c.loop-test.true)
-
 add-i : tie.Need-overflow-add-i invariant-loop decreases-loop
 add-i c = search rules
 
@@ -58,8 +44,7 @@ loop-again c =
     let i = l.loop.i in (
       search rules,
       simp length-set (search rules),
-      ap (λ t. set (set t (texture_stride * i + texture_spares_at) 0) (texture_stride * i + texture_oldest_at) no_spares) l.loop.invariant.2
-          ∙ cleared_more s i (omega (arith, l.before.requires, c.loop-test.true)),
+      ap (λ t. set t (texture_stride * i + texture_spares_at) 0) l.loop.invariant.2 ∙ cleared_more s i (omega (arith, l.before.requires, c.loop-test.true)),
     )
 
 same_length : tie.Need-same-length invariant-loop decreases-loop
@@ -83,10 +68,6 @@ clear-spares-spec =
     add-textures
     mul-textures-2
     slice-write-textures
-    mul-textures-3
-    add-textures-2
-    mul-textures-4
-    slice-write-textures-2
     add-i
     loop-less
     loop-again

@@ -8,9 +8,9 @@ use Rattle.pool_records.specs.declared.texture.TextureRecord.{TextureRecord}
 use Rattle.pool_records.specs.Texture.{write_texture}
 use Rattle.pool_trim.specs.LookAt.{looked_record}
 use Rattle.pool_trim.proofs.Puts.{put_none, put_some, put_same}
-use Rattle.pool_records.specs.RecordConstants.{texture_stride}
 use Rattle.pool_trim.proofs.calls.trim.put_looked.Statement.{statement}
 use Rattle.pool_trim.proofs.calls.trim.put_looked.Tie as tie
+use Rattle.pool_records.specs.RecordConstants.{texture_stride}
 
 returns : tie.Need-returns
 returns c =
@@ -44,32 +44,20 @@ mul-if2-4 c = search rules
 slice-read-if2-2 : tie.Need-slice-read-if2-2
 slice-read-if2-2 c = search rules
 
-mul-if2-5 : tie.Need-overflow-mul-if2-5
-mul-if2-5 c = search rules
-
-add-if2-3 : tie.Need-overflow-add-if2-3
-add-if2-3 c = search rules
-
-mul-if2-6 : tie.Need-overflow-mul-if2-6
-mul-if2-6 c = search rules
-
-slice-read-if2-3 : tie.Need-slice-read-if2-3
-slice-read-if2-3 c = search rules
-
 returns-2 : tie.Need-returns-2
 returns-2 c =
-    let o = c.before.before.before.before.before.before.before.before.before.before.before.before in
-    let z = o.before.before.before in
-    let a = z.args in
-    put_same a.textures.now a.i a.look a.pass o.if1.false z.requires.0 z.requires.4 z.requires.5 c.if2.true
+    let o = c.before.before.before.before.before.before.before.before.before.before in
+    let b = o.before.before.before in
+    let a = b.args in
+    put_same a.textures.now a.i a.look a.pass o.if1.false b.requires.0 b.requires.4 b.requires.5 c.if2.true
 
 texture-at-requires : tie.Need-texture-at-requires
-texture-at-requires c κs = omega (arith, c.before.before.before.before.before.before.before.before.before.before.before.before.before.before.before.before.requires.0)
+texture-at-requires c κs = search rules
 
 put-texture-requires : tie.Need-put-texture-requires
 put-texture-requires c κs =
-    let z = c.before.before.before.before.before.before.before.before.before.before.before.before.before.before.before.before.before.before in
-    (z.requires.1, rw c.before.texture-at.ensures z.requires.2)
+    let b = c.before.before.before.before.before.before.before.before.before.before.before.before.before.before.before.before in
+    (b.requires.1, rw c.before.texture-at.ensures b.requires.2)
 
 same_length : tie.Need-same-length
 same_length c = search rules
@@ -77,7 +65,7 @@ same_length c = search rules
 returns-3 : tie.Need-returns-3
 unfolding looked_record
 returns-3 c =
-    let o = c.before.before.before.before.before.before.before.before.before.before.before.before.before.before.before.before.before.before in
+    let o = c.before.before.before.before.before.before.before.before.before.before.before.before.before.before.before.before in
     let a = o.before.before.before.args in
     c.before.before.put-texture.ensures
     ∙ ap (λ (t : TextureRecord). sets a.textures.now (texture_stride * a.pass.tracked) (write_texture (looked_record a.look a.pass t)))
@@ -98,10 +86,6 @@ put-looked-spec =
     add-if2-2
     mul-if2-4
     slice-read-if2-2
-    mul-if2-5
-    add-if2-3
-    mul-if2-6
-    slice-read-if2-3
     returns-2
     texture-at-requires
     put-texture-requires

@@ -1,0 +1,275 @@
+#!/usr/bin/env python3
+"""Turns the older proof files Proof.antt, which name each goal and close the proof, to Invariants.antt and Answers.antt.
+
+usage: convert.py NAMES.json CRATE_FOLDER [FUNCTION_PATH ..]
+"""
+import json, os, re, sys
+
+W = r"[^\s(){}.;,@\"«»\[\]\\]+"
+names_file, crate = sys.argv[1], sys.argv[2].rstrip('/')
+only = sys.argv[3:]
+name = os.path.basename(os.path.abspath(crate))
+data = json.load(open(names_file))
+alike = lambda s: re.sub('[-_]', '', s)
+AUTO = {}
+
+
+def flat(x):
+    return x
+
+
+def info(path):
+    """The names of the function whose proof stands in proofs/PATH."""
+    key = 'Rattle-%s-proofs.%s.Lts' % (name, path.replace('/', '.'))
+    return data.get(key)
+
+
+def loops_of(d):
+    found = []
+
+    def walk(x):
+        if isinstance(x, list) and len(x) == 2 and isinstance(x[0], list) and len(x[0]) == 2 and all(isinstance(y, str) for y in x[0]) and isinstance(x[1], list):
+            found.append((x[0][0], x[0][1], x[1]))
+        elif isinstance(x, list):
+            for y in x:
+                walk(y)
+    walk(d['loops'])
+    return found
+
+
+def blocks(text):
+    """Top-level blocks: lists of lines."""
+    out, cur = [], []
+    for line in text.split('\n'):
+        if not line.strip():
+            if cur:
+                out.append(cur)
+            cur = []
+            continue
+        cur.append(line)
+    if cur:
+        out.append(cur)
+    return out
+
+
+class Convert:
+    def __init__(self, path, d):
+        self.path, self.d = path, d
+        self.labels = {}
+        for cls, parent, (old, new), callee, subs in d['places']:
+            if old:
+                self.labels.setdefault(alike(old), (new, callee, dict(subs)))
+        self.needs = {}
+        for old, new in d['needs']:
+            self.needs[alike(old)] = new
+        self.settled = {alike(x) for x in d['settled']}
+        self.warn = []
+
+    def body(self, text, head):
+        """The body of an answer, with each place called c."""
+        aliases = {head}
+        # lets that name a place
+        again = True
+        let = re.compile(r"let\s+(%s)\s*=\s*(%s)((?:\.before)*)\s+in\b[ \n]*" % (W, W))
+        while again:
+            again = False
+            for m in let.finditer(text):
+                if m[2] in aliases:
+                    aliases.add(m[1])
+                    rest = text[m.end():]
+                    # keeps the layout: the text behind the `in` takes the place of the let
+                    if '\n' in m[0][m[0].rindex('in'):]:
+                        ind = re.search(r'\n([ ]*)$', text[:m.end()])
+                    text = text[:m.start()] + rest.lstrip(' ')
+                    again = True
+                    break
+        def repl(m):
+            whole = m[0]
+            parts = whole.split('.')
+            if parts[0] not in aliases:
+                return whole
+            k = 1
+            while k < len(parts) and parts[k] == 'before':
+                k += 1
+            rest = parts[k:]
+            if not rest:
+                if k > 1 or len(parts) == 1:
+                    if parts[0] != head or k > 1:
+                        self.warn.append('bare place %s' % whole)
+                return 'c'
+            got = self.labels.get(alike(rest[0]))
+            if got:
+                new, callee, subs = got
+                rest[0] = new
+            elif rest[0] not in ('args', 'requires', 'ranges', 'lifetimes', 'well_formed', 'type_inv'):
+                self.warn.append('no label %s' % whole)
+            return 'c.' + '.'.join(rest)
+        text = re.sub(r"(?<![^\s(){},;\[\]])%s(?:\.%s)*" % (W, W), repl, text)
+        return text
+
+    def run(self, text):
+        header, uses, inv, ans, local = [], [], [], [], []
+        lines = text.split('\n')
+        decls = []
+        i = 0
+        comment = []
+        while i < len(lines):
+            l = lines[i]
+            if not l.strip():
+                i += 1
+                continue
+            if l.startswith('--'):
+                comment.append(l)
+                i += 1
+                continue
+            if re.match(r'(pub )?use ', l):
+                uses.append(l)
+                if comment and not header:
+                    header = comment
+                comment = []
+                i += 1
+                continue
+            m = re.match(r'((?:(?:pub|abbrev|unfoldable)\s+)*)(%s)((?:\s*\{[^}]*\})*)\s*:\s*(.*)$' % W, l)
+            if not m:
+                # something else at the top: with its indented lines
+                block = [l]
+                i += 1
+                while i < len(lines) and (not lines[i].strip() or lines[i][0].isspace()):
+                    block.append(lines[i])
+                    i += 1
+                decls.append(('other', None, comment, block))
+                comment = []
+                continue
+            sig = [l]
+            i += 1
+            while i < len(lines) and lines[i].strip() and lines[i][0].isspace():
+                sig.append(lines[i])
+                i += 1
+            unf = None
+            if i < len(lines) and lines[i].startswith('unfolding'):
+                unf = [lines[i]]
+                i += 1
+                while i < len(lines) and lines[i].strip() and lines[i][0].isspace():
+                    unf.append(lines[i])
+                    i += 1
+            eqs = []
+            while i < len(lines) and lines[i].strip() and not lines[i].startswith('--') and re.match(re.escape(m[2]) + r'(\s|$)', lines[i]):
+                e = [lines[i]]
+                i += 1
+                while i < len(lines) and ((lines[i].strip() and lines[i][0].isspace())):
+                    e.append(lines[i])
+                    i += 1
+                eqs.append(e)
+            decls.append((m[2], m, comment, sig, unf, eqs))
+            comment = []
+        loops = {alike(o): (o, n, vs) for o, n, vs in loops_of(self.d)}
+        changed = self.d['changed']
+        inv_names = {}
+        for k, (o, n, vs) in enumerate(loops_of(self.d)):
+            inv_names[alike(o)] = (n, vs, changed[k] if k < len(changed) else None)
+        inv_text, ans_text, loc_text = [], [], []
+        for dcl in decls:
+            if dcl[0] == 'other':
+                loc_text.append('\n'.join(dcl[2] + dcl[3]).rstrip())
+                continue
+            nm, m, comment, sig, unf, eqs = dcl
+            typ = ' '.join(x.strip() for x in sig)
+            typ = typ[typ.index(':') + 1:].strip() if True else ''
+            t = m[4] if len(sig) == 1 else typ
+            k = re.match(r'tie\.(invariant|decreases)-(%s)$' % W, typ)
+            if k:
+                what = inv_names.get(alike(k[2]))
+                if not what:
+                    self.warn.append('no loop for %s' % nm)
+                    continue
+                n, vs, ch = what
+                new = '%s-%s' % (k[1], n)
+                e = '\n'.join(eqs[0])
+                lhs, rhs = e.split('=', 1)
+                params = lhs.split()[1:]
+                want = list(vs) + [v for v, c in zip(vs, ch or []) if c]
+                if ch is None or len(params) != len(want):
+                    self.warn.append('%s: parameters %s for %s %s' % (nm, params, vs, ch))
+                sub = {}
+                for j, p in enumerate(params):
+                    if p == '_' or j >= len(want):
+                        continue
+                    v = want[j]
+                    sub[p] = ('l.initial.' + v) if j < len(vs) and ch and ch[j] else 'l.' + v
+                for p in sub:
+                    if re.search(r'(λ[^.]*(?<![^\s(])%s(?![^\s).])|\(\s*%s\s*:)' % (re.escape(p), re.escape(p)), rhs):
+                        self.warn.append('%s binds %s' % (nm, p))
+                def r2(mm):
+                    parts = mm[0].split('.')
+                    if parts[0] in sub:
+                        return '.'.join([sub[parts[0]]] + parts[1:])
+                    return mm[0]
+                rhs = re.sub(r"(?<![^\s(){},;\[\]])%s(?:\.%s)*" % (W, W), r2, rhs)
+                inv_text.append('\n'.join(comment + ['abbrev pub %s : goal.%s' % (new, new)] + (unf or []) + ['%s l =%s' % (new, rhs)]))
+                continue
+            k = re.match(r'tie\.Need-(%s)(.*)$' % W, typ)
+            if k:
+                old = k[1]
+                short = re.sub(r'^overflow-', '', old)
+                new = self.needs.get(alike(short)) or self.needs.get(alike(old))
+                if not new:
+                    if alike(old) in self.settled or re.match(r'same[-_]length', old) or re.match(r'shape', old):
+                        continue
+                    self.warn.append('no goal for %s' % old)
+                    new = old
+                out = list(comment) + ['pub %s : goal.%s' % (new, new)] + (unf or [])
+                trivial = True
+                for e in eqs:
+                    e = '\n'.join(e)
+                    lhs, rhs = e.split('=', 1)
+                    params = lhs.split()[1:]
+                    params = [p for p in params if p != 'κs']
+                    if params not in (['c'], ['_']):
+                        self.warn.append('%s: arguments %s' % (nm, params))
+                    b = self.body(rhs, params[0] if params and params[0] != '_' else 'c')
+                    if b.strip() not in ('search rules',) or unf:
+                        trivial = False
+                    out.append('%s c =%s' % (new, b.rstrip()))
+                if trivial:
+                    continue
+                ans_text.append('\n'.join(out))
+                continue
+            if 'statement' in typ and nm.endswith('spec'):
+                continue
+            loc_text.append('\n'.join(comment + sig + (unf or []) + ['\n'.join(e) for e in eqs]))
+        uses = [u for u in uses if '.Statement.' not in u and not u.endswith('.Tie as tie')]
+        base = 'Rattle.%s.proofs.%s' % (name, self.path.replace('/', '.'))
+        folder = os.path.join(crate, 'proofs', self.path)
+        made = []
+        if inv_text:
+            t = '\n'.join(header + uses + ['use %s.Given as goal' % base]) + '\n\n' + '\n\n'.join(inv_text) + '\n'
+            open(os.path.join(folder, 'Invariants.antt'), 'w').write(t)
+            made.append('Invariants')
+        if ans_text or loc_text:
+            t = '\n'.join(header + uses + ['use %s.Goals as goal' % base]) + '\n\n' + '\n\n'.join(loc_text + ans_text) + '\n'
+            open(os.path.join(folder, 'Answers.antt'), 'w').write(t)
+            made.append('Answers')
+        return made
+
+
+for folder, dirs, files in os.walk(os.path.join(crate, 'proofs')):
+    dirs.sort()
+    if 'Proof.antt' not in files:
+        continue
+    path = os.path.relpath(folder, os.path.join(crate, 'proofs'))
+    if only and path not in only:
+        continue
+    p = os.path.join(folder, 'Proof.antt')
+    text = open(p).read()
+    if 'Tie as tie' not in text:
+        print('by hand: %s' % path)
+        continue
+    d = info(path)
+    if d is None:
+        print('no names: %s' % path)
+        continue
+    c = Convert(path, d)
+    made = c.run(text)
+    os.remove(p)
+    for w in c.warn:
+        print('%s: %s' % (path, w))
