@@ -58,12 +58,36 @@ class Convert:
         self.labels = {}
         for cls, parent, (old, new), callee, subs in d['places']:
             if old:
-                self.labels.setdefault(alike(old), (new, callee, dict(subs)))
+                self.labels.setdefault(alike(old), []).append((new, callee, subs))
         self.needs = {}
         for old, new in d['needs']:
             self.needs[alike(old)] = new
         self.settled = {alike(x) for x in d['settled']}
         self.warn = []
+
+    def field(self, got, rest, whole):
+        """The fields behind a step, renamed."""
+        if not rest:
+            return rest
+        subs = dict(pair for _, _, s in got for pair in s)
+        if rest[0] == 'auto' and len(rest) > 1 and rest[1] in '01':
+            names = [new[5:] for _, _, s in got[:1] for _, new in s if new.startswith('long-')]
+            k = 1
+            ones = 0
+            while k < len(rest) and rest[k] == '1':
+                ones += 1
+                k += 1
+            if k < len(rest) and rest[k] == '0':
+                k += 1
+            if ones < len(names):
+                return ['auto', names[ones]] + rest[k:]
+            self.warn.append('no slice for %s of %s' % (whole, names))
+            return rest
+        if rest[0] in subs:
+            return [subs[rest[0]]] + rest[1:]
+        if rest[0] == 'ensures' and got[0][1] and got[0][1].split('::')[0] in ('std', 'core', 'std_io', 'std_alloc') and len(rest) == 1:
+            return ['ensures', 'value']
+        return rest
 
     def body(self, text, head):
         """The body of an answer, with each place called c."""
@@ -99,8 +123,8 @@ class Convert:
                 return 'c'
             got = self.labels.get(alike(rest[0]))
             if got:
-                new, callee, subs = got
-                rest[0] = new
+                rest[0] = got[0][0]
+                rest[1:] = self.field(got, rest[1:], whole)
             elif rest[0] not in ('args', 'requires', 'ranges', 'lifetimes', 'well_formed', 'type_inv'):
                 self.warn.append('no label %s' % whole)
             return 'c.' + '.'.join(rest)

@@ -5,4 +5,3 @@ pub mod Listed
 pub mod All
 pub mod Blocks
 pub mod Scans
-pub mod Walks

@@ -1,8 +1,8 @@
 -- Laws of the highest bit of a number or of a difference, by which one that passes a bound is told. Assumes nothing.
-use Rattle.std.proofs.Common.{◌≡◌, ℕ, suc, ◌+◌, ◌%◌, ◌^◌, ◌<◌, ◌≤◌, Bool, true, false, ◌&&◌, ltb, leb, List, [], ◌∷◌, ◌++◌, length, get_or, take, drop, sym, refl, ap, ◌∙◌, ap₂, add-one, arith, length-drop, get_or-drop, take-suc, le-ltb, lt-ltb, le-leb}
+use Rattle.std.proofs.Common.{◌≡◌, ℕ, ◌+◌, ◌%◌, ◌^◌, ◌<◌, ◌≤◌, Bool, true, false, ◌&&◌, ltb, leb, List, [], ◌∷◌, ◌++◌, length, get_or, take, drop, sym, refl, ap, ◌∙◌, ap₂, add-one, arith, length-drop, get_or-drop, take-suc, le-ltb, lt-ltb, le-leb}
 use native.Mathlib.Decide.{dec_lt, dec_le}
 use borrow.Author.Tests.{lt-leb}
-use lib.Bits.{bit_or, bit_and, or_lt, or_add_and, and_le_l, and_le_r}
+use lib.Bits.{bit_or, or_lt, or_add_and, and_le_l, and_le_r}
 use Rattle.base_blocks.specs.Lists.{all}
 use Rattle.base_blocks.specs.Blocks.{at_most}
 use Rattle.base_blocks.proofs.Lists.{all_append}

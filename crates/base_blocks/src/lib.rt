@@ -1,6 +1,7 @@
 // Blocks of numbers inside one lent slice: moved, filled, turned round and looked through. Its specs and laws have what every
-// layer's definitions are made of: lists, sums, tests; and what the proofs that walk MIR by
-// hand share.
+// layer's definitions are made of: lists, sums, tests.
+#![tactic(auto)]
+
 mod block;
 mod number;
 mod scan;

@@ -1,4 +1,6 @@
 // Numbers and text put into a buffer of bytes: what every page and every line of output is printed by.
+#![tactic(auto)]
+
 mod column;
 mod digits;
 

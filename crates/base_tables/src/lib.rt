@@ -1,5 +1,7 @@
 // Tables and rings of fixed-width records, each inside one lent slice. A record is a part of the slice, so that one function
 // serves every record type; what reads and writes a type's numbers is a `Codec` of the laws.
+#![tactic(auto)]
+
 mod ring;
 mod table;
 

@@ -19,7 +19,7 @@ use pool_take_spare::take_spare;
 use pool_trim::trim;
 
 // The pool after a call or a phase, and what was answered, as a number.
-#[derive(Drop)]
+#[derive(Clone, Copy)]
 pub struct Called {
     pub pool: Pool,
     pub book: PacingBook,

@@ -1,4 +1,6 @@
 // Times the calls of the pool, on memory that forms one: WORKLOAD ORDER TEXTURES ROUNDS [VERSIONS PAGES]. bench/README.md says how it is used.
+#![tactic(auto)]
+
 mod answered;
 mod asked;
 mod call_all;

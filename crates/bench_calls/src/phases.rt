@@ -4,7 +4,7 @@
 // 13 is 4 and 5 in turn, and 14 makes no call.
 
 // What is run: the workload 0 goes phase by phase, 1 by textures, 2 by lifetimes; 3 is 1 without the calls that are for no texture.
-#[derive(Drop)]
+#[derive(Clone, Copy)]
 pub struct Task {
     pub workload: u64,
     pub order: u64,

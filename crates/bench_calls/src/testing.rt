@@ -7,7 +7,7 @@ use pool_memory::{PacingBook, Pool};
 use std::num::wrapping_add_u64;
 
 // What was timed, and a number that depends on everything read.
-#[derive(Drop)]
+#[derive(Clone, Copy)]
 struct Timed {
     time: u64,
     sum: u64,

@@ -3,7 +3,7 @@ use crate::printing::phase_line;
 use std::num::wrapping_add_u64;
 
 // By the phases' numbers.
-#[derive(Drop)]
+#[derive(Clone, Copy)]
 pub struct Totals {
     pub times: [u64; 16],
     pub sums: [u64; 16],

@@ -1,4 +1,6 @@
 // What the benchmarks have in common: their arguments, the clock, numbers that look drawn, and lines of figures.
+#![tactic(auto)]
+
 mod arguments;
 mod clock;
 mod printing;

@@ -1,5 +1,7 @@
 // Times the pool sheet: TEXTURES SHEETS TESTED, of which SHEETS are printed of memory that is known to form a pool, and TESTED of any memory.
 // bench/README.md says how it is used.
+#![tactic(auto)]
+
 mod fill;
 mod on_sheet;
 mod room;

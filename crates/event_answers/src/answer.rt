@@ -2,7 +2,7 @@
 use pool_rules::Held;
 
 // The answer of a line. Views and copies stand in the answer buffers, and the answer says how many: a view is one number, a copy seven.
-#[derive(Drop)]
+#[derive(Clone, Copy)]
 pub enum Answer {
     // No call was made.
     Question,

@@ -1,4 +1,6 @@
 // The answers of the event program: what a line is answered with, and its lines of output.
+#![tactic(auto)]
+
 mod answer;
 mod entry;
 mod output;

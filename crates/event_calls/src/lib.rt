@@ -1,4 +1,6 @@
 // Each call of the pool, on memory that forms one, with what it says as the answer of a line.
+#![tactic(auto)]
+
 mod answers;
 mod called;
 mod calls;

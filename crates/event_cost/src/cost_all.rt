@@ -14,7 +14,7 @@ use event_stream::read_more::read_more;
 use event_stream::{GOING, byte_count, is_full, reason, write_out};
 
 // What a run leaves.
-#[derive(Drop)]
+#[derive(Clone, Copy)]
 pub struct CostedRun {
     // Why it stopped, as in crates/event_stream/src/calls/reason.rt.
     pub why: u64,

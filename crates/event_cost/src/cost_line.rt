@@ -12,7 +12,7 @@ use event_lines::Event;
 use event_sessions::{Session, answer_event};
 
 // What a line leaves: the session, the sums with its cost, and where its output ends.
-#[derive(Drop)]
+#[derive(Clone, Copy)]
 pub struct CostedLine {
     pub session: Session,
     pub sums: Sums,

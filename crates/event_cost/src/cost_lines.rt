@@ -12,7 +12,7 @@ use event_sessions::Session;
 const MOST_ROW: usize = 44;
 
 // How far an input was run.
-#[derive(Drop)]
+#[derive(Clone, Copy)]
 pub struct CostedLines {
     pub session: Session,
     // What the lines cost.

@@ -10,7 +10,7 @@ use event_feed::finish::finish;
 use event_feed::rest_of::rest_of;
 
 // What a turn leaves, and what its lines cost.
-#[derive(Drop)]
+#[derive(Clone, Copy)]
 pub struct CostedTurn {
     pub at: FeedState,
     pub sums: Sums,

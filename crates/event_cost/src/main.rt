@@ -1,5 +1,7 @@
 // What the copies of a list of events move, for a bus meter to be held to: an event a line on standard input, as in the event program; on standard
 // output a line for each plan that was called, with its outcome and the bytes of its copies, and a last line of the sums.
+#![tactic(auto)]
+
 mod copy_cost;
 mod copy_count;
 mod cost_all;

@@ -3,7 +3,7 @@ ghost use Rattle.std.specs.Prelude.{◌≡◌, ◌+◌};
 ghost use Rattle.event_cost.specs.Costs.{clipped, clipped_sums, plus};
 
 // The bytes that copies move, and those that they would move if each were of its whole level.
-#[derive(Drop)]
+#[derive(Clone, Copy)]
 pub struct Sums {
     pub moved: u64,
     pub whole: u64,

@@ -4,7 +4,7 @@ ghost use Rattle.event_sessions.specs.Noted.{fresh_session};
 
 use event_sessions::{Session, fresh};
 
-#[derive(Drop)]
+#[derive(Clone, Copy)]
 pub struct FeedState {
     pub session: Session,
     // Lines run so far.

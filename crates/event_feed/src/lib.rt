@@ -1,5 +1,7 @@
 // An input that comes in blocks of any size: each turn feeds a block to the lines that are run, and the turn in which no byte came runs a
 // last line that lacks its line feed. No system call is made here.
+#![tactic(auto)]
+
 mod calls;
 mod constants;
 mod feed_state;

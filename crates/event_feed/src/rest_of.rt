@@ -6,7 +6,7 @@ ghost use Rattle.event_feed.specs.RestOf.{RestOf};
 use crate::keep::keep;
 
 // Where the next bytes stand, as in `FeedState`.
-#[derive(Drop)]
+#[derive(Clone, Copy)]
 pub struct Place {
     pub from: usize,
     pub held: usize,

@@ -4,7 +4,7 @@ use grid_shapes::VersionShape;
 use pool_rules::Held;
 
 // The words that a line can start with.
-#[derive(Drop)]
+#[derive(Clone, Copy)]
 pub enum Word {
     Open,
     Take,
@@ -23,7 +23,7 @@ pub enum Word {
 }
 
 // The call that a line asks for, with its fields. The outcome of an unread line is "?".
-#[derive(Drop)]
+#[derive(Clone, Copy)]
 pub enum Event {
     // The working set.
     Open(u64),

@@ -6,7 +6,7 @@ ghost use Rattle.event_lines.specs.Reading.{unread_fields, scanned_of, scan};
 use event_text::{NumberAt, digits_at};
 
 // The numbers of all the fields, how many there are, whether "-" is one of them, and where the line ends. They count only if all of it is formed.
-#[derive(Drop)]
+#[derive(Clone, Copy)]
 pub struct Fields {
     pub formed: bool,
     pub values: [u64; 9],

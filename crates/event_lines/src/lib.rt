@@ -1,4 +1,6 @@
 // The lines of the event program: one line of bytes, without its line feed, to the event that it is.
+#![tactic(auto)]
+
 mod event;
 mod fields;
 mod line;

@@ -21,7 +21,7 @@ const SMALL: u64 = 4294967295;
 const FLAG: u64 = 1;
 
 // The event of a text's first line, and where that line ends.
-#[derive(Drop)]
+#[derive(Clone, Copy)]
 pub struct Parsed {
     pub event: Event,
     pub end: usize,

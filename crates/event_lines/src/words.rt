@@ -28,7 +28,7 @@ const REGEN: u64 = 1701274994;
 const WRITE: u64 = 1953067639;
 
 // The word that a line starts with, and where it ends.
-#[derive(Drop)]
+#[derive(Clone, Copy)]
 pub struct Start {
     pub word: Word,
     pub end: usize,

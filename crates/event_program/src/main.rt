@@ -1,4 +1,6 @@
 // Document 01's event program: an event a line on standard input, its outcome and answer on standard output.
+#![tactic(auto)]
+
 ghost use Rattle.event_stream.specs.Lends.{Lends};
 
 use grid_stamps::PAGE_STAMPS;

@@ -1,5 +1,7 @@
 // The event program with larger stores, so that lists of events show how destruction is paced, regenerations over several slices, and batches and
 // drains that are too long for their answer.
+#![tactic(auto)]
+
 ghost use Rattle.event_stream.specs.Lends.{Lends};
 
 use grid_stamps::PAGE_STAMPS;

@@ -8,7 +8,7 @@ use event_lines::Event;
 use event_sessions::{Session, answer_event};
 
 // What a line leaves: the session, and where its output ends.
-#[derive(Drop)]
+#[derive(Clone, Copy)]
 pub struct RanLine {
     pub session: Session,
     pub filled: usize,

@@ -1,7 +1,7 @@
 // How far an input was run.
 use event_sessions::Session;
 
-#[derive(Drop)]
+#[derive(Clone, Copy)]
 pub struct Run {
     pub session: Session,
     // Lines run so far.

@@ -2,7 +2,7 @@
 use crate::session::Session;
 use event_answers::Answer;
 
-#[derive(Drop)]
+#[derive(Clone, Copy)]
 pub struct Answered {
     pub session: Session,
     pub answer: Answer,

@@ -1,4 +1,6 @@
 // What a line's event does: the call that it asks for, on the pool as the lines before left it.
+#![tactic(auto)]
+
 mod answered;
 mod answering;
 mod beginning;

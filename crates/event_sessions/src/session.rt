@@ -8,7 +8,7 @@ use pool_memory::{PacingBook, Pool};
 
 // Holds what a line needs of those before it. The pool and its pacing book count once it is opened; everything else of the pool is in the lent slices. The shape is that of the
 // latest take line, if one was taken since. `opened` and `taken` are 1 or 0: a bool leaves padding that slows copies.
-#[derive(Drop)]
+#[derive(Clone, Copy)]
 pub struct Session {
     pub opened: u64,
     pub taken: u64,

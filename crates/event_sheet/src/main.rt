@@ -1,5 +1,7 @@
 // The pool sheet that a list of events leaves: an event a line on standard input, as in the event program, and the sheet on standard output,
 // and nothing else. Where no line opens a pool nothing is printed, which a caller can tell from a sheet, since every sheet has a head line.
+#![tactic(auto)]
+
 mod put_sheet;
 
 ghost use Rattle.event_stream.specs.Lends.{Lends};

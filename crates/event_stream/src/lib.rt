@@ -1,4 +1,6 @@
 // The lines of standard input run on the pool, to standard output, on stores of any size: what the event programs do.
+#![tactic(auto)]
+
 mod calls;
 pub mod read_more;
 

@@ -22,7 +22,7 @@ const FIRST_OF_FOUR: u64 = 281470681808895;
 const FIRST_OF_EIGHT: u64 = 4294967295;
 
 // How many digits the bytes start with, and the number that these are.
-#[derive(Drop)]
+#[derive(Clone, Copy)]
 pub struct EightDigits {
     pub count: usize,
     pub value: u64,

@@ -1,4 +1,6 @@
 // The text of the event program: numbers read, and the fields of a line.
+#![tactic(auto)]
+
 mod eight;
 mod field;
 mod find;

@@ -12,21 +12,21 @@ const NINE: u64 = 57;
 // The largest number that a digit may follow.
 const MOST: u64 = u64::MAX / 10;
 
-#[derive(Drop)]
+#[derive(Clone, Copy)]
 pub enum Number {
     Is(u64),
     NoNumber,
 }
 
 // A number that stands in a text, and where it ends.
-#[derive(Drop)]
+#[derive(Clone, Copy)]
 pub enum NumberAt {
     Ends(u64, usize),
     Malformed,
 }
 
 // The digits from a place to `end`, as a number.
-#[derive(Drop)]
+#[derive(Clone, Copy)]
 struct Start {
     value: u64,
     end: usize,

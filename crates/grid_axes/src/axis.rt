@@ -5,21 +5,21 @@ ghost use Rattle.grid_axes.specs.Axes.{AxisOk, tiles_of, touched_tiles, SpanIn, 
 use crate::constants::MIN_TILE_TEXELS;
 
 // Texels along the axis, and texels along a tile's side.
-#[derive(Drop)]
+#[derive(Clone, Copy)]
 pub struct Axis {
     pub extent: u64,
     pub edge: u64,
 }
 
 // Tiles from the first to the last, both counted.
-#[derive(Drop)]
+#[derive(Clone, Copy)]
 pub struct Span {
     pub first: u64,
     pub last: u64,
 }
 
 // The tiles that a run of texels touches.
-#[derive(Drop)]
+#[derive(Clone, Copy)]
 pub enum Touched {
     Tiles(Span),
     NoTiles,

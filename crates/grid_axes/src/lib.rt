@@ -1,4 +1,6 @@
 // One axis of a level cut into tiles. A grid is made of two of them, and every fact of boxes and covers is proved here, per axis.
+#![tactic(auto)]
+
 mod axis;
 mod constants;
 mod edges;

@@ -1,6 +1,8 @@
 // Rectangles of texels: the block grid's rule, what an upload writes, and the bytes of a copy.
 //
 // No public function has a `requires`: each answers or refuses every input.
+#![tactic(auto)]
+
 mod copies;
 mod rect;
 mod upload;

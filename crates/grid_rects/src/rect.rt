@@ -2,7 +2,7 @@
 ghost use Rattle.std.specs.Prelude.{◌≡◌};
 ghost use Rattle.grid_rects.specs.Rects.{whole_level, is_multiple_of, side_on_grid, rect_on_grid};
 
-#[derive(Drop)]
+#[derive(Clone, Copy)]
 pub struct TexelRect {
     pub x: u64,
     pub y: u64,
@@ -11,7 +11,7 @@ pub struct TexelRect {
 }
 
 // A part of a level: all of it, or a rectangle.
-#[derive(Drop)]
+#[derive(Clone, Copy)]
 pub enum Region {
     Whole,
     Part(TexelRect),

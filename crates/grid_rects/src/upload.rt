@@ -7,13 +7,13 @@ use crate::rect::{TexelRect, level_rect, rect_on_block_grid};
 use grid_shapes::block_edge;
 
 // The source format of a block-compressed upload, or none for one by texel.
-#[derive(Drop)]
+#[derive(Clone, Copy)]
 pub enum Compressed {
     Format(u64),
     ByTexel,
 }
 
-#[derive(Drop)]
+#[derive(Clone, Copy)]
 pub enum UploadAnswer {
     Written(TexelRect),
     NoFormat,

@@ -2,6 +2,8 @@
 //
 // Functions for callers outside the pool have no `requires` and answer or refuse every input: `is_shape`, `same_shape`,
 // `slices`, `level_extent`, `level_depth`, `bytes` and `records_every_write`. `shape_bytes` is the pool's own.
+#![tactic(auto)]
+
 mod constants;
 mod format;
 mod recording;

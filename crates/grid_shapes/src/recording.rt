@@ -5,7 +5,7 @@ ghost use Rattle.grid_shapes.specs.Shapes.{records_outcome};
 
 use crate::shape::{VersionShape, is_shape};
 
-#[derive(Drop)]
+#[derive(Clone, Copy)]
 pub enum RecordsAnswer {
     Records(bool),
     Shapeless,

@@ -9,7 +9,7 @@ use crate::format::{block_bytes, block_edge};
 
 // Every field of the Rust's creation descriptor but the id, which only labels the texture: spares made for one shape cannot serve
 // another. Storage mode, usage and the four swizzle bytes (red to alpha) are compared only.
-#[derive(Drop)]
+#[derive(Clone, Copy)]
 pub struct VersionShape {
     pub format: u64,
     pub width: u64,
@@ -25,7 +25,7 @@ pub struct VersionShape {
     pub alpha: u64,
 }
 
-#[derive(Drop)]
+#[derive(Clone, Copy)]
 pub enum BytesAnswer {
     Bytes(u64),
     NoShape,

@@ -5,7 +5,7 @@ ghost use Rattle.grid_stamps.specs.Grids.{tiled, stamp_count, IsDirtyTile};
 
 use grid_axes::{Axis, tiles};
 
-#[derive(Drop)]
+#[derive(Clone, Copy)]
 pub enum DirtyTile {
     At { column: u64, row: u64 },
     NoTile,

@@ -1,5 +1,7 @@
 // One subresource's stamp grid: a page of stamps, a stamp for each tile. The functions are the pool's own and say what they
 // require; a page is here the grid's own part of the lent stamps.
+#![tactic(auto)]
+
 mod constants;
 mod dirty;
 mod grid;

@@ -9,14 +9,14 @@ use grid_axes::{Axis, Span, span_size, span_start, tiles};
 use grid_rects::TexelRect;
 
 // The box of what was written, or none.
-#[derive(Drop)]
+#[derive(Clone, Copy)]
 pub enum Dirty {
     Box(TexelRect),
     Clean,
 }
 
 // The first and last columns and rows of the dirty tiles seen so far, if any was.
-#[derive(Drop)]
+#[derive(Clone, Copy)]
 pub struct Seen {
     pub any: bool,
     pub left: u64,

@@ -7,7 +7,7 @@ use grid_axes::Axis;
 use grid_stamps::{Dirty, DirtyTile};
 
 // The page's slice, and the columns and rows of its grid, each with its tiles' edge.
-#[derive(Drop)]
+#[derive(Clone, Copy)]
 pub struct GridView<'a> {
     pub page: &'a [u64],
     pub columns: Axis,

@@ -3,6 +3,8 @@
 // that, a call tests all the memory that is in use, so it costs what that memory costs. The same calls without the test, for
 // callers who are proved to pass a pool (or who keep the memory to themselves), are those of `pool_take_spare`, `pool_preserve_plan`, `pool_retire`,
 // `pool_park`, `pool_note_write`, `pool_note_allocated`, `pool_take_doomed`, `pool_trim` and `pool_sheet`.
+#![tactic(auto)]
+
 mod calls;
 
 pub use calls::dirty_tile::{DirtyAnswer, dirty_tile};

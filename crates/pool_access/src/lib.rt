@@ -1,4 +1,6 @@
 // Access to the lent slices, one record or one run of them at a time. Every call of the pool is made of these.
+#![tactic(auto)]
+
 mod doomed;
 mod grids;
 mod retiring;

@@ -14,7 +14,7 @@ const MOST_LEVELS: usize = 15;
 
 // A slice of a history: for each level what stands beside its grid's newest stamp in the first slice, and the stamps of all its grids.
 // In every other slice the grids begin by as many stamps later as the slices before it have.
-#[derive(Drop)]
+#[derive(Clone, Copy)]
 pub struct SliceTilings {
     pub levels: [u64; MOST_LEVELS],
     pub stamps: u64,

@@ -64,7 +64,7 @@ fn spares_between(textures: &[u64], from: usize, to: usize) -> usize
 }
 
 // The places from one on, up to another.
-#[derive(Drop)]
+#[derive(Clone, Copy)]
 struct Stretch {
     from: usize,
     to: usize,

@@ -12,7 +12,7 @@ use pool_memory::Pool;
 use pool_records::Shift;
 
 // Its spares begin at place `first`, its `grids` numbers of `newest` at `grid` and its stamps at `stamp`; `bytes` is what each of its versions takes.
-#[derive(Drop)]
+#[derive(Clone, Copy)]
 pub struct Owned {
     pub first: usize,
     pub spares: usize,

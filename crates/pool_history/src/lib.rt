@@ -1,4 +1,6 @@
 // The grids of a texture's write history: one stamped by a write, all stamped again by a mip regeneration, all taken out.
+#![tactic(auto)]
+
 mod grids;
 mod run;
 

@@ -5,14 +5,14 @@ ghost use Rattle.base_blocks.specs.Blocks.{moved};
 use base_blocks::shift_down;
 
 // How many numbers of `newest` and how many stamps are in use.
-#[derive(Drop)]
+#[derive(Clone, Copy)]
 pub struct Used {
     pub grids: usize,
     pub stamps: usize,
 }
 
 // Where a history's numbers of `newest` and its stamps begin, and how many they are.
-#[derive(Drop)]
+#[derive(Clone, Copy)]
 pub struct HistoryRun {
     pub grid: usize,
     pub grids: usize,

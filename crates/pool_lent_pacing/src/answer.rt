@@ -3,7 +3,7 @@ use pool_memory::Pool;
 use pool_take_doomed::Handed;
 
 // The pool after the call; after a refusal it is as it was.
-#[derive(Drop)]
+#[derive(Clone, Copy)]
 pub struct HandedAnswer {
     pub pool: Pool,
     pub handed: Handed,

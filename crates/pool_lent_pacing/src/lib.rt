@@ -1,5 +1,7 @@
 // The calls that pace destruction, with the pacing book lent: each reads the book, asks the call of `pool` that takes it by value,
 // and puts the book of the answer in its place.
+#![tactic(auto)]
+
 mod answer;
 mod calls;
 

@@ -2,7 +2,7 @@
 use crate::pool::Pool;
 
 // The pool after the call, and 01's number: 0 if the call was accepted. After a refusal the pool is as it was.
-#[derive(Drop)]
+#[derive(Clone, Copy)]
 pub struct DoneAnswer {
     pub pool: Pool,
     pub outcome: u64,

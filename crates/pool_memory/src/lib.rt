@@ -1,6 +1,8 @@
 // The pool as a caller holds it: the counts in `Pool` and the pacing book by value, everything else in six lent slices of
 // numbers. Its specs say which pool of the model they stand for, what a call leaves in each slice, and what it takes to form a
 // pool; its laws are what the calls are proved by.
+#![tactic(auto)]
+
 mod answer;
 mod book;
 mod constants;

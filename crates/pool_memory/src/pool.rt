@@ -5,7 +5,7 @@ ghost use Rattle.std.specs.Prelude.{◌≡◌};
 // their slices. The retiring ring begins at place `head`: its first `popped` versions, one or none, are 01's hand, and `queued` versions
 // follow. The destroy ring begins at place `first` and has `doomed` versions, of which `since` arrived after the last take. `parked` and `dooming` are the bytes of
 // the spares and of the destroy queue; `cap` and `line` are the budget's. All are numbers: a bool leaves padding that slows copies.
-#[derive(Drop)]
+#[derive(Clone, Copy)]
 pub struct Pool {
     pub tracked: usize,
     pub kept: usize,

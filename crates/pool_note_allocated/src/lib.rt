@@ -1,5 +1,7 @@
 // The call `note_allocated`: under pressure the oldest spares of all textures go to the destroy queue, until their bytes cover the
 // excess.
+#![tactic(auto)]
+
 mod calls;
 mod give;
 mod relieve;

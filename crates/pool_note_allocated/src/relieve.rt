@@ -19,7 +19,7 @@ use pool_records::{RETIRING_STRIDE, TEXTURE_SPARES_AT, TEXTURE_STRIDE};
 use pool_relief_line::{texture_gives, version_bytes};
 
 // What one texture did: how many spares it had, how many of them it gave, their bytes, and the bytes freed by then.
-#[derive(Drop)]
+#[derive(Clone, Copy)]
 pub struct Step {
     pub spares: usize,
     pub count: usize,
@@ -72,7 +72,7 @@ fn relieve_texture(
 }
 
 // What relief left and took: how many spares are kept, and the bytes of those that were given up.
-#[derive(Drop)]
+#[derive(Clone, Copy)]
 pub struct Relief {
     pub kept: usize,
     pub bytes: u64,

@@ -1,4 +1,6 @@
 // A texture's reported writes: the two calls that count and stamp them, and the two questions that their history answers.
+#![tactic(auto)]
+
 mod calls;
 mod dropping;
 mod history;

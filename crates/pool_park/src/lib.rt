@@ -1,4 +1,6 @@
 // The call `park`: the version in the hand is kept as its texture's newest spare, or queued for destruction.
+#![tactic(auto)]
+
 mod calls;
 mod counts;
 mod keep_version;

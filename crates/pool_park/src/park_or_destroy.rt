@@ -11,7 +11,7 @@ use pool_records::RetiringRecord;
 use pool_rules::LIMIT;
 
 // What becomes of the version, with its bytes.
-#[derive(Drop)]
+#[derive(Clone, Copy)]
 pub enum Parking {
     Destroyed(u64),
     Kept(u64),

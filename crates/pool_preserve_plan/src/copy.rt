@@ -16,7 +16,7 @@ use pool_memory::COPY_STRIDE;
 use pool_rules::GRID_STRIDE;
 
 // A subresource of a plan: left out, or copied whole or in part.
-#[derive(Drop)]
+#[derive(Clone, Copy)]
 pub enum Planned {
     Skipped,
     Copied(Region),

@@ -14,7 +14,7 @@ use pool_rules::{Held, LIMIT};
 
 // A texture tracked with another shape; one with no history, tracked or not; or where the grids and the stamps of a history begin, and
 // its write count.
-#[derive(Drop)]
+#[derive(Clone, Copy)]
 pub enum Found {
     OtherShape,
     NothingRecorded,

@@ -1,4 +1,6 @@
 // The call `preserve_plan`: the copies that bring a rename's new version up to the live one.
+#![tactic(auto)]
+
 mod calls;
 mod copy;
 mod count_copies;

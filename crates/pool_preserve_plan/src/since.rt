@@ -2,7 +2,7 @@
 
 // What bounds the copies, where both are known: where the texture's history begins in `newest` and in the stamps, and the writes that
 // the new version holds.
-#[derive(Drop)]
+#[derive(Clone, Copy)]
 pub enum Since {
     After {
         grid: usize,
@@ -13,7 +13,7 @@ pub enum Since {
 }
 
 // The subresource that the upload writes, and whether it covers it whole.
-#[derive(Drop)]
+#[derive(Clone, Copy)]
 pub struct Upload {
     pub slice: u64,
     pub level: u64,

@@ -3,7 +3,7 @@ ghost use Rattle.std.specs.Prelude.{◌≡◌, ◌+◌, ◌*◌, ◌≤◌, ◌<
 ghost use Rattle.pool_rules.specs.RuleConstants.{most_grids};
 
 // A slice's level.
-#[derive(Drop)]
+#[derive(Clone, Copy)]
 pub struct Subresource {
     pub slice: u64,
     pub level: u64,

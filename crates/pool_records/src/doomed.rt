@@ -5,7 +5,7 @@ ghost use Rattle.pool_records.specs.RecordConstants.{doomed_stride};
 
 use crate::constants::{DOOMED_BYTES_AT, DOOMED_STRIDE};
 
-#[derive(Drop)]
+#[derive(Clone, Copy)]
 pub struct DoomedRecord {
     pub view: u64,
     pub bytes: u64,

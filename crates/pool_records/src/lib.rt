@@ -1,5 +1,7 @@
 // The records that the pool's lent slices hold. A record is a struct by value; one function reads it from the front of a slice of
 // numbers and one returns its numbers, so that the order of the numbers stands in one place a type.
+#![tactic(auto)]
+
 mod constants;
 mod doomed;
 mod find;

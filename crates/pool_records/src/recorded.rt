@@ -3,7 +3,7 @@
 ghost use Rattle.std.specs.Prelude.{◌≡◌};
 ghost use Rattle.pool_records.specs.Recorded.{recorded_of, recorded_number, RecordedFits};
 
-#[derive(Drop)]
+#[derive(Clone, Copy)]
 pub enum Recorded {
     Writes(u64),
     NoHistory,

@@ -5,7 +5,7 @@ ghost use Rattle.pool_records.specs.RecordConstants.{retiring_stride};
 
 use crate::constants::RETIRING_STRIDE;
 
-#[derive(Drop)]
+#[derive(Clone, Copy)]
 pub struct RetiringRecord {
     pub id: u64,
     pub view: u64,

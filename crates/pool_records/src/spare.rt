@@ -8,7 +8,7 @@ use crate::constants::{SPARE_HELD_AT, SPARE_PARKED_AT, SPARE_STRIDE};
 use crate::held::{held_number, read_held};
 use pool_rules::Held;
 
-#[derive(Drop)]
+#[derive(Clone, Copy)]
 pub struct SpareRecord {
     pub view: u64,
     pub held: Held,

@@ -13,7 +13,7 @@ use crate::constants::{
 use crate::recorded::{Recorded, read_recorded, recorded_number};
 use grid_shapes::VersionShape;
 
-#[derive(Drop)]
+#[derive(Clone, Copy)]
 pub struct TextureRecord {
     pub id: u64,
     pub shape: VersionShape,

@@ -5,7 +5,7 @@ ghost use Rattle.pool_records.specs.Tilings.{packed_tiling, read_tiling, TilingF
 use crate::constants::{DOWN_UNIT, EDGE_SPAN, START_SPAN};
 
 // Where a grid's stamps begin among those of its history, and the edges of its tiles.
-#[derive(Drop)]
+#[derive(Clone, Copy)]
 pub struct GridTiling {
     pub start: u64,
     pub across: u64,

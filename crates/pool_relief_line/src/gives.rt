@@ -8,7 +8,7 @@ ghost use Rattle.pool_records.specs.RecordConstants.{spare_stride};
 use pool_records::{SPARE_PARKED_AT, SPARE_STRIDE};
 
 // How many were picked, and the bytes freed with them and all before.
-#[derive(Drop)]
+#[derive(Clone, Copy)]
 pub struct Given {
     pub count: usize,
     pub freed: u64,

@@ -52,7 +52,7 @@ pub fn bytes_before(textures: &[u64], n: usize, spares: &[u64], line: u64) -> u6
 }
 
 // The least and the largest parking number. They only choose which lines are tried first, so nothing is claimed of them.
-#[derive(Drop)]
+#[derive(Clone, Copy)]
 pub struct Ends {
     pub least: u64,
     pub largest: u64,

@@ -18,7 +18,7 @@ const VERSION_POOL_WORKING_SET_DIVISOR: u64 = 8;
 const VERSION_POOL_PRESSURE_QUARTERS: u64 = 3;
 
 // `cap`: most bytes of spares that the pool parks. `line`: allocated bytes above which it gives its spares back.
-#[derive(Drop)]
+#[derive(Clone, Copy)]
 pub struct VersionBudget {
     pub cap: u64,
     pub line: u64,

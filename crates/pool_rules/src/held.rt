@@ -1,5 +1,5 @@
 // The writes that a spare holds: all up to a count, or unknown, since a submission that it was live through failed.
-#[derive(Drop)]
+#[derive(Clone, Copy)]
 pub enum Held {
     Known(u64),
     Unknown,

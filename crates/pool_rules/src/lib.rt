@@ -1,4 +1,6 @@
 // The pool's model and rules (specs/), and the budget.
+#![tactic(auto)]
+
 mod budget;
 mod constants;
 mod held;

@@ -9,7 +9,7 @@ use pool_records::{
 };
 
 // A texture's columns, in their order: `parked` is the bytes of all its spares, `last` the submission of its last rename.
-#[derive(Drop)]
+#[derive(Clone, Copy)]
 pub struct SheetFields {
     pub id: u64,
     pub kind: u64,

@@ -1,4 +1,6 @@
 // The pool sheet: a page of text that a bench driver pins beside the rig (02, W-202).
+#![tactic(auto)]
+
 mod answer;
 mod calls;
 mod fields;

@@ -1,4 +1,6 @@
 // Versions on their way out: spares queued for destruction, and the two calls that hand versions back to be destroyed.
+#![tactic(auto)]
+
 mod answer;
 mod calls;
 mod copy_column;

@@ -22,7 +22,7 @@ const DRAINS: u64 = DESTROY_SPREAD_DRAINS as u64;
 const ROUND_UP: u64 = DRAINS - 1;
 
 // How many versions, and their bytes.
-#[derive(Drop)]
+#[derive(Clone, Copy)]
 pub struct Batch {
     pub count: usize,
     pub bytes: u64,

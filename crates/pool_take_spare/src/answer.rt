@@ -3,7 +3,7 @@ use pool_memory::Pool;
 use pool_rules::Held;
 
 // The texture's newest spare, with the writes that it holds; no spare; or 01's number of a refusal.
-#[derive(Drop)]
+#[derive(Clone, Copy)]
 pub enum Taken {
     Spare { view: u64, held: Held },
     NoSpare,
@@ -11,7 +11,7 @@ pub enum Taken {
 }
 
 // The pool after the call, with what it answers. After a refusal the pool is as it was.
-#[derive(Drop)]
+#[derive(Clone, Copy)]
 pub struct TakeAnswer {
     pub pool: Pool,
     pub taken: Taken,

@@ -1,4 +1,6 @@
 // The call `take_spare`, which starts a rename.
+#![tactic(auto)]
+
 mod answer;
 mod calls;
 mod look_up;

@@ -10,7 +10,7 @@ use pool_records::find_texture;
 
 // The id's place among the textures, 01's number of a refusal or 0, whether the id is tracked, whether with the same shape, and the
 // stamps of the history that begins where one does.
-#[derive(Drop)]
+#[derive(Clone, Copy)]
 pub struct Look {
     pub place: usize,
     pub outcome: u64,

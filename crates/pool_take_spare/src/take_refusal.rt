@@ -12,7 +12,7 @@ use pool_records::TEXTURE_STRIDE;
 use pool_rules::LIMIT;
 
 // 01's number of a refusal or 0, and how many stamps the history of a tracking that begins takes: they are added up once.
-#[derive(Drop)]
+#[derive(Clone, Copy)]
 pub struct Refusal {
     pub outcome: u64,
     pub stamps: usize,

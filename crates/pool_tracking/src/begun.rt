@@ -12,7 +12,7 @@ use pool_rules::GRID_STRIDE;
 
 // A tracking that begins: the texture's place among the tracked ones, its id and its shape, whether its writes are recorded, the
 // submission that it begins with, and how many stamps its history takes, which the test for a refusal has added up.
-#[derive(Drop)]
+#[derive(Clone, Copy)]
 pub struct NewTracking {
     pub place: usize,
     pub id: u64,

@@ -7,7 +7,7 @@ use pool_memory::Pool;
 
 // Where its spares begin, how many there are and the bytes of each; where its grids' numbers begin in `newest` and how many there
 // are, and alike its stamps.
-#[derive(Drop)]
+#[derive(Clone, Copy)]
 pub struct Holding {
     pub first: usize,
     pub spares: usize,

@@ -1,5 +1,7 @@
 // A tracking that begins: for a texture that was not tracked, and again for one that was tracked with another shape. Both are cases
 // of the call that starts a rename.
+#![tactic(auto)]
+
 mod begun;
 mod blocks;
 mod holding;

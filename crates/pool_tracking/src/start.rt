@@ -13,7 +13,7 @@ use pool_memory::Pool;
 use pool_records::{Shift, TEXTURE_GRID_AT, TEXTURE_STAMP_AT, TEXTURE_STRIDE};
 
 // Where a texture's grids and its stamps begin.
-#[derive(Drop)]
+#[derive(Clone, Copy)]
 pub struct First {
     pub grid: usize,
     pub stamp: usize,

@@ -1,4 +1,6 @@
 // The call `trim`: the spares idle past the bound are given up, and idle textures are tracked no longer.
+#![tactic(auto)]
+
 mod calls;
 mod look_at;
 mod nothing_aged;

@@ -18,7 +18,7 @@ use pool_rules::{SPARE_MAX_IDLE_SUBMITS, STATE_MAX_IDLE_SUBMITS};
 // Of its `own` spares the oldest `aged` are given up, `bytes` each. Its grids begin at `grid` in `newest` and their stamps at `stamp`. It
 // stays tracked (`staying` is 1) with `grids` numbers of `newest`, `stamps` stamps and the number `due`, or it is dropped (`staying`,
 // `grids` and `stamps` are 0).
-#[derive(Drop)]
+#[derive(Clone, Copy)]
 pub struct Look {
     pub own: usize,
     pub aged: usize,

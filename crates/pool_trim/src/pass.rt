@@ -9,7 +9,7 @@ use pool_memory::Pool;
 
 // The next texture's spares begin at place `first`. Of the textures before it `tracked` stay, with `kept` spares, `grids` numbers of
 // `newest` and `stamps` stamps, and `count` spares were given up, of `freed` bytes.
-#[derive(Drop)]
+#[derive(Clone, Copy)]
 pub struct Pass {
     pub first: usize,
     pub tracked: usize,

@@ -19,7 +19,7 @@ pub fn outcome_of(taken: Taken) -> u64 {
 }
 
 // What a take and a trim said, and how many textures are tracked afterwards.
-#[derive(Drop)]
+#[derive(Clone, Copy)]
 struct AfterTrim {
     taken: u64,
     trimmed: u64,

@@ -8,7 +8,7 @@ use grid_axes::{TILE_EDGES_1, TILE_EDGES_4};
 
 // What was seen of the edges so far: the least and the largest, by how much one exceeds the larger of 16 and a 32nd of the extent
 // rounded up, what is left of one by whole blocks, and the most tiles along an axis.
-#[derive(Drop)]
+#[derive(Clone, Copy)]
 struct Seen {
     least: u64,
     largest: u64,

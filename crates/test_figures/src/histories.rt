@@ -10,7 +10,7 @@ use pool_records::{DOOMED_STRIDE, RETIRING_STRIDE, SPARE_STRIDE, TEXTURE_STRIDE}
 use pool_rules::{GRID_STRIDE, MOST_GRIDS};
 
 // What a take said, and the pool after it.
-#[derive(Drop)]
+#[derive(Clone, Copy)]
 struct Begun {
     outcome: u64,
     pool: Pool,

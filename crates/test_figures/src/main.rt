@@ -1,5 +1,7 @@
 // Figures of documents 01 and 02, each computed by the proved functions: a line for each, `name value`, or `name argument .. value` where a
 // figure is that of arguments. The lines are held to `stdout`, which is written from their text; docs/FIGURES.md has the sentence for each.
+#![tactic(auto)]
+
 mod calls;
 mod copies;
 mod extents;

@@ -5,7 +5,7 @@ use base_digits::{put_number, put_text};
 use grid_rects::TexelRect;
 
 // What follows an answer's first number.
-#[derive(Drop)]
+#[derive(Clone, Copy)]
 pub enum Rest {
     End,
     Number(u64),
@@ -17,7 +17,7 @@ pub enum Rest {
 }
 
 // `?`, or numbers.
-#[derive(Drop)]
+#[derive(Clone, Copy)]
 pub enum Answer {
     Malformed,
     Numbers(u64, Rest),

@@ -9,7 +9,7 @@ use grid_rects::Region;
 use grid_shapes::BytesAnswer;
 
 // A question's last fields.
-#[derive(Drop)]
+#[derive(Clone, Copy)]
 enum Asked {
     Of(Region),
     Unreadable,

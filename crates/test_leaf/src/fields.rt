@@ -6,7 +6,7 @@ use grid_rects::TexelRect;
 
 // The first `count` of `values` were read, one after the other; the places after them are 0. The next field starts at
 // `next`, which lies past the end of the fields if none is left.
-#[derive(Drop)]
+#[derive(Clone, Copy)]
 pub struct Numbers {
     pub values: [u64; 8],
     pub count: usize,

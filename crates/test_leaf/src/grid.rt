@@ -8,7 +8,7 @@ use crate::fields::{are_u32, read_numbers, rect_of};
 use grid_axes::Axis;
 use grid_stamps::{Dirty, PAGE_STAMPS};
 
-#[derive(Drop)]
+#[derive(Clone, Copy)]
 enum Stamped {
     Newest(u64),
     Unreadable,

@@ -12,7 +12,7 @@ use libc::{STDIN_FILENO, STDOUT_FILENO};
 
 // What answering a block of input left: the line that starts at `from` is not whole yet, and `filled` bytes of answers
 // are not written yet. Nothing more can be written if it is not open.
-#[derive(Drop)]
+#[derive(Clone, Copy)]
 struct Left {
     from: usize,
     filled: usize,

@@ -1,5 +1,7 @@
 // Answers questions on the leaf functions of layer 1 and on budgets, a line each, as the program `leaf` of compare/ does
 // over the published Rust and, of copies, by document 02's text; compare/README.md has the questions.
+#![tactic(auto)]
+
 mod answer;
 mod axis;
 mod budget;

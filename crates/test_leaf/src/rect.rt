@@ -8,7 +8,7 @@ use event_text::{Number, is_word, number_of};
 use grid_rects::{Compressed, TexelRect, UploadAnswer};
 
 // An upload's first field.
-#[derive(Drop)]
+#[derive(Clone, Copy)]
 enum Source {
     Known(Compressed),
     Unreadable,

@@ -1,5 +1,7 @@
 // Lists of lines for lent memory, run by the calls of the checked face: standard input has the lists, and standard output is held to
 // answers written from document 01 and to those of the published Rust. compare/store_pool.sh wrote both.
+#![tactic(auto)]
+
 use grid_stamps::PAGE_STAMPS;
 use pool_memory::COPY_STRIDE;
 use pool_records::{DOOMED_STRIDE, RETIRING_STRIDE, SPARE_STRIDE, TEXTURE_STRIDE};

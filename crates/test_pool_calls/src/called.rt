@@ -3,7 +3,7 @@ use event_answers::Answer;
 use pool_memory::{PacingBook, Pool};
 
 // The counts, the pacing book and the answer of the line.
-#[derive(Drop)]
+#[derive(Clone, Copy)]
 pub struct Called {
     pub pool: Pool,
     pub book: PacingBook,

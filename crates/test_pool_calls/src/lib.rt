@@ -1,4 +1,6 @@
 // Each call of the checked face `pool`, made on lent memory that may form a pool or not, and what a line prints of it.
+#![tactic(auto)]
+
 mod answers;
 mod called;
 mod calls;

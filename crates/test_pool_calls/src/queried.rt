@@ -1,6 +1,6 @@
 // What a query says.
 
-#[derive(Drop)]
+#[derive(Clone, Copy)]
 pub enum QueryAnswer {
     // No line is a query.
     NoQuery,
@@ -16,7 +16,7 @@ pub enum QueryAnswer {
 }
 
 // The answer, and whether a buffer of bytes, if one was lent, is as it was but for what the answer says of it.
-#[derive(Drop)]
+#[derive(Clone, Copy)]
 pub struct Queried {
     pub answer: QueryAnswer,
     pub kept: bool,

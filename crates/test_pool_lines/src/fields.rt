@@ -7,7 +7,7 @@ use event_text::{NumberAt, find_byte, number_at};
 pub const MOST_FIELDS: usize = 16;
 
 // The numbers of the first fields, and how many there are; `formed` if they are all the fields.
-#[derive(Drop)]
+#[derive(Clone, Copy)]
 pub struct LineNumbers {
     pub formed: bool,
     pub values: [u64; MOST_FIELDS],

@@ -1,4 +1,6 @@
 // The lines of a list for lent memory that the event grammar lacks: numbers put into a store, shapes of twelve numbers, queries.
+#![tactic(auto)]
+
 mod fields;
 mod line;
 mod shape;

@@ -5,7 +5,7 @@ use event_text::is_word;
 use grid_shapes::VersionShape;
 
 // The lines. What is put stands beside, for it is many numbers.
-#[derive(Drop)]
+#[derive(Clone, Copy)]
 pub enum OwnLine {
     Put,
     // A take with all twelve numbers of a shape.
@@ -38,7 +38,7 @@ pub enum OwnLine {
 }
 
 // A line with the numbers behind its word.
-#[derive(Drop)]
+#[derive(Clone, Copy)]
 pub struct OwnRead {
     pub line: OwnLine,
     pub values: [u64; MOST_FIELDS],

@@ -11,7 +11,7 @@ use pool_rules::{MOST_PLACES, newest_length};
 const MOST_NUMBERS: usize = 65536;
 
 // How many numbers are lent in each slice, and in the two answer buffers.
-#[derive(Drop)]
+#[derive(Clone, Copy)]
 pub struct Lengths {
     pub textures: usize,
     pub retiring: usize,

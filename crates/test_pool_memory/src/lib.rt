@@ -1,4 +1,6 @@
 // Lent memory as a list's lines have it: numbers put into the stores, and the whole of it kept, compared and dumped.
+#![tactic(auto)]
+
 mod bounds;
 mod clearing;
 mod counts;

@@ -10,7 +10,7 @@ use event_text::is_word;
 use libc::STDOUT_FILENO;
 
 // What a line leaves: the session, and the lines of the list so far.
-#[derive(Drop)]
+#[derive(Clone, Copy)]
 pub struct RanLine {
     pub session: Session,
     pub number: u64,

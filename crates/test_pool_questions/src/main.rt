@@ -1,5 +1,7 @@
 // Questions about a pool, for what no event line reaches: standard input has events with questions between them, and standard output is held
 // to the answers of a second implementation over the published Rust. compare/store_questions.sh wrote both; compare/README.md has the questions.
+#![tactic(auto)]
+
 mod answer_sheet;
 mod constants;
 mod line;

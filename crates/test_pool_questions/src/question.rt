@@ -7,7 +7,7 @@ use event_text::{Number, number_of};
 use libc::STDOUT_FILENO;
 
 // The bytes of the buffer that is asked for, if the question is one.
-#[derive(Drop)]
+#[derive(Clone, Copy)]
 struct Asked {
     formed: bool,
     bytes: usize,

@@ -7,7 +7,7 @@ use test_pool_calls::{Called, make_event, make_query};
 use test_pool_lines::OwnLine;
 
 // The session after a line, and its reply.
-#[derive(Drop)]
+#[derive(Clone, Copy)]
 pub struct Answered {
     pub session: Session,
     pub reply: Reply,

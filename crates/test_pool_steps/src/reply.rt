@@ -12,7 +12,7 @@ use test_pool_memory::{least, put_digits, put_field};
 // The most bytes of a line of output, as `most_row` of crates/event_answers/specs/Printed.antt.
 const MOST_ROW: usize = 147;
 
-#[derive(Drop)]
+#[derive(Clone, Copy)]
 pub enum Reply {
     // Nothing is printed.
     Silent,

@@ -6,7 +6,7 @@ use test_pool_lines::Lengths;
 
 // Everything but the slices. Calls are made once the pool is opened, or numbers were put, or it was asked whether they form one; until then
 // a line that calls is answered as the event program does. `opened`, `taken` and `lends` are 1 or 0.
-#[derive(Drop)]
+#[derive(Clone, Copy)]
 pub struct Session {
     pub opened: u64,
     // A shape came, by a take or alone.

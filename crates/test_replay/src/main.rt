@@ -1,5 +1,7 @@
 // Stored lists of events, each run on a pool of its own: standard input has the lists, and standard output is held to the answers of the
 // published Rust. compare/store.sh wrote both.
+#![tactic(auto)]
+
 mod constants;
 mod list;
 mod lists;

@@ -6,7 +6,7 @@ use crate::constants::{MOST_ENTRIES, MOST_PAGES, MOST_TEXTURES, MOST_VERSIONS};
 use event_text::{NumberAt, number_at};
 
 // The places that the list's program has.
-#[derive(Drop)]
+#[derive(Clone, Copy)]
 pub struct Sizes {
     pub textures: usize,
     pub versions: usize,
@@ -15,7 +15,7 @@ pub struct Sizes {
 }
 
 // A size, and where the field after it begins.
-#[derive(Drop)]
+#[derive(Clone, Copy)]
 struct Size {
     places: usize,
     next: usize,

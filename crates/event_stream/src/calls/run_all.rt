@@ -13,7 +13,7 @@ use crate::read_more::read_more;
 use event_feed::{begin, feed};
 use event_sessions::Session;
 
-#[derive(Drop)]
+#[derive(Clone, Copy)]
 pub struct Stopped {
     // The reason, as in reason.rt.
     pub why: u64,

@@ -4,7 +4,7 @@ ghost use Rattle.std.specs.Prelude.{◌≡◌, length};
 use libc::STDOUT_FILENO;
 
 // How many bytes of output there were, and whether all were written that are to be shown.
-#[derive(Drop)]
+#[derive(Clone, Copy)]
 pub struct Wrote {
     pub bytes: usize,
     pub all: bool,

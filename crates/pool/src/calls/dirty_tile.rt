@@ -6,7 +6,7 @@ use grid_stamps::DirtyTile;
 use pool_formed::is_pool;
 use pool_memory::{PacingBook, Pool};
 
-#[derive(Drop)]
+#[derive(Clone, Copy)]
 pub enum DirtyAnswer {
     Tile { column: u64, row: u64 },
     NoTile,

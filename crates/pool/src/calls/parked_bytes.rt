@@ -6,7 +6,7 @@ ghost use Rattle.pool.specs.Queries.{bytes_told, parked_bytes_on};
 use pool_formed::is_pool;
 use pool_memory::{PacingBook, Pool};
 
-#[derive(Drop)]
+#[derive(Clone, Copy)]
 pub enum BytesAnswer {
     Bytes(u64),
     NoPool,

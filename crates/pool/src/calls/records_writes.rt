@@ -6,7 +6,7 @@ ghost use Rattle.pool.specs.Queries.{records_told, records_writes_on};
 use pool_formed::is_pool;
 use pool_memory::{PacingBook, Pool};
 
-#[derive(Drop)]
+#[derive(Clone, Copy)]
 pub enum RecordsAnswer {
     Records(bool),
     NoPool,

@@ -14,7 +14,7 @@ use pool_relief_line::{bytes_before, parking_line};
 use pool_rules::VersionBudget;
 
 // The pool and the book after the call, and 01's number: it is 0 on every pool.
-#[derive(Drop)]
+#[derive(Clone, Copy)]
 pub struct NotedAnswer {
     pub pool: Pool,
     pub book: PacingBook,

@@ -8,7 +8,7 @@ use pool_memory::{PacingBook, Pool};
 use pool_rules::{DESTROY_SPREAD_DRAINS, VersionBudget};
 
 // Holds 01's number, 0 if the pool was opened, and the pool and the pacing book to begin with.
-#[derive(Drop)]
+#[derive(Clone, Copy)]
 pub struct OpenAnswer {
     pub outcome: u64,
     pub pool: Pool,

@@ -15,7 +15,7 @@ use pool_rules::Held;
 
 // How many copies stand in the answer buffer, or 01's number of a refusal. A copy is seven numbers: slice, level, whole or not,
 // left, top, width, height.
-#[derive(Drop)]
+#[derive(Clone, Copy)]
 pub enum PlanAnswer {
     Copies(usize),
     Refused(u64),

@@ -12,7 +12,7 @@ use pool_records::RETIRING_STRIDE;
 use pool_rules::LIMIT;
 
 // The version that is in the hand then; none, since no queued submission is settled; or 01's number of a refusal.
-#[derive(Drop)]
+#[derive(Clone, Copy)]
 pub enum Popped {
     Version { id: u64, view: u64 },
     NothingSettled,
@@ -20,7 +20,7 @@ pub enum Popped {
 }
 
 // The pool after the call, with what it answers.
-#[derive(Drop)]
+#[derive(Clone, Copy)]
 pub struct PopAnswer {
     pub pool: Pool,
     pub popped: Popped,

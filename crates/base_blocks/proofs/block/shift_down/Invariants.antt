@@ -1,0 +1,10 @@
+-- `shift_down` meets its contract. After j turns, the first j numbers have moved. Assumes nothing.
+use Rattle.std.proofs.Common.{◌≡◌, ◌+◌, ◌-◌, ◌≤◌, length}
+use Rattle.base_blocks.specs.Blocks.{moved}
+use Rattle.base_blocks.proofs.block.shift_down.Given as goal
+
+abbrev pub invariant-loop-j : goal.invariant-loop-j
+invariant-loop-j l = (l.j ≤ l.n) × (length l.s ≡ length l.initial.s) × (l.s ≡ moved l.initial.s l.at (l.at + l.k) l.j)
+
+abbrev pub decreases-loop-j : goal.decreases-loop-j
+decreases-loop-j l = l.n - l.j
