@@ -59,6 +59,14 @@ class Convert:
         for cls, parent, (old, new), callee, subs in d['places']:
             if old:
                 self.labels.setdefault(alike(old), []).append((new, callee, subs))
+        self.places = {}
+        self.parent = {}
+        for row, new in zip(d['places'], d['places_by_name']):
+            self.places.setdefault(alike(row[0]), new)
+            self.parent[alike(row[0])] = alike(row[1]) if row[1] else None
+        # lemmas over a place, by name: the old name of the place
+        self.over = {}
+        self.imports = set()
         self.needs = {}
         for old, new in d['needs']:
             self.needs[alike(old)] = new
@@ -89,9 +97,36 @@ class Convert:
             return ['ensures', 'value']
         return rest
 
-    def body(self, text, head):
+    def above(self, place, n):
+        for _ in range(n):
+            place = self.parent.get(place)
+        return place
+
+    def cite(self, text, aliases, at, goal):
+        """Calls of lemmas over a place: the place is read off the goal."""
+        def one(m):
+            lemma, alias, dots = m[1], m[2], m[3]
+            if alias not in aliases or (m.end() < len(text) and text[m.end()] == '.'):
+                return m[0]
+            new = self.places.get(self.over[lemma])
+            if goal:
+                self.imports.add(new)
+                return '%s (goal.at.%s c).%s' % (lemma, goal, new)
+            n, p = 0, at
+            while p and p != self.over[lemma]:
+                p = self.parent.get(p)
+                n += 1
+            if p is None:
+                self.warn.append('%s is not above %s' % (lemma, at))
+                return m[0]
+            return '%s c§§%s' % (lemma, '.before' * n)
+        if not self.over:
+            return text
+        return re.sub(r"(?<![^\s(){},;\[\]])(%s) (%s?)((?:\.before)*)(?![^\s(){},;\[\].])" % ('|'.join(map(re.escape, sorted(self.over, key=len, reverse=True))), W), one, text)
+
+    def body(self, text, head, at=None, goal=None, aliases=()):
         """The body of an answer, with each place called c."""
-        aliases = {head}
+        aliases = {head, *aliases}
         # lets that name a place
         again = True
         let = re.compile(r"let\s+(%s)\s*=\s*(%s)((?:\.before)*)\s+in\b[ \n]*" % (W, W))
@@ -107,8 +142,12 @@ class Convert:
                     text = text[:m.start()] + rest.lstrip(' ')
                     again = True
                     break
+        text = self.cite(text, aliases, at, goal)
+
         def repl(m):
             whole = m[0]
+            if whole.startswith('c§§'):
+                return 'c' + whole[3:]
             parts = whole.split('.')
             if parts[0] not in aliases:
                 return whole
@@ -130,6 +169,51 @@ class Convert:
             return 'c.' + '.'.join(rest)
         text = re.sub(r"(?<![^\s(){},;\[\]])%s(?:\.%s)*" % (W, W), repl, text)
         return text
+
+    def of_place(self, text):
+        """Types of places by their new names."""
+        def one(m):
+            new = self.places.get(alike(m[1]))
+            if not new:
+                self.warn.append('no place %s' % m[0])
+                return m[0]
+            self.imports.add(new)
+            return new
+        return re.sub(r"tie\.(%s)((?: (?:invariant|decreases)-%s)*)" % (W, W), one, text)
+
+    def lemma(self, nm, sig, unf, eqs):
+        s = '\n'.join(sig)
+        if nm not in self.over:
+            return '\n'.join(sig + (unf or []) + ['\n'.join(e) for e in eqs])
+        k = re.search(r':\s*\((%s) : tie\.(%s)' % (W, W), s)
+        head, at = k[1], alike(k[2])
+        end = s.index(')', k.start())
+        out = [self.of_place(s[:end].replace('(%s :' % head, '(c :')) + self.body(s[end:], head, at)] + (unf or [])
+        for e in eqs:
+            lhs, rhs = '\n'.join(e).split('=', 1)
+            params = lhs.split()
+            h = params[1] if len(params) > 1 else head
+            out.append(' '.join([params[0], 'c'] + params[2:]) + ' =' + self.body(rhs, h, at))
+        return '\n'.join(out)
+
+    def module(self, block):
+        k = re.match(r'module _ \((%s) : tie\.(%s)[^)]*\) where' % (W, W), block[0])
+        if not k:
+            return '\n'.join(block).rstrip()
+        head, at = k[1], alike(k[2])
+        text = '\n'.join(block[1:])
+        aliases = set()
+        # a place above, under a name
+        short = re.compile(r'\n?(?:  --[^\n]*\n)?  abbrev (%s) : tie\.[^\n]*\n  \1 = (%s)((?:\.before)+)[ ]*(?=\n|$)' % (W, W))
+        for m in short.finditer(text):
+            if m[2] == head or m[2] in aliases:
+                aliases.add(m[1])
+                self.over.pop(m[1], None)
+        text = short.sub(lambda m: '' if m[1] in aliases else m[0], text)
+        inner = {n: self.over.pop(n) for n in list(self.over) if re.search(r'(?m)^\s+(?:(?:pub|abbrev|unfoldable)\s+)*%s\s*:' % re.escape(n), text)}
+        out = self.of_place('module _ (c : tie.%s) where' % k[2]) + '\n' + self.body(text, head, at, None, aliases)
+        self.over.update(inner)
+        return out.rstrip()
 
     def run(self, text):
         header, uses, inv, ans, local = [], [], [], [], []
@@ -161,7 +245,7 @@ class Convert:
                 while i < len(lines) and (not lines[i].strip() or lines[i][0].isspace()):
                     block.append(lines[i])
                     i += 1
-                decls.append(('other', None, comment, block))
+                decls.append((None, None, comment, block))
                 comment = []
                 continue
             sig = [l]
@@ -193,8 +277,21 @@ class Convert:
             inv_names[alike(o)] = (n, vs, changed[k] if k < len(changed) else None)
         inv_text, ans_text, loc_text = [], [], []
         for dcl in decls:
-            if dcl[0] == 'other':
-                loc_text.append('\n'.join(dcl[2] + dcl[3]).rstrip())
+            if dcl[0] is None:
+                k = re.match(r'module _ \((%s) : tie\.(%s)[^)]*\) where' % (W, W), dcl[3][0])
+                if k:
+                    for l in dcl[3][1:]:
+                        q = re.match(r'\s+(?:(?:pub|abbrev|unfoldable)\s+)*(%s)(?:\s*\{[^}]*\})*\s*:' % W, l)
+                        if q:
+                            self.over[q[1]] = alike(k[2])
+                continue
+            typ = ' '.join(x.strip() for x in dcl[3])
+            k = re.search(r':\s*\((%s) : tie\.(%s)' % (W, W), typ)
+            if k and not re.search(r': tie\.(Need|invariant|decreases)-', typ):
+                self.over[dcl[0]] = alike(k[2])
+        for dcl in decls:
+            if dcl[0] is None:
+                loc_text.append((None, dcl[2], self.module(dcl[3])))
                 continue
             nm, m, comment, sig, unf, eqs = dcl
             typ = ' '.join(x.strip() for x in sig)
@@ -250,7 +347,7 @@ class Convert:
                     params = [p for p in params if p != 'κs']
                     if params not in (['c'], ['_']):
                         self.warn.append('%s: arguments %s' % (nm, params))
-                    b = self.body(rhs, params[0] if params and params[0] != '_' else 'c')
+                    b = self.body(rhs, params[0] if params and params[0] != '_' else 'c', None, new)
                     if b.strip() not in ('search rules',) or unf:
                         trivial = False
                     out.append('%s c =%s' % (new, b.rstrip()))
@@ -260,17 +357,32 @@ class Convert:
                 continue
             if 'statement' in typ and nm.endswith('spec'):
                 continue
-            loc_text.append('\n'.join(comment + sig + (unf or []) + ['\n'.join(e) for e in eqs]))
+            loc_text.append((nm, comment, self.lemma(nm, sig, unf, eqs)))
         uses = [u for u in uses if '.Statement.' not in u and not u.endswith('.Tie as tie')]
         base = 'Rattle.%s.proofs.%s' % (name, self.path.replace('/', '.'))
         folder = os.path.join(crate, 'proofs', self.path)
         made = []
+        # definitions that the invariants use go with them
+        shared, again = {}, True
+        words = set(re.findall(W, '\n'.join(inv_text)))
+        while again:
+            again = False
+            for nm, comment, body in loc_text:
+                if nm and nm in words and nm not in shared:
+                    shared[nm] = '\n'.join(comment + [re.sub(r'^(abbrev |unfoldable )?(?!pub)', lambda m: (m[1] or '') + 'pub ', body, count=1)])
+                    words |= set(re.findall(W, body))
+                    again = True
         if inv_text:
-            t = '\n'.join(header + uses + ['use %s.Given as goal' % base]) + '\n\n' + '\n\n'.join(inv_text) + '\n'
+            t = '\n'.join(header + uses + ['use %s.Given as goal' % base]) + '\n\n' + '\n\n'.join([shared[nm] for nm, _, _ in loc_text if nm in shared] + inv_text) + '\n'
             open(os.path.join(folder, 'Invariants.antt'), 'w').write(t)
             made.append('Invariants')
-        if ans_text or loc_text:
-            t = '\n'.join(header + uses + ['use %s.Goals as goal' % base]) + '\n\n' + '\n\n'.join(loc_text + ans_text) + '\n'
+        rest = ['\n'.join(comment + [body]) for nm, comment, body in loc_text if nm not in shared]
+        if ans_text or rest:
+            more = ['use %s.Invariants.{%s}' % (base, ', '.join(shared))] if shared else []
+            goals = ['use %s.Goals as goal' % base]
+            if self.imports:
+                goals.append('use %s.Goals.{%s}' % (base, ', '.join(sorted(self.imports))))
+            t = '\n'.join(header + uses + more + goals) + '\n\n' + '\n\n'.join(rest + ans_text) + '\n'
             open(os.path.join(folder, 'Answers.antt'), 'w').write(t)
             made.append('Answers')
         return made

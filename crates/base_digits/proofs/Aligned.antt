@@ -12,7 +12,7 @@ use Rattle.base_blocks.specs.Lists.{all}
 use Rattle.base_blocks.proofs.Lists.{and_both}
 use Rattle.base_digits.specs.Characters.{blank}
 use Rattle.base_digits.specs.Aligned.{right}
-use Rattle.base_digits.specs.Digits.{is_digit, value, decimal, digits, digits_of, last_digits}
+use Rattle.base_digits.specs.Digits.{is_digit, value, decimal, digits_of, last_digits}
 use Rattle.base_digits.proofs.Printing.{digits_length, digits_are, digits_value}
 use Rattle.base_digits.proofs.ShortNumbers.{of_one, of_two, of_three, of_four, enough, length_last, four_behind, sets_append}
 

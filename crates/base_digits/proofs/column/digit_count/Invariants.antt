@@ -1,12 +1,8 @@
 -- `digit_count` meets its contract: what is counted and what is left make up all digits. Assumes nothing.
-use borrow.Author.Rules.{rules}
 use mathlib.Core.Path.{◌≡◌}
 use Prim.Native.Nat.{◌+◌, ◌^◌, ◌<◌}
-use native.Mathlib.Omega.{arith}
 use lib.ListN.{length}
 use Rattle.base_digits.specs.Digits.{digits_of}
-use Rattle.base_digits.proofs.Printing.{digits_room}
-use Rattle.base_digits.proofs.Aligned.{count_one_lem, count_two, count_three, count_four, count_more}
 use Rattle.base_digits.proofs.column.digit_count.Given as goal
 
 abbrev pub invariant-loop-rest : goal.invariant-loop-rest

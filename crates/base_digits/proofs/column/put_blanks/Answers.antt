@@ -1,10 +1,8 @@
 -- `put_blanks` meets its contract: a copy of a run of one byte. Assumes nothing.
 use borrow.Author.Rules.{rules}
-use Prim.Native.Nat.{◌-◌, ◌≤◌}
-use mathlib.Core.Path.{◌≡◌}
 use native.Mathlib.Omega.{arith}
-use lib.ListN.{length, length-set, replicate}
-use lib.Seq.{paste, paste-zero}
+use lib.ListN.{length-set, replicate}
+use lib.Seq.{paste-zero}
 use Rattle.base_blocks.proofs.Blocks.{fill_step, fill_done}
 use Rattle.base_digits.specs.Characters.{blank}
 use Rattle.base_digits.proofs.column.put_blanks.Goals as goal

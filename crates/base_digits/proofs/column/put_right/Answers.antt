@@ -1,5 +1,4 @@
 -- `put_right` meets its contract: blanks, then the digits. Assumes nothing.
-use borrow.Author.Rules.{rules}
 use mathlib.Core.Path.{ap}
 use Prim.Native.Nat.{ℕ, ◌-◌}
 use Rattle.base_digits.specs.Digits.{digits_of}

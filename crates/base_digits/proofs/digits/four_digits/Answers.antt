@@ -1,5 +1,4 @@
 -- `four_digits` meets its contract. Assumes nothing.
-use borrow.Author.Rules.{rules}
 use native.Mathlib.Omega.{arith}
 use Rattle.base_digits.proofs.FourDigits.{tens_of, four_are}
 use Rattle.base_digits.proofs.digits.four_digits.Goals as goal

@@ -1,5 +1,4 @@
 -- `put_eight` meets its contract. Assumes nothing.
-use borrow.Author.Rules.{rules}
 use Rattle.base_digits.proofs.ShortNumbers.{eight_last}
 use Rattle.base_digits.proofs.digits.put_eight.Goals as goal
 

@@ -1,5 +1,4 @@
 -- `put_large` meets its contract: the digits of the number without its last eight are put, and then those. Assumes nothing.
-use borrow.Author.Rules.{rules}
 use native.Mathlib.Omega.{arith}
 use Prim.Native.Nat.{◌/◌}
 use Rattle.base_digits.proofs.ShortNumbers.{eight_behind, room_behind, put_behind}
@@ -10,7 +9,7 @@ put_eight-requires c =
     let n = c.args.n in
     let e = eight_behind n c.requires.0 (omega arith) in
     let s = c.put_short-end in
-    omega (arith, c.requires.1, s.ensures.0, s.auto.0, room_behind _ _ _ _ e)
+    omega (arith, c.requires.1, s.ensures.0, s.auto.out, room_behind _ _ _ _ e)
 
 pub overflow_add-result : goal.overflow_add-result
 overflow_add-result c =
@@ -32,7 +31,7 @@ put_eight-requires-2 c =
     let g = eight_behind (n / 100000000) c.if-high-lt100000000.false (omega arith) in
     let e = eight_behind n c.requires.0 (omega arith) in
     let s = c.put_small-end in
-    omega (arith, c.requires.1, s.ensures.0, s.auto.0, room_behind _ _ _ _ g)
+    omega (arith, c.requires.1, s.ensures.0, s.auto.out, room_behind _ _ _ _ g)
 
 pub overflow_add-end : goal.overflow_add-end
 overflow_add-end c =
@@ -50,7 +49,7 @@ put_eight-requires-3 c =
     let s = c.put_small-end in
     let t = c.put_eight-2 in
     let p = put_behind _ _ _ _ _ _ _ _ _ g s.ensures.0 s.ensures.1 t.ensures in
-    omega (arith, c.requires.1, p.0, s.auto.0, t.auto.0, room_behind _ _ _ _ e)
+    omega (arith, c.requires.1, p.0, s.auto.out, t.auto.out, room_behind _ _ _ _ e)
 
 pub overflow_add-result-2 : goal.overflow_add-result-2
 overflow_add-result-2 c =

@@ -1,5 +1,4 @@
 -- `put_number` meets its contract. Assumes nothing.
-use borrow.Author.Rules.{rules}
 use native.Mathlib.Omega.{arith}
 use Rattle.base_digits.proofs.ShortNumbers.{four_behind, room_behind, put_behind}
 use Rattle.base_digits.proofs.digits.put_number.Goals as goal
@@ -10,7 +9,7 @@ returns-then-n-lt10000 c = c.put_small.ensures
 pub put_four-requires : goal.put_four-requires
 put_four-requires c =
     let r = room_behind _ _ _ _ (four_behind c.args.n c.if-n-lt10000.false (omega (arith, c.if-n-lt100000000.true))) in
-    omega (arith, c.requires, c.put_small-end.ensures.0, c.put_small-end.auto.0, r)
+    omega (arith, c.requires, c.put_small-end.ensures.0, c.put_small-end.auto.out, r)
 
 pub overflow_add-result : goal.overflow_add-result
 overflow_add-result c =

@@ -1,5 +1,4 @@
 -- `put_short` meets its contract. Assumes nothing.
-use borrow.Author.Rules.{rules}
 use native.Mathlib.Omega.{arith}
 use Prim.Native.Nat.{◌/◌}
 use Rattle.base_digits.proofs.ShortNumbers.{room_four, four_behind, put_behind}
@@ -11,12 +10,12 @@ returns-then-n-lt10000 c = c.put_small.ensures
 pub put_four-requires : goal.put_four-requires
 put_four-requires c =
     let r = room_four (c.args.n / 10000) (omega (arith, c.requires.0)) in
-    omega (arith, c.requires.1, c.put_small-end.ensures.0, c.put_small-end.auto.0, r)
+    omega (arith, c.requires.1, c.put_small-end.ensures.0, c.put_small-end.auto.out, r)
 
 pub overflow_add-result : goal.overflow_add-result
 overflow_add-result c =
     let r = room_four (c.args.n / 10000) (omega (arith, c.requires.0)) in
-    omega (arith, c.requires.1, c.put_small-end.ensures.0, c.put_small-end.auto.0, r)
+    omega (arith, c.requires.1, c.put_small-end.ensures.0, c.put_small-end.auto.out, r)
 
 pub returns : goal.returns
 returns c =

@@ -1,10 +1,9 @@
 -- `put_text` meets its contract. After i turns the first i bytes are pasted in. Assumes nothing.
 use borrow.Author.Rules.{rules}
-use mathlib.Core.Path.{◌≡◌, refl}
-use Prim.Native.Nat.{◌-◌, ◌≤◌}
+use mathlib.Core.Path.{refl}
 use native.Mathlib.Omega.{arith}
-use lib.ListN.{length, length-set}
-use lib.Seq.{paste, paste-zero}
+use lib.ListN.{length-set}
+use lib.Seq.{paste-zero}
 use Rattle.base_blocks.proofs.Blocks.{copy_step, copy_done}
 use Rattle.base_digits.proofs.digits.put_text.Goals as goal
 

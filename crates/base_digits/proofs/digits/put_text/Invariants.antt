@@ -1,11 +1,8 @@
 -- `put_text` meets its contract. After i turns the first i bytes are pasted in. Assumes nothing.
-use borrow.Author.Rules.{rules}
-use mathlib.Core.Path.{◌≡◌, refl}
+use mathlib.Core.Path.{◌≡◌}
 use Prim.Native.Nat.{◌-◌, ◌≤◌}
-use native.Mathlib.Omega.{arith}
-use lib.ListN.{length, length-set}
-use lib.Seq.{paste, paste-zero}
-use Rattle.base_blocks.proofs.Blocks.{copy_step, copy_done}
+use lib.ListN.{length}
+use lib.Seq.{paste}
 use Rattle.base_digits.proofs.digits.put_text.Given as goal
 
 abbrev pub invariant-loop-i : goal.invariant-loop-i

@@ -2,12 +2,8 @@
 use mathlib.Core.Path.{refl}
 use Rattle.base_blocks.specs.Lists.{after, tests}
 use Rattle.grid_shapes.specs.Shapes.{is_shape}
-use Rattle.grid_shapes.proofs.shape.is_shape.Statement.{statement}
-use Rattle.grid_shapes.proofs.shape.is_shape.Tie as tie
+use Rattle.grid_shapes.proofs.shape.is_shape.Goals as goal
 
-returns : tie.Need-returns
+pub returns : goal.returns
 unfolding is_shape tests after
 returns c = refl
-
-pub is-shape-spec : {M : Type 1} → statement M
-is-shape-spec = tie.close (tie.spec returns)
