@@ -64,6 +64,14 @@ class Convert:
         for row, new in zip(d['places'], d['places_by_name']):
             self.places.setdefault(alike(row[0]), new)
             self.parent[alike(row[0])] = alike(row[1]) if row[1] else None
+        # what an arm binds: an old step and its path to the new path
+        self.arms = {}
+        for arm in d['arms']:
+            if arm:
+                for field, old, path in arm[2]:
+                    if path:
+                        self.arms.setdefault(alike(old), {})[tuple(path)] = arm[0] + '.' + field
+        self.answers = {}
         # lemmas over a place, by name: the old name of the place
         self.over = {}
         self.imports = set()
@@ -97,6 +105,11 @@ class Convert:
             return ['ensures', 'value']
         return rest
 
+    def is_part(self, way):
+        """Whether a way leads to what an arm binds, and not yet to one thing."""
+        paths = self.arms.get(alike(way[0]), {})
+        return any(len(way) - 1 < len(p) and tuple(way[1:]) == p[: len(way) - 1] for p in paths)
+
     def above(self, place, n):
         for _ in range(n):
             place = self.parent.get(place)
@@ -126,15 +139,16 @@ class Convert:
 
     def body(self, text, head, at=None, goal=None, aliases=()):
         """The body of an answer, with each place called c."""
-        aliases = {head, *aliases}
+        aliases = dict.fromkeys((head, *aliases), [])
         # lets that name a place
         again = True
-        let = re.compile(r"let\s+(%s)\s*=\s*(%s)((?:\.before)*)\s+in\b[ \n]*" % (W, W))
+        let = re.compile(r"let\s+(%s)\s*=\s*(%s)((?:\.%s)*)\s+in\b[ \n]*" % (W, W, W))
         while again:
             again = False
             for m in let.finditer(text):
-                if m[2] in aliases:
-                    aliases.add(m[1])
+                way = [x for x in m[3].split('.') if x and x != 'before']
+                if m[2] in aliases and (not way or self.is_part(aliases[m[2]] + way)):
+                    aliases[m[1]] = aliases[m[2]] + way
                     rest = text[m.end():]
                     # keeps the layout: the text behind the `in` takes the place of the let
                     if '\n' in m[0][m[0].rindex('in'):]:
@@ -143,6 +157,7 @@ class Convert:
                     again = True
                     break
         text = self.cite(text, aliases, at, goal)
+        text = re.sub(r"(?<![^\s(){},;\[\]])(%s)(?= c(?:\.before)*(?![^\s(){},;\[\].]))" % W, lambda m: self.answers.get(m[1], m[1]), text)
 
         def repl(m):
             whole = m[0]
@@ -154,7 +169,11 @@ class Convert:
             k = 1
             while k < len(parts) and parts[k] == 'before':
                 k += 1
-            rest = parts[k:]
+            rest = aliases[parts[0]] + parts[k:]
+            if rest and alike(rest[0]) in self.arms:
+                for path, new in self.arms[alike(rest[0])].items():
+                    if tuple(rest[1 : 1 + len(path)]) == path:
+                        return '.'.join(['c', new] + rest[1 + len(path) :])
             if not rest:
                 if k > 1 or len(parts) == 1:
                     if parts[0] != head or k > 1:
@@ -277,6 +296,13 @@ class Convert:
             inv_names[alike(o)] = (n, vs, changed[k] if k < len(changed) else None)
         inv_text, ans_text, loc_text = [], [], []
         for dcl in decls:
+            k = dcl[0] and re.search(r':\s*tie\.Need-(%s)' % W, ' '.join(dcl[3]))
+            if k:
+                old = k[1]
+                new = self.needs.get(alike(re.sub(r'^overflow-', '', old))) or self.needs.get(alike(old))
+                if new:
+                    self.answers[dcl[0]] = new
+        for dcl in decls:
             if dcl[0] is None:
                 k = re.match(r'module _ \((%s) : tie\.(%s)[^)]*\) where' % (W, W), dcl[3][0])
                 if k:
@@ -336,8 +362,9 @@ class Convert:
                 if not new:
                     if alike(old) in self.settled or re.match(r'same[-_]length', old) or re.match(r'shape', old):
                         continue
-                    self.warn.append('no goal for %s' % old)
-                    new = old
+                    if not all('\n'.join(e).split('=', 1)[1].strip() == 'search rules' for e in eqs):
+                        self.warn.append('no goal for %s' % old)
+                    continue
                 out = list(comment) + ['pub %s : goal.%s' % (new, new)] + (unf or [])
                 trivial = True
                 for e in eqs:

@@ -4,15 +4,8 @@ use Rattle.base_blocks.specs.Lists.{ceil_div}
 use Rattle.grid_axes.specs.EdgeTables.{edge_index}
 use Rattle.grid_axes.proofs.EdgeTables.{index_below}
 use borrow.Author.Rules.{rules}
-use Rattle.grid_axes.proofs.edges.edge_index.Statement.{statement}
-use Rattle.grid_axes.proofs.edges.edge_index.Tie as tie
+use Rattle.grid_axes.proofs.edges.edge_index.Goals as goal
 
-add-result : tie.Need-overflow-add-result
-add-result c = search rules
-
-returns : tie.Need-returns
+pub returns : goal.returns
 unfolding edge_index ceil_div
 returns c = (refl, index_below c.args.extent c.requires)
-
-pub edge-index-spec : {M : Type 1} → statement M
-edge-index-spec = tie.close (tie.spec add-result returns)
