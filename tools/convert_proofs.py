@@ -7,11 +7,13 @@ import json, os, re, sys
 
 W = r"[^\s(){}.;,@\"«»\[\]\\]+"
 names_file, crate = sys.argv[1], sys.argv[2].rstrip('/')
-only = sys.argv[3:]
+only = [a for a in sys.argv[3:] if not a.startswith('--')]
+generated = next((a[12:] for a in sys.argv if a.startswith('--generated=')), None)
 name = os.path.basename(os.path.abspath(crate))
 data = json.load(open(names_file))
 alike = lambda s: re.sub('[-_]', '', s)
-AUTO = {}
+SHORT = re.compile(r'\n?(?:  --[^\n]*\n)?  abbrev (%s) : tie\.[^\n]*\n  \1 = (%s)((?:\.before)+)[ ]*(?=\n|$)' % (W, W))
+ROOT = {'pre': 'requires', 'well-formed': 'well_formed', 'fits': 'ranges', 'type-inv': 'type_inv'}
 
 
 def flat(x):
@@ -72,6 +74,8 @@ class Convert:
                     if path:
                         self.arms.setdefault(alike(old), {})[tuple(path)] = arm[0] + '.' + field
         self.answers = {}
+        # names of a place above, as functions of a place
+        self.short = set()
         # lemmas over a place, by name: the old name of the place
         self.over = {}
         self.imports = set()
@@ -115,6 +119,25 @@ class Convert:
             place = self.parent.get(place)
         return place
 
+    def chain(self, at, to):
+        """The way from a place to one above, as the modules that Rattle writes have it."""
+        if not generated:
+            return None
+        base = os.path.join(generated, 'Rattle-%s-proofs' % name, self.path)
+        if at == to:
+            return ''
+        try:
+            view = open(os.path.join(base, 'Lts', 'View.antt'), encoding='utf-8').read()
+        except OSError:
+            return None
+        m = re.search(r'(?s)\bat-%s = λ c\. record \{(.*?)\}' % re.escape(at), view)
+        if not m:
+            return None
+        ways = dict(re.findall(r'(%s) = c((?:\.before)*)' % W, m[1]))
+        if to not in ways:
+            return None
+        return ways[to]
+
     def cite(self, text, aliases, at, goal):
         """Calls of lemmas over a place: the place is read off the goal."""
         def one(m):
@@ -125,6 +148,9 @@ class Convert:
             if goal:
                 self.imports.add(new)
                 return '%s (goal.at.%s c).%s' % (lemma, goal, new)
+            exact = self.chain(self.places.get(at), new)
+            if exact is not None:
+                return '%s c§§%s' % (lemma, exact)
             n, p = 0, at
             while p and p != self.over[lemma]:
                 p = self.parent.get(p)
@@ -142,6 +168,8 @@ class Convert:
         aliases = dict.fromkeys((head, *aliases), [])
         # lets that name a place
         again = True
+        if self.short:
+            text = re.sub(r"(=\s*)(?:%s) (%s(?:\.before)*)(?=\s+in\b)" % ('|'.join(map(re.escape, self.short)), W), r'\1\2', text)
         let = re.compile(r"let\s+(%s)\s*=\s*(%s)((?:\.%s)*)\s+in\b[ \n]*" % (W, W, W))
         while again:
             again = False
@@ -156,6 +184,10 @@ class Convert:
                     text = text[:m.start()] + rest.lstrip(' ')
                     again = True
                     break
+        if self.short:
+            place = r"(?:%s)(?:\.before)*" % '|'.join(map(re.escape, aliases))
+            text = re.sub(r"\((?:%s) %s\)" % ('|'.join(map(re.escape, self.short)), place), head, text)
+            text = re.sub(r"(?<![^\s(){},;\[\]])(?:%s) %s(?![^\s(){},;\[\]])" % ('|'.join(map(re.escape, self.short)), place), head, text)
         text = self.cite(text, aliases, at, goal)
         text = re.sub(r"(?<![^\s(){},;\[\]])(%s)(?= c(?:\.before)*(?![^\s(){},;\[\].]))" % W, lambda m: self.answers.get(m[1], m[1]), text)
 
@@ -183,6 +215,8 @@ class Convert:
             if got:
                 rest[0] = got[0][0]
                 rest[1:] = self.field(got, rest[1:], whole)
+            elif rest[0] in ROOT:
+                rest[0] = ROOT[rest[0]]
             elif rest[0] not in ('args', 'requires', 'ranges', 'lifetimes', 'well_formed', 'type_inv'):
                 self.warn.append('no label %s' % whole)
             return 'c.' + '.'.join(rest)
@@ -205,9 +239,13 @@ class Convert:
         if nm not in self.over:
             return '\n'.join(sig + (unf or []) + ['\n'.join(e) for e in eqs])
         k = re.search(r':\s*\((%s) : tie\.(%s)' % (W, W), s)
-        head, at = k[1], alike(k[2])
-        end = s.index(')', k.start())
-        out = [self.of_place(s[:end].replace('(%s :' % head, '(c :')) + self.body(s[end:], head, at)] + (unf or [])
+        if k:
+            head, at = k[1], alike(k[2])
+            end = s.index(')', k.start())
+            out = [self.of_place(s[:end].replace('(%s :' % head, '(c :')) + self.body(s[end:], head, at)] + (unf or [])
+        else:
+            head, at = 'c', self.over[nm]
+            out = [self.of_place(s)] + (unf or [])
         for e in eqs:
             lhs, rhs = '\n'.join(e).split('=', 1)
             params = lhs.split()
@@ -223,10 +261,11 @@ class Convert:
         text = '\n'.join(block[1:])
         aliases = set()
         # a place above, under a name
-        short = re.compile(r'\n?(?:  --[^\n]*\n)?  abbrev (%s) : tie\.[^\n]*\n  \1 = (%s)((?:\.before)+)[ ]*(?=\n|$)' % (W, W))
+        short = SHORT
         for m in short.finditer(text):
             if m[2] == head or m[2] in aliases:
                 aliases.add(m[1])
+                self.short.add(m[1])
                 self.over.pop(m[1], None)
         text = short.sub(lambda m: '' if m[1] in aliases else m[0], text)
         inner = {n: self.over.pop(n) for n in list(self.over) if re.search(r'(?m)^\s+(?:(?:pub|abbrev|unfoldable)\s+)*%s\s*:' % re.escape(n), text)}
@@ -295,6 +334,11 @@ class Convert:
         for k, (o, n, vs) in enumerate(loops_of(self.d)):
             inv_names[alike(o)] = (n, vs, changed[k] if k < len(changed) else None)
         inv_text, ans_text, loc_text = [], [], []
+        made_of = {}
+        for i, dcl in enumerate(decls):
+            if dcl[0] is None:
+                for m in SHORT.finditer('\n'.join(dcl[3][1:])):
+                    self.short.add(m[1])
         for dcl in decls:
             k = dcl[0] and re.search(r':\s*tie\.Need-(%s)' % W, ' '.join(dcl[3]))
             if k:
@@ -312,9 +356,9 @@ class Convert:
                             self.over[q[1]] = alike(k[2])
                 continue
             typ = ' '.join(x.strip() for x in dcl[3])
-            k = re.search(r':\s*\((%s) : tie\.(%s)' % (W, W), typ)
+            k = re.search(r':\s*(?:\(%s : )?tie\.(%s)' % (W, W), typ)
             if k and not re.search(r': tie\.(Need|invariant|decreases)-', typ):
-                self.over[dcl[0]] = alike(k[2])
+                self.over[dcl[0]] = alike(k[1])
         for dcl in decls:
             if dcl[0] is None:
                 loc_text.append((None, dcl[2], self.module(dcl[3])))

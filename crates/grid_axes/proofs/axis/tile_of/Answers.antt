@@ -1,5 +1,4 @@
 -- The tile of a texel, by the edge. Assumes nothing.
-use borrow.Author.Rules.{rules}
 use Prim.Native.Nat.{ℕ, ◌/◌}
 use mathlib.Core.Path.{refl, sym, ap}
 use Rattle.grid_axes.proofs.axis.tile_of.Goals as goal

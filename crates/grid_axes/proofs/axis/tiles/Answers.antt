@@ -1,5 +1,4 @@
 -- Tiles along an axis. Assumes nothing.
-use borrow.Author.Rules.{rules}
 use Rattle.base_blocks.specs.Lists.{ceil_div}
 use Rattle.grid_axes.specs.Axes.{tiles_of}
 use Rattle.grid_axes.proofs.axis.tiles.Goals as goal

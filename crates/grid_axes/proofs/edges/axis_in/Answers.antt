@@ -1,6 +1,5 @@
 -- An axis with its tile edge by a table. Assumes nothing.
 use Rattle.grid_axes.specs.EdgeTables.{axis_in}
-use borrow.Author.Rules.{rules}
 use Rattle.grid_axes.proofs.edges.axis_in.Goals as goal
 
 pub returns : goal.returns

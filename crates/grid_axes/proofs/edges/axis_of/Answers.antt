@@ -1,6 +1,5 @@
 -- An axis with its tile edge. Assumes nothing.
 use Rattle.grid_axes.specs.Axes.{axis_of}
-use borrow.Author.Rules.{rules}
 use Rattle.grid_axes.proofs.edges.axis_of.Goals as goal
 
 pub returns : goal.returns

@@ -3,7 +3,6 @@ use mathlib.Core.Path.{refl}
 use Rattle.base_blocks.specs.Lists.{ceil_div}
 use Rattle.grid_axes.specs.EdgeTables.{edge_index}
 use Rattle.grid_axes.proofs.EdgeTables.{index_below}
-use borrow.Author.Rules.{rules}
 use Rattle.grid_axes.proofs.edges.edge_index.Goals as goal
 
 pub returns : goal.returns

@@ -1,6 +1,5 @@
 -- One entry of a table, widened. Assumes nothing.
 use Rattle.grid_axes.specs.EdgeTables.{entry_of}
-use borrow.Author.Rules.{rules}
 use Rattle.grid_axes.proofs.edges.entry_of.Goals as goal
 
 pub returns : goal.returns

@@ -5,7 +5,6 @@ use Prim.Native.Nat.{ℕ}
 use Rattle.base_blocks.specs.Lists.{ceil_div, listed, all, tests, after}
 use Rattle.grid_axes.specs.EdgeTables.{is_edge_table, entry_of, edge_at}
 use Rattle.grid_axes.proofs.EdgeTables.{entry_read, block_cases}
-use borrow.Author.Rules.{rules}
 use Rattle.grid_axes.proofs.edges.table_edge.Goals as goal
 
 pub returns-then-block-eq1 : goal.returns-then-block-eq1

@@ -2,7 +2,6 @@
 use mathlib.Core.Path.{ap, ◌∙◌}
 use Rattle.grid_axes.specs.Axes.{tile_edge}
 use Rattle.grid_axes.specs.EdgeTables.{edge_at, edge_index}
-use borrow.Author.Rules.{rules}
 use Rattle.grid_axes.proofs.edges.tile_edge.Goals as goal
 
 pub returns : goal.returns
