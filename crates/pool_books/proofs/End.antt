@@ -21,20 +21,20 @@ answer_formed f p k (accepted a q) (formed o) = o
 
 between_formed : (p : PoolModel ℕ) → Formed p → (c : Between) → Formed (perform_between (λ (n : ℕ). n) (λ (id n : ℕ). n) p c).1
 unfolding perform_between
-between_formed p k (write_call id slice level r) = answer_formed _ p k _ ((closed p k).note-write id slice level r)
-between_formed p k (regen_call id) = answer_formed _ p k _ ((closed p k).note-mip-regeneration id)
-between_formed p k (pop_call settled) = answer_formed _ p k _ ((closed p k).pop-retired settled)
+between_formed p k (write_call id slice level r) = answer_formed _ p k _ ((closed p k).note_write_lem id slice level r)
+between_formed p k (regen_call id) = answer_formed _ p k _ ((closed p k).note_mip_regeneration_lem id)
+between_formed p k (pop_call settled) = answer_formed _ p k _ ((closed p k).pop_retired_lem settled)
 between_formed p k (park_call failed now) = answer_formed _ p k _ ((closed p k).parks failed now)
-between_formed p k (note_call allocated) = answer_formed _ p k _ ((closed p k).note-allocated allocated)
-between_formed p k (doomed_call buffer) = answer_formed _ p k _ ((closed p k).take-doomed buffer)
-between_formed p k (drain_call buffer) = answer_formed _ p k _ ((closed p k).drain-versions buffer)
+between_formed p k (note_call allocated) = answer_formed _ p k _ ((closed p k).note_allocated_lem allocated)
+between_formed p k (doomed_call buffer) = answer_formed _ p k _ ((closed p k).take_doomed_lem buffer)
+between_formed p k (drain_call buffer) = answer_formed _ p k _ ((closed p k).drain_versions_lem buffer)
 between_formed p k (trim_call now) = answer_formed _ p k _ ((closed p k).trims now)
-between_formed p k (forget_call id) = answer_formed _ p k _ ((closed p k).forget-texture id)
+between_formed p k (forget_call id) = answer_formed _ p k _ ((closed p k).forget_texture_lem id)
 
 pub call_formed : (p : PoolModel ℕ) → Formed p → (c : Call) → Formed (call p c).1
 unfolding perform
-call_formed p k (take_call id sh records seq) = answer_formed _ p k _ ((closed p k).take-spare id sh records seq)
-call_formed p k (plan_call id sh held u buffer) = answer_formed _ p k _ ((closed p k).preserve-plan id sh held u buffer)
+call_formed p k (take_call id sh records seq) = answer_formed _ p k _ ((closed p k).take_spare_lem id sh records seq)
+call_formed p k (plan_call id sh held u buffer) = answer_formed _ p k _ ((closed p k).preserve_plan_lem id sh held u buffer)
 call_formed p k (retire_call id view seq) = answer_formed _ p k _ ((closed p k).retires id view seq)
 call_formed p k (between c) = between_formed p k c
 

@@ -107,32 +107,32 @@ views_reply_lem buffer vs = ap views_handed (views_read vs buffer ∙ sym (map-i
 pub simulates : (l : Lent) (p : PoolModel ℕ) (c : LentCall) → Formed p → Represents l p → Simulates (lent_call l c) (call p (room_of c))
 unfolding lent_call perform perform_between take_spare_on retire_on note_write_on note_mip_regeneration_on pop_retired_on park_on note_allocated_on trim_on forget_texture_on preserve_plan_on take_doomed_on drain_versions_on
 simulates l p (take_call id shape records seq) k r =
-    says l p r (λ q. take_spare q id shape records seq) ((closed p k).take-spare id shape records seq) (take_spare_places p id shape records seq)
+    says l p r (λ q. take_spare q id shape records seq) ((closed p k).take_spare_lem id shape records seq) (take_spare_places p id shape records seq)
     taken_of taken_reply _ taken_reply_lem
 simulates l p (plan_call id shape held u buffer) k r =
-    fills l p r (λ q. preserve_plan q id shape held u (length buffer / copy_stride)) ((closed p k).preserve-plan id shape held u (length buffer / copy_stride))
+    fills l p r (λ q. preserve_plan q id shape held u (length buffer / copy_stride)) ((closed p k).preserve_plan_lem id shape held u (length buffer / copy_stride))
     (preserve_plan_places p id shape held u (length buffer / copy_stride)) copy_numbers buffer copies_filled _ (λ cs. ap copies_planned (copies_read cs buffer))
 simulates l p (retire_call id view seq) k r =
     does l p r (λ q. retire q id view seq) ((closed p k).retires id view seq) (retire_places p id view seq) (λ a. a)
 simulates l p (between (write_call id slice level rect)) k r =
-    does l p r (λ q. note_write q id slice level rect) ((closed p k).note-write id slice level rect) (note_write_places p id slice level rect) (λ a. a)
+    does l p r (λ q. note_write q id slice level rect) ((closed p k).note_write_lem id slice level rect) (note_write_places p id slice level rect) (λ a. a)
 simulates l p (between (regen_call id)) k r =
-    does l p r (λ q. note_mip_regeneration q id) ((closed p k).note-mip-regeneration id) (note_mip_regeneration_places p id) (λ a. a)
+    does l p r (λ q. note_mip_regeneration q id) ((closed p k).note_mip_regeneration_lem id) (note_mip_regeneration_places p id) (λ a. a)
 simulates l p (between (pop_call settled)) k r =
-    says l p r (λ q. pop_retired q settled) ((closed p k).pop-retired settled) (pop_retired_places p settled) popped_of popped_version_reply _ popped_reply_lem
+    says l p r (λ q. pop_retired q settled) ((closed p k).pop_retired_lem settled) (pop_retired_places p settled) popped_of popped_version_reply _ popped_reply_lem
 simulates l p (between (park_call failed now)) k r =
     does l p r (λ q. park q failed now) ((closed p k).parks failed now) (park_places p failed now) (λ a. a)
 simulates l p (between (note_call allocated)) k r =
-    does l p r (λ q. note_allocated q allocated) ((closed p k).note-allocated allocated) (note_allocated_places p allocated) (λ a. a)
+    does l p r (λ q. note_allocated q allocated) ((closed p k).note_allocated_lem allocated) (note_allocated_places p allocated) (λ a. a)
 simulates l p (between (doomed_call buffer)) k r =
-    fills l p r (λ q. take_doomed q (length buffer)) ((closed p k).take-doomed (length buffer)) (take_doomed_places p (length buffer))
+    fills l p r (λ q. take_doomed q (length buffer)) ((closed p k).take_doomed_lem (length buffer)) (take_doomed_places p (length buffer))
     view_numbers buffer views_filled _ (views_reply_lem buffer)
 simulates l p (between (drain_call buffer)) k r =
-    fills l p r (λ q. drain_versions q (length buffer)) ((closed p k).drain-versions (length buffer)) (drain_versions_places p (length buffer))
+    fills l p r (λ q. drain_versions q (length buffer)) ((closed p k).drain_versions_lem (length buffer)) (drain_versions_places p (length buffer))
     view_numbers buffer views_filled _ (views_reply_lem buffer)
 simulates l p (between (trim_call now)) k r = does l p r (λ q. trim q now) ((closed p k).trims now) (trim_places p now) (λ a. a)
 simulates l p (between (forget_call id)) k r =
-    does l p r (λ q. forget_texture q id) ((closed p k).forget-texture id) (forget_texture_places p id) (λ a. a)
+    does l p r (λ q. forget_texture q id) ((closed p k).forget_texture_lem id) (forget_texture_places p id) (λ a. a)
 
 -- ---- every list of them
 

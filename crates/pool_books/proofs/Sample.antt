@@ -42,18 +42,18 @@ formed_after f p (accepted a r) k (formed q) = q
 
 pub call_formed : (p : PoolModel ℕ) → Formed p → (c : Call) → Formed (call p c).1
 unfolding perform perform_between
-call_formed p k (take_call id shape records seq) = formed_after _ p _ k ((closed p k).take-spare id shape records seq)
-call_formed p k (plan_call id shape held u buffer) = formed_after _ p _ k ((closed p k).preserve-plan id shape held u buffer)
+call_formed p k (take_call id shape records seq) = formed_after _ p _ k ((closed p k).take_spare_lem id shape records seq)
+call_formed p k (plan_call id shape held u buffer) = formed_after _ p _ k ((closed p k).preserve_plan_lem id shape held u buffer)
 call_formed p k (retire_call id view seq) = formed_after _ p _ k ((closed p k).retires id view seq)
-call_formed p k (between (write_call id slice level r)) = formed_after _ p _ k ((closed p k).note-write id slice level r)
-call_formed p k (between (regen_call id)) = formed_after _ p _ k ((closed p k).note-mip-regeneration id)
-call_formed p k (between (pop_call settled)) = formed_after _ p _ k ((closed p k).pop-retired settled)
+call_formed p k (between (write_call id slice level r)) = formed_after _ p _ k ((closed p k).note_write_lem id slice level r)
+call_formed p k (between (regen_call id)) = formed_after _ p _ k ((closed p k).note_mip_regeneration_lem id)
+call_formed p k (between (pop_call settled)) = formed_after _ p _ k ((closed p k).pop_retired_lem settled)
 call_formed p k (between (park_call failed now)) = formed_after _ p _ k ((closed p k).parks failed now)
-call_formed p k (between (note_call allocated)) = formed_after _ p _ k ((closed p k).note-allocated allocated)
-call_formed p k (between (doomed_call buffer)) = formed_after _ p _ k ((closed p k).take-doomed buffer)
-call_formed p k (between (drain_call buffer)) = formed_after _ p _ k ((closed p k).drain-versions buffer)
+call_formed p k (between (note_call allocated)) = formed_after _ p _ k ((closed p k).note_allocated_lem allocated)
+call_formed p k (between (doomed_call buffer)) = formed_after _ p _ k ((closed p k).take_doomed_lem buffer)
+call_formed p k (between (drain_call buffer)) = formed_after _ p _ k ((closed p k).drain_versions_lem buffer)
 call_formed p k (between (trim_call now)) = formed_after _ p _ k ((closed p k).trims now)
-call_formed p k (between (forget_call id)) = formed_after _ p _ k ((closed p k).forget-texture id)
+call_formed p k (between (forget_call id)) = formed_after _ p _ k ((closed p k).forget_texture_lem id)
 
 calls_formed : (p : PoolModel ℕ) → Formed p → (cs : List Call) → Formed (reached p cs)
 unfolding reached

@@ -24,10 +24,10 @@ use Rattle.pool_rules.specs.RuleConstants.{grid_stride, most_places}
 -- no more stamps and numbers of `newest` are in use than pages can be lent for
 module _ (l : Lent) (f : Fits l) where
   pub stamps_few : l.pool.stamps ≤ page_stamps * most_places
-  stamps_few = omega (arith, f.stamps_counted, f.stamps, f.most-pages)
+  stamps_few = omega (arith, f.stamps_counted, f.stamps, f.most_pages_lem)
 
   pub grids_few : l.pool.grids ≤ grid_stride * (page_stamps * most_places)
-  grids_few = omega (arith, f.grids, f.newest, f.stamps, f.most-pages)
+  grids_few = omega (arith, f.grids, f.newest, f.stamps, f.most_pages_lem)
 
 module _ (l : Lent) (i : ℕ) (h : i < l.pool.tracked) where
   pub spares_in : (state_of l i).spares ≡ listed (spare_read l) (spares_to l.textures i) (texture_in l.textures i).spares

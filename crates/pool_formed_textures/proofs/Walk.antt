@@ -114,13 +114,13 @@ module _ (newest stamps s : List ℕ) (n grids used i grid stamp : ℕ) where
     pub grid_stop : (start last : ℕ) → start ≡ t.grid → last ≡ grid_end s n grids i → run_fits start grid last grids ≡ false → rest_fits i grid stamp ≡ false
     grid_stop start last es el f =
         fails_by (rest_fits i grid stamp) (run_fits start grid last grids) f
-        (λ p. let w = here p in run_passes start grid last grids (es ∙ w.grid-start) (omega (arith, el, w.grid-end)) (omega (arith, el, w.grid-end, w.grid_room)))
+        (λ p. let w = here p in run_passes start grid last grids (es ∙ w.grid_start_lem) (omega (arith, el, w.grid_end_lem)) (omega (arith, el, w.grid_end_lem, w.grid_room)))
 
     -- or its stamps
     pub stamp_stop : (start end : ℕ) → start ≡ t.stamp → end ≡ stamp_end s n used i → run_fits start stamp end used ≡ false → rest_fits i grid stamp ≡ false
     stamp_stop start end es ee f =
         fails_by (rest_fits i grid stamp) (run_fits start stamp end used) f
-        (λ p. let w = here p in run_passes start stamp end used (es ∙ w.stamp_start) (omega (arith, ee, w.stamp-end)) (omega (arith, ee, w.stamp-end, w.stamp_room)))
+        (λ p. let w = here p in run_passes start stamp end used (es ∙ w.stamp_start) (omega (arith, ee, w.stamp_end_lem)) (omega (arith, ee, w.stamp_end_lem, w.stamp_room)))
 
     module _ (u : TextureRecord) (e : u ≡ t) (first begin last end : ℕ) (ef : first ≡ t.grid) (eb : begin ≡ t.stamp) (el : last ≡ grid_end s n grids i) (ee : end ≡ stamp_end s n used i)
         (rg : run_fits first grid last grids ≡ true) (rs : run_fits begin stamp end used ≡ true) (few : grids ≤ length newest) (enough : used ≤ length stamps) where
@@ -151,7 +151,7 @@ module _ (newest stamps s : List ℕ) (n grids used i grid stamp : ℕ) where
           (λ p.
           let w = here p in
           part_fits newest stamps grid last stamp end (run_order first grid last grids rg) last_in (run_order begin stamp end used rs) end_in t.shape t.history
-          (el ∙ w.grid-end) (ee ∙ w.stamp-end) (sym holds_there ∙ w.holds))
+          (el ∙ w.grid_end_lem) (ee ∙ w.stamp_end_lem) (sym holds_there ∙ w.holds))
 
       -- or does, and those behind it decide
       pub walk_more : fits u ≡ true → rest_fits i grid stamp ≡ rest_fits (i + 1) last end

@@ -229,7 +229,7 @@ module _ (l : Lent) (p : PoolModel ℕ) (fits : Fits l) (formed : Formed p) (sam
         ∙ ap₂ (λ (n : Places) (k : ℕ). grid_stride * min (most_grids * n.textures) k) (sym places_kept) (sym stamps_kept);
     least = omega (arith, fits.least, versions_kept);
     most = omega (arith, fits.most, versions_kept);
-    most_pages_lem = omega (arith, fits.most-pages, ap (λ (n : Places). n.pages) places_kept);
+    most_pages_lem = omega (arith, fits.most_pages_lem, ap (λ (n : Places). n.pages) places_kept);
     tracked = omega (arith, texture_room, ap (λ (n : Places). n.textures) places_kept);
     head = ring_head;
     first = ring_first;

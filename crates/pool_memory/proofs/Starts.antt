@@ -212,9 +212,9 @@ module _ (l : Lent) (f : Fits l) where
             let n = ap first_stamp_in there ∙ stamp_held_at l f.starts (j + r) inside in
             record {
               grid_less = omega (arith, g, a, grid_order l f j (j + r) (omega arith));
-              grid_more = omega (arith, g, few, grid_bound l f (j + r), f.grids, f.newest, f.stamps, f.most-pages);
+              grid_more = omega (arith, g, few, grid_bound l f (j + r), f.grids, f.newest, f.stamps, f.most_pages_lem);
               stamp_less = omega (arith, n, c, stamp_order l f j (j + r) (omega arith));
-              stamp_more = omega (arith, n, less, stamp_bound l f (j + r), f.stamps_counted, f.stamps, f.most-pages);
+              stamp_more = omega (arith, n, less, stamp_bound l f (j + r), f.stamps_counted, f.stamps, f.most_pages_lem);
             }
 
   -- ---- one texture changed, put in or taken out: the slice before those behind are moved

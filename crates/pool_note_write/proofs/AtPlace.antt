@@ -73,7 +73,7 @@ module _ (textures newest stamps : List ℕ) (i : ℕ) (h : HistoryAt textures n
   shape_read = ap (λ (x : TextureRecord). is_shape x.shape) read ∙ h.shape
 
   pub stamps_read : t.stamp + history_size t.shape ≤ length stamps
-  stamps_read = subst (λ (x : TextureRecord). x.stamp + history_size x.shape ≤ length stamps) (sym read) h.stamps-in
+  stamps_read = subst (λ (x : TextureRecord). x.stamp + history_size x.shape ≤ length stamps) (sym read) h.stamps_in_lem
 
   pub grids_read : t.grid + grid_stride * grid_count t.shape ≤ length newest
   grids_read = subst (λ (x : TextureRecord). x.grid + grid_stride * grid_count x.shape ≤ length newest) (sym read) h.grids_in

@@ -40,7 +40,7 @@ module _ (textures newest stamps : List ℕ) (n : ℕ) (used : Used) (i : ℕ) (
   pub run_in : (run.grid + run.grids ≤ used.grids) × (used.grids ≤ length newest) × (run.stamp + run.stamps ≤ used.stamps) × (used.stamps ≤ length stamps)
   run_in = (
     subst (λ (r : HistoryRun). r.grid + r.grids ≤ used.grids) (sym e) run_within.0,
-    d.grids-fit,
+    d.grids_fit_lem,
     subst (λ (r : HistoryRun). r.stamp + r.stamps ≤ used.stamps) (sym e) run_within.1,
     d.stamps_fit,
   )

@@ -90,13 +90,13 @@ module _ {W : Type 0} (p : PoolModel W) (id slice level held : ℕ) where
   unfolding IsDirtyTile
   tile_answerable column row a =
       there a.texture a.history a.tracked a.recorded (inside a.texture a.in_slices a.in_levels) (At column row)
-      (record { inside = (a.in-columns, a.in_rows); above = a.above })
+      (record { inside = (a.in_columns_lem, a.in_rows); above = a.above })
 
   pub tile_clean : IsDirtyTileOf p id slice level held NoTile → (column row : ℕ) → TileAbove p id slice level held column row → ⊥
   unfolding IsDirtyTile
   tile_clean q column row a =
       let below = from_there a.texture a.history a.tracked a.recorded (inside a.texture a.in_slices a.in_levels) NoTile q
-      column row a.in-columns a.in_rows in
+      column row a.in_columns_lem a.in_rows in
       omega (arith, below, a.above)
 
   -- ---- none, where there is no such tile

@@ -42,7 +42,7 @@ module _ (pool : Counts) (textures : List ℕ) (i : ℕ) where
 
 module _ (l : Lent) (f : Fits l) where
   pub stamps_most : length l.stamps ≤ most_stamps
-  stamps_most = omega (arith, f.stamps, f.most-pages)
+  stamps_most = omega (arith, f.stamps, f.most_pages_lem)
 
   pub newest_most : length l.newest ≤ most_newest
   newest_most = omega (arith, f.newest, stamps_most)

@@ -150,7 +150,7 @@ module _ (l : Lent) (f : Fits l) (now i : ℕ) (w : Pass) (T D S N P : List ℕ)
     tracked = s.tracked j;
     kept = (s.kept ∙ sym (count_spares (kept_to l now i))) j;
     grids = s.grids j;
-    stamps = s.stamps-used j;
+    stamps = s.stamps_used_lem j;
     head = sym (head_stays l (trimmed l now i) f.head (omega (arith, hand_model l f.hand))) j;
     popped = sym (hand_model l f.hand) j;
     queued = sym (queued_model l) j;

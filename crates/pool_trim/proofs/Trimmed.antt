@@ -301,7 +301,7 @@ module _ (l : Lent) (now i : ℕ) (w : Pass) (T D S N P : List ℕ) (f : Fits l)
           (omega (arith, tracked_on, gone, s.tracked, ap length same))
           (omega (arith, kept_on, empty, s.kept, ap (λ (ts : List (VersionState ℕ)). length (every_spare ts)) same))
           (omega (arith, grids_on, no_grids, s.grids, ap (total newest_used) same))
-          (omega (arith, stamps_on_lem, no_stamps, s.stamps-used, ap (total stamps_used) same))
+          (omega (arith, stamps_on_lem, no_stamps, s.stamps_used_lem, ap (total stamps_used) same))
           (eT
           ∙ ap (λ (c : Bool). cond c T (sets T (texture_stride * w.tracked) (write_texture (looked_record look w (texture_in T i)))))
           (eq-eqb look.staying 0 gone)
@@ -334,13 +334,13 @@ module _ (l : Lent) (now i : ℕ) (w : Pass) (T D S N P : List ℕ) (f : Fits l)
           (omega (arith, tracked_on, one, s.tracked, tracked_stays l now i h f b))
           (omega (arith, kept_on, own_is, aged_is, s.kept, kept_stay l now i h f b))
           (omega (arith, grids_on, grids, s.grids, grids_stay l now i h f b))
-          (omega (arith, stamps_on_lem, stamps, s.stamps-used, stamps_used_stay l now i h f b))
+          (omega (arith, stamps_on_lem, stamps, s.stamps_used_lem, stamps_used_stay l now i h f b))
           (eT
           ∙ ap (λ (c : Bool). cond c T (sets T (texture_stride * w.tracked) (write_texture (looked_record look w (texture_in T i)))))
           (ne_eqb look.staying 0 (λ q. let y : ⊥ = omega (arith, one, q) in y))
           ∙ ap₂ (λ (x : List ℕ) (r : TextureRecord). sets x (texture_stride * w.tracked) (write_texture r)) s.textures
           (ap₂ (λ (x : Look) (t : TextureRecord). looked_record x w t) here record_now)
-          ∙ textures_stay l now i h f b w s.tracked s.grids s.stamps-used (omega (arith, s.fewer, textures_fit_lem l f)))
+          ∙ textures_stay l now i h f b w s.tracked s.grids s.stamps_used_lem (omega (arith, s.fewer, textures_fit_lem l f)))
           (eS
           ∙ ap (λ (x : List ℕ). moved x (spare_stride * w.kept) (spare_stride * (w.first + look.aged)) (spare_stride * (look.own - look.aged))) s.spares
           ∙ ap₂ (λ (m n : ℕ). moved (spares_after p l) (spare_stride * w.kept) m n)
