@@ -1,7 +1,7 @@
 -- What the dirty-tile query may answer: a tile that is there and stamped above held, or none where there is no such tile. Assumes nothing.
 use Prim.Native.Nat.{ℕ, ◌<◌, ◌≤◌}
 use mathlib.Core.Path.{◌≡◌, refl, sym, ap, ◌∙◌, subst}
-use mathlib.Core.Bool.{Bool, true, false, cond, ◌&&◌}
+use mathlib.Core.Bool.{Bool, true, false, cond}
 use mathlib.Core.Option.{Option, none, some, some-injective, some-ne-none}
 use native.Mathlib.Omega.{arith}
 use lib.Dec.{ltb}
@@ -10,11 +10,11 @@ use Rattle.base_blocks.proofs.Lists.{and_both}
 use Rattle.grid_shapes.specs.Shapes.{slices_of}
 use Rattle.grid_stamps.specs.declared.dirty.DirtyTile.{DirtyTile}
 use Rattle.grid_stamps.specs.declared.dirty.DirtyTile.TheVariants.{At, NoTile}
-use Rattle.grid_stamps.specs.Grids.{columns_of, rows_of, stamp_of, tiling_of, IsDirtyTile}
+use Rattle.grid_stamps.specs.Grids.{tiling_of, IsDirtyTile}
 use Rattle.pool_rules.specs.Model.{WriteHistory, VersionState, PoolModel, find}
 use Rattle.pool_rules.specs.Histories.{in_shape, grid_at}
 use Rattle.pool_rules.specs.NoteWrite.{DirtyTileIn, DirtyTileFound, IsDirtyTileOf}
-use Rattle.pool_rules.specs.DirtyTiles.{TileAbove, DirtyTilePinned, DirtyTilesPinned}
+use Rattle.pool_rules.specs.DirtyTiles.{TileAbove, DirtyTilesPinned}
 
 abbrev NoneOnly : DirtyTile → Type 0
 NoneOnly (At column row) = ⊥

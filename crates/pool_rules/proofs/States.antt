@@ -97,7 +97,7 @@ module _ {W : Type 0} where
       → All (λ (u : VersionState W). u.id ≡ id → u ≡ t) ts
   unfolding find
   find_only id t [] up e = nil
-  find_only id t (u ∷ us) (more l up) e = go (eqb u.id id) refl (find_only id t us up)
+  find_only {lo = lo} id t (u ∷ us) (more l up) e = go (eqb u.id id) refl (find_only {lo = suc u.id} id t us up)
     where
       far : (a b c : ℕ) → suc a ≤ b → b ≡ c → a ≡ c → ⊥
       far a b c h p q = omega arith
@@ -161,7 +161,7 @@ module _ {W : Type 0} where
           → total f (change id g ts) + f t ≡ total f ts + f (g t)
       unfolding change find total
       total_change t [] up e = absurd (none-ne-some t e)
-      total_change t (u ∷ us) (more l up) e = go (eqb u.id id) refl (total_change t us up)
+      total_change {lo = lo} t (u ∷ us) (more l up) e = go (eqb u.id id) refl (total_change {lo = suc u.id} t us up)
         where
           far : (a b c : ℕ) → suc a ≤ b → a ≡ c → b ≡ c → ⊥
           far a b c h p q = omega arith

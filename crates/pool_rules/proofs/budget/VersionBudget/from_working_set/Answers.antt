@@ -1,6 +1,5 @@
 -- `VersionBudget::from_working_set` meets its contract: each branch is the budget's of its case. Assumes nothing.
 use native.Mathlib.Omega.{arith}
-use borrow.Author.Rules.{rules}
 use Rattle.pool_rules.proofs.Budgets.{none_recommended, some_recommended}
 use Rattle.pool_rules.proofs.budget.VersionBudget.from_working_set.Goals as goal
 
