@@ -1,5 +1,5 @@
 -- Laws of the number that eight digits are, worked out by twos, fours and eights. Assumes nothing.
-use mathlib.Core.Path.{◌≡◌, refl, sym, ap, ap₂, ◌∙◌, subst}
+use mathlib.Core.Path.{◌≡◌, refl, sym, ap, ◌∙◌, subst}
 use mathlib.Core.List.{List, [], ◌∷◌, map}
 use Prim.Native.Nat.{ℕ, zero, suc, ◌+◌, ◌*◌, ◌-◌, ◌/◌, ◌%◌, ◌^◌, ◌≤◌, ◌<◌}
 use native.Mathlib.Omega.{arith}
@@ -10,7 +10,7 @@ use Rattle.base_blocks.proofs.Scans.{from, from_all, from_step, from_none}
 use Rattle.base_digits.specs.Packed.{packed}
 use Rattle.event_text.specs.Eight.{twos_of, fours_of, value_of}
 use Rattle.base_digits.specs.Digits.{value, decimal}
-use Rattle.base_digits.proofs.Lanes.{Below, halves}
+use Rattle.base_digits.proofs.Lanes.{halves}
 
 twos_are : (a b c d e f g h : ℕ) → a ≤ 9 → b ≤ 9 → c ≤ 9 → d ≤ 9 → e ≤ 9 → f ≤ 9 → g ≤ 9 → h ≤ 9
     → twos_of (packed 8 (a ∷ b ∷ c ∷ d ∷ e ∷ f ∷ g ∷ h ∷ [])) ≡ packed 16 ((a * 10 + b) ∷ (c * 10 + d) ∷ (e * 10 + f) ∷ (g * 10 + h) ∷ [])
