@@ -41,7 +41,7 @@ pub ascending_passes : {lo : ℕ} {ts : List (VersionState ℕ)} → Ascending l
 unfolding ascending
 ascending_passes end = refl
 ascending_passes (more h end) = refl
-ascending_passes (more {t = t} h (more {t = u} k r)) = ap₂ (λ (a b : Bool). a && b) (lt-ltb t.id u.id k) (ascending_passes (more k r))
+ascending_passes (more {t = t} h (more {t = u} k r)) = ap₂ (λ (a b : Bool). a && b) (lt-ltb t.id u.id k) (ascending_passes (more {t = u} k r))
 
 -- a list of tests passes where all of them do
 pub every : {bs : List Bool} → All (λ (b : Bool). b ≡ true) bs → tests bs ≡ true

@@ -1,7 +1,7 @@
 -- `newest` and the stamps after a texture's history is renewed, dropped, put in or taken out: what stands behind it moves. Assumes nothing.
 use mathlib.Core.Path.{◌≡◌, ap}
 use mathlib.Core.Option.{Option, none}
-use mathlib.Core.List.{[], ◌∷◌, map, flat_map}
+use mathlib.Core.List.{[], ◌∷◌, flat_map}
 use Prim.Native.Nat.{ℕ, suc, ◌+◌, ◌-◌, ◌≤◌, ◌<◌}
 use lib.ListN.{length, get_or, set}
 use lib.Seq.{sets}

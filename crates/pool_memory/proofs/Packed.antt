@@ -6,7 +6,7 @@ use Prim.Native.Nat.{ℕ, suc, ◌+◌, ◌*◌, ◌-◌, ◌≤◌, ◌<◌}
 use native.Mathlib.Nat.{mul-le-mul_left, mul-add}
 use native.Mathlib.Omega.{arith}
 use lib.ListN.{length, take, drop, get_or, length-append, length-drop}
-use lib.Seq.{sets, sets-eq, take_at, take-suc, length-take-le, take-append_seam}
+use lib.Seq.{sets, sets-eq, take_at, take-suc, take-append_seam}
 use Rattle.base_blocks.specs.Lists.{over}
 use Rattle.base_blocks.specs.Blocks.{moved}
 use Rattle.base_blocks.proofs.Lists.{drop_over}

@@ -2,11 +2,11 @@
 use mathlib.Core.Path.{◌≡◌, refl, sym, ap, ap₂, ◌∙◌}
 use mathlib.Core.Bool.{cond}
 use mathlib.Core.Option.{Option, some}
-use mathlib.Core.List.{List, [], ◌++◌, map, flat_map, append_assoc}
+use mathlib.Core.List.{List, [], ◌++◌, flat_map, append_assoc}
 use Prim.Native.Nat.{ℕ, zero, suc, ◌+◌, ◌*◌, ◌≤◌, ◌<◌}
 use native.Mathlib.Nat.{zero-add, mul_comm, mul-add-mod_self_right, mod-eq_of_lt}
 use native.Mathlib.Omega.{arith}
-use lib.ListN.{length, take, drop, get_or, set, length-set, length-append, length-drop, length-map}
+use lib.ListN.{length, take, drop, get_or, set, length-set, length-append, length-drop}
 use lib.Seq.{sets, sets-eq, length-take-le}
 use Rattle.base_blocks.specs.Lists.{total}
 use Rattle.base_blocks.proofs.Listed.{length_listed, get_or_listed}
@@ -27,7 +27,7 @@ use Rattle.pool_memory.specs.Reading.{tracked_records, grid_read, history_read, 
 use Rattle.pool_memory.specs.Writing.{grids_of, newest_from, newest_of, newest_after, stamps_of, stamps_after}
 use Rattle.pool_memory.proofs.Fits.{Fits}
 use Rattle.pool_memory.proofs.NewestNumbers.{length_newest_from, newest_set}
-use Rattle.pool_memory.proofs.Parts.{map_set, up_to, flat_set, total_next}
+use Rattle.pool_memory.proofs.Parts.{up_to, flat_set, total_next}
 use Rattle.pool_memory.proofs.Rewritten.{sets_self, set_sets, sets_part}
 use Rattle.pool_memory.proofs.Runs.{first_spare, first_grid, first_stamp, state_of, grids_state, stamps_used_state, grid_held_at, stamp_held_at}
 use Rattle.pool_memory.proofs.Packings.{newest_packing, stamps_packing, one_packed}
