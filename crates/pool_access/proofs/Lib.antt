@@ -4,4 +4,4 @@ pub mod Levels
 pub mod Moves
 pub mod Ids
 pub mod Axes
-pub mod SliceTilings
+pub mod SliceTilingLaws

@@ -8,7 +8,7 @@ use lib.Dec.{eqb}
 use Rattle.base_blocks.proofs.Lists.{either}
 use Rattle.grid_shapes.specs.declared.shape.VersionShape.{VersionShape}
 use Rattle.grid_shapes.specs.Shapes.{same_shape}
-use Rattle.pool_rules.specs.Model.{Spare, Places, Out, refused, accepted, PreserveCopy, UploadFootprint}
+use Rattle.pool_rules.specs.Model.{Spare, Out, refused, accepted, PreserveCopy, UploadFootprint}
 use Rattle.pool_rules.specs.TakeSpare.{take_spare}
 use Rattle.pool_rules.specs.PreservePlan.{preserve_plan}
 use Rattle.pool_rules.specs.Retire.{retire}
@@ -20,7 +20,7 @@ use Rattle.pool_rules.specs.TakeDoomed.{take_doomed}
 use Rattle.pool_rules.specs.DrainVersions.{drain_versions}
 use Rattle.pool_rules.specs.Trim.{trim}
 use Rattle.pool_rules.specs.ForgetTexture.{forget_texture}
-use Rattle.pool_books.specs.VersionBook.{Retired, Book, Books, put, change_book, new_book, start_book, writes_whole, book_write, book_regeneration, not_copied, skipped, renamed, carried_by}
+use Rattle.pool_books.specs.VersionBook.{Retired, Book, Books, put, change_book, new_book, start_book, writes_whole, book_write, book_regeneration, skipped, renamed, carried_by}
 use Rattle.pool_books.specs.Lists.{Between, write_call, regen_call, pop_call, park_call, note_call, doomed_call, drain_call, trim_call, forget_call, Call, take_call, plan_call, retire_call, between, Phase, idle, taken, planned}
 use Rattle.pool_books.specs.Lists.{State, after_take, plan_in, after_plan, rename_in, after_retire, just_pool, marking, ready_between, step_between, step, run, Renames, start}
 use Rattle.pool_books.specs.Demand3.{Agrees}

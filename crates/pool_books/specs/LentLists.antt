@@ -5,15 +5,12 @@
 --
 -- The stores are numbers here, and each call is what its contract says of them. An answer is what a caller reads: the outcome and the values, or,
 -- of the three calls that fill a buffer, as many entries of the buffer at exit as the call says.
-use Rattle.std.specs.Prelude.{ℕ, ◌/◌, ◌≡◌, Bool, true, cond, List, map, eqb, length, take, get_or}
+use Rattle.std.specs.Prelude.{ℕ, ◌/◌, ◌≡◌, true, cond, List, map, eqb, length, take, get_or}
 use Rattle.std.proofs.Math.Option.{Option, none, some}
 use Rattle.base_tables.specs.Records.{table}
-use Rattle.grid_shapes.specs.declared.shape.VersionShape.{VersionShape}
-use Rattle.grid_rects.specs.declared.rect.TexelRect.{TexelRect}
 use Rattle.grid_rects.specs.declared.rect.Region.TheVariants.{Whole, Part}
-use Rattle.pool_rules.specs.declared.held.Held.{Held}
 use Rattle.pool_rules.specs.declared.held.Held.TheVariants.{Unknown}
-use Rattle.pool_rules.specs.Model.{PreserveCopy, UploadFootprint}
+use Rattle.pool_rules.specs.Model.{PreserveCopy}
 use Rattle.pool_memory.specs.Lent.{Lent, lent}
 use Rattle.pool_memory.specs.Reading.{model_of}
 use Rattle.pool_memory.specs.IsPool.{is_pool, sizes_fit}

@@ -10,7 +10,7 @@ use Rattle.grid_shapes.proofs.Shapes.{shape_bounds}
 use Rattle.pool_rules.specs.Model.{grid_count}
 use Rattle.pool_rules.specs.RuleConstants.{grid_stride}
 use Rattle.pool_records.specs.Tilings.{fresh_from}
-use Rattle.pool_access.proofs.SliceTilings.{number_made, number_bound}
+use Rattle.pool_access.proofs.SliceTilingLaws.{number_made, number_bound}
 use Rattle.pool_tracking.proofs.FreshNumbers.{none_written, one_written}
 use borrow.Author.Rules.{rules}
 use Rattle.pool_tracking.proofs.tilings.put_tilings.Statement.{statement}

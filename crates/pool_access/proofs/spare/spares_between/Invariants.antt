@@ -1,0 +1,26 @@
+-- `spares_between` meets its contract: the sum so far is what the records up to j have beyond the first `from`. Assumes nothing.
+use borrow.Author.Rules.{rules}
+use mathlib.Core.Path.{◌≡◌, ap, ◌∙◌}
+use mathlib.Core.List.{List}
+use Prim.Native.Nat.{ℕ, ◌+◌, ◌-◌, ◌≤◌}
+use native.Mathlib.Nat.{add-zero}
+use native.Mathlib.Omega.{arith}
+use Rattle.base_blocks.specs.Lists.{total}
+use Rattle.pool_records.specs.declared.texture.TextureRecord.{TextureRecord}
+use Rattle.pool_records.specs.Texture.{read_texture, textures_in}
+use Rattle.pool_access.proofs.Totals.{total_next, total_with}
+use Rattle.pool_access.proofs.Fields.{spares_number}
+use Rattle.pool_records.specs.RecordConstants.{texture_stride}
+use Rattle.pool_access.proofs.spare.spares_between.Given as goal
+
+abbrev pub spares_of : TextureRecord → ℕ
+spares_of t = t.spares
+
+abbrev pub sum_to : List ℕ → ℕ → ℕ
+sum_to s j = total spares_of (textures_in j s)
+
+abbrev pub invariant-loop-j : goal.invariant-loop-j
+invariant-loop-j l = (l.j ≤ l.to) × (sum_to l.textures l.from + l.sum ≡ sum_to l.textures l.j)
+
+abbrev pub decreases-loop-j : goal.decreases-loop-j
+decreases-loop-j l = l.to - l.j

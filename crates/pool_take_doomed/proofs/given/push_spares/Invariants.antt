@@ -1,0 +1,21 @@
+-- `push_spares` meets its contract: one spare after the other goes to the ring's end. Assumes nothing.
+use mathlib.Core.Path.{◌≡◌, ap, ◌∙◌}
+use mathlib.Core.List.{[], ◌∷◌}
+use Prim.Native.Nat.{◌+◌, ◌-◌, ◌*◌, ◌≤◌}
+use native.Mathlib.Omega.{arith}
+use lib.ListN.{length, get_or}
+use lib.Seq.{sets}
+use borrow.Author.Rules.{rules}
+use Rattle.base_tables.specs.Rings.{place_of, laid}
+use Rattle.pool_records.specs.Doomed.{write_doomed}
+use Rattle.pool_take_doomed.specs.Given.{given_records}
+use Rattle.pool_take_doomed.proofs.Pushed.{given_none, given_more}
+use Rattle.pool_records.specs.RecordConstants.{doomed_stride, spare_stride}
+use Rattle.pool_take_doomed.proofs.given.push_spares.Given as goal
+
+abbrev pub invariant-loop-j : goal.invariant-loop-j
+invariant-loop-j l =
+    (l.j ≤ l.k) × (length l.doomed ≡ length l.initial.doomed) × (l.doomed ≡ laid doomed_stride write_doomed l.cap l.first l.n (given_records l.spares l.bytes l.from l.j) l.initial.doomed)
+
+abbrev pub decreases-loop-j : goal.decreases-loop-j
+decreases-loop-j l = l.k - l.j
