@@ -23,8 +23,8 @@ pub fn call_all(
     phase: usize,
     seq: u64,
 ) -> Called
-    requires { is_pool (lent_by pool book textures retiring doomed spares newest stamps) ≡ true }
-    ensures { is_pool (at_exit result.pool result.book textures retiring doomed spares newest stamps) ≡ true }
+    requires { is_pool (lent_by pool book textures.old retiring.old doomed.old spares.old newest.old stamps.old) ≡ true }
+    ensures { is_pool (at_exit result.pool result.book textures.new retiring.new doomed.new spares.new newest.new stamps.new) ≡ true }
 {
     let shape = bench_shape(task.textures, task.levels);
     let n = calls_of(phase, task.textures, seq);

@@ -14,7 +14,7 @@ pub fn open_work(
     newest: &[u64],
     stamps: &[u64],
 ) -> OpenAnswer
-    ensures { result.outcome ≡ 0 → is_pool (at_exit result.pool result.book textures retiring doomed spares newest stamps) ≡ true }
+    ensures { result.outcome ≡ 0 → is_pool (at_exit result.pool result.book textures.now retiring.now doomed.now spares.now newest.now stamps.now) ≡ true }
 {
     open(
         17179869184,

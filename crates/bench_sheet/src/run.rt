@@ -32,7 +32,7 @@ fn time_sheets(
     known: u64,
     tested: u64,
 )
-    requires { is_pool (lent_by pool book textures retiring doomed spares newest stamps) ≡ true }
+    requires { is_pool (lent_by pool book textures.now retiring.now doomed.now spares.now newest.now stamps.now) ≡ true }
 {
     let start = reading();
     let known_bytes = print_known(

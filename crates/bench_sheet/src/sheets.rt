@@ -29,7 +29,7 @@ pub fn print_known(
     page: &mut [u8],
     k: u64,
 ) -> u64
-    requires { is_pool (lent_by pool book textures retiring doomed spares newest stamps) ≡ true }
+    requires { is_pool (lent_by pool book textures.now retiring.now doomed.now spares.now newest.now stamps.now) ≡ true }
 {
     let mut sum = 0;
     let mut i = 0;

@@ -25,15 +25,15 @@ carried_of f s buf = record { state = s; number = f.number; line = held_line f b
 abbrev pub carried_at_entry : FeedState → Slice → Slice → Slice → Slice → Slice → Slice → Slice → Carried
 carried_at_entry f buf textures retiring doomed spares newest stamps =
     carried_of f
-    (state_of f.session textures.entry.now retiring.entry.now doomed.entry.now spares.entry.now newest.entry.now stamps.entry.now)
-    buf.entry.now
+    (state_of f.session textures retiring doomed spares newest stamps)
+    buf
 
 -- and as they are when it returns
 abbrev pub carried_at_exit : FeedState → Slice → Slice → Slice → Slice → Slice → Slice → Slice → Carried
 carried_at_exit f buf textures retiring doomed spares newest stamps =
     carried_of f
-    (state_of f.session textures.exit.now retiring.exit.now doomed.exit.now spares.exit.now newest.exit.now stamps.exit.now)
-    buf.exit.now
+    (state_of f.session textures retiring doomed spares newest stamps)
+    buf
 
 -- ---- what is to be fed
 

@@ -28,7 +28,7 @@ fn lends(
     copies: &[u64],
     views: &[u64],
 )
-    requires { Lends 8 64 6 90 textures retiring doomed spares newest stamps copies views }
+    requires { Lends 8 64 6 90 textures.now retiring.now doomed.now spares.now newest.now stamps.now copies.now views.now }
 {}
 
 fn main() {

@@ -28,7 +28,7 @@ fn lends(
     copies: &[u64],
     views: &[u64],
 )
-    requires { Lends 64 2000 256 300 textures retiring doomed spares newest stamps copies views }
+    requires { Lends 64 2000 256 300 textures.now retiring.now doomed.now spares.now newest.now stamps.now copies.now views.now }
 {}
 
 fn main() {

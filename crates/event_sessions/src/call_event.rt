@@ -30,11 +30,11 @@ pub fn call_event(
     shape: VersionShape,
     event: Event,
 ) -> Called
-    requires { is_pool (lent_by pool book textures retiring doomed spares newest stamps) ≡ true }
+    requires { is_pool (lent_by pool book textures.old retiring.old doomed.old spares.old newest.old stamps.old) ≡ true }
     ensures { Stepped (length copies.old) (length views.old)
-        (session_opened taken shape (at_entry pool book textures retiring doomed spares newest stamps)) event result.answer copies.new
+        (session_opened taken shape (at_entry pool book textures.old retiring.old doomed.old spares.old newest.old stamps.old)) event result.answer copies.new
         views.new
-        (at_exit result.pool result.book textures retiring doomed spares newest stamps) }
+        (at_exit result.pool result.book textures.new retiring.new doomed.new spares.new newest.new stamps.new) }
 {
     match event {
         Event::Take {

@@ -11,4 +11,4 @@ sheet_text s = cond s.opened (sheet_of s.lent) []
 -- the state as a contract names it: with the lent slices as they were when the call was made
 abbrev pub state_at_entry : Session → Slice → Slice → Slice → Slice → Slice → Slice → SessionState
 state_at_entry s textures retiring doomed spares newest stamps =
-    state_of s textures.entry.now retiring.entry.now doomed.entry.now spares.entry.now newest.entry.now stamps.entry.now
+    state_of s textures retiring doomed spares newest stamps

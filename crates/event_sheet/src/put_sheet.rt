@@ -34,8 +34,8 @@ pub fn put_sheet(
 ) -> usize
     requires { HoldsPool (state_of session textures.now retiring.now doomed.now spares.now newest.now stamps.now)
         × (most_sheet_bytes (length textures.now) ≤ length out.old) }
-    ensures { (result ≡ length (sheet_text (state_at_entry session textures retiring doomed spares newest stamps)))
-        × (out.new ≡ over (sheet_text (state_at_entry session textures retiring doomed spares newest stamps)) out.old) }
+    ensures { (result ≡ length (sheet_text (state_at_entry session textures.now retiring.now doomed.now spares.now newest.now stamps.now)))
+        × (out.new ≡ over (sheet_text (state_at_entry session textures.now retiring.now doomed.now spares.now newest.now stamps.now)) out.old) }
 {
     if session.opened != 1 {
         return 0;

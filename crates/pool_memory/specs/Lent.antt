@@ -10,8 +10,6 @@
 -- Stamps are lent by pages of 1,024; `newest` is as long as can be used: for 90 grids of each texture place, or one of each stamp, whichever is less.
 -- What stands past the counts and outside the rings is free: it is never read.
 use Rattle.std.specs.Prelude.{ℕ, ◌/◌, List, length}
-use denote.Triple.Both.{Both}
-use Rattle.std.specs.Borrow.{Bor}
 use Rattle.pool_memory.specs.declared.pool.Pool.{Pool}
 use Rattle.pool_memory.specs.declared.book.PacingBook.{PacingBook}
 use Rattle.pool_records.specs.RecordConstants.{retiring_stride}
@@ -40,24 +38,24 @@ lent pool book textures retiring doomed spares newest stamps = record {
 
 -- ---- what is lent, as a contract names it
 
--- a lent slice at a call's entry and at its exit
+-- a lent slice's numbers
 abbrev pub Slice : Type 0
-Slice = Both (Bor (List ℕ)) (Bor (List ℕ))
+Slice = List ℕ
 
 -- in a `requires`
-abbrev pub lent_by : Pool → PacingBook → Bor (List ℕ) → Bor (List ℕ) → Bor (List ℕ) → Bor (List ℕ) → Bor (List ℕ) → Bor (List ℕ) → Lent
+abbrev pub lent_by : Pool → PacingBook → Slice → Slice → Slice → Slice → Slice → Slice → Lent
 lent_by pool book textures retiring doomed spares newest stamps =
-    lent pool book textures.now retiring.now doomed.now spares.now newest.now stamps.now
+    lent pool book textures retiring doomed spares newest stamps
 
 -- in an `ensures`: what the slices held when the call was made, with the counts and the book that it was given
 abbrev pub at_entry : Pool → PacingBook → Slice → Slice → Slice → Slice → Slice → Slice → Lent
 at_entry pool book textures retiring doomed spares newest stamps =
-    lent_by pool book textures.entry retiring.entry doomed.entry spares.entry newest.entry stamps.entry
+    lent_by pool book textures retiring doomed spares newest stamps
 
 -- what they hold when it returns, with the counts and the book that it answers
 abbrev pub at_exit : Pool → PacingBook → Slice → Slice → Slice → Slice → Slice → Slice → Lent
 at_exit pool book textures retiring doomed spares newest stamps =
-    lent_by pool book textures.exit retiring.exit doomed.exit spares.exit newest.exit stamps.exit
+    lent_by pool book textures retiring doomed spares newest stamps
 
 -- how many versions the lent slices have places for
 unfoldable pub version_places : Lent → ℕ

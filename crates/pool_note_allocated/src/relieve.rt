@@ -93,10 +93,10 @@ pub fn relieve(
     freed: u64,
     excess: u64,
 ) -> Relief
-    requires { (is_pool (lent_by pool book textures retiring doomed spares newest stamps) ≡ true)
+    requires { (is_pool (lent_by pool book textures.old retiring.now doomed.old spares.old newest.now stamps.now) ≡ true)
         × IsLine pool.dooming excess (λ k. bytes_from spares.old k 0 (textures_in pool.tracked textures.old)) line
         × (freed ≡ pool.dooming + bytes_from spares.old line 0 (textures_in pool.tracked textures.old)) }
-    ensures { Relieves (at_entry pool book textures retiring doomed spares newest stamps)
+    ensures { Relieves (at_entry pool book textures.old retiring.now doomed.old spares.old newest.now stamps.now)
         excess result.kept result.bytes textures.new doomed.new spares.new }
 {
     let cap = retiring.len() / RETIRING_STRIDE;

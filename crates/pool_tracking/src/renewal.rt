@@ -107,11 +107,11 @@ pub fn renew_tracking(
     stamps: &mut [u64],
     new: NewTracking,
 ) -> Pool
-    requires { Begins (lent_by pool book textures retiring doomed spares newest stamps) new
-        × TrackedAt (lent_by pool book textures retiring doomed spares newest stamps) new.place new.id
-        × (same_shape (record_of (lent_by pool book textures retiring doomed spares newest stamps) new.place).shape new.shape ≡ false) }
-    ensures { (answer none, at_exit result book textures retiring doomed spares newest stamps)
-        ≡ take_spare_on (at_entry pool book textures retiring doomed spares newest stamps) new.id new.shape new.records new.seq }
+    requires { Begins (lent_by pool book textures.old retiring.now doomed.old spares.old newest.old stamps.old) new
+        × TrackedAt (lent_by pool book textures.old retiring.now doomed.old spares.old newest.old stamps.old) new.place new.id
+        × (same_shape (record_of (lent_by pool book textures.old retiring.now doomed.old spares.old newest.old stamps.old) new.place).shape new.shape ≡ false) }
+    ensures { (answer none, at_exit result book textures.new retiring.now doomed.new spares.new newest.new stamps.new)
+        ≡ take_spare_on (at_entry pool book textures.old retiring.now doomed.old spares.old newest.old stamps.old) new.id new.shape new.records new.seq }
 {
     let places = retiring.len() / RETIRING_STRIDE;
     let old = holding_at(pool, textures, new.place);

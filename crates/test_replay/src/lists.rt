@@ -70,7 +70,7 @@ fn run_next(
     views: &mut [u64],
     out: &mut [u8],
 )
-    requires { Lends most_textures most_versions most_pages most_entries textures retiring doomed spares newest stamps copies views
+    requires { Lends most_textures most_versions most_pages most_entries textures.old retiring.old doomed.old spares.old newest.old stamps.old copies.old views.old
         × (kept_bytes < length buf.old) × (most_bytes most_entries ≤ length out.old) }
 {
     io::write_all(STDOUT_FILENO, line);
@@ -114,7 +114,7 @@ pub fn run_lists(
     views: &mut [u64],
     out: &mut [u8],
 )
-    requires { Lends most_textures most_versions most_pages most_entries textures retiring doomed spares newest stamps copies views
+    requires { Lends most_textures most_versions most_pages most_entries textures.old retiring.old doomed.old spares.old newest.old stamps.old copies.old views.old
         × (kept_bytes < length buf.old) × (most_bytes most_entries ≤ length out.old) }
 {
     let to = io::read_full(STDIN_FILENO, input);

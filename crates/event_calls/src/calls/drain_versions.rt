@@ -21,10 +21,10 @@ pub fn call_drain_versions(
     stamps: &[u64],
     views: &mut [u64],
 ) -> Called
-    requires { is_pool (lent_by pool book textures retiring doomed spares newest stamps) ≡ true }
-    ensures { MadeViews (at_entry pool book textures retiring doomed spares newest stamps) (between (drain_call (blank views.old)))
+    requires { is_pool (lent_by pool book textures.old retiring.now doomed.now spares.now newest.now stamps.now) ≡ true }
+    ensures { MadeViews (at_entry pool book textures.old retiring.now doomed.now spares.now newest.now stamps.now) (between (drain_call (blank views.old)))
         result.answer
-        views.new (at_exit result.pool result.book textures retiring doomed spares newest stamps) }
+        views.new (at_exit result.pool result.book textures.new retiring.now doomed.now spares.now newest.now stamps.now) }
 {
     let said = pool_take_doomed::drain_versions(
         pool, book, textures, retiring, doomed, spares, newest, stamps, views,

@@ -21,9 +21,9 @@ pub fn call_forget_texture(
     stamps: &mut [u64],
     id: u64,
 ) -> Called
-    requires { is_pool (lent_by pool book textures retiring doomed spares newest stamps) ≡ true }
-    ensures { Made (at_entry pool book textures retiring doomed spares newest stamps) (between (forget_call id)) result.answer
-        (at_exit result.pool result.book textures retiring doomed spares newest stamps) }
+    requires { is_pool (lent_by pool book textures.old retiring.now doomed.old spares.old newest.old stamps.old) ≡ true }
+    ensures { Made (at_entry pool book textures.old retiring.now doomed.old spares.old newest.old stamps.old) (between (forget_call id)) result.answer
+        (at_exit result.pool result.book textures.new retiring.now doomed.new spares.new newest.new stamps.new) }
 {
     let said = pool_forget_texture::forget_texture(
         pool, book, textures, retiring, doomed, spares, newest, stamps, id,

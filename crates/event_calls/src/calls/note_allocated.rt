@@ -21,9 +21,9 @@ pub fn call_note_allocated(
     stamps: &[u64],
     allocated: u64,
 ) -> Called
-    requires { is_pool (lent_by pool book textures retiring doomed spares newest stamps) ≡ true }
-    ensures { Made (at_entry pool book textures retiring doomed spares newest stamps) (between (note_call allocated)) result.answer
-        (at_exit result.pool result.book textures retiring doomed spares newest stamps) }
+    requires { is_pool (lent_by pool book textures.old retiring.now doomed.old spares.old newest.now stamps.now) ≡ true }
+    ensures { Made (at_entry pool book textures.old retiring.now doomed.old spares.old newest.now stamps.now) (between (note_call allocated)) result.answer
+        (at_exit result.pool result.book textures.new retiring.now doomed.new spares.new newest.now stamps.now) }
 {
     let said = pool_note_allocated::note_allocated(
         pool, book, textures, retiring, doomed, spares, newest, stamps, allocated,

@@ -21,9 +21,9 @@ pub fn call_note_mip_regeneration(
     stamps: &mut [u64],
     id: u64,
 ) -> Called
-    requires { is_pool (lent_by pool book textures retiring doomed spares newest stamps) ≡ true }
-    ensures { Made (at_entry pool book textures retiring doomed spares newest stamps) (between (regen_call id)) result.answer
-        (at_exit result.pool result.book textures retiring doomed spares newest stamps) }
+    requires { is_pool (lent_by pool book textures.old retiring.now doomed.now spares.now newest.old stamps.old) ≡ true }
+    ensures { Made (at_entry pool book textures.old retiring.now doomed.now spares.now newest.old stamps.old) (between (regen_call id)) result.answer
+        (at_exit result.pool result.book textures.new retiring.now doomed.now spares.now newest.new stamps.new) }
 {
     let said = pool_note_write::note_mip_regeneration(
         pool, book, textures, retiring, doomed, spares, newest, stamps, id,

@@ -25,9 +25,9 @@ pub fn call_note_write(
     level: u64,
     rect: TexelRect,
 ) -> Called
-    requires { is_pool (lent_by pool book textures retiring doomed spares newest stamps) ≡ true }
-    ensures { Made (at_entry pool book textures retiring doomed spares newest stamps) (between (write_call id slice level rect)) result.answer
-        (at_exit result.pool result.book textures retiring doomed spares newest stamps) }
+    requires { is_pool (lent_by pool book textures.old retiring.now doomed.now spares.now newest.old stamps.old) ≡ true }
+    ensures { Made (at_entry pool book textures.old retiring.now doomed.now spares.now newest.old stamps.old) (between (write_call id slice level rect)) result.answer
+        (at_exit result.pool result.book textures.new retiring.now doomed.now spares.now newest.new stamps.new) }
 {
     let said = pool_note_write::note_write(
         pool, book, textures, retiring, doomed, spares, newest, stamps, id, slice, level, rect,

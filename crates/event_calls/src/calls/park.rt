@@ -22,9 +22,9 @@ pub fn call_park(
     failed: u64,
     current: u64,
 ) -> Called
-    requires { is_pool (lent_by pool book textures retiring doomed spares newest stamps) ≡ true }
-    ensures { Made (at_entry pool book textures retiring doomed spares newest stamps) (between (park_call failed current)) result.answer
-        (at_exit result.pool result.book textures retiring doomed spares newest stamps) }
+    requires { is_pool (lent_by pool book textures.old retiring.now doomed.old spares.old newest.now stamps.now) ≡ true }
+    ensures { Made (at_entry pool book textures.old retiring.now doomed.old spares.old newest.now stamps.now) (between (park_call failed current)) result.answer
+        (at_exit result.pool result.book textures.new retiring.now doomed.new spares.new newest.now stamps.now) }
 {
     let said = pool_park::park(
         pool, book, textures, retiring, doomed, spares, newest, stamps, failed, current,

@@ -21,9 +21,9 @@ pub fn call_pop_retired(
     stamps: &[u64],
     settled: u64,
 ) -> Called
-    requires { is_pool (lent_by pool book textures retiring doomed spares newest stamps) ≡ true }
-    ensures { Made (at_entry pool book textures retiring doomed spares newest stamps) (between (pop_call settled)) result.answer
-        (at_exit result.pool result.book textures retiring doomed spares newest stamps) }
+    requires { is_pool (lent_by pool book textures.now retiring.now doomed.now spares.now newest.now stamps.now) ≡ true }
+    ensures { Made (at_entry pool book textures.now retiring.now doomed.now spares.now newest.now stamps.now) (between (pop_call settled)) result.answer
+        (at_exit result.pool result.book textures.now retiring.now doomed.now spares.now newest.now stamps.now) }
 {
     let said = pool_retire::pop_retired(
         pool, book, textures, retiring, doomed, spares, newest, stamps, settled,

@@ -29,10 +29,10 @@ pub fn call_preserve_plan(
     level: u64,
     cover: bool,
 ) -> Called
-    requires { is_pool (lent_by pool book textures retiring doomed spares newest stamps) ≡ true }
-    ensures { MadeCopies (at_entry pool book textures retiring doomed spares newest stamps)
+    requires { is_pool (lent_by pool book textures.now retiring.now doomed.now spares.now newest.now stamps.now) ≡ true }
+    ensures { MadeCopies (at_entry pool book textures.now retiring.now doomed.now spares.now newest.now stamps.now)
         (plan_call id shape held (record { slice = slice; level = level; cover = cover }) (blank copies.old)) result.answer copies.new
-        (at_exit result.pool result.book textures retiring doomed spares newest stamps) }
+        (at_exit result.pool result.book textures.now retiring.now doomed.now spares.now newest.now stamps.now) }
 {
     let said = pool_preserve_plan::preserve_plan(
         pool, book, textures, retiring, doomed, spares, newest, stamps, copies, id, shape, held,

@@ -23,9 +23,9 @@ pub fn call_retire(
     view: u64,
     seq: u64,
 ) -> Called
-    requires { is_pool (lent_by pool book textures retiring doomed spares newest stamps) ≡ true }
-    ensures { Made (at_entry pool book textures retiring doomed spares newest stamps) (retire_call id view seq) result.answer
-        (at_exit result.pool result.book textures retiring doomed spares newest stamps) }
+    requires { is_pool (lent_by pool book textures.old retiring.old doomed.now spares.now newest.now stamps.now) ≡ true }
+    ensures { Made (at_entry pool book textures.old retiring.old doomed.now spares.now newest.now stamps.now) (retire_call id view seq) result.answer
+        (at_exit result.pool result.book textures.new retiring.new doomed.now spares.now newest.now stamps.now) }
 {
     let said = pool_retire::retire(
         pool, book, textures, retiring, doomed, spares, newest, stamps, id, view, seq,

@@ -21,10 +21,10 @@ pub fn call_take_doomed(
     stamps: &[u64],
     views: &mut [u64],
 ) -> Called
-    requires { is_pool (lent_by pool book textures retiring doomed spares newest stamps) ≡ true }
-    ensures { MadeViews (at_entry pool book textures retiring doomed spares newest stamps) (between (doomed_call (blank views.old)))
+    requires { is_pool (lent_by pool book textures.now retiring.now doomed.now spares.now newest.now stamps.now) ≡ true }
+    ensures { MadeViews (at_entry pool book textures.now retiring.now doomed.now spares.now newest.now stamps.now) (between (doomed_call (blank views.old)))
         result.answer
-        views.new (at_exit result.pool result.book textures retiring doomed spares newest stamps) }
+        views.new (at_exit result.pool result.book textures.now retiring.now doomed.now spares.now newest.now stamps.now) }
 {
     let said = pool_take_doomed::take_doomed(
         pool, book, textures, retiring, doomed, spares, newest, stamps, views,

@@ -25,9 +25,9 @@ pub fn call_take_spare(
     records: bool,
     seq: u64,
 ) -> Called
-    requires { is_pool (lent_by pool book textures retiring doomed spares newest stamps) ≡ true }
-    ensures { Made (at_entry pool book textures retiring doomed spares newest stamps) (take_call id shape records seq) result.answer
-        (at_exit result.pool result.book textures retiring doomed spares newest stamps) }
+    requires { is_pool (lent_by pool book textures.old retiring.now doomed.old spares.old newest.old stamps.old) ≡ true }
+    ensures { Made (at_entry pool book textures.old retiring.now doomed.old spares.old newest.old stamps.old) (take_call id shape records seq) result.answer
+        (at_exit result.pool result.book textures.new retiring.now doomed.new spares.new newest.new stamps.new) }
 {
     let said = pool_take_spare::take_spare(
         pool, book, textures, retiring, doomed, spares, newest, stamps, id, shape, records, seq,

@@ -21,9 +21,9 @@ pub fn call_trim(
     stamps: &mut [u64],
     current: u64,
 ) -> Called
-    requires { is_pool (lent_by pool book textures retiring doomed spares newest stamps) ≡ true }
-    ensures { Made (at_entry pool book textures retiring doomed spares newest stamps) (between (trim_call current)) result.answer
-        (at_exit result.pool result.book textures retiring doomed spares newest stamps) }
+    requires { is_pool (lent_by pool book textures.old retiring.now doomed.old spares.old newest.old stamps.old) ≡ true }
+    ensures { Made (at_entry pool book textures.old retiring.now doomed.old spares.old newest.old stamps.old) (between (trim_call current)) result.answer
+        (at_exit result.pool result.book textures.new retiring.now doomed.new spares.new newest.new stamps.new) }
 {
     let said = pool_trim::trim(
         pool, book, textures, retiring, doomed, spares, newest, stamps, current,

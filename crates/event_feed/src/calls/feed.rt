@@ -28,7 +28,7 @@ pub fn feed(
     requires { Ready (length copies.old) (length views.old) before end
         (state_of before.session textures.old retiring.old doomed.old spares.old newest.old stamps.old) buf.old out.old }
     ensures { Turn (length copies.old) (length views.old)
-        (carried_at_entry before buf textures retiring doomed spares newest stamps) (carried_at_exit result buf textures retiring doomed spares newest stamps)
+        (carried_at_entry before buf.old textures.old retiring.old doomed.old spares.old newest.old stamps.old) (carried_at_exit result buf.new textures.new retiring.new doomed.new spares.new newest.new stamps.new)
         (fed_at before end buf.old) (waits result buf.new) result.filled out.old out.new
         × Placed result (length buf.old) }
 {

@@ -28,7 +28,7 @@ pub fn dirty_tile(
     level: u64,
     held: u64,
 ) -> DirtyAnswer
-    ensures { DirtyTileOn (at_entry pool book textures retiring doomed spares newest stamps) id slice level held (tile_told result) }
+    ensures { DirtyTileOn (at_entry pool book textures.now retiring.now doomed.now spares.now newest.now stamps.now) id slice level held (tile_told result) }
 {
     if !is_pool(
         pool, book, textures, retiring, doomed, spares, newest, stamps,

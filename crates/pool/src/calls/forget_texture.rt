@@ -18,8 +18,8 @@ pub fn forget_texture(
     stamps: &mut [u64],
     id: u64,
 ) -> DoneAnswer
-    ensures { (told_number result.outcome, at_exit result.pool book textures retiring doomed spares newest stamps)
-        ≡ forget_texture_on (at_entry pool book textures retiring doomed spares newest stamps) id }
+    ensures { (told_number result.outcome, at_exit result.pool book textures.new retiring.now doomed.new spares.new newest.new stamps.new)
+        ≡ forget_texture_on (at_entry pool book textures.old retiring.now doomed.old spares.old newest.old stamps.old) id }
 {
     if !is_pool(
         pool, book, textures, retiring, doomed, spares, newest, stamps,

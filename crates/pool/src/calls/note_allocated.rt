@@ -19,8 +19,8 @@ pub fn note_allocated(
     stamps: &[u64],
     allocated: u64,
 ) -> NotedAnswer
-    ensures { (told_number result.outcome, at_exit result.pool result.book textures retiring doomed spares newest stamps)
-        ≡ note_allocated_on (at_entry pool book textures retiring doomed spares newest stamps) allocated }
+    ensures { (told_number result.outcome, at_exit result.pool result.book textures.new retiring.now doomed.new spares.new newest.now stamps.now)
+        ≡ note_allocated_on (at_entry pool book textures.old retiring.now doomed.old spares.old newest.now stamps.now) allocated }
 {
     if !is_pool(
         pool, book, textures, retiring, doomed, spares, newest, stamps,

@@ -18,8 +18,8 @@ pub fn note_mip_regeneration(
     stamps: &mut [u64],
     id: u64,
 ) -> DoneAnswer
-    ensures { (told_number result.outcome, at_exit result.pool book textures retiring doomed spares newest stamps)
-        ≡ note_mip_regeneration_on (at_entry pool book textures retiring doomed spares newest stamps) id }
+    ensures { (told_number result.outcome, at_exit result.pool book textures.new retiring.now doomed.now spares.now newest.new stamps.new)
+        ≡ note_mip_regeneration_on (at_entry pool book textures.old retiring.now doomed.now spares.now newest.old stamps.old) id }
 {
     if !is_pool(
         pool, book, textures, retiring, doomed, spares, newest, stamps,

@@ -22,8 +22,8 @@ pub fn note_write(
     level: u64,
     rect: TexelRect,
 ) -> DoneAnswer
-    ensures { (told_number result.outcome, at_exit result.pool book textures retiring doomed spares newest stamps)
-        ≡ note_write_on (at_entry pool book textures retiring doomed spares newest stamps) id slice level rect }
+    ensures { (told_number result.outcome, at_exit result.pool book textures.new retiring.now doomed.now spares.now newest.new stamps.new)
+        ≡ note_write_on (at_entry pool book textures.old retiring.now doomed.now spares.now newest.old stamps.old) id slice level rect }
 {
     if !is_pool(
         pool, book, textures, retiring, doomed, spares, newest, stamps,

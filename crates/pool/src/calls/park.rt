@@ -19,8 +19,8 @@ pub fn park(
     failed: u64,
     current: u64,
 ) -> DoneAnswer
-    ensures { (told_number result.outcome, at_exit result.pool book textures retiring doomed spares newest stamps)
-        ≡ park_on (at_entry pool book textures retiring doomed spares newest stamps) failed current }
+    ensures { (told_number result.outcome, at_exit result.pool book textures.new retiring.now doomed.new spares.new newest.now stamps.now)
+        ≡ park_on (at_entry pool book textures.old retiring.now doomed.old spares.old newest.now stamps.now) failed current }
 {
     if !is_pool(
         pool, book, textures, retiring, doomed, spares, newest, stamps,

@@ -23,7 +23,7 @@ pub fn parked_bytes(
     newest: &[u64],
     stamps: &[u64],
 ) -> BytesAnswer
-    ensures { bytes_told result ≡ parked_bytes_on (at_entry pool book textures retiring doomed spares newest stamps) }
+    ensures { bytes_told result ≡ parked_bytes_on (at_entry pool book textures.now retiring.now doomed.now spares.now newest.now stamps.now) }
 {
     if !is_pool(
         pool, book, textures, retiring, doomed, spares, newest, stamps,

@@ -18,7 +18,7 @@ pub fn pending_destroy_bytes(
     newest: &[u64],
     stamps: &[u64],
 ) -> BytesAnswer
-    ensures { bytes_told result ≡ pending_destroy_bytes_on (at_entry pool book textures retiring doomed spares newest stamps) }
+    ensures { bytes_told result ≡ pending_destroy_bytes_on (at_entry pool book textures.now retiring.now doomed.now spares.now newest.now stamps.now) }
 {
     if !is_pool(
         pool, book, textures, retiring, doomed, spares, newest, stamps,

@@ -20,8 +20,8 @@ pub fn pop_retired(
     stamps: &[u64],
     settled: u64,
 ) -> PopAnswer
-    ensures { (popped_told result.popped, at_exit result.pool book textures retiring doomed spares newest stamps)
-        ≡ pop_retired_on (at_entry pool book textures retiring doomed spares newest stamps) settled }
+    ensures { (popped_told result.popped, at_exit result.pool book textures.now retiring.now doomed.now spares.now newest.now stamps.now)
+        ≡ pop_retired_on (at_entry pool book textures.now retiring.now doomed.now spares.now newest.now stamps.now) settled }
 {
     if !is_pool(
         pool, book, textures, retiring, doomed, spares, newest, stamps,

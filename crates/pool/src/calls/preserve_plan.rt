@@ -28,8 +28,8 @@ pub fn preserve_plan(
     level: u64,
     cover: bool,
 ) -> PlanAnswer
-    ensures { (planned_told result, (buffer.new, at_entry pool book textures retiring doomed spares newest stamps))
-        ≡ preserve_plan_on (at_entry pool book textures retiring doomed spares newest stamps) buffer.old id shape held
+    ensures { (planned_told result, (buffer.new, at_entry pool book textures.now retiring.now doomed.now spares.now newest.now stamps.now))
+        ≡ preserve_plan_on (at_entry pool book textures.now retiring.now doomed.now spares.now newest.now stamps.now) buffer.old id shape held
         (record { slice = slice; level = level; cover = cover }) }
 {
     if !is_pool(

@@ -20,7 +20,7 @@ pub fn print_sheet(
     buffer: &mut [u8],
 ) -> SheetAnswer
     ensures { (sheet_told result, buffer.new)
-        ≡ print_sheet_on (at_entry pool book textures retiring doomed spares newest stamps) buffer.old }
+        ≡ print_sheet_on (at_entry pool book textures.now retiring.now doomed.now spares.now newest.now stamps.now) buffer.old }
 {
     if !is_pool(
         pool, book, textures, retiring, doomed, spares, newest, stamps,

@@ -24,7 +24,7 @@ pub fn records_writes(
     stamps: &[u64],
     id: u64,
 ) -> RecordsAnswer
-    ensures { records_told result ≡ records_writes_on (at_entry pool book textures retiring doomed spares newest stamps) id }
+    ensures { records_told result ≡ records_writes_on (at_entry pool book textures.now retiring.now doomed.now spares.now newest.now stamps.now) id }
 {
     if !is_pool(
         pool, book, textures, retiring, doomed, spares, newest, stamps,

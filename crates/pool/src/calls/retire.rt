@@ -20,8 +20,8 @@ pub fn retire(
     view: u64,
     seq: u64,
 ) -> DoneAnswer
-    ensures { (told_number result.outcome, at_exit result.pool book textures retiring doomed spares newest stamps)
-        ≡ retire_on (at_entry pool book textures retiring doomed spares newest stamps) id view seq }
+    ensures { (told_number result.outcome, at_exit result.pool book textures.new retiring.new doomed.now spares.now newest.now stamps.now)
+        ≡ retire_on (at_entry pool book textures.old retiring.old doomed.now spares.now newest.now stamps.now) id view seq }
 {
     if !is_pool(
         pool, book, textures, retiring, doomed, spares, newest, stamps,

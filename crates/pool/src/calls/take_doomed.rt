@@ -20,8 +20,8 @@ pub fn take_doomed(
     stamps: &[u64],
     buffer: &mut [u64],
 ) -> DrainAnswer
-    ensures { (handed_told result.handed, (buffer.new, at_exit result.pool result.book textures retiring doomed spares newest stamps))
-        ≡ take_doomed_on (at_entry pool book textures retiring doomed spares newest stamps) buffer.old }
+    ensures { (handed_told result.handed, (buffer.new, at_exit result.pool result.book textures.now retiring.now doomed.now spares.now newest.now stamps.now))
+        ≡ take_doomed_on (at_entry pool book textures.now retiring.now doomed.now spares.now newest.now stamps.now) buffer.old }
 {
     if !is_pool(
         pool, book, textures, retiring, doomed, spares, newest, stamps,

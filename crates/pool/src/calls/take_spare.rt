@@ -24,8 +24,8 @@ pub fn take_spare(
     records: bool,
     seq: u64,
 ) -> TakeAnswer
-    ensures { (taken_told result.taken, at_exit result.pool book textures retiring doomed spares newest stamps)
-        ≡ take_spare_on (at_entry pool book textures retiring doomed spares newest stamps) id shape records seq }
+    ensures { (taken_told result.taken, at_exit result.pool book textures.new retiring.now doomed.new spares.new newest.new stamps.new)
+        ≡ take_spare_on (at_entry pool book textures.old retiring.now doomed.old spares.old newest.old stamps.old) id shape records seq }
 {
     if !is_pool(
         pool, book, textures, retiring, doomed, spares, newest, stamps,

@@ -18,8 +18,8 @@ pub fn trim(
     stamps: &mut [u64],
     current: u64,
 ) -> DoneAnswer
-    ensures { (told_number result.outcome, at_exit result.pool book textures retiring doomed spares newest stamps)
-        ≡ trim_on (at_entry pool book textures retiring doomed spares newest stamps) current }
+    ensures { (told_number result.outcome, at_exit result.pool book textures.new retiring.now doomed.new spares.new newest.new stamps.new)
+        ≡ trim_on (at_entry pool book textures.old retiring.now doomed.old spares.old newest.old stamps.old) current }
 {
     if !is_pool(
         pool, book, textures, retiring, doomed, spares, newest, stamps,

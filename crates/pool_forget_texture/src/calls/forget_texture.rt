@@ -25,7 +25,7 @@ pub fn forget_texture(
     stamps: &mut [u64],
     id: u64,
 ) -> DoneAnswer
-    requires { is_pool (lent_by pool book textures retiring doomed spares newest stamps) ≡ true }
+    requires { is_pool (lent_by pool book textures.old retiring.now doomed.old spares.old newest.old stamps.old) ≡ true }
     ensures { (
       told_number result.outcome,
       lent result.pool book textures.new retiring.now doomed.new spares.new

@@ -21,7 +21,7 @@ pub fn is_pool(
     newest: &[u64],
     stamps: &[u64],
 ) -> bool
-    ensures { result ≡ is_pool (at_entry pool book textures retiring doomed spares newest stamps) }
+    ensures { result ≡ is_pool (at_entry pool book textures.now retiring.now doomed.now spares.now newest.now stamps.now) }
 {
     if !sizes_fit(textures, retiring, doomed, spares, newest, stamps) {
         return false;

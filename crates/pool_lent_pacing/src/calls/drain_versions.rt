@@ -19,8 +19,8 @@ pub fn drain_versions(
     stamps: &[u64],
     buffer: &mut [u64],
 ) -> HandedAnswer
-    ensures { (handed_told result.handed, (buffer.new, at_exit result.pool book.new textures retiring doomed spares newest stamps))
-        ≡ drain_versions_on (at_entry pool book.old textures retiring doomed spares newest stamps) buffer.old }
+    ensures { (handed_told result.handed, (buffer.new, at_exit result.pool book.new textures.new retiring.now doomed.now spares.now newest.now stamps.now))
+        ≡ drain_versions_on (at_entry pool book.old textures.old retiring.now doomed.now spares.now newest.now stamps.now) buffer.old }
 {
     let answer = pool::drain_versions(
         pool, *book, textures, retiring, doomed, spares, newest, stamps, buffer,

@@ -18,8 +18,8 @@ pub fn note_allocated(
     stamps: &[u64],
     allocated: u64,
 ) -> DoneAnswer
-    ensures { (told_number result.outcome, at_exit result.pool book.new textures retiring doomed spares newest stamps)
-        ≡ note_allocated_on (at_entry pool book.old textures retiring doomed spares newest stamps) allocated }
+    ensures { (told_number result.outcome, at_exit result.pool book.new textures.new retiring.now doomed.new spares.new newest.now stamps.now)
+        ≡ note_allocated_on (at_entry pool book.old textures.old retiring.now doomed.old spares.old newest.now stamps.now) allocated }
 {
     let answer = pool::note_allocated(
         pool, *book, textures, retiring, doomed, spares, newest, stamps, allocated,

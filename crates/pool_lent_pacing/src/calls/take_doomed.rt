@@ -19,8 +19,8 @@ pub fn take_doomed(
     stamps: &[u64],
     buffer: &mut [u64],
 ) -> HandedAnswer
-    ensures { (handed_told result.handed, (buffer.new, at_exit result.pool book.new textures retiring doomed spares newest stamps))
-        ≡ take_doomed_on (at_entry pool book.old textures retiring doomed spares newest stamps) buffer.old }
+    ensures { (handed_told result.handed, (buffer.new, at_exit result.pool book.new textures.now retiring.now doomed.now spares.now newest.now stamps.now))
+        ≡ take_doomed_on (at_entry pool book.old textures.now retiring.now doomed.now spares.now newest.now stamps.now) buffer.old }
 {
     let answer = pool::take_doomed(
         pool, *book, textures, retiring, doomed, spares, newest, stamps, buffer,

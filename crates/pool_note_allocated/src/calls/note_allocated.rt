@@ -85,9 +85,9 @@ pub fn note_allocated(
     stamps: &[u64],
     allocated: u64,
 ) -> NotedAnswer
-    requires { is_pool (lent_by pool book textures retiring doomed spares newest stamps) ≡ true }
-    ensures { (told_number result.outcome, at_exit result.pool result.book textures retiring doomed spares newest stamps)
-        ≡ note_allocated_on (at_entry pool book textures retiring doomed spares newest stamps) allocated }
+    requires { is_pool (lent_by pool book textures.old retiring.now doomed.old spares.old newest.now stamps.now) ≡ true }
+    ensures { (told_number result.outcome, at_exit result.pool result.book textures.new retiring.now doomed.new spares.new newest.now stamps.now)
+        ≡ note_allocated_on (at_entry pool book textures.old retiring.now doomed.old spares.old newest.now stamps.now) allocated }
 {
     let after = noted(pool, book, allocated);
     let excess = excess_over(pool.line, allocated);

@@ -58,8 +58,8 @@ pub fn dirty_tile(
     level: u64,
     held: u64,
 ) -> DirtyTile
-    requires { is_pool (lent_by pool book textures retiring doomed spares newest stamps) ≡ true }
-    ensures { IsDirtyTileOf (model_of (at_entry pool book textures retiring doomed spares newest stamps)) id slice level held result }
+    requires { is_pool (lent_by pool book textures.now retiring.now doomed.now spares.now newest.now stamps.now) ≡ true }
+    ensures { IsDirtyTileOf (model_of (at_entry pool book textures.now retiring.now doomed.now spares.now newest.now stamps.now)) id slice level held result }
 {
     let tracked = pool.tracked;
     let i = find_texture(textures, tracked, id);

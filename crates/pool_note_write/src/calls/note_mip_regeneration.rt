@@ -21,9 +21,9 @@ pub fn note_mip_regeneration(
     stamps: &mut [u64],
     id: u64,
 ) -> DoneAnswer
-    requires { is_pool (lent_by pool book textures retiring doomed spares newest stamps) ≡ true }
-    ensures { (told_number result.outcome, at_exit result.pool book textures retiring doomed spares newest stamps)
-        ≡ note_mip_regeneration_on (at_entry pool book textures retiring doomed spares newest stamps) id }
+    requires { is_pool (lent_by pool book textures.old retiring.now doomed.now spares.now newest.old stamps.old) ≡ true }
+    ensures { (told_number result.outcome, at_exit result.pool book textures.new retiring.now doomed.now spares.now newest.new stamps.new)
+        ≡ note_mip_regeneration_on (at_entry pool book textures.old retiring.now doomed.now spares.now newest.old stamps.old) id }
 {
     let tracked = pool.tracked;
     let i = find_texture(textures, tracked, id);

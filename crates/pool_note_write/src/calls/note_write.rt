@@ -29,9 +29,9 @@ pub fn note_write(
     level: u64,
     rect: TexelRect,
 ) -> DoneAnswer
-    requires { is_pool (lent_by pool book textures retiring doomed spares newest stamps) ≡ true }
-    ensures { (told_number result.outcome, at_exit result.pool book textures retiring doomed spares newest stamps)
-        ≡ note_write_on (at_entry pool book textures retiring doomed spares newest stamps) id slice level rect }
+    requires { is_pool (lent_by pool book textures.old retiring.now doomed.now spares.now newest.old stamps.old) ≡ true }
+    ensures { (told_number result.outcome, at_exit result.pool book textures.new retiring.now doomed.now spares.now newest.new stamps.new)
+        ≡ note_write_on (at_entry pool book textures.old retiring.now doomed.now spares.now newest.old stamps.old) id slice level rect }
 {
     let tracked = pool.tracked;
     let i = find_texture(textures, tracked, id);

@@ -21,8 +21,8 @@ pub fn records_writes(
     stamps: &[u64],
     id: u64,
 ) -> bool
-    requires { is_pool (lent_by pool book textures retiring doomed spares newest stamps) ≡ true }
-    ensures { result ≡ records_writes (model_of (at_entry pool book textures retiring doomed spares newest stamps)) id }
+    requires { is_pool (lent_by pool book textures.now retiring.now doomed.now spares.now newest.now stamps.now) ≡ true }
+    ensures { result ≡ records_writes (model_of (at_entry pool book textures.now retiring.now doomed.now spares.now newest.now stamps.now)) id }
 {
     let tracked = pool.tracked;
     let i = find_texture(textures, tracked, id);

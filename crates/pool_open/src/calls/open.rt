@@ -62,7 +62,7 @@ pub fn open(
     stamps: &[u64],
 ) -> OpenAnswer
     ensures { result ≡ record {
-      outcome = open_number (at_entry (opened_pool working) opened_book textures retiring doomed spares newest stamps);
+      outcome = open_number (at_entry (opened_pool working) opened_book textures.now retiring.now doomed.now spares.now newest.now stamps.now);
       pool = opened_pool working;
       book = opened_book;
     } }

@@ -52,7 +52,7 @@ pub fn sizes_fit(
     stamps: &[u64],
 ) -> bool
     ensures { (pool : Pool) (book : PacingBook)
-        → result ≡ sizes_fit (at_entry pool book textures retiring doomed spares newest stamps) }
+        → result ≡ sizes_fit (at_entry pool book textures.now retiring.now doomed.now spares.now newest.now stamps.now) }
 {
     lengths_fit(
         textures.len(),

@@ -26,9 +26,9 @@ pub fn park(
     failed: u64,
     current: u64,
 ) -> DoneAnswer
-    requires { is_pool (lent_by pool book textures retiring doomed spares newest stamps) ≡ true }
-    ensures { (told_number result.outcome, at_exit result.pool book textures retiring doomed spares newest stamps)
-        ≡ park_on (at_entry pool book textures retiring doomed spares newest stamps) failed current }
+    requires { is_pool (lent_by pool book textures.old retiring.now doomed.old spares.old newest.now stamps.now) ≡ true }
+    ensures { (told_number result.outcome, at_exit result.pool book textures.new retiring.now doomed.new spares.new newest.now stamps.now)
+        ≡ park_on (at_entry pool book textures.old retiring.now doomed.old spares.old newest.now stamps.now) failed current }
 {
     let refusal = park_refusal(pool, failed, current);
     if refusal != 0 {

@@ -40,9 +40,9 @@ pub fn preserve_plan(
     level: u64,
     cover: bool,
 ) -> PlanAnswer
-    requires { is_pool (lent_by pool book textures retiring doomed spares newest stamps) ≡ true }
-    ensures { (planned_told result, (buffer.new, at_entry pool book textures retiring doomed spares newest stamps))
-        ≡ preserve_plan_on (at_entry pool book textures retiring doomed spares newest stamps)
+    requires { is_pool (lent_by pool book textures.now retiring.now doomed.now spares.now newest.now stamps.now) ≡ true }
+    ensures { (planned_told result, (buffer.new, at_entry pool book textures.now retiring.now doomed.now spares.now newest.now stamps.now))
+        ≡ preserve_plan_on (at_entry pool book textures.now retiring.now doomed.now spares.now newest.now stamps.now)
         buffer.old id shape held (record { slice = slice; level = level; cover = cover }) }
 {
     let tracked = pool.tracked;

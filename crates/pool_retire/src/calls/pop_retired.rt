@@ -39,9 +39,9 @@ pub fn pop_retired(
     stamps: &[u64],
     settled: u64,
 ) -> PopAnswer
-    requires { is_pool (lent_by pool book textures retiring doomed spares newest stamps) ≡ true }
-    ensures { (popped_told result.popped, at_exit result.pool book textures retiring doomed spares newest stamps)
-        ≡ pop_retired_on (at_entry pool book textures retiring doomed spares newest stamps) settled }
+    requires { is_pool (lent_by pool book textures.now retiring.now doomed.now spares.now newest.now stamps.now) ≡ true }
+    ensures { (popped_told result.popped, at_exit result.pool book textures.now retiring.now doomed.now spares.now newest.now stamps.now)
+        ≡ pop_retired_on (at_entry pool book textures.now retiring.now doomed.now spares.now newest.now stamps.now) settled }
 {
     if settled > LIMIT {
         return PopAnswer {

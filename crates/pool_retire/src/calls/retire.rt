@@ -129,9 +129,9 @@ pub fn retire(
     view: u64,
     seq: u64,
 ) -> DoneAnswer
-    requires { is_pool (lent_by pool book textures retiring doomed spares newest stamps) ≡ true }
-    ensures { (told_number result.outcome, at_exit result.pool book textures retiring doomed spares newest stamps)
-        ≡ retire_on (at_entry pool book textures retiring doomed spares newest stamps) id view seq }
+    requires { is_pool (lent_by pool book textures.old retiring.old doomed.now spares.now newest.now stamps.now) ≡ true }
+    ensures { (told_number result.outcome, at_exit result.pool book textures.new retiring.new doomed.now spares.now newest.now stamps.now)
+        ≡ retire_on (at_entry pool book textures.old retiring.old doomed.now spares.now newest.now stamps.now) id view seq }
 {
     let places = retiring.len() / RETIRING_STRIDE;
     let refusal = retire_refusal(pool, retiring, places, seq);

@@ -21,9 +21,9 @@ pub fn print_sheet(
     stamps: &[u64],
     buffer: &mut [u8],
 ) -> SheetAnswer
-    requires { is_pool (lent_by pool book textures retiring doomed spares newest stamps) ≡ true }
+    requires { is_pool (lent_by pool book textures.now retiring.now doomed.now spares.now newest.now stamps.now) ≡ true }
     ensures { (sheet_told result, buffer.new)
-        ≡ print_sheet_on (at_entry pool book textures retiring doomed spares newest stamps) buffer.old }
+        ≡ print_sheet_on (at_entry pool book textures.now retiring.now doomed.now spares.now newest.now stamps.now) buffer.old }
 {
     let tracked = pool.tracked;
     let size = LINE_BYTES * (tracked + 2);

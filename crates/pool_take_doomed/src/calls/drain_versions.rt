@@ -134,9 +134,9 @@ pub fn drain_versions(
     stamps: &[u64],
     buffer: &mut [u64],
 ) -> DrainAnswer
-    requires { is_pool (lent_by pool book textures retiring doomed spares newest stamps) ≡ true }
-    ensures { (handed_told result.handed, (buffer.new, at_exit result.pool result.book textures retiring doomed spares newest stamps))
-        ≡ drain_versions_on (at_entry pool book textures retiring doomed spares newest stamps) buffer.old }
+    requires { is_pool (lent_by pool book textures.old retiring.now doomed.now spares.now newest.now stamps.now) ≡ true }
+    ensures { (handed_told result.handed, (buffer.new, at_exit result.pool result.book textures.new retiring.now doomed.now spares.now newest.now stamps.now))
+        ≡ drain_versions_on (at_entry pool book textures.old retiring.now doomed.now spares.now newest.now stamps.now) buffer.old }
 {
     let places = retiring.len() / RETIRING_STRIDE;
     let count = pool.queued + pool.doomed + pool.kept;

@@ -56,9 +56,9 @@ pub fn take_doomed(
     stamps: &[u64],
     buffer: &mut [u64],
 ) -> DrainAnswer
-    requires { is_pool (lent_by pool book textures retiring doomed spares newest stamps) ≡ true }
-    ensures { (handed_told result.handed, (buffer.new, at_exit result.pool result.book textures retiring doomed spares newest stamps))
-        ≡ take_doomed_on (at_entry pool book textures retiring doomed spares newest stamps) buffer.old }
+    requires { is_pool (lent_by pool book textures.now retiring.now doomed.now spares.now newest.now stamps.now) ≡ true }
+    ensures { (handed_told result.handed, (buffer.new, at_exit result.pool result.book textures.now retiring.now doomed.now spares.now newest.now stamps.now))
+        ≡ take_doomed_on (at_entry pool book textures.now retiring.now doomed.now spares.now newest.now stamps.now) buffer.old }
 {
     let places = retiring.len() / RETIRING_STRIDE;
     let first = pool.first;

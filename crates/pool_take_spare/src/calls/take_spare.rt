@@ -28,9 +28,9 @@ pub fn take_spare(
     records: bool,
     seq: u64,
 ) -> TakeAnswer
-    requires { is_pool (lent_by pool book textures retiring doomed spares newest stamps) ≡ true }
-    ensures { (taken_told result.taken, at_exit result.pool book textures retiring doomed spares newest stamps)
-        ≡ take_spare_on (at_entry pool book textures retiring doomed spares newest stamps) id shape records seq }
+    requires { is_pool (lent_by pool book textures.old retiring.now doomed.old spares.old newest.old stamps.old) ≡ true }
+    ensures { (taken_told result.taken, at_exit result.pool book textures.new retiring.now doomed.new spares.new newest.new stamps.new)
+        ≡ take_spare_on (at_entry pool book textures.old retiring.now doomed.old spares.old newest.old stamps.old) id shape records seq }
 {
     let look = look_up(pool, textures, stamps.len(), id, shape, records, seq);
     if look.outcome != 0 {

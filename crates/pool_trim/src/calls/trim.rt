@@ -75,8 +75,8 @@ fn trim_textures(
     stamps: &mut [u64],
     current: u64,
 ) -> Pool
-    requires { is_pool (lent_by pool book textures retiring doomed spares newest stamps) ≡ true }
-    ensures { at_exit result book textures retiring doomed spares newest stamps
+    requires { is_pool (lent_by pool book textures.old retiring.now doomed.old spares.old newest.old stamps.old) ≡ true }
+    ensures { at_exit result book textures.new retiring.now doomed.new spares.new newest.new stamps.new
         ≡ lent_after (trimmed (lent pool book textures.old retiring.now doomed.old spares.old
         newest.old stamps.old) current pool.tracked)
         (lent pool book textures.old retiring.now doomed.old spares.old
@@ -127,7 +127,7 @@ pub fn trim(
     stamps: &mut [u64],
     current: u64,
 ) -> DoneAnswer
-    requires { is_pool (lent_by pool book textures retiring doomed spares newest stamps) ≡ true }
+    requires { is_pool (lent_by pool book textures.old retiring.now doomed.old spares.old newest.old stamps.old) ≡ true }
     ensures { (
       told_number result.outcome,
       lent result.pool book textures.new retiring.now doomed.new spares.new
