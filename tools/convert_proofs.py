@@ -322,7 +322,7 @@ class Convert:
             while i < len(lines) and lines[i].strip() and not lines[i].startswith('--') and re.match(re.escape(m[2]) + r'(\s|$)', lines[i]):
                 e = [lines[i]]
                 i += 1
-                while i < len(lines) and ((lines[i].strip() and lines[i][0].isspace())):
+                while i < len(lines) and lines[i].strip() and (lines[i][0].isspace() or lines[i][0] in ')}]'):
                     e.append(lines[i])
                     i += 1
                 eqs.append(e)

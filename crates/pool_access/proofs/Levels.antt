@@ -1,22 +1,21 @@
 -- The stamps of a level's grid, and those of a slice's levels and of whole slices, added up: bounds and what the sums are. Assumes nothing.
-use mathlib.Core.Path.{◌≡◌, refl, sym, ap, ap₂, ◌∙◌, subst}
+use mathlib.Core.Path.{◌≡◌, sym, ap, ap₂, ◌∙◌, subst}
 use mathlib.Core.Bool.{true}
 use Prim.Native.Nat.{ℕ, zero, suc, ◌+◌, ◌*◌, ◌≤◌, ◌<◌}
-use native.Mathlib.Nat.{zero-add, zero-mul, mul-le-mul}
 use native.Mathlib.Numerals.{add-one}
 use native.Mathlib.Omega.{arith}
 use Rattle.grid_shapes.specs.declared.shape.VersionShape.{VersionShape}
 use Rattle.grid_shapes.specs.Shapes.{is_shape, slices_of}
-use Rattle.grid_shapes.proofs.Shapes.{shape_bounds, slices_bound}
+use Rattle.grid_shapes.proofs.Shapes.{shape_bounds}
 use Rattle.grid_axes.specs.declared.axis.Axis.{Axis}
 use Rattle.grid_axes.specs.Axes.{AxisOk}
 use Rattle.grid_stamps.specs.Grids.{tiled, tiling_of, stamp_count}
 use Rattle.grid_stamps.specs.StampConstants.{page_stamps}
 use Rattle.grid_stamps.proofs.Tilings.{tiling_ok, count_bound}
 use Rattle.pool_rules.specs.Model.{grid_count}
-use Rattle.pool_rules.specs.HistorySizes.{grid_start, history_size, level_start}
+use Rattle.pool_rules.specs.HistorySizes.{history_size, level_start}
 use Rattle.pool_rules.specs.RuleConstants.{most_grids}
-use Rattle.pool_rules.proofs.HistorySizes.{grid_start_lem, history_size_lem, history_most, level_none, level_next}
+use Rattle.pool_rules.proofs.HistorySizes.{history_size_lem, history_most, level_none, level_next}
 
 -- a history has a grid for each slice and level
 pub grids_by_slices : (s : VersionShape) (n : ℕ) → n ≡ slices_of s → n * s.levels ≡ grid_count s

@@ -1,5 +1,4 @@
 -- `push_doomed` meets its contract: the numbers stored are the record's. Assumes nothing.
-use borrow.Author.Rules.{rules}
 use Rattle.pool_records.specs.Doomed.{write_doomed}
 use Rattle.pool_access.proofs.doomed.push_doomed.Goals as goal
 

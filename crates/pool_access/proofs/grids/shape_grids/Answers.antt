@@ -1,5 +1,4 @@
 -- `shape_grids` meets its contract: it is the definition. Assumes nothing.
-use borrow.Author.Rules.{rules}
 use native.Mathlib.Omega.{arith}
 use Rattle.pool_access.proofs.Levels.{grids_by_slices}
 use Rattle.pool_access.proofs.grids.shape_grids.Goals as goal

@@ -1,7 +1,6 @@
 -- `shape_stamps` meets its contract: as many times one slice's stamps as there are slices. Assumes nothing.
 use native.Mathlib.Omega.{arith}
 use Rattle.pool_access.proofs.Levels.{slices_stamps, slices_most}
-use borrow.Author.Rules.{rules}
 use Rattle.pool_access.proofs.grids.shape_stamps.Goals as goal
 
 pub overflow_mul-result : goal.overflow_mul-result

@@ -1,5 +1,4 @@
 -- `push_retiring` meets its contract: the numbers stored are the record's. Assumes nothing.
-use borrow.Author.Rules.{rules}
 use mathlib.Core.Path.{ap, ◌∙◌}
 use mathlib.Core.List.{List}
 use Prim.Native.Nat.{ℕ, ◌*◌}

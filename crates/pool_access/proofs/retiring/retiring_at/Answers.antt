@@ -1,5 +1,4 @@
 -- `retiring_at` meets its contract: the record is read out of the part of the slice that holds it. Assumes nothing.
-use borrow.Author.Rules.{rules}
 use mathlib.Core.Path.{ap, ◌∙◌}
 use Rattle.base_tables.proofs.Rings.{ring_part}
 use Rattle.pool_records.specs.Retiring.{read_retiring}

@@ -1,8 +1,8 @@
 -- `tilings_in` meets its contract: level by level, each grid beginning where the one before it ends. Assumes nothing.
 use mathlib.Core.Path.{◌≡◌, refl, sym, ap, ap₂, ◌∙◌}
-use Prim.Native.Nat.{ℕ, ◌+◌, ◌-◌, ◌≤◌, ◌<◌}
+use Prim.Native.Nat.{ℕ, ◌+◌, ◌<◌}
 use native.Mathlib.Omega.{arith}
-use lib.ListN.{length, get_or, length-set}
+use lib.ListN.{length, length-set}
 use Rattle.grid_shapes.proofs.Shapes.{shape_bounds}
 use Rattle.grid_stamps.specs.Grids.{tiled}
 use Rattle.pool_rules.specs.HistorySizes.{level_start}
@@ -10,7 +10,6 @@ use Rattle.pool_rules.proofs.HistorySizes.{level_none}
 use Rattle.pool_records.specs.Tilings.{tiling_number}
 use Rattle.pool_access.proofs.Levels.{axes_ok, count_known, level_more, level_fits}
 use Rattle.pool_access.proofs.SliceTilingLaws.{first_place, made_number, made_fits, numbers_more}
-use borrow.Author.Rules.{rules}
 use Rattle.pool_access.proofs.slices.tilings_in.Goals as goal
 
 pub loop-level-init : goal.loop-level-init

@@ -1,5 +1,4 @@
 -- `first_spare` meets its contract: the first i and those from i on have `kept`. Assumes nothing.
-use borrow.Author.Rules.{rules}
 use mathlib.Core.Path.{◌≡◌, ap}
 use mathlib.Core.List.{List}
 use mathlib.Core.Logic.{◌⊎◌, ⊎_elim}

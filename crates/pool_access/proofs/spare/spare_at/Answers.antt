@@ -1,5 +1,4 @@
 -- `spare_at` meets its contract: the record is read out of the part of the slice that holds it. Assumes nothing.
-use borrow.Author.Rules.{rules}
 use mathlib.Core.Path.{ap, ◌∙◌}
 use Rattle.base_tables.proofs.Records.{record_part}
 use Rattle.pool_records.specs.Spare.{read_spare}

@@ -1,15 +1,11 @@
 -- `spares_before` meets its contract: the sum so far and that of the records left are the sum of all. Assumes nothing.
-use borrow.Author.Rules.{rules}
 use mathlib.Core.Path.{◌≡◌}
 use Prim.Native.Nat.{ℕ, ◌+◌, ◌-◌, ◌≤◌}
-use native.Mathlib.Omega.{arith}
 use Rattle.base_blocks.specs.Lists.{total}
 use Rattle.base_blocks.proofs.Listed.{left}
 use Rattle.base_tables.specs.Records.{record_at}
 use Rattle.pool_records.specs.declared.texture.TextureRecord.{TextureRecord}
 use Rattle.pool_records.specs.Texture.{read_texture, textures_in}
-use Rattle.pool_access.proofs.Totals.{sum_start, sum_fits, sum_more, sum_done}
-use Rattle.pool_access.proofs.Fields.{spares_number}
 use Rattle.pool_records.specs.RecordConstants.{texture_stride}
 use Rattle.pool_access.proofs.spare.spares_before.Given as goal
 

@@ -1,16 +1,10 @@
 -- `spares_between` meets its contract: the sum so far is what the records up to j have beyond the first `from`. Assumes nothing.
-use borrow.Author.Rules.{rules}
-use mathlib.Core.Path.{◌≡◌, ap, ◌∙◌}
+use mathlib.Core.Path.{◌≡◌}
 use mathlib.Core.List.{List}
 use Prim.Native.Nat.{ℕ, ◌+◌, ◌-◌, ◌≤◌}
-use native.Mathlib.Nat.{add-zero}
-use native.Mathlib.Omega.{arith}
 use Rattle.base_blocks.specs.Lists.{total}
 use Rattle.pool_records.specs.declared.texture.TextureRecord.{TextureRecord}
-use Rattle.pool_records.specs.Texture.{read_texture, textures_in}
-use Rattle.pool_access.proofs.Totals.{total_next, total_with}
-use Rattle.pool_access.proofs.Fields.{spares_number}
-use Rattle.pool_records.specs.RecordConstants.{texture_stride}
+use Rattle.pool_records.specs.Texture.{textures_in}
 use Rattle.pool_access.proofs.spare.spares_between.Given as goal
 
 abbrev pub spares_of : TextureRecord → ℕ

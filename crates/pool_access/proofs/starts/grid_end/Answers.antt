@@ -1,5 +1,4 @@
 -- `grid_end` meets its contract: it reads one number of the next record, or takes what all have. Assumes nothing.
-use borrow.Author.Rules.{rules}
 use Rattle.pool_access.proofs.Fields.{next_grid, last_grid}
 use Rattle.pool_access.proofs.starts.grid_end.Goals as goal
 

@@ -1,5 +1,4 @@
 -- `stamp_end` meets its contract: it reads one number of the next record, or takes what all have. Assumes nothing.
-use borrow.Author.Rules.{rules}
 use Rattle.pool_access.proofs.Fields.{next_stamp, last_stamp}
 use Rattle.pool_access.proofs.starts.stamp_end.Goals as goal
 

@@ -1,5 +1,4 @@
 -- `has_id` meets its contract: an id is the first number of its record. Assumes nothing.
-use borrow.Author.Rules.{rules}
 use Rattle.pool_access.proofs.Ids.{no_record, by_number}
 use Rattle.pool_access.proofs.texture.has_id.Goals as goal
 

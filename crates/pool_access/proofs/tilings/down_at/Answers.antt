@@ -1,11 +1,6 @@
-use borrow.Author.Rules.{rules}
 use mathlib.Core.Path.{ap, ◌∙◌}
 use Rattle.pool_records.specs.declared.tiling.GridTiling.{GridTiling}
 use Rattle.pool_access.proofs.Axes.{down_known}
-use Rattle.pool_access.proofs.tilings.down_at.Reads as reads
-use Rattle.pool_access.proofs.tilings.down_at.Lts as lts
-use Rattle.grid_shapes.proofs.level_extent.Reads as level-extent-reads
-use Rattle.pool_records.proofs.read_tiling.Reads as read-tiling-reads
 use Rattle.pool_access.proofs.tilings.down_at.Goals as goal
 
 -- src/tilings.rt:25:1

@@ -1,6 +1,5 @@
 -- `stamps_at` meets its contract: columns times rows of the level's tiling. Assumes nothing.
 use Rattle.pool_access.proofs.Levels.{axes_ok, count_known}
-use borrow.Author.Rules.{rules}
 use Rattle.pool_access.proofs.tilings.stamps_at.Goals as goal
 
 pub stamp_count-requires : goal.stamp_count-requires

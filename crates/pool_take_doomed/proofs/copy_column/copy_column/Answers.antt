@@ -1,8 +1,8 @@
 -- `copy_column` meets its contract: one number of each record after the other. Assumes nothing.
 use mathlib.Core.Path.{◌≡◌, ap, ap₂, ◌∙◌}
-use Prim.Native.Nat.{◌+◌, ◌*◌, ◌-◌, ◌≤◌}
+use Prim.Native.Nat.{◌+◌, ◌*◌}
 use native.Mathlib.Omega.{arith}
-use lib.ListN.{length, get_or, set, length-set}
+use lib.ListN.{get_or, set, length-set}
 use lib.Seq.{sets}
 use Rattle.base_blocks.proofs.Numbers.{row_fits}
 use Rattle.pool_take_doomed.specs.Views.{column}

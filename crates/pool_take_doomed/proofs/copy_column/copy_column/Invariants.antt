@@ -1,13 +1,9 @@
 -- `copy_column` meets its contract: one number of each record after the other. Assumes nothing.
-use mathlib.Core.Path.{◌≡◌, ap, ap₂, ◌∙◌}
-use Prim.Native.Nat.{◌+◌, ◌*◌, ◌-◌, ◌≤◌}
-use native.Mathlib.Omega.{arith}
-use lib.ListN.{length, get_or, set, length-set}
+use mathlib.Core.Path.{◌≡◌}
+use Prim.Native.Nat.{◌-◌, ◌≤◌}
+use lib.ListN.{length}
 use lib.Seq.{sets}
-use Rattle.base_blocks.proofs.Numbers.{row_fits}
 use Rattle.pool_take_doomed.specs.Views.{column}
-use Rattle.pool_take_doomed.proofs.Columns.{column_none, column_more}
-use borrow.Author.Rules.{rules}
 use Rattle.pool_take_doomed.proofs.copy_column.copy_column.Given as goal
 
 abbrev pub invariant-loop-j : goal.invariant-loop-j

@@ -1,9 +1,9 @@
 -- `push_spares` meets its contract: one spare after the other goes to the ring's end. Assumes nothing.
 use mathlib.Core.Path.{◌≡◌, ap, ◌∙◌}
 use mathlib.Core.List.{[], ◌∷◌}
-use Prim.Native.Nat.{◌+◌, ◌-◌, ◌*◌, ◌≤◌}
+use Prim.Native.Nat.{◌+◌, ◌*◌}
 use native.Mathlib.Omega.{arith}
-use lib.ListN.{length, get_or}
+use lib.ListN.{get_or}
 use lib.Seq.{sets}
 use borrow.Author.Rules.{rules}
 use Rattle.base_tables.specs.Rings.{place_of, laid}

@@ -1,16 +1,11 @@
 -- `push_spares` meets its contract: one spare after the other goes to the ring's end. Assumes nothing.
-use mathlib.Core.Path.{◌≡◌, ap, ◌∙◌}
-use mathlib.Core.List.{[], ◌∷◌}
-use Prim.Native.Nat.{◌+◌, ◌-◌, ◌*◌, ◌≤◌}
-use native.Mathlib.Omega.{arith}
-use lib.ListN.{length, get_or}
-use lib.Seq.{sets}
-use borrow.Author.Rules.{rules}
-use Rattle.base_tables.specs.Rings.{place_of, laid}
+use mathlib.Core.Path.{◌≡◌}
+use Prim.Native.Nat.{◌-◌, ◌≤◌}
+use lib.ListN.{length}
+use Rattle.base_tables.specs.Rings.{laid}
 use Rattle.pool_records.specs.Doomed.{write_doomed}
 use Rattle.pool_take_doomed.specs.Given.{given_records}
-use Rattle.pool_take_doomed.proofs.Pushed.{given_none, given_more}
-use Rattle.pool_records.specs.RecordConstants.{doomed_stride, spare_stride}
+use Rattle.pool_records.specs.RecordConstants.{doomed_stride}
 use Rattle.pool_take_doomed.proofs.given.push_spares.Given as goal
 
 abbrev pub invariant-loop-j : goal.invariant-loop-j

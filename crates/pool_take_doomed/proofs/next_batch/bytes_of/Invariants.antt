@@ -1,13 +1,8 @@
 -- `bytes_of` meets its contract: one version's bytes after the other. Assumes nothing.
-use mathlib.Core.Path.{◌≡◌, ap, ap₂, ◌∙◌}
-use Prim.Native.Nat.{◌+◌, ◌*◌, ◌-◌, ◌≤◌}
-use native.Mathlib.Omega.{arith}
-use lib.ListN.{get_or}
+use mathlib.Core.Path.{◌≡◌}
+use Prim.Native.Nat.{◌-◌, ◌≤◌}
 use Rattle.pool_rules.specs.Model.{doomed_bytes}
 use Rattle.pool_take_doomed.specs.NextBatch.{doomed_entries}
-use Rattle.pool_take_doomed.proofs.Batches.{bytes_none, bytes_more, bytes_part}
-use borrow.Author.Rules.{rules}
-use Rattle.pool_records.specs.RecordConstants.{doomed_bytes_at, doomed_stride}
 use Rattle.pool_take_doomed.proofs.next_batch.bytes_of.Given as goal
 
 abbrev pub invariant-loop-i : goal.invariant-loop-i

@@ -1,13 +1,9 @@
 -- `covering` meets its contract: versions are added until the excess is covered or none is left. Assumes nothing.
-use mathlib.Core.Path.{◌≡◌, sym, ap, ap₂, ◌∙◌}
-use Prim.Native.Nat.{◌+◌, ◌*◌, ◌-◌, ◌≤◌}
-use native.Mathlib.Omega.{arith}
-use lib.ListN.{get_or}
+use mathlib.Core.Path.{◌≡◌}
+use Prim.Native.Nat.{◌-◌, ◌≤◌}
 use Rattle.pool_rules.specs.Model.{doomed_bytes}
 use Rattle.pool_take_doomed.specs.NextBatch.{doomed_entries, batch_of}
-use Rattle.pool_take_doomed.proofs.Batches.{bytes_more, bytes_part, batch_from, batch_start, batch_more, batch_stop, batch_done}
-use borrow.Author.Rules.{rules}
-use Rattle.pool_records.specs.RecordConstants.{doomed_bytes_at, doomed_stride}
+use Rattle.pool_take_doomed.proofs.Batches.{batch_from}
 use Rattle.pool_take_doomed.proofs.next_batch.covering.Given as goal
 
 abbrev pub invariant-loop-count : goal.invariant-loop-count

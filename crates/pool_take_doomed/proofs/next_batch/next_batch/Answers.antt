@@ -3,7 +3,6 @@ use mathlib.Core.Path.{ap, ◌∙◌}
 use native.Mathlib.Omega.{arith}
 use Rattle.pool_take_doomed.specs.NextBatch.{doomed_entries, batch_of}
 use Rattle.pool_take_doomed.proofs.Batches.{paced_most}
-use borrow.Author.Rules.{rules}
 use Rattle.pool_take_doomed.proofs.next_batch.next_batch.Goals as goal
 
 pub covering-requires : goal.covering-requires

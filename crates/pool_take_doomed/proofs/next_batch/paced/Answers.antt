@@ -3,7 +3,6 @@ use mathlib.Core.Path.{ap, ◌∙◌}
 use Prim.Native.Nat.{◌+◌, ◌/◌, min, max}
 use Rattle.base_blocks.specs.Lists.{ceil_div}
 use Rattle.pool_take_doomed.specs.NextBatch.{paced_of}
-use borrow.Author.Rules.{rules}
 use Rattle.pool_rules.specs.RuleConstants.{min_destroys_per_drain}
 use Rattle.pool_take_doomed.proofs.next_batch.paced.Goals as goal
 

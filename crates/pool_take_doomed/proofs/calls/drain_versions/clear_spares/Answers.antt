@@ -1,8 +1,8 @@
 -- `clear_spares` meets its contract: one record after the other. Assumes nothing.
 use mathlib.Core.Path.{◌≡◌, ap, ◌∙◌}
-use Prim.Native.Nat.{◌+◌, ◌*◌, ◌-◌, ◌≤◌}
+use Prim.Native.Nat.{◌+◌, ◌*◌}
 use native.Mathlib.Omega.{arith}
-use lib.ListN.{length, set, length-set}
+use lib.ListN.{set, length-set}
 use Rattle.pool_take_doomed.specs.DrainVersions.{cleared}
 use Rattle.pool_take_doomed.proofs.Cleared.{cleared_none, cleared_more}
 use borrow.Author.Rules.{rules}

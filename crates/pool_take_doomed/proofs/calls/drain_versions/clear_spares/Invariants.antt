@@ -1,12 +1,8 @@
 -- `clear_spares` meets its contract: one record after the other. Assumes nothing.
-use mathlib.Core.Path.{◌≡◌, ap, ◌∙◌}
-use Prim.Native.Nat.{◌+◌, ◌*◌, ◌-◌, ◌≤◌}
-use native.Mathlib.Omega.{arith}
-use lib.ListN.{length, set, length-set}
+use mathlib.Core.Path.{◌≡◌}
+use Prim.Native.Nat.{◌-◌, ◌≤◌}
+use lib.ListN.{length}
 use Rattle.pool_take_doomed.specs.DrainVersions.{cleared}
-use Rattle.pool_take_doomed.proofs.Cleared.{cleared_none, cleared_more}
-use borrow.Author.Rules.{rules}
-use Rattle.pool_records.specs.RecordConstants.{texture_spares_at, texture_stride}
 use Rattle.pool_take_doomed.proofs.calls.drain_versions.clear_spares.Given as goal
 
 abbrev pub invariant-loop-i : goal.invariant-loop-i

@@ -1,6 +1,5 @@
 -- `copy_views` meets its contract: three columns, one after the other. Assumes nothing.
 use Rattle.pool_take_doomed.proofs.Columns.{views_copied}
-use borrow.Author.Rules.{rules}
 use Rattle.pool_take_doomed.proofs.calls.drain_versions.copy_views.Goals as goal
 
 pub returns : goal.returns

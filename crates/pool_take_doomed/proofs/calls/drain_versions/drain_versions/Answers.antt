@@ -4,7 +4,6 @@ use Rattle.pool_memory.specs.Lent.{lent, version_places}
 use Rattle.pool_memory.proofs.FromPool.{pool_fits}
 use Rattle.pool_memory.proofs.Stays.{textures_fit_lem, doomed_fit_lem}
 use Rattle.pool_take_doomed.proofs.Drained.{drain_refused, drain_accepted}
-use borrow.Author.Rules.{rules}
 use Rattle.pool_take_doomed.proofs.calls.drain_versions.drain_versions.Goals as goal
 
 pub overflow_add-count : goal.overflow_add-count

@@ -1,6 +1,5 @@
 -- `drained_counts` meets its contract. Assumes nothing.
 use Rattle.pool_take_doomed.specs.DrainVersions.{drained_counts}
-use borrow.Author.Rules.{rules}
 use Rattle.pool_take_doomed.proofs.calls.drain_versions.drained_counts.Goals as goal
 
 pub returns : goal.returns

@@ -4,7 +4,6 @@ use Rattle.pool_memory.specs.Lent.{lent, version_places}
 use Rattle.pool_memory.proofs.FromPool.{pool_fits}
 use Rattle.pool_memory.proofs.Stays.{doomed_fit_lem}
 use Rattle.pool_take_doomed.proofs.Taken.{slot_below, batch_fits, counts_fit_lem, take_refused, take_accepted}
-use borrow.Author.Rules.{rules}
 use Rattle.pool_take_doomed.proofs.calls.take_doomed.take_doomed.Goals as goal
 
 pub arrived-arrivals-requires : goal.arrived-arrivals-requires

@@ -2,7 +2,6 @@
 use Prim.Native.Nat.{◌%◌}
 use native.Mathlib.Numerals.{add-one}
 use Rattle.pool_take_doomed.specs.TakeDoomed.{taken_book}
-use borrow.Author.Rules.{rules}
 use Rattle.pool_rules.specs.RuleConstants.{destroy_spread_drains}
 use Rattle.pool_take_doomed.proofs.calls.take_doomed.taken_book.Goals as goal
 

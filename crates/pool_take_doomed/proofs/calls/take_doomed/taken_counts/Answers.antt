@@ -1,7 +1,6 @@
 -- `taken_counts` meets its contract. Assumes nothing.
 use Prim.Native.Nat.{◌-◌}
 use Rattle.pool_take_doomed.specs.TakeDoomed.{taken_counts}
-use borrow.Author.Rules.{rules}
 use Rattle.pool_take_doomed.proofs.calls.take_doomed.taken_counts.Goals as goal
 
 pub returns : goal.returns
