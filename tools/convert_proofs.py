@@ -11,8 +11,9 @@ only = [a for a in sys.argv[3:] if not a.startswith('--')]
 generated = next((a[12:] for a in sys.argv if a.startswith('--generated=')), None)
 name = os.path.basename(os.path.abspath(crate))
 data = json.load(open(names_file))
-alike = lambda s: re.sub('[-_]', '', s)
+alike = lambda s: re.sub('[-_]', '', s).lower()
 SHORT = re.compile(r'\n?(?:  --[^\n]*\n)?  abbrev (%s) : tie\.[^\n]*\n  \1 = (%s)((?:\.before)+)[ ]*(?=\n|$)' % (W, W))
+FIELDS = {'inv': 'invariant', 'taken': 'true', 'left': 'false', 'pre': 'requires'}
 ROOT = {'pre': 'requires', 'well-formed': 'well_formed', 'fits': 'ranges', 'type-inv': 'type_inv'}
 
 
@@ -90,6 +91,8 @@ class Convert:
         if not rest:
             return rest
         subs = dict(pair for _, _, s in got for pair in s)
+        if rest[0] in FIELDS and rest[0] not in subs:
+            rest = [FIELDS[rest[0]]] + rest[1:]
         if rest[0] == 'auto' and len(rest) > 1 and rest[1] in '01':
             names = [new[5:] for _, _, s in got[:1] for _, new in s if new.startswith('long-')]
             k = 1
@@ -221,6 +224,13 @@ class Convert:
                 self.warn.append('no label %s' % whole)
             return 'c.' + '.'.join(rest)
         text = re.sub(r"(?<![^\s(){},;\[\]])%s(?:\.%s)*" % (W, W), repl, text)
+        return self.steps(text)
+
+    def steps(self, text):
+        """Fields of a step under a name of its own."""
+        for m in re.finditer(r"let\s+(%s)\s*=\s*c\.(%s)\s+in\b" % (W, W), text):
+            if any(m[2] == new for rows in self.labels.values() for new, _, _ in rows):
+                text = re.sub(r"(?<![^\s(){},;\[\]])(%s)\.(inv|taken|left)(?![\w'-])" % re.escape(m[1]), lambda q: q[1] + '.' + FIELDS[q[2]], text)
         return text
 
     def of_place(self, text):
@@ -343,7 +353,7 @@ class Convert:
             k = dcl[0] and re.search(r':\s*tie\.Need-(%s)' % W, ' '.join(dcl[3]))
             if k:
                 old = k[1]
-                new = self.needs.get(alike(re.sub(r'^overflow-', '', old))) or self.needs.get(alike(old))
+                new = self.needs.get(alike(re.sub(r'^overflow-', '', old))) or self.needs.get(alike(old)) or self.needs.get(alike(re.sub('^slice-bounds-', 'part-', old))) or self.needs.get(alike(re.sub('^nonzero-', '', old)))
                 if new:
                     self.answers[dcl[0]] = new
         for dcl in decls:
@@ -402,7 +412,7 @@ class Convert:
             if k:
                 old = k[1]
                 short = re.sub(r'^overflow-', '', old)
-                new = self.needs.get(alike(short)) or self.needs.get(alike(old))
+                new = self.needs.get(alike(short)) or self.needs.get(alike(old)) or self.needs.get(alike(re.sub('^slice-bounds-', 'part-', old))) or self.needs.get(alike(re.sub('^nonzero-', '', old)))
                 if not new:
                     if alike(old) in self.settled or re.match(r'same[-_]length', old) or re.match(r'shape', old):
                         continue

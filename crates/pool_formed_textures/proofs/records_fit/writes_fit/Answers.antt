@@ -1,0 +1,7 @@
+-- `writes_fit` meets its contract. Assumes nothing.
+use mathlib.Core.Path.{sym, ap}
+use Rattle.pool_formed_textures.specs.Textures.{writes_fit}
+use Rattle.pool_formed_textures.proofs.records_fit.writes_fit.Goals as goal
+
+pub returns-in-Writes : goal.returns-in-Writes
+returns-in-Writes c = sym (ap writes_fit c.in-Writes.is)

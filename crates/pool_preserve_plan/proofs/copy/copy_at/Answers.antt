@@ -1,0 +1,141 @@
+-- `copy_at` meets its contract: the grid is cut from the middle of the stamps. Assumes nothing.
+use mathlib.Core.Path.{◌≡◌, sym, ap, ◌∙◌}
+use Prim.Native.Nat.{ℕ, ◌+◌, ◌*◌, ◌-◌, ◌≤◌}
+use native.Mathlib.Omega.{arith}
+use lib.ListN.{length}
+use Rattle.grid_stamps.specs.Grids.{tiling_of, stamp_count}
+use Rattle.pool_rules.specs.HistorySizes.{grid_start}
+use Rattle.pool_rules.specs.RuleConstants.{grid_stride}
+use Rattle.pool_memory.proofs.GridParts.{part_fits}
+use Rattle.pool_access.proofs.Levels.{axes_ok, count_known}
+use Rattle.pool_preserve_plan.specs.Copies.{footprint, box_planned}
+use Rattle.pool_preserve_plan.proofs.Planned.{planned_covered, planned_unknown, planned_after, planned_held, GridThere, grid_there, part_box}
+use borrow.Author.Rules.{rules}
+use Rattle.pool_preserve_plan.proofs.copy.copy_at.Goals as goal
+use Rattle.pool_preserve_plan.proofs.copy.copy_at.Goals.{After-stamp_count, After-start_at, In-After}
+
+-- the grid is there
+module _ (c : In-After) where
+
+
+  abbrev grid : ℕ
+  grid = c.in-After.grid
+
+  abbrev stamp : ℕ
+  stamp = c.in-After.stamp
+
+  abbrev p : ℕ
+  p = grid + grid_stride * c.args.k
+
+  there : GridThere c.args.shape c.args.newest.now c.args.stamps.now grid stamp c.args.k c.args.level
+  there =
+      let a = c.args in
+      let q = c.requires in
+      grid_there a.shape q.0 a.newest.now a.stamps.now grid stamp _ a.k a.level a.since a.slice c.in-After.is q.1 q.2 q.3 q.4
+
+-- its stamps begin where the number beside its newest stamp says
+module _ (c : After-start_at) where
+
+
+  begun : c.start_at.result ≡ grid_start c.args.shape c.args.k
+  begun = c.start_at.ensures ∙ (there c.before.before.before).start
+
+  room : stamp c.before.before.before + c.start_at.result + stamp_count (tiling_of c.args.shape c.args.level) ≤ length c.args.stamps.now
+  room = omega (arith, (there c.before.before.before).room, begun)
+
+-- and are as many as its tiles
+module _ (c : After-stamp_count) where
+
+
+  abbrev start : ℕ
+  start = stamp c.before.before.before.before.before.before + c.start_at.result
+
+  abbrev count : ℕ
+  count = let a = (c).args in stamp_count (tiling_of a.shape a.level)
+
+  counted : c.stamp_count.result ≡ count
+  counted =
+      let s = c in
+      count_known s.args.shape s.pre.0 s.args.level c.across_at-across.result c.down_at-down.result
+      c.across_at-across.ensures c.down_at-down.ensures c.stamp_count.result c.stamp_count.ensures
+
+  part_size : start + c.stamp_count.result - start ≡ count
+  part_size = omega (arith, counted)
+
+pub returns-then-covered : goal.returns-then-covered
+returns-then-covered c =
+    let a = c.args in
+    sym (planned_covered a.newest.now a.stamps.now a.shape a.since (footprint a.upload) a.slice a.level c.if-covered.true)
+
+pub returns-in_default : goal.returns-in_default
+returns-in_default c =
+    let a = c.args in
+    sym (planned_unknown a.newest.now a.stamps.now a.shape a.since (footprint a.upload) a.slice a.level c.if-covered.false c.in_default.is)
+
+pub overflow_mul-p : goal.overflow_mul-p
+overflow_mul-p c = omega (arith, (there (goal.at.overflow_mul-p c).In-After).numbers)
+
+pub overflow_add-p : goal.overflow_add-p
+overflow_add-p c = omega (arith, (there (goal.at.overflow_add-p c).In-After).numbers)
+
+pub offset_bounds-newest-p : goal.offset_bounds-newest-p
+offset_bounds-newest-p c = omega (arith, (there (goal.at.offset_bounds-newest-p c).In-After).numbers)
+
+pub bounds-newest-p : goal.bounds-newest-p
+bounds-newest-p c = omega (arith, (there (goal.at.bounds-newest-p c).In-After).numbers)
+
+pub returns-then-newest-p : goal.returns-then-newest-p
+returns-then-newest-p c =
+    let a = c.args in
+    sym (planned_held a.newest.now a.stamps.now a.shape a.since (footprint a.upload) a.slice a.level c.if-covered.false
+    (grid (goal.at.returns-then-newest-p c).In-After) (stamp (goal.at.returns-then-newest-p c).In-After) _ a.k c.in-After.is c.requires.4 c.if-newest-p.true)
+
+pub start_at-requires : goal.start_at-requires
+start_at-requires c = omega (arith, (there (goal.at.start_at-requires c).In-After).numbers)
+
+pub overflow_add-start : goal.overflow_add-start
+overflow_add-start c = omega (arith, room (goal.at.overflow_add-start c).After-start_at)
+
+pub across_at-across-requires : goal.across_at-across-requires
+across_at-across-requires c = let t = there (goal.at.across_at-across-requires c).In-After in (t.numbers, t.edges)
+
+pub down_at-down-requires : goal.down_at-down-requires
+down_at-down-requires c = let t = there (goal.at.down_at-down-requires c).In-After in (t.numbers, t.edges)
+
+pub stamp_count-requires : goal.stamp_count-requires
+stamp_count-requires c =
+    let s = c in
+    axes_ok s.args.shape s.pre.0 s.args.level c.across_at-across.result c.down_at-down.result c.across_at-across.ensures c.down_at-down.ensures
+
+pub overflow_add-end : goal.overflow_add-end
+overflow_add-end c = omega (arith, counted (goal.at.overflow_add-end c).After-stamp_count, room (goal.at.overflow_add-end c).After-start_at)
+
+pub offset_bounds-stamps-start : goal.offset_bounds-stamps-start
+offset_bounds-stamps-start c = omega (arith, room (goal.at.offset_bounds-stamps-start c).After-start_at)
+
+pub offset_bounds-newest-p-2 : goal.offset_bounds-newest-p-2
+offset_bounds-newest-p-2 c = omega (arith, (there (c)).numbers)
+
+pub bounds-newest-p-2 : goal.bounds-newest-p-2
+bounds-newest-p-2 c = omega (arith, (there (c)).numbers)
+
+pub written_since-dirty-requires : goal.written_since-dirty-requires
+written_since-dirty-requires c =
+    let k = c in
+    let s = k in
+    let a = s.args in
+    part_fits a.shape s.pre.0 a.level a.newest.now a.stamps.now (p k) (start (goal.at.written_since-dirty-requires c).After-stamp_count) (room (goal.at.written_since-dirty-requires c).After-start_at) _ _ _ (part_size (goal.at.written_since-dirty-requires c).After-stamp_count)
+    c.across_at-across.ensures c.down_at-down.ensures
+
+pub returns : goal.returns
+returns c =
+    let k = c in
+    let s = k in
+    let a = s.args in
+    c.box_planned.ensures
+    ∙ ap (box_planned a.shape a.level)
+    (c.written_since-dirty.ensures
+    ∙ part_box a.shape s.pre.0 a.newest.now a.stamps.now (grid k) (stamp k) _ a.k a.level (there k) _ _ _ _ (begun (goal.at.returns c).After-start_at) (part_size (goal.at.returns c).After-stamp_count)
+    c.across_at-across.ensures c.down_at-down.ensures)
+    ∙ sym (planned_after a.newest.now a.stamps.now a.shape a.since (footprint a.upload) a.slice a.level k.before.before.before.if1.left
+    (grid k) (stamp k) _ a.k k.before.since.given.1 s.pre.4)
