@@ -113,6 +113,9 @@ overflow_add-end c = omega (arith, counted (goal.at.overflow_add-end c).After-st
 pub offset_bounds-stamps-start : goal.offset_bounds-stamps-start
 offset_bounds-stamps-start c = omega (arith, room (goal.at.offset_bounds-stamps-start c).After-start_at)
 
+pub slice_bounds-written_since-end : goal.slice_bounds-written_since-end
+slice_bounds-written_since-end c = omega (arith, counted (goal.at.slice_bounds-written_since-end c).After-stamp_count, room (goal.at.slice_bounds-written_since-end c).After-start_at)
+
 pub offset_bounds-newest-p-2 : goal.offset_bounds-newest-p-2
 offset_bounds-newest-p-2 c = omega (arith, (there (c)).numbers)
 

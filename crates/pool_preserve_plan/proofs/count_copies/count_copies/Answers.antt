@@ -27,7 +27,7 @@ module _ (c : In-loop-k) where
   within = omega (arith, c.loop-k-test.true, c.shape_grids-all.ensures)
 
   most : c.loop-k.at.slice ≤ most_grids
-  most = omega (arith, c.loop-k.inv.2.below, within, grids_most c.args.shape c.requires.0)
+  most = omega (arith, c.loop-k.invariant.2.below, within, grids_most c.args.shape c.requires.0)
 
 -- the copies of one subresource
 module _ (c : After-copy_count-count) where
@@ -40,7 +40,7 @@ module _ (c : After-copy_count-count) where
       c.copy_count-count.ensures.1
       ∙ list_length c.copy_at-planned.result 0 0 l.at.slice l.at.level
       ∙ ap length (list_at a.newest.now a.stamps.now a.shape a.since (footprint a.upload) l.k l.at.slice l.at.level
-      c.copy_at-planned.result l.inv.2 c.copy_at-planned.ensures)
+      c.copy_at-planned.result l.invariant.2 c.copy_at-planned.ensures)
 
 pub shape_grids-all-requires : goal.shape_grids-all-requires
 shape_grids-all-requires c = omega (arith, grids_most c.args.shape c.requires.0)
@@ -71,11 +71,11 @@ loop-k-preserved c =
     let l = c.loop-k in
     let n = c.next_subresource-at in
     let all = c.shape_grids-all.result in
-    let h = c.loop-k-test.taken in (
-      omega (arith, l.inv.0, c.copy_count-count.ensures.0),
+    let h = c.loop-k-test.true in (
+      omega (arith, l.invariant.0, c.copy_count-count.ensures.0),
       omega (arith, h),
-      next_place c.args.shape.levels l.k l.at.slice l.at.level l.inv.2 n.result.slice n.result.level n.ensures.0 n.ensures.1 n.ensures.2,
-      ap (λ (i : ℕ). l.count + i + length (rest (planCopies (goal.at.loop-k-preserved c).Start) all (l.k + 1))) (counted (goal.at.loop-k-preserved c).After-copy_count-count) ∙ count_more (planCopies (goal.at.loop-k-preserved c).Start) all l.k l.count _ h l.inv.3,
+      next_place c.args.shape.levels l.k l.at.slice l.at.level l.invariant.2 n.result.slice n.result.level n.ensures.0 n.ensures.1 n.ensures.2,
+      ap (λ (i : ℕ). l.count + i + length (rest (planCopies (goal.at.loop-k-preserved c).Start) all (l.k + 1))) (counted (goal.at.loop-k-preserved c).After-copy_count-count) ∙ count_more (planCopies (goal.at.loop-k-preserved c).Start) all l.k l.count _ h l.invariant.3,
     )
 
 pub returns : goal.returns

@@ -28,7 +28,7 @@ module _ (c : In-loop-k) where
   within = omega (arith, c.loop-k-test.true, c.shape_grids-all.ensures)
 
   most : c.loop-k.at.slice ≤ most_grids
-  most = omega (arith, c.loop-k.inv.2.below, within, grids_most c.args.shape c.requires.0)
+  most = omega (arith, c.loop-k.invariant.2.below, within, grids_most c.args.shape c.requires.0)
 
 -- the copies of one subresource
 module _ (c : After-copy_at-planned) where
@@ -39,15 +39,15 @@ module _ (c : After-copy_at-planned) where
       let a = c.args in
       let l = c.loop-k in
       list_at a.newest.now a.stamps.now a.shape a.since (footprint a.upload) l.k l.at.slice l.at.level
-      c.copy_at-planned.result l.inv.2 c.copy_at-planned.ensures
+      c.copy_at-planned.result l.invariant.2 c.copy_at-planned.ensures
 
   room : copy_stride * (c.loop-k.count + length (copy_list c.copy_at-planned.result c.loop-k.at.slice c.loop-k.at.level))
       ≤ length c.loop-k.buffer
   room =
       let l = c.loop-k in
       let e = next_room (planCopies c.before.before.before.before.before.before.before.before) c.shape_grids-all.result l.k l.count _ (length c.args.buffer.now)
-      c.loop-k-test.taken l.inv.3 c.requires.2 in
-      omega (arith, e, l.inv.1, ap length copied)
+      c.loop-k-test.true l.invariant.3 c.requires.2 in
+      omega (arith, e, l.invariant.1, ap length copied)
 
 pub shape_grids-all-requires : goal.shape_grids-all-requires
 shape_grids-all-requires c = omega (arith, grids_most c.args.shape c.requires.0)
@@ -80,16 +80,16 @@ loop-k-preserved c =
     let l = c.loop-k in
     let n = c.next_subresource-at in
     let all = c.shape_grids-all.result in
-    let h = c.loop-k-test.taken in
+    let h = c.loop-k-test.true in
     let more = rest (planCopies (goal.at.loop-k-preserved c).Start) all (l.k + 1) in
     let e = copied (goal.at.loop-k-preserved c).After-copy_at-planned in
     let r : p.result ≡ l.count + length (planCopies (goal.at.loop-k-preserved c).Start l.k) = p.ensures.0 ∙ ap (λ cs. l.count + length cs) e in
     let w = p.ensures.1 ∙ ap (λ cs. with_copies l.count cs l.buffer) e in (
       omega (arith, h),
-      p.auto.0 ∙ l.inv.1,
-      next_place c.args.shape.levels l.k l.at.slice l.at.level l.inv.2 n.result.slice n.result.level n.ensures.0 n.ensures.1 n.ensures.2,
-      ap (λ i. i + length more) r ∙ count_more (planCopies (goal.at.loop-k-preserved c).Start) all l.k l.count _ h l.inv.3,
-      ap₂ (λ i b. with_copies i more b) r w ∙ put_more (planCopies (goal.at.loop-k-preserved c).Start) all l.k l.count l.buffer _ h l.inv.4,
+      p.auto.buffer ∙ l.invariant.1,
+      next_place c.args.shape.levels l.k l.at.slice l.at.level l.invariant.2 n.result.slice n.result.level n.ensures.0 n.ensures.1 n.ensures.2,
+      ap (λ i. i + length more) r ∙ count_more (planCopies (goal.at.loop-k-preserved c).Start) all l.k l.count _ h l.invariant.3,
+      ap₂ (λ i b. with_copies i more b) r w ∙ put_more (planCopies (goal.at.loop-k-preserved c).Start) all l.k l.count l.buffer _ h l.invariant.4,
     )
 
 pub returns : goal.returns

@@ -30,25 +30,25 @@ find_history-found-requires c =
 
 pub plan_refusal-why-requires : goal.plan_refusal-why-requires
 plan_refusal-why-requires c =
-    rw (c.Since-of.ensures, c.find_history-found.ensures) (found_fits (memory (goal.at.plan_refusal-why-requires c).Start) (fit (goal.at.plan_refusal-why-requires c).Start) c.args.id c.args.shape c.args.held)
+    rw (c.since_of-since.ensures, c.find_history-found.ensures) (found_fits (memory (goal.at.plan_refusal-why-requires c).Start) (fit (goal.at.plan_refusal-why-requires c).Start) c.args.id c.args.shape c.args.held)
 
 pub returns-then-why-ne0 : goal.returns-then-why-ne0
 returns-then-why-ne0 c =
     let a = c.args in
-    says_refused (memory (goal.at.returns-then-why-ne0 c).Start) c.requires a.id a.shape a.held (upload (goal.at.returns-then-why-ne0 c).Start) a.buffer.now c.find_history-found.result c.Since-of.result
-    c.find_history-found.ensures c.Since-of.ensures c.plan_refusal-why.result c.plan_refusal-why.ensures c.if-why-ne0.true
+    says_refused (memory (goal.at.returns-then-why-ne0 c).Start) c.requires a.id a.shape a.held (upload (goal.at.returns-then-why-ne0 c).Start) a.buffer.now c.find_history-found.result c.since_of-since.result
+    c.find_history-found.ensures c.since_of-since.ensures c.plan_refusal-why.result c.plan_refusal-why.ensures c.if-why-ne0.true
 
 pub put_copies-count-requires : goal.put_copies-count-requires
 put_copies-count-requires c =
     let a = c.args in
-    let r = fits_room (memory (goal.at.put_copies-count-requires c).Start) c.requires a.id a.shape a.held (upload (goal.at.put_copies-count-requires c).Start) a.buffer.now c.find_history-found.result c.Since-of.result
-    c.find_history-found.ensures c.Since-of.ensures c.plan_refusal-why.result c.plan_refusal-why.ensures c.if-why-ne0.false in
-    (r.0, rw (c.Since-of.ensures, c.find_history-found.ensures) (found_fits (memory (goal.at.put_copies-count-requires c).Start) (fit (goal.at.put_copies-count-requires c).Start) a.id a.shape a.held), r.1)
+    let r = fits_room (memory (goal.at.put_copies-count-requires c).Start) c.requires a.id a.shape a.held (upload (goal.at.put_copies-count-requires c).Start) a.buffer.now c.find_history-found.result c.since_of-since.result
+    c.find_history-found.ensures c.since_of-since.ensures c.plan_refusal-why.result c.plan_refusal-why.ensures c.if-why-ne0.false in
+    (r.0, rw (c.since_of-since.ensures, c.find_history-found.ensures) (found_fits (memory (goal.at.put_copies-count-requires c).Start) (fit (goal.at.put_copies-count-requires c).Start) a.id a.shape a.held), r.1)
 
 pub returns : goal.returns
 returns c =
     let a = c.args in
     let p = c.put_copies-count in
     let w = c.plan_refusal-why in
-    says_accepted (memory (goal.at.returns c).Start) c.requires a.id a.shape a.held (upload (goal.at.returns c).Start) a.buffer.now c.find_history-found.result c.Since-of.result
-    c.find_history-found.ensures c.Since-of.ensures w.result p.result p.new.0 w.ensures c.if-why-ne0.false p.ensures.0 p.ensures.1
+    says_accepted (memory (goal.at.returns c).Start) c.requires a.id a.shape a.held (upload (goal.at.returns c).Start) a.buffer.now c.find_history-found.result c.since_of-since.result
+    c.find_history-found.ensures c.since_of-since.ensures w.result p.result p.new.0 w.ensures c.if-why-ne0.false p.ensures.0 p.ensures.1
