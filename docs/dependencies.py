@@ -14,7 +14,7 @@ import sys
 
 os.chdir(os.path.dirname(os.path.dirname(os.path.abspath(__file__))))
 
-KIT = ['check', 'bytes', 'io', 'libc', 'os']
+KIT = ['check', 'io']
 
 # What each layer may list. The event program sees the pool, and of the grids what the pool's contracts name: shapes and rectangles.
 LAYERS = {

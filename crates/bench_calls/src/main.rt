@@ -16,12 +16,13 @@ mod testing;
 mod totals;
 
 use asked::bench_stamps;
-use bench_common::argument;
+use bench_common::{argument, is_given};
 use grid_stamps::PAGE_STAMPS;
 use phases::Task;
+use std::time::CpuClock;
 
 // Runs the rounds on memory for as many places as may be lent.
-fn bench(t: usize, v: usize, p: usize, task: Task) {
+fn bench(clock: &impl CpuClock, t: usize, v: usize, p: usize, task: Task) {
     if t > 4096 {
         return;
     }
@@ -39,6 +40,7 @@ fn bench(t: usize, v: usize, p: usize, task: Task) {
     let mut stamps = room::stamp_places();
     let mut notes = room::note_places();
     run::run_part(
+        clock,
         &mut textures,
         &mut retiring,
         &mut doomed,
@@ -70,24 +72,29 @@ fn pages_of(levels: u64, t: usize) -> usize {
 }
 
 // Takes four arguments, for as many versions as textures and the pages that they need, or six.
-fn main() {
-    let n = os::arg_count();
-    if n < 5 {
+fn main(rt: HostRuntime) {
+    if !is_given(&rt, 4) {
         return;
     }
-    let workload = argument(1);
-    let t = argument(3) as usize;
+    let workload = argument(&rt, 1);
+    let t = argument(&rt, 3) as usize;
     let levels = levels_of(workload, t);
     let task = Task {
         workload,
-        order: argument(2),
+        order: argument(&rt, 2),
         textures: t,
         levels,
-        rounds: argument(4),
+        rounds: argument(&rt, 4),
     };
-    if n < 7 {
-        bench(t, t, pages_of(levels, t), task);
+    if !is_given(&rt, 6) {
+        bench(&rt, t, t, pages_of(levels, t), task);
         return;
     }
-    bench(t, argument(5) as usize, argument(6) as usize, task);
+    bench(
+        &rt,
+        t,
+        argument(&rt, 5) as usize,
+        argument(&rt, 6) as usize,
+        task,
+    );
 }

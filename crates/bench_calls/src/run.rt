@@ -12,9 +12,11 @@ use bench_common::{elapsed, reading};
 use grid_stamps::PAGE_STAMPS;
 use pool_records::{DOOMED_STRIDE, RETIRING_STRIDE, SPARE_STRIDE, TEXTURE_STRIDE};
 use pool_rules::newest_length;
+use std::time::CpuClock;
 
 // Runs the rounds, phase after phase. Nothing is done where the memory is not enough for a pool.
 fn run(
+    clock: &impl CpuClock,
     textures: &mut [u64],
     retiring: &mut [u64],
     doomed: &mut [u64],
@@ -39,25 +41,26 @@ fn run(
         let phase = phase_at(task.workload, k % 8);
         let moved = shuffled_in(task.order, task.textures, k % 8);
         shuffle_ids(notes, moved, seq);
-        let start = reading();
+        let start = reading(clock);
         let done = call_all(
             counts, paces, textures, retiring, doomed, spares, newest, stamps, notes, task, phase,
             seq,
         );
-        let time = counted(task.workload, phase, seq, elapsed(start));
+        let time = counted(task.workload, phase, seq, elapsed(clock, start));
         totals = added(totals, phase, time, done.number);
         counts = done.pool;
         paces = done.book;
         k += 1;
     }
-    report(totals, counts, id_at(notes, 0));
+    report(clock, totals, counts, id_at(notes, 0));
     test_lines(
-        counts, paces, textures, retiring, doomed, spares, newest, stamps, 64,
+        clock, counts, paces, textures, retiring, doomed, spares, newest, stamps, 64,
     );
 }
 
 // Lends the parts of the memory that t textures, v versions and p pages take.
 pub fn run_part(
+    clock: &impl CpuClock,
     textures: &mut [u64],
     retiring: &mut [u64],
     doomed: &mut [u64],
@@ -80,6 +83,7 @@ pub fn run_part(
     let e = PAGE_STAMPS * p;
     let g = newest_length(t, e);
     run(
+        clock,
         &mut textures[..a],
         &mut retiring[..b],
         &mut doomed[..c],

@@ -5,6 +5,7 @@ use bench_common::{elapsed, line, reading};
 use pool_formed::is_pool;
 use pool_memory::{PacingBook, Pool};
 use std::num::wrapping_add_u64;
+use std::time::CpuClock;
 
 // What was timed, and a number that depends on everything read.
 #[derive(Clone, Copy)]
@@ -15,6 +16,7 @@ struct Timed {
 
 // Tests k times that the memory forms a pool, and counts the tests that passed.
 fn test_all(
+    clock: &impl CpuClock,
     pool: Pool,
     book: PacingBook,
     textures: &[u64],
@@ -32,7 +34,7 @@ fn test_all(
     ) {
         return Timed { time: 0, sum: 0 };
     }
-    let start = reading();
+    let start = reading(clock);
     let mut sum = 0;
     let mut i = 0;
     while i < k {
@@ -44,7 +46,7 @@ fn test_all(
         i += 1;
     }
     Timed {
-        time: elapsed(start),
+        time: elapsed(clock, start),
         sum,
     }
 }
@@ -69,6 +71,7 @@ fn sum_of(s: &[u64], n: usize, from: u64) -> u64 {
 
 // Adds up the memory that the test reads k times: of the newest stamps and the stamps, those in use.
 fn read_all(
+    clock: &impl CpuClock,
     pool: Pool,
     textures: &[u64],
     spares: &[u64],
@@ -76,7 +79,7 @@ fn read_all(
     stamps: &[u64],
     k: u64,
 ) -> Timed {
-    let start = reading();
+    let start = reading(clock);
     let mut sum = 0;
     let mut i = 0;
     while i < k {
@@ -87,13 +90,14 @@ fn read_all(
         i += 1;
     }
     Timed {
-        time: elapsed(start),
+        time: elapsed(clock, start),
         sum,
     }
 }
 
 // Prints what k tests and k sums took.
 pub fn test_lines(
+    clock: &impl CpuClock,
     pool: Pool,
     book: PacingBook,
     textures: &[u64],
@@ -105,9 +109,9 @@ pub fn test_lines(
     k: u64,
 ) {
     let tested = test_all(
-        pool, book, textures, retiring, doomed, spares, newest, stamps, k,
+        clock, pool, book, textures, retiring, doomed, spares, newest, stamps, k,
     );
-    let read = read_all(pool, textures, spares, newest, stamps, k);
+    let read = read_all(clock, pool, textures, spares, newest, stamps, k);
     line(b"passed ", tested.sum);
     line(b"is_pool ", tested.time);
     line(b"read ", read.time);

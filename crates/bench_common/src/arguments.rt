@@ -1,4 +1,5 @@
 // The numbers that a program is given.
+use std::env::{Env, FillError};
 use std::num::wrapping_add_u64;
 
 // Returns the digit that a byte is.
@@ -28,10 +29,16 @@ fn byte_at(text: &[u8], k: usize) -> u8 {
     0
 }
 
-// Returns the number that an argument spells.
-pub fn argument(i: usize) -> u64 {
+// Returns whether the program was given argument i; argument 0 is its name.
+pub fn is_given(env: &impl Env, i: usize) -> bool {
     let mut text = [0u8; 8];
-    let n = os::arg(i, &mut text);
+    !matches!(env.arg(i, &mut text), Err(FillError::NotPresent))
+}
+
+// Returns the number that an argument spells.
+pub fn argument(env: &impl Env, i: usize) -> u64 {
+    let mut text = [0u8; 8];
+    let n = env.arg(i, &mut text).unwrap_or(0);
     let mut value = 0;
     let mut k = 0;
     while k < n {

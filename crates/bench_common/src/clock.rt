@@ -1,29 +1,25 @@
 // The processor time of the process, in microseconds.
+use std::time::CpuClock;
 
-// Returns the time as a number that is not negative: the clock answers a negative one where it has no time.
-fn unsigned(x: i64) -> u64 {
-    if x < 0 {
-        return 0;
+// Reads the clock. Where it has no time, or one past the largest number, that is 0.
+pub fn reading(clock: &impl CpuClock) -> u64 {
+    match clock.process_cpu_time() {
+        Ok(time) => u64::try_from(time.as_micros()).unwrap_or(0),
+        Err(_) => 0,
     }
-    x as u64
-}
-
-// Reads the clock.
-pub fn reading() -> u64 {
-    unsigned(libc::clock())
 }
 
 // Returns the time since a reading.
-pub fn elapsed(start: u64) -> u64 {
-    std::num::wrapping_sub_u64(reading(), start)
+pub fn elapsed(clock: &impl CpuClock, start: u64) -> u64 {
+    std::num::wrapping_sub_u64(reading(clock), start)
 }
 
 // Reads the clock k times, one right after the other: what reading it costs.
-pub fn idle_time(k: u64) -> u64 {
+pub fn idle_time(clock: &impl CpuClock, k: u64) -> u64 {
     let mut sum = 0;
     let mut i = 0;
     while i < k {
-        sum = std::num::wrapping_add_u64(sum, elapsed(reading()));
+        sum = std::num::wrapping_add_u64(sum, elapsed(clock, reading(clock)));
         i += 1;
     }
     sum

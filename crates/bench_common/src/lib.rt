@@ -6,7 +6,7 @@ mod clock;
 mod printing;
 mod random;
 
-pub use arguments::argument;
+pub use arguments::{argument, is_given};
 pub use clock::{elapsed, idle_time, reading};
 pub use printing::line;
 pub use random::{mixed, random_from};

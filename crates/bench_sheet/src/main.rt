@@ -8,11 +8,11 @@ mod room;
 mod run;
 mod sheets;
 
-use bench_common::argument;
+use bench_common::{argument, is_given};
 
 // Does nothing without its three arguments, since the gate runs it with none.
-fn main() {
-    if os::arg_count() < 4 {
+fn main(rt: HostRuntime) {
+    if !is_given(&rt, 3) {
         return;
     }
     let mut textures = room::texture_places();
@@ -23,6 +23,7 @@ fn main() {
     let mut stamps = room::no_places();
     let mut page = room::page_bytes();
     run::run(
+        &rt,
         &mut textures,
         &mut retiring,
         &mut doomed,
@@ -30,8 +31,8 @@ fn main() {
         &mut newest,
         &mut stamps,
         &mut page,
-        argument(1),
-        argument(2),
-        argument(3),
+        argument(&rt, 1),
+        argument(&rt, 2),
+        argument(&rt, 3),
     );
 }

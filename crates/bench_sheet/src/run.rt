@@ -9,6 +9,7 @@ use bench_common::{elapsed, line, reading};
 use pool_formed::is_pool;
 use pool_memory::{PacingBook, Pool};
 use pool_open::{opened_book, opened_pool};
+use std::time::CpuClock;
 
 // Writes the sheet of n textures from the front of a page, a line of 73 bytes for each and two more.
 fn write_sheet(page: &[u8], n: usize) {
@@ -20,6 +21,7 @@ fn write_sheet(page: &[u8], n: usize) {
 
 // Prints what `known` sheets took, what `tested` took of memory that is tested before each, the bytes of both, and the sheet.
 fn time_sheets(
+    clock: &impl CpuClock,
     pool: Pool,
     book: PacingBook,
     textures: &[u64],
@@ -34,16 +36,16 @@ fn time_sheets(
 )
     requires { is_pool (lent_by pool book textures.now retiring.now doomed.now spares.now newest.now stamps.now) ≡ true }
 {
-    let start = reading();
+    let start = reading(clock);
     let known_bytes = print_known(
         pool, book, textures, retiring, doomed, spares, newest, stamps, page, known,
     );
-    line(b"known ", elapsed(start));
-    let again = reading();
+    line(b"known ", elapsed(clock, start));
+    let again = reading(clock);
     let tested_bytes = print_tested(
         pool, book, textures, retiring, doomed, spares, newest, stamps, page, tested,
     );
-    line(b"tested ", elapsed(again));
+    line(b"tested ", elapsed(clock, again));
     line(b"known_bytes ", known_bytes);
     line(b"tested_bytes ", tested_bytes);
     write_sheet(page, pool.tracked);
@@ -52,6 +54,7 @@ fn time_sheets(
 // Fills a pool with n textures and has its sheets timed. The working set is 16 GiB, so that nothing is pressed. Nothing is printed where the
 // memory forms no pool.
 pub fn run(
+    clock: &impl CpuClock,
     textures: &mut [u64],
     retiring: &mut [u64],
     doomed: &mut [u64],
@@ -81,6 +84,7 @@ pub fn run(
         return;
     }
     time_sheets(
-        counts, book, textures, retiring, doomed, spares, newest, stamps, page, known, tested,
+        clock, counts, book, textures, retiring, doomed, spares, newest, stamps, page, known,
+        tested,
     );
 }

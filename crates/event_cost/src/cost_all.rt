@@ -12,6 +12,7 @@ use event_feed::begin;
 use event_sessions::Session;
 use event_stream::read_more::read_more;
 use event_stream::{GOING, byte_count, is_full, reason, write_out};
+use std::io::Read;
 
 // What a run leaves.
 #[derive(Clone, Copy)]
@@ -31,6 +32,7 @@ pub struct CostedRun {
 // Runs all lines of standard input from a fresh session on, writes the lines of the plans among them, and sums what these cost. A write that
 // fails ends it, since no caller would see the lines after it.
 pub fn cost_all(
+    input: &mut impl Read,
     buf: &mut [u8],
     textures: &mut [u64],
     retiring: &mut [u64],
@@ -56,7 +58,7 @@ pub fn cost_all(
     let mut written = 0;
     let mut why = GOING;
     while why == GOING {
-        let end = read_more(buf, at);
+        let end = read_more(input, buf, at);
         let came = end - (at.from + at.held);
         read += byte_count(end - at.end);
         let turn = cost_turn(

@@ -31,7 +31,7 @@ fn lends(
     requires { Lends 8 64 6 90 textures.now retiring.now doomed.now spares.now newest.now stamps.now copies.now views.now }
 {}
 
-fn main() {
+fn main(rt: HostRuntime) {
     let mut textures = [0; TEXTURES * TEXTURE_STRIDE];
     let mut retiring = [0; VERSIONS * RETIRING_STRIDE];
     let mut doomed = [0; VERSIONS * DOOMED_STRIDE];
@@ -46,6 +46,7 @@ fn main() {
     let mut buf = io::large_buffer();
     let mut out = io::large_buffer();
     event_stream::run_all(
+        &mut rt.stdin(),
         &mut buf,
         &mut textures,
         &mut retiring,

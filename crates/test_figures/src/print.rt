@@ -2,7 +2,9 @@
 ghost use Rattle.std.specs.Prelude.{◌+◌, ◌≤◌, length};
 
 use base_digits::{put_number, put_text};
-use libc::STDOUT_FILENO;
+
+// The descriptor of standard output.
+const STDOUT_FILENO: i32 = 1;
 
 // Puts a blank and a number, and returns where they end.
 fn put_value(out: &mut [u8], at: usize, value: u64) -> usize

@@ -8,7 +8,10 @@ ghost use Rattle.std.specs.Prelude.{◌+◌, ◌≤◌, ◌<◌, length};
 use crate::answer::put_line;
 use crate::fields::part_end;
 use crate::question::answer_of;
-use libc::{STDIN_FILENO, STDOUT_FILENO};
+use std::io::Read;
+
+// The descriptor of standard output.
+const STDOUT_FILENO: i32 = 1;
 
 // What answering a block of input left: the line that starts at `from` is not whole yet, and `filled` bytes of answers
 // are not written yet. Nothing more can be written if it is not open.
@@ -97,12 +100,12 @@ fn answer_last(line: &[u8], out: &mut [u8])
 }
 
 // Reads once, after the `held` bytes that are there. Nothing more comes if that does not make them more.
-fn read_more(buf: &mut [u8], held: usize) -> usize
+fn read_more(input: &mut impl Read, buf: &mut [u8], held: usize) -> usize
     requires { held ≤ length buf.old }
     ensures { (held ≤ result) × (result ≤ length buf.old) }
 {
-    let got = libc::read(STDIN_FILENO, &mut buf[held..]);
-    held + io::count(got, &buf[held..])
+    let got = input.read(&mut buf[held..]).unwrap_or(0);
+    held + got
 }
 
 // Moves the bytes from `from` up to `to`, a line that is not whole yet, to the front. Answers how many they are.
@@ -124,14 +127,14 @@ fn keep(buf: &mut [u8], from: usize, to: usize) -> usize
 }
 
 // Answers all of standard input.
-pub fn answer_all(buf: &mut [u8], out: &mut [u8])
+pub fn answer_all(input: &mut impl Read, buf: &mut [u8], out: &mut [u8])
     requires { (1 < length buf.old) × (length buf.old ≤ 65536) × (105 ≤ length out.old) }
 {
     let mut held = 0;
     // A proved loop has to end, and nothing says that the input does, so its turns are counted.
     let mut turns = u64::MAX;
     while 0 < turns {
-        let end = read_more(buf, held);
+        let end = read_more(input, buf, held);
         if end == held {
             answer_last(&buf[0..held], out);
             return;

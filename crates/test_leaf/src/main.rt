@@ -13,8 +13,8 @@ mod question;
 mod rect;
 mod shape;
 
-fn main() {
+fn main(rt: HostRuntime) {
     let mut buf = io::large_buffer();
     let mut out = io::large_buffer();
-    lines::answer_all(&mut buf, &mut out);
+    lines::answer_all(&mut rt.stdin(), &mut buf, &mut out);
 }

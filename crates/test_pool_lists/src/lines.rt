@@ -3,10 +3,14 @@ ghost use Rattle.std.specs.Prelude.{◌≤◌, ◌<◌, length};
 ghost use Rattle.event_answers.specs.Printed.{most_row};
 
 use event_text::find_byte;
-use libc::{STDIN_FILENO, STDOUT_FILENO};
 use test_pool_lines::{Lengths, lengths_of};
 use test_pool_memory::{clear, least};
 use test_pool_steps::{Session, fresh, next_line, run_step};
+
+// The descriptors of standard input and output.
+const STDIN_FILENO: i32 = 0;
+
+const STDOUT_FILENO: i32 = 1;
 
 // Returns whether a line begins a list.
 fn is_head(line: &[u8]) -> bool {

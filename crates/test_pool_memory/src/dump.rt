@@ -3,7 +3,9 @@ ghost use Rattle.std.specs.Prelude.{◌≤◌, length};
 
 use crate::row::put_field;
 use base_digits::put_text;
-use libc::STDOUT_FILENO;
+
+// The descriptor of standard output.
+const STDOUT_FILENO: i32 = 1;
 
 // Puts put,STORE,INDEX,VALUE at the front and returns where it ends.
 fn put_line(out: &mut [u8], store: u64, index: u64, value: u64) -> usize

@@ -1,5 +1,5 @@
 // The question for the sheet.
-use libc::STDOUT_FILENO;
+use crate::constants::STDOUT_FILENO;
 use pool_memory::{PacingBook, Pool};
 use pool_sheet::SheetAnswer;
 

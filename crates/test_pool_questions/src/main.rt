@@ -9,9 +9,8 @@ mod lines;
 mod parts;
 mod question;
 
-use constants::{ENTRIES, INPUT_BYTES, PAGE_BYTES, PAGES, TEXTURES, VERSIONS};
+use constants::{ENTRIES, INPUT_BYTES, PAGE_BYTES, PAGES, STDIN_FILENO, TEXTURES, VERSIONS};
 use grid_stamps::PAGE_STAMPS;
-use libc::STDIN_FILENO;
 use lines::run_lines;
 use pool_memory::COPY_STRIDE;
 use pool_records::{DOOMED_STRIDE, RETIRING_STRIDE, SPARE_STRIDE, TEXTURE_STRIDE};

@@ -2,9 +2,9 @@
 ghost use Rattle.std.specs.Prelude.{◌≤◌, length};
 
 use crate::answer_sheet::answer_sheet;
+use crate::constants::STDOUT_FILENO;
 use event_sessions::Session;
 use event_text::{Number, number_of};
-use libc::STDOUT_FILENO;
 
 // The bytes of the buffer that is asked for, if the question is one.
 #[derive(Clone, Copy)]

@@ -4,10 +4,12 @@ ghost use Rattle.event_answers.specs.Printed.{most_row};
 
 use base_digits::put_text;
 use event_answers::{Answer, put_answer};
-use libc::STDOUT_FILENO;
 use pool_memory::COPY_STRIDE;
 use test_pool_calls::{Queried, QueryAnswer};
 use test_pool_memory::{least, put_digits, put_field};
+
+// The descriptor of standard output.
+const STDOUT_FILENO: i32 = 1;
 
 // The most bytes of a line of output, as `most_row` of crates/event_answers/specs/Printed.antt.
 const MOST_ROW: usize = 147;

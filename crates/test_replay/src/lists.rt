@@ -7,11 +7,16 @@ ghost use Rattle.test_replay.specs.ReplayConstants.{most_entries, most_pages, mo
 
 use crate::list::run_list;
 use crate::sizes::sizes_of;
+use event_text::find_byte;
 use grid_stamps::PAGE_STAMPS;
-use libc::{STDIN_FILENO, STDOUT_FILENO};
 use pool_memory::COPY_STRIDE;
 use pool_records::{DOOMED_STRIDE, RETIRING_STRIDE, SPARE_STRIDE, TEXTURE_STRIDE};
 use pool_rules::newest_length;
+
+// The descriptors of standard input and output.
+const STDIN_FILENO: i32 = 0;
+
+const STDOUT_FILENO: i32 = 1;
 
 // Returns where the next list begins after `from`: at a line that begins with "=,", or at `to`.
 fn next_list(input: &[u8], from: usize, to: usize) -> usize
@@ -33,7 +38,7 @@ fn line_after(input: &[u8], from: usize, to: usize) -> usize
     requires { (from < to) × (to ≤ length input.now) }
     ensures { (from < result) × (result ≤ to) }
 {
-    let end = bytes::scan::find(input, from, to, b'\n');
+    let end = find_byte(&input[..to], from, b'\n');
     if end < to { end + 1 } else { end }
 }
 

@@ -12,6 +12,7 @@ use crate::calls::write_out::write_out;
 use crate::read_more::read_more;
 use event_feed::{begin, feed};
 use event_sessions::Session;
+use std::io::Read;
 
 #[derive(Clone, Copy)]
 pub struct Stopped {
@@ -28,6 +29,7 @@ pub struct Stopped {
 // Runs all lines of standard input from a fresh session on, and writes their output where it is to be shown. A write that fails ends it, since
 // no caller would see the answers after it.
 pub fn run_all(
+    input: &mut impl Read,
     buf: &mut [u8],
     textures: &mut [u64],
     retiring: &mut [u64],
@@ -53,7 +55,7 @@ pub fn run_all(
     let mut written = 0;
     let mut why = GOING;
     while why == GOING {
-        let end = read_more(buf, at);
+        let end = read_more(input, buf, at);
         let came = end - (at.from + at.held);
         read += byte_count(end - at.end);
         at = feed(

@@ -1,7 +1,8 @@
 // Output.
 ghost use Rattle.std.specs.Prelude.{◌≡◌, length};
 
-use libc::STDOUT_FILENO;
+// The descriptor of standard output.
+const STDOUT_FILENO: i32 = 1;
 
 // How many bytes of output there were, and whether all were written that are to be shown.
 #[derive(Clone, Copy)]
