@@ -192,7 +192,7 @@ class Convert:
             text = re.sub(r"\((?:%s) %s\)" % ('|'.join(map(re.escape, self.short)), place), head, text)
             text = re.sub(r"(?<![^\s(){},;\[\]])(?:%s) %s(?![^\s(){},;\[\]])" % ('|'.join(map(re.escape, self.short)), place), head, text)
         text = self.cite(text, aliases, at, goal)
-        text = re.sub(r"(?<![^\s(){},;\[\]])(%s)(?= c(?:\.before)*(?![^\s(){},;\[\].]))" % W, lambda m: self.answers.get(m[1], m[1]), text)
+        text = re.sub(r"(?<![^\s(){},;\[\]])(%s)(?= c(?:\.before)*(?![^\s(){},;\[\].]))" % W, lambda m: m[1] if '.' in m[1] else self.answers.get(m[1], m[1]), text)
 
         def repl(m):
             whole = m[0]

@@ -1,5 +1,4 @@
 -- `put_box` meets its contract. Assumes nothing.
-use borrow.Author.Rules.{rules}
 use native.Mathlib.Omega.{arith}
 use Rattle.event_answers.proofs.Puts.{put_field}
 use Rattle.event_answers.proofs.entry.put_box.Goals as goal

@@ -1,15 +1,13 @@
 -- `put_copies` meets its contract: the rows of those before i are put. Assumes nothing.
 use borrow.Author.Rules.{rules}
-use mathlib.Core.Path.{◌≡◌, ap}
+use mathlib.Core.Path.{ap}
 use mathlib.Core.List.{flat_map}
-use Prim.Native.Nat.{◌+◌, ◌*◌, ◌-◌, ◌≤◌}
 use native.Mathlib.Omega.{arith}
-use lib.ListN.{length}
 use Rattle.base_tables.specs.Records.{record_at}
 use Rattle.base_tables.proofs.Records.{table_left}
 use Rattle.pool_books.specs.LentLists.{read_copy}
 use Rattle.event_answers.specs.Printed.{copy_row}
-use Rattle.base_digits.proofs.Puts.{PutTo, put_none, put_next, put_all, put_as}
+use Rattle.base_digits.proofs.Puts.{put_none, put_next, put_all, put_as}
 use Rattle.event_answers.proofs.Answering.{copy_from}
 use Rattle.pool_memory.specs.MemoryConstants.{copy_stride}
 use Rattle.event_answers.proofs.entry.put_copies.Goals as goal

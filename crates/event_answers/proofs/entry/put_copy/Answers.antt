@@ -1,5 +1,4 @@
 -- `put_copy` meets its contract. Assumes nothing.
-use borrow.Author.Rules.{rules}
 use native.Mathlib.Omega.{arith}
 use mathlib.Core.List.{[], ◌∷◌}
 use Rattle.base_digits.proofs.Puts.{text_put, number_put, number_most}

@@ -1,12 +1,12 @@
 -- `put_views` meets its contract: the rows of those before i are put. Assumes nothing.
 use borrow.Author.Rules.{rules}
-use mathlib.Core.Path.{◌≡◌, ap}
+use mathlib.Core.Path.{ap}
 use mathlib.Core.List.{flat_map}
-use Prim.Native.Nat.{ℕ, ◌+◌, ◌*◌, ◌-◌, ◌≤◌}
+use Prim.Native.Nat.{ℕ}
 use native.Mathlib.Omega.{arith}
-use lib.ListN.{length, get_or}
+use lib.ListN.{get_or}
 use Rattle.event_answers.specs.Printed.{view_row}
-use Rattle.base_digits.proofs.Puts.{PutTo, put_none, put_next, put_all, put_as}
+use Rattle.base_digits.proofs.Puts.{put_none, put_next, put_all, put_as}
 use Rattle.event_answers.proofs.Puts.{left_take}
 use Rattle.event_answers.proofs.entry.put_views.Goals as goal
 

@@ -1,5 +1,4 @@
 -- `put_answer` meets its contract: each answer is shown as its case says. Assumes nothing.
-use borrow.Author.Rules.{rules}
 use native.Mathlib.Omega.{arith}
 use Rattle.event_answers.proofs.Answering.{shown, show_question, show_refused, show_done, show_spare, show_no_spare, show_version, show_nothing, show_views, show_copies, views_fit, copies_fit}
 use Rattle.event_answers.proofs.output.put_answer.Goals as goal

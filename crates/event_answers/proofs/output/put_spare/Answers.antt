@@ -1,5 +1,4 @@
 -- `put_spare` meets its contract. Assumes nothing.
-use borrow.Author.Rules.{rules}
 use mathlib.Core.Path.{sym, ap}
 use mathlib.Core.List.{[], ◌∷◌}
 use Rattle.base_digits.specs.Digits.{digits_of}

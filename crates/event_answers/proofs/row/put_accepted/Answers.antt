@@ -1,5 +1,4 @@
 -- `put_accepted` meets its contract. Assumes nothing.
-use borrow.Author.Rules.{rules}
 use native.Mathlib.Omega.{arith}
 use lib.ListN.{length-set}
 use Rattle.base_digits.proofs.Puts.{put_after_two, number_put, number_most}

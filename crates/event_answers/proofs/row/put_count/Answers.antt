@@ -1,5 +1,4 @@
 -- `put_count` meets its contract. Assumes nothing.
-use borrow.Author.Rules.{rules}
 use native.Mathlib.Omega.{arith}
 use Rattle.event_answers.proofs.Puts.{put_accepted}
 use Rattle.event_answers.proofs.row.put_count.Goals as goal

@@ -12,7 +12,7 @@ put_number-requires c = simp length-set (search rules)
 pub shape_of-out : goal.shape_of-out
 shape_of-out c =
     let a = c.args in
-    c.put_number.auto.put_views-requires ∙ length-set a.out.now a.at 44
+    c.put_number.auto.out ∙ length-set a.out.now a.at 44
 
 pub returns : goal.returns
 returns c =

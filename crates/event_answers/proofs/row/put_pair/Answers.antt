@@ -1,5 +1,4 @@
 -- `put_pair` meets its contract. Assumes nothing.
-use borrow.Author.Rules.{rules}
 use Rattle.event_answers.proofs.Puts.{put_accepted, put_field}
 use Rattle.event_answers.proofs.row.put_pair.Goals as goal
 

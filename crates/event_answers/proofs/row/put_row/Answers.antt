@@ -1,5 +1,4 @@
 -- `put_row` meets its contract. Assumes nothing.
-use borrow.Author.Rules.{rules}
 use native.Mathlib.Omega.{arith}
 use Rattle.base_digits.proofs.Puts.{number_put, number_most}
 use Rattle.event_answers.proofs.Puts.{put_row}

@@ -1,5 +1,4 @@
 -- `put_words` meets its contract. Assumes nothing.
-use borrow.Author.Rules.{rules}
 use native.Mathlib.Omega.{arith}
 use Rattle.base_digits.proofs.Puts.{put_then, text_put, number_put, number_most}
 use Rattle.event_answers.proofs.row.put_words.Goals as goal

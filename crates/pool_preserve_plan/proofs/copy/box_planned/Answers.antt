@@ -5,14 +5,11 @@ use Rattle.grid_rects.specs.Rects.{whole_level}
 use Rattle.pool_rules.specs.PreservePlan.{same_rect}
 use Rattle.pool_preserve_plan.specs.Copies.{box_planned}
 use Rattle.pool_preserve_plan.proofs.Planned.{box_clean, box_whole, box_part}
-use borrow.Author.Rules.{rules}
 use Rattle.pool_preserve_plan.proofs.copy.box_planned.Goals as goal
 use Rattle.pool_preserve_plan.proofs.copy.box_planned.Goals.{After-same_rect}
 
 -- what was compared
 module _ (c : After-same_rect) where
-
-
   same : c.same_rect.result
       ≡ same_rect c.in-Box.part
       (whole_level (level_width c.args.shape c.args.level) (level_height c.args.shape c.args.level))

@@ -10,14 +10,11 @@ use Rattle.pool_memory.proofs.GridParts.{part_fits}
 use Rattle.pool_access.proofs.Levels.{axes_ok, count_known}
 use Rattle.pool_preserve_plan.specs.Copies.{footprint, box_planned}
 use Rattle.pool_preserve_plan.proofs.Planned.{planned_covered, planned_unknown, planned_after, planned_held, GridThere, grid_there, part_box}
-use borrow.Author.Rules.{rules}
 use Rattle.pool_preserve_plan.proofs.copy.copy_at.Goals as goal
 use Rattle.pool_preserve_plan.proofs.copy.copy_at.Goals.{After-stamp_count, After-start_at, In-After}
 
 -- the grid is there
 module _ (c : In-After) where
-
-
   abbrev grid : ℕ
   grid = c.in-After.grid
 
@@ -35,28 +32,29 @@ module _ (c : In-After) where
 
 -- its stamps begin where the number beside its newest stamp says
 module _ (c : After-start_at) where
-
+  grid_here : GridThere c.args.shape c.args.newest.now c.args.stamps.now c.in-After.grid c.in-After.stamp c.args.k c.args.level
+  grid_here =
+      let a = c.args in
+      let q = c.requires in
+      grid_there a.shape q.0 a.newest.now a.stamps.now c.in-After.grid c.in-After.stamp _ a.k a.level a.since a.slice c.in-After.is q.1 q.2 q.3 q.4
 
   begun : c.start_at.result ≡ grid_start c.args.shape c.args.k
-  begun = c.start_at.ensures ∙ (there c.before.before.before).start
+  begun = c.start_at.ensures ∙ grid_here.start
 
-  room : stamp c.before.before.before + c.start_at.result + stamp_count (tiling_of c.args.shape c.args.level) ≤ length c.args.stamps.now
-  room = omega (arith, (there c.before.before.before).room, begun)
+  room : c.in-After.stamp + c.start_at.result + stamp_count (tiling_of c.args.shape c.args.level) ≤ length c.args.stamps.now
+  room = omega (arith, grid_here.room, begun)
 
 -- and are as many as its tiles
 module _ (c : After-stamp_count) where
-
-
   abbrev start : ℕ
-  start = stamp c.before.before.before.before.before.before + c.start_at.result
+  start = c.in-After.stamp + c.start_at.result
 
   abbrev count : ℕ
-  count = let a = (c).args in stamp_count (tiling_of a.shape a.level)
+  count = let a = c.args in stamp_count (tiling_of a.shape a.level)
 
   counted : c.stamp_count.result ≡ count
   counted =
-      let s = c in
-      count_known s.args.shape s.pre.0 s.args.level c.across_at-across.result c.down_at-down.result
+      count_known c.args.shape c.requires.0 c.args.level c.across_at-across.result c.down_at-down.result
       c.across_at-across.ensures c.down_at-down.ensures c.stamp_count.result c.stamp_count.ensures
 
   part_size : start + c.stamp_count.result - start ≡ count
@@ -104,8 +102,7 @@ down_at-down-requires c = let t = there (goal.at.down_at-down-requires c).In-Aft
 
 pub stamp_count-requires : goal.stamp_count-requires
 stamp_count-requires c =
-    let s = c in
-    axes_ok s.args.shape s.pre.0 s.args.level c.across_at-across.result c.down_at-down.result c.across_at-across.ensures c.down_at-down.ensures
+    axes_ok c.args.shape c.requires.0 c.args.level c.across_at-across.result c.down_at-down.result c.across_at-across.ensures c.down_at-down.ensures
 
 pub overflow_add-end : goal.overflow_add-end
 overflow_add-end c = omega (arith, counted (goal.at.overflow_add-end c).After-stamp_count, room (goal.at.overflow_add-end c).After-start_at)
@@ -117,28 +114,24 @@ pub slice_bounds-written_since-end : goal.slice_bounds-written_since-end
 slice_bounds-written_since-end c = omega (arith, counted (goal.at.slice_bounds-written_since-end c).After-stamp_count, room (goal.at.slice_bounds-written_since-end c).After-start_at)
 
 pub offset_bounds-newest-p-2 : goal.offset_bounds-newest-p-2
-offset_bounds-newest-p-2 c = omega (arith, (there (c)).numbers)
+offset_bounds-newest-p-2 c = omega (arith, (there (goal.at.offset_bounds-newest-p-2 c).In-After).numbers)
 
 pub bounds-newest-p-2 : goal.bounds-newest-p-2
-bounds-newest-p-2 c = omega (arith, (there (c)).numbers)
+bounds-newest-p-2 c = omega (arith, (there (goal.at.bounds-newest-p-2 c).In-After).numbers)
 
 pub written_since-dirty-requires : goal.written_since-dirty-requires
 written_since-dirty-requires c =
-    let k = c in
-    let s = k in
-    let a = s.args in
-    part_fits a.shape s.pre.0 a.level a.newest.now a.stamps.now (p k) (start (goal.at.written_since-dirty-requires c).After-stamp_count) (room (goal.at.written_since-dirty-requires c).After-start_at) _ _ _ (part_size (goal.at.written_since-dirty-requires c).After-stamp_count)
+    let a = c.args in
+    part_fits a.shape c.requires.0 a.level a.newest.now a.stamps.now (c.in-After.grid + grid_stride * a.k) (start (goal.at.written_since-dirty-requires c).After-stamp_count) (room (goal.at.written_since-dirty-requires c).After-start_at) _ _ _ (part_size (goal.at.written_since-dirty-requires c).After-stamp_count)
     c.across_at-across.ensures c.down_at-down.ensures
 
 pub returns : goal.returns
 returns c =
-    let k = c in
-    let s = k in
-    let a = s.args in
+    let a = c.args in
     c.box_planned.ensures
     ∙ ap (box_planned a.shape a.level)
     (c.written_since-dirty.ensures
-    ∙ part_box a.shape s.pre.0 a.newest.now a.stamps.now (grid k) (stamp k) _ a.k a.level (there k) _ _ _ _ (begun (goal.at.returns c).After-start_at) (part_size (goal.at.returns c).After-stamp_count)
+    ∙ part_box a.shape c.requires.0 a.newest.now a.stamps.now c.in-After.grid c.in-After.stamp _ a.k a.level (there (goal.at.returns c).In-After) _ _ _ _ (begun (goal.at.returns c).After-start_at) (part_size (goal.at.returns c).After-stamp_count)
     c.across_at-across.ensures c.down_at-down.ensures)
-    ∙ sym (planned_after a.newest.now a.stamps.now a.shape a.since (footprint a.upload) a.slice a.level k.before.before.before.if1.left
-    (grid k) (stamp k) _ a.k k.before.since.given.1 s.pre.4)
+    ∙ sym (planned_after a.newest.now a.stamps.now a.shape a.since (footprint a.upload) a.slice a.level c.if-covered.false
+    c.in-After.grid c.in-After.stamp _ a.k c.in-After.is c.requires.4)

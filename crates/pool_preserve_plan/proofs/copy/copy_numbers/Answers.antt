@@ -2,7 +2,6 @@
 use mathlib.Core.Path.{sym, ap}
 use Rattle.pool_memory.specs.Calls.{copy_numbers}
 use Rattle.pool_preserve_plan.specs.Copies.{copy_numbers_of}
-use borrow.Author.Rules.{rules}
 use Rattle.pool_preserve_plan.proofs.copy.copy_numbers.Goals as goal
 
 pub returns-in-Whole : goal.returns-in-Whole

@@ -1,15 +1,15 @@
 -- `count_copies` meets its contract: one subresource after the other. Assumes nothing.
 use mathlib.Core.Path.{◌≡◌, sym, ap, ◌∙◌}
 use mathlib.Core.List.{List}
-use Prim.Native.Nat.{ℕ, ◌+◌, ◌-◌, ◌≤◌, ◌<◌}
+use Prim.Native.Nat.{ℕ, ◌+◌, ◌≤◌, ◌<◌}
 use native.Mathlib.Omega.{arith}
 use lib.ListN.{length}
 use Rattle.grid_shapes.proofs.Shapes.{shape_bounds}
 use Rattle.pool_rules.specs.Model.{PreserveCopy, grid_count}
 use Rattle.pool_rules.specs.RuleConstants.{most_grids}
 use Rattle.pool_rules.proofs.HistorySizes.{grids_most}
-use Rattle.pool_preserve_plan.specs.Copies.{footprint, copies_at, lent_copies}
-use Rattle.pool_preserve_plan.proofs.Planned.{IsPlace, first_place, next_place}
+use Rattle.pool_preserve_plan.specs.Copies.{footprint, copies_at}
+use Rattle.pool_preserve_plan.proofs.Planned.{first_place, next_place}
 use Rattle.pool_preserve_plan.proofs.Passes.{rest, lent_all, count_more, count_done, list_length, list_at}
 use borrow.Author.Rules.{rules}
 use Rattle.pool_preserve_plan.proofs.count_copies.count_copies.Goals as goal
@@ -20,9 +20,6 @@ planCopies c = copies_at c.args.newest.now c.args.stamps.now c.args.shape c.args
 
 -- a turn of the loop
 module _ (c : In-loop-k) where
-
-
-
   within : c.loop-k.k < grid_count c.args.shape
   within = omega (arith, c.loop-k-test.true, c.shape_grids-all.ensures)
 
@@ -31,8 +28,6 @@ module _ (c : In-loop-k) where
 
 -- the copies of one subresource
 module _ (c : After-copy_count-count) where
-
-
   counted : c.copy_count-count.result ≡ length (planCopies c.before.before.before.before.before.before.before.before c.loop-k.k)
   counted =
       let a = c.args in

@@ -7,7 +7,6 @@ use borrow.Author.Tests.{not-true, not-false}
 use Rattle.pool_records.specs.declared.recorded.Recorded.TheVariants.{Writes, NoHistory}
 use Rattle.pool_access.proofs.Ids as ids
 use Rattle.pool_preserve_plan.proofs.Finding.{found_none, found_other, found_recorded, found_place}
-use borrow.Author.Rules.{rules}
 use Rattle.pool_records.specs.Find.{has_id}
 use Rattle.pool_preserve_plan.specs.PlanRefusal.{found_at, history_found}
 use Rattle.pool_preserve_plan.proofs.history.find_history.Goals as goal
@@ -15,8 +14,6 @@ use Rattle.pool_preserve_plan.proofs.history.find_history.Goals.{After-has_id}
 
 -- where the search ended
 module _ (c : After-has_id) where
-
-
   abbrev at : ℕ
   at = c.find_texture-i.result
 

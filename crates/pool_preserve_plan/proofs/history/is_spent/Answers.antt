@@ -1,6 +1,5 @@
 -- `is_spent` meets its contract. Assumes nothing.
 use mathlib.Core.Path.{sym, ap}
-use borrow.Author.Rules.{rules}
 use Rattle.pool_preserve_plan.specs.PlanRefusal.{is_spent}
 use Rattle.pool_preserve_plan.proofs.history.is_spent.Goals as goal
 

@@ -1,6 +1,5 @@
 -- `since_held` meets its contract. Assumes nothing.
 use mathlib.Core.Path.{sym, ap}
-use borrow.Author.Rules.{rules}
 use Rattle.pool_preserve_plan.specs.PlanRefusal.{since_held}
 use Rattle.pool_preserve_plan.proofs.history.since_held.Goals as goal
 

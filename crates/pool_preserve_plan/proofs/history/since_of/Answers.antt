@@ -1,6 +1,5 @@
 -- `since_of` meets its contract. Assumes nothing.
 use mathlib.Core.Path.{sym, ap, ◌∙◌}
-use borrow.Author.Rules.{rules}
 use Rattle.pool_preserve_plan.specs.PlanRefusal.{since_of}
 use Rattle.pool_preserve_plan.proofs.history.since_of.Goals as goal
 

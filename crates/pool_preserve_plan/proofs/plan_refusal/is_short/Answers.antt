@@ -5,7 +5,6 @@ use lib.Dec.{ltb}
 use Rattle.pool_rules.proofs.HistorySizes.{grids_most}
 use Rattle.pool_preserve_plan.specs.Copies.{footprint}
 use Rattle.pool_preserve_plan.proofs.Refusals.{room_for_all}
-use borrow.Author.Rules.{rules}
 use Rattle.pool_preserve_plan.proofs.plan_refusal.is_short.Goals as goal
 
 pub shape_grids-requires : goal.shape_grids-requires

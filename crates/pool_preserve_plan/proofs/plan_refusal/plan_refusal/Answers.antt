@@ -7,7 +7,6 @@ use lib.ListN.{length}
 use Rattle.grid_shapes.specs.Shapes.{is_shape}
 use Rattle.pool_preserve_plan.specs.Copies.{footprint, lent_copies}
 use Rattle.pool_preserve_plan.proofs.Refusals.{refusal_shape, refusal_other, refusal_short, refusal_spent, refusal_none}
-use borrow.Author.Rules.{rules}
 use Rattle.pool_preserve_plan.specs.PlanRefusal.{is_other}
 use Rattle.pool_preserve_plan.proofs.plan_refusal.plan_refusal.Goals as goal
 use Rattle.pool_preserve_plan.proofs.plan_refusal.plan_refusal.Goals.{Else-is_other, Start}
@@ -19,8 +18,6 @@ module _ (c : Start) where
 
 -- the tests that passed
 module _ (c : Else-is_other) where
-
-
   shaped : is_shape c.args.shape ≡ true
   shaped = sym c.is_shape.ensures ∙ not-false _ c.if-not-is_shape.false-raw
 

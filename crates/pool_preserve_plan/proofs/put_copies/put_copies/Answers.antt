@@ -1,7 +1,7 @@
 -- `put_copies` meets its contract: one subresource after the other. Assumes nothing.
 use mathlib.Core.Path.{◌≡◌, sym, ap, ap₂, ◌∙◌}
 use mathlib.Core.List.{List}
-use Prim.Native.Nat.{ℕ, ◌+◌, ◌-◌, ◌*◌, ◌≤◌, ◌<◌}
+use Prim.Native.Nat.{ℕ, ◌+◌, ◌*◌, ◌≤◌, ◌<◌}
 use native.Mathlib.Omega.{arith}
 use lib.ListN.{length}
 use Rattle.grid_shapes.proofs.Shapes.{shape_bounds}
@@ -9,8 +9,8 @@ use Rattle.pool_rules.specs.Model.{PreserveCopy, grid_count}
 use Rattle.pool_rules.specs.RuleConstants.{most_grids}
 use Rattle.pool_rules.proofs.HistorySizes.{grids_most}
 use Rattle.pool_memory.specs.MemoryConstants.{copy_stride}
-use Rattle.pool_preserve_plan.specs.Copies.{footprint, copy_list, copies_at, lent_copies, with_copies}
-use Rattle.pool_preserve_plan.proofs.Planned.{IsPlace, first_place, next_place}
+use Rattle.pool_preserve_plan.specs.Copies.{footprint, copy_list, copies_at, with_copies}
+use Rattle.pool_preserve_plan.proofs.Planned.{first_place, next_place}
 use Rattle.pool_preserve_plan.proofs.Passes.{rest, lent_all, count_more, count_done, next_room, put_more, put_done, list_at}
 use borrow.Author.Rules.{rules}
 use Rattle.pool_preserve_plan.proofs.put_copies.put_copies.Goals as goal
@@ -21,9 +21,6 @@ planCopies c = copies_at c.args.newest.now c.args.stamps.now c.args.shape c.args
 
 -- a turn of the loop
 module _ (c : In-loop-k) where
-
-
-
   within : c.loop-k.k < grid_count c.args.shape
   within = omega (arith, c.loop-k-test.true, c.shape_grids-all.ensures)
 
@@ -32,8 +29,6 @@ module _ (c : In-loop-k) where
 
 -- the copies of one subresource
 module _ (c : After-copy_at-planned) where
-
-
   copied : copy_list c.copy_at-planned.result c.loop-k.at.slice c.loop-k.at.level ≡ planCopies c.before.before.before.before.before.before.before.before c.loop-k.k
   copied =
       let a = c.args in

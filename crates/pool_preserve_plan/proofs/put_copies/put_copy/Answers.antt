@@ -7,7 +7,6 @@ use lib.Seq.{sets}
 use Rattle.pool_rules.specs.Model.{PreserveCopy}
 use Rattle.pool_preserve_plan.specs.Copies.{with_copies}
 use Rattle.pool_preserve_plan.proofs.Passes.{list_none, list_one, copy_long, with_none, with_one_lem}
-use borrow.Author.Rules.{rules}
 use Rattle.pool_memory.specs.MemoryConstants.{copy_stride}
 use Rattle.pool_preserve_plan.proofs.put_copies.put_copy.Goals as goal
 

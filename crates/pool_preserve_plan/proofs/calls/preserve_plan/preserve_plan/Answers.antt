@@ -6,7 +6,6 @@ use Rattle.pool_memory.proofs.Stays.{textures_fit_lem, ids_ascend}
 use Rattle.pool_rules.specs.Model.{UploadFootprint}
 use Rattle.pool_preserve_plan.proofs.Finding.{found_fits}
 use Rattle.pool_preserve_plan.proofs.Planning.{fits_room, says_refused, says_accepted}
-use borrow.Author.Rules.{rules}
 use Rattle.pool_preserve_plan.proofs.calls.preserve_plan.preserve_plan.Goals as goal
 use Rattle.pool_preserve_plan.proofs.calls.preserve_plan.preserve_plan.Goals.{Start}
 
@@ -51,4 +50,4 @@ returns c =
     let p = c.put_copies-count in
     let w = c.plan_refusal-why in
     says_accepted (memory (goal.at.returns c).Start) c.requires a.id a.shape a.held (upload (goal.at.returns c).Start) a.buffer.now c.find_history-found.result c.since_of-since.result
-    c.find_history-found.ensures c.since_of-since.ensures w.result p.result p.new.0 w.ensures c.if-why-ne0.false p.ensures.0 p.ensures.1
+    c.find_history-found.ensures c.since_of-since.ensures w.result p.result p.new.buffer w.ensures c.if-why-ne0.false p.ensures.0 p.ensures.1
