@@ -1,0 +1,58 @@
+-- `drop_history` meets its contract. Assumes nothing.
+use mathlib.Core.Path.{ap, ◌∙◌}
+use Prim.Native.Nat.{◌+◌, ◌-◌, ◌≤◌}
+use native.Mathlib.Omega.{arith}
+use borrow.Author.Rules.{rules}
+use Rattle.pool_history.specs.declared.run.HistoryRun.{HistoryRun}
+use Rattle.pool_note_write.specs.Dropped.{newest_dropped, stamps_dropped}
+use Rattle.pool_note_write.proofs.Dropped.{run_in, run_moves, records_left}
+use Rattle.pool_note_write.proofs.dropping.drop_history.Goals as goal
+use Rattle.pool_note_write.proofs.dropping.drop_history.Goals.{After-history_run-run}
+
+-- the run that was read lies within what is in use
+module _ (c : After-history_run-run) where
+
+
+  abbrev run : HistoryRun
+  run = c.history_run-run.result
+
+  within : (run.grid + run.grids ≤ c.args.used.grids) × (run.stamp + run.stamps ≤ c.args.used.stamps)
+  within =
+      let a = c.args in
+      let q = run_in a.textures.now a.newest.now a.stamps.now a.n a.used a.i c.requires run c.history_run-run.ensures in
+      (q.0, q.2)
+
+pub remove_grids-requires : goal.remove_grids-requires
+remove_grids-requires c =
+    let a = c.args in
+    run_in a.textures.now a.newest.now a.stamps.now a.n a.used a.i c.requires (run (goal.at.remove_grids-requires c).After-history_run-run) c.history_run-run.ensures
+
+pub move_starts-requires : goal.move_starts-requires
+move_starts-requires c =
+    let a = c.args in
+    (
+      omega (arith, c.requires.fit, c.set_history.auto.textures),
+      omega (arith, c.requires.there),
+      (λ j from below. run_moves a.textures.now a.newest.now a.stamps.now a.n a.used a.i c.requires (run (goal.at.move_starts-requires c).After-history_run-run) c.history_run-run.ensures _ c.set_history.ensures j
+          (omega (arith, from, c.requires.there)) below),
+    )
+
+pub overflow_sub-result : goal.overflow_sub-result
+overflow_sub-result c = omega (arith, (within (goal.at.overflow_sub-result c).After-history_run-run).0)
+
+pub overflow_sub-result-2 : goal.overflow_sub-result-2
+overflow_sub-result-2 c = omega (arith, (within (goal.at.overflow_sub-result-2 c).After-history_run-run).1)
+
+pub returns : goal.returns
+unfolding newest_dropped stamps_dropped
+returns c =
+    let a = c.args in
+    let e = c.history_run-run.ensures in
+    let g = c.remove_grids in (
+      ap (λ (r : HistoryRun). a.used.grids - r.grids) e,
+      ap (λ (r : HistoryRun). a.used.stamps - r.stamps) e,
+      c.move_starts.ensures
+          ∙ records_left a.textures.now a.newest.now a.stamps.now a.n a.used a.i c.requires (run (goal.at.returns c).After-history_run-run) e _ c.set_history.ensures,
+      g.ensures.0 ∙ ap (newest_dropped a.newest.now a.used) e,
+      g.ensures.1 ∙ ap (stamps_dropped a.stamps.now a.used) e,
+    )
