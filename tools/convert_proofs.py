@@ -93,6 +93,18 @@ class Convert:
         subs = dict(pair for _, _, s in got for pair in s)
         if rest[0] in FIELDS and rest[0] not in subs:
             rest = [FIELDS[rest[0]]] + rest[1:]
+        if rest[0] in ('auto', 'new') and len(rest) > 1 and rest[1] in ('0', '1') and got[0][1] in self.d['params']:
+            names = self.d['params'][got[0][1]]
+            k = 1
+            while k < len(rest) and rest[k] == '1':
+                k += 1
+            ones = k - 1
+            if k < len(rest) and rest[k] == '0' and ones < len(names):
+                return [rest[0], names[ones]] + rest[k + 1 :]
+            if k == len(rest) and ones == len(names) - 1:
+                return [rest[0], names[ones]]
+            self.warn.append('no parameter for %s of %s' % (whole, names))
+            return rest
         if rest[0] == 'auto' and len(rest) > 1 and rest[1] in '01':
             names = [new[5:] for _, _, s in got[:1] for _, new in s if new.startswith('long-')]
             k = 1
@@ -136,7 +148,7 @@ class Convert:
         m = re.search(r'(?s)\bat-%s = λ c\. record \{(.*?)\}' % re.escape(at), view)
         if not m:
             return None
-        ways = dict(re.findall(r'(%s) = c((?:\.before)*)' % W, m[1]))
+        ways = dict(re.findall(r'(%s) = c((?:\.before)*)' % W, m[1].replace('(', '').replace(')', '')))
         if to not in ways:
             return None
         return ways[to]
@@ -229,6 +241,11 @@ class Convert:
     def steps(self, text):
         """Fields of a step under a name of its own."""
         for m in re.finditer(r"let\s+(%s)\s*=\s*c\.(%s)\s+in\b" % (W, W), text):
+            got = [rows for rows in self.labels.values() if any(m[2] == new for new, _, _ in rows)]
+            if got:
+                def one(q):
+                    return m[1] + '.' + '.'.join(self.field(got[0], q[1].split('.'), q[0]))
+                text = re.sub(r"(?<![^\s(){},;\[\]])%s\.((?:auto|new)(?:\.[01])+)(?![\w'-])" % re.escape(m[1]), one, text)
             if any(m[2] == new for rows in self.labels.values() for new, _, _ in rows):
                 text = re.sub(r"(?<![^\s(){},;\[\]])(%s)\.(inv|taken|left)(?![\w'-])" % re.escape(m[1]), lambda q: q[1] + '.' + FIELDS[q[2]], text)
         return text
@@ -426,12 +443,11 @@ class Convert:
                     lhs, rhs = e.split('=', 1)
                     params = lhs.split()[1:]
                     params = [p for p in params if p != 'κs']
-                    if params not in (['c'], ['_']):
-                        self.warn.append('%s: arguments %s' % (nm, params))
+                    more = ''.join(' ' + x for x in params[1:])
                     b = self.body(rhs, params[0] if params and params[0] != '_' else 'c', None, new)
                     if b.strip() not in ('search rules',) or unf:
                         trivial = False
-                    out.append('%s c =%s' % (new, b.rstrip()))
+                    out.append('%s c%s =%s' % (new, more, b.rstrip()))
                 if trivial:
                     continue
                 ans_text.append('\n'.join(out))
