@@ -1,14 +1,14 @@
 -- The claim about sheets holds: their lines, their columns, and that they determine what is printed. Assumes nothing.
 use mathlib.Core.Path.{◌≡◌, refl, sym, ap, ◌∙◌, subst}
 use mathlib.Core.Bool.{Bool, true, ◌&&◌}
-use mathlib.Core.List.{List, [], ◌∷◌, ◌++◌, map}
-use Prim.Native.Nat.{ℕ, zero, suc, ◌+◌, ◌*◌, ◌-◌, ◌^◌, ◌≤◌, ◌<◌}
+use mathlib.Core.List.{List, [], ◌∷◌, map}
+use Prim.Native.Nat.{ℕ, zero, suc, ◌+◌, ◌*◌, ◌-◌, ◌^◌, ◌<◌}
 use native.Mathlib.Omega.{arith}
 use borrow.Author.Tests.{leb-true}
 use lib.Dec.{leb, ltb}
-use lib.ListN.{length, drop, get_or, replicate}
+use lib.ListN.{length, replicate}
 use lib.Seq.{get_or-drop}
-use Rattle.base_blocks.specs.Lists.{all, ascending}
+use Rattle.base_blocks.specs.Lists.{ascending}
 use Rattle.base_blocks.specs.All.{All, nil, cons}
 use Rattle.base_blocks.proofs.Lists.{and_both}
 use Rattle.base_blocks.proofs.All.{all_both, all_listed, all_map}
@@ -21,7 +21,7 @@ use Rattle.pool_rules.specs.Model.{VersionState, PoolModel}
 use Rattle.pool_rules.specs.Formed.{Formed}
 use Rattle.pool_records.specs.declared.texture.TextureRecord.{TextureRecord}
 use Rattle.pool_records.specs.RecordConstants.{texture_stride}
-use Rattle.pool_records.specs.Texture.{read_texture, texture_in}
+use Rattle.pool_records.specs.Texture.{read_texture}
 use Rattle.pool_memory.specs.Lent.{Lent}
 use Rattle.pool_memory.specs.Reading.{tracked_records, model_of}
 use Rattle.pool_memory.specs.IsPool.{is_pool, state_id}
@@ -30,7 +30,6 @@ use Rattle.pool_memory.proofs.Fits.{Fits}
 use Rattle.pool_memory.proofs.FromPool.{pool_fits}
 use Rattle.pool_sheet.specs.declared.fields.SheetFields.{SheetFields}
 use Rattle.pool_sheet.specs.Sheet.{line_width, column_widths, in_columns, characters, line, head_texts, texture_texts, total_texts, state_fields, pool_fields, all_spares, all_parked, sheet_texts, sheet}
-use Rattle.pool_sheet.specs.PrintSheet.{sheet_of}
 use Rattle.pool_sheet.specs.Records.{record_fields, FieldsFit}
 use Rattle.pool_sheet.specs.SheetClaims.{IsLine, Within, Words, fields_on, SheetClaims}
 use Rattle.pool_sheet.proofs.Columns.{characters_length}

@@ -1,4 +1,5 @@
 -- The sheet of a pool by its records, as the code reads them. Assumes nothing.
+use Rattle.pool_rules.specs.HistorySizes.{newest_used, stamps_used}
 use mathlib.Core.Path.{◌≡◌, refl, sym, ap, ap₂, ◌∙◌, subst}
 use mathlib.Core.List.{List, [], ◌∷◌, ◌++◌, map, flat_map}
 use Prim.Native.Nat.{ℕ, ◌+◌, ◌*◌, ◌^◌, ◌<◌}
@@ -8,7 +9,7 @@ use Rattle.base_blocks.specs.All.{All, nil, cons}
 use Rattle.base_blocks.proofs.All.{all_at}
 use Rattle.pool_rules.specs.Model.{VersionState}
 use Rattle.pool_records.specs.declared.texture.TextureRecord.{TextureRecord}
-use Rattle.pool_records.specs.Texture.{read_texture, texture_in}
+use Rattle.pool_records.specs.Texture.{read_texture}
 use Rattle.pool_memory.specs.Lent.{Lent}
 use Rattle.pool_memory.specs.Reading.{tracked_records, model_of}
 use Rattle.pool_memory.specs.Writing.{texture_records}
@@ -17,7 +18,7 @@ use Rattle.pool_memory.proofs.Runs.{kept_model, tracked_records_lem, tracked_mod
 use Rattle.pool_memory.proofs.Tracked.{record_read}
 use Rattle.pool_memory.proofs.Parts.{flat_mapped}
 use Rattle.pool_sheet.specs.declared.fields.SheetFields.{SheetFields}
-use Rattle.pool_sheet.specs.Sheet.{line, head_texts, texture_texts, total_texts, state_fields, pool_fields, all_spares, all_parked, sheet}
+use Rattle.pool_sheet.specs.Sheet.{line, head_texts, texture_texts, total_texts, state_fields, pool_fields, all_spares, all_parked}
 use Rattle.pool_sheet.specs.PrintSheet.{sheet_of}
 use Rattle.pool_sheet.specs.Records.{line_bytes, record_fields, record_line, FieldsFit, RecordsFit}
 use Rattle.pool_sheet.proofs.PoolFits.{pool_fields_fit, spares_told, parked_told, spares_fit, parked_fits}
@@ -32,7 +33,7 @@ all_unmapped (t ∷ ts) (cons f fs) = cons f (all_unmapped ts fs)
 records_fields : (grid stamp : ℕ) (ts : List (VersionState ℕ)) → map record_fields (texture_records grid stamp ts) ≡ map state_fields ts
 unfolding texture_records
 records_fields grid stamp [] = refl
-records_fields grid stamp (t ∷ ts) = ap (λ (fs : List SheetFields). state_fields t ∷ fs) (records_fields _ _ ts)
+records_fields grid stamp (t ∷ ts) = ap (λ (fs : List SheetFields). state_fields t ∷ fs) (records_fields (grid + newest_used t) (stamp + stamps_used t) ts)
 
 module _ (l : Lent) (f : Fits l) where
   abbrev fields : List SheetFields

@@ -1,17 +1,16 @@
 -- In a pool no number of a sheet is wider than its column: no texture's, and no total. Assumes nothing.
-use mathlib.Core.Path.{◌≡◌, refl, sym, ap, ◌∙◌}
-use mathlib.Core.List.{List, [], ◌∷◌, map}
-use Prim.Native.Nat.{ℕ, ◌+◌, ◌*◌, ◌^◌, ◌≤◌, ◌<◌}
+use mathlib.Core.Path.{◌≡◌, sym, ◌∙◌}
+use mathlib.Core.List.{List, ◌∷◌, map}
+use Prim.Native.Nat.{ℕ, ◌*◌, ◌^◌, ◌≤◌, ◌<◌}
 use native.Mathlib.Nat.{mul-le-mul_right, mul-add}
 use native.Mathlib.Omega.{arith}
 use lib.ListN.{length}
 use Rattle.base_blocks.specs.Lists.{total}
 use Rattle.base_blocks.specs.All.{All, nil, cons}
-use Rattle.grid_shapes.specs.Shapes.{bytes_of}
 use Rattle.grid_shapes.specs.ShapeConstants.{most_shape_bytes}
 use Rattle.grid_shapes.proofs.Shapes.{shape_bounds}
 use Rattle.grid_shapes.proofs.ShapeBytes.{bytes_bound}
-use Rattle.pool_rules.specs.Model.{VersionState, PoolModel, spare_bytes, versions_used}
+use Rattle.pool_rules.specs.Model.{VersionState, PoolModel, spare_bytes}
 use Rattle.pool_rules.specs.Formed.{StateFormed, Formed}
 use Rattle.pool_rules.specs.RuleConstants.{most_places}
 use Rattle.pool_memory.proofs.Parts.{total_mapped}

@@ -20,7 +20,7 @@ use Rattle.pool_memory.proofs.FromPool.{enough, pool_fits}
 use Rattle.pool_sheet.specs.Sheet.{line, head_texts, total_texts}
 use Rattle.pool_sheet.specs.PrintSheet.{sheet_of, printed_in, print_sheet_on}
 use Rattle.pool_sheet.specs.Records.{line_bytes, record_line}
-use Rattle.pool_sheet.proofs.Pages.{head_length, lines_length, texture_lines}
+use Rattle.pool_sheet.proofs.Pages.{head_length, lines_length}
 use Rattle.pool_sheet.proofs.PoolFits.{pool_fields_fit}
 use Rattle.pool_sheet.proofs.OfRecords.{fields_length, lines_records, sheet_made, sheet_bytes}
 

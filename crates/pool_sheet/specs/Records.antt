@@ -1,6 +1,6 @@
 -- Helper: The sheet by the records that stand in the lent textures, and what of them fits its columns.
 use Rattle.std.specs.Prelude.{ℕ, ◌*◌, ◌^◌, ◌<◌}
-use mathlib.Core.List.{List, [], ◌∷◌, ◌++◌, flat_map}
+use mathlib.Core.List.{List, [], ◌∷◌, ◌++◌}
 use Rattle.base_digits.specs.Aligned.{right}
 use Rattle.base_digits.specs.Characters.{blank}
 use Rattle.pool_records.specs.declared.texture.TextureRecord.{TextureRecord}

@@ -2,7 +2,6 @@
 use mathlib.Core.Path.{◌≡◌, refl, ap, ◌∙◌}
 use Prim.Native.Nat.{◌+◌, ◌-◌, ◌*◌}
 use native.Mathlib.Omega.{arith}
-use borrow.Author.Rules.{rules}
 use Rattle.base_blocks.specs.Blocks.{moved}
 use Rattle.pool_records.specs.RecordConstants.{spare_stride}
 use Rattle.pool_note_allocated.proofs.give.give_spares.Goals as goal

@@ -1,18 +1,16 @@
 -- `relieve` meets its contract: each turn one more texture has given what was picked of it. The book is no part of the loop, so the invariant is said
 -- of any. Assumes nothing.
 use mathlib.Core.Path.{sym, ◌∙◌}
-use Prim.Native.Nat.{◌+◌, ◌-◌}
+use Prim.Native.Nat.{◌+◌}
 use native.Mathlib.Omega.{arith}
-use Rattle.pool_memory.specs.declared.book.PacingBook.{PacingBook}
 use Rattle.pool_memory.specs.Lent.{lent, version_places}
-use Rattle.pool_memory.proofs.Fits.{Fits}
 use Rattle.pool_memory.proofs.FromPool.{pool_fits}
 use Rattle.pool_note_allocated.proofs.Chosen.{freed_start}
-use Rattle.pool_note_allocated.proofs.Progress.{Progress, progress_start, turn_needs, progress_turn, progress_end, given_fits}
+use Rattle.pool_note_allocated.proofs.Progress.{progress_start, turn_needs, progress_turn, progress_end, given_fits}
 use Rattle.pool_note_allocated.proofs.relieve.relieve.Goals as goal
 
 pub loop-i-init : goal.loop-i-init
-loop-i-init c =
+loop-i-init c book f =
     let a = c.args in
     let l = lent a.pool book a.textures.now a.retiring.now a.doomed.now a.spares.now a.newest.now a.stamps.now in
     progress_start l a.excess a.line a.freed (c.requires.2 ∙ sym (freed_start l f a.excess a.line c.requires.1))
@@ -72,7 +70,7 @@ overflow_add-bytes c =
     let p = c.loop-i.invariant a.book f in
     let r = c.relieve_texture-step in
     let e = r.ensures in
-    let q = progress_turn l a.excess a.line f c.requires.1 p c.loop-i-test.true e.0 e.2 e.3 e.4 e.5 e.6 e.7 r.auto.textures r.auto.spares r.auto.1.1.1.1.1.1.0 in
+    let q = progress_turn l a.excess a.line f c.requires.1 p c.loop-i-test.true e.0 e.2 e.3 e.4 e.5 e.6 e.7 r.auto.textures r.auto.doomed r.auto.spares in
     omega (arith, q.given, given_fits l f a.excess (c.loop-i.i + 1), c.struct_known-1.given)
 
 pub overflow_add-i : goal.overflow_add-i
@@ -83,12 +81,12 @@ loop-i-smaller c = omega (arith, c.loop-i-test.true)
 
 pub loop-i-preserved : goal.loop-i-preserved
 unfolding version_places
-loop-i-preserved c =
+loop-i-preserved c book f =
     let a = c.args in
     let l = lent a.pool book a.textures.now a.retiring.now a.doomed.now a.spares.now a.newest.now a.stamps.now in
     let r = c.relieve_texture-step in
     let e = r.ensures in
-    progress_turn l a.excess a.line f c.requires.1 (c.loop-i.invariant book f) c.loop-i-test.true e.0 e.2 e.3 e.4 e.5 e.6 e.7 r.auto.0 r.auto.1.1.0 r.auto.1.1.1.1.1.1.0
+    progress_turn l a.excess a.line f c.requires.1 (c.loop-i.invariant book f) c.loop-i-test.true e.0 e.2 e.3 e.4 e.5 e.6 e.7 r.auto.textures r.auto.doomed r.auto.spares
 
 pub shape_of-textures : goal.shape_of-textures
 shape_of-textures c =

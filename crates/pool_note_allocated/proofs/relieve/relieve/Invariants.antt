@@ -1,14 +1,10 @@
 -- `relieve` meets its contract: each turn one more texture has given what was picked of it. The book is no part of the loop, so the invariant is said
 -- of any. Assumes nothing.
-use mathlib.Core.Path.{sym, ◌∙◌}
-use Prim.Native.Nat.{◌+◌, ◌-◌}
-use native.Mathlib.Omega.{arith}
+use Prim.Native.Nat.{◌-◌}
 use Rattle.pool_memory.specs.declared.book.PacingBook.{PacingBook}
-use Rattle.pool_memory.specs.Lent.{lent, version_places}
+use Rattle.pool_memory.specs.Lent.{lent}
 use Rattle.pool_memory.proofs.Fits.{Fits}
-use Rattle.pool_memory.proofs.FromPool.{pool_fits}
-use Rattle.pool_note_allocated.proofs.Chosen.{freed_start}
-use Rattle.pool_note_allocated.proofs.Progress.{Progress, progress_start, turn_needs, progress_turn, progress_end, given_fits}
+use Rattle.pool_note_allocated.proofs.Progress.{Progress}
 use Rattle.pool_note_allocated.proofs.relieve.relieve.Given as goal
 
 abbrev pub invariant-loop-i : goal.invariant-loop-i

@@ -4,7 +4,6 @@ use Prim.Native.Nat.{◌+◌, ◌*◌}
 use native.Mathlib.Nat.{mul-le-mul_left}
 use native.Mathlib.Omega.{arith}
 use lib.ListN.{get_or}
-use borrow.Author.Rules.{rules}
 use Rattle.base_tables.specs.Rings.{laid}
 use Rattle.pool_records.specs.Doomed.{write_doomed}
 use Rattle.pool_take_doomed.specs.Given.{given_records}

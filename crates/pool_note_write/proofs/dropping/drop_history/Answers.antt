@@ -2,7 +2,6 @@
 use mathlib.Core.Path.{ap, ◌∙◌}
 use Prim.Native.Nat.{◌+◌, ◌-◌, ◌≤◌}
 use native.Mathlib.Omega.{arith}
-use borrow.Author.Rules.{rules}
 use Rattle.pool_history.specs.declared.run.HistoryRun.{HistoryRun}
 use Rattle.pool_note_write.specs.Dropped.{newest_dropped, stamps_dropped}
 use Rattle.pool_note_write.proofs.Dropped.{run_in, run_moves, records_left}
@@ -11,8 +10,6 @@ use Rattle.pool_note_write.proofs.dropping.drop_history.Goals.{After-history_run
 
 -- the run that was read lies within what is in use
 module _ (c : After-history_run-run) where
-
-
   abbrev run : HistoryRun
   run = c.history_run-run.result
 
@@ -29,8 +26,7 @@ remove_grids-requires c =
 
 pub move_starts-requires : goal.move_starts-requires
 move_starts-requires c =
-    let a = c.args in
-    (
+    let a = c.args in (
       omega (arith, c.requires.fit, c.set_history.auto.textures),
       omega (arith, c.requires.there),
       (λ j from below. run_moves a.textures.now a.newest.now a.stamps.now a.n a.used a.i c.requires (run (goal.at.move_starts-requires c).After-history_run-run) c.history_run-run.ensures _ c.set_history.ensures j

@@ -1,7 +1,6 @@
 -- `history_run` meets its contract. Assumes nothing.
 use Prim.Native.Nat.{◌-◌}
 use native.Mathlib.Omega.{arith}
-use borrow.Author.Rules.{rules}
 use Rattle.pool_note_write.specs.Dropped.{run_at}
 use Rattle.pool_note_write.proofs.AtPlace.{grid_number, stamp_number}
 use Rattle.pool_note_write.proofs.dropping.history_run.Goals as goal

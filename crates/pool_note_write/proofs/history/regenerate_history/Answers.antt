@@ -1,6 +1,5 @@
 -- `regenerate_history` meets its contract. Assumes nothing.
 use mathlib.Core.Path.{ap, ◌∙◌}
-use borrow.Author.Rules.{rules}
 use Rattle.pool_rules.specs.Model.{grid_count}
 use Rattle.pool_records.specs.declared.texture.TextureRecord.{TextureRecord}
 use Rattle.pool_history.specs.Remade.{newest_written, stamps_written, remade_grids}

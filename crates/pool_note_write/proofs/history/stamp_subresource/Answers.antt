@@ -4,7 +4,6 @@ use Prim.Native.Nat.{ℕ, ◌+◌, ◌*◌, ◌≤◌, ◌<◌}
 use native.Mathlib.Omega.{arith}
 use lib.ListN.{length, set}
 use lib.Seq.{sets}
-use borrow.Author.Rules.{rules}
 use Rattle.grid_stamps.specs.Grids.{tiling_of, stamp_count, stamped_by}
 use Rattle.pool_rules.specs.Histories.{grid_place}
 use Rattle.pool_rules.specs.HistorySizes.{grid_start}
@@ -18,8 +17,6 @@ use Rattle.pool_note_write.proofs.history.stamp_subresource.Goals.{After-start_a
 
 -- the record that was read, and where the subresource's grid is by it
 module _ (c : After-texture_at-t) where
-
-
   abbrev texture : TextureRecord
   texture = c.texture_at-t.result
 
@@ -46,13 +43,11 @@ module _ (c : After-texture_at-t) where
 
 -- its stamps begin where the number beside its newest stamp says
 module _ (c : After-start_at) where
-
-
-  begun : c.start_at.result ≡ grid_start (texture c.before.before.before).shape (place c.before.before.before)
+  begun : c.start_at.result ≡ grid_start c.texture_at-t.result.shape (c.args.slice * c.texture_at-t.result.shape.levels + c.args.level)
   begun =
       let a = c.args in
       c.start_at.ensures
-      ∙ start_beside a.textures.now a.newest.now a.stamps.now a.i c.requires.0 (texture c.before.before.before) c.texture_at-t.ensures a.slice a.level c.requires.1
+      ∙ start_beside a.textures.now a.newest.now a.stamps.now a.i c.requires.0 c.texture_at-t.result c.texture_at-t.ensures a.slice a.level c.requires.1
 
 pub overflow_mul-p : goal.overflow_mul-p
 overflow_mul-p c = omega (arith, few (goal.at.overflow_mul-p c).After-texture_at-t)

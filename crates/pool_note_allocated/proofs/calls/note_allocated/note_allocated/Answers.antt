@@ -2,7 +2,6 @@
 use mathlib.Core.Path.{ap, ap₂, ◌∙◌, subst}
 use Prim.Native.Nat.{◌+◌}
 use native.Mathlib.Omega.{arith}
-use borrow.Author.Rules.{rules}
 use Rattle.pool_memory.specs.Lent.{lent}
 use Rattle.pool_memory.specs.Writing.{pool_after}
 use Rattle.pool_memory.specs.Calls.{told_number}
@@ -66,5 +65,5 @@ returns c =
     let f = pool_fits l c.requires in
     let r = c.relieve-relief in
     let e = c.excess_over-excess.ensures in
-    ap₂ (λ p b. (told_number 0, lent p b r.new.1.1.0 a.retiring.now r.new.1.1.1.1.0 r.new.1.1.1.1.1.0 a.newest.now a.stamps.now)) c.counts_after.ensures c.noted-after.ensures
-    ∙ noted_relieved l f a.allocated (subst (λ x. Relieves l x r.result.kept r.result.bytes r.new.1.1.0 r.new.1.1.1.1.0 r.new.1.1.1.1.1.0) e r.ensures) c.requires
+    ap₂ (λ p b. (told_number 0, lent p b r.new.textures a.retiring.now r.new.doomed r.new.spares a.newest.now a.stamps.now)) c.counts_after.ensures c.noted-after.ensures
+    ∙ noted_relieved l f a.allocated (subst (λ x. Relieves l x r.result.kept r.result.bytes r.new.textures r.new.doomed r.new.spares) e r.ensures) c.requires

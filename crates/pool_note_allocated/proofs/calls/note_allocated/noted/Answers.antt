@@ -2,7 +2,6 @@
 use mathlib.Core.Path.{ap, ◌∙◌}
 use Rattle.pool_memory.specs.Writing.{mark_of}
 use Rattle.pool_note_allocated.proofs.Noted.{mark_byte}
-use borrow.Author.Rules.{rules}
 use Rattle.pool_note_allocated.proofs.calls.note_allocated.noted.Goals as goal
 
 pub returns : goal.returns

@@ -2,7 +2,6 @@
 use mathlib.Core.Path.{sym, ap, ◌∙◌}
 use lib.Dec.{leb}
 use Rattle.pool_rules.specs.NoteAllocated.{pressed_after}
-use borrow.Author.Rules.{rules}
 use Rattle.pool_note_allocated.proofs.calls.note_allocated.pressed_after.Goals as goal
 
 pub returns-then-pressed : goal.returns-then-pressed

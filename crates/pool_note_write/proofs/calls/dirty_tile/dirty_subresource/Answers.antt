@@ -5,7 +5,6 @@ use mathlib.Core.List.{[]}
 use Prim.Native.Nat.{ℕ, ◌+◌, ◌*◌, ◌-◌, ◌≤◌, ◌<◌}
 use native.Mathlib.Omega.{arith}
 use lib.ListN.{length}
-use borrow.Author.Rules.{rules}
 use Rattle.grid_shapes.specs.Shapes.{is_shape}
 use Rattle.grid_stamps.specs.Grids.{tiled, tiling_of, stamp_count}
 use Rattle.pool_rules.specs.HistorySizes.{grid_start}
@@ -21,8 +20,6 @@ use Rattle.pool_note_write.proofs.calls.dirty_tile.dirty_subresource.Goals.{Afte
 
 -- the record that was read, and where the subresource's grid is by it
 module _ (c : After-texture_at-t) where
-
-
   abbrev texture : TextureRecord
   texture = c.texture_at-t.result
 
@@ -52,20 +49,23 @@ module _ (c : After-texture_at-t) where
 
 -- its stamps begin where the number beside its newest stamp says
 module _ (c : After-start_at) where
-
-
-  begun : c.start_at.result ≡ grid_start (texture c.before.before.before).shape (place c.before.before.before)
+  begun : c.start_at.result ≡ grid_start c.texture_at-t.result.shape (c.args.slice * c.texture_at-t.result.shape.levels + c.args.level)
   begun =
       let a = c.args in
       c.start_at.ensures
-      ∙ start_beside a.textures.now a.newest.now a.stamps.now a.i c.requires.0 (texture c.before.before.before) c.texture_at-t.ensures a.slice a.level c.requires.1
+      ∙ start_beside a.textures.now a.newest.now a.stamps.now a.i c.requires.0 c.texture_at-t.result c.texture_at-t.ensures a.slice a.level c.requires.1
 
-  at_room : (texture c.before.before.before).stamp + c.start_at.result + count c.before.before.before ≤ length c.args.stamps.now
-  at_room = omega (arith, room c.before.before.before, begun)
+  at_room : c.texture_at-t.result.stamp + c.start_at.result + stamp_count (tiling_of c.texture_at-t.result.shape c.args.level) ≤ length c.args.stamps.now
+  at_room =
+      let a = c.args in
+      let whole = start_read a.textures.now a.newest.now a.stamps.now a.i c.requires.0 c.texture_at-t.result c.texture_at-t.ensures a.slice a.level c.requires.1 in
+      omega (arith, whole, begun)
 
-counted : (c : After-stamp_count-count) → c.stamp_count-count.result ≡ count c.before.before.before.before.before.before
+counted : (c : After-stamp_count-count) → c.stamp_count-count.result ≡ stamp_count (tiling_of c.texture_at-t.result.shape c.args.level)
 counted c =
-    count_known (texture c.before.before.before.before.before.before).shape (shaped c.before.before.before.before.before.before) c.args.level c.across_at-across.result c.down_at-down.result
+    let a = c.args in
+    let shaped = shape_read a.textures.now a.newest.now a.stamps.now a.i c.requires.0 c.texture_at-t.result c.texture_at-t.ensures in
+    count_known c.texture_at-t.result.shape shaped a.level c.across_at-across.result c.down_at-down.result
     c.across_at-across.ensures c.down_at-down.ensures c.stamp_count-count.result c.stamp_count-count.ensures
 
 pub overflow_mul-p : goal.overflow_mul-p

@@ -2,7 +2,6 @@
 use mathlib.Core.Path.{sym, ap, ◌∙◌}
 use Prim.Native.Nat.{ℕ}
 use borrow.Author.Tests.{not-true, not-false}
-use borrow.Author.Rules.{rules}
 use Rattle.pool_rules.specs.Histories.{in_shape}
 use Rattle.pool_records.specs.declared.texture.TextureRecord.{TextureRecord}
 use Rattle.pool_records.specs.declared.recorded.Recorded.TheVariants.{Writes, NoHistory}
@@ -26,8 +25,6 @@ fit c = pool_fits (here c) c.requires
 
 -- a texture with a history, which has that many writes
 module _ (c : In-Writes) where
-
-
   abbrev count : ℕ
   count = c.in-Writes.field-0
 

@@ -1,7 +1,6 @@
 -- `note_mip_regeneration` meets its contract, case by case. Assumes nothing.
 use Prim.Native.Nat.{ℕ}
 use native.Mathlib.Omega.{arith}
-use borrow.Author.Rules.{rules}
 use Rattle.pool_records.specs.declared.recorded.Recorded.TheVariants.{Writes, NoHistory}
 use Rattle.pool_memory.specs.Lent.{Lent, lent}
 use Rattle.pool_memory.proofs.Fits.{Fits}
@@ -23,18 +22,16 @@ fit c = pool_fits (here c) c.requires
 
 -- a texture with a history, which has that many writes
 module _ (c : In-Writes) where
-
-
   abbrev count : ℕ
   count = c.in-Writes.n
 
-  recording : Recording (here c.before.before.before.before.before.before.before.before.before.before.before) (fit c.before.before.before.before.before.before.before.before.before.before.before) c.args.id count
+  recording : Recording (here c.before.before.before.before.before.before.before.before.before.before) (fit c.before.before.before.before.before.before.before.before.before.before) c.args.id count
   recording =
-      told (here c.before.before.before.before.before.before.before.before.before.before.before) (fit c.before.before.before.before.before.before.before.before.before.before.before) c.args.id c.find_texture-i.result c.find_texture-i.ensures c.history_at-history.result (Writes count)
+      told (here c.before.before.before.before.before.before.before.before.before.before) (fit c.before.before.before.before.before.before.before.before.before.before) c.args.id c.find_texture-i.result c.find_texture-i.ensures c.history_at-history.result (Writes count)
       c.history_at-history.ensures c.in-Writes.is
 
   held : HistoryAt c.args.textures.now c.args.newest.now c.args.stamps.now c.find_texture-i.result
-  held = history_here (here c.before.before.before.before.before.before.before.before.before.before.before) (fit c.before.before.before.before.before.before.before.before.before.before.before) c.args.id c.find_texture-i.result c.find_texture-i.ensures count recording
+  held = history_here (here c.before.before.before.before.before.before.before.before.before.before) (fit c.before.before.before.before.before.before.before.before.before.before) c.args.id c.find_texture-i.result c.find_texture-i.ensures count recording
 
 pub find_texture-i-requires : goal.find_texture-i-requires
 find_texture-i-requires c = (textures_fit_lem (here (goal.at.find_texture-i-requires c).Start) (fit (goal.at.find_texture-i-requires c).Start), ids_ascend (here (goal.at.find_texture-i-requires c).Start) (fit (goal.at.find_texture-i-requires c).Start))

@@ -3,7 +3,6 @@ use mathlib.Core.Path.{sym, ap, ◌∙◌}
 use Prim.Native.Nat.{ℕ}
 use native.Mathlib.Omega.{arith}
 use borrow.Author.Tests.{not-true, not-false}
-use borrow.Author.Rules.{rules}
 use Rattle.pool_rules.specs.Histories.{in_shape}
 use Rattle.pool_records.specs.declared.recorded.Recorded.TheVariants.{Writes, NoHistory}
 use Rattle.pool_records.specs.declared.texture.TextureRecord.{TextureRecord}
@@ -30,24 +29,22 @@ fit c = pool_fits (here c) c.requires
 
 -- a texture with a history, which has that many writes
 module _ (c : In-Writes) where
-
-
   abbrev count : ℕ
   count = c.in-Writes.n
 
-  recording : Recording (here c.before.before.before.before.before.before.before.before.before.before.before) (fit c.before.before.before.before.before.before.before.before.before.before.before) c.args.id count
+  recording : Recording (here c.before.before.before.before.before.before.before.before.before.before) (fit c.before.before.before.before.before.before.before.before.before.before) c.args.id count
   recording =
-      told (here c.before.before.before.before.before.before.before.before.before.before.before) (fit c.before.before.before.before.before.before.before.before.before.before.before) c.args.id c.find_texture-i.result c.find_texture-i.ensures c.history_at-history.result (Writes count)
+      told (here c.before.before.before.before.before.before.before.before.before.before) (fit c.before.before.before.before.before.before.before.before.before.before) c.args.id c.find_texture-i.result c.find_texture-i.ensures c.history_at-history.result (Writes count)
       c.history_at-history.ensures c.in-Writes.is
 
   held : HistoryAt c.args.textures.now c.args.newest.now c.args.stamps.now c.find_texture-i.result
-  held = history_here (here c.before.before.before.before.before.before.before.before.before.before.before) (fit c.before.before.before.before.before.before.before.before.before.before.before) c.args.id c.find_texture-i.result c.find_texture-i.ensures count recording
+  held = history_here (here c.before.before.before.before.before.before.before.before.before.before) (fit c.before.before.before.before.before.before.before.before.before.before) c.args.id c.find_texture-i.result c.find_texture-i.ensures count recording
 
-  droppable : CanDrop c.args.textures.now c.args.newest.now c.args.stamps.now c.args.pool.tracked (used_in (here c.before.before.before.before.before.before.before.before.before.before.before))
+  droppable : CanDrop c.args.textures.now c.args.newest.now c.args.stamps.now c.args.pool.tracked (used_in (here c.before.before.before.before.before.before.before.before.before.before))
       c.find_texture-i.result
   droppable =
-      can_drop (here c.before.before.before.before.before.before.before.before.before.before.before) (fit c.before.before.before.before.before.before.before.before.before.before.before) c.find_texture-i.result
-      (tracked_here (here c.before.before.before.before.before.before.before.before.before.before.before) (fit c.before.before.before.before.before.before.before.before.before.before.before) c.args.id c.find_texture-i.result c.find_texture-i.ensures count recording)
+      can_drop (here c.before.before.before.before.before.before.before.before.before.before) (fit c.before.before.before.before.before.before.before.before.before.before) c.find_texture-i.result
+      (tracked_here (here c.before.before.before.before.before.before.before.before.before.before) (fit c.before.before.before.before.before.before.before.before.before.before) c.args.id c.find_texture-i.result c.find_texture-i.ensures count recording)
 
 pub find_texture-i-requires : goal.find_texture-i-requires
 find_texture-i-requires c = (textures_fit_lem (here (goal.at.find_texture-i-requires c).Start) (fit (goal.at.find_texture-i-requires c).Start), ids_ascend (here (goal.at.find_texture-i-requires c).Start) (fit (goal.at.find_texture-i-requires c).Start))

@@ -1,5 +1,4 @@
 -- `records_writes` meets its contract. Assumes nothing.
-use borrow.Author.Rules.{rules}
 use Rattle.pool_records.specs.declared.recorded.Recorded.TheVariants.{Writes, NoHistory}
 use Rattle.pool_memory.specs.Lent.{Lent, lent}
 use Rattle.pool_memory.proofs.Fits.{Fits}

@@ -1,0 +1,9 @@
+-- `is_idle` meets its contract. Assumes nothing.
+use borrow.Author.Rules.{rules}
+use Rattle.pool_trim.proofs.Ages.{idle_test}
+use Rattle.pool_trim.proofs.look_at.is_idle.Goals as goal
+
+pub returns : goal.returns
+returns c =
+    let a = c.args in
+    idle_test a.textures.now a.i a.current c.before-oldest.result c.before-oldest.ensures a.left

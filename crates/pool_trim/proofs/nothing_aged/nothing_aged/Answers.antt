@@ -1,0 +1,53 @@
+-- `nothing_aged` meets its contract: the loop stops at the first texture that a trim would not leave as it is. Assumes nothing.
+use borrow.Author.Rules.{rules}
+use mathlib.Core.Logic.{⊎_elim}
+use Prim.Native.Nat.{◌-◌}
+use native.Mathlib.Omega.{arith}
+use Rattle.pool_trim.proofs.YoungTextures.{YoungTo, young_start, young_end, run_fits, due_aged, oldest_aged, no_spares, oldest_young}
+use Rattle.pool_trim.proofs.nothing_aged.nothing_aged.Goals as goal
+
+pub loop-i-init : goal.loop-i-init
+loop-i-init c =
+    let a = c.args in
+    young_start a.current a.textures.now a.spares.now a.tracked
+
+pub returns-then-textures-i : goal.returns-then-textures-i
+returns-then-textures-i c =
+    due_aged c.loop-i.invariant c.loop-i-test.true (omega (arith, c.before-recent.ensures, c.if-textures-i.true))
+
+pub overflow_mul-first : goal.overflow_mul-first
+overflow_mul-first c =
+    omega (arith, run_fits c.loop-i.invariant c.loop-i-test.true c.requires.1)
+
+pub overflow_add-first : goal.overflow_add-first
+overflow_add-first c =
+    omega (arith, run_fits c.loop-i.invariant c.loop-i-test.true c.requires.1)
+
+pub offset_bounds-spares-first : goal.offset_bounds-spares-first
+offset_bounds-spares-first c =
+    omega (arith, run_fits c.loop-i.invariant c.loop-i-test.true c.requires.1)
+
+pub bounds-spares-first : goal.bounds-spares-first
+bounds-spares-first c =
+    omega (arith, run_fits c.loop-i.invariant c.loop-i-test.true c.requires.1)
+
+pub returns-then-spares-first : goal.returns-then-spares-first
+returns-then-spares-first c =
+    oldest_aged c.loop-i.invariant c.loop-i-test.true c.if-own-ne0.true (omega (arith, c.before-young.ensures, c.if-spares-first.true))
+
+pub overflow_add-first-in-loop-i : goal.overflow_add-first-in-loop-i
+overflow_add-first-in-loop-i c =
+    omega (arith, run_fits c.loop-i.invariant c.loop-i-test.true c.requires.1)
+
+pub loop-i-preserved : goal.loop-i-preserved
+loop-i-preserved c =
+    let young = c.before-young.ensures in
+    let recent = c.before-recent.ensures in
+    let due = c.if-textures-i.false in
+    ⊎_elim
+    (λ w. oldest_young c.loop-i.invariant c.loop-i-test.true (omega (arith, recent, due)) w.0.taken (omega (arith, young, w.2.left)))
+    (λ w. no_spares c.loop-i.invariant c.loop-i-test.true (omega (arith, recent, due)) w.left)
+    c.if-own-ne0.branch
+
+pub returns : goal.returns
+returns c = young_end c.loop-i.invariant c.loop-i-test.false
