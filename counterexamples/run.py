@@ -252,10 +252,11 @@ AnyBut k (some n) = cond (eqb n k) ⊥ (Unit {{0}})
     write_file(top + '/crates.txt', ''.join('%s: %s\n' % (c, ' '.join(below[c])) for c in lower) + '%s: %s\n' % (name, ' '.join(lower)))
     ran = subprocess.run(['rt', 'check'], stdin=subprocess.DEVNULL, stdout=subprocess.PIPE, stderr=subprocess.STDOUT, text=True, cwd=d)
     write_file('%s/%s.out' % (said, name), ran.stdout)
-    # Over the edited definitions each list has to refute the claim, over those as they are none may.
+    # Over the edited definitions each list has to refute the claim, over those as they are none may. A theorem is refused itself, or what it rests on is.
     if edited:
         return ran.returncode == 0 and re.search('^logic=proved', ran.stdout, re.M) is not None
-    return not all('error: `refuted%d`' % i in ran.stdout for i in range(len(cases[case])))
+    refused = [re.search(r'error: `refuted%d`|not checked: [^\n]*\brefuted%d\b' % (i, i), ran.stdout) for i in range(len(cases[case]))]
+    return not all(refused)
 
 
 def main(words):
