@@ -4,10 +4,14 @@ not merely break a proof's text, and a claim that an edit has made true is seen.
 live number of a texel of the shape, in a level that is not left out, is not the plain book's. Where an edit has several lists, each refutes the claim.
 
 Each edit is applied to a copy of the definitions of the crates pool_rules and pool_books (and of those between, where it is of a lower one), which is a crate
-of its own in a temporary repository beside copies of the crates below, and the refutation is a computed theorem there. Run from anywhere; what the crates
-below lack of proof is proved first, which takes some minutes where no check of them was kept. 'run.py CRATE/EDIT ..' tries some of the edits. Exit status 0 if
-the claim is refuted for every edit; 1 if not, with what the prover said in target/counterexamples.
-'run.py control' tries the same theorems over the definitions as they are, where each refutation has to be refused."""
+of its own in a temporary repository beside copies of the crates below, and the refutation is a computed theorem there. Run from anywhere.
+
+    run.py [--built] [CRATE/EDIT ..]    tries every edit, or those named
+    run.py [--built] control            tries the same theorems over the definitions as they are, where each refutation has to be refused
+
+What the crates below lack of proof is proved first, which takes some minutes where no check of them was kept. With --built they are taken as rt ci has
+just left them in crates/NAME/out, where that serves. Exit status 0 if the claim is refuted for every edit; 1 if not, with what the prover said in
+target/counterexamples."""
 import os
 import re
 import shutil
@@ -189,8 +193,31 @@ refuted{i} claim = subst (AnyBut {plain}) ((claim cube_lent 0 list{i} renames{i}
 '''
 
 
-def refute(top, case, edited=True):
-    """Proves the case's theorems in the repository `top`, which has the crates below the copied ones."""
+def check(top, name, lower, built):
+    """Checks the crate of that name over those below it, and returns its status and what the prover said."""
+    words = ['rt', 'check']
+    libraries = ['%s/crates/%s/out/rlib/%s.rlib' % (root, c, c) for c in lower]
+    if built and all(map(os.path.isdir, libraries)):
+        for c, library in zip(lower, libraries):
+            words += ['--extern', '%s=%s' % (c, library), '-L', 'dependency=' + os.path.dirname(library)]
+        lines = []
+    else:
+        built = False
+        below = lines_of_crates()
+        lines = ['%s: %s\n' % (c, ' '.join(below[c])) for c in lower]
+        for c in lower:
+            if not os.path.isdir('%s/crates/%s' % (top, c)):
+                shutil.copytree('%s/crates/%s' % (root, c), '%s/crates/%s' % (top, c), ignore=shutil.ignore_patterns('out', 'must-fail'))
+    write_file(top + '/crates.txt', ''.join(lines) + '%s: %s\n' % (name, '' if built else ' '.join(lower)))
+    ran = subprocess.run(words, stdin=subprocess.DEVNULL, stdout=subprocess.PIPE, stderr=subprocess.STDOUT, text=True, cwd='%s/crates/%s' % (top, name))
+    if built and not re.search('^logic=', ran.stdout, re.M):
+        # The libraries do not fit together: some are of another run.
+        return check(top, name, lower, False)
+    return ran.returncode, ran.stdout
+
+
+def refute(top, case, edited=True, built=False):
+    """Proves the case's theorems in the repository `top`."""
     crate, edit = case.split('/')
     name = 'edited_' + edit
     d = '%s/crates/%s' % (top, name)
@@ -248,18 +275,18 @@ abbrev AnyBut : ℕ → Option ℕ → Type 0
 AnyBut k none = Unit {{0}}
 AnyBut k (some n) = cond (eqb n k) ⊥ (Unit {{0}})
 ''' + ''.join(theorems(i, unfolding, *one) for i, one in enumerate(cases[case])))
-    below = lines_of_crates()
-    write_file(top + '/crates.txt', ''.join('%s: %s\n' % (c, ' '.join(below[c])) for c in lower) + '%s: %s\n' % (name, ' '.join(lower)))
-    ran = subprocess.run(['rt', 'check'], stdin=subprocess.DEVNULL, stdout=subprocess.PIPE, stderr=subprocess.STDOUT, text=True, cwd=d)
-    write_file('%s/%s.out' % (said, name), ran.stdout)
+    status, told = check(top, name, lower, built)
+    write_file('%s/%s.out' % (said, name), told)
     # Over the edited definitions each list has to refute the claim, over those as they are none may. A theorem is refused itself, or what it rests on is.
     if edited:
-        return ran.returncode == 0 and re.search('^logic=proved', ran.stdout, re.M) is not None
-    refused = [re.search(r'error: `refuted%d`|not checked: [^\n]*\brefuted%d\b' % (i, i), ran.stdout) for i in range(len(cases[case]))]
+        return status == 0 and re.search('^logic=proved', told, re.M) is not None
+    refused = [re.search(r'error: `refuted%d`|not checked: [^\n]*\brefuted%d\b' % (i, i), told) for i in range(len(cases[case]))]
     return not all(refused)
 
 
 def main(words):
+    built = words[:1] == ['--built']
+    words = words[built:]
     control = words == ['control']
     tried = list(cases) if control else words or list(cases)
     for case in tried:
@@ -270,11 +297,9 @@ def main(words):
     with tempfile.TemporaryDirectory(prefix='counterexamples-') as top:
         # The kit takes a folder with .git for the top of a repository.
         os.makedirs(top + '/.git')
-        for c in crates[:crates.index('pool_rules')]:
-            shutil.copytree('%s/crates/%s' % (root, c), '%s/crates/%s' % (top, c), ignore=shutil.ignore_patterns('out', 'must-fail'))
         for case in tried:
             try:
-                false = refute(top, case, not control)
+                false = refute(top, case, not control, built)
             except Unfit as why:
                 print('%s: DOES NOT FIT, %s' % (case, why), flush=True)
                 bad += 1
