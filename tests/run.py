@@ -295,6 +295,8 @@ def repository(folder, said, status, words=(), given=b'pop,1\n', built=True):
         shutil.rmtree(at, ignore_errors=True)
         os.makedirs(at)
         write_program('%s/%s/event_%s' % (folder, 'crates/event_%s/out' % name if built else 'made', name), text)
+        if built:
+            open('%s/event_%s.stamp' % (at, name), 'w').close()
     name = 'event_' + (words[0][2:] if words else 'program')
     write_program(folder + '/bin/rt', 'echo "$@" >"%s/asked"\necho "${PWD##*/}" >>"%s/asked"\ncat >&2 <<"END"\n%sEND\n' % (folder, folder, said)
                   + ('' if built else 'cp "%s/made/%s" out/\n' % (folder, name)) + '[ %d -ne 0 ] || "out/%s"\nexit %d\n' % (status, name, status))
@@ -382,6 +384,7 @@ def copy_programs(folder):
         if not os.path.isfile('%s/%s/%s' % (root, at, name)):
             sys.exit('there is no %s/%s: rt run in crates/%s builds it' % (at, name, name))
         shutil.copy('%s/%s/%s' % (root, at, name), '%s/%s' % (folder, at))
+        open('%s/%s/%s.stamp' % (folder, at, name), 'w').close()
     write_program(folder + '/bin/rt', 'cat >&2 <<"END"\n%sEND\nexec "out/${PWD##*/}"\n' % (UNCHANGED + RUNNING))
 
 
