@@ -31,18 +31,30 @@ cargo test --release --offline -q >"$log" 2>&1 || {
     cat -- "$log"
     exit 1
 }
-COUNT=${COUNT:-5000} ./leaf_live.sh ../target/bin/test_leaf || exit 1
+# The kit leaves a program that it proved and built in its crate's out/, by rt ci or by rt run in the crate's folder.
+# is_there NAME: sets program to it; fails where there is no such crate, and ends with 1 where the crate is there and its program is not.
+is_there() {
+    program=../crates/$1/out/$1
+    [ ! -x "$program" ] || return 0
+    [ -d "../crates/$1" ] || return 1
+    printf '%s is missing: its crate is there, so build it first (rt run in crates/%s)\n' "$program" "$1"
+    exit 1
+}
+
+if is_there test_leaf; then
+    COUNT=${COUNT:-5000} ./leaf_live.sh "$program" || exit 1
+fi
 
 # Damaged stores: equal answers, each condition failing alone at least ten times, and a judge that lacks a condition is seen.
 built=${CARGO_TARGET_DIR:-target}/release
-if [ -x ../target/bin/test_pool ]; then
-    ./stores_live.sh ../target/bin/test_pool 0 2000 || exit 1
+if is_there test_pool; then
+    ./stores_live.sh "$program" 0 2000 || exit 1
     "$built/stores" table 0 2000 >"$log" || {
         cat -- "$log"
         exit 1
     }
     for condition in Newest FirstStamp Tiling; do
-        if ./stores_live.sh --wrong "$condition" ../target/bin/test_pool 0 2000 >"$log" 2>&1; then
+        if ./stores_live.sh --wrong "$condition" "$program" 0 2000 >"$log" 2>&1; then
             printf 'a judge without its condition %s was not seen\n' "$condition"
             exit 1
         fi
@@ -51,20 +63,14 @@ if [ -x ../target/bin/test_pool ]; then
             exit 1
         }
     done
-elif [ -d ../crates/test_pool ]; then
-    echo '../target/bin/test_pool is missing: its crate is there, so build it first'
-    exit 1
 fi
 
 # compare_program NAME LINES OPTION ..: each kind of list has LINES lines in each of eight seeds.
 compare_program() {
-    local program=../target/bin/$1 lines=$2
+    local name=$1 lines=$2
     shift 2
-    if [ -x "$program" ]; then
+    if is_there "$name"; then
         LINES=${LINES:-$lines} ./events_live.sh "$@" "$program" 1 2 3 4 5 6 7 8 || exit 1
-    elif [ -d "../crates/${program##*/}" ]; then
-        printf '%s is missing: its crate is there, so build it first\n' "$program"
-        exit 1
     fi
 }
 
@@ -73,25 +79,16 @@ compare_program event_program 2500
 compare_program event_program_large 8000 --large
 
 # Sizes that neither of them has.
-if [ -x ../target/bin/test_replay ]; then
-    LINES=${LINES:-600} ./replay_live.sh ../target/bin/test_replay 1 2 3 4 || exit 1
-elif [ -d ../crates/test_replay ]; then
-    echo '../target/bin/test_replay is missing: its crate is there, so build it first'
-    exit 1
+if is_there test_replay; then
+    LINES=${LINES:-600} ./replay_live.sh "$program" 1 2 3 4 || exit 1
 fi
 
 # The pool sheet, which the Rust lacks, by a second implementation of 02's text.
-if [ -x ../target/bin/test_pool_questions ]; then
-    LINES=${LINES:-300} ./questions_live.sh ../target/bin/test_pool_questions 1 2 3 4 5 6 7 8 || exit 1
-elif [ -d ../crates/test_pool_questions ]; then
-    echo '../target/bin/test_pool_questions is missing: its crate is there, so build it first'
-    exit 1
+if is_there test_pool_questions; then
+    LINES=${LINES:-300} ./questions_live.sh "$program" 1 2 3 4 5 6 7 8 || exit 1
 fi
 
 # What plans move, by a second implementation of 02's text over the Rust's plans.
-if [ -x ../target/bin/event_cost ]; then
-    LINES=${LINES:-300} ./cost_live.sh ../target/bin/event_cost 1 2 3 4 5 6 7 8 || exit 1
-elif [ -d ../crates/event_cost ]; then
-    echo '../target/bin/event_cost is missing: its crate is there, so build it first'
-    exit 1
+if is_there event_cost; then
+    LINES=${LINES:-300} ./cost_live.sh "$program" 1 2 3 4 5 6 7 8 || exit 1
 fi

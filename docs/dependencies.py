@@ -2,7 +2,7 @@
 """Says whether crates.txt names, for each crate, what the crate uses directly and nothing else. Exit status 0 if so; else 1, with a line for each fault.
 
 A crate uses another where
-  - a path of its code begins with the other's name, or Rattle·NAME stands in its code, specs/ or proofs/ (comments do not count);
+  - a path of its code begins with the other's name, or Rattle.NAME stands in its code, specs/ or proofs/ (comments do not count);
   - or a value of its code has a type that the other declares: a type of the signature of a function that it calls, or of a field of such a type, however
     deep. The prover asks for that crate too, though no source names it.
 
@@ -28,7 +28,7 @@ LAYERS = {
 # A crate that may list more, and why.
 MORE = {
     'event_books': ['grid_axes', 'grid_stamps'],  # its proofs compute 01's sample, and so unfold the grids' definitions
-    # The programs lend as many stamps a page as the pool's contracts ask for (`pageStamps` in `sizesFit`).
+    # The programs lend as many stamps a page as the pool's contracts ask for (`page_stamps` in `sizes_fit`).
     'event_stream': ['grid_stamps'],
     'event_program': ['grid_stamps'],
     'event_program_large': ['grid_stamps'],
@@ -52,14 +52,41 @@ def crates():
     return found
 
 
+def parts(names):
+    """The parts of a list at its commas, those inside of braces left out of account."""
+    found, depth = [''], 0
+    for letter in names:
+        depth += {'{': 1, '}': -1}.get(letter, 0)
+        if letter == ',' and depth == 0:
+            found.append('')
+        else:
+            found[-1] += letter
+    return [part.strip() for part in found if part.strip()]
+
+
+def paths_of(names):
+    """The paths that `a::{b, c::D}` stands for."""
+    front, brace, rest = names.partition('{')
+    if not brace:
+        return [front.split(' as ')[0].strip()]
+    return [front.strip() + path for part in parts(rest.rpartition('}')[0]) for path in paths_of(part)]
+
+
+def ungrouped(text):
+    """Code whose imports have a line each: `use a::{b, c};` is `use a::b;` and `use a::c;`."""
+    return re.sub(r'^((?:pub )?use) ([^;]*\{[^;]*);', lambda m: '\n'.join('%s %s;' % (m.group(1), path) for path in paths_of(m.group(2))), text, flags=re.M)
+
+
 def sources(crate, ending):
     """The texts of a crate's files without comments: (path, text)."""
     comment = {'.rt': r'//[^\n]*', '.antt': r'--[^\n]*'}[ending]
-    for folder, _, names in os.walk('crates/' + crate):
-        for name in sorted(names):
-            if name.endswith(ending):
-                path = os.path.join(folder, name)
-                yield path, re.sub(comment, '', read(path))
+    for part in ('src', 'specs', 'proofs'):
+        for folder, _, names in os.walk('crates/%s/%s' % (crate, part)):
+            for name in sorted(names):
+                if name.endswith(ending):
+                    path = os.path.join(folder, name)
+                    text = re.sub(comment, '', read(path))
+                    yield path, ungrouped(text) if ending == '.rt' else text
 
 
 LISTED = crates()
@@ -70,7 +97,10 @@ CODE = {crate: list(sources(crate, '.rt')) for crate in ORDER}
 # ---- what is declared: (crate, name) to the text in which its types stand, and to the file's imports
 
 TYPES, CALLS, EXPORTS = {}, {}, {}
-PATH = re.compile(r'(?<![\w:·.])([a-z_]\w*)::((?:\w+::)*)(\w+)')
+PATH = re.compile(r'(?<![\w:.])([a-z_]\w*)::((?:\w+::)*)(\w+)')
+LOGIC = re.compile(r'\bRattle\.(\w+)\.')
+# A function's parameters and its result, where its contract or its body begins.
+SIGNATURE = r'fn (\w+)(?:<[^(]*>)?\((.*?)\)(?:\s*->\s*([^\n{]*))?\s*\{?\}?$'
 
 
 def imports(text):
@@ -82,12 +112,12 @@ def declare(crate, text):
     names = imports(text)
     for m in re.finditer(r'^(?:pub )?(?:struct|enum) (\w+)\s*(\{.*?^\}|\([^;]*\);|;)', text, re.M | re.S):
         TYPES.setdefault((crate, m.group(1)), []).append((m.group(2), names))
-    for m in re.finditer(r'^(?:pub )?fn (\w+)\((.*?)\)(?:\s*->\s*([^\n{]*))?\s*$', text, re.M | re.S):
+    for m in re.finditer(r'^(?:pub )?' + SIGNATURE, text, re.M | re.S):
         CALLS.setdefault((crate, m.group(1)), []).append((m.group(2) + ' ' + (m.group(3) or ''), names))
     for m in re.finditer(r'^impl\S* (\w+).*?\{\n(.*?)^\}', text, re.M | re.S):
         # A type brings its methods: whoever names it may call them.
-        for f in re.finditer(r'^    (?:pub )?fn \w+\((.*?)\)(?:\s*->\s*([^\n{]*))?\s*$', m.group(2), re.M | re.S):
-            CALLS.setdefault((crate, m.group(1)), []).append((f.group(1) + ' ' + (f.group(2) or ''), names))
+        for f in re.finditer(r'^    (?:pub )?' + SIGNATURE, m.group(2), re.M | re.S):
+            CALLS.setdefault((crate, m.group(1)), []).append((f.group(2) + ' ' + (f.group(3) or ''), names))
     for other, name in re.findall(r'^pub use (\w+)::(?:\w+::)*(\w+);', text, re.M):
         if other in CODE:
             EXPORTS[crate, name] = other
@@ -131,9 +161,9 @@ def named(crate):
     for _, text in CODE[crate]:
         modules = set(re.findall(r'^(?:pub )?mod (\w+);', text, re.M))
         found |= {other for other, _, _ in PATH.findall(text)} - modules
-        found |= set(re.findall(r'Rattle·(\w+)', text))
+        found |= set(LOGIC.findall(text))
     for _, text in sources(crate, '.antt'):
-        found |= set(re.findall(r'Rattle·(\w+)', text))
+        found |= set(LOGIC.findall(text))
     return {other for other in found if other in PLACE and other != crate}
 
 

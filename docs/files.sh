@@ -10,8 +10,8 @@
 #                            - a call lacks one of the files that have its name,
 #                            - a theorem of docs/THEOREMS.md is not in the file that its row names.
 #
-# The proof of a function stands in proofs/<module>/<function>/Proof.antt of its crate: it is counted and not listed. Lib.antt only lists a folder's
-# modules: it is neither.
+# What is written of a function's proof stands in proofs/<module>/<function>/ of its crate, in Answers.antt and Invariants.antt or in Proof.antt: it is counted
+# and not listed. Lib.antt only lists a folder's modules: it is neither.
 set -eu
 cd -- "$(dirname -- "${BASH_SOURCE[0]}")/.."
 export LC_ALL=C
@@ -23,9 +23,8 @@ calls='open take_spare preserve_plan retire note_write note_mip_regeneration pop
 exceptions='
 open line crates/event_sessions/src/opening.rt: opening makes the session, so it is no call on one
 open any crates/pool_open/src/calls/open.rt|crates/pool/src/calls/open.rt: opening reads no store, so one form serves, which `pool` hands on
-open proof crates/pool_open/proofs/calls/open/open/Proof.antt|crates/pool/proofs/calls/open/open/Proof.antt: the same
 open code crates/pool_open/src/calls/open.rt|crates/pool/src/calls/open.rt: the same
-open definition openedPool: it answers the pool to begin with, and leaves the stores as they are
+open definition opened_pool: it answers the pool to begin with, and leaves the stores as they are
 open model opened: the same, on the model
 note_mip_regeneration rule crates/pool_rules/specs/NoteWrite.antt: both report writes to one history, and share its definitions
 '
@@ -38,7 +37,7 @@ pool_preserve_plan/PreservePlan pool_records/Find: only the definitions for proo
 
 # ---- the list
 
-mapfile -t files < <(find crates -type f \( -name '*.rt' -o -name '*.antt' -o -name '*.edit' \) ! -name Lib.antt | sort -t/ -k2,2 -k3,3r -k4)
+mapfile -t files < <(find crates -path 'crates/*/out' -prune -o -type f \( -name '*.rt' -o -name '*.antt' -o -name '*.edit' \) ! -name Lib.antt -print | sort -t/ -k2,2 -k3,3r -k4)
 
 # One pass over all files. `want` is 'list' for the text of FILES.md, 'marks' for what is wrong with the first lines of specs.
 read_files() {
@@ -50,10 +49,11 @@ read_files() {
             gsub(/\|/, "\\|", text)
             return text
         }
-        function kind_of(path, part, name) {
+        # A file right in proofs/ has laws, whatever its name; a folder there belongs to a function.
+        function kind_of(part, name, depth) {
             if (part == "src") return "code"
             if (part == "must-fail") return "edits"
-            if (part == "proofs") return name == "Proof.antt" ? "proofs" : "laws"
+            if (part == "proofs") return depth > 4 && name ~ /^(Proof|Answers|Invariants)[.]antt$/ ? "proofs" : "laws"
             return "specs"
         }
         function end_file() {
@@ -84,7 +84,7 @@ read_files() {
             count = split(file, part, "/")
             module = part[count]
             sub(/[.].*/, "", module)
-            kind = kind_of(file, part[3], part[count])
+            kind = kind_of(part[3], part[count], count)
             text = ""
             reading = 1
         }
@@ -97,10 +97,9 @@ read_files() {
             next
         }
         { reading = 0 }
-        kind == "specs" && /^use Rattle·/ {
+        kind == "specs" && /^use Rattle[.]/ {
             from = $2
-            sub(/^Rattle·/, "", from)
-            sub(/·specs/, "", from)
+            sub(/^Rattle[.]/, "", from)
             if (split(from, step, ".") >= 3 && step[2] == "specs" && step[3] != "declared")
                 uses[crate "/" module " " step[1] "/" step[3]] = 1
         }
@@ -124,7 +123,7 @@ read_files() {
             print "# Files\n"
             print "Every file of the crates, in the order of crates.txt, with its lines and the comment that it begins with. docs/files.sh writes this list."
             print "A *rule* is a file of specs/ that a reader of the contracts and theorems must believe; a *helper* only serves proofs. Laws are the lemmas of"
-            print "proofs/; the proofs of functions, one for each, are counted and not listed.\n"
+            print "proofs/; what is written of the functions\047 own proofs is counted and not listed.\n"
             print "| lines | rules | helpers | code | laws | proofs of functions | must-fail edits |"
             print "|---|---|---|---|---|---|---|"
             split("base grid pool event test bench", name, " ")
@@ -158,7 +157,7 @@ excepted() {
     done <<<"$exceptions"
 }
 
-# In capitals as a module of specs/, and as a definition: take_spare is TakeSpare and takeSpare.
+# In capitals as a module of specs/: take_spare is TakeSpare.
 in_capitals() {
     local word text=
     for word in ${1//_/ }; do text+=${word^}; done
@@ -178,21 +177,19 @@ want_definition() {
 }
 
 check_call() {
-    local call=$1 capitals definition model line rule code any proof found file
+    local call=$1 capitals definition model line rule code any found file
     capitals=$(in_capitals "$call")
     line=$(excepted "$call" line)
     rule=$(excepted "$call" rule)
     code=$(excepted "$call" code)
     any=$(excepted "$call" any)
-    proof=$(excepted "$call" proof)
     definition=$(excepted "$call" definition)
     model=$(excepted "$call" model)
     rule=${rule:-crates/pool_rules/specs/$capitals.antt}
     want_file "$call" "$rule"
-    want_definition "$call" "${model:-${capitals,}}" "$rule"
-    want_definition "$call" "${definition:-${capitals,}On}" crates/pool_memory/specs/Calls.antt
+    want_definition "$call" "${model:-$call}" "$rule"
+    want_definition "$call" "${definition:-${call}_on}" crates/pool_memory/specs/Calls.antt
     want_file "$call" "${any:-crates/pool/src/calls/$call.rt}"
-    want_file "$call" "${proof:-crates/pool/proofs/calls/$call/$call/Proof.antt}"
     want_file "$call" "${line:-crates/event_calls/src/calls/$call.rt}"
     if [ -n "$code" ]; then
         want_file "$call" "$code"

@@ -1,7 +1,7 @@
 #!/usr/bin/env python3
 """Tests of event_cost as a process, which prints what the plans of a list move: how its input is cut, and what its output may meet.
 
-    tests/costs.py [PROGRAM]    the program to try; by default target/bin/event_cost
+    tests/costs.py [PROGRAM]    the program to try; by default the one that the crate's proof built
 
 What is expected is computed from the answers that stream.py has written out for the event program. Python's standard library alone.
 Exit status 0 if every test passed, 1 if one failed."""
@@ -83,7 +83,7 @@ TESTS = (whole_text, empty_input, long_lines, parts_of_every_size, many_lines, o
 def main():
     if len(sys.argv) > 2:
         sys.exit(__doc__)
-    program = os.path.abspath(sys.argv[1]) if len(sys.argv) == 2 else stream.root + '/target/bin/event_cost'
+    program = os.path.abspath(sys.argv[1]) if len(sys.argv) == 2 else stream.built('event_cost')
     stream.tell('tests/costs.py', [stream.passes(test, program, True) for test in TESTS])
 
 

@@ -1,11 +1,14 @@
 #!/usr/bin/env python3
-"""Tests of ./run: what a user sees who runs lists of events by it. The programs have to be proved and built
-('rt check event_program event_sheet event_cost').
+"""Tests of ./run: what a user sees who runs lists of events by it. The programs have to be proved and built ('rt run' in crates/event_program,
+crates/event_sheet and crates/event_cost, or 'rt ci').
 
-    tests/run.py    Exit status 0 if every test passed, 1 if one failed.
+    tests/run.py          tries ./run on these programs in a folder of their own, with a stand-in for rt that has nothing left to prove
+    tests/run.py --kit    the same in this repository with the kit's rt, which first proves what it has not kept
 
-Python's standard library alone. What it prints while it proves is tried on a repository of three crates with a stand-in for rt."""
+Exit status 0 if every test passed, 1 if one failed. Python's standard library alone. What it prints while it proves is tried on a repository of three crates
+with a stand-in for rt."""
 import os
+import re
 import shutil
 import socket
 import subprocess
@@ -13,6 +16,11 @@ import sys
 import tempfile
 
 root = os.path.dirname(os.path.dirname(os.path.abspath(__file__)))
+
+# Where ./run is tried, and a folder with the rt that it finds first, if that is a stand-in.
+home, stand_in = root, None
+
+PROGRAMS = ('event_program', 'event_sheet', 'event_cost')
 
 # 01's list of events and its output.
 EVENTS = b"""open,0
@@ -67,9 +75,14 @@ class Failure(Exception):
     pass
 
 
-def run(words, given=b'', folder=root, home=root, path=None, to=subprocess.PIPE):
-    env = dict(os.environ, **({'PATH': path + ':' + os.environ['PATH']} if path else {}))
-    ran = subprocess.run([home + '/run'] + words, input=given, cwd=folder, env=env, stdout=to, stderr=subprocess.PIPE, timeout=600)
+def environment(path):
+    return dict(os.environ, **({'PATH': path + ':' + os.environ['PATH']} if path else {}))
+
+
+def run(words, given=b'', folder=root, of=None, path=None, to=subprocess.PIPE):
+    env = environment(path or stand_in)
+    # With the kit's rt the first run may have to prove the program.
+    ran = subprocess.run([(of or home) + '/run'] + words, input=given, cwd=folder, env=env, stdout=to, stderr=subprocess.PIPE, timeout=3600)
     return ran.returncode, ran.stdout, ran.stderr
 
 
@@ -138,8 +151,8 @@ def sheet(*rows):
 
 def closed(stream):
     """The sheet of 01's list, with a standard stream closed."""
-    command = ['/bin/sh', '-c', 'exec "$0" --sheet ' + stream, root + '/run']
-    ran = subprocess.run(command, input=EVENTS, stdout=subprocess.PIPE, stderr=subprocess.PIPE, timeout=60)
+    command = ['/bin/sh', '-c', 'exec "$0" --sheet ' + stream, home + '/run']
+    ran = subprocess.run(command, input=EVENTS, env=environment(stand_in), stdout=subprocess.PIPE, stderr=subprocess.PIPE, timeout=60)
     return ran.returncode, ran.stdout, ran.stderr
 
 
@@ -247,43 +260,83 @@ def cost_words(folder):
 
 # ---- what it prints while it proves
 
-def repository(folder, said, status, words=(), given=b'pop,1\n'):
-    """A repository whose program uses two crates, and those of the sheet and of the costs three, and an rt that says `said` and ends with `status`."""
+# What rt says of a program that it has nothing to prove of, and where it runs one.
+UNCHANGED = 'rt: nothing has changed since the last proved build, by out/x.stamp, so nothing is checked now\n'
+RUNNING = 'rt: running out/x; to give it other input, run that file yourself\n'
+
+
+def checking(name):
+    """What rt says first of a crate that it checks."""
+    return 'rt: %s: begins with what a check kept in /x/crates/%s\nrt: chose --jobs 2 for %s\nfn %s::f: proved\n' % (name, name, name, name)
+
+
+def proving(name):
+    """What it says of one that is proved."""
+    return checking(name) + 'crate %s: modules loaded=0 checked=7\nlogic=proved functions=1 sum=0\n' % name
+
+
+def write_program(path, text):
+    os.makedirs(os.path.dirname(path), exist_ok=True)
+    with open(path, 'w') as out:
+        out.write('#!/bin/sh\n' + text)
+    os.chmod(path, 0o755)
+
+
+def repository(folder, said, status, words=(), given=b'pop,1\n', built=True):
+    """A repository whose program uses two crates, and those of the sheet and of the costs three, and an rt that says `said` and ends with `status`. If
+    the programs are not built, that rt builds them. It runs the program as the kit's does: on standard input, with what it prints on standard output."""
     shutil.copy(root + '/run', folder)
-    os.makedirs(folder + '/bin', exist_ok=True)
-    os.makedirs(folder + '/target/bin', exist_ok=True)
     with open(folder + '/crates.txt', 'w') as out:
         out.write('# NAME: what it uses directly.\nlow:\nunused: low\nhigh: low io\nevent_program: low high io # the program\n'
                   'printing:\nevent_sheet: low high printing io\nevent_cost: low high printing io\n')
-    for name, text in (('bin/rt', 'echo "$@" >"%s/asked"\ncat <<"END"\n%sEND\nexit %d\n' % (folder, said, status)),
-                       ('target/bin/event_program', 'echo it runs; exec cat\n'),
-                       ('target/bin/event_cost', 'echo it sums; exec cat\n'),
-                       ('target/bin/event_sheet', 'read -r line || exit 0; [ "$line" != fail ] || exit 7; echo "$line"\n')):
-        with open(folder + '/' + name, 'w') as out:
-            out.write('#!/bin/sh\n' + text)
-        os.chmod(folder + '/' + name, 0o755)
+    for name, text in (('program', 'echo it runs; exec cat\n'), ('cost', 'echo it sums; exec cat\n'),
+                       ('sheet', 'read -r line || exit 0; [ "$line" != fail ] || exit 7; echo "$line"\n')):
+        at = '%s/crates/event_%s/out' % (folder, name)
+        shutil.rmtree(at, ignore_errors=True)
+        os.makedirs(at)
+        write_program('%s/%s/event_%s' % (folder, 'crates/event_%s/out' % name if built else 'made', name), text)
+        if built:
+            open('%s/event_%s.stamp' % (at, name), 'w').close()
+    name = 'event_' + (words[0][2:] if words else 'program')
+    write_program(folder + '/bin/rt', 'echo "$@" >"%s/asked"\necho "${PWD##*/}" >>"%s/asked"\ncat >&2 <<"END"\n%sEND\n' % (folder, folder, said)
+                  + ('' if built else 'cp "%s/made/%s" out/\n' % (folder, name)) + '[ %d -ne 0 ] || "out/%s"\nexit %d\n' % (status, name, status))
     ran = run(list(words), given, '/', folder, folder + '/bin')
     with open(folder + '/asked') as asked:
-        expect(asked.read(), 'check event_%s\n' % (words[0][2:] if words else 'program'))
-    return ran
+        expect(asked.read(), 'run\n%s\n' % name)
+    return ran[0], ran[1], re.sub(rb'\(\d+ s\)', b'(0 s)', ran[2])
 
 
 def progress(folder):
-    said = ("fn low::f: proved\nlogic=proved functions=1\nrt: low proved (12 s)\nrt: high proved (unchanged since it was last proved)\n"
-            "logic=proved functions=2\nrt: event_program proved (3 s)\n"
-            "rt: event_program ran as nobody, and wrote what its file 'stdout' has (0 s)\nrt: ok, 3 crates proved\n")
-    expect(repository(folder, said, 0), (0, b'it runs\npop,1\n', b'run: 1 of 3 low proved (12 s)\nrun: 3 of 3 event_program proved (3 s)\n'))
+    """The place of a crate is that in the order in which rt proves them; those proved before have no line."""
+    said = proving('low') + proving('event_program') + 'linked target=x\n' + RUNNING
+    expect(repository(folder, said, 0), (0, b'it runs\npop,1\n', b'run: 1 of 3 low proved (0 s)\nrun: 3 of 3 event_program proved (0 s)\n'))
+    expect(repository(folder, UNCHANGED + RUNNING, 0), (0, b'it runs\npop,1\n', b''))
+
+
+def first_build(folder):
+    """Says so where there is no program yet, and runs the one that rt built."""
+    said = 'only=0 proved=0\n' + ''.join(map(proving, ('low', 'high', 'event_program'))) + RUNNING
+    told = (b'run: proving and building the program, 3 crates; this takes some minutes, once\nrun: 1 of 3 low proved (0 s)\n'
+            b'run: 2 of 3 high proved (0 s)\nrun: 3 of 3 event_program proved (0 s)\n')
+    expect(repository(folder, said, 0, built=False), (0, b'it runs\npop,1\n', told))
 
 
 def failed_proof(folder):
-    said = ("rt: low proved (12 s)\n/x/crates/high/src/lib.rt:9:9: error: `returns`: no\nfn high::f: not proved\nlogic=not-proved\n"
-            "rt: high NOT PROVED (exit 1, 4 s)\nrt: event_program NOT PROVED: its dependency high is not proved\nrt: FAILED: high event_program\n")
+    said = (proving('low') + checking('high') + './proofs/f/Answers.antt:9:9: error: `returns`: no\nfn high::f: not proved\nlogic=not-proved\n'
+            'rattle build: nothing was built, since only a proved crate is built\nrt: the library high did not build, so nothing above it was checked\n')
     status, out, told = repository(folder, said, 1)
     lines = told.decode().splitlines()
     expect((status, out), (2, b''))
-    expect(lines[:3], ['run: 1 of 3 low proved (12 s)', '/x/crates/high/src/lib.rt:9:9: error: `returns`: no', 'run: high NOT PROVED (exit 1, 4 s)'])
-    if 'is not proved, so it is not run' not in lines[-1]:
-        raise Failure('the last line is %r' % lines[-1])
+    expect(lines[:4], ['run: 1 of 3 low proved (0 s)', './proofs/f/Answers.antt:9:9: error: `returns`: no', 'run: high NOT PROVED',
+                       'run: the library high did not build, so nothing above it was checked'])
+    expect(lines[4:], ['run: the program is not proved, so it is not run; rt check in crates/event_program prints all that the prover says'])
+
+
+def broken_source(folder):
+    """What a quick look at the sources finds before any proof."""
+    said = 'src/lib.rt:14:10: error[unclosed-delimiter]: unclosed delimiter `(`\nrt: mend these first: no library was built\n'
+    status, out, told = repository(folder, said, 1)
+    expect((status, out, told.splitlines()[:2]), (2, b'', [b'src/lib.rt:14:10: error[unclosed-delimiter]: unclosed delimiter `(`', b'run: mend these first: no library was built']))
 
 
 def broken_kit(folder):
@@ -295,41 +348,66 @@ def sheet_progress(folder):
     """The crates of the sheet's program are those that are counted. A program that fails says nothing of the list, so it is told apart."""
     said, told = '', b''
     for number, name in enumerate(('low', 'high', 'printing', 'event_sheet'), 1):
-        said += 'rt: %s proved (1 s)\n' % name
-        told += b'run: %d of 4 %s proved (1 s)\n' % (number, name.encode())
+        said += proving(name)
+        told += b'run: %d of 4 %s proved (0 s)\n' % (number, name.encode())
     expect(repository(folder, said, 0, ['--sheet']), (0, b'pop,1\n', told))
     expect(repository(folder, said, 0, ['--sheet'], b''), (2, b'', told + NO_SHEET))
     expect(repository(folder, said, 0, ['--sheet'], b'fail\n'), (2, b'', told + b'run: the program ended with status 7\n'))
     status, out, told = repository(folder, said, 1, ['--sheet'])
-    expect((status, out, told.endswith(b'rt check event_sheet prints all that the prover says\n')), (2, b'', True))
+    expect((status, out, told.endswith(b'rt check in crates/event_sheet prints all that the prover says\n')), (2, b'', True))
 
 
 def cost_progress(folder):
     """The same of the costs, whose program writes as it goes."""
     said, told = '', b''
     for number, name in enumerate(('low', 'high', 'printing', 'event_cost'), 1):
-        said += 'rt: %s proved (1 s)\n' % name
-        told += b'run: %d of 4 %s proved (1 s)\n' % (number, name.encode())
+        said += proving(name)
+        told += b'run: %d of 4 %s proved (0 s)\n' % (number, name.encode())
     expect(repository(folder, said, 0, ['--cost']), (0, b'it sums\npop,1\n', told))
     status, out, told = repository(folder, said, 1, ['--cost'])
-    expect((status, out, told.endswith(b'rt check event_cost prints all that the prover says\n')), (2, b'', True))
+    expect((status, out, told.endswith(b'rt check in crates/event_cost prints all that the prover says\n')), (2, b'', True))
 
 
 TESTS = (
     help_is_printed, unknown_words, unreadable_files, sample, sample_sheet, other_sheets, late_open, no_sheet, sheet_words, unwritten_sheet,
-    sample_costs, no_costs, large_costs, cost_words, progress, failed_proof, broken_kit, sheet_progress, cost_progress,
+    sample_costs, no_costs, large_costs, cost_words, progress, first_build, failed_proof, broken_source, broken_kit, sheet_progress, cost_progress,
 )
 
 
+def copy_programs(folder):
+    """Lays out what ./run needs: itself, crates.txt and the programs, and an rt that says of each that nothing has changed."""
+    for name in ('run', 'crates.txt'):
+        shutil.copy(root + '/' + name, folder)
+    for name in PROGRAMS:
+        at = 'crates/%s/out' % name
+        os.makedirs('%s/%s' % (folder, at))
+        if not os.path.isfile('%s/%s/%s' % (root, at, name)):
+            sys.exit('there is no %s/%s: rt run in crates/%s builds it' % (at, name, name))
+        shutil.copy('%s/%s/%s' % (root, at, name), '%s/%s' % (folder, at))
+        open('%s/%s/%s.stamp' % (folder, at, name), 'w').close()
+    write_program(folder + '/bin/rt', 'cat >&2 <<"END"\n%sEND\nexec "out/${PWD##*/}"\n' % (UNCHANGED + RUNNING))
+
+
 def main():
+    global home, stand_in
+    if sys.argv[1:] not in ([], ['--kit']):
+        sys.exit(__doc__)
     failed = 0
-    for test in TESTS:
-        with tempfile.TemporaryDirectory() as folder:
-            try:
-                test(folder)
-            except (Failure, OSError, subprocess.TimeoutExpired) as why:
-                print('%s FAILED: %s' % (test.__name__, str(why)[:1000]))
-                failed += 1
+    with tempfile.TemporaryDirectory() as programs:
+        if sys.argv[1:]:
+            # So that no test meets a program that is proved only now.
+            for words in ([], ['--sheet'], ['--cost']):
+                run(words)
+        else:
+            copy_programs(programs)
+            home, stand_in = programs, programs + '/bin'
+        for test in TESTS:
+            with tempfile.TemporaryDirectory() as folder:
+                try:
+                    test(folder)
+                except (Failure, OSError, subprocess.TimeoutExpired) as why:
+                    print('%s FAILED: %s' % (test.__name__, str(why)[:1000]))
+                    failed += 1
     print('tests/run.py: %d passed, %d failed' % (len(TESTS) - failed, failed))
     sys.exit(1 if failed else 0)
 

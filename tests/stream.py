@@ -1,7 +1,7 @@
 #!/usr/bin/env python3
 """Tests of the two event programs as processes: what no proof can say, namely what a read brings, where a write goes, and the sizes that `main` lends.
 
-    tests/stream.py [SMALL LARGE]    the programs to try; by default target/bin/event_program and target/bin/event_program_large
+    tests/stream.py [SMALL LARGE]    the programs to try; by default those that the crates' proofs built
 
 What is expected is written here from document 01 or computed by a formula; none of it was taken from a program. Python's standard library alone.
 Exit status 0 if every test passed, 1 if one failed."""
@@ -18,6 +18,12 @@ import threading
 import time
 
 root = os.path.dirname(os.path.dirname(os.path.abspath(__file__)))
+
+
+def built(name):
+    """Where the kit leaves a program that it proved and built, by 'rt ci' or by 'rt run' in the crate's folder."""
+    return '%s/crates/%s/out/%s' % (root, name, name)
+
 
 # Seconds that a program may take where it has all its input, or where its output is gone. It takes a small part of one.
 LIMIT = 10
@@ -382,7 +388,7 @@ def tell(name, results):
 def main():
     if len(sys.argv) not in (1, 3):
         sys.exit(__doc__)
-    programs = [os.path.abspath(p) for p in sys.argv[1:]] or [root + '/target/bin/event_program', root + '/target/bin/event_program_large']
+    programs = [os.path.abspath(p) for p in sys.argv[1:]] or [built('event_program'), built('event_program_large')]
     with concurrent.futures.ThreadPoolExecutor(len(programs)) as pool:
         results = list(pool.map(lambda k: [passes(test, programs[k], k == 0) for test in TESTS], range(len(programs))))
     tell('tests/stream.py', sum(results, []))

@@ -103,7 +103,7 @@ fn uploads() {
     ]);
 }
 
-/// Blocks of no texels, in a level of 7 by 5: the rectangles of the law `block-zero-rects` (crates/grid_rects/proofs/Rects.antt).
+/// Blocks of no texels, in a level of 7 by 5: the rectangles of the law `block_zero_rects` (crates/grid_rects/proofs/Rects.antt).
 #[test]
 fn only_0_is_a_multiple_of_block_0() {
     let rects = [
