@@ -1,12 +1,10 @@
 -- `aged_count` meets its contract: it counts on while the next is aged. Assumes nothing.
 use borrow.Author.Rules.{rules}
-use mathlib.Core.Path.{◌≡◌, sym, ◌∙◌}
+use mathlib.Core.Path.{sym, ◌∙◌}
 use Prim.Native.Nat.{◌+◌, ◌-◌, ◌≤◌, ◌<◌}
 use native.Mathlib.Omega.{arith}
-use Rattle.base_blocks.specs.Lists.{listed}
-use Rattle.pool_rules.specs.Trim.{aged_count}
 use Rattle.pool_trim.specs.LookAt.{spare_in}
-use Rattle.pool_trim.proofs.Ages.{aged_from, aged_start, aged_more, aged_stop, aged_end, parked_at_lem}
+use Rattle.pool_trim.proofs.Ages.{aged_start, aged_more, aged_stop, aged_end, parked_at_lem}
 use Rattle.pool_rules.specs.RuleConstants.{spare_max_idle_submits}
 use Rattle.pool_trim.proofs.look_at.aged_count.Goals as goal
 

@@ -1,5 +1,4 @@
 -- `due_after` meets its contract, case by case. Assumes nothing.
-use borrow.Author.Rules.{rules}
 use native.Mathlib.Omega.{arith}
 use Rattle.pool_trim.proofs.Ages.{due_young, due_renamed, due_now}
 use Rattle.pool_trim.proofs.look_at.due_after.Goals as goal

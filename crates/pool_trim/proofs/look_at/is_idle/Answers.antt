@@ -1,5 +1,4 @@
 -- `is_idle` meets its contract. Assumes nothing.
-use borrow.Author.Rules.{rules}
 use Rattle.pool_trim.proofs.Ages.{idle_test}
 use Rattle.pool_trim.proofs.look_at.is_idle.Goals as goal
 

@@ -1,10 +1,8 @@
 -- `nothing_aged` meets its contract: the loop stops at the first texture that a trim would not leave as it is. Assumes nothing.
-use borrow.Author.Rules.{rules}
-use mathlib.Core.Logic.{⊎_elim}
-use Prim.Native.Nat.{◌-◌}
 use native.Mathlib.Omega.{arith}
-use Rattle.pool_trim.proofs.YoungTextures.{YoungTo, young_start, young_end, run_fits, due_aged, oldest_aged, no_spares, oldest_young}
+use Rattle.pool_trim.proofs.YoungTextures.{young_start, young_end, run_fits, due_aged, oldest_aged, no_spares, oldest_young}
 use Rattle.pool_trim.proofs.nothing_aged.nothing_aged.Goals as goal
+use Rattle.pool_trim.proofs.nothing_aged.nothing_aged.Goals.{then-own-ne0+else-spares-first, else-own-ne0}
 
 pub loop-i-init : goal.loop-i-init
 loop-i-init c =
@@ -44,10 +42,10 @@ loop-i-preserved c =
     let young = c.before-young.ensures in
     let recent = c.before-recent.ensures in
     let due = c.if-textures-i.false in
-    ⊎_elim
-    (λ w. oldest_young c.loop-i.invariant c.loop-i-test.true (omega (arith, recent, due)) w.0.taken (omega (arith, young, w.2.left)))
-    (λ w. no_spares c.loop-i.invariant c.loop-i-test.true (omega (arith, recent, due)) w.left)
-    c.if-own-ne0.branch
+    elim c.if-own-ne0.branch [
+      | then-own-ne0+else-spares-first w ↦ oldest_young c.loop-i.invariant c.loop-i-test.true (omega (arith, recent, due)) w.if-own-ne0.true (omega (arith, young, w.if-spares-first.false))
+      | else-own-ne0 w ↦ no_spares c.loop-i.invariant c.loop-i-test.true (omega (arith, recent, due)) w.if-own-ne0.false
+    ]
 
 pub returns : goal.returns
 returns c = young_end c.loop-i.invariant c.loop-i-test.false

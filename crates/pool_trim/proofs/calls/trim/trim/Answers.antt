@@ -1,6 +1,5 @@
 -- `trim` meets its contract: late submissions are refused, where nothing has aged all is left as it is, and otherwise its pass leaves the
 -- call's memory. Assumes nothing.
-use borrow.Author.Rules.{rules}
 use native.Mathlib.Omega.{arith}
 use Rattle.pool_memory.specs.Lent.{lent}
 use Rattle.pool_memory.proofs.FromPool.{pool_fits}

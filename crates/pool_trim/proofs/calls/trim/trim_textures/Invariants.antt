@@ -1,16 +1,11 @@
 -- `trim_textures` meets its contract: the pass goes on texture by texture, and ends with the call's memory. Assumes nothing.
-use borrow.Author.Rules.{rules}
 use mathlib.Core.Path.{◌≡◌}
 use mathlib.Core.Bool.{true}
 use Prim.Native.Nat.{◌-◌}
-use native.Mathlib.Omega.{arith}
 use Rattle.pool_memory.specs.declared.book.PacingBook.{PacingBook}
 use Rattle.pool_memory.specs.Lent.{lent}
 use Rattle.pool_memory.specs.IsPool.{is_pool}
-use Rattle.pool_memory.proofs.FromPool.{pool_fits}
-use Rattle.pool_trim.proofs.Sofar.{Sofar, sofar_start}
-use Rattle.pool_trim.proofs.Trimmed.{seen, sofar_next}
-use Rattle.pool_trim.proofs.TrimCalls.{look_fits, push_fits, put_fits, history_moves, pass_fits, counts_fit_lem, pass_done, textures_most}
+use Rattle.pool_trim.proofs.Sofar.{Sofar}
 use Rattle.pool_trim.proofs.calls.trim.trim_textures.Given as goal
 
 abbrev pub invariant-loop-i : goal.invariant-loop-i
