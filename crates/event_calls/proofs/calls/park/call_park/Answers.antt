@@ -1,0 +1,12 @@
+-- `call_park` meets its contract: the call, with its answer as a line's. Assumes nothing.
+use borrow.Author.Rules.{rules}
+use Rattle.pool_memory.specs.Calls.{told_number}
+use Rattle.event_calls.proofs.Alone.{made_park}
+use Rattle.event_calls.proofs.calls.park.call_park.Goals as goal
+
+pub returns : goal.returns
+returns c =
+    let m = c.park-said in
+    let s = c.answer_done-answer in
+    let a = c.args in
+    made_park _ _ (told_number m.result.outcome) _ s.ensures a.failed a.current m.ensures
