@@ -11,7 +11,7 @@ use Rattle.pool_memory.specs.Reading.{model_of}
 use Rattle.pool_memory.specs.IsPool.{is_pool}
 use Rattle.pool_memory.specs.Calls.{Told, refused_with, answer}
 use Rattle.pool.specs.Queries.{IsTile, DirtyTileOn}
-use Rattle.pool.specs.DirtyTiles.{DirtyCallPinned, DirtyCallsPinned}
+use Rattle.pool.specs.DirtyTiles.{DirtyCallsPinned}
 use Rattle.pool.proofs.Asking.{no_tile, tile_said}
 
 -- holds of refusals, and of no answer

@@ -3,7 +3,6 @@
 use Rattle.std.specs.Prelude.{ℕ, ◌≡◌, true, false}
 use Rattle.grid_stamps.specs.declared.dirty.DirtyTile.{DirtyTile}
 use Rattle.grid_stamps.specs.declared.dirty.DirtyTile.TheVariants.{At, NoTile}
-use Rattle.pool_rules.specs.NoteWrite.{IsDirtyTileOf}
 use Rattle.pool_rules.specs.DirtyTiles.{TileAbove}
 use Rattle.pool_memory.specs.Lent.{Lent}
 use Rattle.pool_memory.specs.Reading.{model_of}

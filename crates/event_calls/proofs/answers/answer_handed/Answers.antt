@@ -1,5 +1,4 @@
 -- `answer_handed` meets its contract. Assumes nothing.
-use borrow.Author.Rules.{rules}
 use mathlib.Core.Path.{sym, ap}
 use Rattle.pool_take_doomed.specs.declared.answer.Handed.{Handed}
 use Rattle.pool_take_doomed.specs.Answer.{handed_told}

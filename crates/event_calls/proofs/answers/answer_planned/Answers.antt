@@ -1,5 +1,4 @@
 -- `answer_planned` meets its contract. Assumes nothing.
-use borrow.Author.Rules.{rules}
 use mathlib.Core.Path.{sym, ap}
 use Rattle.pool_preserve_plan.specs.declared.calls.preserve_plan.PlanAnswer.{PlanAnswer}
 use Rattle.pool_preserve_plan.specs.PreservePlan.{planned_told}

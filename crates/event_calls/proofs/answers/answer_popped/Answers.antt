@@ -1,5 +1,4 @@
 -- `answer_popped` meets its contract. Assumes nothing.
-use borrow.Author.Rules.{rules}
 use mathlib.Core.Path.{sym, ap}
 use Rattle.pool_retire.specs.declared.calls.pop_retired.Popped.{Popped}
 use Rattle.pool_retire.specs.Answers.{popped_told}

@@ -1,5 +1,4 @@
 -- `answer_taken` meets its contract. Assumes nothing.
-use borrow.Author.Rules.{rules}
 use mathlib.Core.Path.{sym, ap}
 use Rattle.pool_take_spare.specs.declared.answer.Taken.{Taken}
 use Rattle.pool_take_spare.specs.Answer.{taken_told}

@@ -1,5 +1,4 @@
 -- `call_drain` meets its contract: the call, with its answer as a line's. Assumes nothing.
-use borrow.Author.Rules.{rules}
 use Rattle.pool_take_doomed.specs.Answer.{handed_told}
 use Rattle.event_calls.proofs.Buffers.{made_drain}
 use Rattle.event_calls.proofs.calls.drain_versions.call_drain_versions.Goals as goal

@@ -1,5 +1,4 @@
 -- `call_forget` meets its contract: the call, with its answer as a line's. Assumes nothing.
-use borrow.Author.Rules.{rules}
 use Rattle.pool_memory.specs.Calls.{told_number}
 use Rattle.event_calls.proofs.Alone.{made_forget}
 use Rattle.event_calls.proofs.calls.forget_texture.call_forget_texture.Goals as goal

@@ -1,5 +1,4 @@
 -- `call_regen` meets its contract: the call, with its answer as a line's. Assumes nothing.
-use borrow.Author.Rules.{rules}
 use Rattle.pool_memory.specs.Calls.{told_number}
 use Rattle.event_calls.proofs.Alone.{made_regen}
 use Rattle.event_calls.proofs.calls.note_mip_regeneration.call_note_mip_regeneration.Goals as goal

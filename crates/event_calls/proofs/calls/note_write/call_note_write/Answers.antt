@@ -1,5 +1,4 @@
 -- `call_write` meets its contract: the call, with its answer as a line's. Assumes nothing.
-use borrow.Author.Rules.{rules}
 use Rattle.pool_memory.specs.Calls.{told_number}
 use Rattle.event_calls.proofs.Alone.{made_write}
 use Rattle.event_calls.proofs.calls.note_write.call_note_write.Goals as goal

@@ -1,5 +1,4 @@
 -- `call_pop` meets its contract: the call, with its answer as a line's. Assumes nothing.
-use borrow.Author.Rules.{rules}
 use Rattle.pool_retire.specs.Answers.{popped_told}
 use Rattle.event_calls.proofs.Alone.{made_pop}
 use Rattle.event_calls.proofs.calls.pop_retired.call_pop_retired.Goals as goal

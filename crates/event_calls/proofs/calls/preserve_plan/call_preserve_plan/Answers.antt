@@ -1,5 +1,4 @@
 -- `call_plan` meets its contract: the call, with its answer as a line's. Assumes nothing.
-use borrow.Author.Rules.{rules}
 use Rattle.pool_preserve_plan.specs.PreservePlan.{planned_told}
 use Rattle.event_calls.proofs.Buffers.{made_plan}
 use Rattle.event_calls.proofs.calls.preserve_plan.call_preserve_plan.Goals as goal

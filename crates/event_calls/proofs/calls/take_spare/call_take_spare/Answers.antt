@@ -1,5 +1,4 @@
 -- `call_take` meets its contract: the call, with its answer as a line's. Assumes nothing.
-use borrow.Author.Rules.{rules}
 use Rattle.pool_take_spare.specs.Answer.{taken_told}
 use Rattle.event_calls.proofs.Alone.{made_take}
 use Rattle.event_calls.proofs.calls.take_spare.call_take_spare.Goals as goal

@@ -1,5 +1,4 @@
 -- `records_writes` meets its contract. Assumes nothing.
-use borrow.Author.Rules.{rules}
 use borrow.Author.Tests.{not-true, not-false}
 use mathlib.Core.Path.{sym, ◌∙◌}
 use Rattle.pool_memory.specs.Lent.{lent}

@@ -1,5 +1,4 @@
 -- `retire` meets its contract: the test, then the same call on a pool. Assumes nothing.
-use borrow.Author.Rules.{rules}
 use borrow.Author.Tests.{not-true, not-false}
 use mathlib.Core.Path.{sym, ◌∙◌}
 use Rattle.pool_memory.specs.Lent.{lent}

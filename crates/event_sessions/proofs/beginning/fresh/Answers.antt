@@ -1,0 +1,14 @@
+-- `fresh` meets its contract. Assumes nothing.
+use borrow.Author.Rules.{rules}
+use Rattle.event_sessions.specs.Noted.{fresh_session}
+use Rattle.event_sessions.proofs.beginning.fresh.Goals as goal
+
+pub returns : goal.returns
+unfolding fresh_session
+returns c = λ i. record {
+  opened = 0;
+  taken = 0;
+  pool = c.opened_pool-pool.ensures i;
+  book = c.opened_book-book.ensures i;
+  shape = c.no_shape-shape.ensures i;
+}
