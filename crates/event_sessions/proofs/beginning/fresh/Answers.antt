@@ -1,5 +1,4 @@
 -- `fresh` meets its contract. Assumes nothing.
-use borrow.Author.Rules.{rules}
 use Rattle.event_sessions.specs.Noted.{fresh_session}
 use Rattle.event_sessions.proofs.beginning.fresh.Goals as goal
 

@@ -4,14 +4,8 @@ use borrow.Author.Tests.{not-true, not-false}
 use Rattle.event_sessions.proofs.Steps.{stepped, uncalled_stepped, untaken_stepped}
 use Rattle.event_sessions.proofs.call_event.call_event.Goals as goal
 
-pub enum_known-event : goal.enum_known-event
-enum_known-event c = c.in-Take.keys1
-
 pub call_take_spare-requires : goal.call_take_spare-requires
 call_take_spare-requires c = c.requires
-
-pub enum_known-event-in-Plan-1 : goal.enum_known-event-in-Plan-1
-enum_known-event-in-Plan-1 c = c.in-Take.keys2
 
 pub returns-then-not-taken : goal.returns-then-not-taken
 returns-then-not-taken c =
@@ -21,62 +15,32 @@ returns-then-not-taken c =
 pub call_preserve_plan-requires : goal.call_preserve_plan-requires
 call_preserve_plan-requires c = c.requires
 
-pub enum_known-event-in-Retire-1 : goal.enum_known-event-in-Retire-1
-enum_known-event-in-Retire-1 c = c.in-Take.keys3
-
 pub call_retire-requires : goal.call_retire-requires
 call_retire-requires c = c.requires
-
-pub enum_known-event-in-Write-1 : goal.enum_known-event-in-Write-1
-enum_known-event-in-Write-1 c = c.in-Take.keys4
 
 pub call_note_write-requires : goal.call_note_write-requires
 call_note_write-requires c = c.requires
 
-pub enum_known-event-in-Regen-1 : goal.enum_known-event-in-Regen-1
-enum_known-event-in-Regen-1 c = c.in-Take.keys5
-
 pub call_note_mip_regeneration-requires : goal.call_note_mip_regeneration-requires
 call_note_mip_regeneration-requires c = c.requires
-
-pub enum_known-event-in-Pop-1 : goal.enum_known-event-in-Pop-1
-enum_known-event-in-Pop-1 c = c.in-Take.keys6
 
 pub call_pop_retired-requires : goal.call_pop_retired-requires
 call_pop_retired-requires c = c.requires
 
-pub enum_known-event-in-Park-1 : goal.enum_known-event-in-Park-1
-enum_known-event-in-Park-1 c = c.in-Take.keys7
-
 pub call_park-requires : goal.call_park-requires
 call_park-requires c = c.requires
-
-pub enum_known-event-in-Note-1 : goal.enum_known-event-in-Note-1
-enum_known-event-in-Note-1 c = c.in-Take.keys8
 
 pub call_note_allocated-requires : goal.call_note_allocated-requires
 call_note_allocated-requires c = c.requires
 
-pub enum_told-1 : goal.enum_told-1
-enum_told-1 c = c.in-Take.keys9
-
 pub call_take_doomed-requires : goal.call_take_doomed-requires
 call_take_doomed-requires c = c.requires
-
-pub enum_told-in-Drain : goal.enum_told-in-Drain
-enum_told-in-Drain c = c.in-Take.keys10
 
 pub call_drain_versions-requires : goal.call_drain_versions-requires
 call_drain_versions-requires c = c.requires
 
-pub enum_known-event-in-Trim-1 : goal.enum_known-event-in-Trim-1
-enum_known-event-in-Trim-1 c = c.in-Take.keys11
-
 pub call_trim-requires : goal.call_trim-requires
 call_trim-requires c = c.requires
-
-pub enum_known-event-in-Forget-1 : goal.enum_known-event-in-Forget-1
-enum_known-event-in-Forget-1 c = c.in-Take.keys12
 
 pub call_forget_texture-requires : goal.call_forget_texture-requires
 call_forget_texture-requires c = c.requires
@@ -379,4 +343,4 @@ returns-in-Forget c =
     stepped _ _ _ _ _ _ _ _ _ a.event _ c.in-Forget.is m.ensures
 
 pub returns-in_default : goal.returns-in_default
-returns-in_default c = uncalled_stepped _ _ _ _ _ _ _ c.args.event c.in-Take.keys13
+returns-in_default c = uncalled_stepped _ _ _ _ _ _ _ c.args.event c.in_default.in_default-own.keys13

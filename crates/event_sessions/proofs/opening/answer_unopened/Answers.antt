@@ -1,5 +1,5 @@
 -- `answer_unopened` meets its contract. Assumes nothing.
-use borrow.Author.Rules.{rules}
+use borrow.Enum.Refused.{opened}
 use Rattle.event_sessions.proofs.Opened.{open_alone, none_alone}
 use Rattle.event_sessions.proofs.opening.answer_unopened.Goals as goal
 
@@ -10,4 +10,4 @@ returns-in-Open c =
 
 pub returns-in_default : goal.returns-in_default
 returns-in_default c =
-    none_alone _ c.requires c.args.event c.in-Open.keys2
+    none_alone _ c.requires c.args.event (opened c.in_default.in_default-own.keys2)

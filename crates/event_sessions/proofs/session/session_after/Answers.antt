@@ -1,5 +1,5 @@
 -- `session_after` meets its contract. Assumes nothing.
-use borrow.Author.Rules.{rules}
+use borrow.Enum.Refused.{opened}
 use mathlib.Core.Path.{sym, ap}
 use Rattle.event_sessions.specs.Parts.{session_after}
 use Rattle.event_sessions.proofs.Kept.{notes_nothing}
@@ -14,4 +14,4 @@ returns-in-Take c =
 pub returns-in_default : goal.returns-in_default
 returns-in_default c =
     let a = c.args in
-    notes_nothing a.taken a.latest a.pool a.book a.event c.in-Take.keys2
+    notes_nothing a.taken a.latest a.pool a.book a.event (opened c.in_default.in_default-own.keys2)
