@@ -13,7 +13,7 @@ name = os.path.basename(os.path.abspath(crate))
 data = json.load(open(names_file))
 alike = lambda s: re.sub('[-_]', '', s).lower()
 SHORT = re.compile(r'\n?(?:  --[^\n]*\n)?  abbrev (%s) : tie\.[^\n]*\n  \1 = (%s)((?:\.before)+)[ ]*(?=\n|$)' % (W, W))
-FIELDS = {'inv': 'invariant', 'taken': 'true', 'left': 'false', 'pre': 'requires'}
+FIELDS = {'inv': 'invariant', 'taken': 'true', 'left': 'false', 'pre': 'requires', 'type-inv': 'type_inv'}
 ROOT = {'pre': 'requires', 'well-formed': 'well_formed', 'fits': 'ranges', 'type-inv': 'type_inv'}
 
 
@@ -94,7 +94,7 @@ class Convert:
         if rest[0] in FIELDS and rest[0] not in subs:
             rest = [FIELDS[rest[0]]] + rest[1:]
         if rest[0] in ('auto', 'new') and len(rest) > 1 and rest[1] in ('0', '1') and got[0][1] in self.d['params']:
-            names = self.d['params'][got[0][1]]
+            names = [n for n in self.d['params'][got[0][1]] if n not in ('input', 'clock', 'env', 'rt')]
             k = 1
             while k < len(rest) and rest[k] == '1':
                 k += 1
@@ -405,6 +405,10 @@ class Convert:
                 e = '\n'.join(eqs[0])
                 lhs, rhs = e.split('=', 1)
                 params = lhs.split()[1:]
+                # A parameter that stands for what the C library gave is no variable of the older loop.
+                if ch is not None and len(params) != len(vs) + sum(map(bool, ch)):
+                    pairs = [(v, x) for v, x in zip(vs, ch) if v not in ('input', 'clock', 'env', 'rt')]
+                    vs, ch = [v for v, _ in pairs], [x for _, x in pairs]
                 want = list(vs) + [v for v, c in zip(vs, ch or []) if c]
                 if ch is None or len(params) != len(want):
                     self.warn.append('%s: parameters %s for %s %s' % (nm, params, vs, ch))

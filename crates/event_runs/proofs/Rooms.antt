@@ -1,14 +1,13 @@
 -- Laws of the room that an answer needs. Assumes nothing.
 use mathlib.Core.Path.{◌≡◌, sym}
-use mathlib.Core.Bool.{Bool, true, false, cond}
-use mathlib.Core.List.{List, [], ◌∷◌}
-use Prim.Native.Nat.{ℕ, suc, ◌+◌, ◌-◌, ◌/◌, ◌≤◌, ◌<◌, min, max}
+use mathlib.Core.Bool.{true, false}
+use mathlib.Core.List.{List}
+use Prim.Native.Nat.{ℕ, ◌+◌, ◌-◌, ◌/◌, ◌≤◌, ◌<◌, min, max}
 use native.Mathlib.Nat.{le-max_left, le-max_right}
 use native.Mathlib.Omega.{arith}
 use borrow.Author.Tests.{le-leb, lt-leb}
-use lib.Dec.{eqb, leb}
-use lib.ListN.{length, drop, length-drop}
-use Rattle.event_text.specs.Searches.{index_of}
+use lib.Dec.{leb}
+use lib.ListN.{length}
 use Rattle.event_answers.specs.declared.answer.Answer.{Answer}
 use Rattle.event_answers.specs.declared.answer.Answer.TheVariants.{Question, Refused, Done, Spare, NoSpare, Version, NothingSettled, Views, Copies}
 use Rattle.event_answers.specs.Answers.{reply_told, entries, InBuffers}
@@ -16,7 +15,6 @@ use Rattle.event_answers.specs.Printed.{printed, most_bytes}
 use Rattle.event_answers.proofs.Most.{printed_most}
 use Rattle.event_runs.specs.Lines.{longest_answer}
 use Rattle.pool_memory.specs.MemoryConstants.{copy_stride}
-use Rattle.base_digits.specs.Characters.{line_feed}
 
 -- an answer has no more entries than its buffers have room for
 pub entries_most : (a : Answer) (copies views : List ℕ) → InBuffers a copies views → entries a ≤ max (length copies / copy_stride) (length views)
