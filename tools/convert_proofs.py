@@ -94,7 +94,7 @@ class Convert:
         if rest[0] in FIELDS and rest[0] not in subs:
             rest = [FIELDS[rest[0]]] + rest[1:]
         if rest[0] in ('auto', 'new') and len(rest) > 1 and rest[1] in ('0', '1') and got[0][1] in self.d['params']:
-            names = [n for n in self.d['params'][got[0][1]] if n not in ('input', 'clock', 'env', 'rt')]
+            names = [n for n in self.d['params'][got[0][1]] if n not in ('clock', 'env', 'rt') and (n != 'input' or 'run_lines' in got[0][1])]
             k = 1
             while k < len(rest) and rest[k] == '1':
                 k += 1

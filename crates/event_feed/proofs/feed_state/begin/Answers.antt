@@ -3,17 +3,10 @@ use borrow.Author.Rules.{rules}
 use mathlib.Core.Path.{ap}
 use Rattle.event_sessions.specs.declared.session.Session.{Session}
 use Rattle.event_feed.specs.declared.feed_state.FeedState.{FeedState}
-use Rattle.event_feed.proofs.feed_state.begin.Statement.{statement}
-use Rattle.event_feed.proofs.feed_state.begin.Tie as tie
+use Rattle.event_feed.proofs.feed_state.begin.Goals as goal
 
 abbrev at_first : Session → FeedState
 at_first s = record { session = s; number = 0; from = 0; held = 0; end = 0; filled = 0 }
 
-fresh-requires : tie.Need-fresh-requires
-fresh-requires c κs = search rules
-
-returns : tie.Need-returns
-returns c = ap at_first c.fresh.ensures
-
-pub begin-spec : {M : Type 1} → statement M
-begin-spec = tie.close (tie.spec fresh-requires returns)
+pub returns : goal.returns
+returns c = ap at_first c.fresh-session.ensures

@@ -1,0 +1,13 @@
+-- `keep` meets its contract: bytes moved to the front, in ascending order, so that those still to be moved are as they were. Assumes nothing.
+use borrow.Author.Rules.{rules}
+use mathlib.Core.Path.{◌≡◌}
+use Prim.Native.Nat.{◌-◌, ◌≤◌}
+use native.Mathlib.Omega.{arith}
+use Rattle.event_feed.proofs.Moves.{Moved, moved_none, moved_more, line_kept}
+use Rattle.event_feed.proofs.keep.keep.Given as goal
+
+abbrev pub invariant-loop-i : goal.invariant-loop-i
+invariant-loop-i l = (l.i ≤ l.kept) × Moved l.from l.i l.initial.buf l.buf
+
+abbrev pub decreases-loop-i : goal.decreases-loop-i
+decreases-loop-i l = l.kept - l.i
