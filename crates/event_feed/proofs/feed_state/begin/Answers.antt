@@ -1,5 +1,4 @@
 -- `begin` meets its contract. Assumes nothing.
-use borrow.Author.Rules.{rules}
 use mathlib.Core.Path.{ap}
 use Rattle.event_sessions.specs.declared.session.Session.{Session}
 use Rattle.event_feed.specs.declared.feed_state.FeedState.{FeedState}

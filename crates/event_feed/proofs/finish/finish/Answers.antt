@@ -1,5 +1,4 @@
 -- `finish` meets its contract: the line feed stands after the line that is held. Assumes nothing.
-use borrow.Author.Rules.{rules}
 use Prim.Native.Nat.{◌<◌}
 use native.Mathlib.Omega.{arith}
 use lib.ListN.{length}

@@ -1,9 +1,9 @@
 -- `keep` meets its contract: bytes moved to the front, in ascending order, so that those still to be moved are as they were. Assumes nothing.
 use borrow.Author.Rules.{rules}
 use mathlib.Core.Path.{◌≡◌}
-use Prim.Native.Nat.{◌-◌, ◌≤◌}
+use Prim.Native.Nat.{◌-◌}
 use native.Mathlib.Omega.{arith}
-use Rattle.event_feed.proofs.Moves.{Moved, moved_none, moved_more, line_kept}
+use Rattle.event_feed.proofs.Moves.{moved_none, moved_more, line_kept}
 use Rattle.event_feed.proofs.keep.keep.Goals as goal
 
 pub loop-i-init : goal.loop-i-init

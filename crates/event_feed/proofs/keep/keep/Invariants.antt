@@ -1,9 +1,6 @@
 -- `keep` meets its contract: bytes moved to the front, in ascending order, so that those still to be moved are as they were. Assumes nothing.
-use borrow.Author.Rules.{rules}
-use mathlib.Core.Path.{◌≡◌}
 use Prim.Native.Nat.{◌-◌, ◌≤◌}
-use native.Mathlib.Omega.{arith}
-use Rattle.event_feed.proofs.Moves.{Moved, moved_none, moved_more, line_kept}
+use Rattle.event_feed.proofs.Moves.{Moved}
 use Rattle.event_feed.proofs.keep.keep.Given as goal
 
 abbrev pub invariant-loop-i : goal.invariant-loop-i

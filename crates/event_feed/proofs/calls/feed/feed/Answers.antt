@@ -1,5 +1,4 @@
 -- A turn meets its contract: the lines that the output has room for, and what they leave of the block. Assumes nothing.
-use borrow.Author.Rules.{rules}
 use mathlib.Core.Path.{ap, ◌∙◌}
 use Prim.Native.Nat.{◌-◌, ◌≤◌}
 use native.Mathlib.Omega.{arith}

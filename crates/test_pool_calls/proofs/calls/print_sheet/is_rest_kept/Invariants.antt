@@ -1,5 +1,4 @@
 -- The measure is the number of bytes that are left. Assumes nothing.
-use borrow.Author.Rules.{rules}
 use Prim.Native.Nat.{◌-◌, ◌≤◌}
 use lib.ListN.{length}
 use Rattle.test_pool_calls.proofs.calls.print_sheet.is_rest_kept.Given as goal
