@@ -405,6 +405,9 @@ class Convert:
                 e = '\n'.join(eqs[0])
                 lhs, rhs = e.split('=', 1)
                 params = lhs.split()[1:]
+                # The older loops had places of the compiler among their variables.
+                if ch is not None and len(params) != len(vs) + sum(map(bool, ch)):
+                    params = [p for p in params if not re.match(r't\d+$', p)]
                 # A parameter that stands for what the C library gave is no variable of the older loop.
                 if ch is not None and len(params) != len(vs) + sum(map(bool, ch)):
                     pairs = [(v, x) for v, x in zip(vs, ch) if v not in ('input', 'clock', 'env', 'rt')]

@@ -6,7 +6,7 @@ use borrow.Author.Rules.{rules}
 use Rattle.test_figures.proofs.print.print_line.Given as goal
 
 abbrev pub invariant-loop-i : goal.invariant-loop-i
-invariant-loop-i l = (i ≤ length l.values) × (l.i ≤ 64 + 21 * i) × (length l.at ≡ 256)
+invariant-loop-i l = (l.i ≤ length l.values) × (l.at ≤ 64 + 21 * l.i) × (length l.out ≡ 256)
 
 abbrev pub decreases-loop-i : goal.decreases-loop-i
-decreases-loop-i l = length l.values - i
+decreases-loop-i l = length l.values - l.i
