@@ -1,5 +1,4 @@
 -- None of the answers that are put here has entries. Assumes nothing.
-use borrow.Author.Rules.{rules}
 use native.Mathlib.Omega.{arith}
 use Rattle.event_answers.specs.Answers.{entries, InBuffers}
 use Rattle.test_pool_steps.proofs.reply.put_event.Goals as goal

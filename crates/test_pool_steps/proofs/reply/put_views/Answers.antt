@@ -1,5 +1,4 @@
 -- The entries stand in the buffer, and the output has room for them. Assumes nothing.
-use borrow.Author.Rules.{rules}
 use native.Mathlib.Omega.{arith}
 use Rattle.event_answers.specs.Answers.{entries, InBuffers}
 use Rattle.test_pool_steps.proofs.reply.put_views.Goals as goal

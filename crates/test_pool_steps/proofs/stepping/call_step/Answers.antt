@@ -1,5 +1,4 @@
 -- Everything lent keeps its length. Assumes nothing.
-use borrow.Author.Rules.{rules}
 use Rattle.test_pool_steps.proofs.stepping.call_step.Goals as goal
 
 pub print_step-requires : goal.print_step-requires
