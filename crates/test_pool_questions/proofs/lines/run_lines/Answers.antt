@@ -22,17 +22,17 @@ loop-from-preserved c =
     let i = c.loop-from.invariant in
     let r = c.run_line-ran in
     let e = c.part_end-end.ensures in
-    let k = r.auto.1.1.1 in (
+    let k = r.auto in (
       r.ensures.0,
       omega (arith, r.ensures.1, i.1, e.0),
       omega (arith, e.1),
-      k.0 ∙ i.3,
-      k.1.0 ∙ i.4,
-      k.1.1.0 ∙ i.5,
-      k.1.1.1.0 ∙ i.6,
-      k.1.1.1.1.0 ∙ i.7,
-      k.1.1.1.1.1.0 ∙ i.8,
-      k.1.1.1.1.1.1.0 ∙ i.9,
-      k.1.1.1.1.1.1.1.0 ∙ i.10,
-      k.1.1.1.1.1.1.1.1.0 ∙ i.11,
+      k.textures ∙ i.3,
+      k.retiring ∙ i.4,
+      k.doomed ∙ i.5,
+      k.spares ∙ i.6,
+      k.newest ∙ i.7,
+      k.stamps ∙ i.8,
+      k.copies ∙ i.9,
+      k.views ∙ i.10,
+      k.page ∙ i.11,
     )
