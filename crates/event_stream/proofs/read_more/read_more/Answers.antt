@@ -1,5 +1,4 @@
 -- `read_more` meets its contract: there is room to read where nothing waits. Assumes nothing.
-use borrow.Author.Rules.{rules}
 use native.Mathlib.Omega.{arith}
 use Rattle.event_stream.proofs.read_more.read_more.Goals as goal
 

@@ -1,17 +1,13 @@
 -- Turns until the run stops: what is carried is what some input left, of which every byte that came was fed or waits. The measure falls by the bytes that
 -- were read and fed. Assumes nothing.
-use borrow.Author.Rules.{rules}
 use mathlib.Core.Path.{◌≡◌, refl, ◌∙◌}
-use Prim.Native.Nat.{◌+◌, ◌-◌, ◌*◌, ◌^◌}
+use Prim.Native.Nat.{◌-◌}
 use native.Mathlib.Omega.{arith}
 use lib.ListN.{length}
-use Rattle.event_sessions.specs.Sessions.{state_of}
 use Rattle.event_sessions.proofs.Keeps.{fresh_holds}
-use Rattle.event_feed.specs.Places.{carried_of, waiting}
 use Rattle.event_feed.proofs.Parts.{part_length}
 use Rattle.event_stream.proofs.Reasons.{full_first, reason_says}
-use Rattle.event_stream.proofs.Loop.{Going, left_while, going_first, going_counts, going_ready, going_next, going_less, stopped}
-use Rattle.event_sessions.specs.Noted.{fresh_session}
+use Rattle.event_stream.proofs.Loop.{going_first, going_counts, going_ready, going_next, going_less, stopped}
 use Rattle.event_stream.proofs.calls.run_all.run_all.Goals as goal
 
 pub loop-why-init : goal.loop-why-init
