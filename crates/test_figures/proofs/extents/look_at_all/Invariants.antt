@@ -1,6 +1,5 @@
 -- The extents one after the other. Assumes nothing.
 use Prim.Native.Nat.{◌-◌, ◌≤◌}
-use borrow.Author.Rules.{rules}
 use Rattle.test_figures.proofs.extents.look_at_all.Given as goal
 
 abbrev pub invariant-loop-extent : goal.invariant-loop-extent

@@ -1,5 +1,4 @@
 -- Both axes are good ones. Assumes nothing.
-use borrow.Author.Rules.{rules}
 use Rattle.grid_axes.proofs.Axes.{axis_ok}
 use Rattle.grid_axes.proofs.EdgeTables.{block_pos, block_most}
 use Rattle.test_figures.proofs.extents.stamps.Goals as goal

@@ -1,7 +1,6 @@
 -- The axis is a good one. Assumes nothing.
 use Rattle.grid_axes.proofs.Axes.{axis_ok}
 use Rattle.grid_axes.proofs.EdgeTables.{block_pos, block_most}
-use borrow.Author.Rules.{rules}
 use Rattle.test_figures.proofs.extents.tile_count.Goals as goal
 
 pub tiles-requires : goal.tiles-requires

@@ -1,6 +1,5 @@
 -- The nine formats, one after the other. Assumes nothing.
 use Prim.Native.Nat.{◌-◌, ◌≤◌}
-use borrow.Author.Rules.{rules}
 use Rattle.test_figures.proofs.formats.print_blocks.Given as goal
 
 abbrev pub invariant-loop-format : goal.invariant-loop-format

@@ -1,7 +1,6 @@
 -- A number has at most twenty digits. Assumes nothing.
 use native.Mathlib.Omega.{arith}
 use Rattle.base_digits.proofs.Printing.{digits_room}
-use borrow.Author.Rules.{rules}
 use Rattle.test_figures.proofs.print.put_value.Goals as goal
 
 pub returns : goal.returns

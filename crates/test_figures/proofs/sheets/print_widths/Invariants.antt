@@ -1,5 +1,4 @@
 -- `print_widths` stays within the line. Assumes nothing.
-use borrow.Author.Rules.{rules}
 use Prim.Native.Nat.{◌-◌, ◌≤◌}
 use lib.ListN.{length}
 use Rattle.test_figures.proofs.sheets.print_widths.Given as goal

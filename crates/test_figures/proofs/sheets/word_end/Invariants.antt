@@ -1,5 +1,4 @@
 -- `word_end` meets its contract: it stays within the line. Assumes nothing.
-use borrow.Author.Rules.{rules}
 use Prim.Native.Nat.{◌-◌, ◌≤◌}
 use lib.ListN.{length}
 use Rattle.test_figures.proofs.sheets.word_end.Given as goal
