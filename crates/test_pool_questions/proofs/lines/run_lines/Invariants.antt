@@ -1,11 +1,8 @@
 -- Lines until the input ends: stores of the same length, which form a pool once it is opened. The measure is the number of bytes that are left. Assumes nothing.
-use borrow.Author.Rules.{rules}
-use mathlib.Core.Path.{◌≡◌, refl, ◌∙◌}
+use mathlib.Core.Path.{◌≡◌}
 use Prim.Native.Nat.{◌+◌, ◌-◌, ◌≤◌}
-use native.Mathlib.Omega.{arith}
 use lib.ListN.{length}
 use Rattle.event_sessions.specs.Sessions.{state_of, HoldsPool}
-use Rattle.test_pool_questions.proofs.Holds.{begun_holds}
 use Rattle.test_pool_questions.proofs.lines.run_lines.Given as goal
 
 abbrev pub invariant-loop-from : goal.invariant-loop-from

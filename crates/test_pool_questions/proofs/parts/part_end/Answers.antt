@@ -1,5 +1,4 @@
 -- What is found lies within the text. Assumes nothing.
-use borrow.Author.Rules.{rules}
 use Rattle.event_text.proofs.Searches.{found_within}
 use Rattle.test_pool_questions.proofs.parts.part_end.Goals as goal
 
