@@ -17,10 +17,6 @@ FIELDS = {'inv': 'invariant', 'taken': 'true', 'left': 'false', 'pre': 'requires
 ROOT = {'pre': 'requires', 'well-formed': 'well_formed', 'fits': 'ranges', 'type-inv': 'type_inv'}
 
 
-def flat(x):
-    return x
-
-
 def info(path):
     """The names of the function whose proof stands in proofs/PATH."""
     key = 'Rattle-%s-proofs.%s.Lts' % (name, path.replace('/', '.'))

@@ -1,5 +1,5 @@
 #!/usr/bin/env python3
-"""lent_args.py ROOT: the clauses that name lent slices as a whole (lent_by, at_entry, at_exit and what is made of them) name their numbers:
+"""tools/lent_slices.py ROOT: the clauses that name lent slices as a whole (lent_by, at_entry, at_exit and what is made of them) name their numbers:
 x.now of a `&`, x.old and x.new of a `&mut`; the definitions take lists. Prints what it leaves."""
 import re, sys, glob, os
 root = sys.argv[1]
