@@ -1,8 +1,11 @@
 #!/usr/bin/env python3
 """Turns the older proof files Proof.antt, which name each goal and close the proof, to Invariants.antt and Answers.antt.
 
-usage: convert.py NAMES.json CRATE_FOLDER [FUNCTION_PATH ..]
-"""
+usage: tools/convert_proofs.py NAMES.json CRATE_FOLDER [FUNCTION_PATH ..] [--generated=DIR]
+
+NAMES.json is what `rt check --generated DIR --old-names` writes in the crate's folder; DIR, of a second run without --old-names once the crate was turned, has
+the ways between places, which lemmas over a place want. It was run for each crate in the port (docs/PORT.md), and serves unfinished work of before it.
+Prints what it could not turn. Proofs that walk the code by hand it leaves."""
 import json, os, re, sys
 
 W = r"[^\s(){}.;,@\"«»\[\]\\]+"
