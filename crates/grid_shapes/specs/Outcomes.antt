@@ -1,11 +1,7 @@
 -- Rule: What a public function answers, in 01's numbers (01, "Outcomes"): 0 is acceptance, any other number a refusal.
-use Rattle.std.specs.Prelude.{ℕ, cond, List, [], ◌∷◌, Result, Ok, Err}
+use Rattle.std.specs.Prelude.{ℕ, Bool, cond, List, [], ◌∷◌, Result, Ok, Err}
 use Rattle.grid_shapes.specs.declared.refusal.Refusal.{Refusal}
 use Rattle.grid_shapes.specs.declared.refusal.Refusal.TheVariants.{NoPool, BadShape, BadSubmission, OtherShape, TexturesFull, HistoryFull, VersionsFull, OutOfOrder, HandFull, HandEmpty, ShortAnswer, CounterSpent}
-use Rattle.grid_shapes.specs.declared.shape.BytesAnswer.{BytesAnswer}
-use Rattle.grid_shapes.specs.declared.shape.BytesAnswer.TheVariants.{Bytes, NoShape}
-use Rattle.grid_shapes.specs.declared.recording.RecordsAnswer.{RecordsAnswer}
-use Rattle.grid_shapes.specs.declared.recording.RecordsAnswer.TheVariants.{Records, Shapeless}
 
 -- the number, and the answer's fields where it is 0
 pub record Outcome : Type 0 where
@@ -39,10 +35,10 @@ outcome_number (Ok _) = 0
 outcome_number (Err e) = number_of e
 
 -- 01's number and fields for each case of an answer; a flag is 0 or 1
-unfoldable pub of_bytes : BytesAnswer → Outcome
-of_bytes (Bytes n) = accepted (n ∷ [])
-of_bytes NoShape = refused 2
+unfoldable pub of_bytes : Result ℕ Refusal → Outcome
+of_bytes (Ok n) = accepted (n ∷ [])
+of_bytes (Err e) = refused (number_of e)
 
-unfoldable pub of_records : RecordsAnswer → Outcome
-of_records (Records b) = accepted (cond b 1 0 ∷ [])
-of_records Shapeless = refused 2
+unfoldable pub of_records : Result Bool Refusal → Outcome
+of_records (Ok b) = accepted (cond b 1 0 ∷ [])
+of_records (Err e) = refused (number_of e)
