@@ -1,6 +1,6 @@
 -- `doomed_fit` meets its contract: the sum so far is at most 2^44 a version. Assumes nothing.
 use mathlib.Core.Path.{◌≡◌}
-use Prim.Native.Nat.{◌+◌, ◌*◌, ◌-◌, ◌≤◌}
+use Prim.Native.Nat.{◌+◌, ◌*◌, ◌≤◌}
 use Rattle.base_blocks.specs.Lists.{all, listed}
 use Rattle.base_blocks.proofs.Listed.{left}
 use Rattle.pool_rules.specs.Model.{doomed_bytes}

@@ -7,7 +7,6 @@ use Rattle.base_blocks.proofs.Listed.{left_all, all_more, all_stop, all_done}
 use Rattle.pool_memory.specs.IsPool.{is_retiring}
 use Rattle.pool_formed.specs.Parts.{retiring_at, retiring_fit}
 use Rattle.pool_formed.proofs.RingTests.{retiring_read_lem}
-use borrow.Author.Rules.{rules}
 use Rattle.pool_formed.proofs.rings_fit.retiring_fit.Goals as goal
 
 pub loop-i-init : goal.loop-i-init

@@ -1,6 +1,5 @@
 -- `retiring_fit` meets its contract. Assumes nothing.
 use mathlib.Core.Path.{◌≡◌}
-use Prim.Native.Nat.{◌-◌, ◌≤◌}
 use Rattle.base_blocks.specs.Lists.{all}
 use Rattle.base_blocks.proofs.Listed.{left}
 use Rattle.pool_memory.specs.IsPool.{is_retiring}
