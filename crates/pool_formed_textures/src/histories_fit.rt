@@ -57,8 +57,7 @@ fn grids_fit(edges: &[u16], s: VersionShape, writes: u64, newest: &[u64], stamps
         return false;
     }
     let mut at = 0;
-    let mut k = 0;
-    while k < n {
+    for k in 0..n {
         let level = k as u64 % s.levels;
         let across = across_axis(edges, s, level);
         let down = down_axis(edges, s, level);
@@ -73,7 +72,6 @@ fn grids_fit(edges: &[u16], s: VersionShape, writes: u64, newest: &[u64], stamps
             return false;
         }
         at += count;
-        k += 1;
     }
     stamps.len() == at
 }
@@ -123,8 +121,7 @@ fn histories_in(
 {
     let mut grid = 0;
     let mut stamp = 0;
-    let mut i = 0;
-    while i < n {
+    for i in 0..n {
         let p = record_at(textures, TEXTURE_STRIDE, i);
         let last = grid_end(textures, n, grids, i);
         let end = stamp_end(textures, n, used, i);
@@ -139,7 +136,6 @@ fn histories_in(
         }
         grid = last;
         stamp = end;
-        i += 1;
     }
     (grid == grids) & (stamp == used)
 }

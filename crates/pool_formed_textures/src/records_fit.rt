@@ -18,12 +18,10 @@ pub fn ids_ascend(textures: &[u64], n: usize) -> bool
     requires { texture_stride * n ≤ length textures.now }
     ensures { result ≡ ascending id_of (textures_in n textures.now) }
 {
-    let mut i = 0;
-    while i + 1 < n {
-        if textures[TEXTURE_STRIDE * i + TEXTURE_STRIDE] <= textures[TEXTURE_STRIDE * i] {
+    for i in 1..n {
+        if textures[TEXTURE_STRIDE * i] <= textures[TEXTURE_STRIDE * i - TEXTURE_STRIDE] {
             return false;
         }
-        i += 1;
     }
     true
 }
@@ -62,12 +60,10 @@ pub fn records_fit(textures: &[u64], n: usize) -> bool
     requires { texture_stride * n ≤ length textures.now }
     ensures { result ≡ all is_record (textures_in n textures.now) }
 {
-    let mut i = 0;
-    while i < n {
+    for i in 0..n {
         if !is_record(record_at(textures, TEXTURE_STRIDE, i)) {
             return false;
         }
-        i += 1;
     }
     true
 }
