@@ -11,7 +11,9 @@ use Rattle.base_blocks.proofs.All.{all_head, all_tail, all_kept, all_keep, all_f
 use Rattle.std.specs.Prelude.{Option, Some, None}
 use Rattle.grid_rects.specs.declared.rect.TexelRect.{TexelRect}
 use Rattle.grid_axes.specs.Axes.{one_tile, span_around}
-use Rattle.grid_stamps.specs.Grids.{Tiling, TilingOk, columns_of, rows_of, stamp_count, StampGrid, row_by_row, stamp_of, Tile, dirty_tiles, box_of, box_around, box_since, IsDirtyTile}
+use Rattle.grid_stamps.specs.declared.grid.Tiling.{Tiling}
+use Rattle.grid_stamps.specs.declared.grid.Tile.{Tile}
+use Rattle.grid_stamps.specs.Grids.{TilingOk, columns_of, rows_of, stamp_count, StampGrid, row_by_row, stamp_of, dirty_tiles, box_of, box_around, box_since, some_tile, IsDirtyTile}
 use Rattle.grid_axes.proofs.Axes.{span_holds}
 use Rattle.grid_stamps.proofs.RowByRow.{tile_place, tile_at, length_rows, value_at}
 use Rattle.grid_axes.proofs.Spans.{InSpan, around_base, around_each, one_holds}
@@ -93,7 +95,7 @@ module _ (g : Tiling) (ok : TilingOk g) where
 -- ---- the dirty tile
 
 module _ (g : Tiling) (held : ℕ) (page : List ℕ) (columns count : ℕ) (wide : columns ≡ columns_of g) (many : count ≡ stamp_count g) where
-  pub dirty_found : (k : ℕ) → k < count → held < get_or page k 0 → IsDirtyTile g held page (Some (record { column = k % columns; row = k / columns }))
+  pub dirty_found : (k : ℕ) → k < count → held < get_or page k 0 → IsDirtyTile g held page (some_tile (k % columns) (k / columns))
   unfolding IsDirtyTile stamp_of stamp_count
   dirty_found k h above =
       let t = tile_at (columns_of g) (rows_of g) k (rw many at h) in

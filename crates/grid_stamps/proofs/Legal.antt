@@ -16,7 +16,9 @@ use Rattle.grid_rects.specs.declared.rect.TexelRect.{TexelRect}
 use Rattle.std.specs.Prelude.{Some}
 use Rattle.grid_axes.specs.Axes.{SpanIn, one_tile, span_around, span_start, span_size}
 use Rattle.grid_rects.specs.Rects.{side_on_grid, rect_on_grid}
-use Rattle.grid_stamps.specs.Grids.{Tiling, TilingOk, columns_of, rows_of, StampGrid, Tile, dirty_tiles, box_of, box_around, box_since}
+use Rattle.grid_stamps.specs.declared.grid.Tiling.{Tiling}
+use Rattle.grid_stamps.specs.declared.grid.Tile.{Tile}
+use Rattle.grid_stamps.specs.Grids.{TilingOk, columns_of, rows_of, StampGrid, dirty_tiles, box_of, box_around, box_since}
 use Rattle.grid_axes.proofs.Axes.{span_size_pos, span_inside, span_end}
 use Rattle.grid_axes.proofs.Spans.{around_in, one_in}
 use Rattle.grid_rects.proofs.Rects.{mod_multiple, side_of_blocks, side_at_edge}

@@ -15,7 +15,8 @@ use Rattle.grid_rects.specs.declared.rect.TexelRect.{TexelRect}
 use Rattle.grid_axes.specs.declared.axis.Span.{Span}
 use Rattle.std.specs.Prelude.{Some}
 use Rattle.grid_axes.specs.Axes.{is_cut, cut_end, touched, touched_tiles, tiles_of}
-use Rattle.grid_stamps.specs.Grids.{Tiling, TilingOk, columns_of, rows_of, stamp_count, grid_in, stamp_of, touches, is_cut_rect, stamped_by}
+use Rattle.grid_stamps.specs.declared.grid.Tiling.{Tiling}
+use Rattle.grid_stamps.specs.Grids.{TilingOk, columns_of, rows_of, stamp_count, grid_in, stamp_of, touches, is_cut_rect, stamped_by}
 use Rattle.grid_stamps.specs.Scans.{rows_stamped, tiles_stamped, StampRoom}
 use Rattle.grid_axes.proofs.Axes.{touched_between, touched_from, touched_to, last_tile_in, first_last, Found, tiles_found}
 use Rattle.grid_stamps.proofs.RowByRow.{tile_place, tile_at, same_tiles}

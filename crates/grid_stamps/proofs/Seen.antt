@@ -19,7 +19,9 @@ use Rattle.std.specs.Prelude.{Option, Some, None}
 use Rattle.grid_rects.specs.declared.rect.TexelRect.{TexelRect}
 use Rattle.grid_stamps.specs.declared.since.Seen.{Seen}
 use Rattle.grid_axes.specs.Axes.{SpanIn, one_tile, widened, span_around}
-use Rattle.grid_stamps.specs.Grids.{Tiling, TilingOk, columns_of, rows_of, stamp_count, grid_in, row_by_row, stamp_of, Tile, dirty_tiles, box_of, box_around, box_since}
+use Rattle.grid_stamps.specs.declared.grid.Tiling.{Tiling}
+use Rattle.grid_stamps.specs.declared.grid.Tile.{Tile}
+use Rattle.grid_stamps.specs.Grids.{TilingOk, columns_of, rows_of, stamp_count, grid_in, row_by_row, stamp_of, dirty_tiles, box_of, box_around, box_since}
 use Rattle.grid_stamps.specs.Scans.{nothing_seen, joined, visited, all_joined, dirty_row}
 use Rattle.grid_stamps.proofs.RowByRow.{tile_place, keep_rows}
 use Rattle.grid_stamps.proofs.Boxes.{TileIn}

@@ -6,8 +6,8 @@ use Rattle.grid_axes.specs.declared.axis.Axis.{Axis}
 use Rattle.grid_axes.specs.declared.axis.Span.{Span}
 use Rattle.grid_shapes.specs.declared.shape.VersionShape.{VersionShape}
 use Rattle.grid_rects.specs.declared.rect.TexelRect.{TexelRect}
-pub use Rattle.grid_stamps.specs.declared.grid.Tiling.{Tiling}
-pub use Rattle.grid_stamps.specs.declared.grid.Tile.{Tile}
+use Rattle.grid_stamps.specs.declared.grid.Tiling.{Tiling}
+use Rattle.grid_stamps.specs.declared.grid.Tile.{Tile}
 use Rattle.grid_shapes.specs.Formats.{block_edge}
 use Rattle.grid_shapes.specs.Shapes.{level_width, level_height}
 use Rattle.grid_axes.specs.Axes.{axis_of, AxisOk, tiles_of, is_cut, touched, one_tile, span_around, span_start, span_size}
@@ -101,6 +101,10 @@ box_around g (t ∷ ts) =
 -- the box since `held`; none if `newest` is at most `held`
 unfoldable pub box_since : Tiling → ℕ → StampGrid → Option TexelRect
 box_since g held grid = cond (leb grid.newest held) None (box_around g (dirty_tiles (columns_of g) (rows_of g) held grid.stamps))
+
+-- the answer that names a tile
+abbrev pub some_tile : ℕ → ℕ → Option Tile
+some_tile column row = Some (record { column = column; row = row })
 
 -- the dirty tile stays open under its condition: the tile named is stamped above held; none only where none is
 pub record Stamped (g : Tiling) (held : ℕ) (stamps : List ℕ) (column row : ℕ) : Type 0 where

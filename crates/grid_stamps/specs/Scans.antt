@@ -5,7 +5,7 @@ use Rattle.std.proofs.lemmas.List.Edits.{sets}
 use Rattle.base_blocks.specs.Lists.{listed, keep}
 use Rattle.grid_axes.specs.declared.axis.Span.{Span}
 use Rattle.grid_stamps.specs.declared.since.Seen.{Seen}
-use Rattle.grid_stamps.specs.Grids.{Tile}
+use Rattle.grid_stamps.specs.declared.grid.Tile.{Tile}
 use Rattle.grid_axes.specs.Axes.{one_tile, widened}
 use Rattle.grid_axes.specs.AxisConstants.{max_tiles_per_axis}
 
