@@ -17,8 +17,7 @@ use grid_shapes::{VersionShape, block_edge};
 use grid_stamps::{across_axis, down_axis, is_largest_stamp, stamp_count};
 use pool_access::{grid_end, shape_grids, stamp_end};
 use pool_records::{
-    GridTiling, TEXTURE_GRID_AT, TEXTURE_STAMP_AT, TEXTURE_STRIDE, read_texture,
-    tiling_number,
+    GridTiling, TEXTURE_GRID_AT, TEXTURE_STAMP_AT, TEXTURE_STRIDE, read_texture, tiling_number,
 };
 use pool_rules::GRID_STRIDE;
 
