@@ -17,8 +17,7 @@ use grid_shapes::{VersionShape, block_edge};
 use grid_stamps::{across_axis, down_axis, is_largest_stamp, stamp_count};
 use pool_access::{grid_end, shape_grids, stamp_end};
 use pool_records::{
-    GridTiling, Recorded, TEXTURE_GRID_AT, TEXTURE_STAMP_AT, TEXTURE_STRIDE, read_texture,
-    tiling_number,
+    GridTiling, TEXTURE_GRID_AT, TEXTURE_STAMP_AT, TEXTURE_STRIDE, read_texture, tiling_number,
 };
 use pool_rules::GRID_STRIDE;
 
@@ -86,13 +85,13 @@ fn history_fits(one: &[u16], four: &[u16], p: &[u64], newest: &[u64], stamps: &[
     let shape = t.shape;
     let history = t.history;
     match history {
-        Recorded::Writes(n) => {
+        Some(n) => {
             if block_edge(shape.format) == 1 {
                 return grids_fit(one, shape, n, newest, stamps);
             }
             grids_fit(four, shape, n, newest, stamps)
         }
-        Recorded::NoHistory => (newest.len() == 0) & (stamps.len() == 0),
+        None => (newest.len() == 0) & (stamps.len() == 0),
     }
 }
 

@@ -10,7 +10,7 @@ ghost use Rattle.pool_rules.specs.RuleConstants.{most_places};
 
 use base_tables::record_at;
 use grid_shapes::{is_shape, shape_bytes};
-use pool_records::{Recorded, TEXTURE_BYTES_AT, TEXTURE_SPARES_AT, TEXTURE_STRIDE, read_texture};
+use pool_records::{TEXTURE_BYTES_AT, TEXTURE_SPARES_AT, TEXTURE_STRIDE, read_texture};
 use pool_rules::LIMIT;
 
 // Tests that the ids of the first n records ascend.
@@ -27,12 +27,12 @@ pub fn ids_ascend(textures: &[u64], n: usize) -> bool
 }
 
 // Tests that a write count, if there is a history, is at most 2^48.
-fn writes_fit(h: Recorded) -> bool
+fn writes_fit(h: Option<u64>) -> bool
     ensures { result ≡ writes_fit h }
 {
     match h {
-        Recorded::Writes(n) => n <= LIMIT,
-        Recorded::NoHistory => true,
+        Some(n) => n <= LIMIT,
+        None => true,
     }
 }
 
