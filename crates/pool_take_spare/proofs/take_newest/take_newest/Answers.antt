@@ -48,14 +48,14 @@ remove_records-requires c =
     let t = ap spares_of c.texture_at-t.ensures in
     (k.room, omega (arith, c.spares_before.ensures, k.within, t, c.if-t-eq0.false))
 
-pub overflow_sub-after : goal.overflow_sub-after
-overflow_sub-after c =
+pub overflow_sub-result : goal.overflow_sub-result
+overflow_sub-result c =
     let k = c.requires in
     let t = ap spares_of c.texture_at-t.ensures in
     omega (arith, k.within, t, c.if-t-eq0.false)
 
-pub overflow_sub-after-2 : goal.overflow_sub-after-2
-overflow_sub-after-2 c =
+pub overflow_sub-result-2 : goal.overflow_sub-result-2
+overflow_sub-result-2 c =
     let k = c.requires in
     let t = c.texture_at-t.ensures in
     omega (arith, ap (λ (r : TextureRecord). r.bytes) t, k.one (omega (arith, ap spares_of t, c.if-t-eq0.false)))
