@@ -3,6 +3,7 @@
 
 mod doomed;
 mod grids;
+mod records;
 mod retiring;
 mod slices;
 mod spare;

@@ -17,7 +17,8 @@ use grid_shapes::{VersionShape, block_edge};
 use grid_stamps::{across_axis, down_axis, is_largest_stamp, stamp_count};
 use pool_access::{grid_end, shape_grids, stamp_end};
 use pool_records::{
-    GridTiling, TEXTURE_GRID_AT, TEXTURE_STAMP_AT, TEXTURE_STRIDE, read_texture, tiling_number,
+    GridTiling, Record, TEXTURE_GRID_AT, TEXTURE_STAMP_AT, TEXTURE_STRIDE, TextureRecord,
+    tiling_number,
 };
 use pool_rules::GRID_STRIDE;
 
@@ -81,7 +82,7 @@ fn history_fits(one: &[u16], four: &[u16], p: &[u64], newest: &[u64], stamps: &[
     requires { (texture_stride ≤ length p.now) × (is_shape (read_texture p.now).shape ≡ true) × BothTables one.now four.now }
     ensures { result ≡ history_fits (read_texture p.now).shape (read_texture p.now).history newest.now stamps.now }
 {
-    let t = read_texture(p);
+    let t = TextureRecord::read(p);
     let shape = t.shape;
     let history = t.history;
     match history {
