@@ -18,7 +18,8 @@ use Rattle.base_blocks.proofs.Listed.{length_listed, get_or_listed}
 use Rattle.base_unequal.specs.Unequal.{starts_fit}
 use Rattle.grid_shapes.specs.declared.shape.VersionShape.{VersionShape}
 use Rattle.grid_shapes.specs.Shapes.{slices_of}
-use Rattle.grid_stamps.specs.Grids.{Tiling, tiling_of, stamp_count, StampGrid, grid_in}
+use Rattle.grid_stamps.specs.declared.grid.Tiling.{Tiling}
+use Rattle.grid_stamps.specs.Grids.{tiling_of, stamp_count, StampGrid, grid_in}
 use Rattle.grid_stamps.proofs.RowByRow.{tile_place}
 use Rattle.pool_rules.specs.declared.held.Held.{Held}
 use Rattle.pool_rules.specs.declared.held.Held.TheVariants.{Known, Unknown}
