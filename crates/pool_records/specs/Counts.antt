@@ -1,4 +1,4 @@
--- Laws of the numbers that stand for an enum: each number is one value, and each value one number. Assumes nothing.
+-- Helper: Laws of the numbers that stand for an enum: each number is one value, and each value one number. Assumes nothing.
 use mathlib.Core.Path.{◌≡◌, refl}
 use Prim.Native.Nat.{ℕ, zero, suc}
 use Rattle.pool_rules.specs.declared.held.Held.{Held}

@@ -1,4 +1,4 @@
--- Each type's reading and writing is a codec of its width: what was written is read, and what was read is written back as it stood, for all
+-- Helper: Each type's reading and writing is a codec of its width: what was written is read, and what was read is written back as it stood, for all
 -- numbers. Assumes nothing.
 use Prim.Native.Nat.{ℕ}
 use mathlib.Core.Path.{◌≡◌, refl}
@@ -11,7 +11,7 @@ use Rattle.pool_records.specs.Spare.{read_spare, write_spare}
 use Rattle.pool_records.specs.Retiring.{read_retiring, write_retiring}
 use Rattle.pool_records.specs.Doomed.{read_doomed, write_doomed}
 use Rattle.pool_records.specs.Texture.{read_texture, write_texture}
-use Rattle.pool_records.proofs.Counts.{held_number_lem, number_held, recorded_number_lem, number_recorded}
+use Rattle.pool_records.specs.Counts.{held_number_lem, number_held, recorded_number_lem, number_recorded}
 use Rattle.pool_records.specs.RecordConstants.{doomed_stride, retiring_stride, spare_stride, texture_stride}
 
 -- simp takes `lit<` only at a number that it sees, so these two say theirs in digits: readers of 3 and of 22 numbers
