@@ -42,11 +42,9 @@ pub fn run_line(
     let answered = answer_event(
         session, textures, retiring, doomed, spares, newest, stamps, copies, views, event,
     );
-    let answer = answered.answer;
-    let end = put_answer(out, filled, number, answer, copies, views);
-    let after = answered.session;
+    let end = put_answer(out, filled, number, answered.answer, copies, views);
     RanLine {
-        session: after,
+        session: answered.session,
         filled: end,
     }
 }

@@ -13,23 +13,13 @@ use pool_memory::COPY_STRIDE;
 // The most bytes of a row of output, as `most_row` of crates/event_answers/specs/Printed.antt.
 const MOST_ROW: usize = 147;
 
-// Returns the most entries of an answer in buffers of `copies` and `views` numbers.
-fn most_entries(copies: usize, views: usize) -> usize
-    ensures { result ≡ max (copies / copy_stride) views }
-{
-    if copies / COPY_STRIDE < views {
-        return views;
-    }
-    copies / COPY_STRIDE
-}
-
 // Returns the bytes of the longest answer in buffers of `copies` and `views` numbers. Where an output of `size` bytes has no room for
 // them it is `size` + 1 instead, since the product could overflow.
 fn longest_answer(copies: usize, views: usize, size: usize) -> usize
     requires { size < 2 ^ 63 }
     ensures { result ≡ min (longest_answer copies views) (size + 1) }
 {
-    let most = most_entries(copies, views);
+    let most = (copies / COPY_STRIDE).max(views);
     if size / MOST_ROW <= most {
         return size + 1;
     }
@@ -70,26 +60,33 @@ pub fn run_lines(
         from: 0,
         filled: 0,
     };
+    // Each line's own length and output say how far a turn goes, so no range counts the turns.
     while room <= size - run.filled {
-        let from = run.from;
-        let parsed = parse_first(&input[from..]);
-        let end = from + parsed.end;
+        let parsed = parse_first(&input[run.from..]);
+        let end = run.from + parsed.end;
         if input.len() <= end {
             return run;
         }
-        let event = parsed.event;
-        let before = run.session;
         let current = run.number + 1;
-        let next = end + 1;
         let ran = run_line(
-            event, current, before, textures, retiring, doomed, spares, newest, stamps, copies,
-            views, out, run.filled,
+            parsed.event,
+            current,
+            run.session,
+            textures,
+            retiring,
+            doomed,
+            spares,
+            newest,
+            stamps,
+            copies,
+            views,
+            out,
+            run.filled,
         );
-        let after = ran.session;
         run = Run {
-            session: after,
+            session: ran.session,
             number: current,
-            from: next,
+            from: end + 1,
             filled: ran.filled,
         };
     }

@@ -1,4 +1,3 @@
-pub mod Kept
 pub mod Steps
 pub mod Opened
 pub mod Keeps

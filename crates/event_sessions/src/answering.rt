@@ -33,18 +33,14 @@ pub fn answer_event(
         (state_of session textures.old retiring.old doomed.old spares.old newest.old
         stamps.old) event) }
 {
-    let opened = session.opened;
-    if opened != 1 {
+    if session.opened != 1 {
         return answer_unopened(
             session, textures, retiring, doomed, spares, newest, stamps, event,
         );
     }
-    let pool = session.pool;
-    let book = session.book;
-    let shape = session.shape;
     let called = call_event(
-        pool,
-        book,
+        session.pool,
+        session.book,
         textures,
         retiring,
         doomed,
@@ -54,15 +50,17 @@ pub fn answer_event(
         copies,
         views,
         session.taken == 1,
-        shape,
+        session.shape,
         event,
     );
-    let after = called.pool;
-    let noted = called.book;
-    let answer = called.answer;
-    let next = session_after(session.taken, shape, after, noted, event);
     Answered {
-        session: next,
-        answer,
+        session: session_after(
+            session.taken,
+            session.shape,
+            called.pool,
+            called.book,
+            event,
+        ),
+        answer: called.answer,
     }
 }

@@ -32,16 +32,12 @@ fn open_session(
             answer: Answer::Refused(1),
         };
     }
-    let pool = said.pool;
-    let book = said.book;
-    let shape = session.shape;
     Answered {
         session: Session {
             opened: 1,
-            taken: session.taken,
-            pool,
-            book,
-            shape,
+            pool: said.pool,
+            book: said.book,
+            ..session
         },
         answer: Answer::Done,
     }

@@ -27,8 +27,7 @@ fn tilings_in(edges: &[u16], shape: VersionShape) -> SliceTilings
 {
     let mut levels = [0; MOST_LEVELS];
     let mut start = 0;
-    let mut level = 0;
-    while level < shape.levels {
+    for level in 0..shape.levels {
         let across = across_axis(edges, shape, level);
         let down = down_axis(edges, shape, level);
         levels[level as usize] = tiling_number(GridTiling {
@@ -37,7 +36,6 @@ fn tilings_in(edges: &[u16], shape: VersionShape) -> SliceTilings
             down: down.edge,
         });
         start += stamp_count(across, down);
-        level += 1;
     }
     SliceTilings {
         levels,

@@ -40,13 +40,7 @@ pub fn spares_before(textures: &[u64], i: usize) -> usize
     requires { (texture_stride * i ≤ length textures.now) × (total (λ t. t.spares) (textures_in i textures.now) ≤ most_places) }
     ensures { result ≡ total (λ t. t.spares) (textures_in i textures.now) }
 {
-    let mut sum = 0;
-    let mut j = 0;
-    while j < i {
-        sum += textures[TEXTURE_STRIDE * j + TEXTURE_SPARES_AT] as usize;
-        j += 1;
-    }
-    sum
+    spares_between(textures, 0, i)
 }
 
 // Counts the spares of the textures from `from` on, up to `to`.
@@ -55,10 +49,8 @@ fn spares_between(textures: &[u64], from: usize, to: usize) -> usize
     ensures { total (λ t. t.spares) (textures_in from textures.now) + result ≡ total (λ t. t.spares) (textures_in to textures.now) }
 {
     let mut sum = 0;
-    let mut j = from;
-    while j < to {
+    for j in from..to {
         sum += textures[TEXTURE_STRIDE * j + TEXTURE_SPARES_AT] as usize;
-        j += 1;
     }
     sum
 }

@@ -32,12 +32,10 @@ pub fn move_starts(textures: &mut [u64], i: usize, n: usize, grids: Shift, stamp
     requires { (texture_stride * n ≤ length textures.old) × (i ≤ n) × StartsMove grids stamps i n textures.old }
     ensures { textures.new ≡ starts_moved grids stamps i n textures.old }
 {
-    let mut k = i;
-    while k < n {
+    for k in i..n {
         let g = TEXTURE_STRIDE * k + TEXTURE_GRID_AT;
         textures[g] = textures[g] - grids.less + grids.more;
         let s = TEXTURE_STRIDE * k + TEXTURE_STAMP_AT;
         textures[s] = textures[s] - stamps.less + stamps.more;
-        k += 1;
     }
 }

@@ -17,8 +17,7 @@ use grid_shapes::{VersionShape, block_edge};
 use grid_stamps::{across_axis, down_axis, is_largest_stamp, stamp_count};
 use pool_access::{grid_end, shape_grids, stamp_end};
 use pool_records::{
-    GridTiling, Recorded, TEXTURE_GRID_AT, TEXTURE_STAMP_AT, TEXTURE_STRIDE, read_texture,
-    tiling_number,
+    GridTiling, TEXTURE_GRID_AT, TEXTURE_STAMP_AT, TEXTURE_STRIDE, read_texture, tiling_number,
 };
 use pool_rules::GRID_STRIDE;
 
@@ -57,8 +56,7 @@ fn grids_fit(edges: &[u16], s: VersionShape, writes: u64, newest: &[u64], stamps
         return false;
     }
     let mut at = 0;
-    let mut k = 0;
-    while k < n {
+    for k in 0..n {
         let level = k as u64 % s.levels;
         let across = across_axis(edges, s, level);
         let down = down_axis(edges, s, level);
@@ -73,7 +71,6 @@ fn grids_fit(edges: &[u16], s: VersionShape, writes: u64, newest: &[u64], stamps
             return false;
         }
         at += count;
-        k += 1;
     }
     stamps.len() == at
 }
@@ -88,13 +85,13 @@ fn history_fits(one: &[u16], four: &[u16], p: &[u64], newest: &[u64], stamps: &[
     let shape = t.shape;
     let history = t.history;
     match history {
-        Recorded::Writes(n) => {
+        Some(n) => {
             if block_edge(shape.format) == 1 {
                 return grids_fit(one, shape, n, newest, stamps);
             }
             grids_fit(four, shape, n, newest, stamps)
         }
-        Recorded::NoHistory => (newest.len() == 0) & (stamps.len() == 0),
+        None => (newest.len() == 0) & (stamps.len() == 0),
     }
 }
 
@@ -123,8 +120,7 @@ fn histories_in(
 {
     let mut grid = 0;
     let mut stamp = 0;
-    let mut i = 0;
-    while i < n {
+    for i in 0..n {
         let p = record_at(textures, TEXTURE_STRIDE, i);
         let last = grid_end(textures, n, grids, i);
         let end = stamp_end(textures, n, used, i);
@@ -139,7 +135,6 @@ fn histories_in(
         }
         grid = last;
         stamp = end;
-        i += 1;
     }
     (grid == grids) & (stamp == used)
 }

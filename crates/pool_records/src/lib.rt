@@ -20,7 +20,6 @@ pub use constants::{
 };
 pub use doomed::{DoomedRecord, doomed_numbers, read_doomed};
 pub use find::find_texture;
-pub use recorded::Recorded;
 pub use retiring::{RetiringRecord, read_retiring, retiring_numbers};
 pub use shift::Shift;
 pub use spare::{SpareRecord, read_spare, spare_numbers};

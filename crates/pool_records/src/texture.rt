@@ -10,7 +10,7 @@ use crate::constants::{
     TEXTURE_BYTES_AT, TEXTURE_DUE_AT, TEXTURE_GRID_AT, TEXTURE_HISTORY_AT, TEXTURE_KIND_AT,
     TEXTURE_LEVELS_AT, TEXTURE_RENAME_AT, TEXTURE_SPARES_AT, TEXTURE_STAMP_AT, TEXTURE_STRIDE,
 };
-use crate::recorded::{Recorded, read_recorded, recorded_number};
+use crate::recorded::{read_recorded, recorded_number};
 use grid_shapes::VersionShape;
 
 #[derive(Clone, Copy)]
@@ -18,7 +18,7 @@ pub struct TextureRecord {
     pub id: u64,
     pub shape: VersionShape,
     pub epoch: u64,
-    pub history: Recorded,
+    pub history: Option<u64>,
     pub birth: u64,
     pub rename: u64,
     pub due: u64,

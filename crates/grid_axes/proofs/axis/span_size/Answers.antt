@@ -24,21 +24,13 @@ overflow_mul-end c =
     omega (arith, (fits (goal.at.overflow_mul-end c).Start).high, c.requires.0.extent, c.requires.0.narrow)
 
 pub overflow_sub-result : goal.overflow_sub-result
-overflow_sub-result c = omega (arith, (fits (goal.at.overflow_sub-result c).Start).order)
+overflow_sub-result c =
+    let f = fits (goal.at.overflow_sub-result c).Start in
+    omega (arith, f.low, f.order)
 
-pub overflow_sub-result-else-end-a : goal.overflow_sub-result-else-end-a
-overflow_sub-result-else-end-a c = omega (arith, (fits (goal.at.overflow_sub-result-else-end-a c).Start).low)
-
-pub returns-then-end-a : goal.returns-then-end-a
+pub returns : goal.returns
 unfolding span_size span_start
-returns-then-end-a c =
+returns c =
     let e = c.args.a.edge in
     let n : (c.args.s.last + 1) * e ≡ suc c.args.s.last * e = ap (λ (k : ℕ). k * e) (add-one c.args.s.last) in
-    omega (arith, n, c.if-end-a.true)
-
-pub returns-else-end-a : goal.returns-else-end-a
-unfolding span_size span_start
-returns-else-end-a c =
-    let e = c.args.a.edge in
-    let n : (c.args.s.last + 1) * e ≡ suc c.args.s.last * e = ap (λ (k : ℕ). k * e) (add-one c.args.s.last) in
-    omega (arith, n, c.if-end-a.false)
+    omega (arith, n)

@@ -11,7 +11,3 @@ abbrev pub invariant-loop-i : goal.invariant-loop-i
 invariant-loop-i l =
     (book : PacingBook) → Fits (lent l.pool book l.initial.textures l.retiring l.initial.doomed l.initial.spares l.newest l.stamps)
     → Progress (lent l.pool book l.initial.textures l.retiring l.initial.doomed l.initial.spares l.newest l.stamps) l.excess l.line l.i l.from l.kept l.bytes l.sum l.textures l.doomed l.spares
-
-abbrev pub decreases-loop-i : goal.decreases-loop-i
-decreases-loop-i l =
-    l.pool.tracked - l.i
