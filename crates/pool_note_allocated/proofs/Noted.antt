@@ -52,7 +52,6 @@ spare_bytes_most (cons {x = t} p ps) =
       mul-le-mul_right {m = bytes_of t.shape} {n = most_shape_bytes} (length t.spares) (bytes_bound t.shape p.shape),
     )
 
--- a test's number in the code is the mark's
 module _ (l : Lent) (f : Fits l) (allocated : ℕ) where
   abbrev excess : ℕ
   excess = allocated - l.pool.line
