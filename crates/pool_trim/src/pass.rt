@@ -68,16 +68,10 @@ pub fn counts_after(pool: Pool, pass: Pass) -> Pool
         kept: pass.kept,
         grids: pass.grids,
         stamps: pass.stamps,
-        head: pool.head,
-        popped: pool.popped,
-        queued: pool.queued,
-        first: pool.first,
         doomed: pool.doomed + pass.count,
         since: pool.since + given,
-        trackings: pool.trackings,
         parked: pool.parked - pass.freed,
         dooming: pool.dooming + pass.freed,
-        cap: pool.cap,
-        line: pool.line,
+        ..pool
     }
 }

@@ -18,7 +18,7 @@ use pool_access::{put_texture, texture_at};
 use pool_forget_texture::move_down;
 use pool_memory::{DoneAnswer, PacingBook, Pool};
 use pool_records::{
-    RETIRING_STRIDE, SPARE_STRIDE, TEXTURE_DUE_AT, TEXTURE_SPARES_AT, TEXTURE_STRIDE,
+    RETIRING_STRIDE, SPARE_STRIDE, TEXTURE_DUE_AT, TEXTURE_SPARES_AT, TEXTURE_STRIDE, TextureRecord,
 };
 use pool_rules::LIMIT;
 use pool_take_doomed::push_spares;
@@ -43,11 +43,13 @@ fn put_looked(textures: &mut [u64], i: usize, look: Look, pass: Pass)
     {
         return;
     }
-    let mut t = texture_at(textures, i);
-    t.due = look.due;
-    t.spares = left;
-    t.grid = pass.grids as u64;
-    t.stamp = pass.stamps as u64;
+    let t = TextureRecord {
+        due: look.due,
+        spares: left,
+        grid: pass.grids as u64,
+        stamp: pass.stamps as u64,
+        ..texture_at(textures, i)
+    };
     put_texture(textures, pass.tracked, t);
 }
 
@@ -87,8 +89,7 @@ fn trim_textures(
     let ring = pool.first;
     let waiting = pool.doomed;
     let mut pass = no_pass();
-    let mut i = 0;
-    while i < tracked {
+    for i in 0..tracked {
         let look = look_at(pool, textures, spares, i, pass.first, current);
         push_spares(
             doomed,
@@ -109,7 +110,6 @@ fn trim_textures(
         move_history(newest, stamps, look, pass);
         put_looked(textures, i, look, pass);
         pass = pass_on(pass, look);
-        i += 1;
     }
     counts_after(pool, pass)
 }
