@@ -13,7 +13,7 @@ ghost use Rattle.pool_records.specs.RecordConstants.{texture_stride};
 
 use crate::look_at::{Look, look_at};
 use crate::nothing_aged::nothing_aged;
-use crate::pass::{Pass, counts_after, no_pass, pass_on};
+use crate::pass::{Pass, counts_after, pass_on};
 use pool_access::{put_texture, texture_at};
 use pool_forget_texture::move_down;
 use pool_memory::{DoneAnswer, PacingBook, Pool};
@@ -88,7 +88,7 @@ fn trim_textures(
     let tracked = pool.tracked;
     let ring = pool.first;
     let waiting = pool.doomed;
-    let mut pass = no_pass();
+    let mut pass = Pass::default();
     for i in 0..tracked {
         let look = look_at(pool, textures, spares, i, pass.first, current);
         push_spares(

@@ -1,17 +1,20 @@
 -- `trim_textures` meets its contract: the pass goes on texture by texture, and ends with the call's memory. Assumes nothing.
 use Prim.Native.Nat.{◌<◌}
+use borrow.Author.Rules.{rules}
 use native.Mathlib.Omega.{arith}
 use Rattle.pool_memory.specs.Lent.{lent}
 use Rattle.pool_memory.proofs.FromPool.{pool_fits}
+use Rattle.pool_trim.specs.Pass.{no_pass}
 use Rattle.pool_trim.proofs.Sofar.{sofar_start}
 use Rattle.pool_trim.proofs.Trimmed.{seen, sofar_next}
 use Rattle.pool_trim.proofs.TrimCalls.{look_fits, push_fits, put_fits, history_moves, pass_fits, counts_fit_lem, pass_done}
 use Rattle.pool_trim.proofs.calls.trim.trim_textures.Goals as goal
 
 pub loop-i-init : goal.loop-i-init
+unfolding no_pass
 loop-i-init c =
     let a = c.args in
-    λ book e. sofar_start (lent a.pool book a.textures.now a.retiring.now a.doomed.now a.spares.now a.newest.now a.stamps.now) a.current _ c.no_pass-pass.ensures
+    λ book e. sofar_start (lent a.pool book a.textures.now a.retiring.now a.doomed.now a.spares.now a.newest.now a.stamps.now) a.current _ (search rules)
 
 pub look_at-look-requires : goal.look_at-look-requires
 look_at-look-requires c =
