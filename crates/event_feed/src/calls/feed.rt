@@ -33,12 +33,11 @@ pub fn feed(
         × Placed result (length buf.old) }
 {
     let from = before.from;
-    let session = before.session;
     let to = finish(buf, from, before.held, end);
     let run = run_lines(
         &buf[from..to],
         before.number,
-        session,
+        before.session,
         textures,
         retiring,
         doomed,
@@ -49,10 +48,9 @@ pub fn feed(
         views,
         out,
     );
-    let after = run.session;
     let place = rest_of(buf, from, to, run.from);
     FeedState {
-        session: after,
+        session: run.session,
         number: run.number,
         from: place.from,
         held: place.held,
