@@ -26,12 +26,7 @@ pub fn feed(
 {
     let from = before.from;
     let to = finish(buf, from, before.held, end);
-    let run = run_lines(
-        &buf[from..to],
-        before.number,
-        before.session,
-        stores, out,
-    );
+    let run = run_lines(&buf[from..to], before.number, before.session, stores, out);
     let place = rest_of(buf, from, to, run.from);
     FeedState {
         session: run.session,

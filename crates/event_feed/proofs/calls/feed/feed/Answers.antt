@@ -43,7 +43,7 @@ returns-clause-turn c =
     let z = c.rest_of-place.ensures in
     let w : k.result ≤ length k.new.buf = omega (arith, k.ensures.within, k.auto.buf) in
     turn_from _ _ _ _ b.from b.held _ k.result c.args.buf.now k.new.buf k.ensures _ _ _ _ _
-        (turn _ _ _ _ b.from b.held k.result k.new.buf _ _ k.ensures.least w (ap whole_lines k.ensures.line ∙ c.requires.plain) c.requires.room _ r.ensures.ran r.ensures.filled _ z)
+    (turn _ _ _ _ b.from b.held k.result k.new.buf _ _ k.ensures.least w (ap whole_lines k.ensures.line ∙ c.requires.plain) c.requires.room _ r.ensures.ran r.ensures.filled _ z)
 
 pub returns-clause-placed : goal.returns-clause-placed
 returns-clause-placed c =
