@@ -24,8 +24,8 @@ use Rattle.pool_rules.specs.Trim.{trim}
 use Rattle.pool_rules.specs.ForgetTexture.{forget_texture}
 use Rattle.pool_memory.specs.declared.pool.Pool.{Pool as Counts}
 use Rattle.pool_memory.specs.declared.book.PacingBook.{PacingBook}
-pub use Rattle.pool_memory.specs.declared.answer.TakenVersion.{TakenVersion}
-pub use Rattle.pool_memory.specs.declared.answer.PoppedVersion.{PoppedVersion}
+use Rattle.pool_memory.specs.declared.answer.TakenVersion.{TakenVersion}
+use Rattle.pool_memory.specs.declared.answer.PoppedVersion.{PoppedVersion}
 use Rattle.pool_memory.specs.Lent.{Lent}
 use Rattle.pool_memory.specs.Reading.{model_of}
 use Rattle.pool_memory.specs.Writing.{lent_after}
