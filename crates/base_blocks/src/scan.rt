@@ -4,8 +4,6 @@ ghost use Rattle.std.specs.Prelude.{◌≡◌, ◌+◌, ◌^◌, ◌<◌, ◌≤
 ghost use Rattle.base_blocks.specs.Lists.{all};
 ghost use Rattle.base_blocks.specs.Blocks.{at_most, member, largest};
 
-use crate::number::larger;
-
 // The highest bit.
 const TOP: u64 = 9223372036854775808;
 
@@ -31,10 +29,8 @@ fn some_past(s: &[u64], from: usize, n: usize, b: u64) -> u64
     ensures { nat_lt result (2 ^ 63) ≡ all (at_most b) (take n (drop from s.now)) }
 {
     let mut bits = 0;
-    let mut k = 0;
-    while k < n {
-        bits = bits | past(s[from + k], b);
-        k += 1;
+    for k in 0..n {
+        bits |= past(s[from + k], b);
     }
     bits
 }
@@ -111,11 +107,9 @@ pub fn contains(s: &[u64], b: u64) -> bool
 pub fn largest_of(s: &[u64]) -> u64
     ensures { result ≡ largest s.now }
 {
-    let mut m = 0;
-    let mut i = 0;
-    while i < s.len() {
-        m = larger(m, s[i]);
-        i += 1;
+    let mut m: u64 = 0;
+    for x in s {
+        m = m.max(*x);
     }
     m
 }

@@ -1,5 +1,5 @@
 // What is printed of a phase: its number and its figures.
-use libc::STDOUT_FILENO;
+use bench_common::STDOUT_FILENO;
 
 // Prints what a phase took, and the sum of what its calls answered.
 pub fn phase_line(phase: u64, time: u64, sum: u64) {

@@ -9,6 +9,6 @@ mod room;
 
 pub use arguments::{argument, is_given};
 pub use clock::{elapsed, idle_time, reading};
-pub use printing::line;
+pub use printing::{STDOUT_FILENO, line};
 pub use random::{mixed, random_from};
 pub use room::{doomed_places, retiring_places, spare_places, texture_places};

@@ -1,5 +1,7 @@
 // What is printed: lines of a word and a number.
-use libc::STDOUT_FILENO;
+
+// The descriptor of standard output, which the kit's `io` takes as a number.
+pub const STDOUT_FILENO: i32 = 1;
 
 // Prints a word and a number.
 pub fn line(word: &[u8], number: u64) {

@@ -5,8 +5,7 @@ ghost use Rattle.pool_memory.specs.IsPool.{is_pool};
 
 use crate::fill::fill;
 use crate::sheets::{print_known, print_tested};
-use bench_common::{elapsed, line, reading};
-use libc::STDOUT_FILENO;
+use bench_common::{STDOUT_FILENO, elapsed, line, reading};
 use pool_formed::is_pool;
 use pool_memory::{PacingBook, Pool};
 use pool_open::{opened_book, opened_pool};

@@ -186,20 +186,8 @@ fn dash_event(word: Word, n: &[u64], count: usize) -> Event
     ensures { result ≡ dash_made word count (λ k. get_or n.now k 0) }
 {
     match word {
-        Word::Open => Event::Unread,
-        Word::Take => Event::Unread,
         Word::Plan => plan_event(n, count, Held::Unknown),
-        Word::Retire => Event::Unread,
-        Word::Write => Event::Unread,
-        Word::Regen => Event::Unread,
-        Word::Pop => Event::Unread,
-        Word::Park => Event::Unread,
-        Word::Note => Event::Unread,
-        Word::Doomed => Event::Unread,
-        Word::Drain => Event::Unread,
-        Word::Trim => Event::Unread,
-        Word::Forget => Event::Unread,
-        Word::Other => Event::Unread,
+        _ => Event::Unread,
     }
 }
 

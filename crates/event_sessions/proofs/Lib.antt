@@ -1,4 +1,4 @@
-pub mod Kept
 pub mod Steps
 pub mod Opened
 pub mod Keeps
+pub mod Same

@@ -3,11 +3,9 @@ use Prim.Native.Nat.{ℕ}
 use mathlib.Core.Path.{◌≡◌, refl, sym, ap, ap₂, ◌∙◌, subst}
 use mathlib.Core.Bool.{Bool, true, false, cond}
 use mathlib.Core.Option.{Option, some}
-use mathlib.Core.List.{List, [], ◌∷◌}
+use mathlib.Core.List.{List}
 use native.Mathlib.Omega.{arith}
 use lib.Dec.{eqb}
-use types.Run.{OneOf, miss}
-use denote.Enum.Declared.{tag_of}
 use borrow.Author.Tests.{eq-eqb}
 use Rattle.grid_shapes.specs.declared.shape.VersionShape.{VersionShape}
 use Rattle.pool_memory.specs.declared.pool.Pool.{Pool}
@@ -19,7 +17,6 @@ use Rattle.pool_memory.specs.Calls.{open_number, opened_pool, opened_book}
 use Rattle.pool_books.specs.Demand3.{Reply, refusal, done}
 use Rattle.pool_books.specs.LentLists.{opened_lent}
 use Rattle.event_lines.specs.declared.event.Event.{Event}
-use Rattle.event_lines.specs.contracts.event.Event.{the_type}
 use Rattle.event_answers.specs.Answers.{reply_told, InBuffers}
 use Rattle.event_answers.specs.declared.answer.Answer.{Answer}
 use Rattle.event_answers.specs.declared.answer.Answer.TheVariants.{Question, Refused, Done}
@@ -76,9 +73,6 @@ module _ (s : Session) (textures retiring doomed spares newest stamps : List ℕ
 
 -- ---- before it
 
-abbrev not_open : List ℕ
-not_open = 1 ∷ 2 ∷ 3 ∷ 4 ∷ 5 ∷ 6 ∷ 7 ∷ 8 ∷ 9 ∷ 10 ∷ 11 ∷ 12 ∷ 13 ∷ []
-
 module _ (s : SessionState) (e : s.opened ≡ false) where
   pub open_alone : (a : Answer) (exit : SessionState) (f : Event) (working : ℕ) → f ≡ Event.Open working → SaysOnly a exit (opens s working) → AnsweredAlone a exit s f
   unfolding AnsweredAlone line_step
@@ -92,9 +86,9 @@ module _ (s : SessionState) (e : s.opened ≡ false) where
   not_called_lem : (r : Option Reply × SessionState) → SaysOnly Question s (if_opened s r)
   not_called_lem r = subst (SaysOnly Question s) (sym (ap (λ (b : Bool). cond b r (not_called s)) e)) none_answered
 
-  pub none_alone : (f : Event) → OneOf not_open (tag_of the_type f) → AnsweredAlone Question s s f
+  pub none_alone : (f : Event) → ((working : ℕ) → f ≡ Event.Open working → ⊥) → AnsweredAlone Question s s f
   unfolding AnsweredAlone line_step
-  none_alone (Event.Open working) k copies views = absurd (miss not_open 0 tt k)
+  none_alone (Event.Open working) k copies views = absurd (k working refl)
   none_alone (Event.Take id shape records seq) k copies views = not_called_lem _
   none_alone (Event.Plan id held slice level cover) k copies views = not_called_lem _
   none_alone (Event.Retire id view seq) k copies views = not_called_lem _

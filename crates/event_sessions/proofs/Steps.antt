@@ -3,17 +3,14 @@ use Prim.Native.Nat.{ℕ}
 use mathlib.Core.Path.{◌≡◌, refl}
 use mathlib.Core.Bool.{Bool, true, false}
 use mathlib.Core.Option.{some}
-use mathlib.Core.List.{List, [], ◌∷◌}
+use mathlib.Core.List.{List}
 use lib.ListN.{replicate}
-use types.Run.{OneOf, miss}
-use denote.Enum.Declared.{tag_of}
 use Rattle.grid_shapes.specs.declared.shape.VersionShape.{VersionShape}
 use Rattle.pool_rules.specs.declared.held.Held.{Held}
 use Rattle.pool_rules.specs.Model.{UploadFootprint}
 use Rattle.pool_memory.specs.Lent.{Lent}
 use Rattle.pool_books.specs.LentLists.{LentCall, lent_call}
 use Rattle.event_lines.specs.declared.event.Event.{Event}
-use Rattle.event_lines.specs.contracts.event.Event.{the_type}
 use Rattle.event_answers.specs.Answers.{reply_told, InBuffers}
 use Rattle.event_answers.specs.declared.answer.Answer.{Answer}
 use Rattle.event_answers.specs.declared.answer.Answer.TheVariants.{Question}
@@ -76,35 +73,22 @@ module _ (copies views : ℕ) (taken : Bool) (shape : VersionShape) (l : Lent) (
 
 -- ---- no call is made
 
--- the events that ask for none
-abbrev uncalled : List ℕ
-uncalled = 0 ∷ 13 ∷ []
-
 module _ (taken : Bool) (shape : VersionShape) (l : Lent) (copiesExit viewsExit : List ℕ) (copies views : ℕ) where
   abbrev NotCalled : Event → Type 0
   NotCalled e = Stepped copies views (session_opened taken shape l) e Question copiesExit viewsExit l
 
-  pub uncalled_stepped : (e : Event) → OneOf uncalled (tag_of the_type e) → NotCalled e
+  -- a second `open` and an unread line ask for none, and a plan without a take line has none
+  pub open_uncalled : (e : Event) (working : ℕ) → e ≡ Event.Open working → NotCalled e
   unfolding Stepped line_step InBuffers reply_told
-  uncalled_stepped (Event.Open working) k = (tt, refl, refl)
-  uncalled_stepped Event.Unread k = (tt, refl, refl)
-  uncalled_stepped (Event.Take id s records seq) k = absurd (miss uncalled 1 tt k)
-  uncalled_stepped (Event.Plan id held slice level cover) k = absurd (miss uncalled 2 tt k)
-  uncalled_stepped (Event.Retire id view seq) k = absurd (miss uncalled 3 tt k)
-  uncalled_stepped (Event.Write id slice level rect) k = absurd (miss uncalled 4 tt k)
-  uncalled_stepped (Event.Regen id) k = absurd (miss uncalled 5 tt k)
-  uncalled_stepped (Event.Pop settled) k = absurd (miss uncalled 6 tt k)
-  uncalled_stepped (Event.Park failed now) k = absurd (miss uncalled 7 tt k)
-  uncalled_stepped (Event.Note allocated) k = absurd (miss uncalled 8 tt k)
-  uncalled_stepped Event.Doomed k = absurd (miss uncalled 9 tt k)
-  uncalled_stepped Event.Drain k = absurd (miss uncalled 10 tt k)
-  uncalled_stepped (Event.Trim now) k = absurd (miss uncalled 11 tt k)
-  uncalled_stepped (Event.Forget id) k = absurd (miss uncalled 12 tt k)
+  open_uncalled e working q = rw q (tt, refl, refl)
 
-  -- nor does a plan without a take line
-  pub untaken_stepped : (e : Event) (id : ℕ) (held : Held) (slice level : ℕ) (cover : Bool) → e ≡ Event.Plan id held slice level cover → taken ≡ false → NotCalled e
+  pub unread_uncalled : (e : Event) → e ≡ Event.Unread → NotCalled e
   unfolding Stepped line_step InBuffers reply_told
-  untaken_stepped e id held slice level cover q t = rw (q, t) (tt, refl, refl)
+  unread_uncalled e q = rw q (tt, refl, refl)
+
+  pub plan_uncalled : (e : Event) (id : ℕ) (held : Held) (slice level : ℕ) (cover : Bool) → e ≡ Event.Plan id held slice level cover → taken ≡ false → NotCalled e
+  unfolding Stepped line_step InBuffers reply_told
+  plan_uncalled e id held slice level cover q t = rw (q, t) (tt, refl, refl)
 
 -- what a step notes of the line
 module _ (copies views : ℕ) (taken : Bool) (shape : VersionShape) (l : Lent) where

@@ -7,6 +7,7 @@ use grid_shapes::VersionShape;
 use pool_open::{opened_book, opened_pool};
 
 // Returns the shape that stands where no take line came.
+#[tactic(auto, unfolding(crate::specs::Noted::no_shape))]
 fn no_shape() -> VersionShape
     ensures { result ≡ no_shape }
 {
@@ -30,14 +31,11 @@ fn no_shape() -> VersionShape
 pub fn fresh() -> Session
     ensures { result ≡ fresh_session }
 {
-    let pool = opened_pool(0);
-    let book = opened_book();
-    let shape = no_shape();
     Session {
         opened: 0,
         taken: 0,
-        pool,
-        book,
-        shape,
+        pool: opened_pool(0),
+        book: opened_book(),
+        shape: no_shape(),
     }
 }

@@ -52,17 +52,18 @@ pub fn call_event(
             level,
             cover,
         } => {
-            if !taken {
-                return Called {
+            if taken {
+                call_preserve_plan(
+                    pool, book, textures, retiring, doomed, spares, newest, stamps, copies, id,
+                    shape, held, slice, level, cover,
+                )
+            } else {
+                Called {
                     pool,
                     book,
                     answer: Answer::Question,
-                };
+                }
             }
-            call_preserve_plan(
-                pool, book, textures, retiring, doomed, spares, newest, stamps, copies, id, shape,
-                held, slice, level, cover,
-            )
         }
         Event::Retire { id, view, seq } => call_retire(
             pool, book, textures, retiring, doomed, spares, newest, stamps, id, view, seq,
@@ -102,7 +103,7 @@ pub fn call_event(
         Event::Forget(id) => call_forget_texture(
             pool, book, textures, retiring, doomed, spares, newest, stamps, id,
         ),
-        _ => Called {
+        Event::Open(_) | Event::Unread => Called {
             pool,
             book,
             answer: Answer::Question,

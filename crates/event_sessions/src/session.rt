@@ -19,6 +19,7 @@ pub struct Session {
 
 // Returns the opened session after an event, with the pool and the book that its call left. A take line's shape is noted, whatever the call
 // says.
+#[tactic(auto, unfolding(crate::specs::Parts::session_after))]
 pub fn session_after(
     taken: u64,
     latest: VersionShape,
@@ -29,12 +30,7 @@ pub fn session_after(
     ensures { result ≡ session_after taken latest pool book event }
 {
     match event {
-        Event::Take {
-            id: _,
-            shape,
-            records: _,
-            seq: _,
-        } => Session {
+        Event::Take { shape, .. } => Session {
             opened: 1,
             taken: 1,
             pool,

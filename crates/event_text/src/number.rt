@@ -71,38 +71,25 @@ fn last_digit(text: &[u8], value: u64, i: usize) -> NumberAt
     NumberAt::Malformed
 }
 
-// Returns where the first nineteen bytes from `at` on end, or the text.
-fn nineteen(size: usize, at: usize) -> usize
-    requires { at ≤ size }
-    ensures { (at ≤ result) × (result ≤ size) × (result ≤ at + 19) × (result < size → result ≡ at + 19) }
-{
-    if 19 < size - at {
-        return at + 19;
-    }
-    size
-}
-
 // Returns the number that the digits from `at` on are, of which those before `from` are `start`. Nineteen of
 // them are never too large, so they need no other test.
 fn rest_digits(text: &[u8], at: usize, from: usize, start: u64) -> NumberAt
     requires { (at ≤ from) × (from ≤ length text.now) × (from ≤ at + 19) × (start < 10 ^ (from - at)) }
     ensures { result ≡ read_on start at from (leading_digits (drop from text.now)) }
 {
-    let stop = nineteen(text.len(), at);
+    let stop = at + (text.len() - at).min(19);
     let mut value = start;
-    let mut i = from;
-    while i < stop {
+    for i in from..stop {
         let byte = wide(text[i]);
         if (byte < ZERO) | (NINE < byte) {
             return ended(value, at, i);
         }
         value = value * 10 + (byte - ZERO);
-        i += 1;
     }
-    if i == text.len() {
-        return ended(value, at, i);
+    if stop == text.len() {
+        return ended(value, at, stop);
     }
-    last_digit(text, value, i)
+    last_digit(text, value, stop)
 }
 
 // Returns the number that the first sixteen digits from `at` on are, and where they end; 0 and `at` where there are fewer.

@@ -111,11 +111,9 @@ pub fn regenerate_grids(
     let grids = shape_grids(shape);
     let mut at = stamp;
     let mut level = 0;
-    let mut k = 0;
-    while k < grids {
+    for k in 0..grids {
         let p = grid + GRID_STRIDE * k;
         at = regenerate_grid(newest, stamps, p, at, shape, level, n);
         level = next_level(level, shape.levels);
-        k += 1;
     }
 }

@@ -23,8 +23,7 @@ pub fn history_at(textures: &[u64], tracked: usize, i: usize, id: u64) -> Record
     if !has_id(textures, tracked, i, id) {
         return Recorded::NoHistory;
     }
-    let t = texture_at(textures, i);
-    t.history
+    texture_at(textures, i).history
 }
 
 // Tells whether the shape has the subresource.
@@ -41,21 +40,7 @@ pub fn set_history(textures: &mut [u64], i: usize, history: Recorded)
         ≡ sets textures.old (texture_stride * i) (write_texture (recorded_as history (texture_in textures.old i))) }
 {
     let t = texture_at(textures, i);
-    let shape = t.shape;
-    let u = TextureRecord {
-        id: t.id,
-        shape,
-        epoch: t.epoch,
-        history,
-        birth: t.birth,
-        rename: t.rename,
-        due: t.due,
-        spares: t.spares,
-        bytes: t.bytes,
-        grid: t.grid,
-        stamp: t.stamp,
-    };
-    put_texture(textures, i, u);
+    put_texture(textures, i, TextureRecord { history, ..t });
 }
 
 // Stamps the grid of a subresource of texture i with n, where the rectangle touches a tile. The texture's grids stand slice by slice,

@@ -79,20 +79,12 @@ pub fn since_of(found: Found, held: Held) -> Since
 pub fn is_other(found: Found) -> bool
     ensures { result ≡ is_other found }
 {
-    match found {
-        Found::OtherShape => true,
-        Found::NothingRecorded => false,
-        Found::History { .. } => false,
-    }
+    matches!(found, Found::OtherShape)
 }
 
 // Tells whether the history's write count is spent.
 pub fn is_spent(found: Found) -> bool
     ensures { result ≡ is_spent found }
 {
-    match found {
-        Found::OtherShape => false,
-        Found::NothingRecorded => false,
-        Found::History { writes, .. } => LIMIT <= writes,
-    }
+    matches!(found, Found::History { writes, .. } if LIMIT <= writes)
 }

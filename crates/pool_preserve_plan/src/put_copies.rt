@@ -45,12 +45,10 @@ pub fn put_copies(
     let levels = shape.levels;
     let mut at = Subresource { slice: 0, level: 0 };
     let mut count = 0;
-    let mut k = 0;
-    while k < all {
+    for k in 0..all {
         let planned = copy_at(newest, stamps, shape, since, upload, at.slice, at.level, k);
         count = put_copy(buffer, count, planned, at.slice, at.level);
         at = next_subresource(at, levels);
-        k += 1;
     }
     count
 }

@@ -13,10 +13,11 @@ use pool_records::{SPARE_STRIDE, TextureRecord};
 fn renamed(t: TextureRecord, seq: u64, left: u64) -> TextureRecord
     ensures { result ≡ renamed_record seq left t }
 {
-    let mut u = t;
-    u.rename = seq;
-    u.spares = left;
-    u
+    TextureRecord {
+        rename: seq,
+        spares: left,
+        ..t
+    }
 }
 
 // Renames texture i and takes its newest spare, if it has one. The newest goes first, so that the oldest are left to age out when
@@ -43,17 +44,17 @@ pub fn take_newest(
     let left = t.spares - 1;
     let k = spares_before(textures, i) + left as usize;
     let spare = spare_at(spares, k);
-    let held = spare.held;
     put_texture(textures, i, renamed(t, seq, left));
     remove_records(spares, SPARE_STRIDE, pool.kept, k, 1);
-    let mut after = pool;
-    after.kept = pool.kept - 1;
-    after.parked = pool.parked - t.bytes;
     TakeAnswer {
-        pool: after,
+        pool: Pool {
+            kept: pool.kept - 1,
+            parked: pool.parked - t.bytes,
+            ..pool
+        },
         taken: Taken::Spare {
             view: spare.view,
-            held,
+            held: spare.held,
         },
     }
 }

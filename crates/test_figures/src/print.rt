@@ -2,8 +2,7 @@
 ghost use Rattle.std.specs.Prelude.{◌+◌, ◌≤◌, length};
 
 use base_digits::put_text;
-use libc::STDOUT_FILENO;
-use test_common::put_digits;
+use test_common::{STDOUT_FILENO, put_digits};
 
 // Puts a blank and a number, and returns where they end.
 fn put_value(out: &mut [u8], at: usize, value: u64) -> usize

@@ -7,9 +7,8 @@ ghost use Rattle.std.specs.Prelude.{◌+◌, ◌≤◌, ◌<◌, length, IfSome}
 
 use crate::answer::put_line;
 use crate::question::answer_of;
-use libc::STDOUT_FILENO;
 use std::io::Read;
-use test_common::part_end;
+use test_common::{STDOUT_FILENO, part_end};
 
 // What answering a block of input left: the line that starts at `from` is not whole yet, and `filled` bytes of answers
 // are not written yet.

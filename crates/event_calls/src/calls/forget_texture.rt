@@ -28,7 +28,9 @@ pub fn call_forget_texture(
     let said = pool_forget_texture::forget_texture(
         pool, book, textures, retiring, doomed, spares, newest, stamps, id,
     );
-    let answer = answer_done(said.outcome);
-    let pool = said.pool;
-    Called { pool, book, answer }
+    Called {
+        pool: said.pool,
+        book,
+        answer: answer_done(said.outcome),
+    }
 }

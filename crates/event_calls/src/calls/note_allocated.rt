@@ -28,8 +28,9 @@ pub fn call_note_allocated(
     let said = pool_note_allocated::note_allocated(
         pool, book, textures, retiring, doomed, spares, newest, stamps, allocated,
     );
-    let answer = answer_done(said.outcome);
-    let pool = said.pool;
-    let book = said.book;
-    Called { pool, book, answer }
+    Called {
+        pool: said.pool,
+        book: said.book,
+        answer: answer_done(said.outcome),
+    }
 }

@@ -28,7 +28,9 @@ pub fn call_note_mip_regeneration(
     let said = pool_note_write::note_mip_regeneration(
         pool, book, textures, retiring, doomed, spares, newest, stamps, id,
     );
-    let answer = answer_done(said.outcome);
-    let pool = said.pool;
-    Called { pool, book, answer }
+    Called {
+        pool: said.pool,
+        book,
+        answer: answer_done(said.outcome),
+    }
 }

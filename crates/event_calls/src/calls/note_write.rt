@@ -32,7 +32,9 @@ pub fn call_note_write(
     let said = pool_note_write::note_write(
         pool, book, textures, retiring, doomed, spares, newest, stamps, id, slice, level, rect,
     );
-    let answer = answer_done(said.outcome);
-    let pool = said.pool;
-    Called { pool, book, answer }
+    Called {
+        pool: said.pool,
+        book,
+        answer: answer_done(said.outcome),
+    }
 }

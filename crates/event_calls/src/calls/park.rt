@@ -29,7 +29,9 @@ pub fn call_park(
     let said = pool_park::park(
         pool, book, textures, retiring, doomed, spares, newest, stamps, failed, current,
     );
-    let answer = answer_done(said.outcome);
-    let pool = said.pool;
-    Called { pool, book, answer }
+    Called {
+        pool: said.pool,
+        book,
+        answer: answer_done(said.outcome),
+    }
 }

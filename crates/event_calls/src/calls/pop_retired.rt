@@ -28,8 +28,9 @@ pub fn call_pop_retired(
     let said = pool_retire::pop_retired(
         pool, book, textures, retiring, doomed, spares, newest, stamps, settled,
     );
-    let popped = said.popped;
-    let answer = answer_popped(popped);
-    let pool = said.pool;
-    Called { pool, book, answer }
+    Called {
+        pool: said.pool,
+        book,
+        answer: answer_popped(said.popped),
+    }
 }

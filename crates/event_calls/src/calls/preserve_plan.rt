@@ -38,6 +38,9 @@ pub fn call_preserve_plan(
         pool, book, textures, retiring, doomed, spares, newest, stamps, copies, id, shape, held,
         slice, level, cover,
     );
-    let answer = answer_planned(said);
-    Called { pool, book, answer }
+    Called {
+        pool,
+        book,
+        answer: answer_planned(said),
+    }
 }

@@ -30,7 +30,9 @@ pub fn call_retire(
     let said = pool_retire::retire(
         pool, book, textures, retiring, doomed, spares, newest, stamps, id, view, seq,
     );
-    let answer = answer_done(said.outcome);
-    let pool = said.pool;
-    Called { pool, book, answer }
+    Called {
+        pool: said.pool,
+        book,
+        answer: answer_done(said.outcome),
+    }
 }

@@ -29,9 +29,9 @@ pub fn call_take_doomed(
     let said = pool_take_doomed::take_doomed(
         pool, book, textures, retiring, doomed, spares, newest, stamps, views,
     );
-    let handed = said.handed;
-    let answer = answer_handed(handed);
-    let pool = said.pool;
-    let book = said.book;
-    Called { pool, book, answer }
+    Called {
+        pool: said.pool,
+        book: said.book,
+        answer: answer_handed(said.handed),
+    }
 }

@@ -32,8 +32,9 @@ pub fn call_take_spare(
     let said = pool_take_spare::take_spare(
         pool, book, textures, retiring, doomed, spares, newest, stamps, id, shape, records, seq,
     );
-    let taken = said.taken;
-    let answer = answer_taken(taken);
-    let pool = said.pool;
-    Called { pool, book, answer }
+    Called {
+        pool: said.pool,
+        book,
+        answer: answer_taken(said.taken),
+    }
 }

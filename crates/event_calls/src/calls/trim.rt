@@ -28,7 +28,9 @@ pub fn call_trim(
     let said = pool_trim::trim(
         pool, book, textures, retiring, doomed, spares, newest, stamps, current,
     );
-    let answer = answer_done(said.outcome);
-    let pool = said.pool;
-    Called { pool, book, answer }
+    Called {
+        pool: said.pool,
+        book,
+        answer: answer_done(said.outcome),
+    }
 }

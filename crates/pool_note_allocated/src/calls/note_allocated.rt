@@ -32,16 +32,6 @@ fn pressed_after(budget: VersionBudget, allocated: u64, pressed: bool) -> bool
     budget.line < allocated
 }
 
-// Returns the allocated bytes above the line.
-fn excess_over(line: u64, allocated: u64) -> u64
-    ensures { result ≡ allocated - line }
-{
-    if allocated < line {
-        return 0;
-    }
-    allocated - line
-}
-
 // Returns the book with the mark and the excess of `allocated` bytes.
 fn noted(pool: Pool, book: PacingBook, allocated: u64) -> PacingBook
     ensures { result ≡ noted_book pool book allocated }
@@ -50,10 +40,11 @@ fn noted(pool: Pool, book: PacingBook, allocated: u64) -> PacingBook
         cap: pool.cap,
         line: pool.line,
     };
-    let mut after = book;
-    after.pressed = pressed_after(budget, allocated, book.pressed == 1) as u64;
-    after.excess = excess_over(pool.line, allocated);
-    after
+    PacingBook {
+        pressed: pressed_after(budget, allocated, book.pressed == 1) as u64,
+        excess: allocated.saturating_sub(pool.line),
+        ..book
+    }
 }
 
 // Returns the counts when `kept` spares are left and `bytes` bytes went to the destroy queue.
@@ -63,13 +54,14 @@ fn counts_after(pool: Pool, kept: usize, bytes: u64) -> Pool
     ensures { result ≡ counts_relieved pool kept bytes }
 {
     let given = pool.kept - kept;
-    let mut after = pool;
-    after.kept = kept;
-    after.doomed = pool.doomed + given;
-    after.since = pool.since + given as u64;
-    after.parked = pool.parked - bytes;
-    after.dooming = pool.dooming + bytes;
-    after
+    Pool {
+        kept,
+        doomed: pool.doomed + given,
+        since: pool.since + given as u64,
+        parked: pool.parked - bytes,
+        dooming: pool.dooming + bytes,
+        ..pool
+    }
 }
 
 // Notes how many bytes the process has allocated. If what is queued for destruction does not cover the excess, spares are given up,
@@ -90,7 +82,7 @@ pub fn note_allocated(
         ≡ note_allocated_on (at_entry pool book textures.old retiring.now doomed.old spares.old newest.now stamps.now) allocated }
 {
     let after = noted(pool, book, allocated);
-    let excess = excess_over(pool.line, allocated);
+    let excess = allocated.saturating_sub(pool.line);
     if excess <= pool.dooming {
         return NotedAnswer {
             pool,

@@ -49,11 +49,12 @@ pub fn note_write(
             stamps: pool.stamps,
         };
         let still = drop_history(textures, newest, stamps, tracked, used, i);
-        let mut left = pool;
-        left.grids = still.grids;
-        left.stamps = still.stamps;
         return DoneAnswer {
-            pool: left,
+            pool: Pool {
+                grids: still.grids,
+                stamps: still.stamps,
+                ..pool
+            },
             outcome: 0,
         };
     }

@@ -94,9 +94,7 @@ fn retired_version(
 fn born_at(t: TextureRecord, seq: u64) -> TextureRecord
     ensures { result ≡ born_at seq t }
 {
-    let mut u = t;
-    u.birth = seq;
-    u
+    TextureRecord { birth: seq, ..t }
 }
 
 // Notes, of a tracked texture, that its live version became live in this submission: it replaces the one that retires.

@@ -76,10 +76,8 @@ fn clear_spares(textures: &mut [u64], n: usize)
     requires { texture_stride * n ≤ length textures.old }
     ensures { textures.new ≡ cleared n textures.old }
 {
-    let mut i = 0;
-    while i < n {
+    for i in 0..n {
         textures[TEXTURE_STRIDE * i + TEXTURE_SPARES_AT] = 0;
-        i += 1;
     }
 }
 
@@ -90,21 +88,14 @@ fn drained_counts(pool: Pool, places: usize) -> Pool
 {
     let first = ring_drop(places, pool.first, pool.doomed);
     Pool {
-        tracked: pool.tracked,
         kept: 0,
-        grids: pool.grids,
-        stamps: pool.stamps,
-        head: pool.head,
-        popped: pool.popped,
         queued: 0,
         first,
         doomed: 0,
         since: 0,
-        trackings: pool.trackings,
         parked: 0,
         dooming: 0,
-        cap: pool.cap,
-        line: pool.line,
+        ..pool
     }
 }
 
@@ -115,9 +106,7 @@ fn drained_book(book: PacingBook) -> PacingBook
 {
     PacingBook {
         arrivals: [0; DESTROY_SPREAD_DRAINS],
-        slot: book.slot,
-        pressed: book.pressed,
-        excess: book.excess,
+        ..book
     }
 }
 

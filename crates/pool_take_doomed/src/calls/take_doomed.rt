@@ -21,12 +21,13 @@ fn taken_counts(pool: Pool, places: usize, batch: Batch) -> Pool
     ensures { result ≡ taken_counts pool places batch.count batch.bytes }
 {
     let first = ring_drop(places, pool.first, batch.count);
-    let mut left = pool;
-    left.first = first;
-    left.doomed = pool.doomed - batch.count;
-    left.since = 0;
-    left.dooming = pool.dooming - batch.bytes;
-    left
+    Pool {
+        first,
+        doomed: pool.doomed - batch.count,
+        since: 0,
+        dooming: pool.dooming - batch.bytes,
+        ..pool
+    }
 }
 
 // Returns the pacing book once these arrivals are noted: the next slot, and no excess, since the batch has covered it.
@@ -37,8 +38,8 @@ fn taken_book(book: PacingBook, arrivals: [u64; DESTROY_SPREAD_DRAINS]) -> Pacin
     PacingBook {
         arrivals,
         slot: (book.slot + 1) % DESTROY_SPREAD_DRAINS,
-        pressed: book.pressed,
         excess: 0,
+        ..book
     }
 }
 

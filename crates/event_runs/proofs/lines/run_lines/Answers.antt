@@ -1,117 +1,44 @@
 -- `run_lines` meets its contract: what is left to run is, at every turn, what was to run at first. The measure is what is left of the input. Assumes nothing.
-use mathlib.Core.Path.{refl, ◌∙◌}
+use mathlib.Core.Path.{refl}
 use native.Mathlib.Omega.{arith}
+use Rattle.std.proofs.Common.{rules}
+use Rattle.event_sessions.proofs.Same.{same_on}
 use Rattle.event_runs.proofs.Runs.{end_of, event_of_lem, going_first, going_full, going_end, going_done, going_room, going_next}
 use Rattle.event_runs.proofs.lines.run_lines.Goals as goal
 
 pub loop-run-init : goal.loop-run-init
-loop-run-init c =
-    (going_first _ _ c.args.input.now _ _ refl refl refl c.requires.0, refl, refl, refl, refl, refl, refl, refl, refl)
-
-pub overflow_sub-size : goal.overflow_sub-size
-overflow_sub-size c = c.loop-run.invariant.0.filling
-
-pub slice_bounds-parse_first-count : goal.slice_bounds-parse_first-count
-slice_bounds-parse_first-count c = c.loop-run.invariant.0.inside
+loop-run-init c = record { going = going_first _ _ c.args.input.now _ _ refl refl refl c.requires.0; same = search rules }
 
 pub overflow_add-end : goal.overflow_add-end
 overflow_add-end c =
-    let i = c.loop-run.invariant in
-    let h = going_end _ _ _ _ i.7 i.8 c.args.input.now _ _ _ _ _ _ i.0 c.longest_answer-room.ensures c.loop-run-test.true (end_of c.args.input.now _ _ i.0.inside c.parse_first-parsed.ensures.1) refl in
+    let i = c.loop-run.invariant.going in
+    let k = c.loop-run.invariant.same in
+    let h = going_end _ _ _ _ k.copies_long k.views_long c.args.input.now _ _ _ _ _ _ i c.longest_answer-room.ensures c.loop-run-test.true (end_of c.args.input.now _ _ i.inside c.parse_first-parsed.ensures.1) refl in
     omega (arith, h)
 
-pub shape_of-textures-then-input-end : goal.shape_of-textures-then-input-end
-shape_of-textures-then-input-end c = c.loop-run.invariant.1
-
-pub shape_of-retiring-then-input-end : goal.shape_of-retiring-then-input-end
-shape_of-retiring-then-input-end c = c.loop-run.invariant.2
-
-pub shape_of-doomed-then-input-end : goal.shape_of-doomed-then-input-end
-shape_of-doomed-then-input-end c = c.loop-run.invariant.3
-
-pub shape_of-spares-then-input-end : goal.shape_of-spares-then-input-end
-shape_of-spares-then-input-end c = c.loop-run.invariant.4
-
-pub shape_of-newest-then-input-end : goal.shape_of-newest-then-input-end
-shape_of-newest-then-input-end c = c.loop-run.invariant.5
-
-pub shape_of-stamps-then-input-end : goal.shape_of-stamps-then-input-end
-shape_of-stamps-then-input-end c = c.loop-run.invariant.6
-
-pub shape_of-copies-then-input-end : goal.shape_of-copies-then-input-end
-shape_of-copies-then-input-end c = c.loop-run.invariant.7
-
-pub shape_of-views-then-input-end : goal.shape_of-views-then-input-end
-shape_of-views-then-input-end c = c.loop-run.invariant.8
-
-pub shape_of-out-then-input-end : goal.shape_of-out-then-input-end
-shape_of-out-then-input-end c = c.loop-run.invariant.0.sized
-
-pub returns-then-input-end : goal.returns-then-input-end
-returns-then-input-end c =
-    let i = c.loop-run.invariant in
-    (going_done _ _ _ _ i.7 i.8 c.args.input.now _ _ _ _ _ _ i.0 c.longest_answer-room.ensures c.loop-run-test.true (end_of c.args.input.now _ _ i.0.inside c.parse_first-parsed.ensures.1) refl c.if-input-end.true, i.0.filling)
-
-pub overflow_add-current : goal.overflow_add-current
-overflow_add-current c =
-    let i = c.loop-run.invariant in
-    omega (arith, c.requires.1, i.0.counted, i.0.inside)
-
-pub overflow_add-next : goal.overflow_add-next
-overflow_add-next c = omega (arith, c.if-input-end.false, c.requires.1)
+pub returns-then-input-end-clause-ran : goal.returns-then-input-end-clause-ran
+returns-then-input-end-clause-ran c =
+    let i = c.loop-run.invariant.going in
+    let k = c.loop-run.invariant.same in
+    going_done _ _ _ _ k.copies_long k.views_long c.args.input.now _ _ _ _ _ _ i c.longest_answer-room.ensures c.loop-run-test.true (end_of c.args.input.now _ _ i.inside c.parse_first-parsed.ensures.1) refl c.if-input-end.true
 
 pub run_line-ran-requires : goal.run_line-ran-requires
 run_line-ran-requires c =
-    let i = c.loop-run.invariant in
-    (i.0.pool, going_room _ _ _ _ i.7 i.8 c.args.input.now _ _ _ _ _ _ i.0 c.longest_answer-room.ensures c.loop-run-test.true (end_of c.args.input.now _ _ i.0.inside c.parse_first-parsed.ensures.1) refl)
-
-pub loop-run-smaller : goal.loop-run-smaller
-loop-run-smaller c = omega (arith, c.if-input-end.false)
+    let i = c.loop-run.invariant.going in
+    let k = c.loop-run.invariant.same in
+    (i.pool, going_room _ _ _ _ k.copies_long k.views_long c.args.input.now _ _ _ _ _ _ i c.longest_answer-room.ensures c.loop-run-test.true (end_of c.args.input.now _ _ i.inside c.parse_first-parsed.ensures.1) refl)
 
 pub loop-run-preserved : goal.loop-run-preserved
 loop-run-preserved c =
-    let i = c.loop-run.invariant in
+    let i = c.loop-run.invariant.going in
+    let k = c.loop-run.invariant.same in
     let r = c.run_line-ran in
-    let k = r.auto in (
-      going_next _ _ _ _ i.7 i.8 c.args.input.now _ _ _ _ _ _ i.0 c.longest_answer-room.ensures c.loop-run-test.true (end_of c.args.input.now _ _ i.0.inside c.parse_first-parsed.ensures.1) refl c.if-input-end.false _ (event_of_lem c.args.input.now _ _ i.0.inside c.parse_first-parsed.ensures.0) _ refl refl r.ensures,
-      k.textures ∙ i.1,
-      k.retiring ∙ i.2,
-      k.doomed ∙ i.3,
-      k.spares ∙ i.4,
-      k.newest ∙ i.5,
-      k.stamps ∙ i.6,
-      k.copies ∙ i.7,
-      k.views ∙ i.8,
-    )
+    record {
+      going = going_next _ _ _ _ k.copies_long k.views_long c.args.input.now _ _ _ _ _ _ i c.longest_answer-room.ensures c.loop-run-test.true (end_of c.args.input.now _ _ i.inside c.parse_first-parsed.ensures.1) refl c.if-input-end.false _ (event_of_lem c.args.input.now _ _ i.inside c.parse_first-parsed.ensures.0) _ refl refl r.ensures.ran;
+      same = same_on k r.ensures.same;
+    }
 
-pub shape_of-textures : goal.shape_of-textures
-shape_of-textures c = c.loop-run.invariant.1
-
-pub shape_of-retiring : goal.shape_of-retiring
-shape_of-retiring c = c.loop-run.invariant.2
-
-pub shape_of-doomed : goal.shape_of-doomed
-shape_of-doomed c = c.loop-run.invariant.3
-
-pub shape_of-spares : goal.shape_of-spares
-shape_of-spares c = c.loop-run.invariant.4
-
-pub shape_of-newest : goal.shape_of-newest
-shape_of-newest c = c.loop-run.invariant.5
-
-pub shape_of-stamps : goal.shape_of-stamps
-shape_of-stamps c = c.loop-run.invariant.6
-
-pub shape_of-copies : goal.shape_of-copies
-shape_of-copies c = c.loop-run.invariant.7
-
-pub shape_of-views : goal.shape_of-views
-shape_of-views c = c.loop-run.invariant.8
-
-pub shape_of-out : goal.shape_of-out
-shape_of-out c = c.loop-run.invariant.0.sized
-
-pub returns : goal.returns
-returns c =
-    let i = c.loop-run.invariant in
-    (going_full _ _ c.args.input.now _ _ _ _ i.0 c.longest_answer-room.ensures c.loop-run-test.false, i.0.filling)
+pub returns-clause-ran : goal.returns-clause-ran
+returns-clause-ran c =
+    let i = c.loop-run.invariant.going in
+    going_full _ _ c.args.input.now _ _ _ _ i c.longest_answer-room.ensures c.loop-run-test.false

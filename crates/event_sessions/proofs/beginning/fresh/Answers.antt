@@ -7,7 +7,7 @@ unfolding fresh_session
 returns c = λ i. record {
   opened = 0;
   taken = 0;
-  pool = c.opened_pool-pool.ensures i;
-  book = c.opened_book-book.ensures i;
-  shape = c.no_shape-shape.ensures i;
+  pool = c.opened_pool.ensures i;
+  book = c.opened_book.ensures i;
+  shape = c.no_shape.ensures i;
 }

@@ -1,5 +1,4 @@
 -- `answer_unopened` meets its contract. Assumes nothing.
-use borrow.Enum.Refused.{opened}
 use Rattle.event_sessions.proofs.Opened.{open_alone, none_alone}
 use Rattle.event_sessions.proofs.opening.answer_unopened.Goals as goal
 
@@ -9,5 +8,4 @@ returns-in-Open c =
     open_alone _ c.requires _ _ c.args.event _ c.in-Open.is m.ensures
 
 pub returns-in_default : goal.returns-in_default
-returns-in_default c =
-    none_alone _ c.requires c.args.event (opened c.in_default.in_default-own.keys2)
+returns-in_default c = none_alone _ c.requires c.args.event c.in_default.not-Open

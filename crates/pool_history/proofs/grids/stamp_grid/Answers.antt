@@ -16,19 +16,10 @@ module _ (c : After-stamp_count-count) where
       count_known c.args.shape c.requires.0 c.args.level c.across_at-across.result c.down_at-down.result
       c.across_at-across.ensures c.down_at-down.ensures c.stamp_count-count.result c.stamp_count-count.ensures
 
-pub across_at-across-requires : goal.across_at-across-requires
-across_at-across-requires c = (c.requires.1, c.requires.2)
-
-pub down_at-down-requires : goal.down_at-down-requires
-down_at-down-requires c = (c.requires.1, c.requires.2)
-
 pub stamp_count-count-requires : goal.stamp_count-count-requires
 stamp_count-count-requires c =
     let a = c.args in
     axes_ok a.shape c.requires.0 a.level c.across_at-across.result c.down_at-down.result c.across_at-across.ensures c.down_at-down.ensures
-
-pub overflow_add-end : goal.overflow_add-end
-overflow_add-end c = omega (arith, counted (goal.at.overflow_add-end c).After-stamp_count-count, c.requires.3)
 
 pub stamp-latest-requires : goal.stamp-latest-requires
 stamp-latest-requires c =

@@ -1,8 +1,5 @@
 -- `take_refusal` meets its contract, test by test. Assumes nothing.
-use mathlib.Core.Path.{sym, ◌∙◌}
-use native.Mathlib.Omega.{arith}
-use borrow.Author.Tests.{not-false}
-use Rattle.pool_take_spare.proofs.Said.{said_two, said_three, said_five, said_new, said_same, said_other, is_place, tracked_fits, own_begins, own_few}
+use Rattle.pool_take_spare.proofs.Said.{said_two, said_three, said_five, said_new, said_same, said_other}
 use Rattle.pool_take_spare.proofs.take_refusal.take_refusal.Goals as goal
 
 pub returns-then-not-is_shape : goal.returns-then-not-is_shape
@@ -11,40 +8,16 @@ returns-then-not-is_shape c = said_two _ _ _ _ _ _ c.args.records _ _ c.is_shape
 pub returns-then-seq-gt-LIMIT : goal.returns-then-seq-gt-LIMIT
 returns-then-seq-gt-LIMIT c = said_three _ _ _ _ _ _ c.args.records _ _ c.is_shape.ensures c.if-not-is_shape.false-raw c.if-seq-gt-LIMIT.true
 
-pub has_id-requires : goal.has_id-requires
-has_id-requires c = c.requires.there
-
 pub returns-then-textures-pool : goal.returns-then-textures-pool
 returns-then-textures-pool c = said_five _ _ _ _ _ _ c.args.records _ _ c.is_shape.ensures c.if-not-is_shape.false-raw c.if-seq-gt-LIMIT.false _ c.has_id.ensures c.if-not-has_id.true-raw c.if-textures-pool.true
-
-pub tracking_refusal-requires : goal.tracking_refusal-requires
-tracking_refusal-requires c =
-    let k = c.requires in
-    (sym c.is_shape.ensures ∙ not-false _ c.if-not-is_shape.false-raw, k.most, omega arith, k.used)
 
 pub returns-then-not-has_id : goal.returns-then-not-has_id
 returns-then-not-has_id c =
     let e = c.tracking_refusal.ensures in
     said_new _ _ _ _ _ _ c.args.records _ _ c.is_shape.ensures c.if-not-is_shape.false-raw c.if-seq-gt-LIMIT.false _ c.has_id.ensures c.if-not-has_id.true-raw c.if-textures-pool.false _ e.0 e.1
 
-pub texture_at-t-requires : goal.texture_at-t-requires
-texture_at-t-requires c = tracked_fits _ _ _ _ _ c.requires _ c.has_id.ensures c.if-not-has_id.false-raw
-
 pub returns-then-same_shape : goal.returns-then-same_shape
 returns-then-same_shape c = said_same _ _ _ _ _ _ c.args.records _ _ c.is_shape.ensures c.if-not-is_shape.false-raw c.if-seq-gt-LIMIT.false _ c.has_id.ensures c.if-not-has_id.false-raw _ c.texture_at-t.ensures _ c.same_shape.ensures c.if-same_shape.true
-
-pub stamp_end-requires : goal.stamp_end-requires
-stamp_end-requires c =
-    (c.requires.there, is_place _ _ _ _ _ c.requires _ c.has_id.ensures c.if-not-has_id.false-raw)
-
-pub overflow_sub-own : goal.overflow_sub-own
-overflow_sub-own c = own_begins _ _ _ _ _ c.requires _ c.has_id.ensures c.if-not-has_id.false-raw _ c.texture_at-t.ensures _ c.stamp_end.ensures
-
-pub tracking_refusal-requires-2 : goal.tracking_refusal-requires-2
-tracking_refusal-requires-2 c =
-    let k = c.requires in
-    let own = own_few _ _ _ _ _ k _ c.has_id.ensures c.if-not-has_id.false-raw _ c.texture_at-t.ensures _ c.stamp_end.ensures in
-    (sym c.is_shape.ensures ∙ not-false _ c.if-not-is_shape.false-raw, k.most, own, k.used)
 
 pub returns : goal.returns
 returns c =

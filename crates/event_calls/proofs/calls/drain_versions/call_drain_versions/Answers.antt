@@ -6,6 +6,6 @@ use Rattle.event_calls.proofs.calls.drain_versions.call_drain_versions.Goals as 
 pub returns : goal.returns
 returns c =
     let m = c.drain_versions-said in
-    let s = c.answer_handed-answer in
+    let s = c.answer_handed in
     let a = c.args in
     made_drain _ _ a.views.now _ (handed_told m.result.handed) _ s.ensures m.ensures

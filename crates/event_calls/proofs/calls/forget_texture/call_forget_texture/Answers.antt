@@ -6,6 +6,6 @@ use Rattle.event_calls.proofs.calls.forget_texture.call_forget_texture.Goals as 
 pub returns : goal.returns
 returns c =
     let m = c.forget_texture-said in
-    let s = c.answer_done-answer in
+    let s = c.answer_done in
     let a = c.args in
     made_forget _ _ (told_number m.result.outcome) _ s.ensures a.id m.ensures

@@ -6,6 +6,6 @@ use Rattle.event_calls.proofs.calls.note_allocated.call_note_allocated.Goals as 
 pub returns : goal.returns
 returns c =
     let m = c.note_allocated-said in
-    let s = c.answer_done-answer in
+    let s = c.answer_done in
     let a = c.args in
     made_note _ _ (told_number m.result.outcome) _ s.ensures a.allocated m.ensures

@@ -6,6 +6,6 @@ use Rattle.event_calls.proofs.calls.note_mip_regeneration.call_note_mip_regenera
 pub returns : goal.returns
 returns c =
     let m = c.note_mip_regeneration-said in
-    let s = c.answer_done-answer in
+    let s = c.answer_done in
     let a = c.args in
     made_regen _ _ (told_number m.result.outcome) _ s.ensures a.id m.ensures

@@ -6,6 +6,6 @@ use Rattle.event_calls.proofs.calls.note_write.call_note_write.Goals as goal
 pub returns : goal.returns
 returns c =
     let m = c.note_write-said in
-    let s = c.answer_done-answer in
+    let s = c.answer_done in
     let a = c.args in
     made_write _ _ (told_number m.result.outcome) _ s.ensures a.id a.slice a.level a.rect m.ensures

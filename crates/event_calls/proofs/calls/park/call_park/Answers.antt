@@ -6,6 +6,6 @@ use Rattle.event_calls.proofs.calls.park.call_park.Goals as goal
 pub returns : goal.returns
 returns c =
     let m = c.park-said in
-    let s = c.answer_done-answer in
+    let s = c.answer_done in
     let a = c.args in
     made_park _ _ (told_number m.result.outcome) _ s.ensures a.failed a.current m.ensures

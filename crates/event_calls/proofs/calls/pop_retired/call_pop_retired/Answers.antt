@@ -6,6 +6,6 @@ use Rattle.event_calls.proofs.calls.pop_retired.call_pop_retired.Goals as goal
 pub returns : goal.returns
 returns c =
     let m = c.pop_retired-said in
-    let s = c.answer_popped-answer in
+    let s = c.answer_popped in
     let a = c.args in
     made_pop _ _ (popped_told m.result.popped) a.settled m.ensures _ s.ensures

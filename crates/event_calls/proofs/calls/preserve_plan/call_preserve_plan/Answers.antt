@@ -6,6 +6,6 @@ use Rattle.event_calls.proofs.calls.preserve_plan.call_preserve_plan.Goals as go
 pub returns : goal.returns
 returns c =
     let m = c.preserve_plan-said in
-    let s = c.answer_planned-answer in
+    let s = c.answer_planned in
     let a = c.args in
     made_plan _ _ a.copies.now _ (planned_told m.result) a.id a.shape a.held (record { slice = a.slice; level = a.level; cover = a.cover }) m.ensures _ s.ensures

@@ -6,6 +6,6 @@ use Rattle.event_calls.proofs.calls.retire.call_retire.Goals as goal
 pub returns : goal.returns
 returns c =
     let m = c.retire-said in
-    let s = c.answer_done-answer in
+    let s = c.answer_done in
     let a = c.args in
     made_retire _ _ (told_number m.result.outcome) _ s.ensures a.id a.view a.seq m.ensures

@@ -6,6 +6,6 @@ use Rattle.event_calls.proofs.calls.take_doomed.call_take_doomed.Goals as goal
 pub returns : goal.returns
 returns c =
     let m = c.take_doomed-said in
-    let s = c.answer_handed-answer in
+    let s = c.answer_handed in
     let a = c.args in
     made_doomed _ _ a.views.now _ (handed_told m.result.handed) _ s.ensures m.ensures

@@ -6,6 +6,6 @@ use Rattle.event_calls.proofs.calls.trim.call_trim.Goals as goal
 pub returns : goal.returns
 returns c =
     let m = c.trim-said in
-    let s = c.answer_done-answer in
+    let s = c.answer_done in
     let a = c.args in
     made_trim _ _ (told_number m.result.outcome) _ s.ensures a.current m.ensures

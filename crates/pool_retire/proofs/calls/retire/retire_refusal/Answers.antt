@@ -8,9 +8,6 @@ returns-then-seq-gt-LIMIT c =
     let a = c.args in
     refused_late a.pool a.retiring.now a.places a.seq c.if-seq-gt-LIMIT.true
 
-pub ring_count-n-requires : goal.ring_count-n-requires
-ring_count-n-requires c = omega (arith, c.requires)
-
 pub returns-then-places-n : goal.returns-then-places-n
 returns-then-places-n c =
     let a = c.args in

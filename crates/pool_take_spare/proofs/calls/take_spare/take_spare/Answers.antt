@@ -43,6 +43,3 @@ renew_tracking-after-requires c =
     let look = c.look_up-look.ensures in
     let y = not-false _ c.if-not-look.false in
     (look_other _ _ _ _ _ _ c.requires look c.if-look-ne0.false c.if-look.false, look_tracked _ _ _ _ _ _ c.requires look y, sym (look.same y) ∙ c.if-look.false)
-
-pub returns : goal.returns
-returns c = c.renew_tracking-after.ensures
