@@ -41,16 +41,4 @@ retired_record true t id view seq = record {
 
 -- its live version became live in this submission
 abbrev pub born_at : ℕ → TextureRecord → TextureRecord
-born_at seq t = record {
-  id = t.id;
-  shape = t.shape;
-  epoch = t.epoch;
-  history = t.history;
-  birth = seq;
-  rename = t.rename;
-  due = t.due;
-  spares = t.spares;
-  bytes = t.bytes;
-  grid = t.grid;
-  stamp = t.stamp;
-}
+born_at seq t = record t { birth = seq }
