@@ -22,9 +22,8 @@ pub struct FeedState {
 pub fn begin() -> FeedState
     ensures { result ≡ record { session = fresh_session; number = 0; from = 0; held = 0; end = 0; filled = 0 } }
 {
-    let session = fresh();
     FeedState {
-        session,
+        session: fresh(),
         number: 0,
         from: 0,
         held: 0,

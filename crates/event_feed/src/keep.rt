@@ -5,17 +5,6 @@ ghost use Rattle.event_feed.specs.Places.{part};
 
 use crate::constants::KEPT_BYTES;
 
-// Returns how many bytes are kept of a line of which `bytes` have come.
-fn kept_bytes(bytes: usize) -> usize
-    ensures { result ≡ min bytes kept_bytes }
-{
-    if bytes < KEPT_BYTES {
-        bytes
-    } else {
-        KEPT_BYTES
-    }
-}
-
 // Moves the first bytes of the line from `from` to `end` to the front of the buffer, so that there is room to read the rest of it.
 // Returns how many they are.
 pub fn keep(buf: &mut [u8], from: usize, end: usize) -> usize
@@ -23,11 +12,7 @@ pub fn keep(buf: &mut [u8], from: usize, end: usize) -> usize
     ensures { (result ≡ min (end - from) kept_bytes)
         × (take result buf.new ≡ take kept_bytes (part from (end - from) buf.old)) }
 {
-    let kept = kept_bytes(end - from);
-    let mut i = 0;
-    while i < kept {
-        buf[i] = buf[from + i];
-        i += 1;
-    }
+    let kept = (end - from).min(KEPT_BYTES);
+    buf.copy_within(from..from + kept, 0);
     kept
 }

@@ -11,18 +11,15 @@ ghost use Rattle.pool_records.specs.Texture.{textures_in};
 ghost use Rattle.pool_records.specs.RecordConstants.{spare_stride, texture_stride};
 ghost use Rattle.pool_rules.specs.RuleConstants.{most_places};
 
-use base_tables::{insert_record, record_at};
-use pool_records::{
-    SPARE_STRIDE, SpareRecord, TEXTURE_SPARES_AT, TEXTURE_STRIDE, read_spare, spare_numbers,
-};
+use crate::records::{insert_at, read_at};
+use pool_records::{SpareRecord, TEXTURE_SPARES_AT, TEXTURE_STRIDE};
 
 // Returns record k.
 pub fn spare_at(s: &[u64], k: usize) -> SpareRecord
     requires { spare_stride * k + spare_stride ≤ length s.now }
     ensures { result ≡ record_at spare_stride read_spare s.now k }
 {
-    let part = record_at(s, SPARE_STRIDE, k);
-    read_spare(part)
+    read_at(s, k)
 }
 
 // Puts a record in before record k of the `n` that there are. Those from k on move up.
@@ -31,8 +28,7 @@ pub fn insert_spare(s: &mut [u64], n: usize, k: usize, x: SpareRecord)
     ensures { s.new
         ≡ sets (moved s.old (spare_stride * k + spare_stride) (spare_stride * k) (spare_stride * (n - k))) (spare_stride * k) (write_spare x) }
 {
-    let numbers = spare_numbers(x);
-    insert_record(s, SPARE_STRIDE, n, k, &numbers);
+    insert_at(s, n, k, x);
 }
 
 // Counts the spares of the first i textures, which is where those of texture i begin. It reads one number of each record.

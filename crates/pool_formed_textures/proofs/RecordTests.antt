@@ -21,7 +21,7 @@ use Rattle.pool_rules.specs.Model.{limit}
 use Rattle.pool_records.specs.declared.texture.TextureRecord.{TextureRecord}
 use Rattle.pool_records.specs.Texture.{read_texture, texture_in, record_spares, textures_in}
 use Rattle.pool_records.specs.Find.{id_of}
-use Rattle.pool_records.proofs.Codecs.{texture_codec}
+use Rattle.pool_records.specs.Codecs.{texture_codec}
 use Rattle.pool_memory.specs.IsPool.{bytes_hold}
 use Rattle.pool_memory.proofs.Runs.{bytes_held}
 use Rattle.pool_formed_textures.specs.Textures.{writes_fit, is_record}

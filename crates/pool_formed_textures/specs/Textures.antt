@@ -5,7 +5,7 @@ use Rattle.base_blocks.specs.Lists.{all, listed, total, ascending, tests}
 use Rattle.base_tables.specs.Records.{record_at}
 use Rattle.grid_shapes.specs.declared.shape.VersionShape.{VersionShape}
 use Rattle.grid_shapes.specs.Shapes.{is_shape}
-use Rattle.grid_axes.specs.declared.axis.Axis.{Axis}
+use Rattle.grid_stamps.specs.declared.grid.Tiling.{Tiling}
 use Rattle.grid_axes.specs.EdgeTables.{is_edge_table}
 use Rattle.grid_stamps.specs.Grids.{StampGrid, grid_in, tiling_of}
 use Rattle.pool_rules.specs.Model.{Spare, limit, grid_count}
@@ -53,9 +53,9 @@ own_grid s newest stamps k = grid_in (tiling_of s (k % s.levels)) (get_or newest
 unfoldable pub own_tiling : VersionShape → List ℕ → ℕ → Bool
 own_tiling s newest k = eqb (get_or newest (grid_stride * k + 1) 0) (tiling_number s k)
 
--- the tiling of a grid of so many columns and rows, whose stamps begin at `start`
-abbrev pub axes_tiling : ℕ → Axis → Axis → GridTiling
-axes_tiling start across down = record { start = start; across = across.edge; down = down.edge }
+-- what stands for a grid of this tiling, whose stamps begin at `start`
+abbrev pub axes_tiling : ℕ → Tiling → GridTiling
+axes_tiling start g = record { start = start; across = g.across.edge; down = g.down.edge }
 
 -- they are as many as the shape has, every grid passes, and so does what stands beside its newest stamp
 unfoldable pub grids_fit : VersionShape → ℕ → List ℕ → List ℕ → Bool

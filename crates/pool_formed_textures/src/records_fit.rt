@@ -10,7 +10,7 @@ ghost use Rattle.pool_rules.specs.RuleConstants.{most_places};
 
 use base_tables::record_at;
 use grid_shapes::{is_shape, shape_bytes};
-use pool_records::{TEXTURE_BYTES_AT, TEXTURE_SPARES_AT, TEXTURE_STRIDE, read_texture};
+use pool_records::{Record, TEXTURE_BYTES_AT, TEXTURE_SPARES_AT, TEXTURE_STRIDE, TextureRecord};
 use pool_rules::LIMIT;
 
 // Tests that the ids of the first n records ascend.
@@ -41,7 +41,7 @@ fn is_record(p: &[u64]) -> bool
     requires { texture_stride ≤ length p.now }
     ensures { result ≡ is_record (read_texture p.now) }
 {
-    let t = read_texture(p);
+    let t = TextureRecord::read(p);
     let shape = t.shape;
     let history = t.history;
     if !is_shape(shape) {

@@ -69,15 +69,6 @@ module _ (pool : Counts) (textures newest stamps : List ℕ) (new : NewTracking)
       let sta = e5 ∙ ap (λ (a : First). zeros_put stamps pool.stamps a.stamp new.stamps) e1 in
       λ j. (one_tracked pool (e2 j) new.stamps, (tex j, (newe j, sta j)))
 
-  -- the starts behind it can be moved
-  pub moves_as : StartFits pool textures newest stamps new → (first : First) (fresh : ℕ) → first ≡ first_at pool textures new.place
-      → fresh ≡ fresh_grids new.shape new.records
-      → StartsMove (more_by fresh) (more_by new.stamps) (new.place + 1) (pool.tracked + 1) (record_started textures pool.tracked new (pool.trackings + 1) first)
-  moves_as k first fresh e1 e2 =
-      subst (λ (n : ℕ). StartsMove (more_by n) (more_by new.stamps) (new.place + 1) (pool.tracked + 1) (record_started textures pool.tracked new (pool.trackings + 1) first)) (sym e2)
-      (subst (λ (a : First). StartsMove (more_by (fresh_grids new.shape new.records)) (more_by new.stamps) (new.place + 1) (pool.tracked + 1) (record_started textures pool.tracked new (pool.trackings + 1) a)) (sym e1)
-      k.moves)
-
 -- ---- the rule
 
 module _ (l : Lent) (new : NewTracking) (ok : Begins l new) (untracked : TrackedAt l new.place new.id → ⊥) where

@@ -15,10 +15,6 @@ returns-then-held-eq0 c =
     let a = c.args in
     none_held a.from a.held a.end a.buf.now c.requires.0 c.requires.1 c.if-from-held.false (omega (arith, c.if-held-eq0.true))
 
-pub bounds-buf-end : goal.bounds-buf-end
-bounds-buf-end c =
-    c.requires.2 (omega (arith, c.requires.0, c.if-from-held.false))
-
 pub returns : goal.returns
 returns c =
     let a = c.args in

@@ -11,18 +11,6 @@ use Rattle.grid_axes.proofs.axis.span_size.Goals.{Start}
 fits : (c : Start) → SpanFits c.args.a c.args.s
 fits c = span_fits c.args.a c.args.s c.requires.0 c.requires.1
 
-pub overflow_mul-start : goal.overflow_mul-start
-overflow_mul-start c =
-    omega (arith, (fits (goal.at.overflow_mul-start c).Start).low, c.requires.0.extent)
-
-pub overflow_add-end : goal.overflow_add-end
-overflow_add-end c =
-    omega (arith, c.requires.0.tiles, c.requires.1.inside)
-
-pub overflow_mul-end : goal.overflow_mul-end
-overflow_mul-end c =
-    omega (arith, (fits (goal.at.overflow_mul-end c).Start).high, c.requires.0.extent, c.requires.0.narrow)
-
 pub overflow_sub-result : goal.overflow_sub-result
 overflow_sub-result c =
     let f = fits (goal.at.overflow_sub-result c).Start in

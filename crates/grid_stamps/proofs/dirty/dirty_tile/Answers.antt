@@ -1,12 +1,9 @@
 -- Some dirty tile, or none if none is. Assumes nothing.
 use mathlib.Core.Path.{◌≡◌, ap₂}
-use Prim.Native.Nat.{◌*◌, ◌≤◌}
+use Prim.Native.Nat.{◌*◌}
 use native.Mathlib.Omega.{arith}
-use borrow.Author.Count.{below_more}
 use Rattle.grid_stamps.specs.Grids.{columns_of, rows_of, stamp_count}
 use Rattle.grid_stamps.proofs.Boxes.{dirty_found, dirty_none}
-use Rattle.grid_stamps.proofs.Tilings.{count_bound}
-use Rattle.grid_stamps.specs.StampConstants.{page_stamps}
 use Rattle.grid_stamps.proofs.dirty.dirty_tile.Goals as goal
 use Rattle.grid_stamps.proofs.dirty.dirty_tile.Goals.{After-tiles}
 
@@ -20,22 +17,6 @@ module _ (c : After-tiles) where
   unfolding stamp_count columns_of rows_of
   many = ap₂ (λ m n. m * n) c.tiles-columns.ensures c.tiles.ensures
 
-  bound : stamp_count c.args.tiling ≤ page_stamps
-  bound = count_bound c.args.tiling c.requires.0
-
-pub tiles-columns-requires : goal.tiles-columns-requires
-tiles-columns-requires c = c.requires.0.across
-
-pub tiles-requires : goal.tiles-requires
-tiles-requires c = c.requires.0.down
-
-pub overflow_mul-count : goal.overflow_mul-count
-overflow_mul-count c = omega (arith, many (goal.at.overflow_mul-count c).After-tiles, bound (goal.at.overflow_mul-count c).After-tiles)
-
-pub offset_bounds-page-k : goal.offset_bounds-page-k
-offset_bounds-page-k c =
-    omega (arith, many (goal.at.offset_bounds-page-k c).After-tiles, bound (goal.at.offset_bounds-page-k c).After-tiles, c.loop-k-test.true)
-
 pub bounds-page-k : goal.bounds-page-k
 bounds-page-k c =
     omega (arith, many (goal.at.bounds-page-k c).After-tiles, c.loop-k-test.true, c.requires.1)
@@ -43,9 +24,6 @@ bounds-page-k c =
 pub returns-then-held-page : goal.returns-then-held-page
 returns-then-held-page c =
     dirty_found c.args.tiling c.args.held c.args.page.now _ _ (wide (goal.at.returns-then-held-page c).After-tiles) (many (goal.at.returns-then-held-page c).After-tiles) c.loop-k.k c.loop-k-test.true c.if-held-page.true
-
-pub loop-k-preserved : goal.loop-k-preserved
-loop-k-preserved c = below_more _ _ c.loop-k.invariant c.if-held-page.false
 
 pub returns : goal.returns
 returns c =

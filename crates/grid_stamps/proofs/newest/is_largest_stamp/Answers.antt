@@ -8,12 +8,6 @@ use Rattle.base_blocks.proofs.Scans.{largest_test}
 use Rattle.grid_stamps.specs.Grids.{stamp_count, largest_stamp}
 use Rattle.grid_stamps.proofs.newest.is_largest_stamp.Goals as goal
 
-pub stamp_count-count-requires : goal.stamp_count-count-requires
-stamp_count-count-requires c = c.requires.0
-
-pub slice_bounds-within-end : goal.slice_bounds-within-end
-slice_bounds-within-end c = sym (length-take-le _ _ (omega (arith, c.stamp_count-count.ensures, c.requires.1)))
-
 pub returns-then-not-within : goal.returns-then-not-within
 unfolding largest_stamp
 returns-then-not-within c =
@@ -21,10 +15,6 @@ returns-then-not-within c =
     let w = rw n at c.within.ensures in
     let l = length-take-le (stamp_count c.args.tiling) c.args.page.now c.requires.1 in
     sym (largest_test c.args.newest (take (stamp_count c.args.tiling) c.args.page.now) (omega (arith, l, c.requires.2)) ∙ rw (sym w ∙ not-true _ c.if-not-within.true-raw))
-
-pub slice_bounds-contains-end : goal.slice_bounds-contains-end
-slice_bounds-contains-end c =
-    sym (length-take-le _ _ (omega (arith, c.stamp_count-count.ensures, c.requires.1)))
 
 pub returns : goal.returns
 unfolding largest_stamp

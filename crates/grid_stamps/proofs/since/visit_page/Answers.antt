@@ -22,15 +22,6 @@ loop-row-init c =
     let a = c.args in
     ap (all_joined nothing_seen) (rows_all a.columns a.rows a.held a.page.now)
 
-pub overflow_mul-start : goal.overflow_mul-start
-overflow_mul-start c = omega (arith, run (goal.at.overflow_mul-start c).In-loop-row)
-
-pub overflow_add-end : goal.overflow_add-end
-overflow_add-end c = omega (arith, run (goal.at.overflow_add-end c).In-loop-row)
-
-pub offset_bounds-page-start : goal.offset_bounds-page-start
-offset_bounds-page-start c = omega (arith, run (goal.at.offset_bounds-page-start c).In-loop-row, c.well_formed)
-
 pub loop-row-preserved : goal.loop-row-preserved
 loop-row-preserved c =
     let a = c.args in

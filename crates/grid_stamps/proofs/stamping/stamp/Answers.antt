@@ -36,9 +36,6 @@ tiles-is : (c : After-tiles) → c.tiles.result ≡ columns_of c.args.tiling
 unfolding columns_of
 tiles-is c = c.tiles.ensures
 
-pub touched_tiles-requires : goal.touched_tiles-requires
-touched_tiles-requires c = c.requires.0.across
-
 -- no tile across: the cut is empty
 pub returns-in_default : goal.returns-in_default
 unfolding is_cut_rect
@@ -49,9 +46,6 @@ returns-in_default c =
       sym (newest_kept c.args.tiling c.requires.0 a.rect a.n a.newest a.page.now c.requires.1 f),
       sym (page_kept c.args.tiling c.requires.0 a.rect a.n a.newest a.page.now c.requires.1 f),
     )
-
-pub touched_tiles-requires-2 : goal.touched_tiles-requires-2
-touched_tiles-requires-2 c = c.requires.0.down
 
 -- no tile down: the cut is empty
 pub returns-in_default-touched_tiles : goal.returns-in_default-touched_tiles
@@ -64,9 +58,6 @@ returns-in_default-touched_tiles c =
       sym (newest_kept c.args.tiling c.requires.0 a.rect a.n a.newest a.page.now c.requires.1 f),
       sym (page_kept c.args.tiling c.requires.0 a.rect a.n a.newest a.page.now c.requires.1 f),
     )
-
-pub tiles-requires : goal.tiles-requires
-tiles-requires c = c.requires.0.across
 
 pub stamp_tiles-requires : goal.stamp_tiles-requires
 stamp_tiles-requires c = rw (tiles-is (goal.at.stamp_tiles-requires c).After-tiles) (room (goal.at.stamp_tiles-requires c).In-Some-touched_tiles)

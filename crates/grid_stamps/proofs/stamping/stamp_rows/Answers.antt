@@ -1,7 +1,6 @@
 -- Rows of stamps, one after the other. Assumes nothing.
-use mathlib.Core.Path.{refl, sym, ap, ◌∙◌}
+use mathlib.Core.Path.{sym, ap, ◌∙◌}
 use Prim.Native.Nat.{◌+◌, ◌-◌, ◌*◌, ◌≤◌}
-use native.Mathlib.Omega.{arith}
 use Rattle.grid_stamps.specs.Scans.{rows_stamped}
 use Rattle.grid_stamps.proofs.Rows.{row_within, rows_next, rows_done}
 use Rattle.grid_stamps.proofs.stamping.stamp_rows.Goals as goal
@@ -13,18 +12,6 @@ run : (c : In-loop-row)
     ≤ c.args.bottom * c.args.columns
 run c =
     row_within c.args.columns c.args.left c.args.width c.loop-row.row c.args.bottom c.requires.0 c.loop-row-test.true
-
-pub loop-row-init : goal.loop-row-init
-loop-row-init c = (refl, refl)
-
-pub overflow_mul-row : goal.overflow_mul-row
-overflow_mul-row c = omega (arith, run (goal.at.overflow_mul-row c).In-loop-row, c.requires.1)
-
-pub overflow_add-row : goal.overflow_add-row
-overflow_add-row c = omega (arith, run (goal.at.overflow_add-row c).In-loop-row, c.requires.1)
-
-pub fill-requires : goal.fill-requires
-fill-requires c = omega (arith, run (goal.at.fill-requires c).In-loop-row, c.requires.1, c.loop-row.invariant.0)
 
 pub loop-row-preserved : goal.loop-row-preserved
 loop-row-preserved c =

@@ -40,9 +40,6 @@ relieve_texture-step-requires c =
     let p = c.loop-i.invariant a.book f in
     turn_needs l a.excess a.line f c.requires.1 p (omega arith)
 
-pub overflow_sub-kept : goal.overflow_sub-kept
-overflow_sub-kept c = c.relieve_texture-step.ensures.1
-
 pub overflow_add-kept : goal.overflow_add-kept
 overflow_add-kept c =
     let a = c.args in
@@ -73,12 +70,6 @@ overflow_add-bytes c =
     let q = progress_turn l a.excess a.line f c.requires.1 p (omega arith) e.0 e.2 e.3 e.4 e.5 e.6 e.7 r.auto.textures r.auto.doomed r.auto.spares in
     omega (arith, q.given, given_fits l f a.excess (c.loop-i.i + 1), c.struct_known-1.given)
 
-pub overflow_add-i : goal.overflow_add-i
-overflow_add-i c = omega (arith, (omega arith), c.struct_known-1.given)
-
-pub loop-i-smaller : goal.loop-i-smaller
-loop-i-smaller c = omega (arith, (omega arith))
-
 pub loop-i-preserved : goal.loop-i-preserved
 unfolding version_places
 loop-i-preserved c book f =
@@ -87,30 +78,6 @@ loop-i-preserved c book f =
     let r = c.relieve_texture-step in
     let e = r.ensures in
     progress_turn l a.excess a.line f c.requires.1 (c.loop-i.invariant book f) (omega arith) e.0 e.2 e.3 e.4 e.5 e.6 e.7 r.auto.textures r.auto.doomed r.auto.spares
-
-pub shape_of-textures : goal.shape_of-textures
-shape_of-textures c =
-    let a = c.args in
-    let l = lent a.pool a.book a.textures.now a.retiring.now a.doomed.now a.spares.now a.newest.now a.stamps.now in
-    let f = pool_fits l c.requires.0 in
-    let p = c.loop-i.invariant a.book f in
-    p.textured
-
-pub shape_of-doomed : goal.shape_of-doomed
-shape_of-doomed c =
-    let a = c.args in
-    let l = lent a.pool a.book a.textures.now a.retiring.now a.doomed.now a.spares.now a.newest.now a.stamps.now in
-    let f = pool_fits l c.requires.0 in
-    let p = c.loop-i.invariant a.book f in
-    p.ringed
-
-pub shape_of-spares : goal.shape_of-spares
-shape_of-spares c =
-    let a = c.args in
-    let l = lent a.pool a.book a.textures.now a.retiring.now a.doomed.now a.spares.now a.newest.now a.stamps.now in
-    let f = pool_fits l c.requires.0 in
-    let p = c.loop-i.invariant a.book f in
-    p.run
 
 pub returns : goal.returns
 returns c =

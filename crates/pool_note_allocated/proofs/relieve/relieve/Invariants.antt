@@ -1,6 +1,5 @@
 -- `relieve` meets its contract: each turn one more texture has given what was picked of it. The book is no part of the loop, so the invariant is said
 -- of any. Assumes nothing.
-use Prim.Native.Nat.{◌-◌}
 use Rattle.pool_memory.specs.declared.book.PacingBook.{PacingBook}
 use Rattle.pool_memory.specs.Lent.{lent}
 use Rattle.pool_memory.proofs.Fits.{Fits}

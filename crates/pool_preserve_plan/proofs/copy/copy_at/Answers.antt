@@ -70,26 +70,11 @@ returns-in_default c =
     let a = c.args in
     sym (planned_unknown a.newest.now a.stamps.now a.shape a.since (footprint a.upload) a.slice a.level c.if-covered.false c.in_default.is)
 
-pub overflow_mul-p : goal.overflow_mul-p
-overflow_mul-p c = omega (arith, (there (goal.at.overflow_mul-p c).In-After).numbers)
-
-pub overflow_add-p : goal.overflow_add-p
-overflow_add-p c = omega (arith, (there (goal.at.overflow_add-p c).In-After).numbers)
-
-pub offset_bounds-newest-p : goal.offset_bounds-newest-p
-offset_bounds-newest-p c = omega (arith, (there (goal.at.offset_bounds-newest-p c).In-After).numbers)
-
-pub bounds-newest-p : goal.bounds-newest-p
-bounds-newest-p c = omega (arith, (there (goal.at.bounds-newest-p c).In-After).numbers)
-
 pub returns-then-newest-p : goal.returns-then-newest-p
 returns-then-newest-p c =
     let a = c.args in
     sym (planned_held a.newest.now a.stamps.now a.shape a.since (footprint a.upload) a.slice a.level c.if-covered.false
     (grid (goal.at.returns-then-newest-p c).In-After) (stamp (goal.at.returns-then-newest-p c).In-After) _ a.k c.in-After.is c.requires.4 c.if-newest-p.true)
-
-pub start_at-requires : goal.start_at-requires
-start_at-requires c = omega (arith, (there (goal.at.start_at-requires c).In-After).numbers)
 
 pub overflow_add-start : goal.overflow_add-start
 overflow_add-start c = omega (arith, room (goal.at.overflow_add-start c).After-start_at)
@@ -112,12 +97,6 @@ offset_bounds-stamps-start c = omega (arith, room (goal.at.offset_bounds-stamps-
 
 pub slice_bounds-written_since-end : goal.slice_bounds-written_since-end
 slice_bounds-written_since-end c = omega (arith, counted (goal.at.slice_bounds-written_since-end c).After-stamp_count, room (goal.at.slice_bounds-written_since-end c).After-start_at)
-
-pub offset_bounds-newest-p-2 : goal.offset_bounds-newest-p-2
-offset_bounds-newest-p-2 c = omega (arith, (there (goal.at.offset_bounds-newest-p-2 c).In-After).numbers)
-
-pub bounds-newest-p-2 : goal.bounds-newest-p-2
-bounds-newest-p-2 c = omega (arith, (there (goal.at.bounds-newest-p-2 c).In-After).numbers)
 
 pub written_since-dirty-requires : goal.written_since-dirty-requires
 written_since-dirty-requires c =

@@ -1,5 +1,5 @@
 -- `count_copies` meets its contract: one subresource after the other. Assumes nothing.
-use mathlib.Core.Path.{◌≡◌, sym, ap, ◌∙◌}
+use mathlib.Core.Path.{◌≡◌, ap, ◌∙◌}
 use mathlib.Core.List.{List}
 use Prim.Native.Nat.{ℕ, ◌+◌, ◌≤◌, ◌<◌}
 use native.Mathlib.Omega.{arith}
@@ -47,15 +47,6 @@ loop-k-init c =
       first_place a.shape.levels (shape_bounds a.shape c.requires.0).levels_pos,
       omega (arith, ap length (lent_all a.newest.now a.stamps.now a.shape a.since (footprint a.upload) c.shape_grids-all.result c.shape_grids-all.ensures)),
     )
-
-pub copy_at-planned-requires : goal.copy_at-planned-requires
-copy_at-planned-requires c =
-    let at = c.loop-k.invariant.1 in
-    (c.requires.0, c.requires.1, within (goal.at.copy_at-planned-requires c).In-loop-k, at.inside, sym at.place)
-
-pub overflow_add-count : goal.overflow_add-count
-overflow_add-count c =
-    omega (arith, c.loop-k.invariant.0, within (goal.at.overflow_add-count c).In-loop-k, grids_most c.args.shape c.requires.0, c.copy_count-count.ensures.0)
 
 pub next_subresource-at-requires : goal.next_subresource-at-requires
 next_subresource-at-requires c = (most (goal.at.next_subresource-at-requires c).In-loop-k, c.loop-k.invariant.1.inside)

@@ -2,7 +2,6 @@
 use mathlib.Core.Path.{◌≡◌, sym, ◌∙◌}
 use mathlib.Core.Bool.{true}
 use Prim.Native.Nat.{ℕ, ◌<◌}
-use native.Mathlib.Omega.{arith}
 use borrow.Author.Tests.{not-true, not-false}
 use Rattle.pool_records.specs.declared.recorded.Recorded.TheVariants.{Writes, NoHistory}
 use Rattle.pool_access.proofs.Ids as ids
@@ -28,10 +27,6 @@ pub returns-then-not-has_id : goal.returns-then-not-has_id
 returns-then-not-has_id c =
     let a = c.args in
     sym (found_none a.textures.now a.tracked a.id a.shape (at (goal.at.returns-then-not-has_id c).After-has_id) (sym c.has_id.ensures ∙ not-true _ c.if-not-has_id.true-raw)) ∙ placed (goal.at.returns-then-not-has_id c).After-has_id
-
-pub texture_at-t-requires : goal.texture_at-t-requires
-texture_at-t-requires c =
-    omega (arith, c.requires.0, within (goal.at.texture_at-t-requires c).After-has_id (sym c.has_id.ensures ∙ not-false _ c.if-not-has_id.false-raw))
 
 pub returns-then-not-same_shape : goal.returns-then-not-same_shape
 returns-then-not-same_shape c =

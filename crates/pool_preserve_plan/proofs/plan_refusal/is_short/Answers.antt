@@ -1,7 +1,6 @@
 -- `is_short` meets its contract. Assumes nothing.
-use mathlib.Core.Path.{sym, ap}
+use mathlib.Core.Path.{sym}
 use native.Mathlib.Omega.{arith}
-use lib.Dec.{ltb}
 use Rattle.pool_rules.proofs.HistorySizes.{grids_most}
 use Rattle.pool_preserve_plan.specs.Copies.{footprint}
 use Rattle.pool_preserve_plan.proofs.Refusals.{room_for_all}
@@ -14,6 +13,3 @@ pub returns-then-shape_grids-room : goal.returns-then-shape_grids-room
 returns-then-shape_grids-room c =
     let a = c.args in
     sym (room_for_all a.newest.now a.stamps.now a.shape a.since (footprint a.upload) c.shape_grids.result a.room c.shape_grids.ensures c.if-shape_grids-room.true)
-
-pub returns : goal.returns
-returns c = ap (ltb c.args.room) c.count_copies.ensures

@@ -35,9 +35,6 @@ returns-then-is_other c =
     sym (refusal_other a.shape a.found (footprint a.upload) (copy_count (goal.at.returns-then-is_other c).Start) a.room
     (sym c.is_shape.ensures ∙ not-false _ c.if-not-is_shape.false-raw) (sym c.is_other.ensures ∙ c.if-is_other.true))
 
-pub is_short-short-requires : goal.is_short-short-requires
-is_short-short-requires c = (shaped (goal.at.is_short-short-requires c).Else-is_other, c.requires)
-
 pub returns-then-short : goal.returns-then-short
 returns-then-short c =
     let a = c.args in

@@ -1,5 +1,5 @@
 -- `put_copies` meets its contract: one subresource after the other. Assumes nothing.
-use mathlib.Core.Path.{◌≡◌, sym, ap, ap₂, ◌∙◌}
+use mathlib.Core.Path.{◌≡◌, ap, ap₂, ◌∙◌}
 use mathlib.Core.List.{List}
 use Prim.Native.Nat.{ℕ, ◌+◌, ◌*◌, ◌≤◌, ◌<◌}
 use native.Mathlib.Omega.{arith}
@@ -57,11 +57,6 @@ loop-k-init c =
       omega (arith, ap length e),
       ap (λ cs. with_copies 0 cs a.buffer.now) e,
     )
-
-pub copy_at-planned-requires : goal.copy_at-planned-requires
-copy_at-planned-requires c =
-    let at = c.loop-k.invariant.0 in
-    (c.requires.0, c.requires.1, within (goal.at.copy_at-planned-requires c).In-loop-k, at.inside, sym at.place)
 
 pub put_copy-count-requires : goal.put_copy-count-requires
 put_copy-count-requires c = room (goal.at.put_copy-count-requires c).After-copy_at-planned

@@ -18,15 +18,6 @@ finish-to-requires c =
       λ z. omega (arith, p.placed.space (omega arith), p.large, z),
     )
 
-pub slice_bounds-run_lines-count : goal.slice_bounds-run_lines-count
-slice_bounds-run_lines-count c =
-    omega (arith, c.finish-to.ensures.least)
-
-pub slice_bounds-run_lines-end : goal.slice_bounds-run_lines-end
-slice_bounds-run_lines-end c =
-    let k = c.finish-to in
-    omega (arith, k.ensures.within, k.auto.buf)
-
 pub run_lines-run-requires : goal.run_lines-run-requires
 run_lines-run-requires c =
     let k = c.finish-to in
@@ -39,49 +30,23 @@ rest_of-place-requires c =
     let k = c.finish-to in
     let r = c.run_lines-run in
     let w : k.result ≤ length k.new.buf = omega (arith, k.ensures.within, k.auto.buf) in (
-      ran_within _ _ _ _ b.from b.held k.result k.new.buf k.new.buf _ k.ensures.least w _ r.ensures.0,
+      ran_within _ _ _ _ b.from b.held k.result k.new.buf k.new.buf _ k.ensures.least w _ r.ensures.ran,
       w,
       omega (arith, c.requires.large, k.auto.buf),
     )
 
-pub shape_of-buf : goal.shape_of-buf
-shape_of-buf c = c.rest_of-place.auto.buf ∙ c.finish-to.auto.buf
-
-pub shape_of-textures : goal.shape_of-textures
-shape_of-textures c = c.run_lines-run.auto.textures
-
-pub shape_of-retiring : goal.shape_of-retiring
-shape_of-retiring c = c.run_lines-run.auto.retiring
-
-pub shape_of-doomed : goal.shape_of-doomed
-shape_of-doomed c = c.run_lines-run.auto.doomed
-
-pub shape_of-spares : goal.shape_of-spares
-shape_of-spares c = c.run_lines-run.auto.spares
-
-pub shape_of-newest : goal.shape_of-newest
-shape_of-newest c = c.run_lines-run.auto.newest
-
-pub shape_of-stamps : goal.shape_of-stamps
-shape_of-stamps c = c.run_lines-run.auto.stamps
-
-pub shape_of-copies : goal.shape_of-copies
-shape_of-copies c = c.run_lines-run.auto.copies
-
-pub shape_of-views : goal.shape_of-views
-shape_of-views c = c.run_lines-run.auto.views
-
-pub shape_of-out : goal.shape_of-out
-shape_of-out c = c.run_lines-run.auto.out
-
-pub returns : goal.returns
-returns c =
+pub returns-clause-turn : goal.returns-clause-turn
+returns-clause-turn c =
     let b = c.args.before in
     let k = c.finish-to in
     let r = c.run_lines-run in
     let z = c.rest_of-place.ensures in
-    let w : k.result ≤ length k.new.buf = omega (arith, k.ensures.within, k.auto.buf) in (
-      turn_from _ _ _ _ b.from b.held _ k.result c.args.buf.now k.new.buf k.ensures _ _ _ _ _
-          (turn _ _ _ _ b.from b.held k.result k.new.buf _ _ k.ensures.least w (ap whole_lines k.ensures.line ∙ c.requires.plain) c.requires.room _ r.ensures.0 r.ensures.1 _ z),
-      record { inside = z.inside; within = omega (arith, z.within, k.auto.buf); space = z.space },
-    )
+    let w : k.result ≤ length k.new.buf = omega (arith, k.ensures.within, k.auto.buf) in
+    turn_from _ _ _ _ b.from b.held _ k.result c.args.buf.now k.new.buf k.ensures _ _ _ _ _
+    (turn _ _ _ _ b.from b.held k.result k.new.buf _ _ k.ensures.least w (ap whole_lines k.ensures.line ∙ c.requires.plain) c.requires.room _ r.ensures.ran r.ensures.filled _ z)
+
+pub returns-clause-placed : goal.returns-clause-placed
+returns-clause-placed c =
+    let k = c.finish-to in
+    let z = c.rest_of-place.ensures in
+    record { inside = z.inside; within = omega (arith, z.within, k.auto.buf); space = z.space }

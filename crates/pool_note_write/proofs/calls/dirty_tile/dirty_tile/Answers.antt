@@ -4,7 +4,7 @@ use Prim.Native.Nat.{ℕ}
 use borrow.Author.Tests.{not-true, not-false}
 use Rattle.pool_rules.specs.Histories.{in_shape}
 use Rattle.pool_records.specs.declared.texture.TextureRecord.{TextureRecord}
-use Rattle.pool_records.specs.declared.recorded.Recorded.TheVariants.{Writes, NoHistory}
+use Rattle.std.specs.Prelude.{Some, None}
 use Rattle.pool_memory.specs.Lent.{Lent, lent}
 use Rattle.pool_memory.proofs.Fits.{Fits}
 use Rattle.pool_memory.proofs.FromPool.{pool_fits}
@@ -13,7 +13,7 @@ use Rattle.pool_note_write.specs.History.{HistoryAt}
 use Rattle.pool_note_write.proofs.AtPlace.{Recording, told, history_here}
 use Rattle.pool_note_write.proofs.QueryCases.{dirty_none, dirty_outside, dirty_inside}
 use Rattle.pool_note_write.proofs.calls.dirty_tile.dirty_tile.Goals as goal
-use Rattle.pool_note_write.proofs.calls.dirty_tile.dirty_tile.Goals.{In-Writes, Start}
+use Rattle.pool_note_write.proofs.calls.dirty_tile.dirty_tile.Goals.{In-Some, Start}
 
 -- the lent memory, and its facts
 abbrev here : Start → Lent
@@ -24,14 +24,14 @@ abbrev fit : (c : Start) → Fits (here c)
 fit c = pool_fits (here c) c.requires
 
 -- a texture with a history, which has that many writes
-module _ (c : In-Writes) where
+module _ (c : In-Some) where
   abbrev count : ℕ
-  count = c.in-Writes.field-0
+  count = c.in-Some.field-0
 
   recording : Recording (here c.before.before.before.before.before.before.before.before.before.before) (fit c.before.before.before.before.before.before.before.before.before.before) c.args.id count
   recording =
-      told (here c.before.before.before.before.before.before.before.before.before.before) (fit c.before.before.before.before.before.before.before.before.before.before) c.args.id c.find_texture-i.result c.find_texture-i.ensures c.history_at-history.result (Writes count)
-      c.history_at-history.ensures c.in-Writes.is
+      told (here c.before.before.before.before.before.before.before.before.before.before) (fit c.before.before.before.before.before.before.before.before.before.before) c.args.id c.find_texture-i.result c.find_texture-i.ensures c.history_at-history.result (Some count)
+      c.history_at-history.ensures c.in-Some.is
 
   held : HistoryAt c.args.textures.now c.args.newest.now c.args.stamps.now c.find_texture-i.result
   held = history_here (here c.before.before.before.before.before.before.before.before.before.before) (fit c.before.before.before.before.before.before.before.before.before.before) c.args.id c.find_texture-i.result c.find_texture-i.ensures count recording
@@ -46,26 +46,26 @@ pub returns-in_default : goal.returns-in_default
 returns-in_default c =
     let a = c.args in
     dirty_none (here (goal.at.returns-in_default c).Start) (fit (goal.at.returns-in_default c).Start) a.id a.slice a.level a.held
-    (told (here (goal.at.returns-in_default c).Start) (fit (goal.at.returns-in_default c).Start) a.id c.find_texture-i.result c.find_texture-i.ensures c.history_at-history.result NoHistory c.history_at-history.ensures c.in_default.is)
+    (told (here (goal.at.returns-in_default c).Start) (fit (goal.at.returns-in_default c).Start) a.id c.find_texture-i.result c.find_texture-i.ensures c.history_at-history.result None c.history_at-history.ensures c.in_default.is)
 
 pub texture_at-t-requires : goal.texture_at-t-requires
-texture_at-t-requires c = (held (goal.at.texture_at-t-requires c).In-Writes).there
+texture_at-t-requires c = (held (goal.at.texture_at-t-requires c).In-Some).there
 
 pub returns-then-not-in_shape : goal.returns-then-not-in_shape
 returns-then-not-in_shape c =
     let a = c.args in
-    dirty_outside (here (goal.at.returns-then-not-in_shape c).Start) (fit (goal.at.returns-then-not-in_shape c).Start) a.id a.slice a.level a.held (count (goal.at.returns-then-not-in_shape c).In-Writes) (recording (goal.at.returns-then-not-in_shape c).In-Writes) c.find_texture-i.result c.find_texture-i.ensures c.texture_at-t.result c.texture_at-t.ensures
+    dirty_outside (here (goal.at.returns-then-not-in_shape c).Start) (fit (goal.at.returns-then-not-in_shape c).Start) a.id a.slice a.level a.held (count (goal.at.returns-then-not-in_shape c).In-Some) (recording (goal.at.returns-then-not-in_shape c).In-Some) c.find_texture-i.result c.find_texture-i.ensures c.texture_at-t.result c.texture_at-t.ensures
     (sym c.in_shape.ensures ∙ not-true _ c.if-not-in_shape.true-raw)
 
 pub dirty_subresource-requires : goal.dirty_subresource-requires
 dirty_subresource-requires c =
     let a = c.args in (
-      held (goal.at.dirty_subresource-requires c).In-Writes,
+      held (goal.at.dirty_subresource-requires c).In-Some,
       ap (λ (t : TextureRecord). in_shape t.shape a.slice a.level) (sym c.texture_at-t.ensures) ∙ sym c.in_shape.ensures ∙ not-false _ c.if-not-in_shape.false-raw,
     )
 
 pub returns : goal.returns
 returns c =
     let a = c.args in
-    dirty_inside (here (goal.at.returns c).Start) (fit (goal.at.returns c).Start) a.id a.slice a.level a.held (count (goal.at.returns c).In-Writes) (recording (goal.at.returns c).In-Writes) c.find_texture-i.result c.find_texture-i.ensures c.texture_at-t.result c.texture_at-t.ensures
+    dirty_inside (here (goal.at.returns c).Start) (fit (goal.at.returns c).Start) a.id a.slice a.level a.held (count (goal.at.returns c).In-Some) (recording (goal.at.returns c).In-Some) c.find_texture-i.result c.find_texture-i.ensures c.texture_at-t.result c.texture_at-t.ensures
     (sym c.in_shape.ensures ∙ not-false _ c.if-not-in_shape.false-raw) c.dirty_subresource.result c.dirty_subresource.ensures
