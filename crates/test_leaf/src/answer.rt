@@ -3,6 +3,7 @@ ghost use Rattle.std.specs.Prelude.{◌+◌, ◌≤◌, length};
 
 use base_digits::put_text;
 use grid_rects::TexelRect;
+use grid_shapes::Refusal;
 use test_common::{put_digits, put_field};
 
 // What follows an answer's first number.
@@ -35,6 +36,19 @@ pub fn number(first: u64) -> Answer {
 // Returns the answer of an accepted question: 0, and what follows it.
 pub fn accepted(rest: Rest) -> Answer {
     Answer { first: 0, rest }
+}
+
+// Returns the answer of a question that is refused.
+pub fn refused(refusal: Refusal) -> Answer {
+    number(refusal.number())
+}
+
+// Returns the answer of a question that is accepted or refused.
+pub fn told(said: Result<Rest, Refusal>) -> Answer {
+    match said {
+        Ok(rest) => accepted(rest),
+        Err(refusal) => refused(refusal),
+    }
 }
 
 // Puts two fields, and returns where they end.

@@ -1,12 +1,11 @@
 // The question on the bytes of a copy. The Rust has no such function, so no number of it is one of 32 bits there: all are read whole.
 ghost use Rattle.std.specs.Prelude.{◌+◌, ◌≤◌, length};
 
-use crate::answer::{Answer, Rest, accepted, number};
+use crate::answer::{Answer, Rest, told};
 use crate::fields::{read_all, read_numbers, rect_of};
-use crate::shape::{REFUSED, shape_of};
+use crate::shape::shape_of;
 use event_text::is_word;
 use grid_rects::Region;
-use grid_shapes::BytesAnswer;
 
 // Returns the region of the fields from `at` on: a dash for the whole level, or X,Y,WIDTH,HEIGHT. There is none in other fields.
 fn region_of(fields: &[u8], at: usize) -> Option<Region>
@@ -29,8 +28,6 @@ pub fn copy_cost(fields: &[u8]) -> Option<Answer>
     let [format, width, height, depth, levels, kind, level] = numbers.values;
     let shape = shape_of([format, width, height, depth, levels, kind]);
     let region = region_of(fields, numbers.next)?;
-    Some(match grid_rects::copy_bytes(shape, level, region) {
-        BytesAnswer::Bytes(bytes) => accepted(Rest::Number(bytes)),
-        BytesAnswer::NoShape => number(REFUSED),
-    })
+    let bytes = grid_rects::copy_bytes(shape, level, region);
+    Some(told(bytes.map(Rest::Number)))
 }

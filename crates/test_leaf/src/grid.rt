@@ -1,16 +1,14 @@
 // The question on a stamp grid.
 ghost use Rattle.std.specs.Prelude.{◌+◌, ◌≤◌, length};
-ghost use Rattle.grid_axes.specs.Axes.{AxisOk};
-ghost use Rattle.grid_stamps.specs.Grids.{tiled, stamp_count};
+ghost use Rattle.grid_stamps.specs.Grids.{TilingOk, stamp_count};
 
 use crate::answer::{Answer, Rest};
 use crate::fields::{are_u32, read_numbers, rect_of};
-use grid_axes::Axis;
-use grid_stamps::{Dirty, PAGE_STAMPS};
+use grid_stamps::{PAGE_STAMPS, Tiling};
 
 // Stamps a page with 1, 2, 3, .. at the rectangles from the field at `at` on, one at least, and returns the newest stamp.
-fn stamp_all(page: &mut [u64], across: Axis, down: Axis, fields: &[u8], at: usize) -> Option<u64>
-    requires axis_ok { AxisOk across × AxisOk down × (stamp_count (tiled across down) ≤ length page.old) }
+fn stamp_all(page: &mut [u64], tiling: Tiling, fields: &[u8], at: usize) -> Option<u64>
+    requires tiling_ok { TilingOk tiling × (stamp_count tiling ≤ length page.old) }
     requires fields_len_bound { (length fields.now ≤ 65536) × (at ≤ length fields.now + 1) }
 {
     if fields.len() < at {
@@ -27,22 +25,22 @@ fn stamp_all(page: &mut [u64], across: Axis, down: Axis, fields: &[u8], at: usiz
             return None;
         }
         stamp += 1;
-        newest = grid_stamps::stamp(page, across, down, rect_of(values), stamp, newest);
+        newest = grid_stamps::stamp(page, tiling, rect_of(values), stamp, newest);
         next = numbers.next;
     }
     Some(newest)
 }
 
 // Answers what the rectangles write since `held`, in an empty grid.
-fn since(across: Axis, down: Axis, held: u64, fields: &[u8], at: usize) -> Option<Answer>
-    requires axis_ok { AxisOk across × AxisOk down }
+fn since(tiling: Tiling, held: u64, fields: &[u8], at: usize) -> Option<Answer>
+    requires tiling_ok { TilingOk tiling }
     requires fields_len_bound { (length fields.now ≤ 65536) × (at ≤ length fields.now + 1) }
 {
     let mut page = [0u64; PAGE_STAMPS];
-    let newest = stamp_all(&mut page, across, down, fields, at)?;
-    let rest = match grid_stamps::written_since(&page, across, down, newest, held) {
-        Dirty::Box(rect) => Rest::Box(rect),
-        Dirty::Clean => Rest::NoBox,
+    let newest = stamp_all(&mut page, tiling, fields, at)?;
+    let rest = match grid_stamps::written_since(&page, tiling, newest, held) {
+        Some(rect) => Rest::Box(rect),
+        None => Rest::NoBox,
     };
     Some(Answer {
         first: newest,
@@ -63,13 +61,11 @@ fn since_in(
     requires fields_len_bound { (length fields.now ≤ 65536) × (at ≤ length fields.now + 1) }
 {
     let block = grid_shapes::block_edge(format);
-    since(
-        grid_axes::axis_of(width, block),
-        grid_axes::axis_of(height, block),
-        held,
-        fields,
-        at,
-    )
+    let tiling = Tiling {
+        across: grid_axes::axis_of(width, block),
+        down: grid_axes::axis_of(height, block),
+    };
+    since(tiling, held, fields, at)
 }
 
 // Answers FORMAT,WIDTH,HEIGHT,HELD,X,Y,W,H[,X,Y,W,H ..] with the newest stamp and the box since.

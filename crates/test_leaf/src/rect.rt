@@ -1,19 +1,20 @@
 // Questions on one rectangle of a level.
 ghost use Rattle.std.specs.Prelude.{◌≤◌, length};
 
-use crate::answer::{Answer, Rest, accepted, number};
+use crate::answer::{Answer, Rest, refused, told};
 use crate::fields::{are_u32, field_end, read_all, read_numbers, rect_of};
-use crate::shape::{REFUSED, yes_or_no};
+use crate::shape::yes_or_no;
 use event_text::{Number, is_word, number_of};
-use grid_rects::{Compressed, TexelRect, UploadAnswer};
+use grid_rects::TexelRect;
+use grid_shapes::Refusal;
 
-// Returns the source of an upload: a format's number, or a dash for an upload by texel. There is none in another field.
-fn source_of(field: &[u8]) -> Option<Compressed> {
+// Returns the source format of an upload, which is none for a dash: an upload by texel. Another field has nothing of the kind.
+fn source_of(field: &[u8]) -> Option<Option<u64>> {
     if is_word(field, b"-") {
-        return Some(Compressed::ByTexel);
+        return Some(None);
     }
     match number_of(field) {
-        Number::Is(format) => Some(Compressed::Format(format)),
+        Number::Is(format) => Some(Some(format)),
         Number::NoNumber => None,
     }
 }
@@ -30,12 +31,8 @@ pub fn upload(fields: &[u8]) -> Option<Answer>
     }
     let [x, y, width, height, across, down] = numbers;
     let rect = rect_of([x, y, width, height]);
-    Some(
-        match grid_rects::upload_written_rect(rect, across, down, source) {
-            UploadAnswer::Written(rect) => accepted(Rest::Box(rect)),
-            UploadAnswer::NoFormat => number(REFUSED),
-        },
-    )
+    let written = grid_rects::upload_written_rect(rect, across, down, source);
+    Some(told(written.map(Rest::Box)))
 }
 
 // Returns whether a rectangle lies on the format's block grid.
@@ -54,7 +51,7 @@ pub fn on_grid(fields: &[u8]) -> Option<Answer>
         return None;
     }
     if 8 < format {
-        return Some(number(REFUSED));
+        return Some(refused(Refusal::BadShape));
     }
     let [x, y, width, height, across, down] = numbers;
     let rect = rect_of([x, y, width, height]);

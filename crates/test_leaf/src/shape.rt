@@ -2,12 +2,9 @@
 // numbers there and are read whole.
 ghost use Rattle.std.specs.Prelude.{◌≤◌, length};
 
-use crate::answer::{Answer, Rest, accepted, number};
+use crate::answer::{Answer, Rest, accepted, number, refused, told};
 use crate::fields::{are_u32, read_all};
-use grid_shapes::{BytesAnswer, RecordsAnswer, VersionShape};
-
-// Document 01's number for the refusal of a bad shape or format.
-pub const REFUSED: u64 = 2;
+use grid_shapes::{Refusal, VersionShape};
 
 // Returns the shape of format, width, height, depth, levels and kind; all else is 0.
 pub fn shape_of([format, width, height, depth, levels, kind]: [u64; 6]) -> VersionShape {
@@ -59,10 +56,7 @@ pub fn shape_bytes(fields: &[u8]) -> Option<Answer>
     requires { length fields.now ≤ 65536 }
 {
     let shape = small_shape_of(read_all(fields, 0)?)?;
-    Some(match grid_shapes::bytes(shape) {
-        BytesAnswer::Bytes(bytes) => accepted(Rest::Number(bytes)),
-        BytesAnswer::NoShape => number(REFUSED),
-    })
+    Some(told(grid_shapes::bytes(shape).map(Rest::Number)))
 }
 
 // Answers FORMAT,WIDTH,HEIGHT,DEPTH,LEVELS,KIND with the slices.
@@ -73,7 +67,7 @@ pub fn shape_slices(fields: &[u8]) -> Option<Answer>
     Some(if grid_shapes::is_shape(shape) {
         accepted(Rest::Number(grid_shapes::slices(shape)))
     } else {
-        number(REFUSED)
+        refused(Refusal::BadShape)
     })
 }
 
@@ -87,7 +81,7 @@ pub fn shape_records(fields: &[u8]) -> Option<Answer>
         return None;
     }
     Some(match grid_shapes::records_every_write(shape, usage) {
-        RecordsAnswer::Records(records) => yes_or_no(records),
-        RecordsAnswer::Shapeless => number(REFUSED),
+        Ok(records) => yes_or_no(records),
+        Err(refusal) => refused(refusal),
     })
 }

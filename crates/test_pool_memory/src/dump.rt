@@ -2,8 +2,7 @@
 ghost use Rattle.std.specs.Prelude.{◌≤◌, length};
 
 use base_digits::put_text;
-use libc::STDOUT_FILENO;
-use test_common::put_field;
+use test_common::{STDOUT_FILENO, put_field};
 
 // Puts put,STORE,INDEX,VALUE at the front and returns where it ends.
 fn put_line(out: &mut [u8], store: u64, index: u64, value: u64) -> usize

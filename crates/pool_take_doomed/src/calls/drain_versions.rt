@@ -8,9 +8,10 @@ ghost use Rattle.pool_take_doomed.specs.Answer.{handed_told};
 ghost use Rattle.pool_take_doomed.specs.DrainVersions.{drained_views, drained_counts, drained_book, cleared};
 ghost use Rattle.pool_records.specs.RecordConstants.{doomed_stride, retiring_stride, spare_stride, texture_stride};
 
-use crate::answer::{DrainAnswer, Handed};
+use crate::answer::DrainAnswer;
 use crate::copy_column::copy_column;
 use base_tables::ring_drop;
+use grid_shapes::Refusal;
 use pool_memory::{PacingBook, Pool};
 use pool_records::{
     DOOMED_STRIDE, RETIRING_STRIDE, SPARE_STRIDE, TEXTURE_SPARES_AT, TEXTURE_STRIDE,
@@ -133,7 +134,7 @@ pub fn drain_versions(
         return DrainAnswer {
             pool,
             book,
-            handed: Handed::Refused(11),
+            handed: Err(Refusal::ShortAnswer),
         };
     }
     copy_views(pool, places, retiring, doomed, spares, buffer);
@@ -141,6 +142,6 @@ pub fn drain_versions(
     DrainAnswer {
         pool: drained_counts(pool, places),
         book: drained_book(book),
-        handed: Handed::Views(count),
+        handed: Ok(count),
     }
 }
