@@ -18,7 +18,7 @@ pub fn answer_done(outcome: Result<(), Refusal>) -> Answer
 {
     match outcome {
         Ok(()) => Answer::Done,
-        Err(refusal) => Answer::Refused(refusal.number()),
+        Err(why) => Answer::Refused(why.number()),
     }
 }
 
