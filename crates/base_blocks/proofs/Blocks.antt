@@ -1,8 +1,11 @@
 -- Laws of blocks of numbers moved, copied, filled and turned within one list. Assumes nothing.
-use Rattle.std.proofs.Common.{◌≡◌, ℕ, zero, suc, ◌+◌, ◌-◌, ◌<◌, ◌≤◌, List, [], ◌∷◌, ◌++◌, reverse, length, get_or, take, drop, set, replicate, sym, refl, ap, ◌∙◌, ap₂, append_assoc, add-suc, add-one, arith, length-append, length-drop, take-append-drop, length-take-le, get_or-drop, take_all, drop-cons, get_or-take, take-take, drop-drop, take-suc-set, take_at, get_or-append-add, drop_at}
-use mathlib.Core.List.{reverse-append, reverse-reverse, reverse-cons}
-use lib.ListN.{length-reverse, length-replicate, get_or-replicate, get_or-append}
-use lib.Seq.{paste, paste-zero, paste-suc, drop-paste, set-append_left, take-set-lt, append_snoc, sets, sets-eq, take-append_seam, drop-append_seam, drop-append-add, take-append-le, set_at}
+use Rattle.std.proofs.Common.{◌≡◌, ℕ, ◌+◌, ◌-◌, ◌<◌, ◌≤◌, List, ◌++◌, reverse, length, replicate, get_or, take, drop, sym, refl, ap, ◌∙◌, ap₂, append_assoc, arith, length-append, length-drop, take-append-drop, length-take-le, get_or-drop, get_or-take, take-take, drop-drop, take_at, get_or-append-add, drop_at}
+use mathlib.Core.List.{reverse-append, reverse-reverse}
+use lib.ListN.{length-replicate, length-reverse, get_or-append}
+use borrow.Rule.Slice.PartMut.{put_mid}
+use Rattle.std.proofs.lemmas.Slice.{put_mid-paste}
+use Rattle.std.proofs.lemmas.List.Edits.{paste_all}
+use lib.Seq.{paste, paste-zero, sets, sets-eq, take-append_seam, drop-append_seam, drop-append-add, take-append-le}
 use Rattle.base_blocks.specs.Lists.{over}
 use Rattle.base_blocks.specs.Blocks.{moved, turned, rotated}
 use Rattle.base_blocks.proofs.Lists.{drop_over}
@@ -12,59 +15,6 @@ use Rattle.base_blocks.proofs.Lists.{drop_over}
 pub moved_none : (s : List ℕ) (to from : ℕ) → s ≡ moved s to from 0
 unfolding moved
 moved_none s to from = paste-zero s to (drop from s)
-
-module _ (s₀ : List ℕ) (at k n : ℕ) (fits : at + k + n ≤ length s₀) where
-  -- a turn of the loop that moves down
-  pub down_step : (s : List ℕ) (j : ℕ) → j < n → s ≡ moved s₀ at (at + k) j
-      → set s (at + j) (get_or s (at + k + j) 0) ≡ moved s₀ at (at + k) (j + 1)
-  unfolding moved
-  down_step s j hj e =
-      let src = drop (at + k) s₀ in
-      let hs : j < length src = rw length-drop (omega arith) in
-      let hd : at + j < length s₀ = omega arith in
-      let past : at + k + j ≡ at + j + k = omega arith in
-      let read : get_or s (at + k + j) 0 ≡ get_or src j 0 =
-      ap (λ (i : ℕ). get_or s i 0) past
-      ∙ sym (get_or-drop (at + j) s k 0)
-      ∙ ap (λ (l : List ℕ). get_or (drop (at + j) l) k 0) e
-      ∙ ap (λ (l : List ℕ). get_or l k 0) (drop-paste s₀ at src j (omega arith) (omega arith))
-      ∙ get_or-drop (at + j) s₀ k 0
-      ∙ ap (λ (i : ℕ). get_or s₀ i 0) (sym past)
-      ∙ sym (get_or-drop (at + k) s₀ j 0) in
-      ap₂ (λ (l : List ℕ) (v : ℕ). set l (at + j) v) e read
-      ∙ paste-suc s₀ at src j 0 hd hs
-      ∙ ap (λ (m : ℕ). paste s₀ at src m) (sym (add-one j))
-
-  -- a turn of the loop that moves up
-  pub up_step : (s : List ℕ) (j : ℕ) → j < n → s ≡ moved s₀ (at + k + suc j) (at + suc j) (n - suc j)
-      → set s (at + k + j) (get_or s (at + j) 0) ≡ moved s₀ (at + k + j) (at + j) (n - j)
-  unfolding moved
-  up_step s j hj e =
-      let m = at + k + j in
-      let v = get_or s₀ (at + j) 0 in
-      let hm : m < length s₀ = omega arith in
-      let rest = take (n - suc j) (drop (at + suc j) s₀) in
-      let tail = drop (at + k + suc j + (n - suc j)) s₀ in
-      let le : length (take (at + k + suc j) s₀) ≡ at + k + suc j = length-take-le (at + k + suc j) s₀ (omega arith) in
-      let read : get_or s (at + j) 0 ≡ v =
-      ap (λ (l : List ℕ). get_or l (at + j) 0) e
-      ∙ ap (λ (l : List ℕ). get_or l (at + j) 0) (append_assoc (take (at + k + suc j) s₀) rest tail)
-      ∙ get_or-append (take (at + k + suc j) s₀) (rest ++ tail) 0 (at + j) (omega arith)
-      ∙ get_or-take (at + k + suc j) s₀ (at + j) 0 (omega arith) in
-      let front : set (take (at + k + suc j) s₀) m v ≡ take m s₀ ++ (v ∷ []) =
-      ap (λ (i : ℕ). set (take i s₀) m v) (add-suc (at + k) j)
-      ∙ sym (take-set-lt (suc m) s₀ m v (omega arith))
-      ∙ take-suc-set s₀ m v hm in
-      let block : take (n - j) (drop (at + j) s₀) ≡ v ∷ rest =
-      ap₂ (λ (i : ℕ) (l : List ℕ). take i l) (let q : n - j ≡ suc (n - suc j) = omega arith in q) (drop-cons s₀ (at + j) 0 (omega arith))
-      ∙ ap (λ (i : ℕ). v ∷ take (n - suc j) (drop i s₀)) (sym (add-suc at j)) in
-      let seam : at + k + suc j + (n - suc j) ≡ at + k + j + (n - j) = omega arith in
-      ap₂ (λ (l : List ℕ) (x : ℕ). set l m x) (e ∙ append_assoc (take (at + k + suc j) s₀) rest tail) read
-      ∙ set-append_left (take (at + k + suc j) s₀) (rest ++ tail) m v (omega arith)
-      ∙ ap (λ (l : List ℕ). l ++ (rest ++ tail)) front
-      ∙ append_snoc (take m s₀) v (rest ++ tail)
-      ∙ sym (append_assoc (take m s₀) (v ∷ rest) tail)
-      ∙ ap₂ (λ (b : List ℕ) (i : ℕ). take m s₀ ++ b ++ drop i s₀) (sym block) seam
 
 -- what stands between a and b replaced by y, and the r numbers from b on moved to just after it: past them the list stays
 pub repacked : (s y : List ℕ) (a b r : ℕ) → a ≤ b → b + r ≤ length s → a + length y + r ≤ length s
@@ -142,29 +92,25 @@ module _ {ℓ} {A : Type ℓ} (s : List A) (at : ℕ) (vs : List A) (fits : at +
       ∙ get_or-drop (at + length vs) s (i - (at + length vs)) d
       ∙ ap (λ (m : ℕ). get_or s m d) (let q : at + length vs + (i - (at + length vs)) ≡ i = omega arith in q)
 
-module _ (s₀ : List ℕ) (at : ℕ) (src : List ℕ) (fits : at + length src ≤ length s₀) where
-  -- a turn of the loop that copies
-  pub copy_step : (s : List ℕ) (j : ℕ) → j < length src → s ≡ paste s₀ at src j → set s (at + j) (get_or src j 0) ≡ paste s₀ at src (j + 1)
-  copy_step s j h e = ap (λ (l : List ℕ). set l (at + j) (get_or src j 0)) e ∙ paste-suc s₀ at src j 0 (omega arith) h ∙ ap (paste s₀ at src) (sym (add-one j))
+-- ---- pasted, and a part written
 
-  pub copy_done : (s : List ℕ) (j : ℕ) → j ≡ length src → s ≡ paste s₀ at src j → s ≡ sets s₀ at src
-  copy_done s j d e =
-      e
-      ∙ ap₂ (λ (l : List ℕ) (m : ℕ). take at s₀ ++ l ++ drop (at + m) s₀) (take_all j src (omega arith)) d
-      ∙ sym (sets-eq src s₀ at fits)
+module _ {A : Type 0} (xs : List A) (at : ℕ) (ys : List A) (fits : at + length ys ≤ length xs) where
+  -- a whole list pasted
+  pub paste_sets : paste xs at ys (length ys) ≡ sets xs at ys
+  paste_sets = paste_all xs at ys (length ys) refl ∙ sym (append_assoc (take at xs) ys (drop (at + length ys) xs)) ∙ sym (sets-eq ys xs at fits)
 
-module _ (s₀ : List ℕ) (at n x : ℕ) (fits : at + n ≤ length s₀) where
-  abbrev run : List ℕ
-  run = replicate n x
+  -- the part of length k from at on, which holds ys now
+  pub put_mid_sets : (k : ℕ) (zs : List A) → k ≡ length ys → zs ≡ ys → put_mid at k xs zs ≡ sets xs at ys
+  put_mid_sets k zs e f = put_mid-paste at k xs zs ys (length ys) f (sym e) refl ∙ paste_sets
 
-  -- a turn of the loop that fills: a copy of a run of one number
-  pub fill_step : (s : List ℕ) (j : ℕ) → j < n → s ≡ paste s₀ at run j → set s (at + j) x ≡ paste s₀ at run (j + 1)
-  fill_step s j h e =
-      let long = length-replicate n x in
-      ap (λ (v : ℕ). set s (at + j) v) (sym (get_or-replicate n j x 0 h)) ∙ copy_step s₀ at run (omega arith) s j (omega arith) e
-
-  pub fill_done : (s : List ℕ) (j : ℕ) → j ≡ n → s ≡ paste s₀ at run j → s ≡ sets s₀ at run
-  fill_done s j d e = let long = length-replicate n x in copy_done s₀ at run (omega arith) s j (omega arith) e
+-- a run of one number, as long as the loop has come, at its end
+pub filled : {A : Type 0} (xs : List A) (at n : ℕ) (x : A) (fits : at + n ≤ length xs) (l : List A) (j : ℕ) → j ≡ n → l ≡ paste xs at (replicate j x) j → l ≡ sets xs at (replicate n x)
+filled xs at n x fits l j e was =
+    let long = length-replicate n x in
+    was
+    ∙ ap (λ m. paste xs at (replicate m x) m) e
+    ∙ ap (paste xs at (replicate n x)) (sym long)
+    ∙ paste_sets xs at (replicate n x) (omega arith)
 
 -- ---- turned and rotated
 
@@ -185,62 +131,12 @@ module _ {ℓ} {A : Type ℓ} where
       ∙ ap (λ (l : List A). take at s ++ l) (take-append-drop n (drop at s))
       ∙ take-append-drop at s)
 
-  -- of no element and of one, nothing changes
-  pub turned_none : (at n : ℕ) (s : List A) → at + n ≤ length s → n ≤ 1 → turned at n s ≡ s
-  unfolding turned
-  turned_none at zero s h k = sym (thirds at 0 s)
-  turned_none at (suc zero) s h k =
-      ap (λ (l : List A). take at s ++ (l ++ drop (at + 1) s)) (one (take 1 (drop at s)) (length-take-le 1 (drop at s) (omega (arith, length-drop at s)))) ∙ sym (thirds at 1 s)
-    where
-      one : (l : List A) → length l ≡ 1 → reverse l ≡ l
-      one [] e = refl
-      one (x ∷ []) e = refl
-      one (x ∷ y ∷ l) e = absurd (let y : ⊥ = omega arith in y)
-  turned_none at (suc (suc n)) s h k = absurd (let y : ⊥ = omega arith in y)
-
-  -- a block between two ends that change places
-  turned_ends : (p : List A) (x : A) (m : List A) (y : A) (t : List A) (at n : ℕ) → length p ≡ at → length m ≡ n
-      → turned at (suc (suc n)) (p ++ (x ∷ (m ++ (y ∷ t)))) ≡ turned (suc at) n (p ++ (y ∷ (m ++ (x ∷ t))))
-  turned_ends p x m y t at n hp hm =
-      let la : length (x ∷ (m ++ (y ∷ []))) ≡ suc (suc n) = ap suc (length-append m (y ∷ []) ∙ (let q : length m + 1 ≡ suc n = omega arith in q)) in
-      let lq : length (p ++ (y ∷ [])) ≡ suc at = length-append p (y ∷ []) ∙ (let q : length p + 1 ≡ suc at = omega arith in q) in
-      let whole : x ∷ (m ++ (y ∷ t)) ≡ (x ∷ (m ++ (y ∷ []))) ++ t = ap (λ (l : List A). x ∷ l) (sym (append_snoc m y t)) in
-      let back : reverse (x ∷ (m ++ (y ∷ []))) ≡ y ∷ (reverse m ++ (x ∷ [])) =
-      reverse-cons x (m ++ (y ∷ [])) ∙ ap (λ (l : List A). l ++ (x ∷ [])) (reverse-append m (y ∷ [])) in
-      ap (λ (l : List A). turned at (suc (suc n)) (p ++ l)) whole
-      ∙ turned_parts p (x ∷ (m ++ (y ∷ []))) t at (suc (suc n)) hp la
-      ∙ ap (λ (l : List A). p ++ (l ++ t)) back
-      ∙ ap (λ (l : List A). p ++ (y ∷ l)) (append_snoc (reverse m) x t)
-      ∙ sym (append_snoc p y (reverse m ++ (x ∷ t)))
-      ∙ sym (turned_parts (p ++ (y ∷ [])) m (x ∷ t) (suc at) n lq hm)
-      ∙ ap (turned (suc at) n) (append_snoc p y (m ++ (x ∷ t)))
-
--- a turn of the loop that reverses: the outermost two have changed places
-pub turn_step : (s : List ℕ) (lo hi : ℕ) → lo + 1 < hi → hi ≤ length s
-    → turned lo (hi - lo) s ≡ turned (lo + 1) (hi - 1 - (lo + 1)) (set (set s lo (get_or s (hi - 1) 0)) (hi - 1) (get_or s lo 0))
-turn_step s lo hi h k =
-    let n = hi - 1 - (lo + 1) in
-    let p = take lo s in
-    let x = get_or s lo 0 in
-    let y = get_or s (hi - 1) 0 in
-    let m = take n (drop (suc lo) s) in
-    let t = drop (suc (hi - 1)) s in
-    let lp : length p ≡ lo = length-take-le lo s (omega arith) in
-    let lm : length m ≡ n = length-take-le n (drop (suc lo) s) (omega (arith, length-drop (suc lo) s)) in
-    let hi-is : suc lo + n ≡ hi - 1 = omega arith in
-    let inner : drop (suc lo) s ≡ m ++ (y ∷ t) =
-    sym (take-append-drop n (drop (suc lo) s)) ∙ ap (λ (l : List ℕ). m ++ l) (drop-drop n (suc lo) s ∙ ap (λ (i : ℕ). drop i s) hi-is ∙ drop-cons s (hi - 1) 0 (omega arith)) in
-    let cut : s ≡ p ++ (x ∷ (m ++ (y ∷ t))) = sym (take-append-drop lo s) ∙ ap (λ (l : List ℕ). p ++ l) (drop-cons s lo 0 (omega arith) ∙ ap (λ (l : List ℕ). x ∷ l) inner) in
-    let mid : length (p ++ (y ∷ m)) ≡ hi - 1 = length-append p (y ∷ m) ∙ (let q : length p + suc (length m) ≡ hi - 1 = omega arith in q) in
-    let stored : set (set s lo y) (hi - 1) x ≡ p ++ (y ∷ (m ++ (x ∷ t))) =
-    ap (λ (l : List ℕ). set (set l lo y) (hi - 1) x) cut
-    ∙ ap (λ (l : List ℕ). set l (hi - 1) x) (set_at p x (m ++ (y ∷ t)) y lo lp ∙ sym (append_assoc p (y ∷ m) (y ∷ t)))
-    ∙ set_at (p ++ (y ∷ m)) y t x (hi - 1) mid
-    ∙ append_assoc p (y ∷ m) (x ∷ t) in
-    ap (λ (i : ℕ). turned lo i s) (let q : hi - lo ≡ suc (suc n) = omega arith in q)
-    ∙ ap (turned lo (suc (suc n))) cut
-    ∙ turned_ends p x m y t lo n lp lm
-    ∙ ap₂ (λ (i : ℕ) (l : List ℕ). turned i n l) (sym (add-one lo)) (sym stored)
+-- the part of length k from at on, which is turned now
+pub put_mid_turned : {A : Type 0} (at n k : ℕ) (xs zs : List A) → k ≡ n → zs ≡ reverse (take k (drop at xs)) → put_mid at k xs zs ≡ turned at n xs
+unfolding turned
+put_mid_turned at n k xs zs e f =
+    ap₂ (λ l m. take at xs ++ (l ++ drop m (drop at xs))) (f ∙ ap (λ m. reverse (take m (drop at xs))) e) e
+    ∙ ap (λ l. take at xs ++ (reverse (take n (drop at xs)) ++ l)) (drop-drop n at xs)
 
 module _ {ℓ} {A : Type ℓ} where
   pub rotated_parts : (p a b t : List A) (at n k : ℕ) → length p ≡ at → length a ≡ n → length b ≡ k

@@ -4,7 +4,6 @@ use pool_retire::Popped;
 use pool_rules::Held;
 use pool_take_doomed::Handed;
 use pool_take_spare::Taken;
-use std::num::wrapping_add_u64;
 
 // Returns the writes that a spare holds as a number: one more than a known count, or 0.
 pub fn held_number(taken: Taken) -> u64 {
@@ -18,7 +17,7 @@ pub fn held_number(taken: Taken) -> u64 {
 // Returns one more than a known count, or 0.
 fn known_number(held: Held) -> u64 {
     match held {
-        Held::Known(n) => wrapping_add_u64(n, 1),
+        Held::Known(n) => n.wrapping_add(1),
         Held::Unknown => 0,
     }
 }

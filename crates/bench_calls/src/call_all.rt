@@ -5,7 +5,7 @@ ghost use Rattle.pool_memory.specs.IsPool.{is_pool};
 
 use crate::asked::bench_shape;
 use crate::call_one::{Called, call_one};
-use crate::phases::{Task, call_at, calls_of, texture_at};
+use crate::phases::{Phase, Task, call_at, calls_of, texture_at};
 use pool_memory::{PacingBook, Pool};
 
 // Makes the calls of a phase, and answers the sum of what they answered.
@@ -20,7 +20,7 @@ pub fn call_all(
     stamps: &mut [u64],
     notes: &mut [u64],
     task: Task,
-    phase: usize,
+    phase: Phase,
     seq: u64,
 ) -> Called
     requires { is_pool (lent_by pool book textures.old retiring.old doomed.old spares.old newest.old stamps.old) ≡ true }
@@ -30,9 +30,8 @@ pub fn call_all(
     let n = calls_of(phase, task.textures, seq);
     let mut counts = pool;
     let mut paces = book;
-    let mut sum = 0;
-    let mut j = 0;
-    while j < n {
+    let mut sum = 0u64;
+    for j in 0..n {
         let done = call_one(
             counts,
             paces,
@@ -50,8 +49,7 @@ pub fn call_all(
         );
         counts = done.pool;
         paces = done.book;
-        sum = std::num::wrapping_add_u64(sum, done.number);
-        j += 1;
+        sum = sum.wrapping_add(done.number);
     }
     Called {
         pool: counts,

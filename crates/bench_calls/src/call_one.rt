@@ -6,6 +6,7 @@ ghost use Rattle.pool_memory.specs.IsPool.{is_pool};
 use crate::answered::{copies_number, handed_number, held_from, held_number, popped_number};
 use crate::asked::rect_of;
 use crate::notes::{held_at, id_at, keep_held};
+use crate::phases::Call;
 use grid_shapes::VersionShape;
 use pool_forget_texture::forget_texture;
 use pool_memory::{PacingBook, Pool};
@@ -26,7 +27,7 @@ pub struct Called {
     pub number: u64,
 }
 
-// Makes the call with this number (phases.rt) for the i-th texture, in the submission `seq`. A take keeps what the spare holds for its plan.
+// Makes a call for the i-th texture, in the submission `seq`. A take keeps what the spare holds for its plan.
 pub fn call_one(
     pool: Pool,
     book: PacingBook,
@@ -38,7 +39,7 @@ pub fn call_one(
     stamps: &mut [u64],
     notes: &mut [u64],
     shape: VersionShape,
-    call: usize,
+    call: Call,
     i: usize,
     seq: u64,
 ) -> Called
@@ -46,7 +47,7 @@ pub fn call_one(
     ensures { is_pool (at_exit result.pool result.book textures.new retiring.new doomed.new spares.new newest.new stamps.new) ≡ true }
 {
     match call {
-        0 => {
+        Call::TakeSpare => {
             let id = id_at(notes, i);
             let said = take_spare(
                 pool, book, textures, retiring, doomed, spares, newest, stamps, id, shape, true,
@@ -58,7 +59,7 @@ pub fn call_one(
             keep_held(notes, i, number);
             Called { pool, book, number }
         }
-        1 => {
+        Call::PreservePlan => {
             let id = id_at(notes, i);
             let held = held_from(held_at(notes, i));
             let said = preserve_plan(
@@ -71,7 +72,7 @@ pub fn call_one(
                 number: copies_number(said),
             }
         }
-        2 => {
+        Call::Retire => {
             let id = id_at(notes, i);
             let said = retire(
                 pool, book, textures, retiring, doomed, spares, newest, stamps, id, seq, seq,
@@ -83,7 +84,7 @@ pub fn call_one(
                 number: said.outcome,
             }
         }
-        3 => {
+        Call::NoteWrite => {
             let id = id_at(notes, i);
             let rect = rect_of(i, seq);
             let said = note_write(
@@ -96,7 +97,7 @@ pub fn call_one(
                 number: said.outcome,
             }
         }
-        4 => {
+        Call::PopRetired => {
             let said = pop_retired(
                 pool, book, textures, retiring, doomed, spares, newest, stamps, seq,
             );
@@ -108,7 +109,7 @@ pub fn call_one(
                 number: popped_number(popped),
             }
         }
-        5 => {
+        Call::Park => {
             let said = park(
                 pool, book, textures, retiring, doomed, spares, newest, stamps, 0, seq,
             );
@@ -120,7 +121,7 @@ pub fn call_one(
             }
         }
         // Far below the pressure line.
-        6 => {
+        Call::NoteAllocated => {
             let said = note_allocated(
                 pool, book, textures, retiring, doomed, spares, newest, stamps, 1048576,
             );
@@ -132,7 +133,7 @@ pub fn call_one(
                 number: said.outcome,
             }
         }
-        7 => {
+        Call::TakeDoomed => {
             let said = take_doomed(
                 pool, book, textures, retiring, doomed, spares, newest, stamps, notes,
             );
@@ -145,7 +146,7 @@ pub fn call_one(
                 number: handed_number(handed),
             }
         }
-        8 => {
+        Call::Trim => {
             let said = trim(
                 pool, book, textures, retiring, doomed, spares, newest, stamps, seq,
             );
@@ -156,7 +157,7 @@ pub fn call_one(
                 number: said.outcome,
             }
         }
-        9 => {
+        Call::NoteMipRegeneration => {
             let id = id_at(notes, i);
             let said = note_mip_regeneration(
                 pool, book, textures, retiring, doomed, spares, newest, stamps, id,
@@ -168,7 +169,7 @@ pub fn call_one(
                 number: said.outcome,
             }
         }
-        10 => {
+        Call::DrainVersions => {
             let said = drain_versions(
                 pool, book, textures, retiring, doomed, spares, newest, stamps, notes,
             );
@@ -181,7 +182,7 @@ pub fn call_one(
                 number: handed_number(handed),
             }
         }
-        _ => {
+        Call::ForgetTexture => {
             let id = id_at(notes, i);
             let said = forget_texture(
                 pool, book, textures, retiring, doomed, spares, newest, stamps, id,

@@ -16,26 +16,22 @@ mod testing;
 mod totals;
 
 use asked::bench_stamps;
-use bench_common::{argument, is_given};
+use bench_common::{
+    argument, doomed_places, is_given, retiring_places, spare_places, texture_places,
+};
 use grid_stamps::PAGE_STAMPS;
-use phases::Task;
+use phases::{Task, Workload, order_of, workload_of};
 use std::time::CpuClock;
 
 // Runs the rounds on memory for as many places as may be lent.
 fn bench(clock: &impl CpuClock, t: usize, v: usize, p: usize, task: Task) {
-    if t > 4096 {
+    if t.max(v).max(p) > 4096 {
         return;
     }
-    if v > 4096 {
-        return;
-    }
-    if p > 4096 {
-        return;
-    }
-    let mut textures = room::texture_places();
-    let mut retiring = room::retiring_places();
-    let mut doomed = room::doomed_places();
-    let mut spares = room::spare_places();
+    let mut textures = texture_places();
+    let mut retiring = retiring_places();
+    let mut doomed = doomed_places();
+    let mut spares = spare_places();
     let mut newest = room::newest_places();
     let mut stamps = room::stamp_places();
     let mut notes = room::note_places();
@@ -56,14 +52,12 @@ fn bench(clock: &impl CpuClock, t: usize, v: usize, p: usize, task: Task) {
 }
 
 // Returns the levels of a texture: four in lifetimes of few textures, as bench/src/bin/calls.rs has it, else one.
-fn levels_of(workload: u64, t: usize) -> u64 {
-    if workload != 2 {
-        return 1;
+fn levels_of(workload: Workload, t: usize) -> u64 {
+    if (workload == Workload::Lifetimes) & (t <= 1024) {
+        4
+    } else {
+        1
     }
-    if t > 1024 {
-        return 1;
-    }
-    4
 }
 
 // Returns as many pages as the stamps of all textures need.
@@ -76,12 +70,12 @@ fn main(rt: HostRuntime) {
     if !is_given(&rt, 4) {
         return;
     }
-    let workload = argument(&rt, 1);
+    let workload = workload_of(argument(&rt, 1));
     let t = argument(&rt, 3) as usize;
     let levels = levels_of(workload, t);
     let task = Task {
         workload,
-        order: argument(&rt, 2),
+        order: order_of(argument(&rt, 2)),
         textures: t,
         levels,
         rounds: argument(&rt, 4),

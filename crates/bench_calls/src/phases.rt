@@ -1,160 +1,224 @@
-// The phases of a round, and the calls that a phase makes. A call and the phase of that call alone have one number:
-// 0 take_spare, 1 preserve_plan, 2 retire, 3 note_write, 4 pop_retired, 5 park, 6 note_allocated, 7 take_doomed, 8 trim,
-// 9 note_mip_regeneration, 10 drain_versions, 11 forget_texture. Phase 12 is 0 to 3 in a row for each texture,
-// 13 is 4 and 5 in turn, and 14 makes no call.
+// The phases of a round, and the calls that a phase makes.
 
-// What is run: the workload 0 goes phase by phase, 1 by textures, 2 by lifetimes; 3 is 1 without the calls that are for no texture.
+#[derive(Clone, Copy)]
+pub enum Call {
+    TakeSpare,
+    PreservePlan,
+    Retire,
+    NoteWrite,
+    PopRetired,
+    Park,
+    NoteAllocated,
+    TakeDoomed,
+    Trim,
+    NoteMipRegeneration,
+    DrainVersions,
+    ForgetTexture,
+}
+
+#[derive(Clone, Copy)]
+pub enum Phase {
+    // One call, for every texture or over and over.
+    Alone(Call),
+    // take_spare, preserve_plan, retire and note_write in a row for each texture.
+    InARow,
+    // pop_retired and park in turn.
+    Settling,
+}
+
+// How the phases follow one another in a round.
+#[derive(Clone, Copy, PartialEq, Eq)]
+pub enum Workload {
+    ByPhase,
+    ByTexture,
+    Lifetimes,
+    // As by texture, without the calls that are for no texture.
+    Renames,
+}
+
+// The ids: small ones in the same order each round, the same shuffled before each round, or random ones of 64 bits, shuffled.
+#[derive(Clone, Copy, PartialEq, Eq)]
+pub enum Order {
+    Same,
+    Shuffled,
+    Random,
+}
+
+// What is run.
 #[derive(Clone, Copy)]
 pub struct Task {
-    pub workload: u64,
-    pub order: u64,
+    pub workload: Workload,
+    pub order: Order,
     pub textures: usize,
     pub levels: u64,
     pub rounds: u64,
 }
 
-// Returns a phase of the workload 0.
-fn steady_phase(step: u64) -> usize {
+// Returns the workload that an argument names.
+pub fn workload_of(argument: u64) -> Workload {
+    match argument {
+        0 => Workload::ByPhase,
+        1 => Workload::ByTexture,
+        2 => Workload::Lifetimes,
+        _ => Workload::Renames,
+    }
+}
+
+// Returns the order that an argument names.
+pub fn order_of(argument: u64) -> Order {
+    match argument {
+        0 => Order::Same,
+        2 => Order::Random,
+        _ => Order::Shuffled,
+    }
+}
+
+// Returns the number that a phase is printed with. A call and the phase of that call alone have one number.
+pub fn number_of(phase: Phase) -> usize {
+    match phase {
+        Phase::Alone(call) => call as usize,
+        Phase::InARow => 12,
+        Phase::Settling => 13,
+    }
+}
+
+// Returns a phase of the workload by phase.
+fn phase_by_phase(step: u64) -> Option<Phase> {
     match step {
-        0 => 0,
-        1 => 1,
-        2 => 2,
-        3 => 3,
-        4 => 13,
-        5 => 6,
-        6 => 7,
-        _ => 8,
+        0 => Some(Phase::Alone(Call::TakeSpare)),
+        1 => Some(Phase::Alone(Call::PreservePlan)),
+        2 => Some(Phase::Alone(Call::Retire)),
+        3 => Some(Phase::Alone(Call::NoteWrite)),
+        4 => Some(Phase::Settling),
+        5 => Some(Phase::Alone(Call::NoteAllocated)),
+        6 => Some(Phase::Alone(Call::TakeDoomed)),
+        _ => Some(Phase::Alone(Call::Trim)),
     }
 }
 
-// Returns a phase of the workload 1.
-fn row_phase(step: u64) -> usize {
+// Returns a phase of the workload by texture.
+fn phase_by_texture(step: u64) -> Option<Phase> {
     match step {
-        0 => 12,
-        1 => 13,
-        2 => 6,
-        3 => 7,
-        4 => 8,
-        _ => 14,
+        0 => Some(Phase::InARow),
+        1 => Some(Phase::Settling),
+        2 => Some(Phase::Alone(Call::NoteAllocated)),
+        3 => Some(Phase::Alone(Call::TakeDoomed)),
+        4 => Some(Phase::Alone(Call::Trim)),
+        _ => None,
     }
 }
 
-// Returns a phase of the workload 3.
-fn rename_phase(step: u64) -> usize {
+// Returns a phase of the workload of renames alone.
+fn rename_phase(step: u64) -> Option<Phase> {
     match step {
-        0 => 12,
-        1 => 13,
-        _ => 14,
+        0 => Some(Phase::InARow),
+        1 => Some(Phase::Settling),
+        _ => None,
     }
 }
 
-// Returns a phase of the workload 2.
-fn lifetime_phase(step: u64) -> usize {
+// Returns a phase of the workload by lifetimes.
+fn lifetime_phase(step: u64) -> Option<Phase> {
     match step {
-        0 => 0,
-        1 => 2,
-        2 => 9,
-        3 => 13,
-        4 => 10,
-        5 => 11,
-        _ => 14,
+        0 => Some(Phase::Alone(Call::TakeSpare)),
+        1 => Some(Phase::Alone(Call::Retire)),
+        2 => Some(Phase::Alone(Call::NoteMipRegeneration)),
+        3 => Some(Phase::Settling),
+        4 => Some(Phase::Alone(Call::DrainVersions)),
+        5 => Some(Phase::Alone(Call::ForgetTexture)),
+        _ => None,
     }
 }
 
-// Returns the phase that a workload has as its step in a round.
-pub fn phase_at(workload: u64, step: u64) -> usize {
-    if workload == 0 {
-        return steady_phase(step);
+// Returns the phase that a workload has as its step in a round, if there is one.
+pub fn phase_at(workload: Workload, step: u64) -> Option<Phase> {
+    match workload {
+        Workload::ByPhase => phase_by_phase(step),
+        Workload::ByTexture => phase_by_texture(step),
+        Workload::Lifetimes => lifetime_phase(step),
+        Workload::Renames => rename_phase(step),
     }
-    if workload == 1 {
-        return row_phase(step);
-    }
-    if workload == 2 {
-        return lifetime_phase(step);
-    }
-    rename_phase(step)
 }
 
-// Returns the number of phases of all rounds, eight of each.
-pub fn phases_of(rounds: u64) -> u64 {
+// Returns the number of steps of all rounds, eight of each.
+pub fn steps_of(rounds: u64) -> u64 {
     8 * (rounds % 1000000000)
 }
 
-// Returns the round of phase k, from 1 on.
+// Returns the round of step k, from 1 on.
 pub fn round_of(k: u64) -> u64 {
     k / 8 + 1
 }
 
 // Returns how many calls a phase makes on n textures. A lifetime is 16 rounds: in the last of them all textures are forgotten.
-pub fn calls_of(phase: usize, n: usize, seq: u64) -> usize {
+pub fn calls_of(phase: Phase, n: usize, seq: u64) -> usize {
     let textures = n % 65536;
     match phase {
-        6 | 7 | 8 => 8,
-        10 => 1,
-        11 => {
-            if seq % 16 == 0 {
-                return textures;
-            }
-            0
-        }
-        12 => 4 * textures,
-        13 => 2 * textures,
-        14 => 0,
-        _ => textures,
+        Phase::Alone(Call::NoteAllocated | Call::TakeDoomed | Call::Trim) => 8,
+        Phase::Alone(Call::DrainVersions) => 1,
+        Phase::Alone(Call::ForgetTexture) => { if seq % 16 == 0 { textures } else { 0 } }
+        Phase::Alone(_) => textures,
+        Phase::InARow => 4 * textures,
+        Phase::Settling => 2 * textures,
     }
 }
 
 // Returns the call that a phase makes as its j-th.
-pub fn call_at(phase: usize, j: usize) -> usize {
-    if phase < 12 {
-        return phase;
+pub fn call_at(phase: Phase, j: usize) -> Call {
+    match phase {
+        Phase::Alone(call) => call,
+        Phase::InARow => match j % 4 {
+            0 => Call::TakeSpare,
+            1 => Call::PreservePlan,
+            2 => Call::Retire,
+            _ => Call::NoteWrite,
+        },
+        Phase::Settling => {
+            if j % 2 == 0 {
+                Call::PopRetired
+            } else {
+                Call::Park
+            }
+        }
     }
-    if phase == 12 {
-        return j % 4;
-    }
-    4 + j % 2
 }
 
 // Returns the texture that the j-th call of a phase is for.
-pub fn texture_at(phase: usize, j: usize) -> usize {
-    if phase == 12 {
-        return j / 4;
+pub fn texture_at(phase: Phase, j: usize) -> usize {
+    match phase {
+        Phase::InARow => j / 4,
+        _ => j,
     }
-    j
 }
 
 // Returns how many ids change places before a phase: all before the first of a round, unless the order stays.
-pub fn shuffled_in(order: u64, n: usize, step: u64) -> usize {
-    if order == 0 {
+pub fn shuffled_in(order: Order, n: usize, step: u64) -> usize {
+    if (order == Order::Same) | (step != 0) {
         return 0;
     }
-    if step == 0 {
-        return n;
-    }
-    0
+    n
 }
 
 // Returns whether the time counts. The first rounds do not, nor the first lifetime; of a lifetime's takes only those of textures that are not tracked.
-fn is_counted(workload: u64, phase: usize, seq: u64) -> bool {
-    if workload != 2 {
+fn is_counted(workload: Workload, phase: Phase, seq: u64) -> bool {
+    if workload != Workload::Lifetimes {
         return 8 <= seq;
     }
     if seq < 17 {
         return false;
     }
-    if phase == 0 {
-        return seq % 16 == 1;
+    match phase {
+        Phase::Alone(Call::TakeSpare) => seq % 16 == 1,
+        Phase::Alone(Call::ForgetTexture) => seq % 16 == 0,
+        _ => true,
     }
-    if phase == 11 {
-        return seq % 16 == 0;
-    }
-    true
 }
 
 // Returns the time where it counts, else 0.
-pub fn counted(workload: u64, phase: usize, seq: u64, time: u64) -> u64 {
+pub fn counted(workload: Workload, phase: Phase, seq: u64, time: u64) -> u64 {
     if is_counted(workload, phase, seq) {
-        return time;
+        time
+    } else {
+        0
     }
-    0
 }

@@ -1,24 +1,4 @@
-// Memory for 4,096 places of each kind.
-
-// Returns places for textures.
-pub fn texture_places() -> [u64; 90112] {
-    [0; 90112]
-}
-
-// Returns places for retiring versions.
-pub fn retiring_places() -> [u64; 28672] {
-    [0; 28672]
-}
-
-// Returns places for versions to be destroyed.
-pub fn doomed_places() -> [u64; 8192] {
-    [0; 8192]
-}
-
-// Returns places for spares.
-pub fn spare_places() -> [u64; 12288] {
-    [0; 12288]
-}
+// Memory for 4,096 pages, for the grids of 4,096 textures, and for the program's own numbers.
 
 // Returns places for the stamps of all pages.
 pub fn stamp_places() -> [u64; 4194304] {

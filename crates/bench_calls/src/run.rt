@@ -4,7 +4,7 @@ ghost use Rattle.std.specs.Prelude.{◌≤◌, length};
 use crate::call_all::call_all;
 use crate::notes::{id_at, number_textures, shuffle_ids};
 use crate::opening::open_work;
-use crate::phases::{Task, counted, phase_at, phases_of, round_of, shuffled_in};
+use crate::phases::{Task, counted, number_of, phase_at, round_of, shuffled_in, steps_of};
 use crate::report::report;
 use crate::testing::test_lines;
 use crate::totals::{added, no_totals};
@@ -31,14 +31,14 @@ fn run(
         return;
     }
     number_textures(notes, task.textures, task.order);
-    let n = phases_of(task.rounds);
     let mut totals = no_totals();
     let mut counts = opened.pool;
     let mut paces = opened.book;
-    let mut k = 0;
-    while k < n {
+    for k in 0..steps_of(task.rounds) {
         let seq = round_of(k);
-        let phase = phase_at(task.workload, k % 8);
+        let Some(phase) = phase_at(task.workload, k % 8) else {
+            continue;
+        };
         let moved = shuffled_in(task.order, task.textures, k % 8);
         shuffle_ids(notes, moved, seq);
         let start = reading(clock);
@@ -47,10 +47,9 @@ fn run(
             seq,
         );
         let time = counted(task.workload, phase, seq, elapsed(clock, start));
-        totals = added(totals, phase, time, done.number);
+        totals = added(totals, number_of(phase), time, done.number);
         counts = done.pool;
         paces = done.book;
-        k += 1;
     }
     report(clock, totals, counts, id_at(notes, 0));
     test_lines(

@@ -1,10 +1,7 @@
 // The test that memory forms a pool, and a plain read of the same memory.
-ghost use Rattle.std.specs.Prelude.{◌≤◌};
-
 use bench_common::{elapsed, line, reading};
 use pool_formed::is_pool;
 use pool_memory::{PacingBook, Pool};
-use std::num::wrapping_add_u64;
 use std::time::CpuClock;
 
 // What was timed, and a number that depends on everything read.
@@ -35,15 +32,13 @@ fn test_all(
         return Timed { time: 0, sum: 0 };
     }
     let start = reading(clock);
-    let mut sum = 0;
-    let mut i = 0;
-    while i < k {
+    let mut sum = 0u64;
+    for _ in 0..k {
         if is_pool(
             pool, book, textures, retiring, doomed, spares, newest, stamps,
         ) {
-            sum = wrapping_add_u64(sum, 1);
+            sum = sum.wrapping_add(1);
         }
-        i += 1;
     }
     Timed {
         time: elapsed(clock, start),
@@ -51,20 +46,11 @@ fn test_all(
     }
 }
 
-fn least(a: usize, b: usize) -> usize
-    ensures { (result ≤ a) × (result ≤ b) }
-{
-    if a < b { a } else { b }
-}
-
 // Adds up the first n numbers of a slice, or all where it has fewer.
 fn sum_of(s: &[u64], n: usize, from: u64) -> u64 {
-    let end = least(n, s.len());
     let mut sum = from;
-    let mut i = 0;
-    while i < end {
-        sum = wrapping_add_u64(sum, s[i]);
-        i += 1;
+    for number in &s[..n.min(s.len())] {
+        sum = sum.wrapping_add(*number);
     }
     sum
 }
@@ -81,13 +67,11 @@ fn read_all(
 ) -> Timed {
     let start = reading(clock);
     let mut sum = 0;
-    let mut i = 0;
-    while i < k {
+    for _ in 0..k {
         sum = sum_of(textures, textures.len(), sum);
         sum = sum_of(spares, spares.len(), sum);
         sum = sum_of(newest, pool.grids, sum);
         sum = sum_of(stamps, pool.stamps, sum);
-        i += 1;
     }
     Timed {
         time: elapsed(clock, start),

@@ -1,6 +1,5 @@
 // What all rounds took, phase by phase, and the sums of what was answered.
 use crate::printing::phase_line;
-use std::num::wrapping_add_u64;
 
 // By the phases' numbers.
 #[derive(Clone, Copy)]
@@ -21,17 +20,15 @@ pub fn no_totals() -> Totals {
 pub fn added(t: Totals, phase: usize, time: u64, sum: u64) -> Totals {
     let mut u = t;
     if phase < 16 {
-        u.times[phase] = wrapping_add_u64(t.times[phase], time);
-        u.sums[phase] = wrapping_add_u64(t.sums[phase], sum);
+        u.times[phase] = t.times[phase].wrapping_add(time);
+        u.sums[phase] = t.sums[phase].wrapping_add(sum);
     }
     u
 }
 
 // Prints the totals, a line for each phase.
 pub fn total_lines(t: Totals) {
-    let mut phase = 0;
-    while phase < 14 {
+    for phase in 0..14 {
         phase_line(phase as u64, t.times[phase], t.sums[phase]);
-        phase += 1;
     }
 }

@@ -11,16 +11,14 @@ pub fn reading(clock: &impl CpuClock) -> u64 {
 
 // Returns the time since a reading.
 pub fn elapsed(clock: &impl CpuClock, start: u64) -> u64 {
-    std::num::wrapping_sub_u64(reading(clock), start)
+    reading(clock).wrapping_sub(start)
 }
 
 // Reads the clock k times, one right after the other: what reading it costs.
 pub fn idle_time(clock: &impl CpuClock, k: u64) -> u64 {
-    let mut sum = 0;
-    let mut i = 0;
-    while i < k {
-        sum = std::num::wrapping_add_u64(sum, elapsed(clock, reading(clock)));
-        i += 1;
+    let mut sum = 0u64;
+    for _ in 0..k {
+        sum = sum.wrapping_add(elapsed(clock, reading(clock)));
     }
     sum
 }

@@ -1,6 +1,4 @@
 // Numbers that look drawn, the same in each run and in the Rust.
-use std::num::wrapping_add_u64;
-
 // Returns another number for each x, with all 64 bits in use after a few times: Marsaglia's xorshift.
 pub fn mixed(x: u64) -> u64 {
     let a = x ^ (x << 13);
@@ -10,5 +8,5 @@ pub fn mixed(x: u64) -> u64 {
 
 // Returns a random number of 64 bits.
 pub fn random_from(x: u64) -> u64 {
-    mixed(mixed(mixed(wrapping_add_u64(x, 88172645463325252))))
+    mixed(mixed(mixed(x.wrapping_add(88172645463325252))))
 }

@@ -74,12 +74,10 @@ fn add_texture(
     );
     let n = spares_of(i);
     let mut counts = taken.pool;
-    let mut k = 0;
-    while k < n {
+    for _ in 0..n {
         counts = add_spare(
             counts, book, textures, retiring, doomed, spares, newest, stamps, id, seq,
         );
-        k += 1;
     }
     counts
 }
@@ -97,12 +95,10 @@ pub fn fill(
     n: u64,
 ) -> Pool {
     let mut counts = pool;
-    let mut i = 0;
-    while i < n {
+    for i in 0..n {
         counts = add_texture(
             counts, book, textures, retiring, doomed, spares, newest, stamps, i,
         );
-        i += 1;
     }
     counts
 }

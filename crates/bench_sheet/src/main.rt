@@ -8,17 +8,19 @@ mod room;
 mod run;
 mod sheets;
 
-use bench_common::{argument, is_given};
+use bench_common::{
+    argument, doomed_places, is_given, retiring_places, spare_places, texture_places,
+};
 
 // Does nothing without its three arguments, since the gate runs it with none.
 fn main(rt: HostRuntime) {
     if !is_given(&rt, 3) {
         return;
     }
-    let mut textures = room::texture_places();
-    let mut retiring = room::retiring_places();
-    let mut doomed = room::doomed_places();
-    let mut spares = room::spare_places();
+    let mut textures = texture_places();
+    let mut retiring = retiring_places();
+    let mut doomed = doomed_places();
+    let mut spares = spare_places();
     let mut newest = room::no_places();
     let mut stamps = room::no_places();
     let mut page = room::page_bytes();

@@ -5,7 +5,7 @@ ghost use Rattle.pool_memory.specs.IsPool.{is_pool};
 
 use crate::fill::fill;
 use crate::sheets::{print_known, print_tested};
-use bench_common::{elapsed, line, reading};
+use bench_common::{STDOUT_FILENO, elapsed, line, reading};
 use pool_formed::is_pool;
 use pool_memory::{PacingBook, Pool};
 use pool_open::{opened_book, opened_pool};
@@ -15,7 +15,7 @@ use std::time::CpuClock;
 fn write_sheet(page: &[u8], n: usize) {
     let size = 73 * (n % 65536 + 2);
     if size <= page.len() {
-        io::write_all(1, &page[..size]);
+        io::write_all(STDOUT_FILENO, &page[..size]);
     }
 }
 

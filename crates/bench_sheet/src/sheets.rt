@@ -5,7 +5,6 @@ ghost use Rattle.pool_memory.specs.IsPool.{is_pool};
 
 use pool_memory::{PacingBook, Pool};
 use pool_sheet::SheetAnswer;
-use std::num::wrapping_add_u64;
 
 // Returns how many bytes a sheet has, or 0.
 fn sheet_number(answer: SheetAnswer) -> u64 {
@@ -31,14 +30,12 @@ pub fn print_known(
 ) -> u64
     requires { is_pool (lent_by pool book textures.now retiring.now doomed.now spares.now newest.now stamps.now) ≡ true }
 {
-    let mut sum = 0;
-    let mut i = 0;
-    while i < k {
+    let mut sum = 0u64;
+    for _ in 0..k {
         let printed = pool_sheet::print_sheet(
             pool, book, textures, retiring, doomed, spares, newest, stamps, page,
         );
-        sum = wrapping_add_u64(sum, sheet_number(printed));
-        i += 1;
+        sum = sum.wrapping_add(sheet_number(printed));
     }
     sum
 }
@@ -56,14 +53,12 @@ pub fn print_tested(
     page: &mut [u8],
     k: u64,
 ) -> u64 {
-    let mut sum = 0;
-    let mut i = 0;
-    while i < k {
+    let mut sum = 0u64;
+    for _ in 0..k {
         let printed = pool::print_sheet(
             pool, book, textures, retiring, doomed, spares, newest, stamps, page,
         );
-        sum = wrapping_add_u64(sum, sheet_number(printed));
-        i += 1;
+        sum = sum.wrapping_add(sheet_number(printed));
     }
     sum
 }

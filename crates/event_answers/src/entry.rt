@@ -19,10 +19,8 @@ pub fn put_views(out: &mut [u8], at: usize, number: u64, views: &[u64], n: usize
     ensures { Put out.old at (flat_map (view_row number) (take n views.now)) result out.new }
 {
     let mut end = at;
-    let mut i = 0;
-    while i < n {
-        end = put_row(out, end, number, views[i]);
-        i += 1;
+    for view in &views[..n] {
+        end = put_row(out, end, number, *view);
     }
     end
 }
@@ -59,11 +57,8 @@ pub fn put_copies(out: &mut [u8], at: usize, number: u64, copies: &[u64], n: usi
     ensures { Put out.old at (flat_map (copy_row number) (table copy_stride read_copy n copies.now)) result out.new }
 {
     let mut end = at;
-    let mut i = 0;
-    while i < n {
-        let from = COPY_STRIDE * i;
-        end = put_copy(out, end, number, &copies[from..]);
-        i += 1;
+    for i in 0..n {
+        end = put_copy(out, end, number, &copies[COPY_STRIDE * i..]);
     }
     end
 }

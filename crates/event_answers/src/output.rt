@@ -39,34 +39,20 @@ pub fn put_answer(
         × (out.new ≡ sets out.old at (printed number (reply_told answer copies.now views.now))) }
 {
     match answer {
-        Answer::Question => {
-            return put_words(out, at, number, b",?\n");
-        }
-        Answer::Refused(refusal) => {
-            return put_row(out, at, number, refusal);
-        }
-        Answer::Done => {
-            return put_words(out, at, number, b",0\n");
-        }
-        Answer::Spare(view, held) => {
-            return put_spare(out, at, number, view, held);
-        }
-        Answer::NoSpare => {
-            return put_words(out, at, number, b",0,-,-\n");
-        }
-        Answer::Version(id, view) => {
-            return put_pair(out, at, number, id, view);
-        }
-        Answer::NothingSettled => {
-            return put_words(out, at, number, b",0,-,-\n");
-        }
+        Answer::Question => put_words(out, at, number, b",?\n"),
+        Answer::Refused(refusal) => put_row(out, at, number, refusal),
+        Answer::Done => put_words(out, at, number, b",0\n"),
+        Answer::Spare(view, held) => put_spare(out, at, number, view, held),
+        Answer::NoSpare => put_words(out, at, number, b",0,-,-\n"),
+        Answer::Version(id, view) => put_pair(out, at, number, id, view),
+        Answer::NothingSettled => put_words(out, at, number, b",0,-,-\n"),
         Answer::Views(n) => {
             let start = put_count(out, at, number, n as u64);
-            return put_views(out, start, number, views, n);
+            put_views(out, start, number, views, n)
         }
         Answer::Copies(n) => {
             let start = put_count(out, at, number, n as u64);
-            return put_copies(out, start, number, copies, n);
+            put_copies(out, start, number, copies, n)
         }
     }
 }

@@ -1,8 +1,9 @@
 -- Rule: Where what is carried stands in the buffer that blocks are read into, and what a turn of feeding them asks for and answers.
 use Rattle.std.specs.Prelude.{ℕ, ◌+◌, ◌-◌, ◌^◌, ◌≤◌, ◌<◌, ◌≡◌, List, [], length, take, drop}
 use Rattle.std.proofs.lemmas.List.Edits.{sets}
-use Rattle.pool_memory.specs.Lent.{Slice}
-use Rattle.event_sessions.specs.Sessions.{SessionState, state_of, HoldsPool}
+use Rattle.event_sessions.specs.declared.stores.Stores.{Stores}
+use Rattle.event_sessions.specs.Sessions.{SessionState, HoldsPool}
+use Rattle.event_sessions.specs.LentStores.{state_in}
 use Rattle.event_runs.specs.Lines.{whole_lines, longest_answer}
 use Rattle.event_feed.specs.declared.feed_state.FeedState.{FeedState}
 use Rattle.event_feed.specs.FeedConstants.{kept_bytes}
@@ -21,19 +22,9 @@ held_line f buf = part f.from f.held buf
 abbrev pub carried_of : FeedState → SessionState → List ℕ → Carried
 carried_of f s buf = record { state = s; number = f.number; line = held_line f buf }
 
--- as a contract names it: with the buffer and the lent slices as they were when the call was made
-abbrev pub carried_at_entry : FeedState → Slice → Slice → Slice → Slice → Slice → Slice → Slice → Carried
-carried_at_entry f buf textures retiring doomed spares newest stamps =
-    carried_of f
-    (state_of f.session textures retiring doomed spares newest stamps)
-    buf
-
--- and as they are when it returns
-abbrev pub carried_at_exit : FeedState → Slice → Slice → Slice → Slice → Slice → Slice → Slice → Carried
-carried_at_exit f buf textures retiring doomed spares newest stamps =
-    carried_of f
-    (state_of f.session textures retiring doomed spares newest stamps)
-    buf
+-- as a contract names it: with what stands in the lent stores and in the buffer
+abbrev pub carried_in : FeedState → Stores → List ℕ → Carried
+carried_in f stores buf = carried_of f (state_in f.session stores) buf
 
 -- ---- what is to be fed
 

@@ -5,6 +5,7 @@ use Rattle.event_lines.specs.declared.event.Event.{Event}
 use Rattle.event_lines.specs.Grammar.{event_of}
 use Rattle.event_answers.specs.Printed.{printed, most_bytes}
 use Rattle.event_sessions.specs.Sessions.{SessionState, state_of, line_step}
+use Rattle.event_sessions.specs.declared.stores.Stores.{Stores}
 use Rattle.event_runs.specs.declared.run.Run.{Run}
 use Rattle.pool_memory.specs.MemoryConstants.{copy_stride}
 use Rattle.base_digits.specs.Characters.{line_feed}
@@ -69,6 +70,10 @@ progress_of r textures retiring doomed spares newest stamps out = record {
   filled = r.filled;
   out = out;
 }
+
+-- the same, with what stands in the lent stores
+abbrev pub progress_in : Run → Stores → List ℕ → Progress
+progress_in r s out = progress_of r s.textures.now s.retiring.now s.doomed.now s.spares.now s.newest.now s.stamps.now out
 
 -- before the first line of an input, n lines having been run before it
 abbrev pub progress_start : SessionState → ℕ → List ℕ → Progress

@@ -1,13 +1,14 @@
 // The whole lines of a block of input, run as long as the output has room.
 ghost use Rattle.std.specs.Prelude.{◌≡◌, ◌+◌, ◌/◌, ◌^◌, ◌≤◌, ◌<◌, min, max, length};
-ghost use Rattle.event_sessions.specs.Sessions.{state_of, HoldsPool};
-ghost use Rattle.event_runs.specs.Lines.{longest_answer, progress_of, progress_start, whole_lines, ran_all};
+ghost use Rattle.event_sessions.specs.Sessions.{HoldsPool};
+ghost use Rattle.event_sessions.specs.LentStores.{state_in, SameStores};
+ghost use Rattle.event_runs.specs.Lines.{longest_answer, progress_in, progress_start, whole_lines, ran_all};
 ghost use Rattle.pool_memory.specs.MemoryConstants.{copy_stride};
 
 use crate::line::run_line;
 use crate::run::Run;
 use event_lines::parse_first;
-use event_sessions::Session;
+use event_sessions::{Session, Stores};
 use pool_memory::COPY_STRIDE;
 
 // The most bytes of a row of output, as `most_row` of crates/event_answers/specs/Printed.antt.
@@ -32,28 +33,17 @@ pub fn run_lines(
     input: &[u8],
     number: u64,
     session: Session,
-    textures: &mut [u64],
-    retiring: &mut [u64],
-    doomed: &mut [u64],
-    spares: &mut [u64],
-    newest: &mut [u64],
-    stamps: &mut [u64],
-    copies: &mut [u64],
-    views: &mut [u64],
+    stores: &mut Stores<'_>,
     out: &mut [u8],
 ) -> Run
-    requires { HoldsPool (state_of session textures.old retiring.old doomed.old spares.old newest.old stamps.old)
-        × (number + length input.now < 2 ^ 64) }
-    ensures { (progress_of result textures.new retiring.new doomed.new spares.new newest.new
-        stamps.new out.new
-        ≡ ran_all (length copies.old) (length views.old)
-        (progress_start (state_of session textures.old retiring.old doomed.old spares.old newest.old
-        stamps.old) number out.old)
-        (whole_lines input.now))
-        × (result.filled ≤ length out.old) }
+    requires { HoldsPool (state_in session stores.old) × (number + length input.now < 2 ^ 64) }
+    ensures same { SameStores stores.old stores.new }
+    ensures ran { progress_in result stores.new out.new
+        ≡ ran_all (length stores.old.copies.now) (length stores.old.views.now) (progress_start (state_in session stores.old) number out.old) (whole_lines input.now) }
+    ensures filled { result.filled ≤ length out.old }
 {
     let size = out.len();
-    let room = longest_answer(copies.len(), views.len(), size);
+    let room = longest_answer(stores.copies.len(), stores.views.len(), size);
     let mut run = Run {
         session,
         number,
@@ -68,21 +58,7 @@ pub fn run_lines(
             return run;
         }
         let current = run.number + 1;
-        let ran = run_line(
-            parsed.event,
-            current,
-            run.session,
-            textures,
-            retiring,
-            doomed,
-            spares,
-            newest,
-            stamps,
-            copies,
-            views,
-            out,
-            run.filled,
-        );
+        let ran = run_line(parsed.event, current, run.session, stores, out, run.filled);
         run = Run {
             session: ran.session,
             number: current,

@@ -1,3 +1,4 @@
 pub mod Sessions
 pub mod Noted
 pub mod Parts
+pub mod LentStores

@@ -7,8 +7,10 @@ mod beginning;
 mod call_event;
 mod opening;
 mod session;
+mod stores;
 
 pub use answered::Answered;
 pub use answering::answer_event;
 pub use beginning::fresh;
 pub use session::Session;
+pub use stores::Stores;

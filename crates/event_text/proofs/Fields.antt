@@ -1,5 +1,7 @@
 -- Laws of fields and words. Assumes nothing.
 use mathlib.Core.Path.{◌≡◌, refl, ap, ap₂}
+use Rattle.std.proofs.Common.{Option, Some, None}
+use Rattle.event_text.specs.declared.number.NumberEnd.{NumberEnd}
 use mathlib.Core.Bool.{Bool, true, false, cond, ◌&&◌}
 use mathlib.Core.List.{List, [], ◌∷◌}
 use Prim.Native.Nat.{ℕ, suc, ◌+◌, ◌≤◌, ◌<◌}
@@ -76,3 +78,13 @@ pub same_self : (xs : List ℕ) → same xs xs ≡ true
 unfolding same
 same_self [] = refl
 same_self (x ∷ xs) = ap₂ (λ (a b : Bool). a && b) (eq-eqb x x refl) (same_self xs)
+
+-- ---- the parts of a number that was read
+
+abbrev pub got_value : Option NumberEnd → ℕ
+got_value (Some r) = r.value
+got_value None = 0
+
+abbrev pub got_end : Option NumberEnd → ℕ
+got_end (Some r) = r.end
+got_end None = 0

@@ -2,13 +2,13 @@
 use mathlib.Core.Path.{◌≡◌, refl, sym, ap, ◌∙◌}
 use mathlib.Core.Bool.{Bool, true, false, cond, ◌||◌}
 use mathlib.Core.List.{List, [], ◌∷◌}
-use Prim.Native.Nat.{ℕ, suc, ◌+◌, ◌≤◌, ◌<◌}
-use native.Mathlib.Nat.{add-zero, zero-add}
+use Prim.Native.Nat.{ℕ, suc, ◌+◌, ◌≤◌}
+use native.Mathlib.Nat.{zero-add}
+use Rattle.std.proofs.Common.{add-one}
 use native.Mathlib.Omega.{arith}
 use borrow.Author.Tests.{eqb-true}
 use lib.Dec.{eqb}
-use lib.ListN.{length, take, drop, get_or}
-use Rattle.base_blocks.proofs.Scans.{from, from_step, from_none}
+use lib.ListN.{length, take, drop}
 use Rattle.event_text.specs.Fields.{first_field, first_line}
 use Rattle.base_digits.specs.Digits.{is_digit}
 use Rattle.event_text.specs.Numbers.{leading_digits}
@@ -61,25 +61,17 @@ module _ (p : ℕ → Bool) where
 
 -- ---- the end of the first field, found byte by byte
 
-pub end_start : (text : List ℕ) → 0 + length (until stops (from 0 text)) ≡ length (first_field (first_line text))
-unfolding from
-end_start text = zero-add (length (until stops text)) ∙ ap length (sym (line_until text))
+pub until_hit : (b : ℕ) (s : List ℕ) → stops b ≡ true → length (until stops (b ∷ s)) ≡ 0
+unfolding until
+until_hit b s e = rw e
 
-module _ (text : List ℕ) (i : ℕ) where
-  pub end_more : i < length text → eqb (get_or text i 0) 44 || eqb (get_or text i 0) 10 ≡ false
-      → i + length (until stops (from i text)) ≡ i + 1 + length (until stops (from (i + 1) text))
-  unfolding until
-  end_more h t =
-      rw (from_step i (i + 1) text refl h, t)
-      (let e : i + suc (length (until stops (from (i + 1) text))) ≡ i + 1 + length (until stops (from (i + 1) text)) = omega arith in e)
+pub until_miss : (b : ℕ) (s : List ℕ) → stops b ≡ false → length (until stops (b ∷ s)) ≡ length (until stops s) + 1
+unfolding until
+until_miss b s e = rw e (sym (add-one (length (until stops s))))
 
-  pub end_stop : i < length text → eqb (get_or text i 0) 44 || eqb (get_or text i 0) 10 ≡ true → i + length (until stops (from i text)) ≡ i
-  unfolding until
-  end_stop h t = rw (from_step i (i + 1) text refl h, t) (add-zero i)
-
-  pub end_done : length text ≤ i → i + length (until stops (from i text)) ≡ i
-  unfolding until
-  end_done h = ap (λ (l : List ℕ). i + length (until stops l)) (from_none i text h) ∙ add-zero i
+pub until_none : length (until stops []) ≡ 0
+unfolding until
+until_none = refl
 
 -- ---- no line feed stands in a field
 

@@ -1,5 +1,7 @@
 -- Laws of the digits that a field starts with. Assumes nothing.
 use mathlib.Core.Path.{◌≡◌, refl, sym, ap, ap₂, ◌∙◌}
+use Rattle.std.proofs.Common.{None}
+use Rattle.event_text.proofs.Fields.{got_value, got_end}
 use mathlib.Core.Bool.{Bool, true, false, cond, ◌&&◌}
 use mathlib.Core.List.{List, [], ◌∷◌}
 use Prim.Native.Nat.{ℕ, zero, suc, ◌+◌, ◌≤◌, ◌<◌}
@@ -9,10 +11,9 @@ use lib.Dec.{eqb}
 use lib.ListN.{length, drop, get_or, get_or-eq_default}
 use lib.Seq.{get_or-drop}
 use Rattle.base_blocks.specs.Lists.{all, tests, after}
-use Rattle.event_text.specs.declared.number.NumberAt.TheVariants.{Ends, Malformed}
 use Rattle.event_text.specs.Fields.{first_field, field_end}
 use Rattle.base_digits.specs.Digits.{is_digit, decimal}
-use Rattle.event_text.specs.Numbers.{is_number, number_at, leading_digits, digits_at}
+use Rattle.event_text.specs.Numbers.{number_ends, is_number, number_at, leading_digits, digits_at}
 
 pub no_way {ℓ} : {A : Type ℓ} → true ≡ false → A
 no_way e = absurd (let z : ◌≡◌ {A = ℕ} 0 1 = cc in let y : ⊥ = omega arith in y)
@@ -77,20 +78,20 @@ pub record AreDigits (text : List ℕ) (at v end : ℕ) : Type 0 where
   pub ends : at + length (leading_digits (drop at text)) ≡ end
 
 module _ (text : List ℕ) (at : ℕ) where
-  pub digits_end : (v end : ℕ) → digits_at text at ≡ Ends v end → AreDigits text at v end
+  pub digits_end : (v end : ℕ) → digits_at text at ≡ number_ends v end → AreDigits text at v end
   unfolding digits_at
   digits_end v end e = go (is_number (leading_digits (drop at text))) refl e
     where
       go : (t : Bool) → is_number (leading_digits (drop at text)) ≡ t
-          → cond t (Ends (decimal (leading_digits (drop at text))) (at + length (leading_digits (drop at text)))) Malformed ≡ Ends v end → AreDigits text at v end
-      go true q r = record { number = q; worth = cc; ends = cc }
+          → cond t (number_ends (decimal (leading_digits (drop at text))) (at + length (leading_digits (drop at text)))) None ≡ number_ends v end → AreDigits text at v end
+      go true q r = record { number = q; worth = ap got_value r; ends = ap got_end r }
       go false q r = absurd (let z : ◌≡◌ {A = ℕ} 0 1 = cc in let y : ⊥ = omega arith in y)
 
-  pub digits_none : digits_at text at ≡ Malformed → is_number (leading_digits (drop at text)) ≡ false
+  pub digits_none : digits_at text at ≡ None → is_number (leading_digits (drop at text)) ≡ false
   unfolding digits_at
   digits_none e = go (is_number (leading_digits (drop at text))) e
     where
-      go : (t : Bool) → cond t (Ends (decimal (leading_digits (drop at text))) (at + length (leading_digits (drop at text)))) Malformed ≡ Malformed → t ≡ false
+      go : (t : Bool) → cond t (number_ends (decimal (leading_digits (drop at text))) (at + length (leading_digits (drop at text)))) None ≡ None → t ≡ false
       go true r = absurd (let z : ◌≡◌ {A = ℕ} 0 1 = cc in let y : ⊥ = omega arith in y)
       go false r = refl
 
@@ -117,25 +118,25 @@ module _ (line : List ℕ) (at : ℕ) where
   parted : eqb (next (drop at line)) 44 ≡ false → is_number (first_field (drop at line)) ≡ false
   parted e = no_digit (first_field (drop at line)) (ap (all is_digit) (field_until (drop at line)) ∙ lead_parted (λ b. eqb b 44) refl comma_apart (drop at line) e)
 
-  pub field_none : digits_at line at ≡ Malformed → number_at line at ≡ Malformed
+  pub field_none : digits_at line at ≡ None → number_at line at ≡ None
   unfolding number_at
-  field_none e = ap (λ (t : Bool). cond t (Ends (decimal (first_field (drop at line))) (field_end line at)) Malformed) (go (eqb (next (drop at line)) 44) refl)
+  field_none e = ap (λ (t : Bool). cond t (number_ends (decimal (first_field (drop at line))) (field_end line at)) None) (go (eqb (next (drop at line)) 44) refl)
     where
       go : (t : Bool) → eqb (next (drop at line)) 44 ≡ t → is_number (first_field (drop at line)) ≡ false
       go true q = ap is_number (whole q) ∙ digits_none line at e
       go false q = parted q
 
-  module _ (v end : ℕ) (e : digits_at line at ≡ Ends v end) where
-    pub field_ends : get_or line end 44 ≡ 44 → Ends v end ≡ number_at line at
+  module _ (v end : ℕ) (e : digits_at line at ≡ number_ends v end) where
+    pub field_ends : get_or line end 44 ≡ 44 → number_ends v end ≡ number_at line at
     unfolding number_at field_end
     field_ends q =
         let d = digits_end line at v end e in
         let w = whole (eq-eqb (next (drop at line)) 44 (next_at line at v end d ∙ q)) in
         sym (rw (w, d.number, d.worth, d.ends))
 
-    pub field_other : (get_or line end 44 ≡ 44 → ⊥) → Malformed ≡ number_at line at
+    pub field_other : (get_or line end 44 ≡ 44 → ⊥) → None ≡ number_at line at
     unfolding number_at
     field_other n =
         let d = digits_end line at v end e in
-        sym (ap (λ (t : Bool). cond t (Ends (decimal (first_field (drop at line))) (field_end line at)) Malformed)
+        sym (ap (λ (t : Bool). cond t (number_ends (decimal (first_field (drop at line))) (field_end line at)) None)
         (parted (ne_eqb (next (drop at line)) 44 (λ q. n (sym (next_at line at v end d) ∙ q)))))

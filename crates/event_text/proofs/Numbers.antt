@@ -1,5 +1,6 @@
 -- Laws of numbers read digit by digit. Assumes nothing.
 use mathlib.Core.Path.{◌≡◌, refl, sym, ap, ap₂, ◌∙◌}
+use Rattle.std.proofs.Common.{Option, Some, None}
 use mathlib.Core.Bool.{Bool, true, false, cond, ◌&&◌, ◌||◌}
 use mathlib.Core.List.{List, [], ◌∷◌}
 use Prim.Native.Nat.{ℕ, suc, ◌+◌, ◌*◌, ◌-◌, ◌^◌, ◌≤◌, ◌<◌}
@@ -11,14 +12,11 @@ use lib.ListN.{length, drop, get_or, length-drop}
 use Rattle.base_blocks.specs.Lists.{all, tests, after}
 use Rattle.base_blocks.proofs.Lists.{passed, not_passed}
 use Rattle.base_blocks.proofs.Scans.{from, from_step, from_none}
-use Rattle.event_text.proofs.Fields.{first_within}
-use Rattle.event_text.specs.declared.number.Number.{Number}
-use Rattle.event_text.specs.declared.number.Number.TheVariants.{Is, NoNumber}
-use Rattle.event_text.specs.declared.number.NumberAt.{NumberAt}
-use Rattle.event_text.specs.declared.number.NumberAt.TheVariants.{Ends, Malformed}
+use Rattle.event_text.proofs.Fields.{first_within, got_end}
 use Rattle.event_text.specs.Fields.{comma, first_field, field_end}
 use Rattle.base_digits.specs.Digits.{is_digit, value, decimal}
-use Rattle.event_text.specs.Numbers.{is_number, number_of, number_at, leading_digits, digits_at, read_tests, read_on}
+use Rattle.event_text.specs.declared.number.NumberEnd.{NumberEnd}
+use Rattle.event_text.specs.Numbers.{number_ends, is_number, number_of, number_at, leading_digits, digits_at, read_tests, read_on}
 
 -- more digits make no smaller number
 pub value_grows : (v : ℕ) (s : List ℕ) → v ≤ value v s
@@ -82,28 +80,28 @@ read_one v at i b f h d =
     let g : i + suc (length f) ≡ i + 1 + length f = omega arith in
     rw (d, e, g)
 
-read_large : (v at i : ℕ) (f : List ℕ) → 2 ^ 64 ≤ v → read_on v at i f ≡ Malformed
+read_large : (v at i : ℕ) (f : List ℕ) → 2 ^ 64 ≤ v → read_on v at i f ≡ None
 unfolding read_on
 read_large v at i f h =
-    ap (λ (t : Bool). cond t (Ends (value v f) (i + length f)) Malformed)
+    ap (λ (t : Bool). cond t (number_ends (value v f) (i + length f)) None)
     (not_passed (tests (read_tests v (i - at) f))
     (λ e. let k = ltb-true (value v f) (2 ^ 64) (passed (read_tests v (i - at) f) e 3) in let g = value_grows v f in let y : ⊥ = omega arith in y))
 
 -- more than twenty
-read_long : (v at i : ℕ) (f : List ℕ) → 20 < i - at + length f → read_on v at i f ≡ Malformed
+read_long : (v at i : ℕ) (f : List ℕ) → 20 < i - at + length f → read_on v at i f ≡ None
 unfolding read_on
 read_long v at i f h =
-    ap (λ (t : Bool). cond t (Ends (value v f) (i + length f)) Malformed)
+    ap (λ (t : Bool). cond t (number_ends (value v f) (i + length f)) None)
     (not_passed (tests (read_tests v (i - at) f))
     (λ e. let k = leb-true (i - at + length f) 20 (passed (read_tests v (i - at) f) e 2) in let y : ⊥ = omega arith in y))
 
 -- all are read, or there is none
-pub read_done : (v at i : ℕ) → at < i → i ≤ at + 20 → v < 2 ^ 64 → read_on v at i [] ≡ Ends v i
+pub read_done : (v at i : ℕ) → at < i → i ≤ at + 20 → v < 2 ^ 64 → read_on v at i [] ≡ number_ends v i
 unfolding read_on all value tests after
 read_done v at i h k w =
     rw (add-zero (i - at), add-zero i, lt-ltb v (2 ^ 64) w, le-leb 1 (i - at) (omega arith), le-leb (i - at) 20 (omega arith))
 
-pub read_nothing : (v at i : ℕ) → i ≤ at → read_on v at i [] ≡ Malformed
+pub read_nothing : (v at i : ℕ) → i ≤ at → read_on v at i [] ≡ None
 unfolding read_on all value tests after
 read_nothing v at i h = let e : i - at ≡ 0 = omega arith in rw (add-zero (i - at), e)
 
@@ -124,7 +122,7 @@ module _ (text : List ℕ) (v at i b : ℕ) (inside : i < length text) (here : b
       ∙ read_one v at i b (leading_digits (from (i + 1) text)) h (digit_is b e)
 
   -- that makes the number too large
-  pub read_over : at ≤ i → ltb b 48 || ltb 57 b ≡ false → 2 ^ 64 ≤ v * 10 + (b - 48) → read_on v at i (leading_digits (from i text)) ≡ Malformed
+  pub read_over : at ≤ i → ltb b 48 || ltb 57 b ≡ false → 2 ^ 64 ≤ v * 10 + (b - 48) → read_on v at i (leading_digits (from i text)) ≡ None
   read_over h e big = read_more h e ∙ read_large (v * 10 + (b - 48)) at (i + 1) (leading_digits (from (i + 1) text)) big
 
   -- no other
@@ -132,7 +130,7 @@ module _ (text : List ℕ) (v at i b : ℕ) (inside : i < length text) (here : b
   read_stop e = ap (read_on v at i) (step ∙ ap (λ (t : Bool). cond t (b ∷ leading_digits (from (i + 1) text)) []) (digit_not b e))
 
   -- after twenty
-  pub read_past : at + 20 ≤ i → ltb b 48 || ltb 57 b ≡ false → read_on v at i (leading_digits (from i text)) ≡ Malformed
+  pub read_past : at + 20 ≤ i → ltb b 48 || ltb 57 b ≡ false → read_on v at i (leading_digits (from i text)) ≡ None
   read_past h e =
       ap (read_on v at i) (step ∙ ap (λ (t : Bool). cond t (b ∷ leading_digits (from (i + 1) text)) []) (digit_is b e))
       ∙ read_long v at i (b ∷ leading_digits (from (i + 1) text)) (omega arith)
@@ -204,29 +202,29 @@ parted (b ∷ bs) h = go (eqb b comma) refl (parted bs)
     go true q r = let e = eqb-true b comma q in ap (λ (t : Bool). t && all is_digit bs) (low b (omega arith))
     go false q r = either_false (is_digit b) (r (λ e. h (ap (λ (x : Bool). length (cond x [] (b ∷ first_field bs))) q ∙ ap suc e)))
 
-parted_none : (s : List ℕ) → all is_digit s ≡ false → number_of s ≡ NoNumber
+parted_none : (s : List ℕ) → all is_digit s ≡ false → number_of s ≡ None
 unfolding number_of is_number tests after
 parted_none s e = rw e
 
 -- what a field's number says of all of s
-unfoldable pub whole_of : List ℕ → NumberAt → Number
-whole_of s (Ends v e) = cond (eqb e (length s)) (Is v) NoNumber
-whole_of s Malformed = NoNumber
+unfoldable pub whole_of : List ℕ → Option NumberEnd → Option ℕ
+whole_of s (Some r) = cond (eqb r.end (length s)) (Some r.value) None
+whole_of s None = None
 
 -- its first field is all of it
 whole_is : (s : List ℕ) → length (first_field s) ≡ length s → whole_of s (number_at s 0) ≡ number_of s
 unfolding whole_of number_at field_end number_of
 whole_is s e = go (is_number (first_field s)) refl
   where
-    go : (t : Bool) → is_number (first_field s) ≡ t → whole_of s (cond t (Ends (decimal (first_field s)) (0 + length (first_field s))) Malformed) ≡ number_of s
+    go : (t : Bool) → is_number (first_field s) ≡ t → whole_of s (cond t (number_ends (decimal (first_field s)) (0 + length (first_field s))) None) ≡ number_of s
     go true q = rw (eq-eqb (0 + length (first_field s)) (length s) (omega arith)) (sym (rw q at (ap number_of (sym (whole s e)))))
     go false q = sym (rw q at (ap number_of (sym (whole s e))))
 
-whole_not : (s : List ℕ) → (length (first_field s) ≡ length s → ⊥) → whole_of s (number_at s 0) ≡ NoNumber
+whole_not : (s : List ℕ) → (length (first_field s) ≡ length s → ⊥) → whole_of s (number_at s 0) ≡ None
 unfolding whole_of number_at field_end
 whole_not s h = go (is_number (first_field s))
   where
-    go : (t : Bool) → whole_of s (cond t (Ends (decimal (first_field s)) (0 + length (first_field s))) Malformed) ≡ NoNumber
+    go : (t : Bool) → whole_of s (cond t (number_ends (decimal (first_field s)) (0 + length (first_field s))) None) ≡ None
     go true = rw (ne_eqb (0 + length (first_field s)) (length s) (λ e. h (omega arith)))
     go false = refl
 
@@ -240,12 +238,12 @@ number_whole s = go (eqb (length (first_field s)) (length s)) refl
         whole_not s h ∙ sym (parted_none s (parted s h))
 
 -- a field that is a number ends within the line
-pub number_within : (line : List ℕ) (at v e : ℕ) → at ≤ length line → Ends v e ≡ number_at line at → (at ≤ e) × (e ≤ length line)
+pub number_within : (line : List ℕ) (at v e : ℕ) → at ≤ length line → number_ends v e ≡ number_at line at → (at ≤ e) × (e ≤ length line)
 unfolding number_at field_end
 number_within line at v e h q = go (is_number (first_field (drop at line))) q
   where
-    go : (t : Bool) → Ends v e ≡ cond t (Ends (decimal (first_field (drop at line))) (at + length (first_field (drop at line)))) Malformed → (at ≤ e) × (e ≤ length line)
+    go : (t : Bool) → number_ends v e ≡ cond t (number_ends (decimal (first_field (drop at line))) (at + length (first_field (drop at line)))) None → (at ≤ e) × (e ≤ length line)
     go true p =
-        let k : e ≡ at + length (first_field (drop at line)) = cc in
+        let k : e ≡ at + length (first_field (drop at line)) = ap got_end p in
         (omega arith, omega (arith, first_within (drop at line), length-drop at line))
     go false p = absurd (let z : ◌≡◌ {A = ℕ} 0 1 = cc in let y : ⊥ = omega arith in y)

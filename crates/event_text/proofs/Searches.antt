@@ -3,43 +3,29 @@ use mathlib.Core.Path.{◌≡◌, refl, sym, ap, ◌∙◌}
 use mathlib.Core.Bool.{Bool, true, false, cond, ◌||◌}
 use mathlib.Core.List.{List, [], ◌∷◌}
 use Prim.Native.Nat.{ℕ, zero, suc, ◌+◌, ◌≤◌, ◌<◌}
-use native.Mathlib.Nat.{add-zero}
+use Rattle.std.proofs.Common.{add-one}
 use native.Mathlib.Omega.{arith}
 use borrow.Author.Tests.{eq-eqb, ne_eqb}
 use lib.Dec.{eqb}
 use lib.ListN.{length, drop, get_or, length-drop}
 use lib.Seq.{drop-drop}
-use Rattle.base_blocks.proofs.Scans.{from, from_step, from_none}
+use Rattle.base_blocks.proofs.Scans.{from, from_step}
 use Rattle.event_text.specs.Searches.{index_of, among}
-
--- what is looked for, from i on
-unfoldable pub found_from : ℕ → ℕ → List ℕ → ℕ
-found_from b i s = i + index_of b (from i s)
-
-pub found_drop : (b i : ℕ) (s : List ℕ) → found_from b i s ≡ i + index_of b (drop i s)
-unfolding found_from from
-found_drop b i s = refl
 
 -- ---- byte by byte
 
-module _ (b i : ℕ) (s : List ℕ) where
-  pub found_more : i < length s → (get_or s i 0 ≡ b → ⊥) → found_from b i s ≡ found_from b (i + 1) s
-  unfolding found_from index_of
-  found_more h t =
-      rw (from_step i (i + 1) s refl h, ne_eqb (get_or s i 0) b t)
-      (let e : i + suc (index_of b (from (i + 1) s)) ≡ i + 1 + index_of b (from (i + 1) s) = omega arith in e)
+-- what is first looked at passes, or it does not
+pub index_hit : (b x : ℕ) (xs : List ℕ) → x ≡ b → index_of b (x ∷ xs) ≡ 0
+unfolding index_of
+index_hit b x xs e = rw (eq-eqb x b e)
 
-  pub found_stop : i < length s → get_or s i 0 ≡ b → found_from b i s ≡ i
-  unfolding found_from index_of
-  found_stop h t = rw (from_step i (i + 1) s refl h, eq-eqb (get_or s i 0) b t) (add-zero i)
+pub index_miss : (b x : ℕ) (xs : List ℕ) → (x ≡ b → ⊥) → index_of b (x ∷ xs) ≡ index_of b xs + 1
+unfolding index_of
+index_miss b x xs n = rw (ne_eqb x b n) (sym (add-one (index_of b xs)))
 
-  pub found_done : length s ≤ i → found_from b i s ≡ i
-  unfolding found_from index_of
-  found_done h = rw (from_none i s h) (add-zero i)
-
-  pub found_after : i ≤ found_from b i s
-  unfolding found_from
-  found_after = omega arith
+pub index_none : (b : ℕ) → index_of b [] ≡ 0
+unfolding index_of
+index_none b = refl
 
 -- it lies within the list
 index_within : (b : ℕ) (s : List ℕ) → index_of b s ≤ length s
@@ -68,27 +54,12 @@ none_among (suc k) b (x ∷ xs) h e = go (eqb x b) (none_among k b xs (omega ari
     go true r q = absurd (let z : ◌≡◌ {A = ℕ} 0 1 = cc in let y : ⊥ = omega arith in y)
     go false r q = let g = r q in omega arith
 
--- one of them
-one_among : (k b : ℕ) (s : List ℕ) → k ≤ length s → among k b s ≡ true → index_of b s < length s
-unfolding among index_of
-one_among zero b s h e = absurd (let z : ◌≡◌ {A = ℕ} 0 1 = cc in let y : ⊥ = omega arith in y)
-one_among (suc k) b [] h e = absurd (let y : ⊥ = omega arith in y)
-one_among (suc k) b (x ∷ xs) h e = go (eqb x b) (one_among k b xs (omega arith)) e
-  where
-    go : (t : Bool) → (among k b xs ≡ true → index_of b xs < length xs) → t || among k b xs ≡ true → cond t 0 (suc (index_of b xs)) < suc (length xs)
-    go true r q = omega arith
-    go false r q = let g = r q in omega arith
-
 module _ (b i : ℕ) (s : List ℕ) (room : i + 8 ≤ length s) where
-  pub found_eight : among 8 b (drop i s) ≡ false → found_from b i s ≡ found_from b (i + 8) s
-  unfolding found_from from
+  pub found_eight : among 8 b (drop i s) ≡ false → i + index_of b (drop i s) ≡ i + 8 + index_of b (drop (i + 8) s)
   found_eight e =
       let g = none_among 8 b (drop i s) (omega (arith, length-drop i s)) e in
       let q : i + (8 + index_of b (drop 8 (drop i s))) ≡ i + 8 + index_of b (drop 8 (drop i s)) = omega arith in
       ap (λ (k : ℕ). i + k) g ∙ q ∙ ap (λ (l : List ℕ). i + 8 + index_of b l) (drop-drop 8 i s)
-
-  pub found_known : among 8 b (drop i s) ≡ true → i + index_of b (drop i s) < length s
-  found_known e = let g = one_among 8 b (drop i s) (omega (arith, length-drop i s)) e in omega (arith, length-drop i s)
 
   -- the tests of a turn, as the code joins them
   eight_read : from i s ≡ get_or s i 0 ∷ get_or s (i + 1) 0 ∷ get_or s (i + 2) 0 ∷ get_or s (i + 3) 0 ∷ get_or s (i + 4) 0 ∷ get_or s (i + 5) 0 ∷ get_or s (i + 6) 0 ∷ get_or s (i + 7) 0

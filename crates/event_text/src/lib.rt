@@ -9,4 +9,4 @@ mod number;
 pub use eight::four_bytes;
 pub use field::{first_end, is_word};
 pub use find::find_byte;
-pub use number::{Number, NumberAt, digits_at, number_at, number_of};
+pub use number::{NumberEnd, digits_at, number_at, number_of};

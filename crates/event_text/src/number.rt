@@ -9,104 +9,68 @@ const ZERO: u64 = 48;
 
 const NINE: u64 = 57;
 
-// The largest number that a digit may follow.
-const MOST: u64 = u64::MAX / 10;
-
-#[derive(Clone, Copy)]
-pub enum Number {
-    Is(u64),
-    NoNumber,
-}
-
 // A number that stands in a text, and where it ends.
 #[derive(Clone, Copy)]
-pub enum NumberAt {
-    Ends(u64, usize),
-    Malformed,
-}
-
-// The digits from a place to `end`, as a number.
-#[derive(Clone, Copy)]
-struct Start {
-    value: u64,
-    end: usize,
+pub struct NumberEnd {
+    pub value: u64,
+    pub end: usize,
 }
 
 // Returns the number `value` of the digits from `at` to `end`; with no digit there is no number.
-fn ended(value: u64, at: usize, end: usize) -> NumberAt
+fn ended(value: u64, at: usize, end: usize) -> Option<NumberEnd>
     requires { (at ≤ end) × (end ≤ at + 19) × (value < 2 ^ 64) }
     ensures { result ≡ read_on value at end [] }
 {
     if at < end {
-        return NumberAt::Ends(value, end);
+        return Some(NumberEnd { value, end });
     }
-    NumberAt::Malformed
+    None
 }
 
 // Reads on after nineteen digits: there may be a twentieth, with which the number may be too large.
-fn last_digit(text: &[u8], value: u64, i: usize) -> NumberAt
+fn last_digit(text: &[u8], value: u64, i: usize) -> Option<NumberEnd>
     requires { (19 ≤ i) × (i < length text.now) × (value < 2 ^ 64) }
     ensures { result ≡ read_on value (i - 19) i (leading_digits (drop i text.now)) }
 {
     let byte = wide(text[i]);
     if (byte < ZERO) | (NINE < byte) {
-        return NumberAt::Ends(value, i);
+        return Some(NumberEnd { value, end: i });
     }
-    if MOST < value {
-        return NumberAt::Malformed;
+    let value = value.checked_mul(10)?.checked_add(byte - ZERO)?;
+    let end = i + 1;
+    if text.len() <= end {
+        return Some(NumberEnd { value, end });
     }
-    let digit = byte - ZERO;
-    let tens = value * 10;
-    if u64::MAX - tens < digit {
-        return NumberAt::Malformed;
-    }
-    let next = i + 1;
-    if text.len() <= next {
-        return NumberAt::Ends(tens + digit, next);
-    }
-    let after = wide(text[next]);
+    let after = wide(text[end]);
     if (after < ZERO) | (NINE < after) {
-        return NumberAt::Ends(tens + digit, next);
+        return Some(NumberEnd { value, end });
     }
-    NumberAt::Malformed
-}
-
-// Returns where the first nineteen bytes from `at` on end, or the text.
-fn nineteen(size: usize, at: usize) -> usize
-    requires { at ≤ size }
-    ensures { (at ≤ result) × (result ≤ size) × (result ≤ at + 19) × (result < size → result ≡ at + 19) }
-{
-    if 19 < size - at {
-        return at + 19;
-    }
-    size
+    None
 }
 
 // Returns the number that the digits from `at` on are, of which those before `from` are `start`. Nineteen of
 // them are never too large, so they need no other test.
-fn rest_digits(text: &[u8], at: usize, from: usize, start: u64) -> NumberAt
+fn rest_digits(text: &[u8], at: usize, from: usize, start: u64) -> Option<NumberEnd>
     requires { (at ≤ from) × (from ≤ length text.now) × (from ≤ at + 19) × (start < 10 ^ (from - at)) }
     ensures { result ≡ read_on start at from (leading_digits (drop from text.now)) }
 {
-    let stop = nineteen(text.len(), at);
+    let stop = at + (text.len() - at).min(19);
     let mut value = start;
-    let mut i = from;
-    while i < stop {
+    for i in from..stop {
         let byte = wide(text[i]);
         if (byte < ZERO) | (NINE < byte) {
             return ended(value, at, i);
         }
         value = value * 10 + (byte - ZERO);
-        i += 1;
     }
-    if i == text.len() {
-        return ended(value, at, i);
+    if stop == text.len() {
+        return ended(value, at, stop);
     }
-    last_digit(text, value, i)
+    last_digit(text, value, stop)
 }
 
 // Returns the number that the first sixteen digits from `at` on are, and where they end; 0 and `at` where there are fewer.
-fn sixteen_digits(text: &[u8], at: usize) -> Start
+fn sixteen_digits(text: &[u8], at: usize) -> NumberEnd
     requires { at ≤ length text.now }
     ensures { StartsDigits text.now at result.value result.end }
 {
@@ -114,17 +78,17 @@ fn sixteen_digits(text: &[u8], at: usize) -> Start
         let high = eight_digits(text, at);
         let low = eight_digits(text, at + 8);
         if (high.count == 8) & (low.count == 8) {
-            return Start {
+            return NumberEnd {
                 value: high.value * 100000000 + low.value,
                 end: at + 16,
             };
         }
     }
-    Start { value: 0, end: at }
+    NumberEnd { value: 0, end: at }
 }
 
 // Returns the number that the digits from `at` on are. The first sixteen of many are read at once.
-fn many_digits(text: &[u8], at: usize) -> NumberAt
+fn many_digits(text: &[u8], at: usize) -> Option<NumberEnd>
     requires { at ≤ length text.now }
     ensures { result ≡ digits_at text.now at }
 {
@@ -133,7 +97,7 @@ fn many_digits(text: &[u8], at: usize) -> NumberAt
 }
 
 // Returns the number that the digits from `at` on are. Most numbers have one digit, so a second one is looked for first; up to seven are read at once.
-pub fn digits_at(text: &[u8], at: usize) -> NumberAt
+pub fn digits_at(text: &[u8], at: usize) -> Option<NumberEnd>
     requires { at ≤ length text.now }
     ensures { result ≡ digits_at text.now at }
 {
@@ -157,31 +121,27 @@ pub fn digits_at(text: &[u8], at: usize) -> NumberAt
 }
 
 // Returns the number that the field from `at` on is.
-pub fn number_at(line: &[u8], at: usize) -> NumberAt
+pub fn number_at(line: &[u8], at: usize) -> Option<NumberEnd>
     requires { at ≤ length line.now }
     ensures { result ≡ number_at line.now at }
 {
-    let NumberAt::Ends(value, end) = digits_at(line, at) else {
-        return NumberAt::Malformed;
-    };
-    if line.len() <= end {
-        return NumberAt::Ends(value, end);
+    let read = digits_at(line, at)?;
+    if line.len() <= read.end {
+        return Some(read);
     }
-    if line[end] == b',' {
-        return NumberAt::Ends(value, end);
+    if line[read.end] == b',' {
+        return Some(read);
     }
-    NumberAt::Malformed
+    None
 }
 
 // Returns the number that all of s is.
-pub fn number_of(s: &[u8]) -> Number
+pub fn number_of(s: &[u8]) -> Option<u64>
     ensures { result ≡ number_of s.now }
 {
-    let NumberAt::Ends(value, end) = number_at(s, 0) else {
-        return Number::NoNumber;
-    };
-    if end == s.len() {
-        return Number::Is(value);
+    let read = number_at(s, 0)?;
+    if read.end == s.len() {
+        return Some(read.value);
     }
-    Number::NoNumber
+    None
 }

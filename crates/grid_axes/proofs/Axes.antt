@@ -11,7 +11,7 @@ use Rattle.base_blocks.proofs.Numbers.{ceil_covers, ceil_least, ceil_below, ceil
 use Rattle.base_blocks.proofs.Lists.{passed}
 use Rattle.grid_axes.specs.declared.axis.Axis.{Axis}
 use Rattle.grid_axes.specs.declared.axis.Span.{Span}
-use Rattle.grid_axes.specs.declared.axis.Touched.TheVariants.{Tiles, NoTiles}
+use Rattle.std.specs.Prelude.{Some, None}
 use Rattle.grid_axes.specs.Axes.{tile_edge, axis_of, AxisOk, tiles_of, cut_end, is_cut, touched, touched_tiles, SpanIn, span_start, span_size}
 use Rattle.grid_axes.specs.AxisConstants.{max_tiles_per_axis, min_tile_texels}
 
@@ -191,21 +191,21 @@ pub record Found (a : Axis) (start size : ℕ) (s : Span) : Type 0 where
   pub first : s.first ≡ start / a.edge
   pub last : s.last ≡ (cut_end a start size - 1) / a.edge
 
-pub tiles_found : (a : Axis) (start size : ℕ) (s : Span) → touched_tiles a start size ≡ Tiles s → Found a start size s
+pub tiles_found : (a : Axis) (start size : ℕ) (s : Span) → touched_tiles a start size ≡ Some s → Found a start size s
 unfolding touched_tiles
 tiles_found a start size s e = go (is_cut a start size) refl
   where
     go : (b : Bool) → is_cut a start size ≡ b → Found a start size s
     go true c =
-        let f : Tiles (record { first = start / a.edge; last = (cut_end a start size - 1) / a.edge }) ≡ Tiles s = rw c at e in
+        let f : Some (record { first = start / a.edge; last = (cut_end a start size - 1) / a.edge }) ≡ Some s = rw c at e in
         let q : s ≡ record { first = start / a.edge; last = (cut_end a start size - 1) / a.edge } = cc in
         record { cut = c; first = ap (λ (u : Span). u.first) q; last = ap (λ (u : Span). u.last) q }
-    go false c = absurd (let f : NoTiles ≡ Tiles s = rw c at e in let z : ◌≡◌ {A = ℕ} 0 1 = cc in let y : ⊥ = omega arith in y)
+    go false c = absurd (let f : None ≡ Some s = rw c at e in let z : ◌≡◌ {A = ℕ} 0 1 = cc in let y : ⊥ = omega arith in y)
 
-pub tiles_none : (a : Axis) (start size : ℕ) → touched_tiles a start size ≡ NoTiles → is_cut a start size ≡ false
+pub tiles_none : (a : Axis) (start size : ℕ) → touched_tiles a start size ≡ None → is_cut a start size ≡ false
 unfolding touched_tiles
 tiles_none a start size e = go (is_cut a start size) refl
   where
     go : (b : Bool) → is_cut a start size ≡ b → is_cut a start size ≡ false
-    go true c = absurd (let f : Tiles (record { first = start / a.edge; last = (cut_end a start size - 1) / a.edge }) ≡ NoTiles = rw c at e in let z : ◌≡◌ {A = ℕ} 0 1 = cc in let y : ⊥ = omega arith in y)
+    go true c = absurd (let f : Some (record { first = start / a.edge; last = (cut_end a start size - 1) / a.edge }) ≡ None = rw c at e in let z : ◌≡◌ {A = ℕ} 0 1 = cc in let y : ⊥ = omega arith in y)
     go false c = c

@@ -1,11 +1,9 @@
 -- Rule: One axis of a level: its tiles, and what a run of texels along it touches (01, "Levels, tiles, shapes" and "The stamp grid").
 -- A level's grid is made of two of these.
-use Rattle.std.specs.Prelude.{ℕ, suc, ◌+◌, ◌-◌, ◌*◌, ◌/◌, ◌≤◌, ◌<◌, min, max, Bool, cond, List, [], ◌∷◌, ltb}
+use Rattle.std.specs.Prelude.{ℕ, suc, ◌+◌, ◌-◌, ◌*◌, ◌/◌, ◌≤◌, ◌<◌, min, max, Bool, cond, List, [], ◌∷◌, ltb, Option, Some, None}
 use Rattle.base_blocks.specs.Lists.{ceil_div, tests}
 use Rattle.grid_axes.specs.declared.axis.Axis.{Axis}
 use Rattle.grid_axes.specs.declared.axis.Span.{Span}
-use Rattle.grid_axes.specs.declared.axis.Touched.{Touched}
-use Rattle.grid_axes.specs.declared.axis.Touched.TheVariants.{Tiles, NoTiles}
 use Rattle.grid_axes.specs.AxisConstants.{max_tiles_per_axis, min_tile_texels}
 
 -- extent / 32 rounded up, at least 16, raised to a multiple of the block edge
@@ -40,9 +38,9 @@ unfoldable pub touched : Axis → ℕ → ℕ → ℕ → Bool
 touched a start size t =
     tests (is_cut a start size ∷ ltb start (suc t * a.edge) ∷ ltb (t * a.edge) (cut_end a start size) ∷ [])
 
--- the touched tiles by number: from the first texel's to the last texel's
-unfoldable pub touched_tiles : Axis → ℕ → ℕ → Touched
-touched_tiles a start size = cond (is_cut a start size) (Tiles (record { first = start / a.edge; last = (cut_end a start size - 1) / a.edge })) NoTiles
+-- the touched tiles by number: from the first texel's to the last texel's; an empty cut touches none
+unfoldable pub touched_tiles : Axis → ℕ → ℕ → Option Span
+touched_tiles a start size = cond (is_cut a start size) (Some (record { first = start / a.edge; last = (cut_end a start size - 1) / a.edge })) None
 
 -- a span of tiles along an axis
 pub record SpanIn (a : Axis) (s : Span) : Type 0 where

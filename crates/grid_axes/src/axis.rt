@@ -4,25 +4,19 @@ ghost use Rattle.grid_axes.specs.Axes.{AxisOk, tiles_of, touched_tiles, SpanIn, 
 
 use crate::constants::MIN_TILE_TEXELS;
 
-// Texels along the axis, and texels along a tile's side.
-#[derive(Clone, Copy)]
+// Texels along the axis, and texels along a tile's side. It holds no fact of its own: `axis_in` answers for every table of that length and promises nothing
+// of the edge, so the functions that need a level's axis ask for `AxisOk`.
+#[derive(Clone, Copy, PartialEq, Eq)]
 pub struct Axis {
     pub extent: u64,
     pub edge: u64,
 }
 
 // Tiles from the first to the last, both counted.
-#[derive(Clone, Copy)]
+#[derive(Clone, Copy, PartialEq, Eq)]
 pub struct Span {
     pub first: u64,
     pub last: u64,
-}
-
-// The tiles that a run of texels touches.
-#[derive(Clone, Copy)]
-pub enum Touched {
-    Tiles(Span),
-    NoTiles,
 }
 
 // Returns the tile that a texel lies in. An axis of up to 512 texels has tiles of 16, which need no division.
@@ -44,24 +38,20 @@ pub fn tiles(a: Axis) -> u64
     tile_of(a.extent + (a.edge - 1), a.edge)
 }
 
-// Returns the tiles that `size` texels from `start` on touch, cut to the level.
-pub fn touched_tiles(a: Axis, start: u64, size: u64) -> Touched
+// Returns the tiles that `size` texels from `start` on touch, cut to the level, or none for an empty cut.
+pub fn touched_tiles(a: Axis, start: u64, size: u64) -> Option<Span>
     requires { AxisOk a }
     ensures { result ≡ touched_tiles a start size }
 {
     if a.extent <= start {
-        return Touched::NoTiles;
+        return None;
     }
     if size == 0 {
-        return Touched::NoTiles;
+        return None;
     }
     let room = a.extent - start;
-    let last = if size < room {
-        start + size - 1
-    } else {
-        a.extent - 1
-    };
-    Touched::Tiles(Span {
+    let last = start + size.min(room) - 1;
+    Some(Span {
         first: tile_of(start, a.edge),
         last: tile_of(last, a.edge),
     })
@@ -82,9 +72,5 @@ pub fn span_size(a: Axis, s: Span) -> u64
 {
     let start = s.first * a.edge;
     let end = (s.last + 1) * a.edge;
-    if end < a.extent {
-        end - start
-    } else {
-        a.extent - start
-    }
+    end.min(a.extent) - start
 }

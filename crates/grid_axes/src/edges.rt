@@ -12,13 +12,6 @@ use crate::tables::block_4::TILE_EDGES_4;
 // Added before a division by MAX_TILES_PER_AXIS, so that it rounds up. A difference in the code would ask for one proof more.
 const ROUND_UP: u64 = MAX_TILES_PER_AXIS - 1;
 
-// Widens an entry of a table.
-fn wide(x: u16) -> u64
-    ensures { result ≡ x }
-{
-    x as u64
-}
-
 // Returns where a table has the edge of an axis: at `extent` over 32 rounded up.
 fn edge_index(extent: u64) -> usize
     requires { extent ≤ 16384 }
@@ -32,7 +25,7 @@ fn entry_of(edges: &[u16], k: usize) -> u64
     requires { k < length edges.now }
     ensures { result ≡ entry_of edges.now k }
 {
-    wide(edges[k])
+    edges[k] as u64
 }
 
 // Returns the axis of a level of `extent` texels, by the table of its format's blocks.

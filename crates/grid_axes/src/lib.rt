@@ -6,7 +6,7 @@ mod constants;
 mod edges;
 mod tables;
 
-pub use axis::{Axis, Span, Touched, span_size, span_start, tiles, touched_tiles};
+pub use axis::{Axis, Span, span_size, span_start, tiles, touched_tiles};
 pub use constants::{EDGE_ENTRIES, MAX_TILES_PER_AXIS, MIN_TILE_TEXELS};
 pub use edges::{axis_in, axis_of, table_edge, tile_edge};
 pub use tables::block_1::TILE_EDGES_1;

@@ -6,6 +6,7 @@ use mathlib.Core.List.{[], ◌∷◌, map}
 use native.Mathlib.Omega.{arith}
 use native.Mathlib.Nat.{zero-add, mod-zero, mod-one}
 use lib.Dec.{eqb}
+use Rattle.std.specs.Prelude.{IsTrue, ◌↔◌}
 use borrow.Author.Tests.{eqb-true, eqb-false, eq-eqb, ne_eqb}
 use Rattle.grid_rects.specs.declared.rect.TexelRect.{TexelRect}
 use Rattle.grid_rects.specs.Rects.{whole_level, is_multiple_of, side_on_grid, rect_on_grid, written_rect}
@@ -33,12 +34,13 @@ unfolding is_multiple_of
 multiple_mod number zero = rw (mod-zero number)
 multiple_mod number (suc block) = rw (ne_eqb (suc block) 0 (λ e. let y : ⊥ = omega arith in y))
 
-pub multiple_zero : (number block : ℕ) → block ≡ 0 → is_multiple_of number block ≡ eqb number 0
-unfolding is_multiple_of
-multiple_zero number block e = rw (eq-eqb block 0 e)
-
 pub mod_multiple : (number block : ℕ) → number % block ≡ 0 → is_multiple_of number block ≡ true
 mod_multiple number block e = multiple_mod number block ∙ eq-eqb (number % block) 0 e
+
+-- the library's answer is the definition's
+pub multiple_answer : (answer : Bool) (number block : ℕ) → IsTrue answer ↔ (number % block ≡ 0) → answer ≡ is_multiple_of number block
+multiple_answer true number block h = sym (mod_multiple number block (h.0 refl))
+multiple_answer false number block h = sym (multiple_mod number block ∙ ne_eqb (number % block) 0 (λ e. let q : false ≡ true = h.1 e in cc))
 
 -- a side that starts on the grid and ends at the level's edge
 pub side_at_edge : (block start size extent : ℕ) → is_multiple_of start block ≡ true → start + size ≡ extent → side_on_grid block start size extent ≡ true

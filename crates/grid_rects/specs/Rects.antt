@@ -1,12 +1,9 @@
 -- Rule: Rectangles on a format's block grid, and what an upload writes (the Rust's `rect_on_block_grid` and `upload_written_rect`).
-use Rattle.std.specs.Prelude.{ℕ, ◌+◌, ◌%◌, Bool, cond, ◌&&◌, ◌||◌, List, [], ◌∷◌, leb, eqb}
+use Rattle.std.specs.Prelude.{ℕ, ◌+◌, ◌%◌, Bool, cond, ◌&&◌, ◌||◌, List, [], ◌∷◌, leb, eqb, Option, Some, None, Result, Ok, Err}
 use Rattle.grid_rects.specs.declared.rect.TexelRect.{TexelRect}
-use Rattle.grid_rects.specs.declared.upload.Compressed.{Compressed}
-use Rattle.grid_rects.specs.declared.upload.UploadAnswer.{UploadAnswer}
-use Rattle.grid_rects.specs.declared.upload.UploadAnswer.TheVariants.{Written, NoFormat}
-use Rattle.grid_rects.specs.declared.upload.Compressed.TheVariants.{Format, ByTexel}
 use Rattle.grid_shapes.specs.Formats.{block_edge}
-use Rattle.grid_shapes.specs.Outcomes.{Outcome, accepted, refused}
+use Rattle.grid_shapes.specs.declared.refusal.Refusal.{Refusal}
+use Rattle.grid_shapes.specs.Outcomes.{Outcome, accepted, refused, number_of}
 
 -- the whole of a level
 unfoldable pub whole_level : ℕ → ℕ → TexelRect
@@ -33,11 +30,11 @@ unfoldable pub rect_fields : TexelRect → List ℕ
 rect_fields r = r.x ∷ r.y ∷ r.width ∷ r.height ∷ []
 
 -- 01's number and fields for each case of an answer
-unfoldable pub of_upload : UploadAnswer → Outcome
-of_upload (Written r) = accepted (rect_fields r)
-of_upload NoFormat = refused 2
+unfoldable pub of_upload : Result TexelRect Refusal → Outcome
+of_upload (Ok r) = accepted (rect_fields r)
+of_upload (Err e) = refused (number_of e)
 
--- an upload by texel writes its rectangle; a format past 8 is refused as 2
-unfoldable pub upload_outcome : TexelRect → ℕ → ℕ → Compressed → Outcome
-upload_outcome rect width height ByTexel = accepted (rect_fields rect)
-upload_outcome rect width height (Format format) = cond (leb format 8) (accepted (rect_fields (written_rect rect width height format))) (refused 2)
+-- an upload by texel, which has no format, writes its rectangle; a format past 8 is refused as 2
+unfoldable pub upload_outcome : TexelRect → ℕ → ℕ → Option ℕ → Outcome
+upload_outcome rect width height None = accepted (rect_fields rect)
+upload_outcome rect width height (Some format) = cond (leb format 8) (accepted (rect_fields (written_rect rect width height format))) (refused 2)

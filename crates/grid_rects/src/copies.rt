@@ -6,7 +6,7 @@ ghost use Rattle.grid_shapes.specs.Shapes.{is_shape};
 
 use crate::rect::Region;
 use grid_shapes::{
-    BytesAnswer, VersionShape, block_bytes, block_edge, is_shape, level_depth, level_extent,
+    Refusal, VersionShape, block_bytes, block_edge, is_shape, level_depth, level_extent,
 };
 
 // Returns how many of `size` texels from `start` on lie within `extent`.
@@ -17,7 +17,7 @@ pub fn cut_size(extent: u64, start: u64, size: u64) -> u64
         return 0;
     }
     let room = extent - start;
-    if size < room { size } else { room }
+    size.min(room)
 }
 
 // Returns how many blocks of `edge` texels, from texel 0 on, `texels` texels from `start` on touch.
@@ -70,14 +70,14 @@ fn level_copy_bytes(s: VersionShape, level: u64, region: Region) -> u64
 }
 
 // Returns the bytes of a copy of the region: 0 in a level that the shape lacks, a refusal for what is no shape.
-pub fn copy_bytes(s: VersionShape, level: u64, region: Region) -> BytesAnswer
+pub fn copy_bytes(s: VersionShape, level: u64, region: Region) -> Result<u64, Refusal>
     ensures { of_bytes result ≡ copy_outcome s level region }
 {
     if !is_shape(s) {
-        return BytesAnswer::NoShape;
+        return Err(Refusal::BadShape);
     }
     if s.levels <= level {
-        return BytesAnswer::Bytes(0);
+        return Ok(0);
     }
-    BytesAnswer::Bytes(level_copy_bytes(s, level, region))
+    Ok(level_copy_bytes(s, level, region))
 }

@@ -9,4 +9,4 @@ mod upload;
 
 pub use copies::copy_bytes;
 pub use rect::{Region, TexelRect, level_rect, rect_on_block_grid};
-pub use upload::{Compressed, UploadAnswer, upload_written_rect};
+pub use upload::upload_written_rect;

@@ -1,8 +1,8 @@
 // A rectangle of texels in one level, and the block grid's rule for it.
 ghost use Rattle.std.specs.Prelude.{◌≡◌};
-ghost use Rattle.grid_rects.specs.Rects.{whole_level, is_multiple_of, side_on_grid, rect_on_grid};
+ghost use Rattle.grid_rects.specs.Rects.{whole_level, side_on_grid, rect_on_grid};
 
-#[derive(Clone, Copy)]
+#[derive(Clone, Copy, PartialEq, Eq)]
 pub struct TexelRect {
     pub x: u64,
     pub y: u64,
@@ -10,7 +10,7 @@ pub struct TexelRect {
     pub height: u64,
 }
 
-// A part of a level: all of it, or a rectangle.
+// A part of a level: all of it, or a rectangle. `Option<TexelRect>` is no plainer: its `None` would mean the whole level.
 #[derive(Clone, Copy)]
 pub enum Region {
     Whole,
@@ -29,25 +29,16 @@ pub fn level_rect(width: u64, height: u64) -> TexelRect
     }
 }
 
-// Returns whether `number` is a multiple of `block`. Of 0 that is 0 alone, as in the Rust, so that no block is refused.
-fn is_multiple_of(number: u64, block: u64) -> bool
-    ensures { result ≡ is_multiple_of number block }
-{
-    if block == 0 {
-        return number == 0;
-    }
-    number % block == 0
-}
-
 // Returns whether one side of a rectangle, `size` texels from `start` on along an axis of `extent`, starts and ends on the block grid. The last block
 // of a level may be cut off, so a side that ends with the level passes.
 pub fn side_on_grid(block: u64, start: u64, size: u64, extent: u64) -> bool
     ensures { result ≡ side_on_grid block start size extent }
 {
-    if !is_multiple_of(start, block) {
+    // A multiple of 0 is 0 alone, as in the Rust, so that no block is refused.
+    if !start.is_multiple_of(block) {
         return false;
     }
-    if is_multiple_of(size, block) {
+    if size.is_multiple_of(block) {
         return true;
     }
     // The sum of start and size could wrap, so it is not made.

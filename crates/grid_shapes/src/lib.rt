@@ -7,12 +7,13 @@
 mod constants;
 mod format;
 mod recording;
+mod refusal;
 mod shape;
 
 pub use constants::MOST_SHAPE_BYTES;
 pub use format::{block_bytes, block_edge};
-pub use recording::{RecordsAnswer, records_every_write};
+pub use recording::records_every_write;
+pub use refusal::Refusal;
 pub use shape::{
-    BytesAnswer, VersionShape, bytes, is_shape, level_depth, level_extent, same_shape, shape_bytes,
-    slices,
+    VersionShape, bytes, is_shape, level_depth, level_extent, same_shape, shape_bytes, slices,
 };

@@ -1,15 +1,16 @@
 // The creation shape that a pooled version shares with the texture it serves.
-ghost use Rattle.std.specs.Prelude.{◌≡◌, true, ℕ, ◌*◌, ◌≤◌, ◌<◌, max};
+ghost use Rattle.std.specs.Prelude.{◌≡◌, true, ℕ, ◌*◌, ◌≤◌, ◌<◌};
 ghost use Rattle.base_blocks.specs.Lists.{ceil_div, listed, total};
 ghost use Rattle.grid_shapes.specs.Formats.{block_edge};
 ghost use Rattle.grid_shapes.specs.Outcomes.{of_bytes};
 ghost use Rattle.grid_shapes.specs.Shapes.{is_shape, same_shape, slices_of, level_extent, level_depth, level_blocks, bytes_of, bytes_outcome};
 
 use crate::format::{block_bytes, block_edge};
+use crate::refusal::Refusal;
 
 // Every field of the Rust's creation descriptor but the id, which only labels the texture: spares made for one shape cannot serve
 // another. Storage mode, usage and the four swizzle bytes (red to alpha) are compared only.
-#[derive(Clone, Copy)]
+#[derive(Clone, Copy, PartialEq, Eq)]
 pub struct VersionShape {
     pub format: u64,
     pub width: u64,
@@ -23,12 +24,6 @@ pub struct VersionShape {
     pub green: u64,
     pub blue: u64,
     pub alpha: u64,
-}
-
-#[derive(Clone, Copy)]
-pub enum BytesAnswer {
-    Bytes(u64),
-    NoShape,
 }
 
 // Returns whether the shape passes refusal 2: its extents, levels, kind and format are ones that the pool takes.
@@ -48,18 +43,7 @@ pub fn is_shape(s: VersionShape) -> bool
 pub fn same_shape(a: VersionShape, b: VersionShape) -> bool
     ensures { result ≡ same_shape a b }
 {
-    (a.format == b.format)
-        & (a.width == b.width)
-        & (a.height == b.height)
-        & (a.depth == b.depth)
-        & (a.levels == b.levels)
-        & (a.kind == b.kind)
-        & (a.storage == b.storage)
-        & (a.usage == b.usage)
-        & (a.red == b.red)
-        & (a.green == b.green)
-        & (a.blue == b.blue)
-        & (a.alpha == b.alpha)
+    a == b
 }
 
 // Returns the array slices: six faces for a cube, one otherwise.
@@ -67,13 +51,6 @@ pub fn slices(s: VersionShape) -> u64
     ensures { result ≡ slices_of s }
 {
     if s.kind == 1 { 6 } else { 1 }
-}
-
-// Returns the texels, at least one: no axis and no level has fewer.
-fn at_least_one(texels: u64) -> u64
-    ensures { result ≡ max 1 texels }
-{
-    if texels == 0 { 1 } else { texels }
 }
 
 // Returns the extent of mip `level` along an axis whose level 0 has `base` texels.
@@ -84,7 +61,8 @@ pub fn level_extent(base: u64, level: u64) -> u64
     if 63 < level {
         return 1;
     }
-    at_least_one(at_least_one(base) >> level)
+    // No axis and no level has fewer texels than one.
+    (base.max(1) >> level).max(1)
 }
 
 // Returns the depth of a level of a volume; 1 otherwise.
@@ -130,13 +108,11 @@ fn shape_blocks(s: VersionShape, edge: u64) -> u64
     let mut down = level_extent(s.height, 0);
     let mut deep = level_depth(s, 0);
     let mut sum = level_blocks(across, down, deep, edge);
-    let mut last = 0;
-    while last + 1 < s.levels {
-        across = at_least_one(across / 2);
-        down = at_least_one(down / 2);
-        deep = at_least_one(deep / 2);
+    for _ in 1..s.levels {
+        across = (across / 2).max(1);
+        down = (down / 2).max(1);
+        deep = (deep / 2).max(1);
         sum += level_blocks(across, down, deep, edge);
-        last += 1;
     }
     sum
 }
@@ -155,12 +131,12 @@ pub fn shape_bytes(s: VersionShape) -> u64
 }
 
 // Returns the bytes of one version, or refuses what is no shape.
-pub fn bytes(s: VersionShape) -> BytesAnswer
+pub fn bytes(s: VersionShape) -> Result<u64, Refusal>
     ensures { of_bytes result ≡ bytes_outcome s }
 {
     if is_shape(s) {
-        BytesAnswer::Bytes(shape_bytes(s))
+        Ok(shape_bytes(s))
     } else {
-        BytesAnswer::NoShape
+        Err(Refusal::BadShape)
     }
 }

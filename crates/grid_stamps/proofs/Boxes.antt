@@ -8,11 +8,12 @@ use lib.ListN.{length, get_or}
 use borrow.Author.Tests.{ltb-true, lt-ltb, lt-leb}
 use Rattle.base_blocks.specs.All.{All, nil, cons}
 use Rattle.base_blocks.proofs.All.{all_head, all_tail, all_kept, all_keep, all_flat_map, all_listed, kept_at}
-use Rattle.grid_stamps.specs.declared.since.Dirty.{Dirty}
-use Rattle.grid_stamps.specs.declared.since.Dirty.TheVariants.{Box, Clean}
-use Rattle.grid_stamps.specs.declared.dirty.DirtyTile.TheVariants.{At, NoTile}
+use Rattle.std.specs.Prelude.{Option, Some, None}
+use Rattle.grid_rects.specs.declared.rect.TexelRect.{TexelRect}
 use Rattle.grid_axes.specs.Axes.{one_tile, span_around}
-use Rattle.grid_stamps.specs.Grids.{Tiling, TilingOk, columns_of, rows_of, stamp_count, StampGrid, row_by_row, stamp_of, Tile, dirty_tiles, box_of, box_around, box_since, IsDirtyTile}
+use Rattle.grid_stamps.specs.declared.grid.Tiling.{Tiling}
+use Rattle.grid_stamps.specs.declared.grid.Tile.{Tile}
+use Rattle.grid_stamps.specs.Grids.{TilingOk, columns_of, rows_of, stamp_count, StampGrid, row_by_row, stamp_of, dirty_tiles, box_of, box_around, box_since, some_tile, IsDirtyTile}
 use Rattle.grid_axes.proofs.Axes.{span_holds}
 use Rattle.grid_stamps.proofs.RowByRow.{tile_place, tile_at, length_rows, value_at}
 use Rattle.grid_axes.proofs.Spans.{InSpan, around_base, around_each, one_holds}
@@ -55,9 +56,9 @@ module _ (columns rows held : ℕ) (stamps : List ℕ) where
 -- ---- the box around tiles
 
 -- a texel of the box, if there is one
-abbrev pub InDirty : Dirty → ℕ → ℕ → Type 0
-InDirty Clean x y = ⊥
-InDirty (Box r) x y = InRect r x y
+abbrev pub InDirty : Option TexelRect → ℕ → ℕ → Type 0
+InDirty None x y = ⊥
+InDirty (Some r) x y = InRect r x y
 
 module _ (g : Tiling) (ok : TilingOk g) where
   -- a box that holds a texel's tile holds the texel
@@ -94,13 +95,13 @@ module _ (g : Tiling) (ok : TilingOk g) where
 -- ---- the dirty tile
 
 module _ (g : Tiling) (held : ℕ) (page : List ℕ) (columns count : ℕ) (wide : columns ≡ columns_of g) (many : count ≡ stamp_count g) where
-  pub dirty_found : (k : ℕ) → k < count → held < get_or page k 0 → IsDirtyTile g held page (At (k % columns) (k / columns))
+  pub dirty_found : (k : ℕ) → k < count → held < get_or page k 0 → IsDirtyTile g held page (some_tile (k % columns) (k / columns))
   unfolding IsDirtyTile stamp_of stamp_count
   dirty_found k h above =
       let t = tile_at (columns_of g) (rows_of g) k (rw many at h) in
       rw wide (record { inside = (t.column, t.row); above = rw t.place at above })
 
-  pub dirty_none : ((i : ℕ) → i < count → get_or page i 0 ≤ held) → IsDirtyTile g held page NoTile
+  pub dirty_none : ((i : ℕ) → i < count → get_or page i 0 ≤ held) → IsDirtyTile g held page None
   unfolding IsDirtyTile stamp_of stamp_count
   dirty_none all column row h k =
       all (row * columns_of g + column) (rw many (tile_place (columns_of g) (rows_of g) column row h k))

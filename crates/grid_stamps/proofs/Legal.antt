@@ -13,10 +13,12 @@ use Rattle.base_blocks.proofs.All.{all_head, all_tail, all_map}
 use Rattle.grid_axes.specs.declared.axis.Axis.{Axis}
 use Rattle.grid_axes.specs.declared.axis.Span.{Span}
 use Rattle.grid_rects.specs.declared.rect.TexelRect.{TexelRect}
-use Rattle.grid_stamps.specs.declared.since.Dirty.TheVariants.{Box}
+use Rattle.std.specs.Prelude.{Some}
 use Rattle.grid_axes.specs.Axes.{SpanIn, one_tile, span_around, span_start, span_size}
 use Rattle.grid_rects.specs.Rects.{side_on_grid, rect_on_grid}
-use Rattle.grid_stamps.specs.Grids.{Tiling, TilingOk, columns_of, rows_of, StampGrid, Tile, dirty_tiles, box_of, box_around, box_since}
+use Rattle.grid_stamps.specs.declared.grid.Tiling.{Tiling}
+use Rattle.grid_stamps.specs.declared.grid.Tile.{Tile}
+use Rattle.grid_stamps.specs.Grids.{TilingOk, columns_of, rows_of, StampGrid, dirty_tiles, box_of, box_around, box_since}
 use Rattle.grid_axes.proofs.Axes.{span_size_pos, span_inside, span_end}
 use Rattle.grid_axes.proofs.Spans.{around_in, one_in}
 use Rattle.grid_rects.proofs.Rects.{mod_multiple, side_of_blocks, side_at_edge}
@@ -79,19 +81,19 @@ module _ (g : Tiling) (ok : TilingOk g) where
 
   -- what holds of the box around tiles of the grid, of both spans
   box_of_lem : (P : TexelRect → Type 0) → ((columns rows : Span) → SpanIn g.across columns → SpanIn g.down rows → P (box_of g columns rows))
-      → (ts : List Tile) → All (TileIn (columns_of g) (rows_of g)) ts → (r : TexelRect) → box_around g ts ≡ Box r → P r
+      → (ts : List Tile) → All (TileIn (columns_of g) (rows_of g)) ts → (r : TexelRect) → box_around g ts ≡ Some r → P r
   unfolding box_around
   box_of_lem P f [] all r e = absurd (let z : ◌≡◌ {A = ℕ} 0 1 = cc in let y : ⊥ = omega arith in y)
   box_of_lem P f (t ∷ ts) all r e =
       let q : box_of g (span_around (one_tile t.column) (map (λ (u : Tile). u.column) ts)) (span_around (one_tile t.row) (map (λ (u : Tile). u.row) ts)) ≡ r = cc in
       subst P q (f _ _ (columns_in t ts all) (rows_in t ts all))
 
-  module _ (grid : StampGrid) (held : ℕ) (r : TexelRect) (found : box_since g held grid ≡ Box r) where
-    around : box_around g (dirty_tiles (columns_of g) (rows_of g) held grid.stamps) ≡ Box r
+  module _ (grid : StampGrid) (held : ℕ) (r : TexelRect) (found : box_since g held grid ≡ Some r) where
+    around : box_around g (dirty_tiles (columns_of g) (rows_of g) held grid.stamps) ≡ Some r
     unfolding box_since
     around = go (leb grid.newest held) refl
       where
-        go : (b : Bool) → leb grid.newest held ≡ b → box_around g (dirty_tiles (columns_of g) (rows_of g) held grid.stamps) ≡ Box r
+        go : (b : Bool) → leb grid.newest held ≡ b → box_around g (dirty_tiles (columns_of g) (rows_of g) held grid.stamps) ≡ Some r
         go true e = absurd (let f = rw e at found in let z : ◌≡◌ {A = ℕ} 0 1 = cc in let y : ⊥ = omega arith in y)
         go false e = rw e at found
 

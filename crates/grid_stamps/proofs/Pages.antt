@@ -13,9 +13,10 @@ use Rattle.base_blocks.specs.Lists.{over}
 use Rattle.base_blocks.proofs.Lists.{and_both, length_over, get_or_over_in, get_or_over_past, over_self}
 use Rattle.grid_rects.specs.declared.rect.TexelRect.{TexelRect}
 use Rattle.grid_axes.specs.declared.axis.Span.{Span}
-use Rattle.grid_axes.specs.declared.axis.Touched.TheVariants.{Tiles}
+use Rattle.std.specs.Prelude.{Some}
 use Rattle.grid_axes.specs.Axes.{is_cut, cut_end, touched, touched_tiles, tiles_of}
-use Rattle.grid_stamps.specs.Grids.{Tiling, TilingOk, columns_of, rows_of, stamp_count, grid_in, stamp_of, touches, is_cut_rect, stamped_by}
+use Rattle.grid_stamps.specs.declared.grid.Tiling.{Tiling}
+use Rattle.grid_stamps.specs.Grids.{TilingOk, columns_of, rows_of, stamp_count, grid_in, stamp_of, touches, is_cut_rect, stamped_by}
 use Rattle.grid_stamps.specs.Scans.{rows_stamped, tiles_stamped, StampRoom}
 use Rattle.grid_axes.proofs.Axes.{touched_between, touched_from, touched_to, last_tile_in, first_last, Found, tiles_found}
 use Rattle.grid_stamps.proofs.RowByRow.{tile_place, tile_at, same_tiles}
@@ -154,7 +155,7 @@ module _ (g : Tiling) (ok : TilingOk g) (r : TexelRect) (n newest : ℕ) (page :
 
   -- ---- the same for spans that were found
 
-  module _ (cs rs : Span) (fc : touched_tiles g.across r.x r.width ≡ Tiles cs) (fr : touched_tiles g.down r.y r.height ≡ Tiles rs) where
+  module _ (cs rs : Span) (fc : touched_tiles g.across r.x r.width ≡ Some cs) (fr : touched_tiles g.down r.y r.height ≡ Some rs) where
     column_span : Found g.across r.x r.width cs
     column_span = tiles_found g.across r.x r.width cs fc
 

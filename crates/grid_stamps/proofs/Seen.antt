@@ -1,5 +1,5 @@
 -- The scan of a page sees the box around its dirty tiles. Assumes nothing.
-use mathlib.Core.Path.{◌≡◌, refl, sym, ap, ap₂, ◌∙◌}
+use mathlib.Core.Path.{◌≡◌, refl, sym, ap, ap₂, subst, ◌∙◌}
 use mathlib.Core.Bool.{Bool, true, false, cond}
 use mathlib.Core.List.{List, [], ◌∷◌, ◌++◌, map, flat_map}
 use Prim.Native.Nat.{ℕ, ◌+◌, ◌*◌, ◌≤◌, ◌<◌}
@@ -15,11 +15,13 @@ use Rattle.base_blocks.proofs.Lists.{all_get}
 use Rattle.base_blocks.proofs.Listed.{left, left_all, left_step, left_none}
 use Rattle.base_blocks.proofs.All.{all_listed, all_flat_map}
 use Rattle.grid_axes.specs.declared.axis.Span.{Span}
-use Rattle.grid_stamps.specs.declared.since.Dirty.{Dirty}
-use Rattle.grid_stamps.specs.declared.since.Dirty.TheVariants.{Box, Clean}
+use Rattle.std.specs.Prelude.{Option, Some, None}
+use Rattle.grid_rects.specs.declared.rect.TexelRect.{TexelRect}
 use Rattle.grid_stamps.specs.declared.since.Seen.{Seen}
 use Rattle.grid_axes.specs.Axes.{SpanIn, one_tile, widened, span_around}
-use Rattle.grid_stamps.specs.Grids.{Tiling, TilingOk, columns_of, rows_of, stamp_count, grid_in, row_by_row, stamp_of, Tile, dirty_tiles, box_of, box_around, box_since}
+use Rattle.grid_stamps.specs.declared.grid.Tiling.{Tiling}
+use Rattle.grid_stamps.specs.declared.grid.Tile.{Tile}
+use Rattle.grid_stamps.specs.Grids.{TilingOk, columns_of, rows_of, stamp_count, grid_in, row_by_row, stamp_of, dirty_tiles, box_of, box_around, box_since}
 use Rattle.grid_stamps.specs.Scans.{nothing_seen, joined, visited, all_joined, dirty_row}
 use Rattle.grid_stamps.proofs.RowByRow.{tile_place, keep_rows}
 use Rattle.grid_stamps.proofs.Boxes.{TileIn}
@@ -27,27 +29,14 @@ use Rattle.grid_stamps.proofs.Legal.{columns_in, rows_in}
 
 -- ---- what was seen is the box
 
--- the spans and the box of what was seen
-abbrev pub seen_columns : Seen → Span
-seen_columns s = record { first = s.left; last = s.right }
-
-abbrev pub seen_rows : Seen → Span
-seen_rows s = record { first = s.top; last = s.bottom }
-
-unfoldable pub seen_box : Tiling → Seen → Dirty
-seen_box g s = cond s.any (Box (box_of g (seen_columns s) (seen_rows s))) Clean
-
-pub seen_none : (g : Tiling) (s : Seen) → s.any ≡ false → seen_box g s ≡ Clean
-unfolding seen_box
-seen_none g s e = rw e
-
-pub seen_some : (g : Tiling) (s : Seen) → s.any ≡ true → seen_box g s ≡ Box (box_of g (seen_columns s) (seen_rows s))
-unfolding seen_box
-seen_some g s e = rw e
+-- the box of what was seen
+unfoldable pub seen_box : Tiling → Option Seen → Option TexelRect
+seen_box g None = None
+seen_box g (Some s) = Some (box_of g s.columns s.rows)
 
 -- two spans as what was seen
-abbrev seen : Span → Span → Seen
-seen c r = record { any = true; left = c.first; right = c.last; top = r.first; bottom = r.last }
+abbrev seen : Span → Span → Option Seen
+seen c r = Some (record { columns = c; rows = r })
 
 joined_spans : (c r : Span) (ts : List Tile) → all_joined (seen c r) ts ≡ seen (span_around c (map (λ (u : Tile). u.column) ts)) (span_around r (map (λ (u : Tile). u.row) ts))
 unfolding all_joined joined span_around widened
@@ -55,11 +44,11 @@ joined_spans c r [] = refl
 joined_spans c r (t ∷ ts) = joined_spans (widened c t.column) (widened r t.row) ts
 
 pub box_seen : (g : Tiling) (ts : List Tile) → box_around g ts ≡ seen_box g (all_joined nothing_seen ts)
-unfolding box_around seen_box all_joined joined nothing_seen one_tile
+unfolding box_around seen_box all_joined joined one_tile
 box_seen g [] = refl
 box_seen g (t ∷ ts) = sym (ap (seen_box g) (joined_spans (one_tile t.column) (one_tile t.row) ts))
 
-pub joined_append : (s : Seen) (ts us : List Tile) → all_joined s (ts ++ us) ≡ all_joined (all_joined s ts) us
+pub joined_append : (s : Option Seen) (ts us : List Tile) → all_joined s (ts ++ us) ≡ all_joined (all_joined s ts) us
 unfolding all_joined
 joined_append s [] us = refl
 joined_append s (t ∷ ts) us = joined_append (joined s t) ts us
@@ -81,7 +70,7 @@ module _ (columns row held : ℕ) (line : List ℕ) where
   unfolding row_left dirty_row
   row_all = ap (keep (dirty held line)) (left_all (tile row) columns)
 
-  pub row_step : (s : Seen) (i : ℕ) → i < columns
+  pub row_step : (s : Option Seen) (i : ℕ) → i < columns
       → all_joined s (row_left columns row held line i) ≡ all_joined (visited s (get_or line i 0) held i row) (row_left columns row held line (i + 1))
   unfolding row_left visited keep all_joined
   row_step s i h = ap (λ l. all_joined s (keep (dirty held line) l)) (left_step (tile row) columns i h) ∙ go (ltb held (get_or line i 0)) refl
@@ -92,7 +81,7 @@ module _ (columns row held : ℕ) (line : List ℕ) where
       go true e = rw e
       go false e = rw e
 
-  pub row_done : (s : Seen) (i : ℕ) → columns ≤ i → all_joined s (row_left columns row held line i) ≡ s
+  pub row_done : (s : Option Seen) (i : ℕ) → columns ≤ i → all_joined s (row_left columns row held line i) ≡ s
   unfolding row_left keep all_joined
   row_done s i h = rw (left_none (tile row) columns i h)
 
@@ -140,7 +129,7 @@ module _ (columns rows held : ℕ) (stamps : List ℕ) where
       (λ j q. ap (ltb held) (get_or-take columns (drop (row * columns) stamps) (0 + j) 0 (omega arith) ∙ get_or-drop (row * columns) stamps (0 + j) 0))))
       ∙ sym (keep_rows (λ (t : Tile). ltb held (get_or stamps (t.row * columns + t.column) 0)) columns rows (λ (column row : ℕ). tile row column))
 
-  pub rows_step : (s : Seen) (i : ℕ) → i < rows
+  pub rows_step : (s : Option Seen) (i : ℕ) → i < rows
       → all_joined s (rows_left columns rows held stamps i)
       ≡ all_joined (all_joined s (dirty_row columns i held (line_at columns stamps i))) (rows_left columns rows held stamps (i + 1))
   unfolding rows_left flat_map
@@ -148,20 +137,23 @@ module _ (columns rows held : ℕ) (stamps : List ℕ) where
       ap (λ l. all_joined s (flat_map (λ (row : ℕ). dirty_row columns row held (line_at columns stamps row)) l)) (left_step (λ (row : ℕ). row) rows i h)
       ∙ joined_append s _ _
 
-  pub rows_done : (s : Seen) (i : ℕ) → rows ≤ i → all_joined s (rows_left columns rows held stamps i) ≡ s
+  pub rows_done : (s : Option Seen) (i : ℕ) → rows ≤ i → all_joined s (rows_left columns rows held stamps i) ≡ s
   unfolding rows_left flat_map all_joined
   rows_done s i h = rw (left_none (λ (row : ℕ). row) rows i h)
 
 -- ---- what was seen lies in the grid
 
 pub record SeenIn (g : Tiling) (s : Seen) : Type 0 where
-  pub columns : SpanIn g.across (seen_columns s)
-  pub rows : SpanIn g.down (seen_rows s)
+  pub columns : SpanIn g.across s.columns
+  pub rows : SpanIn g.down s.rows
 
-pub seen_in : (g : Tiling) → TilingOk g → (ts : List Tile) → All (TileIn (columns_of g) (rows_of g)) ts → (all_joined nothing_seen ts).any ≡ true → SeenIn g (all_joined nothing_seen ts)
-unfolding all_joined joined nothing_seen one_tile
-seen_in g ok [] all e = absurd (let z : ◌≡◌ {A = ℕ} 0 1 = cc in let y : ⊥ = omega arith in y)
-seen_in g ok (t ∷ ts) all e = rw (joined_spans (one_tile t.column) (one_tile t.row) ts) (record { columns = columns_in g ok t ts all; rows = rows_in g ok t ts all })
+pub seen_in : (g : Tiling) → TilingOk g → (ts : List Tile) → All (TileIn (columns_of g) (rows_of g)) ts → (s : Seen) → all_joined nothing_seen ts ≡ Some s → SeenIn g s
+unfolding all_joined joined one_tile
+seen_in g ok [] all s e = absurd (let z : ◌≡◌ {A = ℕ} 0 1 = cc in let y : ⊥ = omega arith in y)
+seen_in g ok (t ∷ ts) all s e =
+    let found : Some _ ≡ Some s = sym (joined_spans (one_tile t.column) (one_tile t.row) ts) ∙ e in
+    let q : record { columns = span_around (one_tile t.column) (map (λ (u : Tile). u.column) ts); rows = span_around (one_tile t.row) (map (λ (u : Tile). u.row) ts) } ≡ s = cc in
+    subst (SeenIn g) q (record { columns = columns_in g ok t ts all; rows = rows_in g ok t ts all })
 
 -- a page's dirty tiles are those of its grid
 pub dirty_page : (columns rows held : ℕ) (page : List ℕ) → dirty_tiles columns rows held (take (columns * rows) page) ≡ dirty_tiles columns rows held page
@@ -176,7 +168,7 @@ dirty_page columns rows held page =
 -- ---- the box that the scan gives
 
 module _ (g : Tiling) (held newest : ℕ) (page : List ℕ) where
-  pub since_clean : newest ≤ held → box_since g held (grid_in g newest page) ≡ Clean
+  pub since_clean : newest ≤ held → box_since g held (grid_in g newest page) ≡ None
   unfolding box_since grid_in
   since_clean h = rw (le-leb newest held h)
 

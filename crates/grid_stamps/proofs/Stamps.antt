@@ -9,7 +9,8 @@ use lib.Seq.{get_or-take}
 use Rattle.base_blocks.proofs.Lists.{and_both}
 use Rattle.grid_rects.specs.declared.rect.TexelRect.{TexelRect}
 use Rattle.grid_axes.specs.Axes.{touched}
-use Rattle.grid_stamps.specs.Grids.{Tiling, TilingOk, columns_of, rows_of, stamp_count, StampGrid, new_grid, grid_in, stamp_of, touches, is_cut_rect, stamped_by}
+use Rattle.grid_stamps.specs.declared.grid.Tiling.{Tiling}
+use Rattle.grid_stamps.specs.Grids.{TilingOk, columns_of, rows_of, stamp_count, StampGrid, new_grid, grid_in, stamp_of, touches, is_cut_rect, stamped_by}
 use Rattle.grid_axes.proofs.Axes.{touched_texel, touched_has, cut_texel, tile_in}
 use Rattle.grid_stamps.proofs.RowByRow.{tile_place, length_rows, value_at}
 

@@ -14,7 +14,8 @@ use Rattle.grid_shapes.specs.Formats.{block_edges, block_edge}
 use Rattle.grid_shapes.specs.Shapes.{is_shape, level_width, level_height}
 use Rattle.grid_axes.specs.Axes.{tile_edge, axis_of, tiles_of}
 use Rattle.grid_axes.specs.EdgeTables.{has_table, is_edge_table}
-use Rattle.grid_stamps.specs.Grids.{Tiling, tiling_of, TilingOk, columns_of, rows_of, stamp_count}
+use Rattle.grid_stamps.specs.declared.grid.Tiling.{Tiling}
+use Rattle.grid_stamps.specs.Grids.{tiling_of, TilingOk, columns_of, rows_of, stamp_count}
 use Rattle.grid_shapes.proofs.Formats.{block_edge_pos, block_edge_bound}
 use Rattle.grid_shapes.proofs.Shapes.{shape_bounds, width_pos, height_pos, width_bound, height_bound}
 use Rattle.grid_axes.proofs.Axes.{axis_ok, edge_multiple}

@@ -1,15 +1,13 @@
 -- Rule: One subresource's stamp grid (01, "The stamp grid"): a stamp for each tile, row by row, and the newest of them.
-use Rattle.std.specs.Prelude.{ℕ, ◌+◌, ◌*◌, ◌<◌, ◌≤◌, ◌≡◌, Bool, true, ◌&&◌, cond, leb, ltb, get_or, take, replicate}
+use Rattle.std.specs.Prelude.{ℕ, ◌+◌, ◌*◌, ◌<◌, ◌≤◌, ◌≡◌, Bool, true, ◌&&◌, cond, leb, ltb, get_or, take, replicate, Option, Some, None}
 use mathlib.Core.List.{List, [], ◌∷◌, map, flat_map}
 use Rattle.base_blocks.specs.Lists.{listed, keep}
 use Rattle.grid_axes.specs.declared.axis.Axis.{Axis}
 use Rattle.grid_axes.specs.declared.axis.Span.{Span}
 use Rattle.grid_shapes.specs.declared.shape.VersionShape.{VersionShape}
 use Rattle.grid_rects.specs.declared.rect.TexelRect.{TexelRect}
-use Rattle.grid_stamps.specs.declared.since.Dirty.{Dirty}
-use Rattle.grid_stamps.specs.declared.since.Dirty.TheVariants.{Box, Clean}
-use Rattle.grid_stamps.specs.declared.dirty.DirtyTile.{DirtyTile}
-use Rattle.grid_stamps.specs.declared.dirty.DirtyTile.TheVariants.{At, NoTile}
+use Rattle.grid_stamps.specs.declared.grid.Tiling.{Tiling}
+use Rattle.grid_stamps.specs.declared.grid.Tile.{Tile}
 use Rattle.grid_shapes.specs.Formats.{block_edge}
 use Rattle.grid_shapes.specs.Shapes.{level_width, level_height}
 use Rattle.grid_axes.specs.Axes.{axis_of, AxisOk, tiles_of, is_cut, touched, one_tile, span_around, span_start, span_size}
@@ -17,10 +15,6 @@ use Rattle.grid_axes.specs.EdgeTables.{is_edge_table}
 use Rattle.base_blocks.specs.Blocks.{largest}
 
 -- a level cut into tiles along two axes
-pub record Tiling : Type 0 where
-  pub across : Axis
-  pub down : Axis
-
 abbrev pub tiled : Axis → Axis → Tiling
 tiled across down = record { across = across; down = down }
 
@@ -83,10 +77,6 @@ stamped_by g r n grid = record {
   stamps = row_by_row (columns_of g) (rows_of g) (λ (column row : ℕ). cond (touches g r column row) n (stamp_of (columns_of g) grid.stamps column row));
 }
 
-pub record Tile : Type 0 where
-  pub column : ℕ
-  pub row : ℕ
-
 -- the tiles stamped above held, in row order
 unfoldable pub dirty_tiles : ℕ → ℕ → ℕ → List ℕ → List Tile
 dirty_tiles columns rows held stamps =
@@ -103,23 +93,27 @@ box_of g columns rows = record {
 }
 
 -- the smallest box of whole tiles around these, cut to the level
-unfoldable pub box_around : Tiling → List Tile → Dirty
-box_around g [] = Clean
+unfoldable pub box_around : Tiling → List Tile → Option TexelRect
+box_around g [] = None
 box_around g (t ∷ ts) =
-    Box (box_of g (span_around (one_tile t.column) (map (λ (u : Tile). u.column) ts)) (span_around (one_tile t.row) (map (λ (u : Tile). u.row) ts)))
+    Some (box_of g (span_around (one_tile t.column) (map (λ (u : Tile). u.column) ts)) (span_around (one_tile t.row) (map (λ (u : Tile). u.row) ts)))
 
 -- the box since `held`; none if `newest` is at most `held`
-unfoldable pub box_since : Tiling → ℕ → StampGrid → Dirty
-box_since g held grid = cond (leb grid.newest held) Clean (box_around g (dirty_tiles (columns_of g) (rows_of g) held grid.stamps))
+unfoldable pub box_since : Tiling → ℕ → StampGrid → Option TexelRect
+box_since g held grid = cond (leb grid.newest held) None (box_around g (dirty_tiles (columns_of g) (rows_of g) held grid.stamps))
+
+-- the answer that names a tile
+abbrev pub some_tile : ℕ → ℕ → Option Tile
+some_tile column row = Some (record { column = column; row = row })
 
 -- the dirty tile stays open under its condition: the tile named is stamped above held; none only where none is
 pub record Stamped (g : Tiling) (held : ℕ) (stamps : List ℕ) (column row : ℕ) : Type 0 where
   pub inside : (column < columns_of g) × (row < rows_of g)
   pub above : held < stamp_of (columns_of g) stamps column row
 
-unfoldable pub IsDirtyTile : Tiling → ℕ → List ℕ → DirtyTile → Type 0
-IsDirtyTile g held stamps (At column row) = Stamped g held stamps column row
-IsDirtyTile g held stamps NoTile = (column row : ℕ) → column < columns_of g → row < rows_of g → stamp_of (columns_of g) stamps column row ≤ held
+unfoldable pub IsDirtyTile : Tiling → ℕ → List ℕ → Option Tile → Type 0
+IsDirtyTile g held stamps (Some t) = Stamped g held stamps t.column t.row
+IsDirtyTile g held stamps None = (column row : ℕ) → column < columns_of g → row < rows_of g → stamp_of (columns_of g) stamps column row ≤ held
 
 -- the largest of a grid's stamps, which its `newest` has to be
 unfoldable pub largest_stamp : Tiling → List ℕ → ℕ

@@ -1,34 +1,27 @@
 -- Helper: How the code goes over a page: what a scan has seen so far, and a block of tiles stamped row by row.
 -- That these equal the definitions of Grids is a law; a reader of the contracts needs none of this.
-use Rattle.std.specs.Prelude.{ℕ, zero, suc, ◌+◌, ◌-◌, ◌*◌, ◌≤◌, ◌<◌, min, max, true, false, cond, List, [], ◌∷◌, ltb, get_or, replicate}
+use Rattle.std.specs.Prelude.{ℕ, zero, suc, ◌+◌, ◌-◌, ◌*◌, ◌≤◌, ◌<◌, cond, List, [], ◌∷◌, ltb, get_or, replicate, Option, Some, None}
 use Rattle.std.proofs.lemmas.List.Edits.{sets}
 use Rattle.base_blocks.specs.Lists.{listed, keep}
 use Rattle.grid_axes.specs.declared.axis.Span.{Span}
 use Rattle.grid_stamps.specs.declared.since.Seen.{Seen}
-use Rattle.grid_stamps.specs.Grids.{Tile}
+use Rattle.grid_stamps.specs.declared.grid.Tile.{Tile}
+use Rattle.grid_axes.specs.Axes.{one_tile, widened}
 use Rattle.grid_axes.specs.AxisConstants.{max_tiles_per_axis}
 
-unfoldable pub nothing_seen : Seen
-nothing_seen = record { any = false; left = 0; right = 0; top = 0; bottom = 0 }
+abbrev pub nothing_seen : Option Seen
+nothing_seen = None
 
 -- one dirty tile more
-unfoldable pub joined : Seen → Tile → Seen
-joined s t =
-    cond s.any
-    (record {
-      any = true;
-      left = min s.left t.column;
-      right = max s.right t.column;
-      top = min s.top t.row;
-      bottom = max s.bottom t.row;
-    })
-    (record { any = true; left = t.column; right = t.column; top = t.row; bottom = t.row })
+unfoldable pub joined : Option Seen → Tile → Option Seen
+joined None t = Some (record { columns = one_tile t.column; rows = one_tile t.row })
+joined (Some s) t = Some (record { columns = widened s.columns t.column; rows = widened s.rows t.row })
 
 -- the tile counts if its stamp is above held
-unfoldable pub visited : Seen → ℕ → ℕ → ℕ → ℕ → Seen
+unfoldable pub visited : Option Seen → ℕ → ℕ → ℕ → ℕ → Option Seen
 visited s stamp held column row = cond (ltb held stamp) (joined s (record { column = column; row = row })) s
 
-unfoldable pub all_joined : Seen → List Tile → Seen
+unfoldable pub all_joined : Option Seen → List Tile → Option Seen
 all_joined s [] = s
 all_joined s (t ∷ ts) = all_joined (joined s t) ts
 

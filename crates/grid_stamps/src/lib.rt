@@ -10,8 +10,8 @@ mod since;
 mod stamping;
 
 pub use constants::PAGE_STAMPS;
-pub use dirty::{DirtyTile, dirty_tile};
-pub use grid::{across_axis, down_axis, stamp_count};
+pub use dirty::dirty_tile;
+pub use grid::{Tile, Tiling, stamp_count, tiling_in};
 pub use newest::{is_largest_stamp, largest_stamp};
-pub use since::{Dirty, written_since};
+pub use since::written_since;
 pub use stamping::stamp;

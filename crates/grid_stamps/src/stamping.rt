@@ -1,12 +1,12 @@
 // A write's stamps on one page.
 ghost use Rattle.std.specs.Prelude.{◌≡◌, ◌+◌, ◌-◌, ◌*◌, ◌≤◌, ◌<◌, length};
 ghost use Rattle.base_blocks.specs.Lists.{over};
-ghost use Rattle.grid_axes.specs.Axes.{AxisOk};
-ghost use Rattle.grid_stamps.specs.Grids.{tiled, stamp_count, grid_in, stamped_by};
+ghost use Rattle.grid_stamps.specs.Grids.{TilingOk, stamp_count, grid_in, stamped_by};
 ghost use Rattle.grid_stamps.specs.Scans.{rows_stamped, StampRoom, tiles_stamped};
 ghost use Rattle.grid_axes.specs.AxisConstants.{max_tiles_per_axis};
 
-use grid_axes::{Axis, Span, Touched, tiles, touched_tiles};
+use crate::grid::Tiling;
+use grid_axes::{Span, tiles, touched_tiles};
 use grid_rects::TexelRect;
 
 // Sets `width` stamps from column `left` on to `n`, in the rows from `top` up to `bottom`.
@@ -23,10 +23,8 @@ fn stamp_rows(
         × (top ≤ bottom) }
     ensures { page.new ≡ rows_stamped columns left width n top (bottom - top) page.old }
 {
-    let mut row = top;
-    while row < bottom {
+    for row in top..bottom {
         base_blocks::fill(page, row * columns + left, width, n);
-        row += 1;
     }
 }
 
@@ -47,25 +45,17 @@ fn stamp_tiles(page: &mut [u64], columns: usize, across: Span, down: Span, n: u6
 }
 
 // Stamps every tile that the rectangle, cut to the level, touches, and returns the grid's newest stamp: `n`, unless the cut is empty.
-pub fn stamp(
-    page: &mut [u64],
-    across: Axis,
-    down: Axis,
-    rect: TexelRect,
-    n: u64,
-    newest: u64,
-) -> u64
-    requires { AxisOk across × AxisOk down × (stamp_count (tiled across down) ≤ length page.old) }
-    ensures { (result ≡ (stamped_by (tiled across down) rect n (grid_in (tiled across down) newest page.old)).newest)
-        × (page.new
-        ≡ over (stamped_by (tiled across down) rect n (grid_in (tiled across down) newest page.old)).stamps page.old) }
+pub fn stamp(page: &mut [u64], tiling: Tiling, rect: TexelRect, n: u64, newest: u64) -> u64
+    requires { TilingOk tiling × (stamp_count tiling ≤ length page.old) }
+    ensures { (result ≡ (stamped_by tiling rect n (grid_in tiling newest page.old)).newest)
+        × (page.new ≡ over (stamped_by tiling rect n (grid_in tiling newest page.old)).stamps page.old) }
 {
-    let Touched::Tiles(columns) = touched_tiles(across, rect.x, rect.width) else {
+    let Some(columns) = touched_tiles(tiling.across, rect.x, rect.width) else {
         return newest;
     };
-    let Touched::Tiles(rows) = touched_tiles(down, rect.y, rect.height) else {
+    let Some(rows) = touched_tiles(tiling.down, rect.y, rect.height) else {
         return newest;
     };
-    stamp_tiles(page, tiles(across) as usize, columns, rows, n);
+    stamp_tiles(page, tiles(tiling.across) as usize, columns, rows, n);
     n
 }

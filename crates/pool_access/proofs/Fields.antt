@@ -1,8 +1,9 @@
 -- Laws of the numbers of a texture's record, each read by itself, and of where its grids and stamps end. Assumes nothing.
-use mathlib.Core.Path.{◌≡◌, sym}
+use mathlib.Core.Path.{◌≡◌, sym, ap}
+use mathlib.Core.Bool.{cond}
 use mathlib.Core.List.{List}
-use Prim.Native.Nat.{ℕ, ◌+◌, ◌*◌, ◌≤◌, ◌<◌}
-use borrow.Author.Tests.{lt-ltb, le-ltb}
+use Prim.Native.Nat.{ℕ, ◌+◌, ◌*◌}
+use lib.Dec.{ltb}
 use lib.ListN.{get_or}
 use lib.Seq.{get_or-drop}
 use Rattle.base_tables.specs.Records.{record_at}
@@ -17,18 +18,10 @@ spares_number s i = sym (get_or-drop (texture_stride * i) s texture_spares_at 0)
 
 -- where its grids and its stamps end: where the next record's begin, or where all end
 module _ (s : List ℕ) (n used i : ℕ) where
-  pub next_grid : i + 1 < n → get_or s (texture_stride * (i + 1) + texture_grid_at) 0 ≡ grid_end s n used i
+  pub next_grid : cond (ltb (i + 1) n) (get_or s (texture_stride * (i + 1) + texture_grid_at) 0) used ≡ grid_end s n used i
   unfolding grid_end
-  next_grid h = let e = lt-ltb (i + 1) n h in rw e (grid_number s (i + 1))
+  next_grid = ap (λ (k : ℕ). cond (ltb (i + 1) n) k used) (grid_number s (i + 1))
 
-  pub last_grid : n ≤ i + 1 → used ≡ grid_end s n used i
-  unfolding grid_end
-  last_grid h = let e = le-ltb (i + 1) n h in rw e
-
-  pub next_stamp : i + 1 < n → get_or s (texture_stride * (i + 1) + texture_stamp_at) 0 ≡ stamp_end s n used i
+  pub next_stamp : cond (ltb (i + 1) n) (get_or s (texture_stride * (i + 1) + texture_stamp_at) 0) used ≡ stamp_end s n used i
   unfolding stamp_end
-  next_stamp h = let e = lt-ltb (i + 1) n h in rw e (stamp_number s (i + 1))
-
-  pub last_stamp : n ≤ i + 1 → used ≡ stamp_end s n used i
-  unfolding stamp_end
-  last_stamp h = let e = le-ltb (i + 1) n h in rw e
+  next_stamp = ap (λ (k : ℕ). cond (ltb (i + 1) n) k used) (stamp_number s (i + 1))

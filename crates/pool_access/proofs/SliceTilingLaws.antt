@@ -13,7 +13,8 @@ use Rattle.grid_shapes.specs.declared.shape.VersionShape.{VersionShape}
 use Rattle.grid_shapes.specs.Shapes.{is_shape, slices_of}
 use Rattle.base_blocks.proofs.Lists.{either}
 use Rattle.grid_shapes.proofs.Shapes.{shape_bounds}
-use Rattle.grid_stamps.specs.Grids.{Tiling, tiling_of}
+use Rattle.grid_stamps.specs.declared.grid.Tiling.{Tiling}
+use Rattle.grid_stamps.specs.Grids.{tiling_of}
 use Rattle.pool_rules.specs.Model.{grid_count}
 use Rattle.pool_rules.specs.HistorySizes.{grid_start, level_start}
 use Rattle.pool_rules.proofs.HistorySizes.{grid_start_lem}
@@ -52,18 +53,18 @@ module _ (s : VersionShape) where
 
   -- a level's tiling, as the code has it
   module _ (level start : ℕ) (g : Tiling) (h : level < s.levels) (k : level < grid_count s) (begins : start ≡ level_start s level)
-      (across : g.across ≡ (tiling_of s level).across) (down : g.down ≡ (tiling_of s level).down) where
+      (e : g ≡ tiling_of s level) where
     abbrev made : GridTiling
     made = record { start = start; across = g.across.edge; down = g.down.edge }
 
     made_is : made ≡ grid_tiling s level
     unfolding grid_tiling
     made_is =
-        let same : level % s.levels ≡ level = mod-eq_of_lt h in
+        let tiled : g ≡ tiling_of s (level % s.levels) = e ∙ ap (tiling_of s) (sym (mod-eq_of_lt h)) in
         λ j. record {
           start = (begins ∙ sym (first_start level h k)) j;
-          across = ((across ∙ ap (λ (l : ℕ). (tiling_of s l).across) (sym same)) j).edge;
-          down = ((down ∙ ap (λ (l : ℕ). (tiling_of s l).down) (sym same)) j).edge;
+          across = (tiled j).across.edge;
+          down = (tiled j).down.edge;
         }
 
     pub made_number : packed_tiling made ≡ tiling_number s level

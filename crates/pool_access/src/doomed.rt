@@ -5,16 +5,15 @@ ghost use Rattle.base_tables.specs.Rings.{place_of, along};
 ghost use Rattle.pool_records.specs.Doomed.{read_doomed, write_doomed};
 ghost use Rattle.pool_records.specs.RecordConstants.{doomed_stride};
 
-use base_tables::{ring_push, ring_record};
-use pool_records::{DOOMED_STRIDE, DoomedRecord, read_doomed};
+use crate::records::{push_along, read_along};
+use pool_records::DoomedRecord;
 
 // Returns the k-th record from the oldest.
 pub fn doomed_at(s: &[u64], cap: usize, first: usize, k: usize) -> DoomedRecord
     requires { (doomed_stride * cap ≤ length s.now) × (first < cap) × (k < cap) }
     ensures { result ≡ along doomed_stride read_doomed cap first s.now k }
 {
-    let part = ring_record(s, DOOMED_STRIDE, cap, first, k);
-    read_doomed(part)
+    read_along(s, cap, first, k)
 }
 
 // Puts a version after the `n` that the ring has. Its two numbers come one by one, since most callers have them from different
@@ -23,6 +22,5 @@ pub fn push_doomed(s: &mut [u64], cap: usize, first: usize, n: usize, view: u64,
     requires { (doomed_stride * cap ≤ length s.old) × (first < cap) × (n < cap) }
     ensures { s.new ≡ sets s.old (doomed_stride * place_of cap first n) (write_doomed (record { view = view; bytes = bytes })) }
 {
-    let numbers = [view, bytes];
-    ring_push(s, DOOMED_STRIDE, cap, first, n, &numbers);
+    push_along(s, cap, first, n, DoomedRecord { view, bytes });
 }

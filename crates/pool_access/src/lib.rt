@@ -3,6 +3,7 @@
 
 mod doomed;
 mod grids;
+mod records;
 mod retiring;
 mod slices;
 mod spare;
@@ -17,4 +18,4 @@ pub use slices::{SliceTilings, slice_tilings};
 pub use spare::{first_spare, insert_spare, spare_at, spares_before};
 pub use starts::{grid_end, move_starts, stamp_end};
 pub use texture::{has_id, insert_texture, put_texture, remove_texture, texture_at};
-pub use tilings::{across_at, down_at, stamps_at, start_at};
+pub use tilings::{stamps_at, start_at, tiling_at};

@@ -6,7 +6,7 @@ ghost use Rattle.pool_access.specs.Slices.{SliceOf};
 
 use grid_axes::{TILE_EDGES_1, TILE_EDGES_4};
 use grid_shapes::{VersionShape, block_edge};
-use grid_stamps::{across_axis, down_axis, stamp_count};
+use grid_stamps::{stamp_count, tiling_in};
 use pool_records::{GridTiling, tiling_number};
 
 // The most levels that a shape has (refusal 2).
@@ -27,17 +27,14 @@ fn tilings_in(edges: &[u16], shape: VersionShape) -> SliceTilings
 {
     let mut levels = [0; MOST_LEVELS];
     let mut start = 0;
-    let mut level = 0;
-    while level < shape.levels {
-        let across = across_axis(edges, shape, level);
-        let down = down_axis(edges, shape, level);
+    for level in 0..shape.levels {
+        let tiling = tiling_in(edges, shape, level);
         levels[level as usize] = tiling_number(GridTiling {
             start,
-            across: across.edge,
-            down: down.edge,
+            across: tiling.across.edge,
+            down: tiling.down.edge,
         });
-        start += stamp_count(across, down);
-        level += 1;
+        start += stamp_count(tiling);
     }
     SliceTilings {
         levels,

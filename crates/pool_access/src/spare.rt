@@ -11,18 +11,15 @@ ghost use Rattle.pool_records.specs.Texture.{textures_in};
 ghost use Rattle.pool_records.specs.RecordConstants.{spare_stride, texture_stride};
 ghost use Rattle.pool_rules.specs.RuleConstants.{most_places};
 
-use base_tables::{insert_record, record_at};
-use pool_records::{
-    SPARE_STRIDE, SpareRecord, TEXTURE_SPARES_AT, TEXTURE_STRIDE, read_spare, spare_numbers,
-};
+use crate::records::{insert_at, read_at};
+use pool_records::{SpareRecord, TEXTURE_SPARES_AT, TEXTURE_STRIDE};
 
 // Returns record k.
 pub fn spare_at(s: &[u64], k: usize) -> SpareRecord
     requires { spare_stride * k + spare_stride ≤ length s.now }
     ensures { result ≡ record_at spare_stride read_spare s.now k }
 {
-    let part = record_at(s, SPARE_STRIDE, k);
-    read_spare(part)
+    read_at(s, k)
 }
 
 // Puts a record in before record k of the `n` that there are. Those from k on move up.
@@ -31,8 +28,7 @@ pub fn insert_spare(s: &mut [u64], n: usize, k: usize, x: SpareRecord)
     ensures { s.new
         ≡ sets (moved s.old (spare_stride * k + spare_stride) (spare_stride * k) (spare_stride * (n - k))) (spare_stride * k) (write_spare x) }
 {
-    let numbers = spare_numbers(x);
-    insert_record(s, SPARE_STRIDE, n, k, &numbers);
+    insert_at(s, n, k, x);
 }
 
 // Counts the spares of the first i textures, which is where those of texture i begin. It reads one number of each record.
@@ -40,13 +36,7 @@ pub fn spares_before(textures: &[u64], i: usize) -> usize
     requires { (texture_stride * i ≤ length textures.now) × (total (λ t. t.spares) (textures_in i textures.now) ≤ most_places) }
     ensures { result ≡ total (λ t. t.spares) (textures_in i textures.now) }
 {
-    let mut sum = 0;
-    let mut j = 0;
-    while j < i {
-        sum += textures[TEXTURE_STRIDE * j + TEXTURE_SPARES_AT] as usize;
-        j += 1;
-    }
-    sum
+    spares_between(textures, 0, i)
 }
 
 // Counts the spares of the textures from `from` on, up to `to`.
@@ -55,10 +45,8 @@ fn spares_between(textures: &[u64], from: usize, to: usize) -> usize
     ensures { total (λ t. t.spares) (textures_in from textures.now) + result ≡ total (λ t. t.spares) (textures_in to textures.now) }
 {
     let mut sum = 0;
-    let mut j = from;
-    while j < to {
+    for j in from..to {
         sum += textures[TEXTURE_STRIDE * j + TEXTURE_SPARES_AT] as usize;
-        j += 1;
     }
     sum
 }

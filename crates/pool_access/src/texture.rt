@@ -7,16 +7,16 @@ ghost use Rattle.pool_records.specs.Recorded.{RecordedFits};
 ghost use Rattle.pool_records.specs.Texture.{write_texture, texture_in};
 ghost use Rattle.pool_records.specs.RecordConstants.{texture_stride};
 
-use base_tables::{insert_record, put_record, record_at, remove_records};
-use pool_records::{TEXTURE_STRIDE, TextureRecord, read_texture, texture_numbers};
+use crate::records::{insert_at, put_at, read_at};
+use base_tables::remove_records;
+use pool_records::{TEXTURE_STRIDE, TextureRecord};
 
 // Returns record i.
 pub fn texture_at(s: &[u64], i: usize) -> TextureRecord
     requires { texture_stride * i + texture_stride ≤ length s.now }
     ensures { result ≡ texture_in s.now i }
 {
-    let part = record_at(s, TEXTURE_STRIDE, i);
-    read_texture(part)
+    read_at(s, i)
 }
 
 // Tells whether record i, where a search among n ended, is there and has the id.
@@ -35,8 +35,7 @@ pub fn put_texture(s: &mut [u64], i: usize, t: TextureRecord)
     requires { (texture_stride * i + texture_stride ≤ length s.old) × RecordedFits t.history }
     ensures { s.new ≡ sets s.old (texture_stride * i) (write_texture t) }
 {
-    let numbers = texture_numbers(t);
-    put_record(s, TEXTURE_STRIDE, i, &numbers);
+    put_at(s, i, t);
 }
 
 // Puts a record in before record i of the n that there are. Those from i on move up.
@@ -46,8 +45,7 @@ pub fn insert_texture(s: &mut [u64], n: usize, i: usize, t: TextureRecord)
         ≡ sets (moved s.old (texture_stride * i + texture_stride) (texture_stride * i) (texture_stride * (n - i))) (texture_stride * i)
         (write_texture t) }
 {
-    let numbers = texture_numbers(t);
-    insert_record(s, TEXTURE_STRIDE, n, i, &numbers);
+    insert_at(s, n, i, t);
 }
 
 // Takes record i out of the n that there are. The later ones move down.

@@ -14,7 +14,9 @@ use Rattle.pool_rules.specs.Model.{PreserveCopy}
 use Rattle.pool_memory.specs.Lent.{Lent, lent}
 use Rattle.pool_memory.specs.Reading.{model_of}
 use Rattle.pool_memory.specs.IsPool.{is_pool, sizes_fit}
-use Rattle.pool_memory.specs.Calls.{opened_pool, opened_book, Told, refused_with, answer, TakenVersion, PoppedVersion, take_spare_on, retire_on, note_write_on, note_mip_regeneration_on, pop_retired_on, park_on, note_allocated_on, trim_on, forget_texture_on, preserve_plan_on, take_doomed_on, drain_versions_on}
+use Rattle.pool_memory.specs.declared.answer.TakenVersion.{TakenVersion}
+use Rattle.pool_memory.specs.declared.answer.PoppedVersion.{PoppedVersion}
+use Rattle.pool_memory.specs.Calls.{opened_pool, opened_book, Told, refused_with, answer, take_spare_on, retire_on, note_write_on, note_mip_regeneration_on, pop_retired_on, park_on, note_allocated_on, trim_on, forget_texture_on, preserve_plan_on, take_doomed_on, drain_versions_on}
 use Rattle.pool_books.specs.Lists.{write_call, regen_call, pop_call, park_call, note_call, doomed_call, drain_call, trim_call, forget_call, Call, take_call, plan_call, retire_call, between, Renames, start, CallOf}
 use Rattle.pool_books.specs.Demand3.{Reply, refusal, done, spare_taken, copies_planned, version_popped, views_handed, ThroughoutOf}
 use Rattle.pool_memory.specs.MemoryConstants.{copy_stride}

@@ -83,16 +83,10 @@ pub fn counts_without(pool: Pool, own: Owned) -> Pool
         kept: pool.kept - own.spares,
         grids: pool.grids - own.grids,
         stamps: pool.stamps - own.stamps,
-        head: pool.head,
-        popped: pool.popped,
-        queued: pool.queued,
-        first: pool.first,
         doomed: pool.doomed + own.spares,
         since: pool.since + count,
-        trackings: pool.trackings,
         parked: pool.parked - freed,
         dooming: pool.dooming + freed,
-        cap: pool.cap,
-        line: pool.line,
+        ..pool
     }
 }

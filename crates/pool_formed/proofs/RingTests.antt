@@ -16,7 +16,7 @@ use Rattle.pool_rules.specs.Model.{Doomed, doomed_bytes}
 use Rattle.pool_records.specs.Retiring.{read_retiring}
 use Rattle.pool_records.specs.Doomed.{read_doomed}
 use Rattle.pool_records.specs.Views.{retiring_of, doomed_of}
-use Rattle.pool_records.proofs.Codecs.{retiring_codec, doomed_codec}
+use Rattle.pool_records.specs.Codecs.{retiring_codec, doomed_codec}
 use Rattle.pool_memory.specs.declared.pool.Pool.{Pool}
 use Rattle.pool_memory.specs.Reading.{retiring_read, hand_read}
 use Rattle.pool_memory.specs.IsPool.{is_doomed, is_retiring, is_hand}

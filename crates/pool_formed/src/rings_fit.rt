@@ -30,12 +30,10 @@ fn retiring_fit(retiring: &[u64], cap: usize, head: usize, n: usize) -> bool
     requires { (retiring_stride * cap ≤ length retiring.now) × (head < cap) × (n ≤ cap) }
     ensures { result ≡ retiring_fit cap head n retiring.now }
 {
-    let mut i = 0;
-    while i < n {
+    for i in 0..n {
         if !is_retiring(ring_record(retiring, RETIRING_STRIDE, cap, head, i)) {
             return false;
         }
-        i += 1;
     }
     true
 }
@@ -46,15 +44,13 @@ fn doomed_fit(doomed: &[u64], cap: usize, first: usize, n: usize, bytes: u64) ->
     ensures { result ≡ doomed_fit cap first n bytes doomed.now }
 {
     let mut sum = 0;
-    let mut i = 0;
-    while i < n {
+    for i in 0..n {
         let p = ring_record(doomed, DOOMED_STRIDE, cap, first, i);
         let one = p[1];
         if one > MOST_SHAPE_BYTES {
             return false;
         }
         sum += one;
-        i += 1;
     }
     bytes == sum
 }

@@ -14,10 +14,10 @@ use Rattle.base_blocks.specs.Lists.{all, listed, tests, after}
 use Rattle.base_blocks.proofs.Listed.{left, all_stop, all_done}
 use Rattle.grid_shapes.specs.declared.shape.VersionShape.{VersionShape}
 use Rattle.grid_shapes.specs.Shapes.{is_shape}
-use Rattle.grid_axes.specs.declared.axis.Axis.{Axis}
-use Rattle.grid_axes.specs.Axes.{AxisOk}
-use Rattle.grid_stamps.specs.Grids.{Tiling, tiled, tiling_of, stamp_count, grid_in, largest_stamp}
-use Rattle.grid_stamps.proofs.Tilings.{tiling_ok, count_pos}
+use Rattle.grid_stamps.specs.declared.grid.Tiling.{Tiling}
+use Rattle.grid_stamps.specs.Grids.{TilingOk, tiling_of, stamp_count, grid_in, largest_stamp}
+use Rattle.grid_stamps.proofs.Tilings.{count_pos}
+use Rattle.pool_access.proofs.Levels.{tiling_known_ok}
 use Rattle.pool_rules.specs.Model.{grid_count}
 use Rattle.pool_rules.specs.HistorySizes.{grid_size, grid_start, history_size}
 use Rattle.pool_rules.proofs.HistorySizes.{grid_next, grid_end_lem, grid_last, history_most}
@@ -32,20 +32,13 @@ use Rattle.pool_formed_textures.proofs.Tests.{fails}
 
 -- ---- one grid
 
-module _ (s : VersionShape) (level : ℕ) (a d : Axis) (ea : a ≡ (tiling_of s level).across) (ed : d ≡ (tiling_of s level).down) where
-  pub tiling_same : tiled a d ≡ tiling_of s level
-  tiling_same = λ j. record { across = ea j; down = ed j }
-
-  pub axes_ready : is_shape s ≡ true → AxisOk a × AxisOk d
-  axes_ready h = let ok = tiling_ok s h level in (subst AxisOk (sym ea) ok.across, subst AxisOk (sym ed) ok.down)
-
+module _ (s : VersionShape) (level : ℕ) (g : Tiling) (e : g ≡ tiling_of s level) where
   -- its stamps stand at the front of those from `at` on
-  pub grid_ready : (stamps : List ℕ) (at count : ℕ) → is_shape s ≡ true → count ≡ stamp_count (tiled a d) → count ≤ length stamps - at
-      → AxisOk a × AxisOk d × (stamp_count (tiled a d) ≤ length (take (length stamps - at) (drop at stamps))) × (0 < stamp_count (tiled a d))
-  grid_ready stamps at count h e q =
-      let ok = axes_ready h in
+  pub grid_ready : (stamps : List ℕ) (at count : ℕ) → is_shape s ≡ true → count ≡ stamp_count g → count ≤ length stamps - at
+      → TilingOk g × (stamp_count g ≤ length (take (length stamps - at) (drop at stamps))) × (0 < stamp_count g)
+  grid_ready stamps at count h c q =
       let room = length-take-le (length stamps - at) (drop at stamps) (omega (arith, length-drop at stamps)) in
-      (ok.0, ok.1, omega (arith, room, e, q), omega (arith, count_pos s h level, ap stamp_count tiling_same))
+      (tiling_known_ok s h level g e, omega (arith, room, c, q), omega (arith, count_pos s h level, ap stamp_count e))
 
 module _ (g : Tiling) (writes newest : ℕ) (stamps : List ℕ) where
   pub grid_test : (r : Bool) → r ≡ eqb (largest_stamp g stamps) newest → newest ≤ writes → r ≡ is_grid writes (grid_in g newest stamps)
@@ -62,16 +55,16 @@ module _ (g : Tiling) (writes newest : ℕ) (stamps : List ℕ) where
 abbrev pub place : ℕ → ℕ
 place k = k
 
-module _ (s : VersionShape) (k at : ℕ) (a d : Axis) (ea : a ≡ (tiling_of s (k % s.levels)).across) (ed : d ≡ (tiling_of s (k % s.levels)).down) (ek : at ≡ grid_start s k) where
+module _ (s : VersionShape) (k at : ℕ) (g : Tiling) (e : g ≡ tiling_of s (k % s.levels)) (ek : at ≡ grid_start s k) where
   -- the tiling that the pass has at the k-th
-  tiling_here : axes_tiling at a d ≡ grid_tiling s k
+  tiling_here : axes_tiling at g ≡ grid_tiling s k
   unfolding grid_tiling
-  tiling_here = λ j. record { start = ek j; across = (ea j).edge; down = (ed j).edge }
+  tiling_here = λ j. record { start = ek j; across = (e j).across.edge; down = (e j).down.edge }
 
-  pub tiling_ready : is_shape s ≡ true → k < grid_count s → TilingFits (axes_tiling at a d)
+  pub tiling_ready : is_shape s ≡ true → k < grid_count s → TilingFits (axes_tiling at g)
   tiling_ready h q = subst TilingFits (sym tiling_here) (tiling_fits s h k q)
 
-  pub tiling_test : (newest : List ℕ) → eqb (get_or newest (grid_stride * k + 1) 0) (packed_tiling (axes_tiling at a d)) ≡ own_tiling s newest k
+  pub tiling_test : (newest : List ℕ) → eqb (get_or newest (grid_stride * k + 1) 0) (packed_tiling (axes_tiling at g)) ≡ own_tiling s newest k
   unfolding own_tiling tiling_number
   tiling_test newest = ap (λ (t : GridTiling). eqb (get_or newest (grid_stride * k + 1) 0) (packed_tiling t)) tiling_here
 

@@ -20,8 +20,8 @@ use Rattle.pool_rules.specs.Model.{grid_count}
 use Rattle.pool_rules.specs.HistorySizes.{grid_size, grid_places, grid_start, history_size}
 use Rattle.pool_rules.specs.RuleConstants.{grid_stride}
 use Rattle.pool_rules.proofs.HistorySizes.{grid_end_lem}
-use Rattle.pool_records.specs.declared.recorded.Recorded.{Recorded}
-use Rattle.pool_records.specs.declared.recorded.Recorded.TheVariants.{Writes, NoHistory}
+use Rattle.pool_records.specs.Recorded.{Recorded}
+use Rattle.std.specs.Prelude.{Some, None}
 use Rattle.pool_records.specs.declared.texture.TextureRecord.{TextureRecord}
 use Rattle.pool_records.specs.Tilings.{tiling_number}
 use Rattle.pool_records.specs.Texture.{recorded_grids, record_grids, recorded_stamps, record_stamps}
@@ -34,11 +34,11 @@ use Rattle.pool_formed_textures.proofs.GridTests.{place}
 -- ---- the history of one record
 
 module _ (newest stamps : List ℕ) (t u : TextureRecord) (e : t ≡ u) where
-  pub history_writes : (n : ℕ) → t.history ≡ Writes n → grids_fit t.shape n newest stamps ≡ history_fits u.shape u.history newest stamps
+  pub history_writes : (n : ℕ) → t.history ≡ Some n → grids_fit t.shape n newest stamps ≡ history_fits u.shape u.history newest stamps
   history_writes n h =
       sym (ap (λ (r : Recorded). history_fits t.shape r newest stamps) h) ∙ ap (λ (r : TextureRecord). history_fits r.shape r.history newest stamps) e
 
-  pub history_none : t.history ≡ NoHistory → eqb (length newest) 0 && eqb (length stamps) 0 ≡ history_fits u.shape u.history newest stamps
+  pub history_none : t.history ≡ None → eqb (length newest) 0 && eqb (length stamps) 0 ≡ history_fits u.shape u.history newest stamps
   history_none h =
       sym (ap (λ (r : Recorded). history_fits t.shape r newest stamps) h) ∙ ap (λ (r : TextureRecord). history_fits r.shape r.history newest stamps) e
 
@@ -102,11 +102,11 @@ module _ (newest stamps : List ℕ) (grid last stamp end : ℕ) where
     pub part_size : (s : VersionShape) (h : Recorded) → history_fits s h own_newest own_stamps ≡ true
         → (last ≡ grid + recorded_grids h s) × (end ≡ stamp + recorded_stamps h s)
     unfolding grids_fit
-    part_size s (Writes n) f =
+    part_size s (Some n) f =
         let a = eqb-true (length own_newest) (grid_stride * grid_count s) (passed _ f 0) in
         let b = eqb-true (length own_stamps) (history_size s) (passed _ f 1) in
         (omega (arith, a, hg, length_part grid last newest hl), omega (arith, b, hs, length_part stamp end stamps he))
-    part_size s NoHistory f =
+    part_size s None f =
         let q = and_both (eqb (length own_newest) 0) (eqb (length own_stamps) 0) f in
         let a = eqb-true (length own_newest) 0 q.0 in
         let b = eqb-true (length own_stamps) 0 q.1 in
@@ -115,24 +115,24 @@ module _ (newest stamps : List ℕ) (grid last stamp end : ℕ) where
     -- and passes where it begins
     pub part_holds : (s : VersionShape) (h : Recorded) → history_fits s h own_newest own_stamps ≡ true → grids_hold newest stamps s grid stamp h ≡ true
     unfolding grids_fit
-    part_holds s (Writes n) f =
-        let z = part_size s (Writes n) f in
+    part_holds s (Some n) f =
+        let z = part_size s (Some n) f in
         let room : grid_stride * grid_count s ≤ last - grid = omega (arith, z.0) in
         ap₂ (λ (x y : Bool). x && y) (sym (grids_same s n room (omega (arith, z.1))) ∙ passed _ f 2) (sym (tilings_same s room) ∙ passed _ f 3)
-    part_holds s NoHistory f = refl
+    part_holds s None f = refl
 
     -- and one that passes there, and is as large, fits
     pub part_fits : (s : VersionShape) (h : Recorded) → last ≡ grid + recorded_grids h s → end ≡ stamp + recorded_stamps h s
         → grids_hold newest stamps s grid stamp h ≡ true → history_fits s h own_newest own_stamps ≡ true
     unfolding grids_fit
-    part_fits s (Writes n) a b f =
+    part_fits s (Some n) a b f =
         let q = and_both (all (is_grid n) (listed (grid_from newest stamps s grid stamp) 0 (grid_count s))) (all (tiling_from newest s grid) (grid_places s)) f in
         let room : grid_stride * grid_count s ≤ last - grid = omega (arith, a) in
         pass_all _
         (cons (eq-eqb (length own_newest) (grid_stride * grid_count s) (omega (arith, a, length_part grid last newest hl)))
         (cons (eq-eqb (length own_stamps) (history_size s) (omega (arith, b, length_part stamp end stamps he)))
         (cons (grids_same s n room (omega (arith, b)) ∙ q.0) (cons (tilings_same s room ∙ q.1) nil))))
-    part_fits s NoHistory a b f =
+    part_fits s None a b f =
         ap₂ (λ (x y : Bool). x && y)
         (eq-eqb (length own_newest) 0 (omega (arith, a, length_part grid last newest hl)))
         (eq-eqb (length own_stamps) 0 (omega (arith, b, length_part stamp end stamps he)))

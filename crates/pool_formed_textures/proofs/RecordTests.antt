@@ -2,7 +2,7 @@
 use mathlib.Core.Path.{◌≡◌, sym, ap, ap₂, ◌∙◌, subst}
 use mathlib.Core.Bool.{Bool, true, false, ◌&&◌}
 use mathlib.Core.List.{List, []}
-use Prim.Native.Nat.{ℕ, ◌+◌, ◌*◌, ◌≤◌, ◌<◌}
+use Prim.Native.Nat.{ℕ, ◌+◌, ◌*◌, ◌-◌, ◌≤◌, ◌<◌}
 use native.Mathlib.Nat.{add-zero, mul-le-mul}
 use native.Mathlib.Omega.{arith}
 use borrow.Author.Tests.{lt-ltb, le-ltb}
@@ -21,7 +21,7 @@ use Rattle.pool_rules.specs.Model.{limit}
 use Rattle.pool_records.specs.declared.texture.TextureRecord.{TextureRecord}
 use Rattle.pool_records.specs.Texture.{read_texture, texture_in, record_spares, textures_in}
 use Rattle.pool_records.specs.Find.{id_of}
-use Rattle.pool_records.proofs.Codecs.{texture_codec}
+use Rattle.pool_records.specs.Codecs.{texture_codec}
 use Rattle.pool_memory.specs.IsPool.{bytes_hold}
 use Rattle.pool_memory.proofs.Runs.{bytes_held}
 use Rattle.pool_formed_textures.specs.Textures.{writes_fit, is_record}
@@ -42,15 +42,27 @@ id_here : (s : List ℕ) (i : ℕ) → get_or s (texture_stride * i) 0 ≡ id_of
 unfolding record_at read_texture
 id_here s i = sym (get_or-drop (texture_stride * i) s 0 0 ∙ ap (λ (k : ℕ). get_or s k 0) (add-zero (texture_stride * i)))
 
-id_next : (s : List ℕ) (i : ℕ) → get_or s (texture_stride * i + texture_stride) 0 ≡ id_of (texture_in s (i + 1))
-id_next s i = ap (λ (k : ℕ). get_or s k 0) (let e : texture_stride * i + texture_stride ≡ texture_stride * (i + 1) = omega arith in e) ∙ id_here s (i + 1)
+-- the one before record i, and what the two tell of those from there on
+module _ (s : List ℕ) (n i : ℕ) (p : 0 < i) (h : i < n) where
+  next : i - 1 + 1 ≡ i
+  next = omega arith
 
-module _ (s : List ℕ) (n i : ℕ) (h : i + 1 < n) where
-  pub ids_more : get_or s (texture_stride * i) 0 < get_or s (texture_stride * i + texture_stride) 0 → ascending id_of (left (texture_in s) n i) ≡ ascending id_of (left (texture_in s) n (i + 1))
-  ids_more q = ascending_more (texture_in s) n id_of i h (lt-ltb (id_of (texture_in s i)) (id_of (texture_in s (i + 1))) (omega (arith, id_here s i, id_next s i)))
+  id_next : get_or s (texture_stride * i) 0 ≡ id_of (texture_in s (i - 1 + 1))
+  id_next = id_here s i ∙ ap (λ (k : ℕ). id_of (texture_in s k)) (sym next)
 
-  pub ids_stop : get_or s (texture_stride * i + texture_stride) 0 ≤ get_or s (texture_stride * i) 0 → ascending id_of (left (texture_in s) n i) ≡ false
-  ids_stop q = ascending_stop (texture_in s) n id_of i h (le-ltb (id_of (texture_in s i)) (id_of (texture_in s (i + 1))) (omega (arith, id_here s i, id_next s i)))
+  id_before : get_or s (texture_stride * i - texture_stride) 0 ≡ id_of (texture_in s (i - 1))
+  id_before = ap (λ (k : ℕ). get_or s k 0) (let e : texture_stride * i - texture_stride ≡ texture_stride * (i - 1) = omega arith in e) ∙ id_here s (i - 1)
+
+  pub ids_more : get_or s (texture_stride * i - texture_stride) 0 < get_or s (texture_stride * i) 0
+      → ascending id_of (left (texture_in s) n (i - 1)) ≡ ascending id_of (left (texture_in s) n (i + 1 - 1))
+  ids_more q =
+      ascending_more (texture_in s) n id_of (i - 1) (omega arith) (lt-ltb (id_of (texture_in s (i - 1))) (id_of (texture_in s (i - 1 + 1))) (omega (arith, id_before, id_next)))
+      ∙ ap (λ (k : ℕ). ascending id_of (left (texture_in s) n k)) (let e : i - 1 + 1 ≡ i + 1 - 1 = omega arith in e)
+
+  pub ids_stop : get_or s (texture_stride * i) 0 ≤ get_or s (texture_stride * i - texture_stride) 0 → ascending id_of (left (texture_in s) n (i - 1)) ≡ false
+  ids_stop q =
+      ascending_stop (texture_in s) n id_of (i - 1) (omega arith)
+      (le-ltb (id_of (texture_in s (i - 1))) (id_of (texture_in s (i - 1 + 1))) (omega (arith, id_before, id_next)))
 
 -- ---- single records
 

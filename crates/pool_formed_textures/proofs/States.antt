@@ -9,8 +9,8 @@ use Rattle.base_blocks.proofs.Lists.{all_append}
 use Rattle.base_blocks.proofs.Listed.{length_listed, listed_split}
 use Rattle.grid_shapes.specs.Shapes.{is_shape, bytes_of}
 use Rattle.pool_rules.specs.Model.{limit, spare_bytes, grid_count}
-use Rattle.pool_records.specs.declared.recorded.Recorded.{Recorded}
-use Rattle.pool_records.specs.declared.recorded.Recorded.TheVariants.{Writes, NoHistory}
+use Rattle.pool_records.specs.Recorded.{Recorded}
+use Rattle.std.specs.Prelude.{Some, None}
 use Rattle.pool_records.specs.declared.texture.TextureRecord.{TextureRecord}
 use Rattle.pool_records.specs.Find.{id_of}
 use Rattle.pool_memory.specs.Reading.{grid_read, history_read, spare_read, state_read, states_read}
@@ -59,19 +59,19 @@ module _ (l : Lent) where
 
   -- the grids of a history pass by their stamps, whatever stands beside these
   abbrev stamps_pass : TextureRecord → Recorded → Bool
-  stamps_pass t (Writes n) = all (is_grid n) (listed (grid_from l.newest l.stamps t.shape t.grid t.stamp) 0 (grid_count t.shape))
-  stamps_pass t NoHistory = true
+  stamps_pass t (Some n) = all (is_grid n) (listed (grid_from l.newest l.stamps t.shape t.grid t.stamp) 0 (grid_count t.shape))
+  stamps_pass t None = true
 
   history_test : (t : TextureRecord) (h : Recorded) → is_history (history_read l t.shape t.grid t.stamp h) ≡ writes_fit h && stamps_pass t h
   unfolding is_history grid_read grid_from
-  history_test t (Writes n) = refl
-  history_test t NoHistory = refl
+  history_test t (Some n) = refl
+  history_test t None = refl
 
   tilings_test : (t : TextureRecord) (h : Recorded)
       → stamps_pass t h && tilings_read l t.shape t.grid h ≡ grids_hold l.newest l.stamps t.shape t.grid t.stamp h
   unfolding tiling_holds tiling_from
-  tilings_test t (Writes n) = refl
-  tilings_test t NoHistory = refl
+  tilings_test t (Some n) = refl
+  tilings_test t None = refl
 
   -- what a record's bytes and its grids' tilings have to be
   abbrev pub record_holds : TextureRecord → Bool

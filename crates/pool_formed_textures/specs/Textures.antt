@@ -5,14 +5,14 @@ use Rattle.base_blocks.specs.Lists.{all, listed, total, ascending, tests}
 use Rattle.base_tables.specs.Records.{record_at}
 use Rattle.grid_shapes.specs.declared.shape.VersionShape.{VersionShape}
 use Rattle.grid_shapes.specs.Shapes.{is_shape}
-use Rattle.grid_axes.specs.declared.axis.Axis.{Axis}
+use Rattle.grid_stamps.specs.declared.grid.Tiling.{Tiling}
 use Rattle.grid_axes.specs.EdgeTables.{is_edge_table}
 use Rattle.grid_stamps.specs.Grids.{StampGrid, grid_in, tiling_of}
 use Rattle.pool_rules.specs.Model.{Spare, limit, grid_count}
 use Rattle.pool_rules.specs.HistorySizes.{grid_places, grid_start, history_size}
 use Rattle.pool_rules.specs.RuleConstants.{grid_stride}
-use Rattle.pool_records.specs.declared.recorded.Recorded.{Recorded}
-use Rattle.pool_records.specs.declared.recorded.Recorded.TheVariants.{Writes, NoHistory}
+use Rattle.pool_records.specs.Recorded.{Recorded}
+use Rattle.std.specs.Prelude.{Some, None}
 use Rattle.pool_records.specs.declared.texture.TextureRecord.{TextureRecord}
 use Rattle.pool_records.specs.declared.tiling.GridTiling.{GridTiling}
 use Rattle.pool_records.specs.Spare.{read_spare}
@@ -27,8 +27,8 @@ use Rattle.pool_records.specs.Texture.{record_grids, record_stamps, record_spare
 -- ---- textures
 
 abbrev pub writes_fit : Recorded → Bool
-writes_fit (Writes n) = leb n limit
-writes_fit NoHistory = true
+writes_fit (Some n) = leb n limit
+writes_fit None = true
 
 -- what a texture's record says by itself: the shape passes 2; counts and submissions are at most 2^48; the bytes are those of the shape
 unfoldable pub is_record : TextureRecord → Bool
@@ -53,9 +53,9 @@ own_grid s newest stamps k = grid_in (tiling_of s (k % s.levels)) (get_or newest
 unfoldable pub own_tiling : VersionShape → List ℕ → ℕ → Bool
 own_tiling s newest k = eqb (get_or newest (grid_stride * k + 1) 0) (tiling_number s k)
 
--- the tiling of a grid of so many columns and rows, whose stamps begin at `start`
-abbrev pub axes_tiling : ℕ → Axis → Axis → GridTiling
-axes_tiling start across down = record { start = start; across = across.edge; down = down.edge }
+-- what stands for a grid of this tiling, whose stamps begin at `start`
+abbrev pub axes_tiling : ℕ → Tiling → GridTiling
+axes_tiling start g = record { start = start; across = g.across.edge; down = g.down.edge }
 
 -- they are as many as the shape has, every grid passes, and so does what stands beside its newest stamp
 unfoldable pub grids_fit : VersionShape → ℕ → List ℕ → List ℕ → Bool
@@ -67,8 +67,8 @@ grids_fit s writes newest stamps = tests (
 
 -- without a history there are none
 abbrev pub history_fits : VersionShape → Recorded → List ℕ → List ℕ → Bool
-history_fits s (Writes n) newest stamps = grids_fit s n newest stamps
-history_fits s NoHistory newest stamps = eqb (length newest) 0 && eqb (length stamps) 0
+history_fits s (Some n) newest stamps = grids_fit s n newest stamps
+history_fits s None newest stamps = eqb (length newest) 0 && eqb (length stamps) 0
 
 -- the k-th grid of a history whose numbers of `newest` begin at `grid` and whose stamps at `stamp`
 unfoldable pub grid_from : List ℕ → List ℕ → VersionShape → ℕ → ℕ → ℕ → StampGrid
@@ -78,9 +78,9 @@ unfoldable pub tiling_from : List ℕ → VersionShape → ℕ → ℕ → Bool
 tiling_from newest s grid k = eqb (get_or newest (grid + grid_stride * k + 1) 0) (tiling_number s k)
 
 abbrev pub grids_hold : List ℕ → List ℕ → VersionShape → ℕ → ℕ → Recorded → Bool
-grids_hold newest stamps s grid stamp (Writes n) =
+grids_hold newest stamps s grid stamp (Some n) =
     all (is_grid n) (listed (grid_from newest stamps s grid stamp) 0 (grid_count s)) && all (tiling_from newest s grid) (grid_places s)
-grids_hold newest stamps s grid stamp NoHistory = true
+grids_hold newest stamps s grid stamp None = true
 
 -- the grids of a record's history pass with their tilings, where it says that they begin
 unfoldable pub history_holds : List ℕ → List ℕ → TextureRecord → Bool

@@ -3,8 +3,7 @@
 ghost use Rattle.std.specs.Prelude.{◌≡◌, true, ◌*◌, ◌≤◌, ◌<◌, eqb, length};
 ghost use Rattle.base_blocks.specs.Lists.{all};
 ghost use Rattle.grid_shapes.specs.Shapes.{is_shape};
-ghost use Rattle.grid_axes.specs.Axes.{AxisOk};
-ghost use Rattle.grid_stamps.specs.Grids.{TableOf, grid_in, stamp_count, tiled};
+ghost use Rattle.grid_stamps.specs.Grids.{TableOf, TilingOk, grid_in, stamp_count};
 ghost use Rattle.pool_records.specs.Texture.{read_texture, textures_in};
 ghost use Rattle.pool_records.specs.Tilings.{packed_tiling, TilingFits};
 ghost use Rattle.pool_memory.specs.IsPool.{is_grid};
@@ -12,38 +11,38 @@ ghost use Rattle.pool_formed_textures.specs.Textures.{is_record, BothTables, axe
 ghost use Rattle.pool_records.specs.RecordConstants.{texture_stride};
 
 use base_tables::record_at;
-use grid_axes::{Axis, TILE_EDGES_1, TILE_EDGES_4};
+use grid_axes::{TILE_EDGES_1, TILE_EDGES_4};
 use grid_shapes::{VersionShape, block_edge};
-use grid_stamps::{across_axis, down_axis, is_largest_stamp, stamp_count};
+use grid_stamps::{Tiling, is_largest_stamp, stamp_count, tiling_in};
 use pool_access::{grid_end, shape_grids, stamp_end};
 use pool_records::{
-    GridTiling, Recorded, TEXTURE_GRID_AT, TEXTURE_STAMP_AT, TEXTURE_STRIDE, read_texture,
+    GridTiling, Record, TEXTURE_GRID_AT, TEXTURE_STAMP_AT, TEXTURE_STRIDE, TextureRecord,
     tiling_number,
 };
 use pool_rules::GRID_STRIDE;
 
-// Tests that the number is the tiling of a grid of so many columns and rows, whose stamps begin at `start`.
-fn tiling_fits(number: u64, start: usize, across: Axis, down: Axis) -> bool
-    requires { TilingFits (axes_tiling start across down) }
-    ensures { result ≡ eqb number (packed_tiling (axes_tiling start across down)) }
+// Tests that the number stands for a grid of this tiling, whose stamps begin at `start`.
+fn tiling_fits(number: u64, start: usize, tiling: Tiling) -> bool
+    requires { TilingFits (axes_tiling start tiling) }
+    ensures { result ≡ eqb number (packed_tiling (axes_tiling start tiling)) }
 {
     let tiling = tiling_number(GridTiling {
         start: start as u64,
-        across: across.edge,
-        down: down.edge,
+        across: tiling.across.edge,
+        down: tiling.down.edge,
     });
     number == tiling
 }
 
-// Tests a grid of so many columns and rows, whose stamps stand at the front.
-fn grid_fits(across: Axis, down: Axis, writes: u64, newest: u64, stamps: &[u64]) -> bool
-    requires { AxisOk across × AxisOk down × (stamp_count (tiled across down) ≤ length stamps.now) × (0 < stamp_count (tiled across down)) }
-    ensures { result ≡ is_grid writes (grid_in (tiled across down) newest stamps.now) }
+// Tests a grid of this tiling, whose stamps stand at the front.
+fn grid_fits(tiling: Tiling, writes: u64, newest: u64, stamps: &[u64]) -> bool
+    requires { TilingOk tiling × (stamp_count tiling ≤ length stamps.now) × (0 < stamp_count tiling) }
+    ensures { result ≡ is_grid writes (grid_in tiling newest stamps.now) }
 {
     if newest > writes {
         return false;
     }
-    is_largest_stamp(stamps, across, down, newest)
+    is_largest_stamp(stamps, tiling, newest)
 }
 
 // Tests the grids of a history that has just these numbers of `newest` and just these stamps, by the table of its format's blocks. Works out
@@ -57,23 +56,20 @@ fn grids_fit(edges: &[u16], s: VersionShape, writes: u64, newest: &[u64], stamps
         return false;
     }
     let mut at = 0;
-    let mut k = 0;
-    while k < n {
+    for k in 0..n {
         let level = k as u64 % s.levels;
-        let across = across_axis(edges, s, level);
-        let down = down_axis(edges, s, level);
-        let count = stamp_count(across, down) as usize;
+        let tiling = tiling_in(edges, s, level);
+        let count = stamp_count(tiling) as usize;
         if count > stamps.len() - at {
             return false;
         }
-        if !tiling_fits(newest[GRID_STRIDE * k + 1], at, across, down) {
+        if !tiling_fits(newest[GRID_STRIDE * k + 1], at, tiling) {
             return false;
         }
-        if !grid_fits(across, down, writes, newest[GRID_STRIDE * k], &stamps[at..]) {
+        if !grid_fits(tiling, writes, newest[GRID_STRIDE * k], &stamps[at..]) {
             return false;
         }
         at += count;
-        k += 1;
     }
     stamps.len() == at
 }
@@ -84,17 +80,17 @@ fn history_fits(one: &[u16], four: &[u16], p: &[u64], newest: &[u64], stamps: &[
     requires { (texture_stride ≤ length p.now) × (is_shape (read_texture p.now).shape ≡ true) × BothTables one.now four.now }
     ensures { result ≡ history_fits (read_texture p.now).shape (read_texture p.now).history newest.now stamps.now }
 {
-    let t = read_texture(p);
+    let t = TextureRecord::read(p);
     let shape = t.shape;
     let history = t.history;
     match history {
-        Recorded::Writes(n) => {
+        Some(n) => {
             if block_edge(shape.format) == 1 {
                 return grids_fit(one, shape, n, newest, stamps);
             }
             grids_fit(four, shape, n, newest, stamps)
         }
-        Recorded::NoHistory => (newest.len() == 0) & (stamps.len() == 0),
+        None => (newest.len() == 0) & (stamps.len() == 0),
     }
 }
 
@@ -123,8 +119,7 @@ fn histories_in(
 {
     let mut grid = 0;
     let mut stamp = 0;
-    let mut i = 0;
-    while i < n {
+    for i in 0..n {
         let p = record_at(textures, TEXTURE_STRIDE, i);
         let last = grid_end(textures, n, grids, i);
         let end = stamp_end(textures, n, used, i);
@@ -139,7 +134,6 @@ fn histories_in(
         }
         grid = last;
         stamp = end;
-        i += 1;
     }
     (grid == grids) & (stamp == used)
 }

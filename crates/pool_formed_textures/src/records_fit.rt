@@ -10,7 +10,7 @@ ghost use Rattle.pool_rules.specs.RuleConstants.{most_places};
 
 use base_tables::record_at;
 use grid_shapes::{is_shape, shape_bytes};
-use pool_records::{Recorded, TEXTURE_BYTES_AT, TEXTURE_SPARES_AT, TEXTURE_STRIDE, read_texture};
+use pool_records::{Record, TEXTURE_BYTES_AT, TEXTURE_SPARES_AT, TEXTURE_STRIDE, TextureRecord};
 use pool_rules::LIMIT;
 
 // Tests that the ids of the first n records ascend.
@@ -18,23 +18,21 @@ pub fn ids_ascend(textures: &[u64], n: usize) -> bool
     requires { texture_stride * n ≤ length textures.now }
     ensures { result ≡ ascending id_of (textures_in n textures.now) }
 {
-    let mut i = 0;
-    while i + 1 < n {
-        if textures[TEXTURE_STRIDE * i + TEXTURE_STRIDE] <= textures[TEXTURE_STRIDE * i] {
+    for i in 1..n {
+        if textures[TEXTURE_STRIDE * i] <= textures[TEXTURE_STRIDE * i - TEXTURE_STRIDE] {
             return false;
         }
-        i += 1;
     }
     true
 }
 
 // Tests that a write count, if there is a history, is at most 2^48.
-fn writes_fit(h: Recorded) -> bool
+fn writes_fit(h: Option<u64>) -> bool
     ensures { result ≡ writes_fit h }
 {
     match h {
-        Recorded::Writes(n) => n <= LIMIT,
-        Recorded::NoHistory => true,
+        Some(n) => n <= LIMIT,
+        None => true,
     }
 }
 
@@ -43,7 +41,7 @@ fn is_record(p: &[u64]) -> bool
     requires { texture_stride ≤ length p.now }
     ensures { result ≡ is_record (read_texture p.now) }
 {
-    let t = read_texture(p);
+    let t = TextureRecord::read(p);
     let shape = t.shape;
     let history = t.history;
     if !is_shape(shape) {
@@ -62,12 +60,10 @@ pub fn records_fit(textures: &[u64], n: usize) -> bool
     requires { texture_stride * n ≤ length textures.now }
     ensures { result ≡ all is_record (textures_in n textures.now) }
 {
-    let mut i = 0;
-    while i < n {
+    for i in 0..n {
         if !is_record(record_at(textures, TEXTURE_STRIDE, i)) {
             return false;
         }
-        i += 1;
     }
     true
 }

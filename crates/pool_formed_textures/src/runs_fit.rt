@@ -16,15 +16,13 @@ pub fn runs_fit(textures: &[u64], n: usize, kept: usize) -> bool
     ensures { result ≡ eqb kept (total record_spares (textures_in n textures.now)) }
 {
     let mut spares = kept as u64;
-    let mut i = 0;
-    while i < n {
+    for i in 0..n {
         let p = record_at(textures, TEXTURE_STRIDE, i);
         let k = p[TEXTURE_SPARES_AT];
         if k > spares {
             return false;
         }
         spares -= k;
-        i += 1;
     }
     spares == 0
 }
@@ -36,10 +34,8 @@ pub fn parked_bytes(textures: &[u64], n: usize) -> u64
     ensures { result ≡ total record_bytes (textures_in n textures.now) }
 {
     let mut sum = 0;
-    let mut i = 0;
-    while i < n {
+    for i in 0..n {
         sum += record_bytes(record_at(textures, TEXTURE_STRIDE, i));
-        i += 1;
     }
     sum
 }

@@ -13,15 +13,13 @@ pub fn spares_fit(spares: &[u64], n: usize) -> bool
     requires { spare_stride * n ≤ length spares.now }
     ensures { result ≡ all is_spare (listed (model_spare_at spares.now) 0 n) }
 {
-    let mut k = 0;
-    while k < n {
+    for k in 0..n {
         if spares[SPARE_STRIDE * k + SPARE_HELD_AT] > LIMIT + 1 {
             return false;
         }
         if spares[SPARE_STRIDE * k + SPARE_PARKED_AT] > LIMIT {
             return false;
         }
-        k += 1;
     }
     true
 }

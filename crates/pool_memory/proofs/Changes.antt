@@ -18,7 +18,7 @@ use Rattle.pool_rules.specs.TakeSpare.{newest, others}
 use Rattle.pool_records.specs.declared.spare.SpareRecord.{SpareRecord}
 use Rattle.pool_records.specs.Texture.{read_texture}
 use Rattle.pool_records.specs.Spare.{read_spare, write_spare}
-use Rattle.pool_records.proofs.Codecs.{spare_codec}
+use Rattle.pool_records.specs.Codecs.{spare_codec}
 use Rattle.pool_memory.specs.Lent.{Lent}
 use Rattle.pool_memory.specs.Reading.{tracked_records, spare_read, state_read, model_of}
 use Rattle.pool_memory.specs.Writing.{spare_record, every_spare, spares_after}

@@ -18,7 +18,8 @@ use Rattle.base_blocks.proofs.Listed.{length_listed, get_or_listed}
 use Rattle.base_unequal.specs.Unequal.{starts_fit}
 use Rattle.grid_shapes.specs.declared.shape.VersionShape.{VersionShape}
 use Rattle.grid_shapes.specs.Shapes.{slices_of}
-use Rattle.grid_stamps.specs.Grids.{Tiling, tiling_of, stamp_count, StampGrid, grid_in}
+use Rattle.grid_stamps.specs.declared.grid.Tiling.{Tiling}
+use Rattle.grid_stamps.specs.Grids.{tiling_of, stamp_count, StampGrid, grid_in}
 use Rattle.grid_stamps.proofs.RowByRow.{tile_place}
 use Rattle.pool_rules.specs.declared.held.Held.{Held}
 use Rattle.pool_rules.specs.declared.held.Held.TheVariants.{Known, Unknown}
@@ -29,8 +30,8 @@ use Rattle.pool_rules.specs.Open.{are_places}
 use Rattle.pool_rules.specs.Formed.{Given, HeldFormed, GridFormed, HistoryFormed, SpareFormed, RetiringFormed, DoomedFormed, StateFormed, Formed}
 use Rattle.pool_rules.proofs.GridPlaces.{place_level}
 use Rattle.pool_rules.proofs.HistorySizes.{grid_end_lem}
-use Rattle.pool_records.specs.declared.recorded.Recorded.{Recorded}
-use Rattle.pool_records.specs.declared.recorded.Recorded.TheVariants.{Writes, NoHistory}
+use Rattle.pool_records.specs.Recorded.{Recorded}
+use Rattle.std.specs.Prelude.{Some, None}
 use Rattle.pool_records.specs.declared.texture.TextureRecord.{TextureRecord}
 use Rattle.pool_memory.specs.Lent.{Lent, version_places}
 use Rattle.pool_memory.specs.Reading.{tracked_records, grid_read, history_read, spare_read, state_read, states_read, retiring_read, doomed_read, model_of}
@@ -87,8 +88,8 @@ module _ (l : Lent) (s : VersionShape) (grid stamp : ℕ) where
 
     history_formed : (h : Recorded) → is_history (history_read l s grid stamp h) ≡ true → Given (HistoryFormed s) (history_read l s grid stamp h)
     unfolding is_history
-    history_formed NoHistory e = tt
-    history_formed (Writes n) e =
+    history_formed None e = tt
+    history_formed (Some n) e =
         let q = and_both (leb n limit) (all (is_grid n) (listed (grid_read l s grid stamp) 0 (grid_count s))) e in
         record { writes = leb-true _ _ q.0; size = length_grids; grids = λ slice level a b. go slice level a b q.1 }
       where
@@ -153,8 +154,8 @@ module _ (l : Lent) where
       go : (h : Recorded) → t.stamp + recorded_stamps h t.shape ≤ length l.stamps
           → is_history (history_read l t.shape t.grid t.stamp h) ≡ true
           → Given (HistoryFormed t.shape) (history_read l t.shape t.grid t.stamp h)
-      go NoHistory room f = tt
-      go (Writes n) room f = history_formed l t.shape t.grid t.stamp room (Writes n) f
+      go None room f = tt
+      go (Some n) room f = history_formed l t.shape t.grid t.stamp room (Some n) f
 
   -- each texture's stamps stand where its record says, so all of them end within the slice
   states_formed : (first n : ℕ) (ts : List TextureRecord) → starts_fit record_stamps first_stamp_in n ts ≡ true

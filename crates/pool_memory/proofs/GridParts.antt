@@ -8,9 +8,8 @@ use lib.ListN.{length, take, drop, get_or, length-drop}
 use lib.Seq.{length-take-le, take-take}
 use Rattle.grid_shapes.specs.declared.shape.VersionShape.{VersionShape}
 use Rattle.grid_shapes.specs.Shapes.{is_shape}
-use Rattle.grid_axes.specs.declared.axis.Axis.{Axis}
-use Rattle.grid_axes.specs.Axes.{AxisOk}
-use Rattle.grid_stamps.specs.Grids.{Tiling, tiled, grid_in, tiling_of, stamp_count}
+use Rattle.grid_stamps.specs.declared.grid.Tiling.{Tiling}
+use Rattle.grid_stamps.specs.Grids.{TilingOk, grid_in, tiling_of, stamp_count}
 use Rattle.grid_stamps.proofs.Tilings.{tiling_ok}
 use Rattle.pool_memory.specs.Reading.{grid_on}
 
@@ -32,11 +31,8 @@ module _ (s : VersionShape) (shaped : is_shape s ≡ true) (level : ℕ) (newest
       ∙ (λ i. record { newest = get_or newest p 0; stamps = take-take count count (drop at stamps) (omega arith) i })
 
   -- what it has to be to be lent on
-  pub part_fits : (m : ℕ) (across down : Axis) → m ≡ count → across ≡ (tiling_of s level).across → down ≡ (tiling_of s level).down
-      → AxisOk across × AxisOk down × (stamp_count (tiled across down) ≤ length (take m (drop at stamps)))
-  part_fits m across down e f g =
-      let ok = tiling_ok s shaped level in
-      (subst AxisOk (sym f) ok.across, subst AxisOk (sym g) ok.down, omega (arith, part_long m e, ap stamp_count (ap₂ tiled f g)))
+  pub part_fits : (m : ℕ) (g : Tiling) → m ≡ count → g ≡ tiling_of s level → TilingOk g × (stamp_count g ≤ length (take m (drop at stamps)))
+  part_fits m g e f = (subst TilingOk (sym f) (tiling_ok s shaped level), omega (arith, part_long m e, ap stamp_count f))
 
   -- a grid's stamps, stamped or not, are as many as its tiles
   pub length_grid : length (grid_on s level newest stamps p at).stamps ≡ count

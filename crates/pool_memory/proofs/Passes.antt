@@ -17,7 +17,7 @@ use Rattle.pool_records.specs.declared.texture.TextureRecord.{TextureRecord}
 use Rattle.pool_records.specs.declared.spare.SpareRecord.{SpareRecord}
 use Rattle.pool_records.specs.Texture.{write_texture, texture_in}
 use Rattle.pool_records.specs.Spare.{read_spare, write_spare}
-use Rattle.pool_records.proofs.Codecs.{texture_codec, spare_codec}
+use Rattle.pool_records.specs.Codecs.{texture_codec, spare_codec}
 use Rattle.pool_memory.specs.Lent.{Lent}
 use Rattle.pool_memory.specs.Reading.{tracked_records}
 use Rattle.pool_memory.specs.Writing.{texture_record, texture_records, spare_record, every_spare, grids_of, newest_from, newest_of, stamps_of, textures_after, spares_after, newest_after, stamps_after}

@@ -24,7 +24,7 @@ use Rattle.pool_records.specs.Texture.{write_texture, record_grids, record_stamp
 use Rattle.pool_records.specs.Spare.{write_spare}
 use Rattle.pool_records.specs.Retiring.{write_retiring}
 use Rattle.pool_records.specs.Doomed.{write_doomed}
-use Rattle.pool_records.proofs.Codecs.{texture_codec, spare_codec}
+use Rattle.pool_records.specs.Codecs.{texture_codec, spare_codec}
 use Rattle.pool_memory.specs.Lent.{Lent, version_places}
 use Rattle.pool_memory.specs.Reading.{tracked_records, states_read, retiring_read, hand_read, doomed_read, model_of}
 use Rattle.pool_memory.specs.Writing.{texture_records, spare_record, retiring_record, doomed_record, textures_after, every_spare, spares_after, newest_after, stamps_after, head_after, hand_list, retiring_after, first_after, doomed_after, pool_after, mark_of, pacing_after, lent_after}

@@ -13,7 +13,7 @@ use Rattle.pool_rules.specs.Model.{Retiring, Doomed, hand_count}
 use Rattle.pool_records.specs.Retiring.{read_retiring, write_retiring}
 use Rattle.pool_records.specs.Doomed.{read_doomed, write_doomed}
 use Rattle.pool_records.specs.Views.{retiring_of, doomed_of}
-use Rattle.pool_records.proofs.Codecs.{retiring_codec, doomed_codec}
+use Rattle.pool_records.specs.Codecs.{retiring_codec, doomed_codec}
 use Rattle.pool_memory.specs.Lent.{Lent, version_places}
 use Rattle.pool_memory.specs.Reading.{retiring_read, hand_read, doomed_read}
 use Rattle.pool_memory.specs.Writing.{retiring_record, doomed_record, hand_list}

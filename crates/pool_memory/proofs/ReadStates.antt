@@ -24,7 +24,7 @@ use Rattle.pool_rules.specs.RuleConstants.{grid_stride}
 use Rattle.pool_records.specs.declared.texture.TextureRecord.{TextureRecord}
 use Rattle.pool_records.specs.Spare.{read_spare, write_spare}
 use Rattle.pool_records.specs.Views.{spare_of}
-use Rattle.pool_records.proofs.Codecs.{spare_codec}
+use Rattle.pool_records.specs.Codecs.{spare_codec}
 use Rattle.pool_memory.specs.Lent.{Lent}
 use Rattle.pool_memory.specs.Reading.{history_read, spare_read, state_read, states_read}
 use Rattle.pool_memory.specs.Writing.{recorded_history, texture_record, texture_records, spare_record, every_spare, grids_of, newest_from, newest_of, stamps_of}

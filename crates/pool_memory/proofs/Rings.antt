@@ -19,7 +19,7 @@ use Rattle.pool_records.specs.declared.retiring.RetiringRecord.{RetiringRecord}
 use Rattle.pool_records.specs.declared.doomed.DoomedRecord.{DoomedRecord}
 use Rattle.pool_records.specs.Retiring.{read_retiring, write_retiring}
 use Rattle.pool_records.specs.Doomed.{read_doomed, write_doomed}
-use Rattle.pool_records.proofs.Codecs.{retiring_codec, doomed_codec}
+use Rattle.pool_records.specs.Codecs.{retiring_codec, doomed_codec}
 use Rattle.pool_memory.specs.Lent.{Lent, version_places}
 use Rattle.pool_memory.specs.Reading.{hand_read, retiring_read, doomed_read, model_of}
 use Rattle.pool_memory.specs.Writing.{retiring_record, doomed_record, hand_list, head_after, retiring_after, first_after, doomed_after}

@@ -22,8 +22,8 @@ use Rattle.pool_rules.specs.Model.{Spare, VersionState, grid_count, has_history}
 use Rattle.pool_rules.specs.HistorySizes.{grid_places, grid_size, grid_start, history_size, newest_used, stamps_used}
 use Rattle.pool_rules.specs.RuleConstants.{grid_stride}
 use Rattle.pool_rules.proofs.HistorySizes.{grid_first, grid_next, grid_last}
-use Rattle.pool_records.specs.declared.recorded.Recorded.{Recorded}
-use Rattle.pool_records.specs.declared.recorded.Recorded.TheVariants.{Writes, NoHistory}
+use Rattle.pool_records.specs.Recorded.{Recorded}
+use Rattle.std.specs.Prelude.{Some, None}
 use Rattle.pool_records.specs.declared.texture.TextureRecord.{TextureRecord}
 use Rattle.pool_records.specs.Texture.{read_texture, recorded_grids, record_grids, recorded_stamps, record_stamps}
 use Rattle.pool_records.specs.Tilings.{tiling_number, TilingsAt}
@@ -60,8 +60,8 @@ module _ (l : Lent) where
   -- ---- one texture
 
   recorded_read : (s : VersionShape) (grid stamp : ℕ) (h : Recorded) → recorded_history (history_read l s grid stamp h) ≡ h
-  recorded_read s grid stamp NoHistory = refl
-  recorded_read s grid stamp (Writes n) = refl
+  recorded_read s grid stamp None = refl
+  recorded_read s grid stamp (Some n) = refl
 
   -- a texture that was read is written as its record, where the record's bytes are those of its shape
   pub record_state : (first : ℕ) (t : TextureRecord) → t.bytes ≡ bytes_of t.shape → texture_record t.grid t.stamp (state_read l first t) ≡ t
@@ -81,10 +81,10 @@ module _ (l : Lent) where
   }
 
   -- it uses what its record claims
-  used_read : (s : VersionShape) (grid stamp n : ℕ) (h : Recorded) (m : Recorded → ℕ) → m NoHistory ≡ 0 → ((k : ℕ) → m (Writes k) ≡ n)
+  used_read : (s : VersionShape) (grid stamp n : ℕ) (h : Recorded) (m : Recorded → ℕ) → m None ≡ 0 → ((k : ℕ) → m (Some k) ≡ n)
       → cond (has_history (history_read l s grid stamp h)) n 0 ≡ m h
-  used_read s grid stamp n NoHistory m e f = sym e
-  used_read s grid stamp n (Writes k) m e f = sym (f k)
+  used_read s grid stamp n None m e f = sym e
+  used_read s grid stamp n (Some k) m e f = sym (f k)
 
   pub grids_state : (first : ℕ) (t : TextureRecord) → newest_used (state_read l first t) ≡ record_grids t
   unfolding state_read
@@ -108,8 +108,8 @@ module _ (l : Lent) where
   newest_read : (s : VersionShape) (grid stamp : ℕ) (h : Recorded) → tilings_read l s grid h ≡ true
       → newest_from s 0 (grids_of (history_read l s grid stamp h)) ≡ listed (newest_at l) grid (recorded_grids h s)
   unfolding listed newest_from grid_read grid_in tiling_holds
-  newest_read s grid stamp NoHistory e = refl
-  newest_read s grid stamp (Writes n) e =
+  newest_read s grid stamp None e = refl
+  newest_read s grid stamp (Some n) e =
       newest_listed s (grid_read l s grid stamp) (newest_at l) 0 grid (grid_count s) (λ k q.
       (ap (λ (j : ℕ). get_or l.newest (grid + grid_stride * j) 0) (zero-add k), ap (tiling_number s) (zero-add k) ∙ sym (tiling_there s grid e k q)))
 
@@ -138,8 +138,8 @@ module _ (l : Lent) where
   stamps_read : (s : VersionShape) (grid stamp : ℕ) (h : Recorded)
       → flat_map (λ (g : StampGrid). g.stamps) (grids_of (history_read l s grid stamp h)) ≡ take (recorded_stamps h s) (drop stamp l.stamps)
   unfolding flat_map
-  stamps_read s grid stamp NoHistory = refl
-  stamps_read s grid stamp (Writes n) =
+  stamps_read s grid stamp None = refl
+  stamps_read s grid stamp (Some n) =
       stamps_front s grid stamp (grid_count s) (omega arith) ∙ ap (λ (k : ℕ). take k (drop stamp l.stamps)) (grid_last s)
 
   pub stamps_state : (first : ℕ) (t : TextureRecord) → stamps_of (state_read l first t) ≡ take (record_stamps t) (drop t.stamp l.stamps)

@@ -14,7 +14,7 @@ use Rattle.pool_records.specs.declared.texture.TextureRecord.{TextureRecord}
 use Rattle.pool_records.specs.declared.spare.SpareRecord.{SpareRecord}
 use Rattle.pool_records.specs.Texture.{write_texture}
 use Rattle.pool_records.specs.Spare.{read_spare, write_spare}
-use Rattle.pool_records.proofs.Codecs.{texture_codec, spare_codec}
+use Rattle.pool_records.specs.Codecs.{texture_codec, spare_codec}
 use Rattle.pool_memory.specs.Lent.{Lent}
 use Rattle.pool_memory.specs.Reading.{tracked_records, spare_read, retiring_read, doomed_read, model_of}
 use Rattle.pool_memory.specs.Writing.{texture_records, spare_record, every_spare, textures_after, spares_after, newest_after, stamps_after, pool_after, mark_of, pacing_after, lent_after}

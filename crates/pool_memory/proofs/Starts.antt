@@ -23,7 +23,7 @@ use Rattle.pool_records.specs.declared.shift.Shift.{Shift}
 use Rattle.pool_records.specs.Texture.{read_texture, write_texture, texture_in, record_grids, record_stamps}
 use Rattle.pool_records.specs.Starts.{shifted_by, moved_start, starts_moved, StartMoves, StartsMove, grid_end, stamp_end}
 use Rattle.pool_records.specs.RecordConstants.{texture_stride}
-use Rattle.pool_records.proofs.Codecs.{texture_codec}
+use Rattle.pool_records.specs.Codecs.{texture_codec}
 use Rattle.pool_records.proofs.Starts.{written_moved, written_moves}
 use Rattle.grid_stamps.specs.StampConstants.{page_stamps}
 use Rattle.pool_rules.specs.RuleConstants.{grid_stride, most_grids}

@@ -7,7 +7,8 @@ use borrow.Author.Tests.{lt-ltb, le-leb, eq-eqb}
 use Rattle.base_blocks.specs.All.{nil, cons}
 use Rattle.base_blocks.proofs.Lists.{all_from}
 use Rattle.grid_shapes.specs.declared.shape.VersionShape.{VersionShape}
-use Rattle.grid_stamps.specs.Grids.{Tiling, StampGrid}
+use Rattle.grid_stamps.specs.declared.grid.Tiling.{Tiling}
+use Rattle.grid_stamps.specs.Grids.{StampGrid}
 use Rattle.pool_rules.specs.declared.held.Held.{Held}
 use Rattle.pool_rules.specs.declared.held.Held.TheVariants.{Known, Unknown}
 use Rattle.pool_rules.specs.Model.{WriteHistory, Spare, Retiring, Doomed, VersionState, PoolModel}

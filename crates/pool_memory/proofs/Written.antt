@@ -19,8 +19,8 @@ use Rattle.pool_rules.specs.Histories.{grid_at, grid_place}
 use Rattle.pool_rules.specs.RuleConstants.{grid_stride}
 use Rattle.pool_rules.specs.HistorySizes.{grid_size, grid_start, history_size, newest_used, stamps_used}
 use Rattle.pool_rules.proofs.HistorySizes.{grid_first, grid_next, grid_end_lem}
-use Rattle.pool_records.specs.declared.recorded.Recorded.{Recorded}
-use Rattle.pool_records.specs.declared.recorded.Recorded.TheVariants.{Writes, NoHistory}
+use Rattle.pool_records.specs.Recorded.{Recorded}
+use Rattle.std.specs.Prelude.{Some, None}
 use Rattle.pool_records.specs.Texture.{read_texture, recorded_grids, recorded_stamps}
 use Rattle.pool_memory.specs.Lent.{Lent}
 use Rattle.pool_memory.specs.Reading.{tracked_records, grid_read, history_read, state_read, model_of}
@@ -52,8 +52,8 @@ module _ (l : Lent) (i : ℕ) where
   stamps_used_at = stamps_used_state l (first_spare l i) (get_or (tracked_records l) i (read_texture []))
 
   length_read : (s : VersionShape) (grid stamp : ℕ) (h : Recorded) → grid_stride * length (grids_of (history_read l s grid stamp h)) ≡ recorded_grids h s
-  length_read s grid stamp NoHistory = refl
-  length_read s grid stamp (Writes n) = ap (λ (m : ℕ). grid_stride * m) (length_listed (grid_read l s grid stamp) 0 (grid_count s))
+  length_read s grid stamp None = refl
+  length_read s grid stamp (Some n) = ap (λ (m : ℕ). grid_stride * m) (length_listed (grid_read l s grid stamp) 0 (grid_count s))
 
   pub length_grids : grid_stride * length grids_at ≡ grid_count_at l i
   unfolding state_of state_read
@@ -63,8 +63,8 @@ module _ (l : Lent) (i : ℕ) where
 
   grid_in_lem : (s : VersionShape) (grid stamp : ℕ) (h : Recorded) (k : ℕ) (d : StampGrid) → grid_stride * k < recorded_grids h s
       → get_or (grids_of (history_read l s grid stamp h)) k d ≡ grid_read l s grid stamp k
-  grid_in_lem s grid stamp NoHistory k d q = absurd (let y : ⊥ = omega arith in y)
-  grid_in_lem s grid stamp (Writes n) k d q =
+  grid_in_lem s grid stamp None k d q = absurd (let y : ⊥ = omega arith in y)
+  grid_in_lem s grid stamp (Some n) k d q =
       get_or_listed (grid_read l s grid stamp) 0 (grid_count s) k d (omega arith) ∙ ap (grid_read l s grid stamp) (zero-add k)
 
   module _ (f : Fits l) (h : i < l.pool.tracked) where
@@ -134,8 +134,8 @@ module _ (l : Lent) (f : Fits l) (p : PoolModel ℕ) (i : ℕ) (h : i < l.pool.t
 
   -- its history is recorded, for it has a grid
   counts_read : (s : VersionShape) (o : Recorded) (j : ℕ) → j < recorded_grids o s → (recorded_grids o s ≡ grid_stride * grid_count s) × (recorded_stamps o s ≡ history_size s)
-  counts_read s NoHistory j r = absurd (let y : ⊥ = omega arith in y)
-  counts_read s (Writes m) j r = (refl, refl)
+  counts_read s None j r = absurd (let y : ⊥ = omega arith in y)
+  counts_read s (Some m) j r = (refl, refl)
 
   counts : (grid_count_at l i ≡ grid_stride * grid_count (state_of l i).shape) × (stamp_count_at l i ≡ history_size (state_of l i).shape)
   unfolding state_of state_read

@@ -24,6 +24,8 @@ use Rattle.pool_rules.specs.Trim.{trim}
 use Rattle.pool_rules.specs.ForgetTexture.{forget_texture}
 use Rattle.pool_memory.specs.declared.pool.Pool.{Pool as Counts}
 use Rattle.pool_memory.specs.declared.book.PacingBook.{PacingBook}
+use Rattle.pool_memory.specs.declared.answer.TakenVersion.{TakenVersion}
+use Rattle.pool_memory.specs.declared.answer.PoppedVersion.{PoppedVersion}
 use Rattle.pool_memory.specs.Lent.{Lent}
 use Rattle.pool_memory.specs.Reading.{model_of}
 use Rattle.pool_memory.specs.Writing.{lent_after}
@@ -67,7 +69,7 @@ pub data Told (A : Type 0) : Type 0 where
   refused_with : ℕ → Told A
   answer : A → Told A
 
--- a call that answers nothing but its outcome
+-- a call that answers nothing but its outcome, by 01's number of it
 abbrev pub told_number : ℕ → Told (Unit {0})
 told_number n = cond (eqb n 0) (answer tt) (refused_with n)
 
@@ -82,10 +84,6 @@ asked f l rule = cond (is_pool l) (written_back f l (rule (model_of l))) (refuse
 -- ---- the calls that answer numbers
 
 -- a spare's view number and held writes
-pub record TakenVersion : Type 0 where
-  pub view : ℕ
-  pub held : Held
-
 abbrev pub taken_of : Option (Spare ℕ) → Option TakenVersion
 taken_of none = none
 taken_of (some s) = some (record { view = s.view; held = s.held })
@@ -103,10 +101,6 @@ unfoldable pub note_mip_regeneration_on : Lent → ℕ → Told (Unit {0}) × Le
 note_mip_regeneration_on l id = asked (λ a. a) l (λ (p : PoolModel ℕ). note_mip_regeneration p id)
 
 -- the popped version's id and view number
-pub record PoppedVersion : Type 0 where
-  pub id : ℕ
-  pub view : ℕ
-
 abbrev pub popped_of : Option (Retiring ℕ) → Option PoppedVersion
 popped_of none = none
 popped_of (some v) = some (record { id = v.id; view = v.view })

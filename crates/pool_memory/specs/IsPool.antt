@@ -12,8 +12,8 @@ use Rattle.pool_rules.specs.declared.held.Held.TheVariants.{Known, Unknown}
 use Rattle.pool_rules.specs.Model.{WriteHistory, Spare, Retiring, Doomed, VersionState, PoolModel, limit, spare_bytes, doomed_bytes}
 use Rattle.pool_rules.specs.HistorySizes.{grid_places}
 use Rattle.pool_rules.specs.Open.{are_places}
-use Rattle.pool_records.specs.declared.recorded.Recorded.{Recorded}
-use Rattle.pool_records.specs.declared.recorded.Recorded.TheVariants.{Writes, NoHistory}
+use Rattle.pool_records.specs.Recorded.{Recorded}
+use Rattle.std.specs.Prelude.{Some, None}
 use Rattle.pool_records.specs.declared.texture.TextureRecord.{TextureRecord}
 use Rattle.pool_records.specs.Tilings.{tiling_number}
 use Rattle.pool_memory.specs.Lent.{Lent, version_places}
@@ -64,8 +64,8 @@ unfoldable pub tiling_holds : Lent → VersionShape → ℕ → ℕ → Bool
 tiling_holds l s grid k = eqb (get_or l.newest (grid + grid_stride * k + 1) 0) (tiling_number s k)
 
 abbrev pub tilings_read : Lent → VersionShape → ℕ → Recorded → Bool
-tilings_read l s grid NoHistory = true
-tilings_read l s grid (Writes n) = all (tiling_holds l s grid) (grid_places s)
+tilings_read l s grid None = true
+tilings_read l s grid (Some n) = all (tiling_holds l s grid) (grid_places s)
 
 unfoldable pub tilings_hold : Lent → TextureRecord → Bool
 tilings_hold l t = tilings_read l t.shape t.grid t.history

@@ -9,8 +9,8 @@ use Rattle.grid_stamps.specs.Grids.{StampGrid, grid_in, tiling_of}
 use Rattle.pool_rules.specs.Model.{WriteHistory, Spare, Retiring, Doomed, VersionState, PoolModel, grid_count}
 use Rattle.pool_rules.specs.HistorySizes.{grid_start}
 use Rattle.pool_rules.specs.RuleConstants.{grid_stride}
-use Rattle.pool_records.specs.declared.recorded.Recorded.{Recorded}
-use Rattle.pool_records.specs.declared.recorded.Recorded.TheVariants.{Writes, NoHistory}
+use Rattle.pool_records.specs.Recorded.{Recorded}
+use Rattle.std.specs.Prelude.{Some, None}
 use Rattle.pool_records.specs.declared.texture.TextureRecord.{TextureRecord}
 use Rattle.pool_records.specs.Texture.{textures_in}
 use Rattle.pool_records.specs.Spare.{read_spare}
@@ -33,8 +33,8 @@ unfoldable pub grid_read : Lent → VersionShape → ℕ → ℕ → ℕ → Sta
 grid_read l s grid stamp k = grid_in (tiling_of s (k % s.levels)) (get_or l.newest (grid + grid_stride * k) 0) (drop (stamp + grid_start s k) l.stamps)
 
 abbrev pub history_read : Lent → VersionShape → ℕ → ℕ → Recorded → Option WriteHistory
-history_read l s grid stamp NoHistory = none
-history_read l s grid stamp (Writes n) = some (record { writes = n; grids = listed (grid_read l s grid stamp) 0 (grid_count s) })
+history_read l s grid stamp None = none
+history_read l s grid stamp (Some n) = some (record { writes = n; grids = listed (grid_read l s grid stamp) 0 (grid_count s) })
 
 -- ---- textures
 

@@ -10,8 +10,8 @@ use Rattle.grid_shapes.specs.Shapes.{bytes_of}
 use Rattle.grid_stamps.specs.Grids.{StampGrid}
 use Rattle.pool_rules.specs.Model.{WriteHistory, Spare, Retiring, Doomed, VersionState, PoolModel, hand_count}
 use Rattle.pool_rules.specs.HistorySizes.{newest_used, stamps_used}
-use Rattle.pool_records.specs.declared.recorded.Recorded.{Recorded}
-use Rattle.pool_records.specs.declared.recorded.Recorded.TheVariants.{Writes, NoHistory}
+use Rattle.pool_records.specs.Recorded.{Recorded}
+use Rattle.std.specs.Prelude.{Some, None}
 use Rattle.pool_records.specs.declared.texture.TextureRecord.{TextureRecord}
 use Rattle.pool_records.specs.declared.spare.SpareRecord.{SpareRecord}
 use Rattle.pool_records.specs.declared.retiring.RetiringRecord.{RetiringRecord}
@@ -29,8 +29,8 @@ use Rattle.pool_records.specs.RecordConstants.{doomed_stride, retiring_stride}
 -- ---- records
 
 abbrev pub recorded_history : Option WriteHistory → Recorded
-recorded_history none = NoHistory
-recorded_history (some h) = Writes h.writes
+recorded_history none = None
+recorded_history (some h) = Some h.writes
 
 -- the record of a texture whose grids begin at `grid` and whose stamps at `stamp`
 abbrev pub texture_record : ℕ → ℕ → VersionState ℕ → TextureRecord

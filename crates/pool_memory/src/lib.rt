@@ -8,7 +8,7 @@ mod book;
 mod constants;
 mod pool;
 
-pub use answer::DoneAnswer;
+pub use answer::{DoneAnswer, PoppedVersion, TakenVersion};
 pub use book::PacingBook;
 pub use constants::COPY_STRIDE;
 pub use pool::{Pool, same_counts};

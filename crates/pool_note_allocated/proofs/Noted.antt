@@ -1,12 +1,11 @@
 -- note_allocated on lent memory: what relief leaves, with the counts and the book, is what the model's rule leaves; and where the queued bytes cover the
 -- excess the book alone changes. Assumes nothing.
 use mathlib.Core.Path.{◌≡◌, refl, sym, ap, ap₂, ◌∙◌}
-use mathlib.Core.Bool.{Bool, true, false}
+use mathlib.Core.Bool.{true}
 use mathlib.Core.List.{List, [], ◌∷◌, ◌++◌, map, flat_map, append-nil}
 use Prim.Native.Nat.{ℕ, ◌+◌, ◌-◌, ◌*◌, ◌≤◌, ◌<◌, ◌^◌}
 use native.Mathlib.Nat.{add-zero, sub-zero, mul-le-mul_right}
 use native.Mathlib.Omega.{arith}
-use mir.Val.{bool_byte}
 use lib.Dec.{eqb}
 use lib.ListN.{length, length-append, length-map}
 use Rattle.base_blocks.specs.Lists.{total}
@@ -22,7 +21,7 @@ use Rattle.pool_rules.proofs.Lists.{total_map}
 use Rattle.pool_rules.proofs.Moves.{lessened, given, given_bytes, given_count}
 use Rattle.pool_memory.specs.Lent.{Lent, lent}
 use Rattle.pool_memory.specs.Reading.{model_of}
-use Rattle.pool_memory.specs.Writing.{textures_after, spares_after, newest_after, stamps_after, head_after, retiring_after, first_after, doomed_after, pool_after, mark_of, pacing_after, lent_after}
+use Rattle.pool_memory.specs.Writing.{textures_after, spares_after, newest_after, stamps_after, head_after, retiring_after, first_after, doomed_after, pool_after, pacing_after, lent_after}
 use Rattle.pool_memory.specs.IsPool.{is_pool}
 use Rattle.pool_memory.specs.Calls.{answer, told_number, note_allocated_on}
 use Rattle.pool_memory.proofs.Fits.{Fits}
@@ -52,11 +51,6 @@ spare_bytes_most (cons {x = t} p ps) =
       spare_bytes_most ps,
       mul-le-mul_right {m = bytes_of t.shape} {n = most_shape_bytes} (length t.spares) (bytes_bound t.shape p.shape),
     )
-
--- a test's number in the code is the mark's
-pub mark_byte : (b : Bool) → bool_byte b ≡ mark_of b
-mark_byte true = refl
-mark_byte false = refl
 
 module _ (l : Lent) (f : Fits l) (allocated : ℕ) where
   abbrev excess : ℕ

@@ -100,12 +100,11 @@ pub fn relieve(
         excess result.kept result.bytes textures.new doomed.new spares.new }
 {
     let cap = retiring.len() / RETIRING_STRIDE;
-    let mut i = 0;
     let mut from = 0;
     let mut kept = 0;
     let mut bytes = 0;
     let mut sum = freed;
-    while i < pool.tracked {
+    for i in 0..pool.tracked {
         let queued = pool.doomed + (from - kept);
         let step = relieve_texture(
             textures, i, doomed, cap, pool.first, queued, spares, from, kept, line, sum, excess,
@@ -114,7 +113,6 @@ pub fn relieve(
         from += step.spares;
         bytes += step.bytes;
         sum = step.freed;
-        i += 1;
     }
     Relief { kept, bytes }
 }

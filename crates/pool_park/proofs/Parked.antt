@@ -1,31 +1,21 @@
 -- What `park` refuses, decides and notes, on the records that the code reads. Assumes nothing.
-use mathlib.Core.Path.{◌≡◌, refl, sym, ap, ap₂, ◌∙◌, subst}
+use mathlib.Core.Path.{◌≡◌, refl, sym, ap, ap₂, ◌∙◌}
 use mathlib.Core.Bool.{Bool, true, false, cond, not, ◌&&◌, ◌||◌, true≢false}
-use mathlib.Core.List.{List}
-use Prim.Native.Nat.{ℕ, ◌+◌, ◌-◌, ◌*◌, ◌≤◌, ◌<◌, ◌^◌}
+use Prim.Native.Nat.{ℕ, ◌+◌, ◌-◌, ◌≤◌, ◌<◌, ◌^◌}
 use native.Mathlib.Decide.{dec_lt}
 use native.Mathlib.Omega.{arith}
 use borrow.Author.Tests.{lt-ltb, le-ltb, ltb-false, eq-eqb, ne_eqb}
 use lib.Dec.{leb, ltb, eqb}
-use lib.Seq.{sets}
-use Rattle.base_blocks.specs.Blocks.{moved}
-use Rattle.base_blocks.specs.Lists.{total}
 use Rattle.pool_rules.specs.declared.held.Held.TheVariants.{Known, Unknown}
 use Rattle.pool_rules.specs.Model.{limit}
 use Rattle.pool_records.specs.declared.texture.TextureRecord.{TextureRecord}
-use Rattle.pool_records.specs.declared.spare.SpareRecord.{SpareRecord}
 use Rattle.pool_records.specs.declared.retiring.RetiringRecord.{RetiringRecord}
 use Rattle.pool_records.specs.Held.{HeldFits, held_number}
-use Rattle.pool_records.specs.Recorded.{RecordedFits}
-use Rattle.pool_records.specs.Spare.{write_spare}
-use Rattle.pool_records.specs.Texture.{write_texture, texture_in, textures_in}
 use Rattle.pool_memory.specs.declared.pool.Pool.{Pool}
 use Rattle.pool_park.specs.declared.park_or_destroy.Parking.{Parking}
 use Rattle.pool_park.specs.declared.park_or_destroy.Parking.TheVariants.{Destroyed, Kept}
-use Rattle.pool_park.specs.Park.{park_refusal, parking_of, held_parked, one_more, spares_end}
+use Rattle.pool_park.specs.Park.{park_refusal, parking_of, held_parked}
 use Rattle.grid_shapes.specs.ShapeConstants.{most_shape_bytes}
-use Rattle.pool_records.specs.RecordConstants.{spare_stride, texture_stride}
-use Rattle.pool_rules.specs.RuleConstants.{most_places}
 
 -- ---- the code's refusals, in order
 
@@ -126,24 +116,3 @@ held_fits failed v h = go (not (eqb failed 0) && leb v.birth failed)
     go : (b : Bool) → held_number (cond b Unknown (Known v.held)) < 2 ^ 64
     go true = omega arith
     go false = omega (arith, h)
-
--- a texture's record with one more spare, and the spare after those that it has; u is the record that was read, m the spares before the texture's
-module _ (a : List ℕ) (i : ℕ) (u : TextureRecord) (read : u ≡ texture_in a i) where
-  pub keep_history : (w : TextureRecord) → w ≡ one_more u → RecordedFits (texture_in a i).history → RecordedFits w.history
-  keep_history w more h = subst (λ (t : TextureRecord). RecordedFits t.history) (sym (more ∙ ap one_more read)) h
-
-  pub keep_record : (w : TextureRecord) → w ≡ one_more u → (r : List ℕ) → r ≡ sets a (texture_stride * i) (write_texture w)
-      → r ≡ sets a (texture_stride * i) (write_texture (one_more (texture_in a i)))
-  keep_record w more r put = put ∙ ap (λ (t : TextureRecord). sets a (texture_stride * i) (write_texture t)) (more ∙ ap one_more read)
-
-  module _ (m : ℕ) (before : m ≡ total (λ (t : TextureRecord). t.spares) (textures_in i a)) where
-    end_is : m + u.spares ≡ spares_end a i
-    end_is = ap₂ (λ (n : ℕ) (t : TextureRecord). n + t.spares) before read
-
-    pub end_fits : (kept : ℕ) → spares_end a i ≤ kept → kept ≤ most_places → (m + u.spares ≤ kept) × (u.spares ≤ most_places)
-    end_fits kept h k = (omega (arith, end_is, h), omega (arith, end_is, h, k))
-
-    pub keep_spare : (b : List ℕ) (kept : ℕ) (x : SpareRecord) (r : List ℕ)
-        → r ≡ sets (moved b (spare_stride * (m + u.spares) + spare_stride) (spare_stride * (m + u.spares)) (spare_stride * (kept - (m + u.spares)))) (spare_stride * (m + u.spares)) (write_spare x)
-        → r ≡ sets (moved b (spare_stride * spares_end a i + spare_stride) (spare_stride * spares_end a i) (spare_stride * (kept - spares_end a i))) (spare_stride * spares_end a i) (write_spare x)
-    keep_spare b kept x r put = put ∙ ap (λ (n : ℕ). sets (moved b (spare_stride * n + spare_stride) (spare_stride * n) (spare_stride * (kept - n))) (spare_stride * n) (write_spare x)) end_is

@@ -33,19 +33,7 @@ spare_parked failed current v = record { view = v.view; held = held_parked faile
 
 -- a texture with one more spare
 abbrev pub one_more : TextureRecord → TextureRecord
-one_more t = record {
-  id = t.id;
-  shape = t.shape;
-  epoch = t.epoch;
-  history = t.history;
-  birth = t.birth;
-  rename = t.rename;
-  due = t.due;
-  spares = t.spares + 1;
-  bytes = t.bytes;
-  grid = t.grid;
-  stamp = t.stamp;
-}
+one_more t = record t { spares = t.spares + 1 }
 
 -- the place after the spares of texture i
 abbrev pub spares_end : List ℕ → ℕ → ℕ

@@ -10,12 +10,13 @@ pub fn hand_kept(pool: Pool, head: usize, bytes: u64) -> Pool
     requires { (pool.kept ≤ most_places) × (pool.parked + bytes ≤ pool.cap) }
     ensures { result ≡ hand_kept head bytes pool }
 {
-    let mut after = pool;
-    after.kept = pool.kept + 1;
-    after.head = head;
-    after.popped = 0;
-    after.parked = pool.parked + bytes;
-    after
+    Pool {
+        kept: pool.kept + 1,
+        head,
+        popped: 0,
+        parked: pool.parked + bytes,
+        ..pool
+    }
 }
 
 // Returns the counts with the hand's version queued for destruction.
@@ -23,11 +24,12 @@ pub fn hand_doomed(pool: Pool, head: usize, bytes: u64) -> Pool
     requires { (pool.doomed ≤ most_places) × (pool.since ≤ most_places) × (pool.dooming + bytes < 2 ^ 64) }
     ensures { result ≡ hand_doomed head bytes pool }
 {
-    let mut after = pool;
-    after.head = head;
-    after.popped = 0;
-    after.doomed = pool.doomed + 1;
-    after.since = pool.since + 1;
-    after.dooming = pool.dooming + bytes;
-    after
+    Pool {
+        head,
+        popped: 0,
+        doomed: pool.doomed + 1,
+        since: pool.since + 1,
+        dooming: pool.dooming + bytes,
+        ..pool
+    }
 }

@@ -44,9 +44,10 @@ fn one_more(t: TextureRecord) -> TextureRecord
     requires { t.spares ≤ most_places }
     ensures { result ≡ one_more t }
 {
-    let mut u = t;
-    u.spares = t.spares + 1;
-    u
+    TextureRecord {
+        spares: t.spares + 1,
+        ..t
+    }
 }
 
 // Puts the version in as the newest spare of texture i, after those that it has. All `tracked` textures have `kept`.

@@ -17,7 +17,7 @@ use Rattle.pool_records.specs.declared.shift.Shift.{Shift}
 use Rattle.pool_records.specs.Texture.{read_texture, write_texture, texture_in, textures_in}
 use Rattle.pool_records.specs.Starts.{shifted_by, moved_start, starts_moved, StartMoves, StartsMove}
 use Rattle.pool_records.specs.RecordConstants.{texture_stride, texture_grid_at, texture_stamp_at}
-use Rattle.pool_records.proofs.Codecs.{texture_codec}
+use Rattle.pool_records.specs.Codecs.{texture_codec}
 
 -- ---- lists
 

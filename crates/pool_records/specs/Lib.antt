@@ -9,3 +9,5 @@ pub mod Starts
 pub mod Tilings
 pub mod Find
 pub mod Views
+pub mod Counts
+pub mod Codecs

@@ -7,12 +7,11 @@ use Rattle.grid_shapes.specs.declared.shape.VersionShape.{VersionShape}
 use Rattle.grid_shapes.specs.Shapes.{bytes_of}
 use Rattle.pool_records.specs.declared.texture.TextureRecord.{TextureRecord}
 use Rattle.pool_records.specs.RecordConstants.{texture_stride}
-use Rattle.pool_records.specs.Recorded.{recorded_of, recorded_number}
+use Rattle.pool_records.specs.Recorded.{Recorded, recorded_of, recorded_number}
 use Rattle.pool_rules.specs.Model.{grid_count}
 use Rattle.pool_rules.specs.RuleConstants.{grid_stride}
 use Rattle.pool_rules.specs.HistorySizes.{history_size}
-use Rattle.pool_records.specs.declared.recorded.Recorded.{Recorded}
-use Rattle.pool_records.specs.declared.recorded.Recorded.TheVariants.{Writes, NoHistory}
+use Rattle.std.specs.Prelude.{Some, None}
 
 abbrev pub shape_in : List ℕ → VersionShape
 shape_in s = record {
@@ -61,8 +60,8 @@ abbrev pub textures_in : ℕ → List ℕ → List TextureRecord
 textures_in n s = table texture_stride read_texture n s
 
 abbrev pub recorded_grids : Recorded → VersionShape → ℕ
-recorded_grids NoHistory s = 0
-recorded_grids (Writes n) s = grid_stride * grid_count s
+recorded_grids None s = 0
+recorded_grids (Some n) s = grid_stride * grid_count s
 
 -- how many numbers of `newest` a texture's record claims, two for each of its grids
 abbrev pub record_grids : TextureRecord → ℕ
@@ -70,8 +69,8 @@ record_grids t = recorded_grids t.history t.shape
 
 -- and how many stamps
 abbrev pub recorded_stamps : Recorded → VersionShape → ℕ
-recorded_stamps NoHistory s = 0
-recorded_stamps (Writes n) s = history_size s
+recorded_stamps None s = 0
+recorded_stamps (Some n) s = history_size s
 
 abbrev pub record_stamps : TextureRecord → ℕ
 record_stamps t = recorded_stamps t.history t.shape

@@ -1,9 +1,9 @@
 // A version to be destroyed. Two numbers.
-ghost use Rattle.std.specs.Prelude.{◌≡◌, ◌≤◌, length};
 ghost use Rattle.pool_records.specs.Doomed.{read_doomed, write_doomed};
-ghost use Rattle.pool_records.specs.RecordConstants.{doomed_stride};
+ghost use Rattle.pool_records.specs.Codecs.{doomed_codec};
 
 use crate::constants::{DOOMED_BYTES_AT, DOOMED_STRIDE};
+use crate::record::Record;
 
 #[derive(Clone, Copy)]
 pub struct DoomedRecord {
@@ -11,20 +11,24 @@ pub struct DoomedRecord {
     pub bytes: u64,
 }
 
-// Reads a record from the front of the numbers.
-pub fn read_doomed(p: &[u64]) -> DoomedRecord
-    requires { doomed_stride ≤ length p.now }
-    ensures { result ≡ read_doomed p.now }
-{
-    DoomedRecord {
-        view: p[0],
-        bytes: p[DOOMED_BYTES_AT],
-    }
-}
+#[tactic(auto, unfolding(crate::specs::Doomed::read_doomed, crate::specs::Doomed::write_doomed))]
+impl Record<DOOMED_STRIDE> for DoomedRecord {
+    ghost fits = { λ _. Unit {0} };
 
-// Returns a record's numbers.
-pub fn doomed_numbers(x: DoomedRecord) -> [u64; DOOMED_STRIDE]
-    ensures { result ≡ write_doomed x }
-{
-    [x.view, x.bytes]
+    ghost read_from = { read_doomed };
+
+    ghost written = { write_doomed };
+
+    fn read(p: &[u64]) -> DoomedRecord {
+        DoomedRecord {
+            view: p[0],
+            bytes: p[DOOMED_BYTES_AT],
+        }
+    }
+
+    fn numbers(self) -> [u64; DOOMED_STRIDE] {
+        [self.view, self.bytes]
+    }
+
+    ghost codec = { doomed_codec };
 }

@@ -15,6 +15,7 @@ pub fn find_texture(s: &[u64], n: usize, id: u64) -> usize
 {
     let mut lo = 0;
     let mut hi = n;
+    // Halves by hand, for either end moves and no range has both.
     while 8 < hi - lo {
         let mid = lo + (hi - lo) / 2;
         if s[TEXTURE_STRIDE * mid] < id {
@@ -25,9 +26,8 @@ pub fn find_texture(s: &[u64], n: usize, id: u64) -> usize
     }
     // Among eight at most, a count without branches is quicker than more halving.
     let mut place = lo;
-    while lo < hi {
-        place += (s[TEXTURE_STRIDE * lo] < id) as usize;
-        lo += 1;
+    for i in lo..hi {
+        place += (s[TEXTURE_STRIDE * i] < id) as usize;
     }
     place
 }

@@ -1,18 +1,17 @@
-// The writes that a spare holds, as one number: 0 for unknown, one more than the count for known. So every number stands for one
-// value, and what was read is written back as it stood.
+// The writes that a spare holds, as one number, by the same rule as those of a history: 0 for unknown, one more than the count for known.
 ghost use Rattle.std.specs.Prelude.{◌≡◌};
 ghost use Rattle.pool_records.specs.Held.{held_of, held_number, HeldFits};
 
+use crate::recorded::{read_recorded, recorded_number};
 use pool_rules::Held;
 
 // Returns what the number stands for.
 pub fn read_held(n: u64) -> Held
     ensures { result ≡ held_of n }
 {
-    if n == 0 {
-        Held::Unknown
-    } else {
-        Held::Known(n - 1)
+    match read_recorded(n) {
+        Some(c) => Held::Known(c),
+        None => Held::Unknown,
     }
 }
 
@@ -22,7 +21,7 @@ pub fn held_number(h: Held) -> u64
     ensures { result ≡ held_number h }
 {
     match h {
-        Held::Known(c) => c + 1,
-        Held::Unknown => 0,
+        Held::Known(c) => recorded_number(Some(c)),
+        Held::Unknown => recorded_number(None),
     }
 }

@@ -1,9 +1,9 @@
 // A version that a rename replaced, until it is parked or handed back. Seven numbers.
-ghost use Rattle.std.specs.Prelude.{◌≡◌, ◌≤◌, length};
 ghost use Rattle.pool_records.specs.Retiring.{read_retiring, write_retiring};
-ghost use Rattle.pool_records.specs.RecordConstants.{retiring_stride};
+ghost use Rattle.pool_records.specs.Codecs.{retiring_codec};
 
 use crate::constants::RETIRING_STRIDE;
+use crate::record::Record;
 
 #[derive(Clone, Copy)]
 pub struct RetiringRecord {
@@ -16,25 +16,31 @@ pub struct RetiringRecord {
     pub bytes: u64,
 }
 
-// Reads a record from the front of the numbers.
-pub fn read_retiring(p: &[u64]) -> RetiringRecord
-    requires { retiring_stride ≤ length p.now }
-    ensures { result ≡ read_retiring p.now }
-{
-    RetiringRecord {
-        id: p[0],
-        view: p[1],
-        seq: p[2],
-        epoch: p[3],
-        birth: p[4],
-        held: p[5],
-        bytes: p[6],
-    }
-}
+#[tactic(auto, unfolding(crate::specs::Retiring::read_retiring, crate::specs::Retiring::write_retiring))]
+impl Record<RETIRING_STRIDE> for RetiringRecord {
+    ghost fits = { λ _. Unit {0} };
 
-// Returns a record's numbers.
-pub fn retiring_numbers(x: RetiringRecord) -> [u64; RETIRING_STRIDE]
-    ensures { result ≡ write_retiring x }
-{
-    [x.id, x.view, x.seq, x.epoch, x.birth, x.held, x.bytes]
+    ghost read_from = { read_retiring };
+
+    ghost written = { write_retiring };
+
+    fn read(p: &[u64]) -> RetiringRecord {
+        RetiringRecord {
+            id: p[0],
+            view: p[1],
+            seq: p[2],
+            epoch: p[3],
+            birth: p[4],
+            held: p[5],
+            bytes: p[6],
+        }
+    }
+
+    fn numbers(self) -> [u64; RETIRING_STRIDE] {
+        [
+            self.id, self.view, self.seq, self.epoch, self.birth, self.held, self.bytes,
+        ]
+    }
+
+    ghost codec = { retiring_codec };
 }

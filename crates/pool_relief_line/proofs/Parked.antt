@@ -2,7 +2,6 @@
 use mathlib.Core.Path.{◌≡◌, refl, sym, ap, ap₂, ◌∙◌}
 use mathlib.Core.Bool.{Bool, true, false, cond}
 use mathlib.Core.List.{List, [], ◌∷◌}
-use mathlib.Core.Logic.{◌⊎◌, inl, inr, ⊎_elim}
 use Prim.Native.Nat.{ℕ, suc, ◌+◌, ◌-◌, ◌*◌, ◌≤◌, ◌<◌}
 use native.Mathlib.Nat.{mul-le-mul_left}
 use native.Mathlib.Omega.{arith}
@@ -20,8 +19,7 @@ use Rattle.pool_records.specs.declared.texture.TextureRecord.{TextureRecord}
 use Rattle.pool_records.specs.Texture.{read_texture, texture_in, record_spares, record_bytes}
 use Rattle.pool_records.specs.Spare.{read_spare}
 use Rattle.pool_access.proofs.Fields.{spares_number}
-use Rattle.pool_rules.specs.Model.{limit}
-use Rattle.pool_relief_line.specs.Line.{count_before, taken_at, gives, IsLine}
+use Rattle.pool_relief_line.specs.Line.{count_before, taken_at, gives}
 use Rattle.pool_relief_line.specs.Parked.{parked_at, parkings, bytes_from}
 use Rattle.pool_records.specs.RecordConstants.{spare_parked_at, spare_stride, texture_bytes_at, texture_spares_at, texture_stride}
 
@@ -176,14 +174,3 @@ unfolding bytes_from total record_bytes
 before_most spares line from [] = omega arith
 before_most spares line from (t ∷ ts) =
     omega (arith, counted_bytes (bytes_of t.shape) line spares from t.spares, before_most spares line (from + t.spares) ts)
-
--- ---- the line, found by halves: the two ends have met
-
-pub ends_meet : (dooming excess : ℕ) (below : ℕ → ℕ) (lo hi : ℕ) → lo < hi → hi ≤ lo + 1 → dooming + below lo < excess
-    → (excess ≤ dooming + below hi) ⊎ (hi ≡ limit + 2) → IsLine dooming excess below lo
-ends_meet dooming excess below lo hi h k short last = record {
-  short = short;
-  last =
-      let e : hi ≡ suc lo = omega arith in
-      ⊎_elim (λ q. inl (omega (arith, q, ap below e))) (λ q. inr (omega arith)) last;
-}

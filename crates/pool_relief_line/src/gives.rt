@@ -19,12 +19,9 @@ pub fn count_before(spares: &[u64], from: usize, n: usize, line: u64) -> usize
     requires { spare_stride * (from + n) ≤ length spares.now }
     ensures { (result ≤ n) × (result ≡ count_before line (parkings spares.now from n)) }
 {
-    let end = from + n;
     let mut k = 0;
-    let mut j = from;
-    while j < end {
+    for j in from..from + n {
         let parked = spares[SPARE_STRIDE * j + SPARE_PARKED_AT];
-        j += 1;
         if parked < line {
             k += 1;
         }
@@ -45,16 +42,13 @@ fn take_at(
     requires { (spare_stride * (from + n) ≤ length spares.now) × (freed + bytes * n < 2 ^ 64) }
     ensures { (result.count ≡ taken_at freed excess bytes line (parkings spares.now from n)) × (result.freed ≡ freed + bytes * result.count) }
 {
-    let end = from + n;
     let mut count = 0;
     let mut sum = freed;
-    let mut j = from;
-    while j < end {
+    for j in from..from + n {
         if excess <= sum {
             break;
         }
         let parked = spares[SPARE_STRIDE * j + SPARE_PARKED_AT];
-        j += 1;
         if parked == line {
             count += 1;
             sum += bytes;

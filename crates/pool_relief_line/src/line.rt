@@ -41,12 +41,10 @@ pub fn bytes_before(textures: &[u64], n: usize, spares: &[u64], line: u64) -> u6
 {
     let mut sum = 0;
     let mut from = 0;
-    let mut i = 0;
-    while i < n {
+    for i in 0..n {
         let kept = textures[TEXTURE_STRIDE * i + TEXTURE_SPARES_AT] as usize;
         sum += run_bytes(textures, i, spares, from, kept, line);
         from += kept;
-        i += 1;
     }
     sum
 }
@@ -64,16 +62,10 @@ fn parked_ends(spares: &[u64], count: usize) -> Ends
 {
     let mut least = LIMIT;
     let mut largest = 0;
-    let mut j = 0;
-    while j < count {
+    for j in 0..count {
         let parked = spares[SPARE_STRIDE * j + SPARE_PARKED_AT];
-        j += 1;
-        if parked < least {
-            least = parked;
-        }
-        if largest < parked {
-            largest = parked;
-        }
+        least = parked.min(least);
+        largest = parked.max(largest);
     }
     Ends { least, largest }
 }
@@ -110,6 +102,7 @@ pub fn parking_line(textures: &[u64], n: usize, spares: &[u64], dooming: u64, ex
     let mut lo = 0;
     let mut hi = LIMIT + 2;
     let mut guess = LIMIT + 1;
+    // Loops on a condition, since halving counts no index: each turn moves one end to the middle.
     while lo + 1 < hi {
         let mid = line_between(lo, hi, guess);
         guess = next_guess(ends, guess);

@@ -1,19 +1,14 @@
 -- What `retire` notes of the version and in its texture's record, by whether the texture is tracked. Assumes nothing.
-use mathlib.Core.Path.{◌≡◌, refl, sym, ap, ◌∙◌, subst}
-use mathlib.Core.Bool.{Bool, true, false, cond}
+use mathlib.Core.Path.{◌≡◌, refl, sym, ap, ◌∙◌}
+use mathlib.Core.Bool.{Bool, true, false}
 use mathlib.Core.Option.{Option, none, some}
-use mathlib.Core.List.{List}
-use Prim.Native.Nat.{ℕ, ◌*◌}
-use lib.Seq.{sets}
+use Prim.Native.Nat.{ℕ}
 use Rattle.grid_shapes.specs.Shapes.{bytes_of}
 use Rattle.pool_rules.specs.Model.{WriteHistory, VersionState, writes_of}
 use Rattle.pool_rules.specs.Retire.{retired}
 use Rattle.pool_records.specs.declared.texture.TextureRecord.{TextureRecord}
-use Rattle.pool_records.specs.Recorded.{RecordedFits}
-use Rattle.pool_records.specs.Texture.{write_texture}
 use Rattle.pool_memory.specs.Writing.{recorded_history, texture_record, retiring_record}
-use Rattle.pool_retire.specs.Noted.{writes_counted, retired_record, born_at}
-use Rattle.pool_records.specs.RecordConstants.{texture_stride}
+use Rattle.pool_retire.specs.Noted.{writes_counted, retired_record}
 
 -- ---- as the code notes it
 
@@ -30,19 +25,6 @@ module _ (b : Bool) (t : TextureRecord) (id view seq : ℕ) where
       (λ i. record { id = id; view = view; seq = seq; epoch = u.epoch; birth = u.birth; held = e1 i; bytes = u.bytes })
       ∙ ap (λ (v : TextureRecord). retired_record true v id view seq) read
       ∙ sym (ap (λ (a : Bool). retired_record a t id view seq) e)
-
-pub birth_fits : (u t w : TextureRecord) (seq : ℕ) → u ≡ t → w ≡ born_at seq u → RecordedFits t.history → RecordedFits w.history
-birth_fits u t w seq read born h = subst (λ (v : TextureRecord). RecordedFits v.history) (sym (born ∙ ap (born_at seq) read)) h
-
-module _ (b : Bool) (s : List ℕ) (i seq : ℕ) (t : TextureRecord) where
-  pub birth_untracked : b ≡ false → s ≡ cond b (sets s (texture_stride * i) (write_texture (born_at seq t))) s
-  birth_untracked e = sym (ap (λ (a : Bool). cond a (sets s (texture_stride * i) (write_texture (born_at seq t))) s) e)
-
-  pub birth_tracked : b ≡ true → (u w : TextureRecord) → u ≡ t → w ≡ born_at seq u → (r : List ℕ) → r ≡ sets s (texture_stride * i) (write_texture w)
-      → r ≡ cond b (sets s (texture_stride * i) (write_texture (born_at seq t))) s
-  birth_tracked e u w read born r put =
-      put ∙ ap (λ (v : TextureRecord). sets s (texture_stride * i) (write_texture v)) (born ∙ ap (born_at seq) read)
-      ∙ sym (ap (λ (a : Bool). cond a (sets s (texture_stride * i) (write_texture (born_at seq t))) s) e)
 
 -- ---- as the model does
 

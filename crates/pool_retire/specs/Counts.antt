@@ -1,4 +1,4 @@
--- Helper: The counts as a version goes through the pool. There is no update of a record's field, so each is written out.
+-- Helper: The counts as a version goes through the pool.
 use Rattle.std.specs.Prelude.{ℕ, ◌+◌, ◌-◌}
 use Rattle.pool_memory.specs.declared.pool.Pool.{Pool}
 
@@ -8,40 +8,8 @@ ring_count p = p.popped + p.queued
 
 -- a version queued at the back
 abbrev pub one_queued : Pool → Pool
-one_queued p = record {
-  tracked = p.tracked;
-  kept = p.kept;
-  grids = p.grids;
-  stamps = p.stamps;
-  head = p.head;
-  popped = p.popped;
-  queued = p.queued + 1;
-  first = p.first;
-  doomed = p.doomed;
-  since = p.since;
-  trackings = p.trackings;
-  parked = p.parked;
-  dooming = p.dooming;
-  cap = p.cap;
-  line = p.line;
-}
+one_queued p = record p { queued = p.queued + 1 }
 
 -- the queue's front in the hand
 abbrev pub front_popped : Pool → Pool
-front_popped p = record {
-  tracked = p.tracked;
-  kept = p.kept;
-  grids = p.grids;
-  stamps = p.stamps;
-  head = p.head;
-  popped = 1;
-  queued = p.queued - 1;
-  first = p.first;
-  doomed = p.doomed;
-  since = p.since;
-  trackings = p.trackings;
-  parked = p.parked;
-  dooming = p.dooming;
-  cap = p.cap;
-  line = p.line;
-}
+front_popped p = record p { popped = 1; queued = p.queued - 1 }

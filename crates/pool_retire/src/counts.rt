@@ -18,9 +18,10 @@ pub fn one_queued(pool: Pool) -> Pool
     requires { pool.queued ≤ most_places }
     ensures { result ≡ one_queued pool }
 {
-    let mut after = pool;
-    after.queued = pool.queued + 1;
-    after
+    Pool {
+        queued: pool.queued + 1,
+        ..pool
+    }
 }
 
 // Returns the counts with the queue's front in the hand.
@@ -28,8 +29,9 @@ pub fn front_popped(pool: Pool) -> Pool
     requires { 0 < pool.queued }
     ensures { result ≡ front_popped pool }
 {
-    let mut after = pool;
-    after.popped = 1;
-    after.queued = pool.queued - 1;
-    after
+    Pool {
+        popped: 1,
+        queued: pool.queued - 1,
+        ..pool
+    }
 }

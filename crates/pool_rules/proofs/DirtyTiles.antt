@@ -1,6 +1,6 @@
 -- What the dirty-tile query may answer: a tile that is there and stamped above held, or none where there is no such tile. Assumes nothing.
 use Prim.Native.Nat.{ℕ, ◌<◌, ◌≤◌}
-use mathlib.Core.Path.{◌≡◌, refl, sym, ap, ◌∙◌, subst}
+use mathlib.Core.Path.{◌≡◌, refl, sym, ap, ◌∙◌}
 use mathlib.Core.Bool.{Bool, true, false, cond}
 use mathlib.Core.Option.{Option, none, some, some-injective, some-ne-none}
 use native.Mathlib.Omega.{arith}
@@ -8,20 +8,16 @@ use lib.Dec.{ltb}
 use borrow.Author.Tests.{ltb-true, ltb-false, lt-ltb}
 use Rattle.base_blocks.proofs.Lists.{and_both}
 use Rattle.grid_shapes.specs.Shapes.{slices_of}
-use Rattle.grid_stamps.specs.declared.dirty.DirtyTile.{DirtyTile}
-use Rattle.grid_stamps.specs.declared.dirty.DirtyTile.TheVariants.{At, NoTile}
-use Rattle.grid_stamps.specs.Grids.{tiling_of, IsDirtyTile}
+use Rattle.std.specs.Prelude.{Option as Answer, None}
+use Rattle.grid_stamps.specs.declared.grid.Tile.{Tile}
+use Rattle.grid_stamps.specs.Grids.{tiling_of, some_tile, IsDirtyTile}
 use Rattle.pool_rules.specs.Model.{WriteHistory, VersionState, PoolModel, find}
 use Rattle.pool_rules.specs.Histories.{in_shape, grid_at}
 use Rattle.pool_rules.specs.NoteWrite.{DirtyTileIn, DirtyTileFound, IsDirtyTileOf}
 use Rattle.pool_rules.specs.DirtyTiles.{TileAbove, DirtyTilesPinned}
 
-abbrev NoneOnly : DirtyTile → Type 0
-NoneOnly (At column row) = ⊥
-NoneOnly NoTile = Unit {0}
-
-no_tile_is_none : {column row : ℕ} → At column row ≡ NoTile → ⊥
-no_tile_is_none e = subst NoneOnly (sym e) tt
+no_tile_is_none : {column row : ℕ} → some_tile column row ≡ None → ⊥
+no_tile_is_none e = cc
 
 not_above : (a b : ℕ) → (a < b → ⊥) → b ≤ a
 not_above a b never = by (ltb a b) refl
@@ -36,7 +32,7 @@ module _ {W : Type 0} (p : PoolModel W) (id slice level held : ℕ) where
   module _ (column row : ℕ) where
     module _ (t : VersionState W) (e : find id p.textures ≡ some t) where
       by_shape : (h : WriteHistory) → t.history ≡ some h → (b : Bool) → in_shape t.shape slice level ≡ b
-          → cond b (IsDirtyTile (tiling_of t.shape level) held (grid_at t.shape h slice level).stamps (At column row)) (At column row ≡ NoTile)
+          → cond b (IsDirtyTile (tiling_of t.shape level) held (grid_at t.shape h slice level).stamps (some_tile column row)) (some_tile column row ≡ None)
           → TileAbove p id slice level held column row
       unfolding IsDirtyTile
       by_shape h k true s q =
@@ -54,24 +50,24 @@ module _ {W : Type 0} (p : PoolModel W) (id slice level held : ℕ) where
           }
       by_shape h k false s q = absurd (no_tile_is_none q)
 
-      by_history : (o : Option WriteHistory) → t.history ≡ o → DirtyTileIn t.shape o slice level held (At column row)
+      by_history : (o : Option WriteHistory) → t.history ≡ o → DirtyTileIn t.shape o slice level held (some_tile column row)
           → TileAbove p id slice level held column row
       by_history none k q = absurd (no_tile_is_none q)
       by_history (some h) k q = by_shape h k (in_shape t.shape slice level) refl q
 
-    by_texture : (o : Option (VersionState W)) → find id p.textures ≡ o → DirtyTileFound o slice level held (At column row)
+    by_texture : (o : Option (VersionState W)) → find id p.textures ≡ o → DirtyTileFound o slice level held (some_tile column row)
         → TileAbove p id slice level held column row
     by_texture none e q = absurd (no_tile_is_none q)
     by_texture (some t) e q = by_history t e t.history refl q
 
-    pub tile_answered : IsDirtyTileOf p id slice level held (At column row) → TileAbove p id slice level held column row
+    pub tile_answered : IsDirtyTileOf p id slice level held (some_tile column row) → TileAbove p id slice level held column row
     unfolding IsDirtyTileOf
     tile_answered q = by_texture (find id p.textures) refl q
 
   -- ---- the condition of an answer, of a texture, history and subresource that are there
 
   module _ (t : VersionState W) (h : WriteHistory) (e : find id p.textures ≡ some t) (k : t.history ≡ some h)
-      (s : in_shape t.shape slice level ≡ true) (r : DirtyTile) where
+      (s : in_shape t.shape slice level ≡ true) (r : Answer Tile) where
     abbrev Condition : Type 0
     Condition = IsDirtyTile (tiling_of t.shape level) held (grid_at t.shape h slice level).stamps r
 
@@ -86,16 +82,16 @@ module _ {W : Type 0} (p : PoolModel W) (id slice level held : ℕ) where
   inside : (t : VersionState W) → slice < slices_of t.shape → level < t.shape.levels → in_shape t.shape slice level ≡ true
   inside t a b = rw (lt-ltb slice (slices_of t.shape) a, lt-ltb level t.shape.levels b) refl
 
-  pub tile_answerable : (column row : ℕ) → TileAbove p id slice level held column row → IsDirtyTileOf p id slice level held (At column row)
+  pub tile_answerable : (column row : ℕ) → TileAbove p id slice level held column row → IsDirtyTileOf p id slice level held (some_tile column row)
   unfolding IsDirtyTile
   tile_answerable column row a =
-      there a.texture a.history a.tracked a.recorded (inside a.texture a.in_slices a.in_levels) (At column row)
+      there a.texture a.history a.tracked a.recorded (inside a.texture a.in_slices a.in_levels) (some_tile column row)
       (record { inside = (a.in_columns_lem, a.in_rows); above = a.above })
 
-  pub tile_clean : IsDirtyTileOf p id slice level held NoTile → (column row : ℕ) → TileAbove p id slice level held column row → ⊥
+  pub tile_clean : IsDirtyTileOf p id slice level held None → (column row : ℕ) → TileAbove p id slice level held column row → ⊥
   unfolding IsDirtyTile
   tile_clean q column row a =
-      let below = from_there a.texture a.history a.tracked a.recorded (inside a.texture a.in_slices a.in_levels) NoTile q
+      let below = from_there a.texture a.history a.tracked a.recorded (inside a.texture a.in_slices a.in_levels) None q
       column row a.in_columns_lem a.in_rows in
       omega (arith, below, a.above)
 
@@ -104,21 +100,21 @@ module _ {W : Type 0} (p : PoolModel W) (id slice level held : ℕ) where
   module _ (never : (column row : ℕ) → TileAbove p id slice level held column row → ⊥) where
     none_by_shape : (t : VersionState W) → find id p.textures ≡ some t → (h : WriteHistory) → t.history ≡ some h
         → (b : Bool) → in_shape t.shape slice level ≡ b
-        → cond b (IsDirtyTile (tiling_of t.shape level) held (grid_at t.shape h slice level).stamps NoTile) (NoTile ≡ NoTile)
+        → cond b (IsDirtyTile (tiling_of t.shape level) held (grid_at t.shape h slice level).stamps None) (◌≡◌ {A = Answer Tile} None None)
     unfolding IsDirtyTile
     none_by_shape t e h k true s = λ column row a b. not_above held _ (λ above. never column row (by_shape column row t e h k true s (record { inside = (a, b); above = above })))
     none_by_shape t e h k false s = refl
 
     none_by_history : (t : VersionState W) → find id p.textures ≡ some t → (o : Option WriteHistory) → t.history ≡ o
-        → DirtyTileIn t.shape o slice level held NoTile
+        → DirtyTileIn t.shape o slice level held None
     none_by_history t e none k = refl
     none_by_history t e (some h) k = none_by_shape t e h k (in_shape t.shape slice level) refl
 
-    none_by_texture : (o : Option (VersionState W)) → find id p.textures ≡ o → DirtyTileFound o slice level held NoTile
+    none_by_texture : (o : Option (VersionState W)) → find id p.textures ≡ o → DirtyTileFound o slice level held None
     none_by_texture none e = refl
     none_by_texture (some t) e = none_by_history t e t.history refl
 
-    pub tile_none : IsDirtyTileOf p id slice level held NoTile
+    pub tile_none : IsDirtyTileOf p id slice level held None
     unfolding IsDirtyTileOf
     tile_none = none_by_texture (find id p.textures) refl
 

@@ -18,7 +18,8 @@ use Rattle.grid_rects.specs.declared.rect.TexelRect.{TexelRect}
 use Rattle.grid_axes.specs.declared.axis.Axis.{Axis}
 use Rattle.grid_axes.specs.Axes.{is_cut, cut_end}
 use Rattle.grid_axes.proofs.Axes.{cut_some}
-use Rattle.grid_stamps.specs.Grids.{Tiling, TilingOk, tiling_of, columns_of, rows_of, stamp_count, stamp_of, StampGrid, new_grid, touches, is_cut_rect, stamped_by}
+use Rattle.grid_stamps.specs.declared.grid.Tiling.{Tiling}
+use Rattle.grid_stamps.specs.Grids.{TilingOk, tiling_of, columns_of, rows_of, stamp_count, stamp_of, StampGrid, new_grid, touches, is_cut_rect, stamped_by}
 use Rattle.grid_stamps.proofs.Tilings.{tiling_ok}
 use Rattle.grid_stamps.proofs.RowByRow.{tile_at, same_tiles}
 use Rattle.grid_stamps.proofs.Stamps.{InLevel, InRect, texel_column, texel_row, touches_texel, touches_cut, length_stamped, stamped_tile, new_length}

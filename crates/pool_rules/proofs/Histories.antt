@@ -13,7 +13,8 @@ use Rattle.grid_shapes.specs.Shapes.{is_shape, slices_of, level_width, level_hei
 use Rattle.grid_rects.specs.declared.rect.TexelRect.{TexelRect}
 use Rattle.grid_rects.specs.Rects.{whole_level}
 use Rattle.grid_axes.specs.Axes.{axis_of}
-use Rattle.grid_stamps.specs.Grids.{Tiling, TilingOk, StampGrid, tiling_of, stamp_count, stamp_of, new_grid, touches, is_cut_rect, stamped_by}
+use Rattle.grid_stamps.specs.declared.grid.Tiling.{Tiling}
+use Rattle.grid_stamps.specs.Grids.{TilingOk, StampGrid, tiling_of, stamp_count, stamp_of, new_grid, touches, is_cut_rect, stamped_by}
 use Rattle.grid_stamps.proofs.Tilings.{tiling_ok}
 use Rattle.grid_stamps.proofs.Stamps.{InLevel, InRect, stamp_at, touches_cut, length_stamped, stamped_texel, stamp_below, new_length}
 use Rattle.pool_rules.specs.Model.{WriteHistory}

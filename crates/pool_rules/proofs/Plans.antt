@@ -18,8 +18,8 @@ use Rattle.grid_shapes.specs.Shapes.{slices_of, level_width, level_height}
 use Rattle.grid_rects.specs.declared.rect.Region.{Region}
 use Rattle.grid_rects.specs.declared.rect.Region.TheVariants.{Whole, Part}
 use Rattle.grid_rects.specs.Rects.{whole_level}
-use Rattle.grid_stamps.specs.declared.since.Dirty.{Dirty}
-use Rattle.grid_stamps.specs.declared.since.Dirty.TheVariants.{Box, Clean}
+use Rattle.grid_rects.specs.declared.rect.TexelRect.{TexelRect}
+use Rattle.std.specs.Prelude.{Option as Answer, Some, None}
 use Rattle.grid_stamps.specs.Grids.{tiling_of, box_since}
 use Rattle.grid_stamps.proofs.Tilings.{tiling_ok}
 use Rattle.grid_stamps.proofs.Stamps.{InRect}
@@ -70,10 +70,10 @@ own_part P s h held u slice level p q nc all =
     let two = each_listed P (λ b. part (0 + slice) b) 0 s.levels one level q in
     rw (zero-add slice, zero-add level, nc) at two
 
-missed_box : (s : VersionShape) (slice level x y : ℕ) (d : Dirty) → InDirty d x y → Missed slice level x y (box_copy s slice level d) → ⊥
+missed_box : (s : VersionShape) (slice level x y : ℕ) (d : Answer TexelRect) → InDirty d x y → Missed slice level x y (box_copy s slice level d) → ⊥
 unfolding box_copy
-missed_box s slice level x y Clean i all = i
-missed_box s slice level x y (Box r) i all =
+missed_box s slice level x y None i all = i
+missed_box s slice level x y (Some r) i all =
     all_head all
     (record {
       on = refl;
@@ -123,9 +123,9 @@ copy_place s none held slice level = cons (refl, refl) nil
 copy_place s (some h) Unknown slice level = cons (refl, refl) nil
 copy_place s (some h) (Known n) slice level = go (box_since (tiling_of s level) n (grid_at s h slice level))
   where
-    go : (d : Dirty) → All (λ (c : PreserveCopy). (c.slice ≡ slice) × (c.level ≡ level)) (box_copy s slice level d)
-    go Clean = nil
-    go (Box r) = cons (refl, refl) nil
+    go : (d : Answer TexelRect) → All (λ (c : PreserveCopy). (c.slice ≡ slice) × (c.level ≡ level)) (box_copy s slice level d)
+    go None = nil
+    go (Some r) = cons (refl, refl) nil
 
 pub none_covered : (s : VersionShape) (h : Option WriteHistory) (held : Held) (u : UploadFootprint)
     → All (λ (c : PreserveCopy). covers u c.slice c.level ≡ false) (copies s h held u)

@@ -6,7 +6,8 @@ use Rattle.base_blocks.specs.All.{All}
 use Rattle.base_blocks.specs.Blocks.{largest}
 use Rattle.grid_shapes.specs.declared.shape.VersionShape.{VersionShape}
 use Rattle.grid_shapes.specs.Shapes.{is_shape, slices_of}
-use Rattle.grid_stamps.specs.Grids.{Tiling, tiling_of, stamp_count, StampGrid}
+use Rattle.grid_stamps.specs.declared.grid.Tiling.{Tiling}
+use Rattle.grid_stamps.specs.Grids.{tiling_of, stamp_count, StampGrid}
 use Rattle.pool_rules.specs.declared.held.Held.{Held}
 use Rattle.pool_rules.specs.declared.held.Held.TheVariants.{Known, Unknown}
 use Rattle.pool_rules.specs.Model.{WriteHistory, Spare, Retiring, Doomed, VersionState, PoolModel, limit, spare_bytes, doomed_bytes, versions_used}

@@ -1,20 +1,19 @@
 -- Rule: note_write, note_mip_regeneration, records_writes, and the dirty-tile query.
-use Rattle.std.specs.Prelude.{ℕ, ◌≡◌, Bool, false, cond, ◌&&◌}
+use Rattle.std.specs.Prelude.{ℕ, ◌≡◌, Bool, false, cond, ◌&&◌, Option as Answer, None}
 use Rattle.std.proofs.Math.Option.{Option, none, some}
 use Rattle.grid_shapes.specs.declared.shape.VersionShape.{VersionShape}
 use Rattle.grid_rects.specs.declared.rect.TexelRect.{TexelRect}
-use Rattle.grid_stamps.specs.declared.dirty.DirtyTile.{DirtyTile}
-use Rattle.grid_stamps.specs.declared.dirty.DirtyTile.TheVariants.{NoTile}
+use Rattle.grid_stamps.specs.declared.grid.Tile.{Tile}
 use Rattle.grid_stamps.specs.Grids.{tiling_of, IsDirtyTile}
 use Rattle.pool_rules.specs.Model.{WriteHistory, VersionState, PoolModel, Out, accepted, guard, find, has_history}
 use Rattle.pool_rules.specs.Updates.{with_history, with_textures, change}
 use Rattle.pool_rules.specs.Histories.{in_shape, grid_at, written, regenerated, spent}
 
 -- the dirty-tile query: some tile stamped above held, none if there is none; and none where texture, history or subresource is absent
-abbrev pub DirtyTileIn : VersionShape → Option WriteHistory → ℕ → ℕ → ℕ → DirtyTile → Type 0
-DirtyTileIn s none slice level held r = r ≡ NoTile
+abbrev pub DirtyTileIn : VersionShape → Option WriteHistory → ℕ → ℕ → ℕ → Answer Tile → Type 0
+DirtyTileIn s none slice level held r = r ≡ None
 DirtyTileIn s (some h) slice level held r =
-    cond (in_shape s slice level) (IsDirtyTile (tiling_of s level) held (grid_at s h slice level).stamps r) (r ≡ NoTile)
+    cond (in_shape s slice level) (IsDirtyTile (tiling_of s level) held (grid_at s h slice level).stamps r) (r ≡ None)
 
 module _ {W : Type 0} where
   abbrev pub history_in : Option (VersionState W) → Option WriteHistory
@@ -41,9 +40,9 @@ module _ {W : Type 0} where
   unfoldable pub records_writes : PoolModel W → ℕ → Bool
   records_writes p id = has_history (history_in (find id p.textures))
 
-  abbrev pub DirtyTileFound : Option (VersionState W) → ℕ → ℕ → ℕ → DirtyTile → Type 0
-  DirtyTileFound none slice level held r = r ≡ NoTile
+  abbrev pub DirtyTileFound : Option (VersionState W) → ℕ → ℕ → ℕ → Answer Tile → Type 0
+  DirtyTileFound none slice level held r = r ≡ None
   DirtyTileFound (some t) slice level held r = DirtyTileIn t.shape t.history slice level held r
 
-  unfoldable pub IsDirtyTileOf : PoolModel W → ℕ → ℕ → ℕ → ℕ → DirtyTile → Type 0
+  unfoldable pub IsDirtyTileOf : PoolModel W → ℕ → ℕ → ℕ → ℕ → Answer Tile → Type 0
   IsDirtyTileOf p id slice level held r = DirtyTileFound (find id p.textures) slice level held r

@@ -1,5 +1,5 @@
 -- Rule: preserve_plan: the copies that bring a rename's new version up to the live one. A plan goes slice by slice, level by level.
-use Rattle.std.specs.Prelude.{ℕ, Bool, cond, ◌&&◌, not, ltb, eqb, length}
+use Rattle.std.specs.Prelude.{ℕ, Bool, cond, ◌&&◌, not, ltb, eqb, length, Option as Answer, Some, None}
 use Rattle.std.proofs.Math.Option.{Option, none, some}
 use mathlib.Core.List.{List, [], ◌∷◌, flat_map}
 use Rattle.base_blocks.specs.Lists.{listed, tests}
@@ -8,8 +8,6 @@ use Rattle.grid_shapes.specs.Shapes.{is_shape, same_shape, slices_of, level_widt
 use Rattle.grid_rects.specs.declared.rect.TexelRect.{TexelRect}
 use Rattle.grid_rects.specs.declared.rect.Region.TheVariants.{Whole, Part}
 use Rattle.grid_rects.specs.Rects.{whole_level}
-use Rattle.grid_stamps.specs.declared.since.Dirty.{Dirty}
-use Rattle.grid_stamps.specs.declared.since.Dirty.TheVariants.{Box, Clean}
 use Rattle.grid_stamps.specs.Grids.{tiling_of, box_since}
 use Rattle.pool_rules.specs.declared.held.Held.{Held}
 use Rattle.pool_rules.specs.declared.held.Held.TheVariants.{Known, Unknown}
@@ -23,9 +21,9 @@ abbrev pub whole_copy : ℕ → ℕ → PreserveCopy
 whole_copy slice level = record { slice = slice; level = level; region = Whole }
 
 -- nothing where no tile was stamped since; a box equal to the level is reported as whole
-unfoldable pub box_copy : VersionShape → ℕ → ℕ → Dirty → List PreserveCopy
-box_copy s slice level Clean = []
-box_copy s slice level (Box r) =
+unfoldable pub box_copy : VersionShape → ℕ → ℕ → Answer TexelRect → List PreserveCopy
+box_copy s slice level None = []
+box_copy s slice level (Some r) =
     record { slice = slice; level = level; region = cond (same_rect r (whole_level (level_width s level) (level_height s level))) Whole (Part r) } ∷ []
 
 -- whole where nothing is known, otherwise the box since the held writes

@@ -38,7 +38,7 @@ impl VersionBudget {
         }
         let share = working / VERSION_POOL_WORKING_SET_DIVISOR;
         VersionBudget {
-            cap: base_blocks::smaller(share, VERSION_POOL_CEILING_BYTES),
+            cap: share.min(VERSION_POOL_CEILING_BYTES),
             line: working / 4 * VERSION_POOL_PRESSURE_QUARTERS,
         }
     }

@@ -10,9 +10,5 @@ pub fn newest_length(textures: usize, stamps: usize) -> usize
     requires { textures ≤ most_places }
     ensures { result ≡ grid_stride * min (most_grids * textures) stamps }
 {
-    let most = MOST_GRIDS * textures;
-    if most <= stamps {
-        return GRID_STRIDE * most;
-    }
-    GRID_STRIDE * stamps
+    GRID_STRIDE * stamps.min(MOST_GRIDS * textures)
 }

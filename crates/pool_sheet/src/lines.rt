@@ -57,12 +57,10 @@ pub fn put_textures(out: &mut [u8], at: usize, textures: &[u64], n: usize)
     requires { (texture_stride * n ≤ length textures.now) × RecordsFit textures.now n × (at + line_bytes * n + line_bytes ≤ length out.old) }
     ensures { out.new ≡ sets out.old at (flat_map record_line (textures_in n textures.now)) }
 {
-    let mut i = 0;
-    while i < n {
+    for i in 0..n {
         let from = TEXTURE_STRIDE * i;
         let fields = read_fields(&textures[from..]);
         put_fields(out, at + LINE_BYTES * i, fields);
-        i += 1;
     }
 }
 

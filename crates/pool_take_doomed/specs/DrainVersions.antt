@@ -19,43 +19,15 @@ drained_views c places retiring doomed spares =
 
 -- nothing is left but the hand
 unfoldable pub drained_counts : Pool → ℕ → Pool
-drained_counts c places = record {
-  tracked = c.tracked;
-  kept = 0;
-  grids = c.grids;
-  stamps = c.stamps;
-  head = c.head;
-  popped = c.popped;
-  queued = 0;
-  first = place_of places c.first c.doomed;
-  doomed = 0;
-  since = 0;
-  trackings = c.trackings;
-  parked = 0;
-  dooming = 0;
-  cap = c.cap;
-  line = c.line;
-}
+drained_counts c places = record c { kept = 0; queued = 0; first = place_of places c.first c.doomed; doomed = 0; since = 0; parked = 0; dooming = 0 }
 
 -- the arrivals are cleared; slot, mark and excess stay
 unfoldable pub drained_book : PacingBook → PacingBook
-drained_book b = record { arrivals = replicate destroy_spread_drains 0; slot = b.slot; pressed = b.pressed; excess = b.excess }
+drained_book b = record b { arrivals = replicate destroy_spread_drains 0 }
 
 -- a texture's record that says it has no spares
 abbrev pub spareless : TextureRecord → TextureRecord
-spareless t = record {
-  id = t.id;
-  shape = t.shape;
-  epoch = t.epoch;
-  history = t.history;
-  birth = t.birth;
-  rename = t.rename;
-  due = t.due;
-  spares = 0;
-  bytes = t.bytes;
-  grid = t.grid;
-  stamp = t.stamp;
-}
+spareless t = record t { spares = 0 }
 
 -- the first n records without their spares
 unfoldable pub cleared : ℕ → List ℕ → List ℕ

@@ -7,24 +7,8 @@ use Rattle.pool_rules.specs.RuleConstants.{destroy_spread_drains}
 
 -- n versions with these bytes have left the destroy ring's front
 unfoldable pub taken_counts : Pool → ℕ → ℕ → ℕ → Pool
-taken_counts c places n bytes = record {
-  tracked = c.tracked;
-  kept = c.kept;
-  grids = c.grids;
-  stamps = c.stamps;
-  head = c.head;
-  popped = c.popped;
-  queued = c.queued;
-  first = place_of places c.first n;
-  doomed = c.doomed - n;
-  since = 0;
-  trackings = c.trackings;
-  parked = c.parked;
-  dooming = c.dooming - bytes;
-  cap = c.cap;
-  line = c.line;
-}
+taken_counts c places n bytes = record c { first = place_of places c.first n; doomed = c.doomed - n; since = 0; dooming = c.dooming - bytes }
 
 -- the arrivals are noted, and the excess is covered
 unfoldable pub taken_book : PacingBook → List ℕ → PacingBook
-taken_book b arrivals = record { arrivals = arrivals; slot = suc b.slot % destroy_spread_drains; pressed = b.pressed; excess = 0 }
+taken_book b arrivals = record b { arrivals = arrivals; slot = suc b.slot % destroy_spread_drains; excess = 0 }

@@ -22,10 +22,8 @@ pub fn copy_column(
     requires { (at + n ≤ length out.old) × (w * cap ≤ length s.now) × (k < w) × (head < cap) × (i + n ≤ cap) }
     ensures { out.new ≡ sets out.old at (column w k cap head s.now i n) }
 {
-    let mut j = 0;
-    while j < n {
+    for j in 0..n {
         let p = place(cap, head, i + j);
         out[at + j] = s[w * p + k];
-        j += 1;
     }
 }

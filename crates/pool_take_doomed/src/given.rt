@@ -24,10 +24,8 @@ pub fn push_spares(
     ensures { doomed.new
         ≡ laid doomed_stride write_doomed cap first n (given_records spares.now bytes from k) doomed.old }
 {
-    let mut j = 0;
-    while j < k {
+    for j in 0..k {
         let entry = [spares[SPARE_STRIDE * (from + j)], bytes];
         ring_push(doomed, DOOMED_STRIDE, cap, first, n + j, &entry);
-        j += 1;
     }
 }

@@ -7,7 +7,7 @@ mod copy_column;
 mod given;
 mod next_batch;
 
-pub use answer::{DrainAnswer, Handed};
+pub use answer::DrainAnswer;
 pub use calls::drain_versions::drain_versions;
 pub use calls::take_doomed::take_doomed;
 pub use given::push_spares;

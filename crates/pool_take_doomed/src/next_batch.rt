@@ -9,7 +9,6 @@ ghost use Rattle.pool_take_doomed.specs.NextBatch.{doomed_entries, most_arrivals
 ghost use Rattle.pool_records.specs.RecordConstants.{doomed_stride};
 ghost use Rattle.pool_rules.specs.RuleConstants.{destroy_spread_drains, most_places};
 
-use base_blocks::{larger, smaller};
 use base_tables::place;
 use pool_memory::PacingBook;
 use pool_records::{DOOMED_BYTES_AT, DOOMED_STRIDE};
@@ -44,7 +43,7 @@ fn arrivals_sum(a: [u64; DESTROY_SPREAD_DRAINS]) -> u64
     requires { total (λ (n : ℕ). n) a ≤ most_arrivals }
     ensures { result ≡ total (λ (n : ℕ). n) a }
 {
-    a[0] + a[1] + a[2] + a[3] + a[4] + a[5] + a[6] + a[7]
+    a.iter().sum()
 }
 
 // Returns the batch for a queue of n, before the excess is looked at.
@@ -54,7 +53,7 @@ fn paced(a: [u64; DESTROY_SPREAD_DRAINS], n: u64) -> u64
 {
     let sum = arrivals_sum(a);
     let share = (sum + ROUND_UP) / DRAINS + (n + ROUND_UP) / DRAINS;
-    smaller(larger(MIN_DESTROYS_PER_DRAIN, share), n)
+    MIN_DESTROYS_PER_DRAIN.max(share).min(n)
 }
 
 // Adds up the bytes of the first k versions of the ring.
@@ -64,11 +63,9 @@ fn bytes_of(doomed: &[u64], cap: usize, first: usize, k: usize) -> u64
     ensures { result ≡ doomed_bytes (doomed_entries cap first doomed.now k) }
 {
     let mut sum = 0;
-    let mut i = 0;
-    while i < k {
+    for i in 0..k {
         let p = place(cap, first, i);
         sum += doomed[DOOMED_STRIDE * p + DOOMED_BYTES_AT];
-        i += 1;
     }
     sum
 }
@@ -81,17 +78,15 @@ fn covering(doomed: &[u64], cap: usize, first: usize, n: usize, least: usize, ex
     ensures { (result.count ≡ batch_of least excess (doomed_entries cap first doomed.now n)) × (result.count ≤ n)
         × (result.bytes ≡ doomed_bytes (doomed_entries cap first doomed.now result.count)) }
 {
-    let mut count = least;
     let mut bytes = bytes_of(doomed, cap, first, least);
-    while count < n {
+    for count in least..n {
         if excess <= bytes {
             return Batch { count, bytes };
         }
         let p = place(cap, first, count);
         bytes += doomed[DOOMED_STRIDE * p + DOOMED_BYTES_AT];
-        count += 1;
     }
-    Batch { count, bytes }
+    Batch { count: n, bytes }
 }
 
 // Returns the next batch of the n versions of the ring.

@@ -24,12 +24,12 @@ use Rattle.pool_rules.proofs.States.{length_change, total_change, total_unchange
 use Rattle.pool_records.specs.declared.texture.TextureRecord.{TextureRecord}
 use Rattle.pool_records.specs.declared.spare.SpareRecord.{SpareRecord}
 use Rattle.pool_records.specs.Texture.{write_texture, texture_in, spares_to}
-use Rattle.pool_records.specs.Recorded.{RecordedFits}
 use Rattle.pool_memory.specs.declared.pool.Pool.{Pool as Counts}
 use Rattle.pool_memory.specs.Lent.{Lent, lent}
 use Rattle.pool_memory.specs.Reading.{spare_read, state_read, model_of}
 use Rattle.pool_memory.specs.Writing.{texture_record, every_spare, pool_after, spares_after, lent_after}
-use Rattle.pool_memory.specs.Calls.{Told, answer, TakenVersion, taken_of, take_spare_on}
+use Rattle.pool_memory.specs.declared.answer.TakenVersion.{TakenVersion}
+use Rattle.pool_memory.specs.Calls.{Told, answer, taken_of, take_spare_on}
 use Rattle.pool_memory.proofs.Fits.{Fits}
 use Rattle.pool_memory.proofs.FromPool.{pool_fits}
 use Rattle.pool_memory.proofs.Runs.{spares_of, spare_count, first_spare, first_grid, first_stamp, state_of, tracked_model, kept_model, grids_model, stamps_used_model}
@@ -75,10 +75,6 @@ fewer (s ∷ t ∷ ts) = ap suc (fewer (t ∷ ts)) ∙ (let e : suc (suc (length
 renamed_record_lem : (grid stamp seq : ℕ) (u : VersionState ℕ)
     → texture_record grid stamp (renamed_state seq u) ≡ renamed_record seq (length u.spares - 1) (texture_record grid stamp u)
 renamed_record_lem grid stamp seq u = ap (λ (n : ℕ). renamed_record seq n (texture_record grid stamp u)) (fewer u.spares)
-
--- a renamed record has its history still
-pub renamed_fits : (x t u : TextureRecord) (seq left : ℕ) → RecordedFits u.history → x ≡ renamed_record seq left t → t ≡ u → RecordedFits x.history
-renamed_fits x t u seq left fits e q = rw (sym (ap (λ (r : TextureRecord). r.history) e ∙ ap (λ (r : TextureRecord). r.history) q)) at fits
 
 -- what is answered, the counts, the textures and the spares
 abbrev Left : Type 0

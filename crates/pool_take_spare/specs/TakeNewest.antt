@@ -12,23 +12,12 @@ use Rattle.pool_records.specs.Recorded.{RecordedFits}
 use Rattle.pool_records.specs.Spare.{read_spare}
 use Rattle.pool_records.specs.Texture.{write_texture, texture_in, spares_to}
 use Rattle.pool_memory.specs.declared.pool.Pool.{Pool}
-use Rattle.pool_memory.specs.Calls.{Told, answer, TakenVersion}
+use Rattle.pool_memory.specs.declared.answer.TakenVersion.{TakenVersion}
+use Rattle.pool_memory.specs.Calls.{Told, answer}
 
 -- its record after the rename: `left` spares are left
 abbrev pub renamed_record : ℕ → ℕ → TextureRecord → TextureRecord
-renamed_record seq left t = record {
-  id = t.id;
-  shape = t.shape;
-  epoch = t.epoch;
-  history = t.history;
-  birth = t.birth;
-  rename = seq;
-  due = t.due;
-  spares = left;
-  bytes = t.bytes;
-  grid = t.grid;
-  stamp = t.stamp;
-}
+renamed_record seq left t = record t { rename = seq; spares = left }
 
 -- what is asked: texture i and its spares are there, and their bytes are part of the parked ones
 pub record NewestFits (pool : Pool) (textures spares : List ℕ) (i : ℕ) : Type 0 where
@@ -41,23 +30,7 @@ pub record NewestFits (pool : Pool) (textures spares : List ℕ) (i : ℕ) : Typ
 
 -- the counts with a spare of those bytes less
 abbrev pub one_taken : Pool → ℕ → Pool
-one_taken c bytes = record {
-  tracked = c.tracked;
-  kept = c.kept - 1;
-  grids = c.grids;
-  stamps = c.stamps;
-  head = c.head;
-  popped = c.popped;
-  queued = c.queued;
-  first = c.first;
-  doomed = c.doomed;
-  since = c.since;
-  trackings = c.trackings;
-  parked = c.parked - bytes;
-  dooming = c.dooming;
-  cap = c.cap;
-  line = c.line;
-}
+one_taken c bytes = record c { kept = c.kept - 1; parked = c.parked - bytes }
 
 -- the textures' slice with the record renamed, one spare less if it had one
 abbrev pub renamed_at : List ℕ → ℕ → ℕ → List ℕ

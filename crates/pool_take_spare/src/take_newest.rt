@@ -3,20 +3,21 @@ ghost use Rattle.std.specs.Prelude.{◌≡◌};
 ghost use Rattle.pool_take_spare.specs.Answer.{taken_told};
 ghost use Rattle.pool_take_spare.specs.TakeNewest.{renamed_record, NewestFits, newest_taken};
 
-use crate::answer::{TakeAnswer, Taken};
+use crate::answer::TakeAnswer;
 use base_tables::remove_records;
 use pool_access::{put_texture, spare_at, spares_before, texture_at};
-use pool_memory::Pool;
+use pool_memory::{Pool, TakenVersion};
 use pool_records::{SPARE_STRIDE, TextureRecord};
 
 // Returns the texture's record after the rename, which keeps it tracked for another STATE_MAX_IDLE_SUBMITS submissions.
 fn renamed(t: TextureRecord, seq: u64, left: u64) -> TextureRecord
     ensures { result ≡ renamed_record seq left t }
 {
-    let mut u = t;
-    u.rename = seq;
-    u.spares = left;
-    u
+    TextureRecord {
+        rename: seq,
+        spares: left,
+        ..t
+    }
 }
 
 // Renames texture i and takes its newest spare, if it has one. The newest goes first, so that the oldest are left to age out when
@@ -37,23 +38,23 @@ pub fn take_newest(
         put_texture(textures, i, renamed(t, seq, 0));
         return TakeAnswer {
             pool,
-            taken: Taken::NoSpare,
+            taken: Ok(None),
         };
     }
     let left = t.spares - 1;
     let k = spares_before(textures, i) + left as usize;
     let spare = spare_at(spares, k);
-    let held = spare.held;
     put_texture(textures, i, renamed(t, seq, left));
     remove_records(spares, SPARE_STRIDE, pool.kept, k, 1);
-    let mut after = pool;
-    after.kept = pool.kept - 1;
-    after.parked = pool.parked - t.bytes;
     TakeAnswer {
-        pool: after,
-        taken: Taken::Spare {
-            view: spare.view,
-            held,
+        pool: Pool {
+            kept: pool.kept - 1,
+            parked: pool.parked - t.bytes,
+            ..pool
         },
+        taken: Ok(Some(TakenVersion {
+            view: spare.view,
+            held: spare.held,
+        })),
     }
 }

@@ -7,3 +7,4 @@ pub mod Trackings
 pub mod Started
 pub mod Renewable
 pub mod Renewed
+pub mod LeftRenewed

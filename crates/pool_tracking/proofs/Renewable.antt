@@ -1,21 +1,17 @@
 -- What the code that renews a tracking asks of a pool, and its record as the code writes it. Assumes nothing.
-use mathlib.Core.Path.{◌≡◌, ap, ◌∙◌}
+use mathlib.Core.Path.{◌≡◌}
 use mathlib.Core.Bool.{true}
-use mathlib.Core.List.{List}
 use Prim.Native.Nat.{ℕ, ◌+◌, ◌*◌, ◌^◌, ◌/◌, ◌≤◌, ◌<◌}
 use lib.ListN.{length}
-use lib.Seq.{sets}
 use Rattle.grid_shapes.specs.Shapes.{is_shape}
 use Rattle.pool_rules.specs.Model.{limit, grid_count}
 use Rattle.pool_rules.specs.RuleConstants.{most_places}
-use Rattle.pool_records.specs.declared.texture.TextureRecord.{TextureRecord}
 use Rattle.pool_records.specs.RecordConstants.{doomed_stride, retiring_stride, spare_stride, texture_stride}
-use Rattle.pool_records.specs.Texture.{write_texture}
 use Rattle.pool_records.specs.Starts.{StartsMove}
 use Rattle.pool_memory.specs.Lent.{Lent}
 use Rattle.pool_tracking.specs.declared.begun.NewTracking.{NewTracking}
 use Rattle.pool_tracking.specs.declared.holding.Holding.{Holding}
-use Rattle.pool_tracking.specs.Begun.{fresh_grids, new_record}
+use Rattle.pool_tracking.specs.Begun.{fresh_grids}
 use Rattle.pool_tracking.specs.Refusal.{most_newest, most_stamps}
 use Rattle.pool_tracking.specs.Holdings.{grid_shift, stamp_shift, record_renewed}
 
@@ -43,9 +39,3 @@ pub record Renewable (l : Lent) (new : NewTracking) (hold : Holding) : Type 0 wh
   pub stamps_most : length l.stamps ≤ most_stamps
   pub moves : (fresh : ℕ) → fresh ≡ fresh_grids new.shape new.records
       → StartsMove (grid_shift hold fresh) (stamp_shift hold new) (new.place + 1) l.pool.tracked (record_renewed l.textures new (l.pool.trackings + 1) hold)
-
--- the record written over, as the code has it
-pub record_written : (textures textures' : List ℕ) (new : NewTracking) (epoch : ℕ) (old : Holding) (x : TextureRecord)
-    → x ≡ new_record new epoch old.grid old.stamp → textures' ≡ sets textures (texture_stride * new.place) (write_texture x)
-    → textures' ≡ record_renewed textures new epoch old
-record_written textures textures' new epoch old x e q = q ∙ ap (λ (y : TextureRecord). sets textures (texture_stride * new.place) (write_texture y)) e

@@ -33,7 +33,7 @@ use Rattle.pool_records.specs.Starts.{starts_moved, StartsMove}
 use Rattle.pool_records.specs.Doomed.{write_doomed}
 use Rattle.pool_records.specs.Tilings.{fresh_from}
 use Rattle.pool_memory.specs.declared.pool.Pool.{Pool as Counts}
-use Rattle.pool_memory.specs.Lent.{Lent, lent, version_places}
+use Rattle.pool_memory.specs.Lent.{Lent, version_places}
 use Rattle.pool_memory.specs.Reading.{spare_read, state_read, model_of}
 use Rattle.pool_memory.specs.Writing.{doomed_record, every_spare, textures_after, spares_after, doomed_after, newest_after, stamps_after, pool_after, lent_after}
 use Rattle.pool_memory.specs.Calls.{answer, taken_of, take_spare_on}
@@ -42,7 +42,7 @@ use Rattle.pool_memory.proofs.FromPool.{pool_fits}
 use Rattle.pool_memory.proofs.Runs.{spares_of, spare_count, first_spare, first_grid, first_stamp, state_of, tracked_model, kept_model, grids_model, stamps_used_model}
 use Rattle.pool_memory.proofs.Same.{doomed_model}
 use Rattle.pool_memory.proofs.Rings.{doomed_pushed}
-use Rattle.pool_memory.proofs.Stays.{put_together, book_stays, ids_ascend, textures_fit_lem, retiring_stay, doomed_fit_lem, doomed_bound}
+use Rattle.pool_memory.proofs.Stays.{ids_ascend, textures_fit_lem, doomed_fit_lem, doomed_bound}
 use Rattle.pool_memory.proofs.Places.{changed}
 use Rattle.pool_memory.proofs.Changes.{spares_before, every_emptied, spares_removed}
 use Rattle.pool_memory.proofs.HistoryRuns.{grid_count_at, stamp_count_at, grids_in, stamps_in_lem, newest_renewed, stamps_renewed}
@@ -96,7 +96,7 @@ module _ (l : Lent) (new : NewTracking) (ok : Begins l new) (h : TrackedAt l new
   abbrev textures_then : List (VersionState ℕ)
   textures_then = change new.id (λ (v : VersionState ℕ). state) (model_of l).textures
 
-  abbrev renewed : PoolModel ℕ
+  abbrev pub renewed : PoolModel ℕ
   renewed = with_trackings epoch (with_textures textures_then (doom_spares given (model_of l)))
 
   other_state_lem : same_shape u.shape new.shape ≡ false
@@ -105,7 +105,7 @@ module _ (l : Lent) (new : NewTracking) (ok : Begins l new) (h : TrackedAt l new
   rule : take_spare (model_of l) new.id new.shape new.records new.seq ≡ accepted none renewed
   rule = take_renewed_lem (model_of l) new.id new.shape new.records new.seq ok.0.1.1 u there other_state_lem
 
-  ruled : take_spare_on l new.id new.shape new.records new.seq ≡ (answer none, lent_after renewed l)
+  pub ruled : take_spare_on l new.id new.shape new.records new.seq ≡ (answer none, lent_after renewed l)
   unfolding take_spare_on
   ruled = asked_accepted taken_of l (λ (p : PoolModel ℕ). take_spare p new.id new.shape new.records new.seq) ok.0.0 none renewed rule
 
@@ -285,7 +285,7 @@ module _ (l : Lent) (new : NewTracking) (ok : Begins l new) (h : TrackedAt l new
           renewed_moves l renewed f (grid_shift hold fresh) (stamp_shift hold new) (omega (arith, grids_few new.shape shaped new.records, fresh-is))
           (omega (arith, stamps_few new.shape shaped new.records, ok.1)) i state h.0 grids_out stamps_out j (omega (arith, a)) b
 
-      textures_left : (textures : List ℕ)
+      pub textures_left : (textures : List ℕ)
           → textures ≡ starts_moved (grid_shift hold fresh) (stamp_shift hold new) (i + 1) l.pool.tracked (record_renewed l.textures new (l.pool.trackings + 1) hold)
           → textures ≡ textures_after renewed l
       textures_left textures q =
@@ -337,7 +337,7 @@ module _ (l : Lent) (new : NewTracking) (ok : Begins l new) (h : TrackedAt l new
         (l.pool.doomed + t.spares) tracked_then kept_then grids_then stamps_then doomed_then (omega arith)
 
     -- the counts with the spares given up, and then the grids, the stamps and the tracking's number
-    counts_left : (fresh : ℕ) → fresh ≡ grids → (g : Counts) → g ≡ given_up l.pool hold.spares hold.bytes
+    pub counts_left : (fresh : ℕ) → fresh ≡ grids → (g : Counts) → g ≡ given_up l.pool hold.spares hold.bytes
         → begun_counts g (l.pool.grids - hold.grids + fresh) (l.pool.stamps - hold.stamps + new.stamps) (l.pool.trackings + 1) ≡ pool_after renewed l
     counts_left fresh e g q =
         ap (λ (c : Counts). begun_counts c (l.pool.grids - hold.grids + fresh) (l.pool.stamps - hold.stamps + new.stamps) (l.pool.trackings + 1)) q
@@ -345,7 +345,7 @@ module _ (l : Lent) (new : NewTracking) (ok : Begins l new) (h : TrackedAt l new
         (l.pool.doomed + spares_is j) (l.pool.since + spares_is j) (epoch_is j) (l.pool.parked - both_is j) (l.pool.dooming + both_is j))
         ∙ counts_renewed
 
-    doomed_left : (places : ℕ) → places ≡ length l.retiring / retiring_stride → (doomed : List ℕ)
+    pub doomed_left : (places : ℕ) → places ≡ length l.retiring / retiring_stride → (doomed : List ℕ)
         → doomed ≡ laid doomed_stride write_doomed places l.pool.first l.pool.doomed (given_records l.spares hold.bytes hold.first hold.spares) l.doomed
         → doomed ≡ doomed_after renewed l
     unfolding version_places
@@ -355,7 +355,7 @@ module _ (l : Lent) (new : NewTracking) (ok : Begins l new) (h : TrackedAt l new
         ∙ ap (λ (rs : List DoomedRecord). laid doomed_stride write_doomed (version_places l) l.pool.first l.pool.doomed rs l.doomed) given_records_lem
         ∙ doomed_pushed l renewed f.first (omega (arith, f.doomed)) (doomed_fit_lem l f) given refl
 
-    spares_left : (spares : List ℕ) → spares ≡ moved l.spares (spare_stride * hold.first) (spare_stride * hold.first + spare_stride * hold.spares) (spare_stride * (l.pool.kept - (hold.first + hold.spares)))
+    pub spares_left : (spares : List ℕ) → spares ≡ moved l.spares (spare_stride * hold.first) (spare_stride * hold.first + spare_stride * hold.spares) (spare_stride * (l.pool.kept - (hold.first + hold.spares)))
         → spares ≡ spares_after renewed l
     spares_left spares q =
         q
@@ -363,7 +363,7 @@ module _ (l : Lent) (new : NewTracking) (ok : Begins l new) (h : TrackedAt l new
         ∙ spares_removed l renewed f.kept (kept_fits l f i h.0) (first_spare l i) t.spares (spares_within l f i h.0)
         (ap every_spare changed_there ∙ every_emptied l i h.0 state refl ∙ ap (λ (k : ℕ). removed (first_spare l i) k (spares_before l)) (ap spares_of (record_read l i h.0)))
 
-    newest_left : (fresh : ℕ) → fresh ≡ grids → (newest : List ℕ)
+    pub newest_left : (fresh : ℕ) → fresh ≡ grids → (newest : List ℕ)
         → newest ≡ sets (moved l.newest (hold.grid + fresh) (hold.grid + hold.grids) (l.pool.grids - (hold.grid + hold.grids))) hold.grid (fresh_from new.shape 0 (fresh / grid_stride))
         → newest ≡ newest_after renewed l
     newest_left fresh e newest q =
@@ -372,7 +372,7 @@ module _ (l : Lent) (new : NewTracking) (ok : Begins l new) (h : TrackedAt l new
         (ap (λ (n : ℕ). fresh_from new.shape 0 (n / grid_stride)) e ∙ sym (newest_fresh new epoch)) (grids_is ∙ sym grids_there)
         ∙ newest_renewed l f renewed i h.0 state changed_there (omega (arith, newest_count new epoch, grids_room, grids_within, grids_there))
 
-    stamps_left : (stamps : List ℕ)
+    pub stamps_left : (stamps : List ℕ)
         → stamps ≡ sets (moved l.stamps (hold.stamp + new.stamps) (hold.stamp + hold.stamps) (l.pool.stamps - (hold.stamp + hold.stamps))) hold.stamp (replicate new.stamps 0)
         → stamps ≡ stamps_after renewed l
     stamps_left stamps q =
@@ -380,22 +380,3 @@ module _ (l : Lent) (new : NewTracking) (ok : Begins l new) (h : TrackedAt l new
         ∙ run_renewed l.stamps l.pool.stamps stamp_is (ok.1 ∙ sym (stamps_count new epoch))
         (ap (λ (n : ℕ). replicate n 0) ok.1 ∙ sym (stamps_zeros new epoch)) (stamps_is ∙ sym stamps_there)
         ∙ stamps_renewed l f renewed i h.0 state changed_there (omega (arith, stamps_count new epoch, ok.1, stamps_room, stamps_within, stamps_there))
-
-    pub left_renewed : (places fresh : ℕ) (g : Counts) (textures doomed spares newest stamps : List ℕ)
-        → places ≡ length l.retiring / retiring_stride → fresh ≡ grids → g ≡ given_up l.pool hold.spares hold.bytes
-        → doomed ≡ laid doomed_stride write_doomed places l.pool.first l.pool.doomed (given_records l.spares hold.bytes hold.first hold.spares) l.doomed
-        → spares ≡ moved l.spares (spare_stride * hold.first) (spare_stride * hold.first + spare_stride * hold.spares) (spare_stride * (l.pool.kept - (hold.first + hold.spares)))
-        → textures ≡ starts_moved (grid_shift hold fresh) (stamp_shift hold new) (i + 1) l.pool.tracked (record_renewed l.textures new (l.pool.trackings + 1) hold)
-        → newest ≡ sets (moved l.newest (hold.grid + fresh) (hold.grid + hold.grids) (l.pool.grids - (hold.grid + hold.grids))) hold.grid (fresh_from new.shape 0 (fresh / grid_stride))
-        → stamps ≡ sets (moved l.stamps (hold.stamp + new.stamps) (hold.stamp + hold.stamps) (l.pool.stamps - (hold.stamp + hold.stamps))) hold.stamp (replicate new.stamps 0)
-        → (
-          answer none,
-          lent (begun_counts g (l.pool.grids - hold.grids + fresh) (l.pool.stamps - hold.stamps + new.stamps) (l.pool.trackings + 1)) l.book textures l.retiring doomed spares newest stamps,
-        )
-        ≡ take_spare_on l new.id new.shape new.records new.seq
-    left_renewed places fresh g textures doomed spares newest stamps e1 e2 e3 e4 e5 e6 e7 e8 =
-        ap (λ (m : Lent). (answer none, m))
-        (put_together renewed l (begun_counts g (l.pool.grids - hold.grids + fresh) (l.pool.stamps - hold.stamps + new.stamps) (l.pool.trackings + 1)) l.book textures l.retiring doomed spares newest stamps
-        (counts_left fresh e2 g e3) (book_stays l f renewed refl) (textures_left fresh e2 textures e6) (retiring_stay l f renewed refl refl)
-        (doomed_left places e1 doomed e4) (spares_left spares e5) (newest_left fresh e2 newest e7) (stamps_left stamps e8))
-        ∙ sym ruled

@@ -40,7 +40,7 @@ use Rattle.pool_memory.proofs.Starts.{placed_record, textures_inserted, inserted
 use Rattle.pool_memory.proofs.Asked.{asked_accepted}
 use Rattle.pool_tracking.specs.declared.begun.NewTracking.{NewTracking}
 use Rattle.pool_tracking.specs.declared.start.First.{First}
-use Rattle.pool_tracking.specs.Begun.{fresh_grids, new_record}
+use Rattle.pool_tracking.specs.Begun.{fresh_grids}
 use Rattle.pool_tracking.specs.Cases.{Begins, TrackedAt}
 use Rattle.pool_tracking.specs.Start.{first_of, first_at, record_started, zeros_put, fresh_put, one_tracked, StartFits, tracking_started}
 use Rattle.pool_tracking.proofs.Refusals.{shape_passed, take_new_lem, formed_then}
@@ -55,14 +55,6 @@ Left = Counts × (List ℕ × (List ℕ × List ℕ))
 
 -- ---- as the code has it
 
--- the record put in
-pub record_put : (textures textures' : List ℕ) (n : ℕ) (new : NewTracking) (epoch : ℕ) (first : First) (x : TextureRecord)
-    → x ≡ new_record new epoch first.grid first.stamp
-    → textures' ≡ sets (moved textures (texture_stride * new.place + texture_stride) (texture_stride * new.place) (texture_stride * (n - new.place))) (texture_stride * new.place) (write_texture x)
-    → textures' ≡ record_started textures n new epoch first
-record_put textures textures' n new epoch first x e q =
-    q ∙ ap (λ (y : TextureRecord). sets (moved textures (texture_stride * new.place + texture_stride) (texture_stride * new.place) (texture_stride * (n - new.place))) (texture_stride * new.place) (write_texture y)) e
-
 module _ (pool : Counts) (textures newest stamps : List ℕ) (new : NewTracking) where
   pub started_as : (first : First) (fresh : ℕ) (textures' newest' stamps' : List ℕ) → first ≡ first_at pool textures new.place
       → fresh ≡ fresh_grids new.shape new.records
@@ -76,15 +68,6 @@ module _ (pool : Counts) (textures newest stamps : List ℕ) (new : NewTracking)
       let newe = e4 ∙ ap₂ (λ (n : ℕ) (a : First). fresh_put newest pool.grids a.grid n new.shape) e2 e1 in
       let sta = e5 ∙ ap (λ (a : First). zeros_put stamps pool.stamps a.stamp new.stamps) e1 in
       λ j. (one_tracked pool (e2 j) new.stamps, (tex j, (newe j, sta j)))
-
-  -- the starts behind it can be moved
-  pub moves_as : StartFits pool textures newest stamps new → (first : First) (fresh : ℕ) → first ≡ first_at pool textures new.place
-      → fresh ≡ fresh_grids new.shape new.records
-      → StartsMove (more_by fresh) (more_by new.stamps) (new.place + 1) (pool.tracked + 1) (record_started textures pool.tracked new (pool.trackings + 1) first)
-  moves_as k first fresh e1 e2 =
-      subst (λ (n : ℕ). StartsMove (more_by n) (more_by new.stamps) (new.place + 1) (pool.tracked + 1) (record_started textures pool.tracked new (pool.trackings + 1) first)) (sym e2)
-      (subst (λ (a : First). StartsMove (more_by (fresh_grids new.shape new.records)) (more_by new.stamps) (new.place + 1) (pool.tracked + 1) (record_started textures pool.tracked new (pool.trackings + 1) a)) (sym e1)
-      k.moves)
 
 -- ---- the rule
 

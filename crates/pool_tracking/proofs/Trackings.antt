@@ -1,5 +1,5 @@
 -- A tracking just begun: its record, the numbers of its grids, and its stamps, which are all 0. Assumes nothing.
-use mathlib.Core.Path.{◌≡◌, refl, sym, ap, ◌∙◌}
+use mathlib.Core.Path.{◌≡◌, refl, ap, ◌∙◌}
 use mathlib.Core.Bool.{Bool, true, false}
 use mathlib.Core.List.{List, flat_map}
 use Prim.Native.Nat.{ℕ, ◌+◌, ◌*◌, ◌-◌, ◌/◌, ◌≤◌}
@@ -17,9 +17,6 @@ use Rattle.pool_rules.specs.Histories.{new_history}
 use Rattle.pool_rules.specs.TakeSpare.{new_state}
 use Rattle.pool_rules.specs.RuleConstants.{grid_stride, most_grids}
 use Rattle.pool_rules.proofs.HistorySizes.{grids_most, history_most}
-use Rattle.pool_records.specs.declared.recorded.Recorded.{Recorded}
-use Rattle.pool_records.specs.declared.texture.TextureRecord.{TextureRecord}
-use Rattle.pool_records.specs.Recorded.{RecordedFits}
 use Rattle.pool_records.specs.Tilings.{fresh_from}
 use Rattle.pool_memory.specs.Writing.{texture_record, newest_from, newest_of, stamps_of}
 use Rattle.pool_memory.proofs.Rewritten.{length_zeros}
@@ -34,35 +31,6 @@ module _ (new : NewTracking) (epoch : ℕ) where
 
   abbrev stamps : ℕ
   stamps = fresh_stamps new.shape new.records
-
-  pub record_made : (grid stamp : ℕ) (h : Recorded) (bytes : ℕ) → h ≡ fresh_history new.records → bytes ≡ bytes_of new.shape
-      → record {
-        id = new.id;
-        shape = new.shape;
-        epoch = epoch;
-        history = h;
-        birth = 0;
-        rename = new.seq;
-        due = new.seq;
-        spares = 0;
-        bytes = bytes;
-        grid = grid;
-        stamp = stamp;
-      }
-      ≡ new_record new epoch grid stamp
-  record_made grid stamp h bytes e q = λ j. record {
-    id = new.id;
-    shape = new.shape;
-    epoch = epoch;
-    history = e j;
-    birth = 0;
-    rename = new.seq;
-    due = new.seq;
-    spares = 0;
-    bytes = q j;
-    grid = grid;
-    stamp = stamp;
-  }
 
   abbrev pub begun : VersionState ℕ
   begun = new_state new.id new.shape new.records epoch new.seq
@@ -89,13 +57,6 @@ module _ (new : NewTracking) (epoch : ℕ) where
       }
       go true = refl
       go false = refl
-
-  pub begun_fits : (grid stamp : ℕ) (x : TextureRecord) → x ≡ new_record new epoch grid stamp → RecordedFits x.history
-  begun_fits grid stamp x e = rw (sym (ap (λ (r : TextureRecord). r.history) e)) at (go new.records)
-    where
-      go : (b : Bool) → RecordedFits (fresh_history b)
-      go true = omega arith
-      go false = omega arith
 
   -- ---- what its history has
 

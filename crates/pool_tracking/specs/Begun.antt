@@ -1,18 +1,17 @@
 -- Helper: A tracking just begun, as the lent slices have it.
-use Rattle.std.specs.Prelude.{ℕ, ◌*◌, Bool, cond}
+use Rattle.std.specs.Prelude.{ℕ, ◌*◌, Bool, cond, Some, None}
 use Rattle.grid_shapes.specs.declared.shape.VersionShape.{VersionShape}
 use Rattle.grid_shapes.specs.Shapes.{bytes_of}
 use Rattle.pool_rules.specs.Model.{grid_count}
 use Rattle.pool_rules.specs.HistorySizes.{history_size}
 use Rattle.pool_rules.specs.RuleConstants.{grid_stride}
-use Rattle.pool_records.specs.declared.recorded.Recorded.{Recorded}
-use Rattle.pool_records.specs.declared.recorded.Recorded.TheVariants.{Writes, NoHistory}
+use Rattle.pool_records.specs.Recorded.{Recorded}
 use Rattle.pool_records.specs.declared.texture.TextureRecord.{TextureRecord}
 use Rattle.pool_tracking.specs.declared.begun.NewTracking.{NewTracking}
 
 -- a history with no writes, or none
 abbrev pub fresh_history : Bool → Recorded
-fresh_history records = cond records (Writes 0) NoHistory
+fresh_history records = cond records (Some 0) None
 
 -- the numbers of `newest` that the history takes, and its stamps
 abbrev pub fresh_grids : VersionShape → Bool → ℕ

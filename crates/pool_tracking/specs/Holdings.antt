@@ -34,23 +34,7 @@ pub record HoldingReads (pool : Pool) (textures : List ℕ) (i : ℕ) : Type 0 w
 
 -- k spares of those bytes are queued for destruction
 abbrev pub given_up : Pool → ℕ → ℕ → Pool
-given_up c k bytes = record {
-  tracked = c.tracked;
-  kept = c.kept - k;
-  grids = c.grids;
-  stamps = c.stamps;
-  head = c.head;
-  popped = c.popped;
-  queued = c.queued;
-  first = c.first;
-  doomed = c.doomed + k;
-  since = c.since + k;
-  trackings = c.trackings;
-  parked = c.parked - bytes * k;
-  dooming = c.dooming + bytes * k;
-  cap = c.cap;
-  line = c.line;
-}
+given_up c k bytes = record c { kept = c.kept - k; doomed = c.doomed + k; since = c.since + k; parked = c.parked - bytes * k; dooming = c.dooming + bytes * k }
 
 -- how far the grids and the stamps behind it move
 abbrev pub grid_shift : Holding → ℕ → Shift

@@ -41,23 +41,7 @@ fresh_put s used at n shape = sets (moved s (at + n) (at + 0) (used - at)) at (f
 
 -- the counts with a texture more, and its grids and stamps
 abbrev pub one_tracked : Pool → (grids stamps : ℕ) → Pool
-one_tracked c grids stamps = record {
-  tracked = c.tracked + 1;
-  kept = c.kept;
-  grids = c.grids + grids;
-  stamps = c.stamps + stamps;
-  head = c.head;
-  popped = c.popped;
-  queued = c.queued;
-  first = c.first;
-  doomed = c.doomed;
-  since = c.since;
-  trackings = c.trackings + 1;
-  parked = c.parked;
-  dooming = c.dooming;
-  cap = c.cap;
-  line = c.line;
-}
+one_tracked c grids stamps = record c { tracked = c.tracked + 1; grids = c.grids + grids; stamps = c.stamps + stamps; trackings = c.trackings + 1 }
 
 module _ (pool : Pool) (textures newest stamps : List ℕ) (new : NewTracking) where
   abbrev first : First

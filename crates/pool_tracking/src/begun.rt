@@ -7,7 +7,7 @@ ghost use Rattle.pool_tracking.specs.Begun.{fresh_history, fresh_grids, new_reco
 
 use grid_shapes::{VersionShape, shape_bytes};
 use pool_access::shape_grids;
-use pool_records::{Recorded, TextureRecord};
+use pool_records::TextureRecord;
 use pool_rules::GRID_STRIDE;
 
 // A tracking that begins: the texture's place among the tracked ones, its id and its shape, whether its writes are recorded, the
@@ -24,14 +24,10 @@ pub struct NewTracking {
 
 // Returns an empty write history, or none where writes are not recorded. It starts empty, since every version from here on holds
 // whatever was written before: only later writes are stamped.
-fn fresh_history(records: bool) -> Recorded
+fn fresh_history(records: bool) -> Option<u64>
     ensures { result ≡ fresh_history records }
 {
-    if records {
-        Recorded::Writes(0)
-    } else {
-        Recorded::NoHistory
-    }
+    records.then_some(0)
 }
 
 // Returns how many numbers of `newest` that history takes.

@@ -56,13 +56,14 @@ fn give_up(
     );
     remove_records(spares, SPARE_STRIDE, pool.kept, from, k);
     let all = bytes * k as u64;
-    let mut after = pool;
-    after.kept = pool.kept - k;
-    after.doomed = pool.doomed + k;
-    after.since = pool.since + k as u64;
-    after.parked = pool.parked - all;
-    after.dooming = pool.dooming + all;
-    after
+    Pool {
+        kept: pool.kept - k,
+        doomed: pool.doomed + k,
+        since: pool.since + k as u64,
+        parked: pool.parked - all,
+        dooming: pool.dooming + all,
+        ..pool
+    }
 }
 
 // Writes the texture's record over, of n. Its grids and its stamps begin where they began; those of the textures behind it move by
@@ -118,7 +119,7 @@ pub fn renew_tracking(
     let epoch = pool.trackings + 1;
     let shape = new.shape;
     let fresh = fresh_grids(shape, new.records);
-    let mut after = give_up(
+    let left = give_up(
         pool, doomed, spares, places, old.first, old.spares, old.bytes,
     );
     renew_record(textures, pool.tracked, new, epoch, fresh, old);
@@ -139,8 +140,10 @@ pub fn renew_tracking(
         new.stamps,
         pool.stamps - stamps_end,
     );
-    after.grids = pool.grids - old.grids + fresh;
-    after.stamps = pool.stamps - old.stamps + new.stamps;
-    after.trackings = epoch;
-    after
+    Pool {
+        grids: pool.grids - old.grids + fresh,
+        stamps: pool.stamps - old.stamps + new.stamps,
+        trackings: epoch,
+        ..left
+    }
 }

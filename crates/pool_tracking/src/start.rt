@@ -95,10 +95,11 @@ pub fn start_tracking(
         new.stamps,
         pool.stamps - first.stamp,
     );
-    let mut after = pool;
-    after.tracked = pool.tracked + 1;
-    after.grids = pool.grids + fresh;
-    after.stamps = pool.stamps + new.stamps;
-    after.trackings = epoch;
-    after
+    Pool {
+        tracked: pool.tracked + 1,
+        grids: pool.grids + fresh,
+        stamps: pool.stamps + new.stamps,
+        trackings: epoch,
+        ..pool
+    }
 }

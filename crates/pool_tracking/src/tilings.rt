@@ -23,14 +23,12 @@ fn put_tilings(newest: &mut [u64], at: usize, n: usize, shape: VersionShape)
         return;
     }
     let slice = slice_tilings(shape);
-    let mut k = 0;
-    while k < n {
+    for k in 0..n {
         let level = k as u64 % shape.levels;
         let before = k as u64 / shape.levels * slice.stamps;
         let p = at + GRID_STRIDE * k;
         newest[p] = 0;
         newest[p + 1] = before + slice.levels[level as usize];
-        k += 1;
     }
 }
 

@@ -17,7 +17,7 @@ use pool_rules::{SPARE_MAX_IDLE_SUBMITS, STATE_MAX_IDLE_SUBMITS};
 
 // Of its `own` spares the oldest `aged` are given up, `bytes` each. Its grids begin at `grid` in `newest` and their stamps at `stamp`. It
 // stays tracked (`staying` is 1) with `grids` numbers of `newest`, `stamps` stamps and the number `due`, or it is dropped (`staying`,
-// `grids` and `stamps` are 0).
+// `grids` and `stamps` are 0). `staying` is a number, since the pass adds it to its count.
 #[derive(Clone, Copy)]
 pub struct Look {
     pub own: usize,
@@ -31,30 +31,18 @@ pub struct Look {
     pub bytes: u64,
 }
 
-// Returns the submission k before this one, or 0. An age is tested against it, so that no sum can pass a word.
-pub fn before(current: u64, k: u64) -> u64
-    ensures { result ≡ current - k }
-{
-    if current < k {
-        return 0;
-    }
-    current - k
-}
-
 // Counts, of the n spares from place `first` on, those idle past the bound, from the oldest on up to the first that is not.
 pub fn aged_count(spares: &[u64], first: usize, n: usize, current: u64) -> usize
     requires { spare_stride * (first + n) ≤ length spares.now }
     ensures { (result ≤ n) × (result ≡ aged_count current (listed (spare_in spares.now) first n)) }
 {
-    let bound = before(current, SPARE_MAX_IDLE_SUBMITS);
-    let mut k = 0;
-    while k < n {
+    let bound = current.saturating_sub(SPARE_MAX_IDLE_SUBMITS);
+    for k in 0..n {
         if spares[SPARE_STRIDE * (first + k) + SPARE_PARKED_AT] >= bound {
             return k;
         }
-        k += 1;
     }
-    k
+    n
 }
 
 // Tells whether texture i, with `left` spares, is dropped. Its state is far smaller than a spare, so that it is kept longer.
@@ -62,7 +50,7 @@ fn is_idle(textures: &[u64], i: usize, left: usize, current: u64) -> bool
     requires { texture_stride * i + texture_stride ≤ length textures.now }
     ensures { result ≡ is_idle current (texture_in textures.now i) left }
 {
-    let oldest = before(current, STATE_MAX_IDLE_SUBMITS);
+    let oldest = current.saturating_sub(STATE_MAX_IDLE_SUBMITS);
     (textures[TEXTURE_STRIDE * i + TEXTURE_DUE_AT] < oldest)
         & ((textures[TEXTURE_STRIDE * i + TEXTURE_RENAME_AT] < oldest) & (left == 0))
 }
@@ -72,7 +60,7 @@ fn due_after(textures: &[u64], i: usize, current: u64) -> u64
     requires { texture_stride * i + texture_stride ≤ length textures.now }
     ensures { result ≡ due_after current (texture_in textures.now i) }
 {
-    let bound = before(current, STATE_MAX_IDLE_SUBMITS);
+    let bound = current.saturating_sub(STATE_MAX_IDLE_SUBMITS);
     let rename = textures[TEXTURE_STRIDE * i + TEXTURE_RENAME_AT];
     let due = textures[TEXTURE_STRIDE * i + TEXTURE_DUE_AT];
     if due >= bound {
@@ -107,20 +95,7 @@ pub fn look_at(
     let stamps = stamp_end(textures, pool.tracked, pool.stamps, i) - stamp;
     let bytes = textures[TEXTURE_STRIDE * i + TEXTURE_BYTES_AT];
     let due = due_after(textures, i, current);
-    if is_idle(textures, i, own - aged, current) {
-        return Look {
-            own,
-            aged,
-            staying: 0,
-            grid,
-            grids: 0,
-            stamp,
-            stamps: 0,
-            due,
-            bytes,
-        };
-    }
-    Look {
+    let look = Look {
         own,
         aged,
         staying: 1,
@@ -130,5 +105,14 @@ pub fn look_at(
         stamps,
         due,
         bytes,
+    };
+    if is_idle(textures, i, own - aged, current) {
+        return Look {
+            staying: 0,
+            grids: 0,
+            stamps: 0,
+            ..look
+        };
     }
+    look
 }

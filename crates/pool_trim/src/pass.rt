@@ -1,6 +1,6 @@
 // Where a trim's pass over the textures stands, and the pool's counts after it.
 ghost use Rattle.std.specs.Prelude.{◌≡◌, ◌+◌, ◌-◌, ◌*◌, ◌≤◌, ◌<◌, ◌^◌};
-ghost use Rattle.pool_trim.specs.Pass.{no_pass, pass_on, counts_trimmed};
+ghost use Rattle.pool_trim.specs.Pass.{pass_on, counts_trimmed};
 ghost use Rattle.grid_stamps.specs.StampConstants.{page_stamps};
 ghost use Rattle.pool_rules.specs.RuleConstants.{grid_stride, most_places};
 
@@ -8,8 +8,8 @@ use crate::look_at::Look;
 use pool_memory::Pool;
 
 // The next texture's spares begin at place `first`. Of the textures before it `tracked` stay, with `kept` spares, `grids` numbers of
-// `newest` and `stamps` stamps, and `count` spares were given up, of `freed` bytes.
-#[derive(Clone, Copy)]
+// `newest` and `stamps` stamps, and `count` spares were given up, of `freed` bytes. All are 0 before the first texture.
+#[derive(Clone, Copy, Default)]
 pub struct Pass {
     pub first: usize,
     pub tracked: usize,
@@ -18,21 +18,6 @@ pub struct Pass {
     pub stamps: usize,
     pub count: usize,
     pub freed: u64,
-}
-
-// Returns where the pass stands before the first texture.
-pub fn no_pass() -> Pass
-    ensures { result ≡ no_pass }
-{
-    Pass {
-        first: 0,
-        tracked: 0,
-        kept: 0,
-        grids: 0,
-        stamps: 0,
-        count: 0,
-        freed: 0,
-    }
 }
 
 // Returns where the pass stands after one texture more.
@@ -68,16 +53,10 @@ pub fn counts_after(pool: Pool, pass: Pass) -> Pool
         kept: pass.kept,
         grids: pass.grids,
         stamps: pass.stamps,
-        head: pool.head,
-        popped: pool.popped,
-        queued: pool.queued,
-        first: pool.first,
         doomed: pool.doomed + pass.count,
         since: pool.since + given,
-        trackings: pool.trackings,
         parked: pool.parked - pass.freed,
         dooming: pool.dooming + pass.freed,
-        cap: pool.cap,
-        line: pool.line,
+        ..pool
     }
 }

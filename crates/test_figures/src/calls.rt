@@ -1,6 +1,6 @@
 // Figures of calls, each made of a pool of one texture place, one version place and one page, just opened.
 use crate::limits::shape;
-use crate::print::{figure, figure_of};
+use crate::print::figure;
 use grid_stamps::PAGE_STAMPS;
 use pool_memory::COPY_STRIDE;
 use pool_open::{opened_book, opened_pool};
@@ -72,18 +72,17 @@ fn trimmed(seq: u64, current: u64) -> AfterTrim {
 // Prints the outcome of a take and of a trim in that submission.
 fn print_submission(seq: u64) {
     let taking = trimmed(seq, 0);
-    figure_of(b"take_in_submission", seq, taking.taken);
+    figure(b"take_in_submission", &[seq, taking.taken]);
     let trimming = trimmed(0, seq);
-    figure_of(b"trim_in_submission", seq, trimming.trimmed);
+    figure(b"trim_in_submission", &[seq, trimming.trimmed]);
 }
 
 // Prints how many of one texture, whose tracking began in submission 10, are tracked after a trim.
 fn print_tracked(current: u64) {
     let left = trimmed(10, current);
-    figure_of(
+    figure(
         b"tracked_from_10_after_trim_in",
-        current,
-        left.tracked as u64,
+        &[current, left.tracked as u64],
     );
 }
 
@@ -108,8 +107,8 @@ fn print_settled(settled: u64) {
     );
     let popped = answer.popped;
     match popped {
-        Popped::Refused(n) => figure_of(b"pop_settled", settled, n),
-        _ => figure_of(b"pop_settled", settled, 0),
+        Popped::Refused(n) => figure(b"pop_settled", &[settled, n]),
+        _ => figure(b"pop_settled", &[settled, 0]),
     }
 }
 
@@ -143,8 +142,8 @@ fn plan(answers: &mut [u64]) -> PlanAnswer {
 // Prints how many copies that plan has, or the number of its refusal.
 fn print_plan(answer: PlanAnswer) {
     match answer {
-        PlanAnswer::Copies(n) => figure(b"copies_of_the_longest_plan", n as u64),
-        PlanAnswer::Refused(n) => figure(b"longest_plan_refused", n),
+        PlanAnswer::Copies(n) => figure(b"copies_of_the_longest_plan", &[n as u64]),
+        PlanAnswer::Refused(n) => figure(b"longest_plan_refused", &[n]),
     }
 }
 

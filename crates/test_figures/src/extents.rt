@@ -2,8 +2,7 @@
 ghost use Rattle.std.specs.Prelude.{◌≡◌, true, ◌≤◌, ◌<◌};
 ghost use Rattle.grid_axes.specs.EdgeTables.{has_table};
 
-use crate::print::{figure, figure_of, figure_of_two};
-use base_blocks::{larger, smaller};
+use crate::print::figure;
 use grid_axes::{TILE_EDGES_1, TILE_EDGES_4};
 
 // What was seen of the edges so far: the least and the largest, by how much one exceeds the larger of 16 and a 32nd of the extent
@@ -19,20 +18,15 @@ struct Seen {
 
 // Prints the extent of a level.
 fn print_extent(base: u64, level: u64) {
-    figure_of_two(
+    figure(
         b"level_extent",
-        base,
-        level,
-        grid_shapes::level_extent(base, level),
+        &[base, level, grid_shapes::level_extent(base, level)],
     );
 }
 
 // Returns by how much an edge exceeds the least one. An edge that is too short shows as a number that is too large.
 fn excess(edge: u64, least: u64) -> u64 {
-    if edge < least {
-        return u64::MAX;
-    }
-    edge - least
+    edge.checked_sub(least).unwrap_or(u64::MAX)
 }
 
 // Counts the tiles along an axis.
@@ -47,13 +41,13 @@ fn look(seen: Seen, extent: u64, block: u64) -> Seen
     requires { (extent ≤ 16384) × (has_table block ≡ true) × (0 < block) }
 {
     let edge = grid_axes::tile_edge(extent, block);
-    let least = larger(16, (extent + 31) / 32);
+    let least = 16.max((extent + 31) / 32);
     Seen {
-        least: smaller(seen.least, edge),
-        largest: larger(seen.largest, edge),
-        over: larger(seen.over, excess(edge, least)),
-        left: larger(seen.left, edge % block),
-        tiles: larger(seen.tiles, tile_count(extent, block)),
+        least: seen.least.min(edge),
+        largest: seen.largest.max(edge),
+        over: seen.over.max(excess(edge, least)),
+        left: seen.left.max(edge % block),
+        tiles: seen.tiles.max(tile_count(extent, block)),
     }
 }
 
@@ -68,10 +62,8 @@ fn look_at_all(block: u64) -> Seen
         left: 0,
         tiles: 0,
     };
-    let mut extent = 1;
-    while extent <= 16384 {
+    for extent in 1..=16384 {
         seen = look(seen, extent, block);
-        extent += 1;
     }
     seen
 }
@@ -81,11 +73,11 @@ fn print_tiles(block: u64)
     requires { (has_table block ≡ true) × (0 < block) }
 {
     let seen = look_at_all(block);
-    figure_of(b"least_tile_edge", block, seen.least);
-    figure_of(b"largest_tile_edge", block, seen.largest);
-    figure_of(b"most_tile_edge_over", block, seen.over);
-    figure_of(b"most_tile_edge_left", block, seen.left);
-    figure_of(b"most_tiles", block, seen.tiles);
+    figure(b"least_tile_edge", &[block, seen.least]);
+    figure(b"largest_tile_edge", &[block, seen.largest]);
+    figure(b"most_tile_edge_over", &[block, seen.over]);
+    figure(b"most_tile_edge_left", &[block, seen.left]);
+    figure(b"most_tiles", &[block, seen.tiles]);
 }
 
 // Returns how many stamps a square level has.
@@ -100,8 +92,8 @@ fn stamps(extent: u64, block: u64) -> u64
 fn print_entries() {
     let one = TILE_EDGES_1;
     let four = TILE_EDGES_4;
-    figure_of(b"tile_edge_entries", 1, one.len() as u64);
-    figure_of(b"tile_edge_entries", 4, four.len() as u64);
+    figure(b"tile_edge_entries", &[1, one.len() as u64]);
+    figure(b"tile_edge_entries", &[4, four.len() as u64]);
 }
 
 // Prints extents of levels and what was seen of their tiles.
@@ -119,5 +111,5 @@ pub fn print_extents() {
     print_tiles(1);
     print_tiles(4);
     print_entries();
-    figure(b"most_stamps", stamps(16384, 1));
+    figure(b"most_stamps", &[stamps(16384, 1)]);
 }

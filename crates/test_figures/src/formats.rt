@@ -1,24 +1,21 @@
 // Formats, kinds and usage bits.
 use crate::limits::shape;
-use crate::print::{figure_of, yes_or_no};
+use crate::print::{figure, yes_or_no};
 use grid_shapes::{RecordsAnswer, VersionShape};
 
 // Prints every format's block.
 fn print_blocks() {
-    let mut format = 0;
-    while format < 9 {
-        figure_of(b"block_edge", format, grid_shapes::block_edge(format));
-        figure_of(b"block_bytes", format, grid_shapes::block_bytes(format));
-        format += 1;
+    for format in 0..9 {
+        figure(b"block_edge", &[format, grid_shapes::block_edge(format)]);
+        figure(b"block_bytes", &[format, grid_shapes::block_bytes(format)]);
     }
 }
 
 // Prints how many slices a kind has.
 fn print_slices(kind: u64) {
-    figure_of(
+    figure(
         b"slices",
-        kind,
-        grid_shapes::slices(shape(2, 64, 64, 1, 1, kind)),
+        &[kind, grid_shapes::slices(shape(2, 64, 64, 1, 1, kind))],
     );
 }
 
@@ -32,28 +29,25 @@ fn records(s: VersionShape, usage: u64) -> u64 {
 
 // Prints it for usage bits.
 fn print_usage(usage: u64) {
-    figure_of(
+    figure(
         b"records_with_usage",
-        usage,
-        records(shape(2, 64, 64, 1, 1, 0), usage),
+        &[usage, records(shape(2, 64, 64, 1, 1, 0), usage)],
     );
 }
 
 // Prints it for a format.
 fn print_format(format: u64) {
-    figure_of(
+    figure(
         b"records_with_format",
-        format,
-        records(shape(format, 64, 64, 1, 1, 0), 0),
+        &[format, records(shape(format, 64, 64, 1, 1, 0), 0)],
     );
 }
 
 // Prints it for a kind.
 fn print_kind(kind: u64) {
-    figure_of(
+    figure(
         b"records_with_kind",
-        kind,
-        records(shape(2, 64, 64, 1, 1, kind), 0),
+        &[kind, records(shape(2, 64, 64, 1, 1, kind), 0)],
     );
 }
 

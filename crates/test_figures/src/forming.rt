@@ -1,5 +1,5 @@
 // The limits of the numbers that a pool may hold, on both sides.
-use crate::print::{figure_of, outcome_1};
+use crate::print::{figure, outcome_1};
 use grid_shapes::MOST_SHAPE_BYTES;
 use grid_stamps::PAGE_STAMPS;
 use pool_formed::is_pool;
@@ -56,50 +56,45 @@ fn outcome(pool: Pool, book: PacingBook) -> u64 {
 // Prints it for a count of trackings.
 fn print_trackings(trackings: u64) {
     let pool = pool_with(0, 0, trackings);
-    figure_of(
+    figure(
         b"formed_with_trackings",
-        trackings,
-        outcome(pool, book_with(0, 0)),
+        &[trackings, outcome(pool, book_with(0, 0))],
     );
 }
 
 // Prints it for a version's bytes.
 fn print_bytes(bytes: u64) {
     let pool = pool_with(bytes, 0, 0);
-    figure_of(
+    figure(
         b"formed_with_version_bytes",
-        bytes,
-        outcome(pool, book_with(0, 0)),
+        &[bytes, outcome(pool, book_with(0, 0))],
     );
 }
 
 // Prints it for a slot of the book.
 fn print_slot(slot: usize) {
     let pool = pool_with(0, 0, 0);
-    figure_of(
+    figure(
         b"formed_with_slot",
-        slot as u64,
-        outcome(pool, book_with(0, slot)),
+        &[slot as u64, outcome(pool, book_with(0, slot))],
     );
 }
 
 // Prints it for arrivals in the book.
 fn print_arrivals(arrivals: u64) {
     let pool = pool_with(0, 0, 0);
-    figure_of(
+    figure(
         b"formed_with_arrivals",
-        arrivals,
-        outcome(pool, book_with(arrivals, 0)),
+        &[arrivals, outcome(pool, book_with(arrivals, 0))],
     );
 }
 
 // Prints it for arrivals since the last take.
 fn print_since(since: u64) {
     let pool = pool_with(0, since, 0);
-    figure_of(
+    figure(
         b"formed_with_1_queued_and_since",
-        since,
-        outcome(pool, book_with(0, 0)),
+        &[since, outcome(pool, book_with(0, 0))],
     );
 }
 

@@ -1,7 +1,7 @@
 // Figures of histories (02, W-201), on one page of 1,024 stamps.
 use crate::calls::outcome_of;
 use crate::limits::shape;
-use crate::print::figure_of;
+use crate::print::figure;
 use grid_shapes::VersionShape;
 use grid_stamps::PAGE_STAMPS;
 use pool_memory::Pool;
@@ -65,7 +65,7 @@ fn print_last(needed: u64, last: VersionShape) {
     );
     let pool = first.pool;
     let begun = begin(pool, &mut textures, &mut newest, &mut stamps, 8, last);
-    figure_of(b"take_with_32_stamps_free", needed, begun.outcome);
+    figure(b"take_with_32_stamps_free", &[needed, begun.outcome]);
 }
 
 // Prints the outcome of a take with another shape, whose history needs so many stamps, where the texture's own history has all of them.
@@ -83,7 +83,7 @@ fn print_renewal(needed: u64, next: VersionShape) {
     );
     let pool = first.pool;
     let renewed = begin(pool, &mut textures, &mut newest, &mut stamps, 7, next);
-    figure_of(b"renewal_on_a_full_page", needed, renewed.outcome);
+    figure(b"renewal_on_a_full_page", &[needed, renewed.outcome]);
 }
 
 // Prints the figures of histories, on both sides of each limit.

@@ -1,5 +1,5 @@
 // The limits of outcome 2, on both sides, and the bytes that they leave.
-use crate::print::{figure, figure_of, yes_or_no};
+use crate::print::{figure, yes_or_no};
 use grid_shapes::{BytesAnswer, MOST_SHAPE_BYTES, VersionShape};
 
 // Returns the shape of the six fields of an event line, the rest 0.
@@ -37,55 +37,49 @@ fn outcome(s: VersionShape) -> u64 {
 
 // Prints it for a width.
 fn print_width(width: u64) {
-    figure_of(
+    figure(
         b"outcome_of_width",
-        width,
-        outcome(shape(2, width, 1, 1, 1, 0)),
+        &[width, outcome(shape(2, width, 1, 1, 1, 0))],
     );
 }
 
 // Prints it for a height.
 fn print_height(height: u64) {
-    figure_of(
+    figure(
         b"outcome_of_height",
-        height,
-        outcome(shape(2, 1, height, 1, 1, 0)),
+        &[height, outcome(shape(2, 1, height, 1, 1, 0))],
     );
 }
 
 // Prints it for a depth.
 fn print_depth(depth: u64) {
-    figure_of(
+    figure(
         b"outcome_of_depth",
-        depth,
-        outcome(shape(2, 1, 1, depth, 1, 2)),
+        &[depth, outcome(shape(2, 1, 1, depth, 1, 2))],
     );
 }
 
 // Prints it for a number of levels.
 fn print_levels(levels: u64) {
-    figure_of(
+    figure(
         b"outcome_of_levels",
-        levels,
-        outcome(shape(2, 1, 1, 1, levels, 0)),
+        &[levels, outcome(shape(2, 1, 1, 1, levels, 0))],
     );
 }
 
 // Prints it for a kind.
 fn print_kind(kind: u64) {
-    figure_of(
+    figure(
         b"outcome_of_kind",
-        kind,
-        outcome(shape(2, 1, 1, 1, 1, kind)),
+        &[kind, outcome(shape(2, 1, 1, 1, 1, kind))],
     );
 }
 
 // Prints it for a format.
 fn print_format(format: u64) {
-    figure_of(
+    figure(
         b"outcome_of_format",
-        format,
-        outcome(shape(format, 1, 1, 1, 1, 0)),
+        &[format, outcome(shape(format, 1, 1, 1, 1, 0))],
     );
 }
 
@@ -99,12 +93,12 @@ fn largest_of(format: u64, kind: u64) -> u64 {
 
 // Prints the most bytes of a version, and whether that passes 2^44. A cube has more slices than a volume, and fewer bytes.
 fn print_largest() {
-    figure(b"largest_cube", largest_of(4, 1));
+    figure(b"largest_cube", &[largest_of(4, 1)]);
     let largest = largest_of(4, 2);
-    figure(b"largest_volume", largest);
+    figure(b"largest_volume", &[largest]);
     figure(
         b"largest_volume_passes_2_44",
-        yes_or_no(MOST_SHAPE_BYTES < largest),
+        &[yes_or_no(MOST_SHAPE_BYTES < largest)],
     );
 }
 

@@ -2,7 +2,7 @@
 // made on lengths here: 4,096 pages have 2^22 stamps, more than a program's stack holds.
 ghost use Rattle.std.specs.Prelude.{◌≤◌};
 
-use crate::print::{figure_of, figure_of_three, outcome_1};
+use crate::print::{figure, outcome_1};
 use grid_stamps::PAGE_STAMPS;
 use pool_open::lengths_fit;
 use pool_records::{DOOMED_STRIDE, RETIRING_STRIDE, SPARE_STRIDE, TEXTURE_STRIDE};
@@ -27,10 +27,9 @@ fn opening(textures: usize, versions: usize, newest: usize, stamps: usize) -> u6
 fn print_textures(textures: usize)
     requires { textures ≤ 4097 }
 {
-    figure_of(
+    figure(
         b"open_textures",
-        textures as u64,
-        opening(textures, 1, 0, 0),
+        &[textures as u64, opening(textures, 1, 0, 0)],
     );
 }
 
@@ -38,10 +37,9 @@ fn print_textures(textures: usize)
 fn print_versions(versions: usize)
     requires { versions ≤ 4097 }
 {
-    figure_of(
+    figure(
         b"open_versions",
-        versions as u64,
-        opening(1, versions, 0, 0),
+        &[versions as u64, opening(1, versions, 0, 0)],
     );
 }
 
@@ -50,19 +48,23 @@ fn print_pages(pages: usize)
     requires { pages ≤ 4097 }
 {
     let stamps = PAGE_STAMPS * pages;
-    figure_of(
+    figure(
         b"open_pages",
-        pages as u64,
-        opening(1, 1, newest_length(1, stamps), stamps),
+        &[
+            pages as u64,
+            opening(1, 1, newest_length(1, stamps), stamps),
+        ],
     );
 }
 
 // Prints it for one page of `stamps` stamps.
 fn print_page(stamps: usize) {
-    figure_of(
+    figure(
         b"open_page_of_stamps",
-        stamps as u64,
-        opening(1, 1, newest_length(1, stamps), stamps),
+        &[
+            stamps as u64,
+            opening(1, 1, newest_length(1, stamps), stamps),
+        ],
     );
 }
 
@@ -70,12 +72,14 @@ fn print_page(stamps: usize) {
 fn print_newest(textures: usize, pages: usize, newest: usize)
     requires { (textures ≤ 4096) × (pages ≤ 4096) }
 {
-    figure_of_three(
+    figure(
         b"open_newest",
-        textures as u64,
-        pages as u64,
-        newest as u64,
-        opening(textures, 1, newest, PAGE_STAMPS * pages),
+        &[
+            textures as u64,
+            pages as u64,
+            newest as u64,
+            opening(textures, 1, newest, PAGE_STAMPS * pages),
+        ],
     );
 }
 

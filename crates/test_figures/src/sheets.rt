@@ -1,7 +1,7 @@
 // Figures of the pool sheet (02, W-202), read off a sheet of a pool just opened.
 ghost use Rattle.std.specs.Prelude.{◌≤◌, length};
 
-use crate::print::{figure, figure_of};
+use crate::print::figure;
 use grid_stamps::PAGE_STAMPS;
 use pool_memory::Pool;
 use pool_open::{opened_book, opened_pool};
@@ -44,9 +44,8 @@ fn word_end(line: &[u8], from: usize, b: u8) -> usize
     requires { from ≤ length line.now }
     ensures { (from ≤ result) × (result ≤ length line.now) }
 {
-    let mut i = from;
     let mut inside = false;
-    while i < line.len() {
+    for i in from..line.len() {
         if line[i] == b {
             if inside {
                 return i;
@@ -54,9 +53,8 @@ fn word_end(line: &[u8], from: usize, b: u8) -> usize
         } else {
             inside = true;
         }
-        i += 1;
     }
-    i
+    line.len()
 }
 
 // Returns the place behind the blank at `end`, or the line's end.
@@ -64,20 +62,19 @@ fn after_blank(line: &[u8], end: usize) -> usize
     ensures { result ≤ length line.now }
 {
     if end < line.len() {
-        return end + 1;
+        end + 1
+    } else {
+        line.len()
     }
-    line.len()
 }
 
 // Prints the width of each column: from the blank behind the column before it to where its word in the head line ends.
 fn print_widths(line: &[u8]) {
-    let mut column = 1;
     let mut from = 0;
-    while column <= 6 {
+    for column in 1..=6 {
         let end = word_end(line, from, b' ');
-        figure_of(b"sheet_column_width", column, (end - from) as u64);
+        figure(b"sheet_column_width", &[column, (end - from) as u64]);
         from = after_blank(line, end);
-        column += 1;
     }
 }
 
@@ -86,18 +83,18 @@ pub fn print_sheets() {
     let mut buffer = [b'#'; 146];
     let answer = print_into(opened_pool(0), &mut buffer);
     if let SheetAnswer::Printed(size) = answer {
-        figure(b"sheet_bytes_of_no_texture", size as u64);
+        figure(b"sheet_bytes_of_no_texture", &[size as u64]);
     }
     let line = word_end(&buffer, 0, b'\n');
-    figure(b"sheet_line_characters", line as u64);
+    figure(b"sheet_line_characters", &[line as u64]);
     print_widths(&buffer[0..line]);
     let whole = print_into(opened_pool(0), &mut buffer);
-    figure_of(b"sheet_in_bytes", 146, outcome_of(whole));
+    figure(b"sheet_in_bytes", &[146, outcome_of(whole)]);
     let mut shorter = [b'#'; 145];
     let short = print_into(opened_pool(0), &mut shorter);
-    figure_of(b"sheet_in_bytes", 145, outcome_of(short));
+    figure(b"sheet_in_bytes", &[145, outcome_of(short)]);
     let mut none = opened_pool(0);
     none.tracked = 2;
     let refused = print_into(none, &mut shorter);
-    figure_of(b"sheet_of_no_pool_in_bytes", 145, outcome_of(refused));
+    figure(b"sheet_of_no_pool_in_bytes", &[145, outcome_of(refused)]);
 }

@@ -1,7 +1,7 @@
 // Numbers and fields of an event line.
 ghost use Rattle.std.specs.Prelude.{◌≤◌, length};
 
-use crate::print::{figure, figure_of};
+use crate::print::figure;
 use event_lines::{Event, parse_first};
 use event_text::{Number, number_of};
 
@@ -10,8 +10,8 @@ fn print_number(name: &[u8], text: &[u8])
     requires { length name.now ≤ 64 }
 {
     match number_of(text) {
-        Number::Is(n) => figure_of(name, 1, n),
-        Number::NoNumber => figure(name, 0),
+        Number::Is(n) => figure(name, &[1, n]),
+        Number::NoNumber => figure(name, &[0]),
     }
 }
 
@@ -22,8 +22,8 @@ fn print_read(name: &[u8], line: &[u8])
     let parsed = parse_first(line);
     let event = parsed.event;
     match event {
-        Event::Unread => figure(name, 0),
-        _ => figure(name, 1),
+        Event::Unread => figure(name, &[0]),
+        _ => figure(name, &[1]),
     }
 }
 

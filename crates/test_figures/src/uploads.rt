@@ -1,7 +1,7 @@
 // What an upload writes: its rectangle on the block grid, the whole level off it.
 ghost use Rattle.std.specs.Prelude.{◌≤◌, length};
 
-use crate::print::{figure, figure_rect};
+use crate::print::figure;
 use grid_rects::{Compressed, TexelRect, UploadAnswer, upload_written_rect};
 
 // Prints what an upload writes: a square of `size` texels from `start` on both ways, in a level of `extent` both ways.
@@ -15,8 +15,8 @@ fn print_upload(name: &[u8], start: u64, size: u64, extent: u64, compressed: Com
         height: size,
     };
     match upload_written_rect(rect, extent, extent, compressed) {
-        UploadAnswer::Written(written) => figure_rect(name, 0, written),
-        UploadAnswer::NoFormat => figure(name, 2),
+        UploadAnswer::Written(to) => figure(name, &[0, to.x, to.y, to.width, to.height]),
+        UploadAnswer::NoFormat => figure(name, &[2]),
     }
 }
 

@@ -1,8 +1,10 @@
 // An answer, and its text in a buffer.
 ghost use Rattle.std.specs.Prelude.{◌+◌, ◌≤◌, length};
 
-use base_digits::{put_number, put_text};
+use base_digits::put_text;
 use grid_rects::TexelRect;
+use grid_shapes::Refusal;
+use test_common::{put_digits, put_field};
 
 // What follows an answer's first number.
 #[derive(Clone, Copy)]
@@ -16,28 +18,37 @@ pub enum Rest {
     NoBox,
 }
 
-// `?`, or numbers.
+// The numbers of an answer. A question that is malformed has none.
 #[derive(Clone, Copy)]
-pub enum Answer {
-    Malformed,
-    Numbers(u64, Rest),
+pub struct Answer {
+    pub first: u64,
+    pub rest: Rest,
 }
 
-// Puts a number's digits, at most twenty, and returns where they end.
-fn put_digits(out: &mut [u8], at: usize, value: u64) -> usize
-    requires { at + 20 ≤ length out.old }
-    ensures { result ≤ at + 20 }
-{
-    put_number(out, at, value)
+// Returns the answer of one number.
+pub fn number(first: u64) -> Answer {
+    Answer {
+        first,
+        rest: Rest::End,
+    }
 }
 
-// Puts a comma and a number, and returns where they end.
-fn put_field(out: &mut [u8], at: usize, value: u64) -> usize
-    requires { at + 21 ≤ length out.old }
-    ensures { result ≤ at + 21 }
-{
-    let next = put_text(out, at, b",");
-    put_digits(out, next, value)
+// Returns the answer of an accepted question: 0, and what follows it.
+pub fn accepted(rest: Rest) -> Answer {
+    Answer { first: 0, rest }
+}
+
+// Returns the answer of a question that is refused.
+pub fn refused(refusal: Refusal) -> Answer {
+    number(refusal.number())
+}
+
+// Returns the answer of a question that is accepted or refused.
+pub fn told(said: Result<Rest, Refusal>) -> Answer {
+    match said {
+        Ok(rest) => accepted(rest),
+        Err(refusal) => refused(refusal),
+    }
 }
 
 // Puts two fields, and returns where they end.
@@ -54,10 +65,8 @@ fn put_rect(out: &mut [u8], at: usize, rect: TexelRect) -> usize
     requires { at + 84 ≤ length out.old }
     ensures { result ≤ at + 84 }
 {
-    let top = put_field(out, at, rect.x);
-    let width = put_field(out, top, rect.y);
-    let height = put_field(out, width, rect.width);
-    put_field(out, height, rect.height)
+    let size = put_pair(out, at, rect.x, rect.y);
+    put_pair(out, size, rect.width, rect.height)
 }
 
 // Puts what follows an answer's first number, and returns where it ends.
@@ -74,22 +83,22 @@ fn put_rest(out: &mut [u8], at: usize, rest: Rest) -> usize
     }
 }
 
-// Puts an answer without its line feed, and returns where it ends.
-fn put_answer(out: &mut [u8], at: usize, answer: Answer) -> usize
+// Puts an answer without its line feed, or `?` for none, and returns where it ends.
+fn put_answer(out: &mut [u8], at: usize, answer: Option<Answer>) -> usize
     requires { at + 104 ≤ length out.old }
     ensures { result ≤ at + 104 }
 {
     match answer {
-        Answer::Malformed => put_text(out, at, b"?"),
-        Answer::Numbers(n, rest) => {
-            let next = put_digits(out, at, n);
-            put_rest(out, next, rest)
+        None => put_text(out, at, b"?"),
+        Some(answer) => {
+            let next = put_digits(out, at, answer.first);
+            put_rest(out, next, answer.rest)
         }
     }
 }
 
 // Puts an answer and its line feed, at most 105 bytes, and returns where the next line starts.
-pub fn put_line(out: &mut [u8], at: usize, answer: Answer) -> usize
+pub fn put_line(out: &mut [u8], at: usize, answer: Option<Answer>) -> usize
     requires { at + 105 ≤ length out.old }
     ensures { result ≤ at + 105 }
 {

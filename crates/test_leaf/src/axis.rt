@@ -1,10 +1,10 @@
 // Questions on the tiles along an axis and on the tables of their edges. The Rust's functions take any 32-bit extent, those of `grid_axes`
 // only extents that a level can have, so longer axes are answered here, by the same rule.
-ghost use Rattle.std.specs.Prelude.{◌≡◌, true, ◌≤◌, ◌<◌, length};
+ghost use Rattle.std.specs.Prelude.{◌≡◌, true, ◌≤◌, ◌<◌, length, IfSome};
 ghost use Rattle.grid_axes.specs.Axes.{tile_edge, axis_of, tiles_of};
 ghost use Rattle.grid_axes.specs.EdgeTables.{has_table};
 
-use crate::answer::{Answer, Rest};
+use crate::answer::{Answer, number};
 use crate::fields::read_all;
 use grid_axes::{EDGE_ENTRIES, MAX_TILES_PER_AXIS, MIN_TILE_TEXELS, table_edge};
 
@@ -13,7 +13,7 @@ fn long_edge(extent: u64, block: u64) -> u64
     requires { (extent ≤ 4294967295) × (0 < block) × (block ≤ 16) }
     ensures { result ≡ tile_edge extent block }
 {
-    let least = base_blocks::larger(MIN_TILE_TEXELS, (extent + 31) / MAX_TILES_PER_AXIS);
+    let least = MIN_TILE_TEXELS.max((extent + 31) / MAX_TILES_PER_AXIS);
     (least + (block - 1)) / block * block
 }
 
@@ -41,62 +41,54 @@ fn tiles_of(extent: u64, block: u64) -> u64
     (extent + (edge - 1)) / edge
 }
 
+// The axis of a question.
+#[derive(Clone, Copy)]
+struct Asked {
+    extent: u64,
+    block: u64,
+}
+
+// Returns the axis EXTENT,BLOCK. There is none where the extent is no 32-bit number, or a table of edges lacks the block.
+fn axis_in(fields: &[u8]) -> Option<Asked>
+    requires { length fields.now ≤ 65536 }
+    ensures { IfSome result (λ a. (a.extent ≤ 4294967295) × (has_table a.block ≡ true)) }
+{
+    let [extent, block] = read_all::<2>(fields, 0)?;
+    if extent > 4294967295 {
+        return None;
+    }
+    match block {
+        1 | 4 => Some(Asked { extent, block }),
+        _ => None,
+    }
+}
+
 // Answers EXTENT,BLOCK with the side of a tile.
-pub fn edge_along(fields: &[u8]) -> Answer
+pub fn edge_along(fields: &[u8]) -> Option<Answer>
     requires { length fields.now ≤ 65536 }
 {
-    let n = read_all(fields, 0, 2);
-    let v = n.values;
-    let extent = v[0];
-    if n.count != 2 {
-        return Answer::Malformed;
-    }
-    if 4294967295 < extent {
-        return Answer::Malformed;
-    }
-    match v[1] {
-        1 => Answer::Numbers(edge_of(extent, 1), Rest::End),
-        4 => Answer::Numbers(edge_of(extent, 4), Rest::End),
-        _ => Answer::Malformed,
-    }
+    let asked = axis_in(fields)?;
+    Some(number(edge_of(asked.extent, asked.block)))
 }
 
 // Answers EXTENT,BLOCK with the number of tiles.
-pub fn tiles_along(fields: &[u8]) -> Answer
+pub fn tiles_along(fields: &[u8]) -> Option<Answer>
     requires { length fields.now ≤ 65536 }
 {
-    let n = read_all(fields, 0, 2);
-    let v = n.values;
-    let extent = v[0];
-    if n.count != 2 {
-        return Answer::Malformed;
-    }
-    if 4294967295 < extent {
-        return Answer::Malformed;
-    }
-    match v[1] {
-        1 => Answer::Numbers(tiles_of(extent, 1), Rest::End),
-        4 => Answer::Numbers(tiles_of(extent, 4), Rest::End),
-        _ => Answer::Malformed,
-    }
+    let asked = axis_in(fields)?;
+    Some(number(tiles_of(asked.extent, asked.block)))
 }
 
 // Answers BLOCK,INDEX with the entry of that block edge's table.
-pub fn table_entry(fields: &[u8]) -> Answer
+pub fn table_entry(fields: &[u8]) -> Option<Answer>
     requires { length fields.now ≤ 65536 }
 {
-    let n = read_all(fields, 0, 2);
-    let v = n.values;
-    let index = v[1];
-    if n.count != 2 {
-        return Answer::Malformed;
+    let [block, index] = read_all::<2>(fields, 0)?;
+    if index >= EDGE_ENTRIES as u64 {
+        return None;
     }
-    if EDGE_ENTRIES as u64 <= index {
-        return Answer::Malformed;
-    }
-    match v[0] {
-        1 => Answer::Numbers(table_edge(1, index as usize), Rest::End),
-        4 => Answer::Numbers(table_edge(4, index as usize), Rest::End),
-        _ => Answer::Malformed,
+    match block {
+        1 | 4 => Some(number(table_edge(block, index as usize))),
+        _ => None,
     }
 }

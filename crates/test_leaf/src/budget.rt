@@ -4,10 +4,13 @@ use event_text::{Number, number_of};
 use pool_rules::VersionBudget;
 
 // Answers WORKING_SET with the cap, the line and where parking resumes. A second field is malformed too, since a comma is no digit.
-pub fn budget_of(fields: &[u8]) -> Answer {
+pub fn budget_of(fields: &[u8]) -> Option<Answer> {
     let Number::Is(working) = number_of(fields) else {
-        return Answer::Malformed;
+        return None;
     };
     let budget = VersionBudget::from_working_set(working);
-    Answer::Numbers(budget.cap, Rest::Pair(budget.line, budget.resume_below()))
+    Some(Answer {
+        first: budget.cap,
+        rest: Rest::Pair(budget.line, budget.resume_below()),
+    })
 }

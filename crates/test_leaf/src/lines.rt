@@ -3,88 +3,66 @@
 //
 // The buffer of input holds lines of up to 65,535 bytes. A longer one is answered as a malformed one, which is the one
 // difference from the Rust's program: that takes lines of any length.
-ghost use Rattle.std.specs.Prelude.{◌+◌, ◌≤◌, ◌<◌, length};
+ghost use Rattle.std.specs.Prelude.{◌+◌, ◌≤◌, ◌<◌, length, IfSome};
 
 use crate::answer::put_line;
-use crate::fields::part_end;
 use crate::question::answer_of;
 use std::io::Read;
-
-// The descriptor of standard output.
-const STDOUT_FILENO: i32 = 1;
+use test_common::{STDOUT_FILENO, part_end};
 
 // What answering a block of input left: the line that starts at `from` is not whole yet, and `filled` bytes of answers
-// are not written yet. Nothing more can be written if it is not open.
+// are not written yet.
 #[derive(Clone, Copy)]
 struct Left {
     from: usize,
     filled: usize,
-    open: bool,
 }
 
-// Returns where the line that starts at `from` ends: at its line feed, or at the end of all.
-fn line_end(input: &[u8], from: usize) -> usize
-    requires { from ≤ length input.now }
-    ensures { (from ≤ result) × (result ≤ length input.now) }
-{
-    part_end(input, from, b'\n')
-}
-
-// Returns where the next answer goes: after those that are there, or at the front once they are written. It has no room there
+// Returns where the next answer goes: after those that are there, or at the front once they are written. There is no such place
 // if they could not be written.
-fn room(out: &[u8], filled: usize) -> usize
+fn room(out: &[u8], filled: usize) -> Option<usize>
     requires { filled ≤ length out.now }
-    ensures { result ≤ length out.now }
+    ensures { IfSome result (λ at. at + 105 ≤ length out.now) }
 {
     if 105 <= out.len() - filled {
-        return filled;
+        return Some(filled);
     }
-    if io::write_all(STDOUT_FILENO, &out[0..filled]) {
-        0
+    if io::write_all(STDOUT_FILENO, &out[0..filled]) & (105 <= out.len()) {
+        Some(0)
     } else {
-        out.len()
+        None
     }
 }
 
-// Answers every whole line of `input`.
-fn answer_lines(input: &[u8], out: &mut [u8]) -> Left
+// Answers every whole line of `input`, as long as answers can be written.
+fn answer_lines(input: &[u8], out: &mut [u8]) -> Option<Left>
     requires { length input.now ≤ 65536 }
-    ensures { (result.from ≤ length input.now) × (result.filled ≤ length out.old) }
+    ensures { IfSome result (λ left. (left.from ≤ length input.now) × (left.filled ≤ length out.old)) }
 {
     let mut from = 0;
     let mut filled = 0;
-    let mut end = line_end(input, 0);
+    let mut end = part_end(input, 0, b'\n');
+    // Lines have no fixed length, so no range says where the next one begins.
     while end < input.len() {
-        let at = room(out, filled);
-        if out.len() - at < 105 {
-            return Left {
-                from,
-                filled: 0,
-                open: false,
-            };
-        }
+        let at = room(out, filled)?;
         filled = put_line(out, at, answer_of(&input[from..end]));
         from = end + 1;
-        end = line_end(input, from);
+        end = part_end(input, from, b'\n');
     }
-    Left {
-        from,
-        filled,
-        open: true,
-    }
+    Some(Left { from, filled })
 }
 
-// Answers every whole line of `input`, and writes every answer.
-fn answer_block(input: &[u8], out: &mut [u8]) -> Left
+// Answers every whole line of `input`, and writes every answer. Returns where the line starts that is not whole yet, as long as
+// answers can be written.
+fn answer_block(input: &[u8], out: &mut [u8]) -> Option<usize>
     requires { length input.now ≤ 65536 }
-    ensures { result.from ≤ length input.now }
+    ensures { IfSome result (λ from. from ≤ length input.now) }
 {
-    let left = answer_lines(input, out);
-    let filled = left.filled;
-    Left {
-        from: left.from,
-        filled: 0,
-        open: left.open & io::write_all(STDOUT_FILENO, &out[0..filled]),
+    let left = answer_lines(input, out)?;
+    if io::write_all(STDOUT_FILENO, &out[0..left.filled]) {
+        Some(left.from)
+    } else {
+        None
     }
 }
 
@@ -92,7 +70,7 @@ fn answer_block(input: &[u8], out: &mut [u8]) -> Left
 fn answer_last(line: &[u8], out: &mut [u8])
     requires { (length line.now ≤ 65536) × (105 ≤ length out.old) }
 {
-    if line.len() == 0 {
+    if line.is_empty() {
         return;
     }
     let filled = put_line(out, 0, answer_of(line));
@@ -113,17 +91,13 @@ fn keep(buf: &mut [u8], from: usize, to: usize) -> usize
     requires { (from ≤ to) × (to ≤ length buf.old) × (1 < length buf.old) }
     ensures { result < length buf.old }
 {
-    let mut i = 0;
-    while i < to - from {
-        buf[i] = buf[from + i];
-        i += 1;
-    }
+    buf.copy_within(from..to, 0);
     // A line that leaves no room for more becomes one that begins as no question does, whatever else comes of it.
-    if i == buf.len() {
+    if to - from == buf.len() {
         buf[0] = b'?';
         return 1;
     }
-    i
+    to - from
 }
 
 // Answers all of standard input.
@@ -132,18 +106,15 @@ pub fn answer_all(input: &mut impl Read, buf: &mut [u8], out: &mut [u8])
 {
     let mut held = 0;
     // A proved loop has to end, and nothing says that the input does, so its turns are counted.
-    let mut turns = u64::MAX;
-    while 0 < turns {
+    for _ in 0..u64::MAX {
         let end = read_more(input, buf, held);
         if end == held {
             answer_last(&buf[0..held], out);
             return;
         }
-        let left = answer_block(&buf[0..end], out);
-        if !left.open {
+        let Some(from) = answer_block(&buf[0..end], out) else {
             return;
-        }
-        held = keep(buf, left.from, end);
-        turns -= 1;
+        };
+        held = keep(buf, from, end);
     }
 }

@@ -9,66 +9,36 @@ use crate::fields::field_end;
 use crate::grid::grid_since;
 use crate::rect::{on_grid, upload};
 use crate::shape::{level_extent, shape_bytes, shape_records, shape_slices};
-use event_text::is_word;
 
-// Answers questions on shapes and on single rectangles. Every other word is no question.
-fn shape_answer(word: &[u8], fields: &[u8]) -> Answer
+// Returns the answer to a word's question, if there is such a question.
+fn field_answer(word: &[u8], fields: &[u8]) -> Option<Answer>
     requires { length fields.now ≤ 65536 }
 {
-    if is_word(word, b"bytes") {
-        return shape_bytes(fields);
+    match word {
+        b"level_extent" => level_extent(fields),
+        b"tile_edge" => edge_along(fields),
+        b"tiles" => tiles_along(fields),
+        b"table" => table_entry(fields),
+        b"grid" => grid_since(fields),
+        b"budget" => budget_of(fields),
+        b"bytes" => shape_bytes(fields),
+        b"slices" => shape_slices(fields),
+        b"records" => shape_records(fields),
+        b"copy" => copy_cost(fields),
+        b"upload" => upload(fields),
+        b"ongrid" => on_grid(fields),
+        _ => None,
     }
-    if is_word(word, b"slices") {
-        return shape_slices(fields);
-    }
-    if is_word(word, b"records") {
-        return shape_records(fields);
-    }
-    if is_word(word, b"copy") {
-        return copy_cost(fields);
-    }
-    if is_word(word, b"upload") {
-        return upload(fields);
-    }
-    if is_word(word, b"ongrid") {
-        return on_grid(fields);
-    }
-    Answer::Malformed
-}
-
-// Answers questions on levels, grids and budgets, and hands on the others.
-fn field_answer(word: &[u8], fields: &[u8]) -> Answer
-    requires { length fields.now ≤ 65536 }
-{
-    if is_word(word, b"level_extent") {
-        return level_extent(fields);
-    }
-    if is_word(word, b"tile_edge") {
-        return edge_along(fields);
-    }
-    if is_word(word, b"tiles") {
-        return tiles_along(fields);
-    }
-    if is_word(word, b"table") {
-        return table_entry(fields);
-    }
-    if is_word(word, b"grid") {
-        return grid_since(fields);
-    }
-    if is_word(word, b"budget") {
-        return budget_of(fields);
-    }
-    shape_answer(word, fields)
 }
 
 // Answers a line without its line feed: a word and fields, all parted by commas.
-pub fn answer_of(line: &[u8]) -> Answer
+pub fn answer_of(line: &[u8]) -> Option<Answer>
     requires { length line.now ≤ 65536 }
 {
     let end = field_end(line, 0);
     // Every question has a field, so a word alone is malformed.
     if end == line.len() {
-        return Answer::Malformed;
+        return None;
     }
     field_answer(&line[0..end], &line[end + 1..])
 }

@@ -1,47 +1,38 @@
 // Questions on one rectangle of a level.
 ghost use Rattle.std.specs.Prelude.{◌≤◌, length};
 
-use crate::answer::{Answer, Rest};
+use crate::answer::{Answer, Rest, refused, told};
 use crate::fields::{are_u32, field_end, read_all, read_numbers, rect_of};
-use crate::shape::{REFUSED, yes_or_no};
+use crate::shape::yes_or_no;
 use event_text::{Number, is_word, number_of};
-use grid_rects::{Compressed, TexelRect, UploadAnswer};
+use grid_rects::TexelRect;
+use grid_shapes::Refusal;
 
-// An upload's first field.
-#[derive(Clone, Copy)]
-enum Source {
-    Known(Compressed),
-    Unreadable,
-}
-
-// Returns the source of an upload: a format's number, or a dash for an upload by texel.
-fn source_of(field: &[u8]) -> Source {
+// Returns the source format of an upload, which is none for a dash: an upload by texel. Another field has nothing of the kind.
+fn source_of(field: &[u8]) -> Option<Option<u64>> {
     if is_word(field, b"-") {
-        return Source::Known(Compressed::ByTexel);
+        return Some(None);
     }
     match number_of(field) {
-        Number::Is(format) => Source::Known(Compressed::Format(format)),
-        Number::NoNumber => Source::Unreadable,
+        Number::Is(format) => Some(Some(format)),
+        Number::NoNumber => None,
     }
 }
 
 // Answers FORMAT,X,Y,WIDTH,HEIGHT,EXTENT_W,EXTENT_H with the rectangle that an upload writes.
-pub fn upload(fields: &[u8]) -> Answer
+pub fn upload(fields: &[u8]) -> Option<Answer>
     requires { length fields.now ≤ 65536 }
 {
     let end = field_end(fields, 0);
-    let Source::Known(source) = source_of(&fields[0..end]) else {
-        return Answer::Malformed;
-    };
-    let n = read_all(fields, end + 1, 6);
-    let v = n.values;
-    if !((n.count == 6) & are_u32(v)) {
-        return Answer::Malformed;
+    let source = source_of(&fields[0..end])?;
+    let numbers = read_all::<6>(fields, end + 1)?;
+    if !are_u32(&numbers) {
+        return None;
     }
-    match grid_rects::upload_written_rect(rect_of(v), v[4], v[5], source) {
-        UploadAnswer::Written(rect) => Answer::Numbers(0, Rest::Box(rect)),
-        UploadAnswer::NoFormat => Answer::Numbers(REFUSED, Rest::End),
-    }
+    let [x, y, width, height, across, down] = numbers;
+    let rect = rect_of([x, y, width, height]);
+    let written = grid_rects::upload_written_rect(rect, across, down, source);
+    Some(told(written.map(Rest::Box)))
 }
 
 // Returns whether a rectangle lies on the format's block grid.
@@ -50,18 +41,19 @@ fn is_on_grid(format: u64, rect: TexelRect, width: u64, height: u64) -> bool {
 }
 
 // Answers FORMAT,X,Y,WIDTH,HEIGHT,EXTENT_W,EXTENT_H with whether the rectangle lies on the block grid.
-pub fn on_grid(fields: &[u8]) -> Answer
+pub fn on_grid(fields: &[u8]) -> Option<Answer>
     requires { length fields.now ≤ 65536 }
 {
-    let first = read_numbers(fields, 0, 1);
-    let n = read_all(fields, first.next, 6);
-    let v = n.values;
-    if !((first.count == 1) & (n.count == 6) & are_u32(v)) {
-        return Answer::Malformed;
+    let first = read_numbers::<1>(fields, 0)?;
+    let [format] = first.values;
+    let numbers = read_all::<6>(fields, first.next)?;
+    if !are_u32(&numbers) {
+        return None;
     }
-    let format = first.values[0];
     if 8 < format {
-        return Answer::Numbers(REFUSED, Rest::End);
+        return Some(refused(Refusal::BadShape));
     }
-    yes_or_no(is_on_grid(format, rect_of(v), v[4], v[5]))
+    let [x, y, width, height, across, down] = numbers;
+    let rect = rect_of([x, y, width, height]);
+    Some(yes_or_no(is_on_grid(format, rect, across, down)))
 }

@@ -2,22 +2,19 @@
 // numbers there and are read whole.
 ghost use Rattle.std.specs.Prelude.{◌≤◌, length};
 
-use crate::answer::{Answer, Rest};
+use crate::answer::{Answer, Rest, accepted, number, refused, told};
 use crate::fields::{are_u32, read_all};
-use grid_shapes::{BytesAnswer, RecordsAnswer, VersionShape};
-
-// Document 01's number for the refusal of a bad shape or format.
-pub const REFUSED: u64 = 2;
+use grid_shapes::{Refusal, VersionShape};
 
 // Returns the shape of format, width, height, depth, levels and kind; all else is 0.
-pub fn shape_of(n: [u64; 8]) -> VersionShape {
+pub fn shape_of([format, width, height, depth, levels, kind]: [u64; 6]) -> VersionShape {
     VersionShape {
-        format: n[0],
-        width: n[1],
-        height: n[2],
-        depth: n[3],
-        levels: n[4],
-        kind: n[5],
+        format,
+        width,
+        height,
+        depth,
+        levels,
+        kind,
         storage: 0,
         usage: 0,
         red: 0,
@@ -27,76 +24,64 @@ pub fn shape_of(n: [u64; 8]) -> VersionShape {
     }
 }
 
-// Returns whether width, height, depth and levels, and the usage that may follow the kind, are 32-bit numbers.
-fn are_shape_fields(n: [u64; 8]) -> bool {
-    (n[1] <= 4294967295)
-        & (n[2] <= 4294967295)
-        & (n[3] <= 4294967295)
-        & (n[4] <= 4294967295)
-        & (n[6] <= 4294967295)
+// Returns the shape of those six numbers if width, height, depth and levels are 32-bit numbers.
+fn small_shape_of(numbers: [u64; 6]) -> Option<VersionShape> {
+    if are_u32(&numbers[1..5]) {
+        Some(shape_of(numbers))
+    } else {
+        None
+    }
 }
 
 // Answers 1 for yes, 0 for no.
 pub fn yes_or_no(yes: bool) -> Answer {
-    Answer::Numbers(0, Rest::Number(if yes { 1 } else { 0 }))
+    accepted(Rest::Number(yes as u64))
 }
 
 // Answers BASE,LEVEL with the level's extent.
-pub fn level_extent(fields: &[u8]) -> Answer
+pub fn level_extent(fields: &[u8]) -> Option<Answer>
     requires { length fields.now ≤ 65536 }
 {
-    let n = read_all(fields, 0, 2);
-    let v = n.values;
-    if (n.count == 2) & (v[1] <= 14) & are_u32(v) {
-        Answer::Numbers(grid_shapes::level_extent(v[0], v[1]), Rest::End)
+    let numbers = read_all::<2>(fields, 0)?;
+    let [base, level] = numbers;
+    if (level <= 14) & are_u32(&numbers) {
+        Some(number(grid_shapes::level_extent(base, level)))
     } else {
-        Answer::Malformed
+        None
     }
 }
 
 // Answers FORMAT,WIDTH,HEIGHT,DEPTH,LEVELS,KIND with the bytes of a version.
-pub fn shape_bytes(fields: &[u8]) -> Answer
+pub fn shape_bytes(fields: &[u8]) -> Option<Answer>
     requires { length fields.now ≤ 65536 }
 {
-    let n = read_all(fields, 0, 6);
-    let v = n.values;
-    if !((n.count == 6) & are_shape_fields(v)) {
-        return Answer::Malformed;
-    }
-    match grid_shapes::bytes(shape_of(v)) {
-        BytesAnswer::Bytes(bytes) => Answer::Numbers(0, Rest::Number(bytes)),
-        BytesAnswer::NoShape => Answer::Numbers(REFUSED, Rest::End),
-    }
+    let shape = small_shape_of(read_all(fields, 0)?)?;
+    Some(told(grid_shapes::bytes(shape).map(Rest::Number)))
 }
 
 // Answers FORMAT,WIDTH,HEIGHT,DEPTH,LEVELS,KIND with the slices.
-pub fn shape_slices(fields: &[u8]) -> Answer
+pub fn shape_slices(fields: &[u8]) -> Option<Answer>
     requires { length fields.now ≤ 65536 }
 {
-    let n = read_all(fields, 0, 6);
-    let v = n.values;
-    if !((n.count == 6) & are_shape_fields(v)) {
-        return Answer::Malformed;
-    }
-    let shape = shape_of(v);
-    if grid_shapes::is_shape(shape) {
-        Answer::Numbers(0, Rest::Number(grid_shapes::slices(shape)))
+    let shape = small_shape_of(read_all(fields, 0)?)?;
+    Some(if grid_shapes::is_shape(shape) {
+        accepted(Rest::Number(grid_shapes::slices(shape)))
     } else {
-        Answer::Numbers(REFUSED, Rest::End)
-    }
+        refused(Refusal::BadShape)
+    })
 }
 
 // Answers FORMAT,WIDTH,HEIGHT,DEPTH,LEVELS,KIND,USAGE with whether every write is reported.
-pub fn shape_records(fields: &[u8]) -> Answer
+pub fn shape_records(fields: &[u8]) -> Option<Answer>
     requires { length fields.now ≤ 65536 }
 {
-    let n = read_all(fields, 0, 7);
-    let v = n.values;
-    if !((n.count == 7) & are_shape_fields(v)) {
-        return Answer::Malformed;
+    let [format, width, height, depth, levels, kind, usage] = read_all::<7>(fields, 0)?;
+    let shape = small_shape_of([format, width, height, depth, levels, kind])?;
+    if !are_u32(&[usage]) {
+        return None;
     }
-    match grid_shapes::records_every_write(shape_of(v), v[6]) {
-        RecordsAnswer::Records(records) => yes_or_no(records),
-        RecordsAnswer::Shapeless => Answer::Numbers(REFUSED, Rest::End),
-    }
+    Some(match grid_shapes::records_every_write(shape, usage) {
+        Ok(records) => yes_or_no(records),
+        Err(refusal) => refused(refusal),
+    })
 }

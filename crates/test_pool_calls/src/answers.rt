@@ -9,10 +9,10 @@ use pool_take_spare::Taken;
 
 // Returns the answer of a call that says its outcome alone.
 pub fn answer_done(outcome: u64) -> Answer {
-    if outcome == 0 {
-        return Answer::Done;
+    match outcome {
+        0 => Answer::Done,
+        n => Answer::Refused(n),
     }
-    Answer::Refused(outcome)
 }
 
 // Returns the answer of take_spare.

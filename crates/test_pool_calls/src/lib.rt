@@ -10,5 +10,5 @@ mod queries;
 
 pub use called::Called;
 pub use making::make_event;
-pub use queried::{Queried, QueryAnswer};
+pub use queried::{Queried, Told};
 pub use queries::make_query;

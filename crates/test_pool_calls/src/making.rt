@@ -17,7 +17,7 @@ use event_lines::Event;
 use grid_shapes::VersionShape;
 use pool_memory::{PacingBook, Pool};
 
-// Makes the event's call, with the pacing book lent if `lends`. A plan goes by the shape of the latest take line: without one it is no call. Nor is
+// Makes the event's call, with the pacing book lent if `lends`. A plan goes by `shape`, that of the latest take line: without one it is no call. Nor is
 // `open`.
 pub fn make_event(
     pool: Pool,
@@ -30,9 +30,8 @@ pub fn make_event(
     stamps: &mut [u64],
     copies: &mut [u64],
     views: &mut [u64],
-    taken: bool,
     lends: bool,
-    shape: VersionShape,
+    shape: Option<VersionShape>,
     event: Event,
 ) -> Called {
     match event {
@@ -51,13 +50,13 @@ pub fn make_event(
             level,
             cover,
         } => {
-            if !taken {
+            let Some(shape) = shape else {
                 return Called {
                     pool,
                     book,
                     answer: Answer::Question,
                 };
-            }
+            };
             make_preserve_plan(
                 pool, book, textures, retiring, doomed, spares, newest, stamps, copies, id, shape,
                 held, slice, level, cover,

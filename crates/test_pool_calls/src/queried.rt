@@ -1,13 +1,8 @@
 // What a query says.
 
+// What an accepted query tells.
 #[derive(Clone, Copy)]
-pub enum QueryAnswer {
-    // No line is a query.
-    NoQuery,
-    // The memory forms no pool.
-    NoPool,
-    // The buffer is too short.
-    ShortBuffer,
+pub enum Told {
     // The memory forms a pool.
     Formed,
     Number(u64),
@@ -15,9 +10,10 @@ pub enum QueryAnswer {
     NoTile,
 }
 
-// The answer, and whether a buffer of bytes, if one was lent, is as it was but for what the answer says of it.
+// What is told or the number of the refusal, and whether a buffer of bytes, if one was lent, is as it was but for what the answer says of it. A line that
+// is no query has no answer.
 #[derive(Clone, Copy)]
 pub struct Queried {
-    pub answer: QueryAnswer,
+    pub answer: Option<Result<Told, u64>>,
     pub kept: bool,
 }

@@ -1,37 +1,35 @@
 // The queries of the checked face, which alter nothing.
 use crate::calls::print_sheet::make_print_sheet;
-use crate::queried::{Queried, QueryAnswer};
+use crate::queried::{Queried, Told};
 use pool::{BytesAnswer, DirtyAnswer, RecordsAnswer};
 use pool_memory::{PacingBook, Pool};
 use test_pool_lines::OwnLine;
 
+// The number of the refusal of memory that forms no pool.
+const NO_POOL: u64 = 1;
+
 // Returns what a number of bytes says.
-fn say_bytes(answer: BytesAnswer) -> QueryAnswer {
+fn say_bytes(answer: BytesAnswer) -> Result<Told, u64> {
     match answer {
-        BytesAnswer::Bytes(bytes) => QueryAnswer::Number(bytes),
-        BytesAnswer::NoPool => QueryAnswer::NoPool,
+        BytesAnswer::Bytes(bytes) => Ok(Told::Number(bytes)),
+        BytesAnswer::NoPool => Err(NO_POOL),
     }
 }
 
 // Returns what records_writes says: 1 for yes.
-fn say_records(answer: RecordsAnswer) -> QueryAnswer {
+fn say_records(answer: RecordsAnswer) -> Result<Told, u64> {
     match answer {
-        RecordsAnswer::Records(records) => {
-            if records {
-                return QueryAnswer::Number(1);
-            }
-            QueryAnswer::Number(0)
-        }
-        RecordsAnswer::NoPool => QueryAnswer::NoPool,
+        RecordsAnswer::Records(records) => Ok(Told::Number(records as u64)),
+        RecordsAnswer::NoPool => Err(NO_POOL),
     }
 }
 
 // Returns what dirty_tile says.
-fn say_tile(answer: DirtyAnswer) -> QueryAnswer {
+fn say_tile(answer: DirtyAnswer) -> Result<Told, u64> {
     match answer {
-        DirtyAnswer::Tile { column, row } => QueryAnswer::Tile { column, row },
-        DirtyAnswer::NoTile => QueryAnswer::NoTile,
-        DirtyAnswer::NoPool => QueryAnswer::NoPool,
+        DirtyAnswer::Tile { column, row } => Ok(Told::Tile { column, row }),
+        DirtyAnswer::NoTile => Ok(Told::NoTile),
+        DirtyAnswer::NoPool => Err(NO_POOL),
     }
 }
 
@@ -45,13 +43,14 @@ fn say_formed(
     spares: &[u64],
     newest: &[u64],
     stamps: &[u64],
-) -> QueryAnswer {
+) -> Result<Told, u64> {
     if pool_formed::is_pool(
         pool, book, textures, retiring, doomed, spares, newest, stamps,
     ) {
-        return QueryAnswer::Formed;
+        Ok(Told::Formed)
+    } else {
+        Err(NO_POOL)
     }
-    QueryAnswer::NoPool
 }
 
 // Makes the query of a line, if it has one that is lent no buffer.
@@ -65,8 +64,8 @@ fn ask_query(
     newest: &[u64],
     stamps: &[u64],
     line: OwnLine,
-) -> QueryAnswer {
-    match line {
+) -> Option<Result<Told, u64>> {
+    Some(match line {
         OwnLine::Records(id) => say_records(pool::records_writes(
             pool, book, textures, retiring, doomed, spares, newest, stamps, id,
         )),
@@ -87,8 +86,8 @@ fn ask_query(
         } => say_tile(pool::dirty_tile(
             pool, book, textures, retiring, doomed, spares, newest, stamps, id, slice, level, held,
         )),
-        _ => QueryAnswer::NoQuery,
-    }
+        _ => return None,
+    })
 }
 
 // Makes the query of a line, if it has one.

@@ -1,7 +1,8 @@
 // Reads the fields behind a line's word as numbers.
 ghost use Rattle.std.specs.Prelude.{◌≤◌, length};
 
-use event_text::{NumberAt, find_byte, number_at};
+use event_text::{NumberAt, number_at};
+use test_common::part_end;
 
 // The most numbers behind a word: a put has a store, an index and fourteen values.
 pub const MOST_FIELDS: usize = 16;
@@ -18,7 +19,7 @@ pub struct LineNumbers {
 pub fn word_end(line: &[u8]) -> usize
     ensures { result ≤ length line.now }
 {
-    find_byte(line, 0, b',')
+    part_end(line, 0, b',')
 }
 
 // Reads the fields after the one that ends at `at`, up to the first that is no number.
@@ -27,11 +28,10 @@ pub fn read_numbers(line: &[u8], at: usize) -> LineNumbers
 {
     let mut values = [0u64; MOST_FIELDS];
     let mut end = at;
-    let mut count = 0;
-    while end < line.len() {
-        if MOST_FIELDS <= count {
+    for count in 0..MOST_FIELDS {
+        if line.len() <= end {
             return LineNumbers {
-                formed: false,
+                formed: true,
                 values,
                 count,
             };
@@ -45,11 +45,10 @@ pub fn read_numbers(line: &[u8], at: usize) -> LineNumbers
         };
         values[count] = value;
         end = next;
-        count += 1;
     }
     LineNumbers {
-        formed: true,
+        formed: line.len() <= end,
         values,
-        count,
+        count: MOST_FIELDS,
     }
 }

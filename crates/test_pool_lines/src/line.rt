@@ -1,7 +1,6 @@
 // What a line that the event grammar lacks asks for.
 use crate::fields::{MOST_FIELDS, read_numbers, word_end};
 use crate::shape::{behind_id, is_whole_shape, whole_shape};
-use event_text::is_word;
 use grid_shapes::VersionShape;
 
 // The lines. What is put stands beside, for it is many numbers.
@@ -33,110 +32,84 @@ pub enum OwnLine {
     // The bytes of the sheet's buffer.
     Sheet(u64),
     Dump,
-    // An event, or no line of ours.
-    Other,
 }
 
-// A line with the numbers behind its word.
+// A line with the numbers behind its word. An event is no line of ours, nor is anything else.
 #[derive(Clone, Copy)]
 pub struct OwnRead {
-    pub line: OwnLine,
+    pub line: Option<OwnLine>,
     pub values: [u64; MOST_FIELDS],
     pub count: usize,
 }
 
 // Returns the line of words that have no number behind them.
-fn bare_line(word: &[u8]) -> OwnLine {
-    if is_word(word, b"parked") {
-        return OwnLine::Parked;
+fn bare_line(word: &[u8]) -> Option<OwnLine> {
+    match word {
+        b"parked" => Some(OwnLine::Parked),
+        b"pending" => Some(OwnLine::Pending),
+        b"formed" => Some(OwnLine::Formed),
+        b"dump" => Some(OwnLine::Dump),
+        b"lend" => Some(OwnLine::Lend),
+        _ => None,
     }
-    if is_word(word, b"pending") {
-        return OwnLine::Pending;
-    }
-    if is_word(word, b"formed") {
-        return OwnLine::Formed;
-    }
-    if is_word(word, b"dump") {
-        return OwnLine::Dump;
-    }
-    if is_word(word, b"lend") {
-        return OwnLine::Lend;
-    }
-    OwnLine::Other
 }
 
 // Returns the line of a take with all twelve numbers of a shape.
-fn take_line(n: [u64; MOST_FIELDS]) -> OwnLine {
+fn take_line(n: [u64; MOST_FIELDS]) -> Option<OwnLine> {
     let shape = behind_id(n);
     if is_whole_shape(shape) & (n[13] <= 1) {
-        return OwnLine::Take {
+        Some(OwnLine::Take {
             id: n[0],
             shape: whole_shape(shape),
             records: n[13] == 1,
             seq: n[14],
-        };
+        })
+    } else {
+        None
     }
-    OwnLine::Other
 }
 
 // Returns the line of a shape.
-fn shape_line(n: [u64; MOST_FIELDS]) -> OwnLine {
+fn shape_line(n: [u64; MOST_FIELDS]) -> Option<OwnLine> {
     if is_whole_shape(n) {
-        return OwnLine::Shape(whole_shape(n));
+        Some(OwnLine::Shape(whole_shape(n)))
+    } else {
+        None
     }
-    OwnLine::Other
 }
 
-// Returns the line of words that have numbers behind them.
-fn numbers_line(word: &[u8], n: [u64; MOST_FIELDS], count: usize) -> OwnLine {
-    if is_word(word, b"put") & (3 <= count) {
-        return OwnLine::Put;
-    }
-    if is_word(word, b"take") & (count == 15) {
-        return take_line(n);
-    }
-    if is_word(word, b"shape") & (count == 12) {
-        return shape_line(n);
-    }
-    if is_word(word, b"records") & (count == 1) {
-        return OwnLine::Records(n[0]);
-    }
-    if is_word(word, b"dirty") & (count == 4) {
-        return OwnLine::Dirty {
+// Returns the line of words that have `count` numbers behind them.
+fn numbers_line(word: &[u8], n: [u64; MOST_FIELDS], count: usize) -> Option<OwnLine> {
+    match (word, count) {
+        (b"put", 3..) => Some(OwnLine::Put),
+        (b"take", 15) => take_line(n),
+        (b"shape", 12) => shape_line(n),
+        (b"records", 1) => Some(OwnLine::Records(n[0])),
+        (b"dirty", 4) => Some(OwnLine::Dirty {
             id: n[0],
             slice: n[1],
             level: n[2],
             held: n[3],
-        };
+        }),
+        (b"sheet", 1) => Some(OwnLine::Sheet(n[0])),
+        _ => None,
     }
-    if is_word(word, b"sheet") & (count == 1) {
-        return OwnLine::Sheet(n[0]);
-    }
-    OwnLine::Other
 }
 
 // Returns what a line asks for, with the numbers behind its word.
 pub fn read_own(line: &[u8]) -> OwnRead {
     let end = word_end(line);
+    let word = &line[0..end];
     let read = read_numbers(line, end);
     let values = read.values;
     let count = read.count;
-    if !read.formed {
-        return OwnRead {
-            line: OwnLine::Other,
-            values,
-            count,
-        };
-    }
-    if count == 0 {
-        return OwnRead {
-            line: bare_line(&line[0..end]),
-            values,
-            count,
-        };
-    }
+    let own = match (read.formed, count) {
+        (false, _) => None,
+        (true, 0) => bare_line(word),
+        (true, _) => numbers_line(word, values, count),
+    };
     OwnRead {
-        line: numbers_line(&line[0..end], values, count),
+        line: own,
         values,
         count,
     }

@@ -2,22 +2,14 @@
 use crate::fields::MOST_FIELDS;
 use grid_shapes::VersionShape;
 
-const MOST_OF_32: u64 = 4294967295;
+const MOST_OF_32: u64 = u32::MAX as u64;
 
-const MOST_OF_8: u64 = 255;
+const MOST_OF_8: u64 = u8::MAX as u64;
 
 // Returns whether the twelve numbers from the first on are as small as the Rust's.
 pub fn is_whole_shape(n: [u64; MOST_FIELDS]) -> bool {
-    (n[1] <= MOST_OF_32)
-        & (n[2] <= MOST_OF_32)
-        & (n[3] <= MOST_OF_32)
-        & (n[4] <= MOST_OF_32)
-        & (n[6] <= MOST_OF_8)
-        & (n[7] <= MOST_OF_8)
-        & (n[8] <= MOST_OF_8)
-        & (n[9] <= MOST_OF_8)
-        & (n[10] <= MOST_OF_8)
-        & (n[11] <= MOST_OF_8)
+    n[1..5].iter().all(|number| *number <= MOST_OF_32)
+        & n[6..12].iter().all(|number| *number <= MOST_OF_8)
 }
 
 // Returns the shape of twelve numbers.
@@ -40,8 +32,7 @@ pub fn whole_shape(n: [u64; MOST_FIELDS]) -> VersionShape {
 
 // Returns the numbers behind the first, which is a take's id.
 pub fn behind_id(n: [u64; MOST_FIELDS]) -> [u64; MOST_FIELDS] {
-    [
-        n[1], n[2], n[3], n[4], n[5], n[6], n[7], n[8], n[9], n[10], n[11], n[12], n[13], n[14],
-        n[15], 0,
-    ]
+    let mut behind = [0; MOST_FIELDS];
+    behind[..MOST_FIELDS - 1].copy_from_slice(&n[1..]);
+    behind
 }

@@ -27,10 +27,11 @@ pub struct Lengths {
 fn small(number: u64, most: usize) -> usize
     ensures { result ≤ most }
 {
-    if (most as u64) < number {
-        return 0;
+    if number <= most as u64 {
+        number as usize
+    } else {
+        0
     }
-    number as usize
 }
 
 // Returns the lengths that a list's first line gives.

@@ -2,22 +2,14 @@
 ghost use Rattle.std.specs.Prelude.{◌≤◌, ◌<◌, length};
 ghost use Rattle.event_answers.specs.Printed.{most_row};
 
-use event_text::find_byte;
+use test_common::{STDIN_FILENO, STDOUT_FILENO, part_end};
 use test_pool_lines::{Lengths, lengths_of};
-use test_pool_memory::{clear, least};
 use test_pool_steps::{Session, fresh, next_line, run_step};
 
-// The descriptors of standard input and output.
-const STDIN_FILENO: i32 = 0;
-
-const STDOUT_FILENO: i32 = 1;
-
-// Returns whether a line begins a list.
-fn is_head(line: &[u8]) -> bool {
-    if line.len() < 2 {
-        return false;
-    }
-    (line[0] == b'=') & (line[1] == b',')
+// Makes the first `count` numbers of the store 0.
+fn clear(store: &mut [u64], count: usize) {
+    let end = count.min(store.len());
+    store[..end].fill(0);
 }
 
 // Makes all that a list is lent 0.
@@ -60,14 +52,14 @@ fn run_part(
     requires { most_row ≤ length out.old }
 {
     let lengths = session.lengths;
-    let t = least(lengths.textures, textures.len());
-    let r = least(lengths.retiring, retiring.len());
-    let d = least(lengths.doomed, doomed.len());
-    let s = least(lengths.spares, spares.len());
-    let n = least(lengths.newest, newest.len());
-    let m = least(lengths.stamps, stamps.len());
-    let c = least(lengths.copies, copies.len());
-    let v = least(lengths.views, views.len());
+    let t = lengths.textures.min(textures.len());
+    let r = lengths.retiring.min(retiring.len());
+    let d = lengths.doomed.min(doomed.len());
+    let s = lengths.spares.min(spares.len());
+    let n = lengths.newest.min(newest.len());
+    let m = lengths.stamps.min(stamps.len());
+    let c = lengths.copies.min(copies.len());
+    let v = lengths.views.min(views.len());
     run_step(
         line,
         session,
@@ -101,7 +93,7 @@ fn run_line(
 ) -> Session
     requires { most_row ≤ length out.old }
 {
-    if is_head(line) {
+    if line.starts_with(b"=,") {
         io::write_all(STDOUT_FILENO, line);
         io::write_all(STDOUT_FILENO, b"\n");
         let lengths = lengths_of(line);
@@ -126,23 +118,12 @@ fn run_line(
     )
 }
 
-// Returns where the line that starts at `from` ends: at its line feed, or at the end of all.
-fn line_end(input: &[u8], from: usize) -> usize
-    requires { from ≤ length input.now }
-    ensures { (from ≤ result) × (result ≤ length input.now) }
-{
-    find_byte(input, from, b'\n')
-}
-
 // Returns where the line after the one from `from` to `end` begins.
 fn next_line_from(input: &[u8], from: usize, end: usize) -> usize
     requires { (from < length input.now) × (from ≤ end) × (end ≤ length input.now) }
     ensures { (from < result) × (result ≤ length input.now) }
 {
-    if end < input.len() {
-        return end + 1;
-    }
-    end
+    if end < input.len() { end + 1 } else { end }
 }
 
 // Runs the lines of all lists.
@@ -163,8 +144,9 @@ fn run_lines(
 {
     let mut session = fresh(lengths_of(b"="));
     let mut from = 0;
+    // Lines have no fixed length, so no range says where the next one begins.
     while from < input.len() {
-        let end = line_end(input, from);
+        let end = part_end(input, from, b'\n');
         let next = next_line_from(input, from, end);
         session = run_line(
             &input[from..end],

@@ -45,29 +45,18 @@ pub fn pool_of(n: [u64; 15]) -> Pool {
 
 // Returns the pacing book's numbers: the eight arrivals first.
 pub fn book_numbers(book: PacingBook) -> [u64; 11] {
-    let a = book.arrivals;
-    [
-        a[0],
-        a[1],
-        a[2],
-        a[3],
-        a[4],
-        a[5],
-        a[6],
-        a[7],
-        book.slot as u64,
-        book.pressed,
-        book.excess,
-    ]
+    let [a, b, c, d, e, f, g, h] = book.arrivals;
+    let slot = book.slot as u64;
+    [a, b, c, d, e, f, g, h, slot, book.pressed, book.excess]
 }
 
 // Returns the pacing book that is these numbers.
 pub fn book_of(n: [u64; 11]) -> PacingBook {
-    let arrivals = [n[0], n[1], n[2], n[3], n[4], n[5], n[6], n[7]];
+    let [a, b, c, d, e, f, g, h, slot, pressed, excess] = n;
     PacingBook {
-        arrivals,
-        slot: n[8] as usize,
-        pressed: n[9],
-        excess: n[10],
+        arrivals: [a, b, c, d, e, f, g, h],
+        slot: slot as usize,
+        pressed,
+        excess,
     }
 }

@@ -1,11 +1,8 @@
 // The numbers of a store that are not 0, printed as the lines that put them.
 ghost use Rattle.std.specs.Prelude.{◌≤◌, length};
 
-use crate::row::put_field;
 use base_digits::put_text;
-
-// The descriptor of standard output.
-const STDOUT_FILENO: i32 = 1;
+use test_common::{STDOUT_FILENO, put_field};
 
 // Puts put,STORE,INDEX,VALUE at the front and returns where it ends.
 fn put_line(out: &mut [u8], store: u64, index: u64, value: u64) -> usize
@@ -34,9 +31,7 @@ fn dump_number(out: &mut [u8], store: u64, index: u64, value: u64)
 pub fn dump_store(out: &mut [u8], number: u64, store: &[u64])
     requires { 68 ≤ length out.old }
 {
-    let mut i = 0;
-    while i < store.len() {
-        dump_number(out, number, i as u64, store[i]);
-        i += 1;
+    for (i, value) in store.iter().enumerate() {
+        dump_number(out, number, i as u64, *value);
     }
 }

@@ -1,10 +1,9 @@
 // All that is lent: the counts, the pacing book, six slices and two answer buffers.
 ghost use Rattle.std.specs.Prelude.{◌≤◌, length};
 
-use crate::bounds::least;
 use crate::counts::{book_numbers, counts_of};
 use crate::dump::dump_store;
-use crate::kept::{is_kept, keep};
+use crate::kept::{keep, kept_end};
 use crate::put::put_numbers;
 use pool_memory::{PacingBook, Pool};
 use test_pool_lines::MOST_FIELDS;
@@ -51,6 +50,34 @@ pub fn keep_all(
     keep(copy, five, views);
 }
 
+// Returns where the copy of all of it ends if all is as it was copied.
+fn all_kept_end(
+    copy: &[u64],
+    pool: Pool,
+    book: PacingBook,
+    textures: &[u64],
+    retiring: &[u64],
+    doomed: &[u64],
+    spares: &[u64],
+    newest: &[u64],
+    stamps: &[u64],
+    copies: &[u64],
+    views: &[u64],
+) -> Option<usize> {
+    let counts = counts_of(pool);
+    let numbers = book_numbers(book);
+    let one = kept_end(copy, 0, &counts)?;
+    let two = kept_end(copy, one, &numbers)?;
+    let three = kept_end(copy, two, textures)?;
+    let four = kept_end(copy, three, retiring)?;
+    let five = kept_end(copy, four, doomed)?;
+    let six = kept_end(copy, five, spares)?;
+    let seven = kept_end(copy, six, newest)?;
+    let eight = kept_end(copy, seven, stamps)?;
+    let nine = kept_end(copy, eight, copies)?;
+    kept_end(copy, nine, views)
+}
+
 // Returns whether all of it is as it was copied.
 pub fn is_all_kept(
     copy: &[u64],
@@ -65,19 +92,10 @@ pub fn is_all_kept(
     copies: &[u64],
     views: &[u64],
 ) -> bool {
-    let counts = counts_of(pool);
-    let numbers = book_numbers(book);
-    let one = is_kept(copy, 0, &counts);
-    let two = is_kept(copy, one, &numbers);
-    let three = is_kept(copy, two, textures);
-    let four = is_kept(copy, three, retiring);
-    let five = is_kept(copy, four, doomed);
-    let six = is_kept(copy, five, spares);
-    let seven = is_kept(copy, six, newest);
-    let eight = is_kept(copy, seven, stamps);
-    let nine = is_kept(copy, eight, copies);
-    let ten = is_kept(copy, nine, views);
-    ten <= copy.len()
+    all_kept_end(
+        copy, pool, book, textures, retiring, doomed, spares, newest, stamps, copies, views,
+    )
+    .is_some()
 }
 
 // Puts the values of a line put,STORE,INDEX,VALUE .. into the slice or the buffer of that number.

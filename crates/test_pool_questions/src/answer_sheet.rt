@@ -1,16 +1,7 @@
 // The question for the sheet.
-use crate::constants::STDOUT_FILENO;
 use pool_memory::{PacingBook, Pool};
 use pool_sheet::SheetAnswer;
-
-// Fills a buffer, so that what the sheet leaves can be seen.
-fn fill(buffer: &mut [u8]) {
-    let mut i = 0;
-    while i < buffer.len() {
-        buffer[i] = b'#';
-        i += 1;
-    }
-}
+use test_common::STDOUT_FILENO;
 
 // Prints what the call answers, behind the number of its line.
 fn print_answer(answer: SheetAnswer) {
@@ -40,7 +31,8 @@ pub fn answer_sheet(
     stamps: &[u64],
     buffer: &mut [u8],
 ) {
-    fill(buffer);
+    // Filled, so that what the sheet leaves can be seen.
+    buffer.fill(b'#');
     let answer = pool::print_sheet(
         pool, book, textures, retiring, doomed, spares, newest, stamps, buffer,
     );

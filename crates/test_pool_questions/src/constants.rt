@@ -1,10 +1,5 @@
 // The numbers that have a name, each with its reason.
 
-// The descriptors of standard input and output.
-pub const STDIN_FILENO: i32 = 0;
-
-pub const STDOUT_FILENO: i32 = 1;
-
 // What is lent, as the event program lends it (01).
 pub const TEXTURES: usize = 8;
 

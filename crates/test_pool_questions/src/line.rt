@@ -2,12 +2,11 @@
 ghost use Rattle.std.specs.Prelude.{◌≤◌};
 ghost use Rattle.event_sessions.specs.Sessions.{state_of, HoldsPool};
 
-use crate::constants::STDOUT_FILENO;
-use crate::parts::part_end;
 use crate::question::answer_question;
 use event_lines::parse_first;
 use event_sessions::{Session, answer_event, fresh};
 use event_text::is_word;
+use test_common::{STDOUT_FILENO, part_end};
 
 // What a line leaves: the session, and the lines of the list so far.
 #[derive(Clone, Copy)]

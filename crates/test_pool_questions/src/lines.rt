@@ -1,7 +1,7 @@
 // Lines, one after the other.
 use crate::line::run_line;
-use crate::parts::part_end;
 use event_sessions::fresh;
+use test_common::part_end;
 
 // Runs all lines. The last may lack its line feed, and after one that has it there is none.
 pub fn run_lines(
@@ -19,6 +19,7 @@ pub fn run_lines(
     let mut session = fresh();
     let mut number = 0;
     let mut from = 0;
+    // Lines have no fixed length, so no range says where the next one begins.
     while from < input.len() {
         let end = part_end(input, from, b'\n');
         let next = end + 1;

@@ -6,15 +6,15 @@ mod answer_sheet;
 mod constants;
 mod line;
 mod lines;
-mod parts;
 mod question;
 
-use constants::{ENTRIES, INPUT_BYTES, PAGE_BYTES, PAGES, STDIN_FILENO, TEXTURES, VERSIONS};
+use constants::{ENTRIES, INPUT_BYTES, PAGE_BYTES, PAGES, TEXTURES, VERSIONS};
 use grid_stamps::PAGE_STAMPS;
 use lines::run_lines;
 use pool_memory::COPY_STRIDE;
 use pool_records::{DOOMED_STRIDE, RETIRING_STRIDE, SPARE_STRIDE, TEXTURE_STRIDE};
 use pool_rules::{GRID_STRIDE, MOST_GRIDS};
+use test_common::STDIN_FILENO;
 
 fn main() {
     let mut textures = [0; TEXTURES * TEXTURE_STRIDE];

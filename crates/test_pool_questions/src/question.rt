@@ -1,38 +1,23 @@
 // What a question asks for.
-ghost use Rattle.std.specs.Prelude.{◌≤◌, length};
+ghost use Rattle.std.specs.Prelude.{◌≤◌, IfSome};
 
 use crate::answer_sheet::answer_sheet;
-use crate::constants::STDOUT_FILENO;
 use event_sessions::Session;
 use event_text::{Number, number_of};
+use test_common::STDOUT_FILENO;
 
-// The bytes of the buffer that is asked for, if the question is one.
-#[derive(Clone, Copy)]
-struct Asked {
-    formed: bool,
-    bytes: usize,
-}
-
-// Reads what stands after the word: a comma and a number up to `most`. A second number is malformed too, since a comma is no digit.
-fn read_asked(fields: &[u8], most: usize) -> Asked
-    ensures { result.bytes ≤ most }
+// Returns the bytes of the buffer that is asked for: what stands after the word is a comma and a number up to `most`. A second number is malformed too,
+// since a comma is no digit.
+fn asked_bytes(fields: &[u8], most: usize) -> Option<usize>
+    ensures { IfSome result (λ bytes. bytes ≤ most) }
 {
-    let malformed = Asked {
-        formed: false,
-        bytes: 0,
+    let Number::Is(bytes) = number_of(fields.get(1..)?) else {
+        return None;
     };
-    if fields.len() == 0 {
-        return malformed;
-    }
-    let Number::Is(bytes) = number_of(&fields[1..]) else {
-        return malformed;
-    };
-    if (most as u64) < bytes {
-        return malformed;
-    }
-    Asked {
-        formed: true,
-        bytes: bytes as usize,
+    if bytes <= most as u64 {
+        Some(bytes as usize)
+    } else {
+        None
     }
 }
 
@@ -49,13 +34,16 @@ pub fn answer_question(
     stamps: &[u64],
     page: &mut [u8],
 ) {
-    let asked = read_asked(fields, page.len());
-    let bytes = asked.bytes;
     io::print_decimal(STDOUT_FILENO, number);
-    if !asked.formed | (session.opened != 1) {
+    let asked = if session.opened == 1 {
+        asked_bytes(fields, page.len())
+    } else {
+        None
+    };
+    let Some(bytes) = asked else {
         io::write_all(STDOUT_FILENO, b",?\n");
         return;
-    }
+    };
     let pool = session.pool;
     let book = session.book;
     answer_sheet(

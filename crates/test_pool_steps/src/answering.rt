@@ -6,11 +6,11 @@ use event_lines::{Event, parse_first};
 use test_pool_calls::{Called, make_event, make_query};
 use test_pool_lines::OwnLine;
 
-// The session after a line, and its reply.
+// The session after a line, and its reply, if something is printed.
 #[derive(Clone, Copy)]
 pub struct Answered {
     pub session: Session,
-    pub reply: Reply,
+    pub reply: Option<Reply>,
 }
 
 // Opens the pool, if it is not opened yet.
@@ -24,24 +24,24 @@ fn answer_open(
     stamps: &[u64],
     working: u64,
 ) -> Answered {
-    if session.opened == 1 {
+    if session.opened {
         return Answered {
             session,
-            reply: Reply::Event(Answer::Question),
+            reply: Some(Reply::Event(Answer::Question)),
         };
     }
     let said = pool::open(working, textures, retiring, doomed, spares, newest, stamps);
     if said.outcome != 0 {
         return Answered {
             session,
-            reply: Reply::Event(Answer::Refused(said.outcome)),
+            reply: Some(Reply::Event(Answer::Refused(said.outcome))),
         };
     }
     let pool = said.pool;
     let book = said.book;
     Answered {
         session: with_counts(session, pool, book),
-        reply: Reply::Event(Answer::Done),
+        reply: Some(Reply::Event(Answer::Done)),
     }
 }
 
@@ -53,7 +53,7 @@ fn answered_call(session: Session, event: Event, called: Called) -> Answered {
     let next = with_counts(session, after, noted);
     Answered {
         session: after_event(next, event),
-        reply: Reply::Event(answer),
+        reply: Some(Reply::Event(answer)),
     }
 }
 
@@ -70,10 +70,10 @@ fn answer_call(
     views: &mut [u64],
     event: Event,
 ) -> Answered {
-    if session.opened != 1 {
+    if !session.opened {
         return Answered {
             session,
-            reply: Reply::Event(Answer::Question),
+            reply: Some(Reply::Event(Answer::Question)),
         };
     }
     let pool = session.pool;
@@ -90,8 +90,7 @@ fn answer_call(
         stamps,
         copies,
         views,
-        session.taken == 1,
-        session.lends == 1,
+        session.lends,
         shape,
         event,
     );
@@ -134,14 +133,10 @@ fn answer_query(
 ) -> Answered {
     let pool = session.pool;
     let book = session.book;
-    let formed = match line {
-        OwnLine::Formed => true,
-        _ => false,
-    };
-    if !formed & (session.opened != 1) {
+    if !matches!(line, OwnLine::Formed) & !session.opened {
         return Answered {
             session,
-            reply: Reply::Event(Answer::Question),
+            reply: Some(Reply::Event(Answer::Question)),
         };
     }
     let queried = make_query(
@@ -149,7 +144,7 @@ fn answer_query(
     );
     Answered {
         session: with_counts(session, pool, book),
-        reply: Reply::Query(queried),
+        reply: Some(Reply::Query(queried)),
     }
 }
 
@@ -164,16 +159,18 @@ pub fn answer_line(
     stamps: &mut [u64],
     copies: &mut [u64],
     views: &mut [u64],
-    own: OwnLine,
+    own: Option<OwnLine>,
     text: &[u8],
 ) -> Answered {
     match own {
-        OwnLine::Take {
-            id,
-            shape,
-            records,
-            seq,
-        } => answer_event(
+        Some(
+            OwnLine::Take {
+                id,
+                shape,
+                records,
+                seq,
+            },
+        ) => answer_event(
             session,
             textures,
             retiring,
@@ -190,23 +187,23 @@ pub fn answer_line(
                 seq,
             },
         ),
-        OwnLine::Other => {
+        None => {
             let parsed = parse_first(text);
             let event = parsed.event;
             answer_event(
                 session, textures, retiring, doomed, spares, newest, stamps, copies, views, event,
             )
         }
-        OwnLine::Lend => Answered {
+        Some(OwnLine::Lend) => Answered {
             session: with_lends(session),
-            reply: Reply::Silent,
+            reply: None,
         },
-        OwnLine::Shape(shape) => Answered {
+        Some(OwnLine::Shape(shape)) => Answered {
             session: with_shape(session, shape),
-            reply: Reply::Silent,
+            reply: None,
         },
-        _ => answer_query(
-            session, textures, retiring, doomed, spares, newest, stamps, own,
+        Some(query) => answer_query(
+            session, textures, retiring, doomed, spares, newest, stamps, query,
         ),
     }
 }

@@ -5,29 +5,21 @@ ghost use Rattle.event_answers.specs.Printed.{most_row};
 use base_digits::put_text;
 use event_answers::{Answer, put_answer};
 use pool_memory::COPY_STRIDE;
-use test_pool_calls::{Queried, QueryAnswer};
-use test_pool_memory::{least, put_digits, put_field};
-
-// The descriptor of standard output.
-const STDOUT_FILENO: i32 = 1;
+use test_common::{STDOUT_FILENO, put_digits, put_field};
+use test_pool_calls::{Queried, Told};
 
 // The most bytes of a line of output, as `most_row` of crates/event_answers/specs/Printed.antt.
 const MOST_ROW: usize = 147;
 
 #[derive(Clone, Copy)]
 pub enum Reply {
-    // Nothing is printed.
-    Silent,
     Event(Answer),
     Query(Queried),
 }
 
 // Puts an answer of n views, if they are there and have room, and returns where it ends.
 fn put_views(out: &mut [u8], number: u64, n: usize, copies: &[u64], views: &[u64]) -> usize {
-    if views.len() < n {
-        return 0;
-    }
-    if out.len() / MOST_ROW <= n {
+    if views.len() < n || out.len() / MOST_ROW <= n {
         return 0;
     }
     put_answer(out, 0, number, Answer::Views(n), copies, views)
@@ -35,10 +27,7 @@ fn put_views(out: &mut [u8], number: u64, n: usize, copies: &[u64], views: &[u64
 
 // Puts an answer of n copies, if they are there and have room, and returns where it ends.
 fn put_copies(out: &mut [u8], number: u64, n: usize, copies: &[u64], views: &[u64]) -> usize {
-    if copies.len() / COPY_STRIDE < n {
-        return 0;
-    }
-    if out.len() / MOST_ROW <= n {
+    if copies.len() / COPY_STRIDE < n || out.len() / MOST_ROW <= n {
         return 0;
     }
     put_answer(out, 0, number, Answer::Copies(n), copies, views)
@@ -51,17 +40,7 @@ fn put_event(out: &mut [u8], number: u64, answer: Answer, copies: &[u64], views:
     match answer {
         Answer::Views(n) => put_views(out, number, n, copies, views),
         Answer::Copies(n) => put_copies(out, number, n, copies, views),
-        Answer::Question => put_answer(out, 0, number, Answer::Question, copies, views),
-        Answer::Refused(n) => put_answer(out, 0, number, Answer::Refused(n), copies, views),
-        Answer::Done => put_answer(out, 0, number, Answer::Done, copies, views),
-        Answer::Spare(view, held) => {
-            put_answer(out, 0, number, Answer::Spare(view, held), copies, views)
-        }
-        Answer::NoSpare => put_answer(out, 0, number, Answer::NoSpare, copies, views),
-        Answer::Version(id, view) => {
-            put_answer(out, 0, number, Answer::Version(id, view), copies, views)
-        }
-        Answer::NothingSettled => put_answer(out, 0, number, Answer::NothingSettled, copies, views),
+        _ => put_answer(out, 0, number, answer, copies, views),
     }
 }
 
@@ -84,26 +63,32 @@ fn put_told(out: &mut [u8], at: usize, told: u64) -> usize
     put_text(out, second, b"\n")
 }
 
+// Puts the number of a query's refusal.
+fn put_refusal(out: &mut [u8], at: usize, refusal: u64) -> usize
+    requires { at + 22 ≤ length out.old }
+{
+    let end = put_field(out, at, refusal);
+    put_text(out, end, b"\n")
+}
+
 // Puts a query's answer and returns where it ends.
-fn put_query(out: &mut [u8], number: u64, answer: QueryAnswer) -> usize
+fn put_query(out: &mut [u8], number: u64, answer: Option<Result<Told, u64>>) -> usize
     requires { most_row ≤ length out.old }
 {
     let at = put_digits(out, 0, number);
     match answer {
-        QueryAnswer::NoQuery => put_text(out, at, b",?\n"),
-        QueryAnswer::NoPool => put_text(out, at, b",1\n"),
-        QueryAnswer::ShortBuffer => put_text(out, at, b",11\n"),
-        QueryAnswer::Formed => put_text(out, at, b",0\n"),
-        QueryAnswer::Number(told) => put_told(out, at, told),
-        QueryAnswer::Tile { column, row } => put_tile(out, at, column, row),
-        QueryAnswer::NoTile => put_text(out, at, b",0,-,-\n"),
+        None => put_text(out, at, b",?\n"),
+        Some(Err(refusal)) => put_refusal(out, at, refusal),
+        Some(Ok(Told::Formed)) => put_text(out, at, b",0\n"),
+        Some(Ok(Told::Number(told))) => put_told(out, at, told),
+        Some(Ok(Told::Tile { column, row })) => put_tile(out, at, column, row),
+        Some(Ok(Told::NoTile)) => put_text(out, at, b",0,-,-\n"),
     }
 }
 
 // Prints the first `filled` bytes.
 fn print(out: &[u8], filled: usize) {
-    let end = least(filled, out.len());
-    io::write_all(STDOUT_FILENO, &out[0..end]);
+    io::write_all(STDOUT_FILENO, &out[..filled.min(out.len())]);
 }
 
 // Prints whether everything lent is as it was before the call.
@@ -111,20 +96,18 @@ fn print_same(out: &mut [u8], number: u64, same: bool)
     requires { most_row ≤ length out.old }
 {
     let at = put_digits(out, 0, number);
-    if same {
-        let end = put_text(out, at, b",same\n");
-        print(out, end);
-        return;
-    }
-    let end = put_text(out, at, b",changed\n");
+    let end = if same {
+        put_text(out, at, b",same\n")
+    } else {
+        put_text(out, at, b",changed\n")
+    };
     print(out, end);
 }
 
 // Returns whether the line about everything lent follows: behind refusals and queries.
 fn is_followed(reply: Reply) -> bool {
     match reply {
-        Reply::Silent => false,
-        Reply::Event(answer) => is_refused(answer),
+        Reply::Event(answer) => matches!(answer, Answer::Refused(_)),
         Reply::Query(_) => true,
     }
 }
@@ -137,20 +120,11 @@ fn is_buffer_kept(reply: Reply) -> bool {
     }
 }
 
-// Returns whether an answer is a refusal.
-fn is_refused(answer: Answer) -> bool {
-    match answer {
-        Answer::Refused(_) => true,
-        _ => false,
-    }
-}
-
 // Puts a reply and returns where it ends.
 fn put_reply(out: &mut [u8], number: u64, reply: Reply, copies: &[u64], views: &[u64]) -> usize
     requires { most_row ≤ length out.old }
 {
     match reply {
-        Reply::Silent => 0,
         Reply::Event(answer) => put_event(out, number, answer, copies, views),
         Reply::Query(queried) => {
             let answer = queried.answer;
@@ -159,17 +133,20 @@ fn put_reply(out: &mut [u8], number: u64, reply: Reply, copies: &[u64], views: &
     }
 }
 
-// Prints a line's reply.
+// Prints a line's reply, if it has one.
 pub fn print_reply(
     out: &mut [u8],
     number: u64,
-    reply: Reply,
+    reply: Option<Reply>,
     same: bool,
     copies: &[u64],
     views: &[u64],
 )
     requires { most_row ≤ length out.old }
 {
+    let Some(reply) = reply else {
+        return;
+    };
     let end = put_reply(out, number, reply, copies, views);
     print(out, end);
     if is_followed(reply) {

@@ -70,7 +70,7 @@ fn answer_step(
     copies: &mut [u64],
     views: &mut [u64],
     copy: &mut [u64],
-    own: OwnLine,
+    own: Option<OwnLine>,
     text: &[u8],
 ) -> Answered {
     let pool = session.pool;
@@ -96,7 +96,7 @@ fn call_step(
     views: &mut [u64],
     copy: &mut [u64],
     out: &mut [u8],
-    own: OwnLine,
+    own: Option<OwnLine>,
     text: &[u8],
 ) -> Session
     requires { most_row ≤ length out.old }
@@ -129,14 +129,14 @@ pub fn run_step(
     let read = read_own(text);
     let own = read.line;
     match own {
-        OwnLine::Put => {
+        Some(OwnLine::Put) => {
             let values = read.values;
             put_line(
                 session, textures, retiring, doomed, spares, newest, stamps, copies, views, values,
                 read.count,
             )
         }
-        OwnLine::Dump => {
+        Some(OwnLine::Dump) => {
             let pool = session.pool;
             let book = session.book;
             dump_all(

@@ -12,23 +12,17 @@ use grid_stamps::PAGE_STAMPS;
 use pool_memory::COPY_STRIDE;
 use pool_records::{DOOMED_STRIDE, RETIRING_STRIDE, SPARE_STRIDE, TEXTURE_STRIDE};
 use pool_rules::newest_length;
-
-// The descriptors of standard input and output.
-const STDIN_FILENO: i32 = 0;
-
-const STDOUT_FILENO: i32 = 1;
+use test_common::{STDIN_FILENO, STDOUT_FILENO};
 
 // Returns where the next list begins after `from`: at a line that begins with "=,", or at `to`.
 fn next_list(input: &[u8], from: usize, to: usize) -> usize
     requires { (from ≤ to) × (to ≤ length input.now) }
     ensures { (from ≤ result) × (result ≤ to) }
 {
-    let mut at = from;
-    while at + 2 < to {
-        if (input[at] == b'\n') & (input[at + 1] == b'=') & (input[at + 2] == b',') {
+    for at in from..to {
+        if input[at..to].starts_with(b"\n=,") {
             return at + 1;
         }
-        at += 1;
     }
     to
 }
@@ -48,16 +42,10 @@ fn list_end(input: &[u8], from: usize, to: usize) -> usize
     requires { (from ≤ to) × (to ≤ length input.now) }
     ensures { (from ≤ result) × (result ≤ to) }
 {
-    if to - from < 2 {
-        return to;
+    match &input[from..to] {
+        [.., before, b'\n'] if (*before != b'\n') & ((to - from) % 2 == 1) => to - 1,
+        _ => to,
     }
-    if (to - from) % 2 == 0 {
-        return to;
-    }
-    if (input[to - 1] == b'\n') & (input[to - 2] != b'\n') {
-        return to - 1;
-    }
-    to
 }
 
 // Prints the line that a list begins with, and runs the list on as much of the stores as the line asks for.
@@ -124,6 +112,7 @@ pub fn run_lists(
 {
     let to = io::read_full(STDIN_FILENO, input);
     let mut from = 0;
+    // Lists have no fixed length, so no range says where the next one begins.
     while from < to {
         let first = line_after(input, from, to);
         let next = next_list(input, first, to);

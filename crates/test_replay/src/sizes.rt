@@ -1,5 +1,5 @@
 // The line that a list begins with: =,TEXTURES,VERSIONS,PAGES,ANSWERS,NAME.
-ghost use Rattle.std.specs.Prelude.{◌≤◌};
+ghost use Rattle.std.specs.Prelude.{◌≤◌, IfSome};
 ghost use Rattle.test_replay.specs.ReplayConstants.{most_entries, most_pages, most_textures, most_versions};
 
 use crate::constants::{MOST_ENTRIES, MOST_PAGES, MOST_TEXTURES, MOST_VERSIONS};
@@ -21,31 +21,33 @@ struct Size {
     next: usize,
 }
 
-// Returns the size in the field that begins at `at`. A field that is no number, or one past the most, or the line's last, counts as 0, and the line's end
-// as its next field.
+// Returns the size in the field that begins at `at`. There is none in a field that is no number, or one past the most, or the line's last.
+fn given_at(line: &[u8], at: usize, most: usize) -> Option<Size>
+    ensures { IfSome result (λ size. size.places ≤ most) }
+{
+    if line.len() < at {
+        return None;
+    }
+    let NumberAt::Ends(value, end) = number_at(line, at) else {
+        return None;
+    };
+    if ((most as u64) < value) | (line.len() <= end) {
+        return None;
+    }
+    Some(Size {
+        places: value as usize,
+        next: end + 1,
+    })
+}
+
+// Returns that size; where there is none, 0, and the line's end as the next field.
 fn size_at(line: &[u8], at: usize, most: usize) -> Size
     ensures { result.places ≤ most }
 {
-    let none = Size {
+    given_at(line, at, most).unwrap_or(Size {
         places: 0,
         next: line.len(),
-    };
-    if line.len() < at {
-        return none;
-    }
-    let NumberAt::Ends(value, end) = number_at(line, at) else {
-        return none;
-    };
-    if (most as u64) < value {
-        return none;
-    }
-    if line.len() <= end {
-        return none;
-    }
-    Size {
-        places: value as usize,
-        next: end + 1,
-    }
+    })
 }
 
 // Returns the sizes of a line, whose first field is "=".

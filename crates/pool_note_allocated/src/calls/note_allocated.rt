@@ -4,21 +4,23 @@ ghost use Rattle.pool_rules.specs.declared.budget.VersionBudget.{VersionBudget};
 ghost use Rattle.pool_rules.specs.NoteAllocated.{pressed_after};
 ghost use Rattle.pool_memory.specs.Lent.{lent_by, at_entry, at_exit};
 ghost use Rattle.pool_memory.specs.IsPool.{is_pool};
+ghost use Rattle.grid_shapes.specs.Outcomes.{outcome_number};
 ghost use Rattle.pool_memory.specs.Calls.{told_number, note_allocated_on};
 ghost use Rattle.pool_note_allocated.specs.NoteAllocated.{counts_relieved, noted_book};
 ghost use Rattle.pool_rules.specs.RuleConstants.{most_places};
 
 use crate::relieve::relieve;
+use grid_shapes::Refusal;
 use pool_memory::{PacingBook, Pool};
 use pool_relief_line::{bytes_before, parking_line};
 use pool_rules::VersionBudget;
 
-// The pool and the book after the call, and 01's number: it is 0 on every pool.
+// The pool and the book after the call, and whether it was accepted: it is on every pool.
 #[derive(Clone, Copy)]
 pub struct NotedAnswer {
     pub pool: Pool,
     pub book: PacingBook,
-    pub outcome: u64,
+    pub outcome: Result<(), Refusal>,
 }
 
 // Tells whether the mark is set then: it is set above the line, released below `resume_below`, and otherwise as it was, so that a
@@ -32,16 +34,6 @@ fn pressed_after(budget: VersionBudget, allocated: u64, pressed: bool) -> bool
     budget.line < allocated
 }
 
-// Returns the allocated bytes above the line.
-fn excess_over(line: u64, allocated: u64) -> u64
-    ensures { result ≡ allocated - line }
-{
-    if allocated < line {
-        return 0;
-    }
-    allocated - line
-}
-
 // Returns the book with the mark and the excess of `allocated` bytes.
 fn noted(pool: Pool, book: PacingBook, allocated: u64) -> PacingBook
     ensures { result ≡ noted_book pool book allocated }
@@ -50,10 +42,11 @@ fn noted(pool: Pool, book: PacingBook, allocated: u64) -> PacingBook
         cap: pool.cap,
         line: pool.line,
     };
-    let mut after = book;
-    after.pressed = pressed_after(budget, allocated, book.pressed == 1) as u64;
-    after.excess = excess_over(pool.line, allocated);
-    after
+    PacingBook {
+        pressed: pressed_after(budget, allocated, book.pressed == 1) as u64,
+        excess: allocated.saturating_sub(pool.line),
+        ..book
+    }
 }
 
 // Returns the counts when `kept` spares are left and `bytes` bytes went to the destroy queue.
@@ -63,13 +56,14 @@ fn counts_after(pool: Pool, kept: usize, bytes: u64) -> Pool
     ensures { result ≡ counts_relieved pool kept bytes }
 {
     let given = pool.kept - kept;
-    let mut after = pool;
-    after.kept = kept;
-    after.doomed = pool.doomed + given;
-    after.since = pool.since + given as u64;
-    after.parked = pool.parked - bytes;
-    after.dooming = pool.dooming + bytes;
-    after
+    Pool {
+        kept,
+        doomed: pool.doomed + given,
+        since: pool.since + given as u64,
+        parked: pool.parked - bytes,
+        dooming: pool.dooming + bytes,
+        ..pool
+    }
 }
 
 // Notes how many bytes the process has allocated. If what is queued for destruction does not cover the excess, spares are given up,
@@ -86,16 +80,16 @@ pub fn note_allocated(
     allocated: u64,
 ) -> NotedAnswer
     requires { is_pool (lent_by pool book textures.old retiring.now doomed.old spares.old newest.now stamps.now) ≡ true }
-    ensures { (told_number result.outcome, at_exit result.pool result.book textures.new retiring.now doomed.new spares.new newest.now stamps.now)
+    ensures { (told_number (outcome_number result.outcome), at_exit result.pool result.book textures.new retiring.now doomed.new spares.new newest.now stamps.now)
         ≡ note_allocated_on (at_entry pool book textures.old retiring.now doomed.old spares.old newest.now stamps.now) allocated }
 {
     let after = noted(pool, book, allocated);
-    let excess = excess_over(pool.line, allocated);
+    let excess = allocated.saturating_sub(pool.line);
     if excess <= pool.dooming {
         return NotedAnswer {
             pool,
             book: after,
-            outcome: 0,
+            outcome: Ok(()),
         };
     }
     let line = parking_line(textures, pool.tracked, spares, pool.dooming, excess);
@@ -106,6 +100,6 @@ pub fn note_allocated(
     NotedAnswer {
         pool: counts_after(pool, relief.kept, relief.bytes),
         book: after,
-        outcome: 0,
+        outcome: Ok(()),
     }
 }

@@ -1,16 +1,18 @@
 // A pool just opened (the Rust's `new`).
 ghost use Rattle.std.specs.Prelude.{◌≡◌};
+ghost use Rattle.grid_shapes.specs.Outcomes.{outcome_number};
 ghost use Rattle.pool_memory.specs.Lent.{at_entry};
 ghost use Rattle.pool_memory.specs.Calls.{open_number, opened_pool, opened_book};
 
 use crate::calls::sizes_fit::sizes_fit;
+use grid_shapes::Refusal;
 use pool_memory::{PacingBook, Pool};
 use pool_rules::{DESTROY_SPREAD_DRAINS, VersionBudget};
 
-// Holds 01's number, 0 if the pool was opened, and the pool and the pacing book to begin with.
+// Holds whether the pool was opened, and the pool and the pacing book to begin with.
 #[derive(Clone, Copy)]
 pub struct OpenAnswer {
-    pub outcome: u64,
+    pub outcome: Result<(), Refusal>,
     pub pool: Pool,
     pub book: PacingBook,
 }
@@ -61,16 +63,15 @@ pub fn open(
     newest: &[u64],
     stamps: &[u64],
 ) -> OpenAnswer
-    ensures { result ≡ record {
-      outcome = open_number (at_entry (opened_pool working) opened_book textures.now retiring.now doomed.now spares.now newest.now stamps.now);
-      pool = opened_pool working;
-      book = opened_book;
-    } }
+    ensures outcome { outcome_number result.outcome
+        ≡ open_number (at_entry (opened_pool working) opened_book textures.now retiring.now doomed.now spares.now newest.now stamps.now) }
+    ensures pool { result.pool ≡ opened_pool working }
+    ensures book { result.book ≡ opened_book }
 {
     let fits = sizes_fit(textures, retiring, doomed, spares, newest, stamps);
     let pool = opened_pool(working);
     let book = opened_book();
-    let outcome = if fits { 0 } else { 1 };
+    let outcome = if fits { Ok(()) } else { Err(Refusal::NoPool) };
     OpenAnswer {
         outcome,
         pool,

@@ -8,9 +8,10 @@ ghost use Rattle.pool_take_doomed.specs.Answer.{handed_told};
 ghost use Rattle.pool_take_doomed.specs.DrainVersions.{drained_views, drained_counts, drained_book, cleared};
 ghost use Rattle.pool_records.specs.RecordConstants.{doomed_stride, retiring_stride, spare_stride, texture_stride};
 
-use crate::answer::{DrainAnswer, Handed};
+use crate::answer::DrainAnswer;
 use crate::copy_column::copy_column;
 use base_tables::ring_drop;
+use grid_shapes::Refusal;
 use pool_memory::{PacingBook, Pool};
 use pool_records::{
     DOOMED_STRIDE, RETIRING_STRIDE, SPARE_STRIDE, TEXTURE_SPARES_AT, TEXTURE_STRIDE,
@@ -76,10 +77,8 @@ fn clear_spares(textures: &mut [u64], n: usize)
     requires { texture_stride * n ≤ length textures.old }
     ensures { textures.new ≡ cleared n textures.old }
 {
-    let mut i = 0;
-    while i < n {
+    for i in 0..n {
         textures[TEXTURE_STRIDE * i + TEXTURE_SPARES_AT] = 0;
-        i += 1;
     }
 }
 
@@ -90,21 +89,14 @@ fn drained_counts(pool: Pool, places: usize) -> Pool
 {
     let first = ring_drop(places, pool.first, pool.doomed);
     Pool {
-        tracked: pool.tracked,
         kept: 0,
-        grids: pool.grids,
-        stamps: pool.stamps,
-        head: pool.head,
-        popped: pool.popped,
         queued: 0,
         first,
         doomed: 0,
         since: 0,
-        trackings: pool.trackings,
         parked: 0,
         dooming: 0,
-        cap: pool.cap,
-        line: pool.line,
+        ..pool
     }
 }
 
@@ -115,9 +107,7 @@ fn drained_book(book: PacingBook) -> PacingBook
 {
     PacingBook {
         arrivals: [0; DESTROY_SPREAD_DRAINS],
-        slot: book.slot,
-        pressed: book.pressed,
-        excess: book.excess,
+        ..book
     }
 }
 
@@ -144,7 +134,7 @@ pub fn drain_versions(
         return DrainAnswer {
             pool,
             book,
-            handed: Handed::Refused(11),
+            handed: Err(Refusal::ShortAnswer),
         };
     }
     copy_views(pool, places, retiring, doomed, spares, buffer);
@@ -152,6 +142,6 @@ pub fn drain_versions(
     DrainAnswer {
         pool: drained_counts(pool, places),
         book: drained_book(book),
-        handed: Handed::Views(count),
+        handed: Ok(count),
     }
 }

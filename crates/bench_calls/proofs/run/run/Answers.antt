@@ -1,5 +1,5 @@
 -- `run` meets its contract: a pool that was opened is one, and every phase leaves one. Assumes nothing.
-use Rattle.std.proofs.Common.{refl, ◌∙◌, arith}
+use Rattle.std.proofs.Common.{refl, ◌∙◌}
 use Rattle.bench_calls.proofs.run.run.Goals as goal
 
 pub loop-k-init : goal.loop-k-init
@@ -7,12 +7,6 @@ loop-k-init g c = (c.open_work-opened.ensures c.if-opened-ne0.false, refl, refl,
 
 pub call_all-done-requires : goal.call_all-done-requires
 call_all-done-requires g c = c.loop-k.invariant.0
-
-pub overflow_add-k : goal.overflow_add-k
-overflow_add-k g c = omega (arith, c.loop-k-test.true, c.phases_of-n.type_inv)
-
-pub loop-k-smaller : goal.loop-k-smaller
-loop-k-smaller g c = omega (arith, c.loop-k-test.true)
 
 pub loop-k-preserved : goal.loop-k-preserved
 loop-k-preserved g c =

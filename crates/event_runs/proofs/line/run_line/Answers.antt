@@ -7,18 +7,18 @@ use Rattle.event_runs.proofs.Rooms.{answer_fits, output_fits}
 use Rattle.event_runs.proofs.Runs.{event_state, event_output}
 use Rattle.event_runs.proofs.line.run_line.Goals as goal
 
-pub put_answer-end-requires : goal.put_answer-end-requires
-put_answer-end-requires c =
+pub put_entries-end-requires : goal.put_entries-end-requires
+put_entries-end-requires c =
     let a = c.answer_event-answered in
-    (answer_fits a.result.answer _ _ _ _ c.args.filled _ a.ensures.0 a.auto.copies a.auto.views c.requires.1, a.ensures.0)
+    (answer_fits a.result.answer _ _ _ _ c.args.filled _ a.ensures.answered.0 a.ensures.same.copies_long a.ensures.same.views_long c.requires.1, a.ensures.answered.0)
 
-pub returns : goal.returns
-returns c =
+pub returns-clause-ran : goal.returns-clause-ran
+returns-clause-ran c =
     let a = c.answer_event-answered in
-    let p = c.put_answer-end in
-    let t = event_output _ _ _ _ _ a.result.answer _ _ a.ensures.1 c.args.number in record {
-      state = event_state _ _ _ _ _ a.result.answer _ _ a.ensures.1;
+    let p = c.put_entries-end in
+    let t = event_output _ _ _ _ _ a.result.answer _ _ a.ensures.answered.1 c.args.number in record {
+      state = event_state _ _ _ _ _ a.result.answer _ _ a.ensures.answered.1;
       length_is = p.ensures.0 ∙ ap (λ l. c.args.filled + length l) t;
       put = p.ensures.1 ∙ ap (sets c.args.out.now c.args.filled) t;
-      fits = output_fits a.result.answer _ _ _ _ c.args.filled _ c.args.number _ a.ensures.0 a.auto.copies a.auto.views c.requires.1 p.ensures.0;
+      fits = output_fits a.result.answer _ _ _ _ c.args.filled _ c.args.number _ a.ensures.answered.0 a.ensures.same.copies_long a.ensures.same.views_long c.requires.1 p.ensures.0;
     }

@@ -8,11 +8,11 @@ pub returns-then-said-ne0 : goal.returns-then-said-ne0
 returns-then-said-ne0 c =
     let a = c.args in
     let o = c.open-said in
-    open_refused a.session a.textures.now a.retiring.now a.doomed.now a.spares.now a.newest.now a.stamps.now a.working _ (ap (λ (x : OpenAnswer). x.outcome) o.ensures) c.if-said-ne0.true
+    open_refused a.session a.stores.now.textures.now a.stores.now.retiring.now a.stores.now.doomed.now a.stores.now.spares.now a.stores.now.newest.now a.stores.now.stamps.now a.working _ (ap (λ (x : OpenAnswer). x.outcome) o.ensures) c.if-said-ne0.true
 
 pub returns : goal.returns
 returns c =
     let a = c.args in
     let o = c.open-said in
-    open_done a.session a.textures.now a.retiring.now a.doomed.now a.spares.now a.newest.now a.stamps.now a.working _ (ap (λ (x : OpenAnswer). x.outcome) o.ensures) c.if-said-ne0.false _ _
+    open_done a.session a.stores.now.textures.now a.stores.now.retiring.now a.stores.now.doomed.now a.stores.now.spares.now a.stores.now.newest.now a.stores.now.stamps.now a.working _ (ap (λ (x : OpenAnswer). x.outcome) o.ensures) c.if-said-ne0.false _ _
     (ap (λ (x : OpenAnswer). x.pool) o.ensures) (ap (λ (x : OpenAnswer). x.book) o.ensures)

@@ -1,35 +1,25 @@
--- `find_byte` meets its contract: what is found from i on is what is looked for, eight a turn and then one a turn. Assumes nothing.
-use borrow.Author.Rules.{rules}
-use mathlib.Core.Path.{sym, ◌∙◌}
-use native.Mathlib.Omega.{arith}
-use Rattle.event_text.proofs.Searches.{found_drop, found_more, found_stop, found_done, found_eight, found_known}
+-- `find_byte` meets its contract: what is found from i on is what is looked for, after blocks of eight. Assumes nothing.
+use Rattle.std.proofs.Common.{◌≡◌, ◌+◌, ◌-◌, length, take, drop, sym, ap, refl, ◌∙◌, arith, rules}
+use borrow.Author.Tests.{tests}
+use Rattle.std.proofs.lemmas.List.{take_rest}
+use Rattle.std.proofs.lemmas.Iterator.{IsFirst-from_position, YieldsList-from_slice, index_from_first}
+use Rattle.event_text.specs.Searches.{index_of}
+use Rattle.event_text.proofs.Searches.{index_hit, index_miss, index_none, found_eight}
 use Rattle.event_text.proofs.find.find_byte.Goals as goal
 
 pub loop-i-init : goal.loop-i-init
-loop-i-init c = (search rules, found_drop _ _ _)
-
-pub find_known-requires : goal.find_known-requires
-find_known-requires c = found_known _ _ _ (omega arith) (sym c.eight_have.ensures ∙ c.if-eight_have.true)
-
-pub returns-then-eight_have : goal.returns-then-eight_have
-returns-then-eight_have c =
-    c.find_known.ensures ∙ sym (found_drop _ _ _) ∙ c.loop-i.invariant.1
+loop-i-init c = (search rules, refl)
 
 pub loop-i-preserved : goal.loop-i-preserved
 loop-i-preserved c =
-    let a = c.args in
-    (search rules, sym (found_eight a.b c.loop-i.i a.s.now (omega arith) (sym c.eight_have.ensures ∙ c.if-eight_have.false)) ∙ c.loop-i.invariant.1)
-
-pub loop-i-2-init : goal.loop-i-2-init
-loop-i-2-init c = (search rules, c.loop-i.invariant.1)
-
-pub returns-then-s-i : goal.returns-then-s-i
-returns-then-s-i c =
-    sym (found_stop _ _ _ c.loop-i-2-test.true c.if-s-i.true) ∙ c.loop-i-2.invariant.1
-
-pub loop-i-2-preserved : goal.loop-i-2-preserved
-loop-i-2-preserved c =
-    (search rules, sym (found_more _ _ _ c.loop-i-2-test.true c.if-s-i.false) ∙ c.loop-i-2.invariant.1)
+    (omega arith, sym (found_eight c.args.b c.loop-i.i c.args.s.now (omega arith) (sym c.eight_have.ensures ∙ c.if-not-eight_have.true)) ∙ c.loop-i.invariant.1)
 
 pub returns : goal.returns
-returns c = sym (found_done _ _ _ c.loop-i-2-test.false) ∙ c.loop-i-2.invariant.1
+returns c =
+    let b = c.args.b in
+    let i = c.loop-i.i in
+    let s = c.args.s.now in
+    let rest = take (length s - i) (drop i s) in
+    let first = IsFirst-from_position _ _ _ (λ x. x ≡ b) (λ x. x ≡ b → ⊥) c.position.ensures.ran (YieldsList-from_slice rest c.iter.ensures.rest) (λ x q k. search (rules, tests)) (λ x q k. search (rules, tests)) in
+    let found = index_from_first (index_of b) (λ x. x ≡ b) (λ x. x ≡ b → ⊥) (index_none b) (index_hit b) (index_miss b) rest c.position.result first in
+    ap (λ k. i + k) (c.unwrap_or.ensures ∙ sym found ∙ ap (index_of b) (take_rest s i)) ∙ c.loop-i.invariant.1

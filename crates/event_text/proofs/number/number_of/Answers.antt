@@ -4,18 +4,18 @@ use borrow.Author.Tests.{eq-eqb, ne_eqb}
 use Rattle.event_text.proofs.Numbers.{whole_of, number_whole}
 use Rattle.event_text.proofs.number.number_of.Goals as goal
 
-pub returns-in_default : goal.returns-in_default
+pub returns-in_err-read : goal.returns-in_err-read
 unfolding whole_of
-returns-in_default c = ap (whole_of _) (sym c.in_default.is ∙ c.number_at.ensures) ∙ number_whole _
+returns-in_err-read c = c.from_residual.ensures ∙ ap (whole_of _) (sym c.in_err-read.was ∙ c.number_at.ensures) ∙ number_whole _
 
-pub returns-then-end-s : goal.returns-then-end-s
+pub returns-then-read-s : goal.returns-then-read-s
 unfolding whole_of
-returns-then-end-s c =
-    let f = ap (whole_of _) (sym c.in-Ends.is ∙ c.number_at.ensures) ∙ number_whole _ in
-    rw (eq-eqb _ _ c.if-end-s.true) at f
+returns-then-read-s c =
+    let f = ap (whole_of _) (sym c.in_ok-read.was ∙ c.number_at.ensures) ∙ number_whole _ in
+    rw (eq-eqb _ _ c.if-read-s.true) at f
 
 pub returns : goal.returns
 unfolding whole_of
 returns c =
-    let f = ap (whole_of _) (sym c.in-Ends.is ∙ c.number_at.ensures) ∙ number_whole _ in
-    rw (ne_eqb _ _ c.if-end-s.false) at f
+    let f = ap (whole_of _) (sym c.in_ok-read.was ∙ c.number_at.ensures) ∙ number_whole _ in
+    rw (ne_eqb _ _ c.if-read-s.false) at f

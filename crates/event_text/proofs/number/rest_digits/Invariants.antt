@@ -9,6 +9,3 @@ use Rattle.event_text.proofs.number.rest_digits.Given as goal
 abbrev pub invariant-loop-i : goal.invariant-loop-i
 invariant-loop-i l =
     (l.at ≤ l.i) × (l.i ≤ l.stop) × (l.value < 10 ^ (l.i - l.at)) × (read_on l.value l.at l.i (leading_digits (from l.i l.text)) ≡ read_on l.start l.at l.from (leading_digits (drop l.from l.text)))
-
-abbrev pub decreases-loop-i : goal.decreases-loop-i
-decreases-loop-i l = l.stop - l.i

@@ -11,34 +11,14 @@ use Rattle.grid_axes.proofs.axis.span_size.Goals.{Start}
 fits : (c : Start) → SpanFits c.args.a c.args.s
 fits c = span_fits c.args.a c.args.s c.requires.0 c.requires.1
 
-pub overflow_mul-start : goal.overflow_mul-start
-overflow_mul-start c =
-    omega (arith, (fits (goal.at.overflow_mul-start c).Start).low, c.requires.0.extent)
-
-pub overflow_add-end : goal.overflow_add-end
-overflow_add-end c =
-    omega (arith, c.requires.0.tiles, c.requires.1.inside)
-
-pub overflow_mul-end : goal.overflow_mul-end
-overflow_mul-end c =
-    omega (arith, (fits (goal.at.overflow_mul-end c).Start).high, c.requires.0.extent, c.requires.0.narrow)
-
 pub overflow_sub-result : goal.overflow_sub-result
-overflow_sub-result c = omega (arith, (fits (goal.at.overflow_sub-result c).Start).order)
+overflow_sub-result c =
+    let f = fits (goal.at.overflow_sub-result c).Start in
+    omega (arith, f.low, f.order)
 
-pub overflow_sub-result-else-end-a : goal.overflow_sub-result-else-end-a
-overflow_sub-result-else-end-a c = omega (arith, (fits (goal.at.overflow_sub-result-else-end-a c).Start).low)
-
-pub returns-then-end-a : goal.returns-then-end-a
+pub returns : goal.returns
 unfolding span_size span_start
-returns-then-end-a c =
+returns c =
     let e = c.args.a.edge in
     let n : (c.args.s.last + 1) * e ≡ suc c.args.s.last * e = ap (λ (k : ℕ). k * e) (add-one c.args.s.last) in
-    omega (arith, n, c.if-end-a.true)
-
-pub returns-else-end-a : goal.returns-else-end-a
-unfolding span_size span_start
-returns-else-end-a c =
-    let e = c.args.a.edge in
-    let n : (c.args.s.last + 1) * e ≡ suc c.args.s.last * e = ap (λ (k : ℕ). k * e) (add-one c.args.s.last) in
-    omega (arith, n, c.if-end-a.false)
+    omega (arith, n)

@@ -21,9 +21,6 @@ returns-then-s-level c =
     let shape = sym c.is_shape.ensures ∙ not-false _ c.if-not-is_shape.false-raw in
     sym (copy_past a.s a.level a.region shape (omega arith))
 
-pub level_copy_bytes-requires : goal.level_copy_bytes-requires
-level_copy_bytes-requires c = sym c.is_shape.ensures ∙ not-false _ c.if-not-is_shape.false-raw
-
 pub returns : goal.returns
 unfolding of_bytes
 returns c =

@@ -7,10 +7,6 @@ pub returns-then-extent-start : goal.returns-then-extent-start
 unfolding cut_size
 returns-then-extent-start c = omega arith
 
-pub returns-then-size-room : goal.returns-then-size-room
+pub returns : goal.returns
 unfolding cut_size
-returns-then-size-room c = omega arith
-
-pub returns-else-size-room : goal.returns-else-size-room
-unfolding cut_size
-returns-else-size-room c = omega arith
+returns c = omega arith

@@ -13,7 +13,7 @@ use Rattle.grid_rects.proofs.upload.upload_written_rect.Goals.{After-rect_on_blo
 -- the grid's test, at the format's block edge
 grid : (c : After-rect_on_block_grid) →
     c.rect_on_block_grid.result
-    ≡ rect_on_grid (block_edge c.in-Format.format) c.args.rect
+    ≡ rect_on_grid (block_edge c.in-Some.format) c.args.rect
     c.args.width c.args.height
 grid c =
     let a = c.args in
@@ -23,19 +23,19 @@ pub returns-then-format-gt8 : goal.returns-then-format-gt8
 unfolding of_upload
 returns-then-format-gt8 c =
     let a = c.args in
-    sym (ap (upload_outcome a.rect a.width a.height) c.in-Format.is ∙ upload_refused a.rect a.width a.height c.in-Format.format (omega arith))
+    sym (ap (upload_outcome a.rect a.width a.height) c.in-Some.is ∙ upload_refused a.rect a.width a.height c.in-Some.format (omega arith))
 
-pub returns-in-ByTexel : goal.returns-in-ByTexel
+pub returns-in_default : goal.returns-in_default
 unfolding of_upload upload_outcome rect_fields
-returns-in-ByTexel c =
+returns-in_default c =
     let a = c.args in
-    sym (ap (upload_outcome a.rect a.width a.height) c.in-ByTexel.is)
+    sym (ap (upload_outcome a.rect a.width a.height) c.in_default.is)
 
 pub returns-then-rect_on_block_grid : goal.returns-then-rect_on_block_grid
 unfolding of_upload rect_fields
 returns-then-rect_on_block_grid c =
     let a = c.args in
-    sym (ap (upload_outcome a.rect a.width a.height) c.in-Format.is ∙ upload_on_grid _ _ _ _ c.if-format-gt8.false (sym (grid (goal.at.returns-then-rect_on_block_grid c).After-rect_on_block_grid) ∙ c.if-rect_on_block_grid.true))
+    sym (ap (upload_outcome a.rect a.width a.height) c.in-Some.is ∙ upload_on_grid _ _ _ _ c.if-format-gt8.false (sym (grid (goal.at.returns-then-rect_on_block_grid c).After-rect_on_block_grid) ∙ c.if-rect_on_block_grid.true))
 
 pub returns-else-rect_on_block_grid : goal.returns-else-rect_on_block_grid
 unfolding of_upload rect_fields
@@ -43,4 +43,4 @@ returns-else-rect_on_block_grid c =
     let a = c.args in
     let off = sym (grid (goal.at.returns-else-rect_on_block_grid c).After-rect_on_block_grid) ∙ c.if-rect_on_block_grid.false in
     ap (λ (r : TexelRect). accepted (rect_fields r)) c.level_rect.ensures
-    ∙ sym (ap (upload_outcome a.rect a.width a.height) c.in-Format.is ∙ upload_off_grid _ _ _ _ c.if-format-gt8.false off)
+    ∙ sym (ap (upload_outcome a.rect a.width a.height) c.in-Some.is ∙ upload_off_grid _ _ _ _ c.if-format-gt8.false off)

@@ -6,9 +6,6 @@ use Rattle.grid_shapes.specs.Outcomes.{accepted, of_bytes}
 use Rattle.grid_shapes.proofs.Answers.{bytes_refused, bytes_accepted}
 use Rattle.grid_shapes.proofs.shape.bytes.Goals as goal
 
-pub shape_bytes-requires : goal.shape_bytes-requires
-shape_bytes-requires c = sym c.is_shape.ensures ∙ c.if-is_shape.true
-
 pub returns-then-is_shape : goal.returns-then-is_shape
 unfolding of_bytes
 returns-then-is_shape c =

@@ -34,6 +34,3 @@ overflow_mul-result-2 c =
       whole,
       mul-le-mul (mul-le-mul (ceil_bound a.across a.edge 16384 p.3 p.0) (ceil_bound a.down a.edge 16384 p.3 p.1)) p.2,
     )
-
-pub returns : goal.returns
-returns c = λ i. area (goal.at.returns c).After-blocks-3 i * c.args.deep

@@ -1,5 +1,5 @@
 -- `grid_shapes::shape::shape_blocks` meets its contract. The blocks so far and those of the levels that are left make the whole, and the extents are the last level's.
-use Prim.Native.Nat.{ℕ, ◌+◌, ◌-◌, ◌<◌}
+use Prim.Native.Nat.{ℕ, ◌+◌, ◌-◌, ◌≤◌}
 use mathlib.Core.Path.{◌≡◌}
 use Rattle.base_blocks.specs.Lists.{total, listed}
 use Rattle.base_blocks.proofs.Listed.{left}
@@ -19,9 +19,8 @@ all_levels s = total (level_blocks s) (listed (λ (k : ℕ). k) 0 s.levels)
 abbrev pub At : VersionShape → ℕ → ℕ → ℕ → ℕ → Type 0
 At s level across down deep = (across ≡ level_extent s.width level) × (down ≡ level_extent s.height level) × (deep ≡ level_depth s level)
 
-abbrev pub invariant-loop-last : goal.invariant-loop-last
-invariant-loop-last l =
-    (l.last < l.s.levels) × (l.sum + still l.s (l.last + 1) ≡ all_levels l.s) × At l.s l.last l.across l.down l.deep
-
-abbrev pub decreases-loop-last : goal.decreases-loop-last
-decreases-loop-last l = l.s.levels - l.last
+-- the counter is the next level
+abbrev pub invariant-loop : goal.invariant-loop
+invariant-loop l =
+    let s = l.fn.s in
+    (1 ≤ l.counter) × (l.sum + still s l.counter ≡ all_levels s) × At s (l.counter - 1) l.across l.down l.deep

@@ -1,6 +1,6 @@
 -- `grid_shapes::shape::shape_bytes` meets its contract. The blocks of every level times the bytes of a block and the slices, which a shape keeps at 2^44 or less.
 use Prim.Native.Nat.{◌*◌}
-use mathlib.Core.Path.{◌≡◌, sym, ◌∙◌}
+use mathlib.Core.Path.{◌≡◌, ◌∙◌}
 use native.Mathlib.Omega.{arith}
 use native.Mathlib.Nat.{mul-le-mul}
 use Rattle.grid_shapes.specs.Shapes.{bytes_of}
@@ -29,17 +29,11 @@ overflow_mul-bytes c =
     let both : c.block_bytes.result * c.slices.result ≡ _ = λ i. c.block_bytes.ensures i * c.slices.ensures i in
     omega (arith, both, mul-le-mul (block_bytes_bound s.format) (slices_bound s))
 
-pub shape_blocks-requires : goal.shape_blocks-requires
-shape_blocks-requires c = (c.requires, sym c.if-edge-eq1.true ∙ c.block_edge-edge.ensures)
-
 pub overflow_mul-result : goal.overflow_mul-result
 overflow_mul-result c = omega (arith, plain (goal.at.overflow_mul-result c).After-shape_blocks, bytes_bound c.args.s c.requires)
 
 pub returns-then-edge-eq1 : goal.returns-then-edge-eq1
 returns-then-edge-eq1 c = plain (goal.at.returns-then-edge-eq1 c).After-shape_blocks
-
-pub shape_blocks-requires-2 : goal.shape_blocks-requires-2
-shape_blocks-requires-2 c = (c.requires, c.block_edge-edge.ensures)
 
 pub overflow_mul-result-2 : goal.overflow_mul-result-2
 overflow_mul-result-2 c = omega (arith, other (goal.at.overflow_mul-result-2 c).After-shape_blocks-2, bytes_bound c.args.s c.requires)

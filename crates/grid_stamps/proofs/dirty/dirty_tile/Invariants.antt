@@ -1,10 +1,7 @@
 -- Some dirty tile, or none if none is. Assumes nothing.
-use Prim.Native.Nat.{ℕ, ◌-◌, ◌≤◌, ◌<◌}
+use Prim.Native.Nat.{ℕ, ◌≤◌, ◌<◌}
 use lib.ListN.{get_or}
 use Rattle.grid_stamps.proofs.dirty.dirty_tile.Given as goal
 
 abbrev pub invariant-loop-k : goal.invariant-loop-k
-invariant-loop-k l = (l.k ≤ l.count) × ((i : ℕ) → i < l.k → get_or l.page i 0 ≤ l.held)
-
-abbrev pub decreases-loop-k : goal.decreases-loop-k
-decreases-loop-k l = l.count - l.k
+invariant-loop-k l = (i : ℕ) → i < l.k → get_or l.page i 0 ≤ l.held

@@ -5,26 +5,16 @@ use lib.ListN.{take}
 use lib.Seq.{length-take-le}
 use borrow.Author.Tests.{not-true, not-false}
 use Rattle.base_blocks.proofs.Scans.{largest_test}
-use Rattle.grid_stamps.specs.Grids.{tiled, stamp_count, largest_stamp}
+use Rattle.grid_stamps.specs.Grids.{stamp_count, largest_stamp}
 use Rattle.grid_stamps.proofs.newest.is_largest_stamp.Goals as goal
-
-pub stamp_count-count-requires : goal.stamp_count-count-requires
-stamp_count-count-requires c = (c.requires.0, c.requires.1)
-
-pub slice_bounds-within-end : goal.slice_bounds-within-end
-slice_bounds-within-end c = sym (length-take-le _ _ (omega (arith, c.stamp_count-count.ensures, c.requires.2)))
 
 pub returns-then-not-within : goal.returns-then-not-within
 unfolding largest_stamp
 returns-then-not-within c =
     let n = c.stamp_count-count.ensures in
     let w = rw n at c.within.ensures in
-    let l = length-take-le (stamp_count (tiled c.args.across c.args.down)) c.args.page.now c.requires.2 in
-    sym (largest_test c.args.newest (take (stamp_count (tiled c.args.across c.args.down)) c.args.page.now) (omega (arith, l, c.requires.3)) ∙ rw (sym w ∙ not-true _ c.if-not-within.true-raw))
-
-pub slice_bounds-contains-end : goal.slice_bounds-contains-end
-slice_bounds-contains-end c =
-    sym (length-take-le _ _ (omega (arith, c.stamp_count-count.ensures, c.requires.2)))
+    let l = length-take-le (stamp_count c.args.tiling) c.args.page.now c.requires.1 in
+    sym (largest_test c.args.newest (take (stamp_count c.args.tiling) c.args.page.now) (omega (arith, l, c.requires.2)) ∙ rw (sym w ∙ not-true _ c.if-not-within.true-raw))
 
 pub returns : goal.returns
 unfolding largest_stamp
@@ -32,5 +22,5 @@ returns c =
     let n = c.stamp_count-count.ensures in
     let w = rw n at c.within.ensures in
     let m = rw n at c.contains.ensures in
-    let l = length-take-le (stamp_count (tiled c.args.across c.args.down)) c.args.page.now c.requires.2 in
-    m ∙ sym (largest_test c.args.newest (take (stamp_count (tiled c.args.across c.args.down)) c.args.page.now) (omega (arith, l, c.requires.3)) ∙ rw (sym w ∙ not-false _ c.if-not-within.false-raw))
+    let l = length-take-le (stamp_count c.args.tiling) c.args.page.now c.requires.1 in
+    m ∙ sym (largest_test c.args.newest (take (stamp_count c.args.tiling) c.args.page.now) (omega (arith, l, c.requires.2)) ∙ rw (sym w ∙ not-false _ c.if-not-within.false-raw))

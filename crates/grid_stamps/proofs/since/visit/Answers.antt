@@ -8,14 +8,14 @@ pub returns-then-stamp-held : goal.returns-then-stamp-held
 unfolding visited
 returns-then-stamp-held c = let a = c.args in rw (le-ltb a.held a.stamp (omega arith))
 
-pub returns-then-seen : goal.returns-then-seen
+pub returns-in-Some : goal.returns-in-Some
 unfolding visited joined
-returns-then-seen c =
+returns-in-Some c =
     let a = c.args in
-    rw (lt-ltb a.held a.stamp c.if-stamp-held.false, c.if-seen.true, c.smaller.ensures, c.larger.ensures, c.smaller-then-seen.ensures, c.larger-then-seen.ensures)
+    rw (lt-ltb a.held a.stamp c.if-stamp-held.false, c.in-Some.is, c.widened.ensures, c.widened-in-Some.ensures)
 
-pub returns : goal.returns
+pub returns-in-None : goal.returns-in-None
 unfolding visited joined
-returns c =
+returns-in-None c =
     let a = c.args in
-    rw (lt-ltb a.held a.stamp c.if-stamp-held.false, c.if-seen.false)
+    rw (lt-ltb a.held a.stamp c.if-stamp-held.false, c.in-None.is, c.one_tile.ensures, c.one_tile-in-None.ensures)

@@ -5,7 +5,6 @@ use native.Mathlib.Nat.{mul_comm}
 use native.Mathlib.Omega.{arith}
 use lib.ListN.{length, take, drop, length-drop}
 use lib.Seq.{length-take-le}
-use borrow.Author.Rules.{rules}
 use Rattle.grid_stamps.specs.Scans.{nothing_seen, all_joined, dirty_row}
 use Rattle.grid_stamps.proofs.Rows.{row_within}
 use Rattle.grid_stamps.proofs.Seen.{line_at, rows_all, rows_step, rows_done}
@@ -19,19 +18,9 @@ run c =
     omega (arith, row_within a.columns 0 a.columns c.loop-row.row a.rows (omega arith) c.loop-row-test.true, mul_comm a.columns a.rows, c.requires.0)
 
 pub loop-row-init : goal.loop-row-init
-unfolding nothing_seen
 loop-row-init c =
     let a = c.args in
-    (search rules, ap (all_joined nothing_seen) (rows_all a.columns a.rows a.held a.page.now))
-
-pub overflow_mul-start : goal.overflow_mul-start
-overflow_mul-start c = omega (arith, run (goal.at.overflow_mul-start c).In-loop-row)
-
-pub overflow_add-end : goal.overflow_add-end
-overflow_add-end c = omega (arith, run (goal.at.overflow_add-end c).In-loop-row)
-
-pub offset_bounds-page-start : goal.offset_bounds-page-start
-offset_bounds-page-start c = omega (arith, run (goal.at.offset_bounds-page-start c).In-loop-row, c.well_formed)
+    ap (all_joined nothing_seen) (rows_all a.columns a.rows a.held a.page.now)
 
 pub loop-row-preserved : goal.loop-row-preserved
 loop-row-preserved c =
@@ -44,9 +33,9 @@ loop-row-preserved c =
     c.visit_row-seen.ensures
     ∙ ap (λ k. all_joined c.loop-row.seen (dirty_row (length (take k (drop (row * a.columns) a.page.now))) row a.held (take k (drop (row * a.columns) a.page.now)))) n
     ∙ ap (λ k. all_joined c.loop-row.seen (dirty_row k row a.held line)) m in
-    (search rules, rw e (sym (rows_step a.columns a.rows a.held a.page.now c.loop-row.seen row c.loop-row-test.true) ∙ c.loop-row.invariant.1))
+    rw e (sym (rows_step a.columns a.rows a.held a.page.now c.loop-row.seen row c.loop-row-test.true) ∙ c.loop-row.invariant)
 
 pub returns : goal.returns
 returns c =
     let a = c.args in
-    sym (rows_done a.columns a.rows a.held a.page.now c.loop-row.seen c.loop-row.row c.loop-row-test.false) ∙ c.loop-row.invariant.1
+    sym (rows_done a.columns a.rows a.held a.page.now c.loop-row.seen c.loop-row.row c.loop-row-test.false) ∙ c.loop-row.invariant

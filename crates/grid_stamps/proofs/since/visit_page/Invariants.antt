@@ -1,6 +1,5 @@
 -- Every row of a page. Assumes nothing.
 use mathlib.Core.Path.{◌≡◌}
-use Prim.Native.Nat.{◌-◌, ◌≤◌}
 use Rattle.grid_stamps.specs.Grids.{dirty_tiles}
 use Rattle.grid_stamps.specs.Scans.{nothing_seen, all_joined}
 use Rattle.grid_stamps.proofs.Seen.{rows_left}
@@ -8,7 +7,4 @@ use Rattle.grid_stamps.proofs.since.visit_page.Given as goal
 
 abbrev pub invariant-loop-row : goal.invariant-loop-row
 invariant-loop-row l =
-    (l.row ≤ l.rows) × (all_joined l.seen (rows_left l.columns l.rows l.held l.page l.row) ≡ all_joined nothing_seen (dirty_tiles l.columns l.rows l.held l.page))
-
-abbrev pub decreases-loop-row : goal.decreases-loop-row
-decreases-loop-row l = l.rows - l.row
+    all_joined l.seen (rows_left l.columns l.rows l.held l.page l.row) ≡ all_joined nothing_seen (dirty_tiles l.columns l.rows l.held l.page)

@@ -1,7 +1,6 @@
 -- One row more. Assumes nothing.
 use mathlib.Core.Path.{sym, ap, ◌∙◌}
 use lib.ListN.{length}
-use borrow.Author.Rules.{rules}
 use Rattle.grid_stamps.specs.Scans.{all_joined}
 use Rattle.grid_stamps.proofs.Seen.{row_all, row_step, row_done, clean_row}
 use Rattle.grid_stamps.proofs.since.visit_row.Goals as goal
@@ -15,16 +14,14 @@ returns-then-within c =
 pub loop-column-init : goal.loop-column-init
 loop-column-init c =
     let a = c.args in
-    (search rules, ap (all_joined a.seen) (row_all (length a.line.now) a.row a.held a.line.now))
+    ap (all_joined a.seen) (row_all (length a.line.now) a.row a.held a.line.now)
 
 pub loop-column-preserved : goal.loop-column-preserved
 loop-column-preserved c =
-    let a = c.args in (
-      search rules,
-      rw c.visit-all.ensures (sym (row_step (length a.line.now) a.row a.held a.line.now c.loop-column.all c.loop-column.column c.loop-column-test.true) ∙ c.loop-column.invariant.1),
-    )
+    let a = c.args in
+    rw c.visit-all.ensures (sym (row_step (length a.line.now) a.row a.held a.line.now c.loop-column.all c.loop-column.column c.loop-column-test.true) ∙ c.loop-column.invariant)
 
 pub returns : goal.returns
 returns c =
     let a = c.args in
-    sym (row_done (length a.line.now) a.row a.held a.line.now c.loop-column.all c.loop-column.column c.loop-column-test.false) ∙ c.loop-column.invariant.1
+    sym (row_done (length a.line.now) a.row a.held a.line.now c.loop-column.all c.loop-column.column c.loop-column-test.false) ∙ c.loop-column.invariant

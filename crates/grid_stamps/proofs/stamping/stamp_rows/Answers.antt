@@ -1,8 +1,6 @@
 -- Rows of stamps, one after the other. Assumes nothing.
-use mathlib.Core.Path.{refl, sym, ap, ◌∙◌}
+use mathlib.Core.Path.{sym, ap, ◌∙◌}
 use Prim.Native.Nat.{◌+◌, ◌-◌, ◌*◌, ◌≤◌}
-use native.Mathlib.Omega.{arith}
-use borrow.Author.Rules.{rules}
 use Rattle.grid_stamps.specs.Scans.{rows_stamped}
 use Rattle.grid_stamps.proofs.Rows.{row_within, rows_next, rows_done}
 use Rattle.grid_stamps.proofs.stamping.stamp_rows.Goals as goal
@@ -15,29 +13,16 @@ run : (c : In-loop-row)
 run c =
     row_within c.args.columns c.args.left c.args.width c.loop-row.row c.args.bottom c.requires.0 c.loop-row-test.true
 
-pub loop-row-init : goal.loop-row-init
-loop-row-init c = (search rules, search rules, refl)
-
-pub overflow_mul-row : goal.overflow_mul-row
-overflow_mul-row c = omega (arith, run (goal.at.overflow_mul-row c).In-loop-row, c.requires.1)
-
-pub overflow_add-row : goal.overflow_add-row
-overflow_add-row c = omega (arith, run (goal.at.overflow_add-row c).In-loop-row, c.requires.1)
-
-pub fill-requires : goal.fill-requires
-fill-requires c = omega (arith, run (goal.at.fill-requires c).In-loop-row, c.requires.1, c.loop-row.invariant.1)
-
 pub loop-row-preserved : goal.loop-row-preserved
 loop-row-preserved c =
     let a = c.args in (
-      search rules,
-      c.fill.auto.s ∙ c.loop-row.invariant.1,
+      c.fill.auto.s ∙ c.loop-row.invariant.0,
       ap (rows_stamped a.columns a.left a.width a.n (c.loop-row.row + 1) (a.bottom - (c.loop-row.row + 1))) c.fill.ensures
           ∙ sym (rows_next a.columns a.left a.width a.n a.bottom c.loop-row.page c.loop-row.row c.loop-row-test.true)
-          ∙ c.loop-row.invariant.2,
+          ∙ c.loop-row.invariant.1,
     )
 
 pub returns : goal.returns
 returns c =
     let a = c.args in
-    sym (rows_done a.columns a.left a.width a.n a.bottom c.loop-row.page c.loop-row.row c.loop-row-test.false) ∙ c.loop-row.invariant.2
+    sym (rows_done a.columns a.left a.width a.n a.bottom c.loop-row.page c.loop-row.row c.loop-row-test.false) ∙ c.loop-row.invariant.1

@@ -4,29 +4,23 @@ use Prim.Native.Nat.{ℕ, ◌+◌, ◌<◌}
 use native.Mathlib.Omega.{arith}
 use lib.ListN.{length, length-set}
 use Rattle.grid_shapes.proofs.Shapes.{shape_bounds}
-use Rattle.grid_stamps.specs.Grids.{tiled}
+use Rattle.grid_stamps.specs.Grids.{stamp_count}
 use Rattle.pool_rules.specs.HistorySizes.{level_start}
 use Rattle.pool_rules.proofs.HistorySizes.{level_none}
 use Rattle.pool_records.specs.Tilings.{tiling_number}
-use Rattle.pool_access.proofs.Levels.{axes_ok, count_known, level_more, level_fits}
+use Rattle.pool_access.proofs.Levels.{tiling_known_ok, level_more, level_fits}
 use Rattle.pool_access.proofs.SliceTilingLaws.{first_place, made_number, made_fits, numbers_more}
 use Rattle.pool_access.proofs.slices.tilings_in.Goals as goal
 
 pub loop-level-init : goal.loop-level-init
-loop-level-init c = (omega arith, sym (level_none c.args.shape), refl, λ k h. absurd (let y : ⊥ = omega (arith, h) in y))
-
-pub across_axis-across-requires : goal.across_axis-across-requires
-across_axis-across-requires c = c.requires
-
-pub down_axis-down-requires : goal.down_axis-down-requires
-down_axis-down-requires c = c.requires
+loop-level-init c = (sym (level_none c.args.shape), refl, λ k h. absurd (let y : ⊥ = omega (arith, h) in y))
 
 pub tiling_number-requires : goal.tiling_number-requires
 tiling_number-requires c =
     let h = c.loop-level-test.true in
     let fits =
-    made_fits c.args.shape c.loop-level.level c.loop-level.start (tiled c.across_axis-across.result c.down_axis-down.result) h
-    (first_place c.args.shape c.loop-level.level h) c.loop-level.invariant.1 c.across_axis-across.ensures c.down_axis-down.ensures c.requires.0 in
+    made_fits c.args.shape c.loop-level.level c.loop-level.start c.tiling_in-tiling.result h
+    (first_place c.args.shape c.loop-level.level h) c.loop-level.invariant.0 c.tiling_in-tiling.ensures c.requires.0 in
     record { start = omega (arith, fits.start); across = omega (arith, fits.across); down = omega (arith, fits.down) }
 
 pub offset_bounds-levels-level : goal.offset_bounds-levels-level
@@ -35,43 +29,36 @@ offset_bounds-levels-level c =
 
 pub bounds-levels-level : goal.bounds-levels-level
 bounds-levels-level c =
-    omega (arith, c.loop-level.invariant.2, c.loop-level-test.true, (shape_bounds c.args.shape c.requires.0).levels_bound)
+    omega (arith, c.loop-level.invariant.1, c.loop-level-test.true, (shape_bounds c.args.shape c.requires.0).levels_bound)
 
 pub stamp_count-start-requires : goal.stamp_count-start-requires
-stamp_count-start-requires c =
-    axes_ok c.args.shape c.requires.0 _ c.across_axis-across.result c.down_axis-down.result c.across_axis-across.ensures
-    c.down_axis-down.ensures
+stamp_count-start-requires c = tiling_known_ok c.args.shape c.requires.0 _ _ c.tiling_in-tiling.ensures
 
 pub overflow_add-start : goal.overflow_add-start
 overflow_add-start c =
-    let across = c.across_axis-across in
-    let down = c.down_axis-down in
-    let counted = count_known c.args.shape c.requires.0 _ across.result down.result across.ensures down.ensures _ c.stamp_count-start.ensures in
-    omega (arith, c.loop-level.invariant.1, counted, level_fits c.args.shape c.requires.0 c.loop-level.level c.loop-level-test.true)
+    let counted = c.stamp_count-start.ensures ∙ ap stamp_count c.tiling_in-tiling.ensures in
+    omega (arith, c.loop-level.invariant.0, counted, level_fits c.args.shape c.requires.0 c.loop-level.level c.loop-level-test.true)
 
 pub loop-level-preserved : goal.loop-level-preserved
 loop-level-preserved c =
     let a = c.args in
     let h = c.loop-level-test.true in
-    let across = c.across_axis-across in
-    let down = c.down_axis-down in
+    let tiling = c.tiling_in-tiling in
     let inv = c.loop-level.invariant in
-    let counted = count_known a.shape c.requires.0 _ across.result down.result across.ensures down.ensures _ c.stamp_count-start.ensures in
-    let tiling = made_number a.shape c.loop-level.level c.loop-level.start (tiled across.result down.result) h (first_place a.shape c.loop-level.level h)
-    inv.1 across.ensures down.ensures in
+    let counted = c.stamp_count-start.ensures ∙ ap stamp_count tiling.ensures in
+    let made = made_number a.shape c.loop-level.level c.loop-level.start tiling.result h (first_place a.shape c.loop-level.level h) inv.0 tiling.ensures in
     let number = c.tiling_number.result in
-    let room : c.loop-level.level < length c.loop-level.levels = omega (arith, h, inv.2, (shape_bounds a.shape c.requires.0).levels_bound) in (
-      omega (arith, h),
-      ap₂ (λ (x y : ℕ). x + y) inv.1 counted ∙ sym (level_more a.shape c.loop-level.level),
-      length-set c.loop-level.levels c.loop-level.level number ∙ inv.2,
-      numbers_more (tiling_number a.shape) c.loop-level.levels c.loop-level.level number room (c.tiling_number.ensures ∙ tiling) inv.3,
+    let room : c.loop-level.level < length c.loop-level.levels = omega (arith, h, inv.1, (shape_bounds a.shape c.requires.0).levels_bound) in (
+      ap₂ (λ (x y : ℕ). x + y) inv.0 counted ∙ sym (level_more a.shape c.loop-level.level),
+      length-set c.loop-level.levels c.loop-level.level number ∙ inv.1,
+      numbers_more (tiling_number a.shape) c.loop-level.levels c.loop-level.level number room (c.tiling_number.ensures ∙ made) inv.2,
     )
 
 pub returns : goal.returns
 returns c =
     let a = c.args in
-    let end : c.loop-level.level ≡ a.shape.levels = omega (arith, c.loop-level.invariant.0, c.loop-level-test.false) in
+    let end : c.loop-level.level ≡ a.shape.levels = omega arith in
     record {
-      levels = λ k h. c.loop-level.invariant.3 k (omega (arith, end, h));
-      stamps = c.loop-level.invariant.1 ∙ ap (level_start a.shape) end;
+      levels = λ k h. c.loop-level.invariant.2 k (omega (arith, end, h));
+      stamps = c.loop-level.invariant.0 ∙ ap (level_start a.shape) end;
     }

@@ -11,22 +11,22 @@ use Rattle.pool_access.proofs.spare.spares_between.Invariants.{sum_to, spares_of
 use Rattle.pool_access.proofs.spare.spares_between.Goals as goal
 
 pub loop-j-init : goal.loop-j-init
-loop-j-init c = (c.requires.1, add-zero _)
+loop-j-init c = add-zero _
 
 pub overflow_add-sum-in-loop-j : goal.overflow_add-sum-in-loop-j
 overflow_add-sum-in-loop-j c =
     let t = c.args.textures.now in
     let j = c.loop-j.j in
-    omega (arith, c.requires.2, c.loop-j.invariant.1, spares_number t j, total_with texture_stride read_texture spares_of t j c.args.to c.loop-j-test.true)
+    omega (arith, c.requires.2, c.loop-j.invariant, spares_number t j, total_with texture_stride read_texture spares_of t j c.args.to c.loop-j-test.true)
 
 pub loop-j-preserved : goal.loop-j-preserved
 loop-j-preserved c =
     let t = c.args.textures.now in
     let j = c.loop-j.j in
-    (omega (arith, c.loop-j-test.true), omega (arith, c.loop-j.invariant.1, spares_number t j, total_next texture_stride read_texture spares_of t j))
+    omega (arith, c.loop-j.invariant, spares_number t j, total_next texture_stride read_texture spares_of t j)
 
 pub returns : goal.returns
 returns c =
     let a = c.args in
-    let end : c.loop-j.j ≡ a.to = omega (arith, c.loop-j.invariant.0, c.loop-j-test.false) in
-    c.loop-j.invariant.1 ∙ ap (λ (k : ℕ). sum_to a.textures.now k) end
+    let end : c.loop-j.j ≡ a.to = omega (arith, c.requires.1) in
+    c.loop-j.invariant ∙ ap (λ (k : ℕ). sum_to a.textures.now k) end

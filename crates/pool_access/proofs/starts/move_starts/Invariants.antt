@@ -1,14 +1,10 @@
 -- `move_starts` meets its contract: the records from k on, moved, are what is left to do. Assumes nothing.
 use mathlib.Core.Path.{◌≡◌}
-use Prim.Native.Nat.{◌-◌, ◌≤◌}
 use lib.ListN.{length}
 use Rattle.pool_records.specs.Starts.{starts_moved, StartsMove}
 use Rattle.pool_access.proofs.starts.move_starts.Given as goal
 
 abbrev pub invariant-loop-k : goal.invariant-loop-k
 invariant-loop-k l =
-    (l.k ≤ l.n) × (length l.textures ≡ length l.initial.textures) × StartsMove l.grids l.stamps l.k l.n l.textures
+    (length l.textures ≡ length l.initial.textures) × StartsMove l.grids l.stamps l.k l.n l.textures
     × (starts_moved l.grids l.stamps l.k l.n l.textures ≡ starts_moved l.grids l.stamps l.i l.n l.initial.textures)
-
-abbrev pub decreases-loop-k : goal.decreases-loop-k
-decreases-loop-k l = l.n - l.k

@@ -1,18 +1,9 @@
 -- `owned_at` meets its contract: each number is what its part answers. Assumes nothing.
 use mathlib.Core.Path.{ap, ap₂}
 use Prim.Native.Nat.{ℕ, ◌-◌}
-use native.Mathlib.Omega.{arith}
 use Rattle.pool_memory.proofs.Runs.{first_grid_in, first_stamp_in}
 use Rattle.pool_forget_texture.specs.Owned.{owned_at}
 use Rattle.pool_forget_texture.proofs.owned.owned_at.Goals as goal
-
-pub overflow_sub-grids : goal.overflow_sub-grids
-overflow_sub-grids c =
-    omega (arith, c.grid_end.ensures, ap first_grid_in c.texture_at-t.ensures, c.requires)
-
-pub overflow_sub-stamps : goal.overflow_sub-stamps
-overflow_sub-stamps c =
-    omega (arith, c.stamp_end.ensures, ap first_stamp_in c.texture_at-t.ensures, c.requires)
 
 pub returns : goal.returns
 unfolding owned_at

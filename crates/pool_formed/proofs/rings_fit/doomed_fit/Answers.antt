@@ -16,7 +16,7 @@ pub loop-i-init : goal.loop-i-init
 loop-i-init c =
     let a = c.args in
     let e = left_all (doomed_at a.cap a.first a.doomed.now) a.n in
-    (search rules, search rules, ap (all is_doomed) e, omega (arith, ap doomed_bytes e))
+    (search rules, ap (all is_doomed) e, omega (arith, ap doomed_bytes e))
 
 pub returns-then-one-gt-MOST_SHAPE_BYTES : goal.returns-then-one-gt-MOST_SHAPE_BYTES
 unfolding doomed_fit
@@ -24,7 +24,7 @@ returns-then-one-gt-MOST_SHAPE_BYTES c =
     let a = c.args in
     let s = a.doomed.now in
     let bad = doomed_large a.cap a.first c.loop-i.i s _ c.ring_record-p.ensures.1 c.if-one-gt-MOST_SHAPE_BYTES.true in
-    sym (fails _ 0 (sym c.loop-i.invariant.2 ∙ all_stop (doomed_at a.cap a.first s) a.n is_doomed c.loop-i.i c.loop-i-test.true bad))
+    sym (fails _ 0 (sym c.loop-i.invariant.1 ∙ all_stop (doomed_at a.cap a.first s) a.n is_doomed c.loop-i.i c.loop-i-test.true bad))
 
 pub loop-i-preserved : goal.loop-i-preserved
 loop-i-preserved c =
@@ -34,13 +34,12 @@ loop-i-preserved c =
     let r = c.ring_record-p.ensures.1 in
     let h = c.loop-i-test.true in
     let ok = doomed_fits a.cap a.first c.loop-i.i s _ r c.if-one-gt-MOST_SHAPE_BYTES.false in (
-      search rules,
-      omega (arith, c.loop-i.invariant.1, c.if-one-gt-MOST_SHAPE_BYTES.false),
-      sym (all_more f a.n is_doomed c.loop-i.i h ok) ∙ c.loop-i.invariant.2,
-      omega (arith, c.loop-i.invariant.3, doomed_bytes_lem a.cap a.first c.loop-i.i s _ r, total_more f a.n (λ (d : Doomed ℕ). d.bytes) c.loop-i.i h),
+      omega (arith, c.loop-i.invariant.0, c.if-one-gt-MOST_SHAPE_BYTES.false),
+      sym (all_more f a.n is_doomed c.loop-i.i h ok) ∙ c.loop-i.invariant.1,
+      omega (arith, c.loop-i.invariant.2, doomed_bytes_lem a.cap a.first c.loop-i.i s _ r, total_more f a.n (λ (d : Doomed ℕ). d.bytes) c.loop-i.i h),
     )
 
 pub returns : goal.returns
 returns c =
     let a = c.args in
-    doomed_done a.cap a.first a.n a.bytes c.loop-i.i c.loop-i.sum a.doomed.now c.loop-i-test.false c.loop-i.invariant.2 c.loop-i.invariant.3
+    doomed_done a.cap a.first a.n a.bytes c.loop-i.i c.loop-i.sum a.doomed.now (omega arith) c.loop-i.invariant.1 c.loop-i.invariant.2

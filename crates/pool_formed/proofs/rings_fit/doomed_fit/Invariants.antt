@@ -1,6 +1,6 @@
 -- `doomed_fit` meets its contract: the sum so far is at most 2^44 a version. Assumes nothing.
 use mathlib.Core.Path.{◌≡◌}
-use Prim.Native.Nat.{◌+◌, ◌*◌, ◌-◌, ◌≤◌}
+use Prim.Native.Nat.{◌+◌, ◌*◌, ◌≤◌}
 use Rattle.base_blocks.specs.Lists.{all, listed}
 use Rattle.base_blocks.proofs.Listed.{left}
 use Rattle.pool_rules.specs.Model.{doomed_bytes}
@@ -11,8 +11,5 @@ use Rattle.pool_formed.proofs.rings_fit.doomed_fit.Given as goal
 
 abbrev pub invariant-loop-i : goal.invariant-loop-i
 invariant-loop-i l =
-    (l.i ≤ l.n) × (l.sum ≤ most_shape_bytes * l.i) × (all is_doomed (left (doomed_at l.cap l.first l.doomed) l.n l.i) ≡ all is_doomed (listed (doomed_at l.cap l.first l.doomed) 0 l.n))
+    (l.sum ≤ most_shape_bytes * l.i) × (all is_doomed (left (doomed_at l.cap l.first l.doomed) l.n l.i) ≡ all is_doomed (listed (doomed_at l.cap l.first l.doomed) 0 l.n))
     × (l.sum + doomed_bytes (left (doomed_at l.cap l.first l.doomed) l.n l.i) ≡ doomed_bytes (listed (doomed_at l.cap l.first l.doomed) 0 l.n))
-
-abbrev pub decreases-loop-i : goal.decreases-loop-i
-decreases-loop-i l = l.n - l.i

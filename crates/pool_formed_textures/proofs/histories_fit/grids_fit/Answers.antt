@@ -8,11 +8,12 @@ use Rattle.base_blocks.specs.Lists.{all}
 use Rattle.base_blocks.proofs.Listed.{left_all, all_more}
 use Rattle.grid_shapes.proofs.Shapes.{shape_bounds}
 use Rattle.pool_rules.specs.Model.{grid_count}
+use Rattle.pool_access.proofs.Levels.{tiling_known_ok}
 use Rattle.pool_rules.proofs.HistorySizes.{grids_most}
 use Rattle.pool_memory.specs.IsPool.{is_grid}
 use Rattle.pool_formed_textures.specs.Textures.{own_grid, own_tiling}
 use Rattle.pool_rules.proofs.HistorySizes.{grid_first}
-use Rattle.pool_formed_textures.proofs.GridTests.{tiling_same, axes_ready, grid_ready, place, tiling_ready, tiling_test, grid_here, next_start, next_room, grids_few, grids_short, grids_stop, tilings_stop, grids_done}
+use Rattle.pool_formed_textures.proofs.GridTests.{grid_ready, place, tiling_ready, tiling_test, grid_here, next_start, next_room, grids_few, grids_short, grids_stop, tilings_stop, grids_done}
 use Rattle.pool_formed_textures.proofs.histories_fit.grids_fit.Goals as goal
 
 pub shape_grids-n-requires : goal.shape_grids-n-requires
@@ -30,7 +31,6 @@ pub loop-k-init : goal.loop-k-init
 loop-k-init c =
     let a = c.args in (
       search rules,
-      search rules,
       sym (grid_first a.s),
       ap (all (is_grid a.writes)) (left_all (own_grid a.s a.newest.now a.stamps.now) _),
       ap (all (own_tiling a.s a.newest.now)) (left_all place _),
@@ -40,74 +40,71 @@ pub nonzero_rem-level : goal.nonzero_rem-level
 nonzero_rem-level c = omega (arith, (shape_bounds c.args.s c.requires.0).levels_pos)
 
 pub stamp_count-count-requires : goal.stamp_count-count-requires
-stamp_count-count-requires c = axes_ready c.args.s _ _ _ c.across_axis-across.ensures c.down_axis-down.ensures c.requires.0
+stamp_count-count-requires c = tiling_known_ok c.args.s c.requires.0 _ _ c.tiling_in-tiling.ensures
 
 pub returns-then-count-stamps : goal.returns-then-count-stamps
 returns-then-count-stamps c =
     let a = c.args in
     let l = c.loop-k in
-    let t = tiling_same a.s _ _ _ c.across_axis-across.ensures c.down_axis-down.ensures in
+    let t = c.tiling_in-tiling.ensures in
     let q : l.k < grid_count a.s = omega (arith, c.loop-k-test.true, c.shape_grids-n.ensures) in
-    sym (grids_short a.s a.writes a.newest.now a.stamps.now l.k l.at _ _ q l.invariant.2 c.stamp_count-count.ensures t c.if-count-stamps.true)
+    sym (grids_short a.s a.writes a.newest.now a.stamps.now l.k l.at _ _ q l.invariant.1 c.stamp_count-count.ensures t c.if-count-stamps.true)
 
 pub tiling_fits-requires : goal.tiling_fits-requires
 tiling_fits-requires c =
     let l = c.loop-k in
     let q : l.k < grid_count c.args.s = omega (arith, c.loop-k-test.true, c.shape_grids-n.ensures) in
-    tiling_ready c.args.s l.k l.at _ _ c.across_axis-across.ensures c.down_axis-down.ensures l.invariant.2 c.requires.0 q
+    tiling_ready c.args.s l.k l.at _ c.tiling_in-tiling.ensures l.invariant.1 c.requires.0 q
 
 pub returns-then-not-tiling_fits : goal.returns-then-not-tiling_fits
 returns-then-not-tiling_fits c =
     let a = c.args in
     let l = c.loop-k in
-    let t = tiling_test a.s l.k l.at _ _ c.across_axis-across.ensures c.down_axis-down.ensures l.invariant.2 a.newest.now in
+    let t = tiling_test a.s l.k l.at _ c.tiling_in-tiling.ensures l.invariant.1 a.newest.now in
     let f = sym t ∙ sym c.tiling_fits.ensures ∙ not-true _ c.if-not-tiling_fits.true-raw in
-    sym (tilings_stop a.s a.writes a.newest.now a.stamps.now _ l.k c.shape_grids-n.ensures l.invariant.3 l.invariant.4 c.loop-k-test.true f)
+    sym (tilings_stop a.s a.writes a.newest.now a.stamps.now _ l.k c.shape_grids-n.ensures l.invariant.2 l.invariant.3 c.loop-k-test.true f)
 
 pub offset_bounds-stamps-at : goal.offset_bounds-stamps-at
-offset_bounds-stamps-at c = omega (arith, c.loop-k.invariant.1, c.well_formed)
+offset_bounds-stamps-at c = omega (arith, c.loop-k.invariant.0, c.well_formed)
 
 pub grid_fits-requires : goal.grid_fits-requires
 grid_fits-requires c =
     let t = c.loop-k.at in
-    grid_ready c.args.s _ _ _ c.across_axis-across.ensures c.down_axis-down.ensures c.args.stamps.now t _ c.requires.0 c.stamp_count-count.ensures c.if-count-stamps.false
+    grid_ready c.args.s _ _ c.tiling_in-tiling.ensures c.args.stamps.now t _ c.requires.0 c.stamp_count-count.ensures c.if-count-stamps.false
 
 pub returns-then-not-grid_fits : goal.returns-then-not-grid_fits
 returns-then-not-grid_fits c =
     let a = c.args in
     let l = c.loop-k in
-    let t = tiling_same a.s _ _ _ c.across_axis-across.ensures c.down_axis-down.ensures in
-    let f = sym (grid_here a.s a.writes a.newest.now a.stamps.now l.k l.at _ t l.invariant.2) ∙ sym c.grid_fits.ensures ∙ not-true _ c.if-not-grid_fits.true-raw in
-    sym (grids_stop a.s a.writes a.newest.now a.stamps.now _ l.k c.shape_grids-n.ensures l.invariant.3 l.invariant.4 c.loop-k-test.true f)
+    let t = c.tiling_in-tiling.ensures in
+    let f = sym (grid_here a.s a.writes a.newest.now a.stamps.now l.k l.at _ t l.invariant.1) ∙ sym c.grid_fits.ensures ∙ not-true _ c.if-not-grid_fits.true-raw in
+    sym (grids_stop a.s a.writes a.newest.now a.stamps.now _ l.k c.shape_grids-n.ensures l.invariant.2 l.invariant.3 c.loop-k-test.true f)
 
 pub overflow_add-at : goal.overflow_add-at
 overflow_add-at c =
     let a = c.args in
     let l = c.loop-k in
-    let t = tiling_same a.s _ _ _ c.across_axis-across.ensures c.down_axis-down.ensures in
+    let t = c.tiling_in-tiling.ensures in
     let q : l.k < grid_count a.s = omega (arith, c.loop-k-test.true, c.shape_grids-n.ensures) in
-    omega (arith, next_room a.s a.writes a.newest.now a.stamps.now l.k l.at _ _ c.requires.0 q l.invariant.2 c.stamp_count-count.ensures t)
+    omega (arith, next_room a.s a.writes a.newest.now a.stamps.now l.k l.at _ _ c.requires.0 q l.invariant.1 c.stamp_count-count.ensures t)
 
 pub loop-k-preserved : goal.loop-k-preserved
 loop-k-preserved c =
     let a = c.args in
     let l = c.loop-k in
-    let ea = c.across_axis-across.ensures in
-    let ed = c.down_axis-down.ensures in
-    let t = tiling_same a.s _ _ _ ea ed in
+    let t = c.tiling_in-tiling.ensures in
     let h = c.loop-k-test.true in
-    let f = sym (grid_here a.s a.writes a.newest.now a.stamps.now l.k l.at _ t l.invariant.2) ∙ sym c.grid_fits.ensures ∙ not-false _ c.if-not-grid_fits.false-raw in
-    let u = tiling_test a.s l.k l.at _ _ ea ed l.invariant.2 a.newest.now in
+    let f = sym (grid_here a.s a.writes a.newest.now a.stamps.now l.k l.at _ t l.invariant.1) ∙ sym c.grid_fits.ensures ∙ not-false _ c.if-not-grid_fits.false-raw in
+    let u = tiling_test a.s l.k l.at _ t l.invariant.1 a.newest.now in
     let g = sym u ∙ sym c.tiling_fits.ensures ∙ not-false _ c.if-not-tiling_fits.false-raw in (
-      omega (arith, h),
-      omega (arith, c.if-count-stamps.false, l.invariant.1),
-      next_start a.s a.writes a.newest.now a.stamps.now l.k l.at _ _ (omega (arith, h, c.shape_grids-n.ensures)) l.invariant.2 c.stamp_count-count.ensures t,
-      sym (all_more (own_grid a.s a.newest.now a.stamps.now) _ (is_grid a.writes) l.k h f) ∙ l.invariant.3,
-      sym (all_more place _ (own_tiling a.s a.newest.now) l.k h g) ∙ l.invariant.4,
+      omega (arith, c.if-count-stamps.false, l.invariant.0),
+      next_start a.s a.writes a.newest.now a.stamps.now l.k l.at _ _ (omega (arith, h, c.shape_grids-n.ensures)) l.invariant.1 c.stamp_count-count.ensures t,
+      sym (all_more (own_grid a.s a.newest.now a.stamps.now) _ (is_grid a.writes) l.k h f) ∙ l.invariant.2,
+      sym (all_more place _ (own_tiling a.s a.newest.now) l.k h g) ∙ l.invariant.3,
     )
 
 pub returns : goal.returns
 returns c =
     let a = c.args in
     let l = c.loop-k in
-    grids_done a.s a.writes a.newest.now a.stamps.now _ l.k c.shape_grids-n.ensures l.invariant.3 l.invariant.4 l.at c.if-newest-n.false c.loop-k-test.false l.invariant.0 l.invariant.2
+    grids_done a.s a.writes a.newest.now a.stamps.now _ l.k c.shape_grids-n.ensures l.invariant.2 l.invariant.3 l.at c.if-newest-n.false (omega arith) (omega arith) l.invariant.1

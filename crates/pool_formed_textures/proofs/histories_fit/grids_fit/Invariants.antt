@@ -1,6 +1,6 @@
 -- `grids_fit` meets its contract. Assumes nothing.
 use mathlib.Core.Path.{◌≡◌}
-use Prim.Native.Nat.{◌-◌, ◌≤◌}
+use Prim.Native.Nat.{◌≤◌}
 use lib.ListN.{length}
 use Rattle.base_blocks.specs.Lists.{all, listed}
 use Rattle.base_blocks.proofs.Listed.{left}
@@ -12,9 +12,6 @@ use Rattle.pool_formed_textures.proofs.histories_fit.grids_fit.Given as goal
 
 abbrev pub invariant-loop-k : goal.invariant-loop-k
 invariant-loop-k l =
-    (l.k ≤ l.n) × (l.at ≤ length l.stamps) × (l.at ≡ grid_start l.s l.k)
+    (l.at ≤ length l.stamps) × (l.at ≡ grid_start l.s l.k)
     × (all (is_grid l.writes) (left (own_grid l.s l.newest l.stamps) l.n l.k) ≡ all (is_grid l.writes) (listed (own_grid l.s l.newest l.stamps) 0 l.n))
     × (all (own_tiling l.s l.newest) (left place l.n l.k) ≡ all (own_tiling l.s l.newest) (listed place 0 l.n))
-
-abbrev pub decreases-loop-k : goal.decreases-loop-k
-decreases-loop-k l = l.n - l.k

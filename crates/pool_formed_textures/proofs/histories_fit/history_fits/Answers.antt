@@ -8,19 +8,19 @@ use Rattle.pool_formed_textures.proofs.histories_fit.history_fits.Goals as goal
 
 pub grids_fit-requires : goal.grids_fit-requires
 grids_fit-requires c =
-    let e = c.read_texture-t.ensures in
+    let e = c.read-t.ensures in
     (ap (λ (t : TextureRecord). is_shape t.shape) e ∙ c.requires.1, texels_table _ _ c.block_edge.ensures _ c.if-block_edge-eq1.true c.requires.2.0)
 
 pub returns-then-block_edge-eq1 : goal.returns-then-block_edge-eq1
-returns-then-block_edge-eq1 c = c.grids_fit.ensures ∙ history_writes _ _ _ _ c.read_texture-t.ensures _ c.in-Writes.is
+returns-then-block_edge-eq1 c = c.grids_fit.ensures ∙ history_writes _ _ _ _ c.read-t.ensures _ c.in-Some.is
 
-pub grids_fit-requires-in-Writes : goal.grids_fit-requires-in-Writes
-grids_fit-requires-in-Writes c =
-    let e = c.read_texture-t.ensures in
+pub grids_fit-requires-in-Some : goal.grids_fit-requires-in-Some
+grids_fit-requires-in-Some c =
+    let e = c.read-t.ensures in
     (ap (λ (t : TextureRecord). is_shape t.shape) e ∙ c.requires.1, blocks_table _ _ c.block_edge.ensures _ c.if-block_edge-eq1.false c.requires.2.1)
 
 pub returns-else-block_edge-eq1 : goal.returns-else-block_edge-eq1
-returns-else-block_edge-eq1 c = c.grids_fit-in-Writes.ensures ∙ history_writes _ _ _ _ c.read_texture-t.ensures _ c.in-Writes.is
+returns-else-block_edge-eq1 c = c.grids_fit-in-Some.ensures ∙ history_writes _ _ _ _ c.read-t.ensures _ c.in-Some.is
 
-pub returns-in-NoHistory : goal.returns-in-NoHistory
-returns-in-NoHistory c = history_none _ _ _ _ c.read_texture-t.ensures c.in-NoHistory.is
+pub returns-in-None : goal.returns-in-None
+returns-in-None c = history_none _ _ _ _ c.read-t.ensures c.in-None.is

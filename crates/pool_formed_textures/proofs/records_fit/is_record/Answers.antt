@@ -6,7 +6,7 @@ use Rattle.pool_formed_textures.proofs.records_fit.is_record.Goals as goal
 
 pub returns-then-not-is_shape : goal.returns-then-not-is_shape
 returns-then-not-is_shape c =
-    record_unshaped _ _ c.read_texture-t.ensures (sym c.is_shape.ensures ∙ not-true _ c.if-not-is_shape.true-raw)
+    record_unshaped _ _ c.read-t.ensures (sym c.is_shape.ensures ∙ not-true _ c.if-not-is_shape.true-raw)
 
 pub shape_bytes-requires : goal.shape_bytes-requires
 shape_bytes-requires c =
@@ -14,4 +14,4 @@ shape_bytes-requires c =
 
 pub returns : goal.returns
 returns c =
-    record_test _ _ c.read_texture-t.ensures _ _ (sym c.is_shape.ensures ∙ not-false _ c.if-not-is_shape.false-raw) c.writes_fit.ensures c.shape_bytes.ensures
+    record_test _ _ c.read-t.ensures _ _ (sym c.is_shape.ensures ∙ not-false _ c.if-not-is_shape.false-raw) c.writes_fit.ensures c.shape_bytes.ensures

@@ -8,12 +8,11 @@ use Rattle.pool_records.specs.declared.texture.TextureRecord.{TextureRecord}
 use Rattle.pool_records.specs.Texture.{read_texture, texture_in, record_bytes}
 use Rattle.pool_formed_textures.proofs.RecordTests.{texture_read, read_shape, read_bytes, spares_at_lem}
 use Rattle.pool_formed_textures.proofs.Claims.{parked_more, parked_room}
-use borrow.Author.Rules.{rules}
 use Rattle.pool_records.specs.RecordConstants.{texture_stride}
 use Rattle.pool_formed_textures.proofs.runs_fit.parked_bytes.Goals as goal
 
 pub loop-i-init : goal.loop-i-init
-loop-i-init c = (search rules, omega (arith, ap (total record_bytes) (table_left texture_stride read_texture c.args.n c.args.textures.now)))
+loop-i-init c = omega (arith, ap (total record_bytes) (table_left texture_stride read_texture c.args.n c.args.textures.now))
 
 pub record_bytes-sum-requires : goal.record_bytes-sum-requires
 record_bytes-sum-requires c =
@@ -33,16 +32,16 @@ overflow_add-sum c =
     let a = c.args in
     let s = a.textures.now in
     let e = c.record_bytes-sum.ensures ∙ ap record_bytes (texture_read s c.loop-i.i _ c.record_at.ensures.1) in
-    omega (arith, parked_room s a.n c.loop-i.i c.loop-i.sum _ c.loop-i-test.true c.loop-i.invariant.1 e c.requires.1 c.requires.2)
+    omega (arith, parked_room s a.n c.loop-i.i c.loop-i.sum _ c.loop-i-test.true c.loop-i.invariant e c.requires.1 c.requires.2)
 
 pub loop-i-preserved : goal.loop-i-preserved
 loop-i-preserved c =
     let a = c.args in
     let s = a.textures.now in
     let e = c.record_bytes-sum.ensures ∙ ap record_bytes (texture_read s c.loop-i.i _ c.record_at.ensures.1) in
-    (search rules, parked_more s a.n c.loop-i.i c.loop-i.sum _ c.loop-i-test.true c.loop-i.invariant.1 e)
+    parked_more s a.n c.loop-i.i c.loop-i.sum _ c.loop-i-test.true c.loop-i.invariant e
 
 pub returns : goal.returns
 returns c =
     let a = c.args in
-    omega (arith, c.loop-i.invariant.1, total_done (texture_in a.textures.now) a.n record_bytes c.loop-i.i c.loop-i-test.false)
+    omega (arith, c.loop-i.invariant, total_done (texture_in a.textures.now) a.n record_bytes c.loop-i.i (omega arith))

@@ -21,7 +21,7 @@ overflow_sub-queued c =
     let l = lent a.pool a.book a.textures.now a.retiring.now a.doomed.now a.spares.now a.newest.now a.stamps.now in
     let f = pool_fits l c.requires.0 in
     let p = c.loop-i.invariant a.book f in
-    (turn_needs l a.excess a.line f c.requires.1 p c.loop-i-test.true).6
+    (turn_needs l a.excess a.line f c.requires.1 p (omega arith)).6
 
 pub overflow_add-queued : goal.overflow_add-queued
 overflow_add-queued c =
@@ -29,7 +29,7 @@ overflow_add-queued c =
     let l = lent a.pool a.book a.textures.now a.retiring.now a.doomed.now a.spares.now a.newest.now a.stamps.now in
     let f = pool_fits l c.requires.0 in
     let p = c.loop-i.invariant a.book f in
-    omega (arith, (turn_needs l a.excess a.line f c.requires.1 p c.loop-i-test.true).4, f.most)
+    omega (arith, (turn_needs l a.excess a.line f c.requires.1 p (omega arith)).4, f.most)
 
 pub relieve_texture-step-requires : goal.relieve_texture-step-requires
 unfolding version_places
@@ -38,10 +38,7 @@ relieve_texture-step-requires c =
     let l = lent a.pool a.book a.textures.now a.retiring.now a.doomed.now a.spares.now a.newest.now a.stamps.now in
     let f = pool_fits l c.requires.0 in
     let p = c.loop-i.invariant a.book f in
-    turn_needs l a.excess a.line f c.requires.1 p c.loop-i-test.true
-
-pub overflow_sub-kept : goal.overflow_sub-kept
-overflow_sub-kept c = c.relieve_texture-step.ensures.1
+    turn_needs l a.excess a.line f c.requires.1 p (omega arith)
 
 pub overflow_add-kept : goal.overflow_add-kept
 overflow_add-kept c =
@@ -49,7 +46,7 @@ overflow_add-kept c =
     let l = lent a.pool a.book a.textures.now a.retiring.now a.doomed.now a.spares.now a.newest.now a.stamps.now in
     let f = pool_fits l c.requires.0 in
     let p = c.loop-i.invariant a.book f in
-    let n = turn_needs l a.excess a.line f c.requires.1 p c.loop-i-test.true in
+    let n = turn_needs l a.excess a.line f c.requires.1 p (omega arith) in
     omega (arith, n.5, n.6, c.relieve_texture-step.ensures.0, p.run, f.spares, f.most)
 
 pub overflow_add-from : goal.overflow_add-from
@@ -58,7 +55,7 @@ overflow_add-from c =
     let l = lent a.pool a.book a.textures.now a.retiring.now a.doomed.now a.spares.now a.newest.now a.stamps.now in
     let f = pool_fits l c.requires.0 in
     let p = c.loop-i.invariant a.book f in
-    let n = turn_needs l a.excess a.line f c.requires.1 p c.loop-i-test.true in
+    let n = turn_needs l a.excess a.line f c.requires.1 p (omega arith) in
     omega (arith, n.5, c.relieve_texture-step.ensures.0, p.run, f.spares, f.most)
 
 pub overflow_add-bytes : goal.overflow_add-bytes
@@ -70,14 +67,8 @@ overflow_add-bytes c =
     let p = c.loop-i.invariant a.book f in
     let r = c.relieve_texture-step in
     let e = r.ensures in
-    let q = progress_turn l a.excess a.line f c.requires.1 p c.loop-i-test.true e.0 e.2 e.3 e.4 e.5 e.6 e.7 r.auto.textures r.auto.doomed r.auto.spares in
+    let q = progress_turn l a.excess a.line f c.requires.1 p (omega arith) e.0 e.2 e.3 e.4 e.5 e.6 e.7 r.auto.textures r.auto.doomed r.auto.spares in
     omega (arith, q.given, given_fits l f a.excess (c.loop-i.i + 1), c.struct_known-1.given)
-
-pub overflow_add-i : goal.overflow_add-i
-overflow_add-i c = omega (arith, c.loop-i-test.true, c.struct_known-1.given)
-
-pub loop-i-smaller : goal.loop-i-smaller
-loop-i-smaller c = omega (arith, c.loop-i-test.true)
 
 pub loop-i-preserved : goal.loop-i-preserved
 unfolding version_places
@@ -86,31 +77,7 @@ loop-i-preserved c book f =
     let l = lent a.pool book a.textures.now a.retiring.now a.doomed.now a.spares.now a.newest.now a.stamps.now in
     let r = c.relieve_texture-step in
     let e = r.ensures in
-    progress_turn l a.excess a.line f c.requires.1 (c.loop-i.invariant book f) c.loop-i-test.true e.0 e.2 e.3 e.4 e.5 e.6 e.7 r.auto.textures r.auto.doomed r.auto.spares
-
-pub shape_of-textures : goal.shape_of-textures
-shape_of-textures c =
-    let a = c.args in
-    let l = lent a.pool a.book a.textures.now a.retiring.now a.doomed.now a.spares.now a.newest.now a.stamps.now in
-    let f = pool_fits l c.requires.0 in
-    let p = c.loop-i.invariant a.book f in
-    p.textured
-
-pub shape_of-doomed : goal.shape_of-doomed
-shape_of-doomed c =
-    let a = c.args in
-    let l = lent a.pool a.book a.textures.now a.retiring.now a.doomed.now a.spares.now a.newest.now a.stamps.now in
-    let f = pool_fits l c.requires.0 in
-    let p = c.loop-i.invariant a.book f in
-    p.ringed
-
-pub shape_of-spares : goal.shape_of-spares
-shape_of-spares c =
-    let a = c.args in
-    let l = lent a.pool a.book a.textures.now a.retiring.now a.doomed.now a.spares.now a.newest.now a.stamps.now in
-    let f = pool_fits l c.requires.0 in
-    let p = c.loop-i.invariant a.book f in
-    p.run
+    progress_turn l a.excess a.line f c.requires.1 (c.loop-i.invariant book f) (omega arith) e.0 e.2 e.3 e.4 e.5 e.6 e.7 r.auto.textures r.auto.doomed r.auto.spares
 
 pub returns : goal.returns
 returns c =
@@ -118,4 +85,4 @@ returns c =
     let l = lent a.pool a.book a.textures.now a.retiring.now a.doomed.now a.spares.now a.newest.now a.stamps.now in
     let f = pool_fits l c.requires.0 in
     let p = c.loop-i.invariant a.book f in
-    progress_end l f a.excess a.line p c.loop-i-test.false
+    progress_end l f a.excess a.line p (omega arith)

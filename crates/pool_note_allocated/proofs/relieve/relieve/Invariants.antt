@@ -1,6 +1,5 @@
 -- `relieve` meets its contract: each turn one more texture has given what was picked of it. The book is no part of the loop, so the invariant is said
 -- of any. Assumes nothing.
-use Prim.Native.Nat.{◌-◌}
 use Rattle.pool_memory.specs.declared.book.PacingBook.{PacingBook}
 use Rattle.pool_memory.specs.Lent.{lent}
 use Rattle.pool_memory.proofs.Fits.{Fits}
@@ -11,7 +10,3 @@ abbrev pub invariant-loop-i : goal.invariant-loop-i
 invariant-loop-i l =
     (book : PacingBook) → Fits (lent l.pool book l.initial.textures l.retiring l.initial.doomed l.initial.spares l.newest l.stamps)
     → Progress (lent l.pool book l.initial.textures l.retiring l.initial.doomed l.initial.spares l.newest l.stamps) l.excess l.line l.i l.from l.kept l.bytes l.sum l.textures l.doomed l.spares
-
-abbrev pub decreases-loop-i : goal.decreases-loop-i
-decreases-loop-i l =
-    l.pool.tracked - l.i

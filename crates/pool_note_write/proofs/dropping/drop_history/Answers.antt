@@ -4,7 +4,7 @@ use Prim.Native.Nat.{◌+◌, ◌-◌, ◌≤◌}
 use native.Mathlib.Omega.{arith}
 use Rattle.pool_history.specs.declared.run.HistoryRun.{HistoryRun}
 use Rattle.pool_note_write.specs.Dropped.{newest_dropped, stamps_dropped}
-use Rattle.pool_note_write.proofs.Dropped.{run_in, run_moves, records_left}
+use Rattle.pool_note_write.proofs.Dropped.{run_in, records_left}
 use Rattle.pool_note_write.proofs.dropping.drop_history.Goals as goal
 use Rattle.pool_note_write.proofs.dropping.drop_history.Goals.{After-history_run-run}
 
@@ -23,15 +23,6 @@ pub remove_grids-requires : goal.remove_grids-requires
 remove_grids-requires c =
     let a = c.args in
     run_in a.textures.now a.newest.now a.stamps.now a.n a.used a.i c.requires (run (goal.at.remove_grids-requires c).After-history_run-run) c.history_run-run.ensures
-
-pub move_starts-requires : goal.move_starts-requires
-move_starts-requires c =
-    let a = c.args in (
-      omega (arith, c.requires.fit, c.set_history.auto.textures),
-      omega (arith, c.requires.there),
-      (λ j from below. run_moves a.textures.now a.newest.now a.stamps.now a.n a.used a.i c.requires (run (goal.at.move_starts-requires c).After-history_run-run) c.history_run-run.ensures _ c.set_history.ensures j
-          (omega (arith, from, c.requires.there)) below),
-    )
 
 pub overflow_sub-result : goal.overflow_sub-result
 overflow_sub-result c = omega (arith, (within (goal.at.overflow_sub-result c).After-history_run-run).0)

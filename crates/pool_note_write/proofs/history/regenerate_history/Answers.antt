@@ -4,18 +4,7 @@ use Rattle.pool_rules.specs.Model.{grid_count}
 use Rattle.pool_records.specs.declared.texture.TextureRecord.{TextureRecord}
 use Rattle.pool_history.specs.Remade.{newest_written, stamps_written, remade_grids}
 use Rattle.pool_note_write.specs.History.{remade_at}
-use Rattle.pool_note_write.proofs.AtPlace.{shape_read, grids_read, tilings_read_lem, stamps_read}
 use Rattle.pool_note_write.proofs.history.regenerate_history.Goals as goal
-
-pub regenerate_grids-requires : goal.regenerate_grids-requires
-regenerate_grids-requires c =
-    let a = c.args in
-    let read = c.texture_at-t.ensures in (
-      shape_read a.textures.now a.newest.now a.stamps.now a.i c.requires _ read,
-      grids_read a.textures.now a.newest.now a.stamps.now a.i c.requires _ read,
-      tilings_read_lem a.textures.now a.newest.now a.stamps.now a.i c.requires _ read,
-      stamps_read a.textures.now a.newest.now a.stamps.now a.i c.requires _ read,
-    )
 
 pub returns : goal.returns
 unfolding remade_at

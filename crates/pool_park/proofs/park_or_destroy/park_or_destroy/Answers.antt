@@ -1,13 +1,10 @@
 -- `park_or_destroy` meets its contract, test by test. Assumes nothing.
 use native.Mathlib.Omega.{arith}
 use Rattle.pool_records.specs.Texture.{texture_in}
-use Rattle.pool_retire.proofs.Tracked.{says_nowhere, says_here, record_fits}
+use Rattle.pool_retire.proofs.Tracked.{says_nowhere, says_here}
 use Rattle.pool_park.proofs.Parked.{decide_untracked, decide_renewed, decide_full, decide_kept}
 use Rattle.pool_records.specs.Find.{has_id}
 use Rattle.pool_park.proofs.park_or_destroy.park_or_destroy.Goals as goal
-
-pub has_id-requires : goal.has_id-requires
-has_id-requires c = c.requires.0
 
 pub returns-then-not-has_id : goal.returns-then-not-has_id
 returns-then-not-has_id c =
@@ -16,12 +13,6 @@ returns-then-not-has_id c =
     decide_untracked a.pool a.pressed (has_id a.textures.now a.pool.tracked a.i a.v.id)
     (texture_in a.textures.now a.i) a.v
     (says_nowhere a.textures.now a.pool.tracked a.i a.v.id h.result h.ensures c.if-not-has_id.true-raw)
-
-pub texture_at-t-requires : goal.texture_at-t-requires
-texture_at-t-requires c =
-    let a = c.args in
-    let h = c.has_id in
-    record_fits a.textures.now a.pool.tracked a.i a.v.id h.result h.ensures c.if-not-has_id.false-raw c.requires.0
 
 pub returns-then-t-v : goal.returns-then-t-v
 returns-then-t-v c =
@@ -33,9 +24,6 @@ returns-then-t-v c =
     decide_renewed a.pool a.pressed (has_id a.textures.now a.pool.tracked a.i a.v.id)
     (texture_in a.textures.now a.i) a.v
     q t.result t.ensures (λ same. let y : ⊥ = omega (arith, same, c.if-t-v.true) in y)
-
-pub overflow_sub-pool : goal.overflow_sub-pool
-overflow_sub-pool c = c.requires.1
 
 pub returns-then-pressed-pool : goal.returns-then-pressed-pool
 returns-then-pressed-pool c =

@@ -1,6 +1,6 @@
 -- `count_copies` meets its contract: one subresource after the other. Assumes nothing.
 use mathlib.Core.Path.{◌≡◌}
-use Prim.Native.Nat.{◌+◌, ◌-◌, ◌≤◌}
+use Prim.Native.Nat.{◌+◌, ◌≤◌}
 use lib.ListN.{length}
 use Rattle.pool_preserve_plan.specs.Copies.{footprint, copies_at, lent_copies}
 use Rattle.pool_preserve_plan.proofs.Planned.{IsPlace}
@@ -9,8 +9,5 @@ use Rattle.pool_preserve_plan.proofs.count_copies.count_copies.Given as goal
 
 abbrev pub invariant-loop-k : goal.invariant-loop-k
 invariant-loop-k l =
-    (l.count ≤ l.k) × (l.k ≤ l.all) × IsPlace l.levels l.k l.at.slice l.at.level
+    (l.count ≤ l.k) × IsPlace l.levels l.k l.at.slice l.at.level
     × (l.count + length (rest (copies_at l.newest l.stamps l.shape l.since (footprint l.upload)) l.all l.k) ≡ length (lent_copies l.newest l.stamps l.shape l.since (footprint l.upload)))
-
-abbrev pub decreases-loop-k : goal.decreases-loop-k
-decreases-loop-k l = l.all - l.k

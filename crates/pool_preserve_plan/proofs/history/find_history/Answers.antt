@@ -2,9 +2,8 @@
 use mathlib.Core.Path.{◌≡◌, sym, ◌∙◌}
 use mathlib.Core.Bool.{true}
 use Prim.Native.Nat.{ℕ, ◌<◌}
-use native.Mathlib.Omega.{arith}
 use borrow.Author.Tests.{not-true, not-false}
-use Rattle.pool_records.specs.declared.recorded.Recorded.TheVariants.{Writes, NoHistory}
+use Rattle.std.specs.Prelude.{Some, None}
 use Rattle.pool_access.proofs.Ids as ids
 use Rattle.pool_preserve_plan.proofs.Finding.{found_none, found_other, found_recorded, found_place}
 use Rattle.pool_records.specs.Find.{has_id}
@@ -29,10 +28,6 @@ returns-then-not-has_id c =
     let a = c.args in
     sym (found_none a.textures.now a.tracked a.id a.shape (at (goal.at.returns-then-not-has_id c).After-has_id) (sym c.has_id.ensures ∙ not-true _ c.if-not-has_id.true-raw)) ∙ placed (goal.at.returns-then-not-has_id c).After-has_id
 
-pub texture_at-t-requires : goal.texture_at-t-requires
-texture_at-t-requires c =
-    omega (arith, c.requires.0, within (goal.at.texture_at-t-requires c).After-has_id (sym c.has_id.ensures ∙ not-false _ c.if-not-has_id.false-raw))
-
 pub returns-then-not-same_shape : goal.returns-then-not-same_shape
 returns-then-not-same_shape c =
     let a = c.args in
@@ -44,7 +39,7 @@ pub returns-in_default : goal.returns-in_default
 returns-in_default c =
     let a = c.args in
     sym (found_recorded a.textures.now a.tracked a.id a.shape (at (goal.at.returns-in_default c).After-has_id) c.texture_at-t.result c.texture_at-t.ensures
-    (sym c.has_id.ensures ∙ not-false _ c.if-not-has_id.false-raw) NoHistory
+    (sym c.has_id.ensures ∙ not-false _ c.if-not-has_id.false-raw) None
     (sym c.same_shape.ensures ∙ not-false _ c.if-not-same_shape.false-raw)
     c.in_default.is)
     ∙ placed (goal.at.returns-in_default c).After-has_id
@@ -53,7 +48,7 @@ pub returns : goal.returns
 returns c =
     let a = c.args in
     sym (found_recorded a.textures.now a.tracked a.id a.shape (at (goal.at.returns c).After-has_id) c.texture_at-t.result c.texture_at-t.ensures
-    (sym c.has_id.ensures ∙ not-false _ c.if-not-has_id.false-raw) (Writes c.in-Writes.writes)
+    (sym c.has_id.ensures ∙ not-false _ c.if-not-has_id.false-raw) (Some c.in-Some.writes)
     (sym c.same_shape.ensures ∙ not-false _ c.if-not-same_shape.false-raw)
-    c.in-Writes.is)
+    c.in-Some.is)
     ∙ placed (goal.at.returns c).After-has_id

@@ -1,6 +1,6 @@
 -- `put_copies` meets its contract: one subresource after the other. Assumes nothing.
 use mathlib.Core.Path.{◌≡◌}
-use Prim.Native.Nat.{◌+◌, ◌-◌, ◌≤◌}
+use Prim.Native.Nat.{◌+◌}
 use lib.ListN.{length}
 use Rattle.pool_preserve_plan.specs.Copies.{footprint, copies_at, lent_copies, with_copies}
 use Rattle.pool_preserve_plan.proofs.Planned.{IsPlace}
@@ -9,10 +9,7 @@ use Rattle.pool_preserve_plan.proofs.put_copies.put_copies.Given as goal
 
 abbrev pub invariant-loop-k : goal.invariant-loop-k
 invariant-loop-k l =
-    (l.k ≤ l.all) × (length l.buffer ≡ length l.initial.buffer) × IsPlace l.levels l.k l.at.slice l.at.level
+    IsPlace l.levels l.k l.at.slice l.at.level
     × (l.count + length (rest (copies_at l.newest l.stamps l.shape l.since (footprint l.upload)) l.all l.k) ≡ length (lent_copies l.newest l.stamps l.shape l.since (footprint l.upload)))
     × (with_copies l.count (rest (copies_at l.newest l.stamps l.shape l.since (footprint l.upload)) l.all l.k) l.buffer
     ≡ with_copies 0 (lent_copies l.newest l.stamps l.shape l.since (footprint l.upload)) l.initial.buffer)
-
-abbrev pub decreases-loop-k : goal.decreases-loop-k
-decreases-loop-k l = l.all - l.k

@@ -12,9 +12,5 @@ invariant-loop-hi l = (l.lo ≤ below l.id (textures_in l.n l.s)) × (below l.id
 abbrev pub decreases-loop-hi : goal.decreases-loop-hi
 decreases-loop-hi l = l.hi - l.lo
 
-abbrev pub invariant-loop-lo : goal.invariant-loop-lo
-invariant-loop-lo l =
-    (l.lo ≤ l.hi) × (below l.id (textures_in l.n l.s) ≤ l.hi) × (l.hi ≤ l.n) × (l.place ≡ min l.lo (below l.id (textures_in l.n l.s)))
-
-abbrev pub decreases-loop-lo : goal.decreases-loop-lo
-decreases-loop-lo l = l.hi - l.lo
+abbrev pub invariant-loop-i : goal.invariant-loop-i
+invariant-loop-i l = l.place ≡ min l.i (below l.id (textures_in l.n l.s))

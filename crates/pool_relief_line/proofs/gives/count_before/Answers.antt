@@ -7,27 +7,16 @@ use Rattle.pool_relief_line.specs.Line.{count_before}
 use Rattle.pool_relief_line.specs.Parked.{parked_at}
 use Rattle.pool_relief_line.proofs.Parked.{parkings_left, count_done, count_hit, count_miss}
 use Rattle.pool_relief_line.proofs.gives.count_before.Goals as goal
-
-pub loop-j-init : goal.loop-j-init
-loop-j-init c = (search rules, search rules, search rules, search rules)
-
-pub loop-j-preserved-then-parked-line : goal.loop-j-preserved-then-parked-line
-loop-j-preserved-then-parked-line c =
-    let a = c.args in (
-      search rules,
-      search rules,
-      search rules,
-      count_hit a.spares.now a.line (a.from + a.n) c.loop-j.j c.loop-j.k _ c.loop-j-test.true c.loop-j.invariant.3 c.if-parked-line.true,
-    )
+use Rattle.pool_relief_line.proofs.gives.count_before.Goals.{then-parked-line, else-parked-line}
 
 pub loop-j-preserved : goal.loop-j-preserved
 loop-j-preserved c =
-    let a = c.args in (
-      search rules,
-      search rules,
-      search rules,
-      count_miss a.spares.now a.line (a.from + a.n) c.loop-j.j c.loop-j.k _ c.loop-j-test.true c.loop-j.invariant.3 c.if-parked-line.false,
-    )
+    let a = c.args in
+    let e = c.loop-j.invariant.1 in
+    elim c.if-parked-line.branch [
+      | then-parked-line w ↦ rw w.k-is (omega arith, count_hit a.spares.now a.line (a.from + a.n) c.loop-j.j c.loop-j.k _ (omega arith) e w.if-parked-line.true)
+      | else-parked-line w ↦ rw w.k-is (omega arith, count_miss a.spares.now a.line (a.from + a.n) c.loop-j.j c.loop-j.k _ (omega arith) e w.if-parked-line.false)
+    ]
 
 pub returns : goal.returns
 returns c =
@@ -35,8 +24,8 @@ returns c =
       search rules,
       omega (
         arith,
-        c.loop-j.invariant.3,
-        count_done a.line (parked_at a.spares.now) (a.from + a.n) c.loop-j.j c.loop-j-test.false,
+        c.loop-j.invariant.1,
+        count_done a.line (parked_at a.spares.now) (a.from + a.n) c.loop-j.j (omega arith),
         ap (count_before a.line) (parkings_left a.spares.now a.from a.n),
       ),
     )

@@ -1,6 +1,6 @@
 -- `count_before` meets its contract. Assumes nothing.
 use mathlib.Core.Path.{◌≡◌}
-use Prim.Native.Nat.{◌+◌, ◌-◌, ◌≤◌}
+use Prim.Native.Nat.{◌+◌, ◌≤◌}
 use Rattle.base_blocks.proofs.Listed.{left}
 use Rattle.pool_relief_line.specs.Line.{count_before}
 use Rattle.pool_relief_line.specs.Parked.{parked_at}
@@ -8,7 +8,4 @@ use Rattle.pool_relief_line.proofs.gives.count_before.Given as goal
 
 abbrev pub invariant-loop-j : goal.invariant-loop-j
 invariant-loop-j l =
-    (l.from ≤ l.j) × (l.j ≤ l.end) × (l.k + l.from ≤ l.j) × (l.k + count_before l.line (left (parked_at l.spares) l.end l.j) ≡ count_before l.line (left (parked_at l.spares) l.end l.from))
-
-abbrev pub decreases-loop-j : goal.decreases-loop-j
-decreases-loop-j l = l.end - l.j
+    (l.k + l.from ≤ l.j) × (l.k + count_before l.line (left (parked_at l.spares) (l.from + l.n) l.j) ≡ count_before l.line (left (parked_at l.spares) (l.from + l.n) l.from))

@@ -1,5 +1,5 @@
 -- `take_at` meets its contract. Assumes nothing.
-use Prim.Native.Nat.{◌+◌, ◌*◌, ◌-◌, ◌≤◌}
+use Prim.Native.Nat.{◌+◌, ◌*◌, ◌≤◌}
 use mathlib.Core.Path.{◌≡◌}
 use Rattle.base_blocks.proofs.Listed.{left}
 use Rattle.pool_relief_line.specs.Line.{taken_at}
@@ -8,8 +8,5 @@ use Rattle.pool_relief_line.proofs.gives.take_at.Given as goal
 
 abbrev pub invariant-loop-j : goal.invariant-loop-j
 invariant-loop-j l =
-    (l.from ≤ l.j) × (l.j ≤ l.end) × (l.count + l.from ≤ l.j) × (l.sum ≡ l.freed + l.bytes * l.count)
-    × (l.count + taken_at l.sum l.excess l.bytes l.line (left (parked_at l.spares) l.end l.j) ≡ taken_at l.freed l.excess l.bytes l.line (left (parked_at l.spares) l.end l.from))
-
-abbrev pub decreases-loop-j : goal.decreases-loop-j
-decreases-loop-j l = l.end - l.j
+    (l.count + l.from ≤ l.j) × (l.sum ≡ l.freed + l.bytes * l.count)
+    × (l.count + taken_at l.sum l.excess l.bytes l.line (left (parked_at l.spares) (l.from + l.n) l.j) ≡ taken_at l.freed l.excess l.bytes l.line (left (parked_at l.spares) (l.from + l.n) l.from))

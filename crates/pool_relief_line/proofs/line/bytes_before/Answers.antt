@@ -1,9 +1,8 @@
 -- `bytes_before` meets its contract: one texture's spares after the other's. Assumes nothing.
 use mathlib.Core.Path.{ap}
-use Prim.Native.Nat.{◌+◌, ◌*◌}
+use Prim.Native.Nat.{◌<◌, ◌+◌, ◌*◌}
 use native.Mathlib.Omega.{arith}
 use lib.ListN.{get_or}
-use borrow.Author.Rules.{rules}
 use Rattle.base_blocks.specs.Lists.{total}
 use Rattle.base_tables.proofs.Records.{table_left}
 use Rattle.grid_shapes.specs.Shapes.{bytes_of}
@@ -18,42 +17,29 @@ loop-i-init c =
     let a = c.args in
     let f = c.requires in
     let all = table_left texture_stride read_texture a.n a.textures.now in (
-      search rules,
       omega (arith, ap (total record_spares) all),
       omega (arith, ap (total record_bytes) all, f.bytes),
       omega (arith, ap (bytes_from a.spares.now a.line 0) all),
     )
 
-pub overflow_mul-kept : goal.overflow_mul-kept
-overflow_mul-kept c = omega (arith, c.loop-i-test, c.requires.fits, c.well_formed)
-
-pub overflow_add-kept : goal.overflow_add-kept
-overflow_add-kept c = omega (arith, c.loop-i-test, c.requires.fits, c.well_formed)
-
-pub offset_bounds-textures-i : goal.offset_bounds-textures-i
-offset_bounds-textures-i c = omega (arith, c.loop-i-test, c.requires.fits, c.well_formed)
-
-pub bounds-textures-i : goal.bounds-textures-i
-bounds-textures-i c = omega (arith, c.loop-i-test, c.requires.fits)
-
 pub run_bytes-sum-requires : goal.run_bytes-sum-requires
 run_bytes-sum-requires c =
     let a = c.args in
     let f = c.requires in
-    let h = c.loop-i-test.true in (
+    let h : c.loop-i.i < a.n = omega arith in (
       omega (arith, h, f.fits),
       f.recorded c.loop-i.i h,
-      omega (arith, c.loop-i.invariant.1, spares_rest a.textures.now a.spares.now a.n c.loop-i.i h, f.runs),
-      omega (arith, c.loop-i.invariant.2, bytes_rest a.textures.now a.spares.now a.n c.loop-i.i h),
+      omega (arith, c.loop-i.invariant.0, spares_rest a.textures.now a.spares.now a.n c.loop-i.i h, f.runs),
+      omega (arith, c.loop-i.invariant.1, bytes_rest a.textures.now a.spares.now a.n c.loop-i.i h),
     )
 
 pub overflow_add-sum : goal.overflow_add-sum
 overflow_add-sum c =
     let a = c.args in
-    let h = c.loop-i-test.true in
+    let h : c.loop-i.i < a.n = omega arith in
     omega (
       arith,
-      c.loop-i.invariant.2,
+      c.loop-i.invariant.1,
       c.run_bytes-sum.ensures,
       bytes_rest a.textures.now a.spares.now a.n c.loop-i.i h,
       counted_bytes (bytes_of (texture_in a.textures.now c.loop-i.i).shape) a.line a.spares.now c.loop-i.from
@@ -66,8 +52,8 @@ overflow_add-from c =
     let f = c.requires in
     omega (
       arith,
-      c.loop-i.invariant.1,
-      spares_rest a.textures.now a.spares.now a.n c.loop-i.i c.loop-i-test.true,
+      c.loop-i.invariant.0,
+      spares_rest a.textures.now a.spares.now a.n c.loop-i.i (omega arith),
       f.runs,
       c.well_formed,
     )
@@ -75,23 +61,22 @@ overflow_add-from c =
 pub loop-i-preserved : goal.loop-i-preserved
 loop-i-preserved c =
     let a = c.args in
-    let h = c.loop-i-test.true in
+    let h : c.loop-i.i < a.n = omega arith in
     let kept = get_or a.textures.now (texture_stride * c.loop-i.i + texture_spares_at) 0 in (
-      omega (arith, h),
-      omega (arith, c.loop-i.invariant.1, spares_rest a.textures.now a.spares.now a.n c.loop-i.i h),
+      omega (arith, c.loop-i.invariant.0, spares_rest a.textures.now a.spares.now a.n c.loop-i.i h),
       omega (
         arith,
-        c.loop-i.invariant.2,
+        c.loop-i.invariant.1,
         c.run_bytes-sum.ensures,
         bytes_rest a.textures.now a.spares.now a.n c.loop-i.i h,
         counted_bytes (bytes_of (texture_in a.textures.now c.loop-i.i).shape) a.line a.spares.now c.loop-i.from kept,
       ),
-      omega (arith, c.loop-i.invariant.3, c.run_bytes-sum.ensures, before_rest a.textures.now a.spares.now a.n c.loop-i.i h a.line c.loop-i.from),
+      omega (arith, c.loop-i.invariant.2, c.run_bytes-sum.ensures, before_rest a.textures.now a.spares.now a.n c.loop-i.i h a.line c.loop-i.from),
     )
 
 pub returns : goal.returns
 returns c =
     let a = c.args in (
-      omega (arith, c.loop-i.invariant.2),
-      omega (arith, c.loop-i.invariant.3, before_done a.textures.now a.spares.now a.n c.loop-i.i a.line c.loop-i.from c.loop-i-test.false),
+      omega (arith, c.loop-i.invariant.1),
+      omega (arith, c.loop-i.invariant.2, before_done a.textures.now a.spares.now a.n c.loop-i.i a.line c.loop-i.from (omega arith)),
     )

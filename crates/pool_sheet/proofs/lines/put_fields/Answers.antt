@@ -35,9 +35,6 @@ put_column-end-requires c =
     let a = c.args in
     (last_wide a.fields c.requires.0, omega (arith, c.requires.1, c.put_column-kind_at.ensures.0, c.put_column-kind_at.auto.out, c.put_column-levels_at.ensures.0, c.put_column-levels_at.auto.out, c.put_column-spares_at.ensures.0, c.put_column-spares_at.auto.out, c.put_column-parked_at.ensures.0, c.put_column-parked_at.auto.out, c.put_column-last_at.ensures.0, c.put_column-last_at.auto.out))
 
-pub put_text-requires : goal.put_text-requires
-put_text-requires c = omega (arith, c.requires.1, c.put_column-kind_at.ensures.0, c.put_column-kind_at.auto.out, c.put_column-levels_at.ensures.0, c.put_column-levels_at.auto.out, c.put_column-spares_at.ensures.0, c.put_column-spares_at.auto.out, c.put_column-parked_at.ensures.0, c.put_column-parked_at.auto.out, c.put_column-last_at.ensures.0, c.put_column-last_at.auto.out, c.put_column-end.ensures.0, c.put_column-end.auto.out)
-
 pub returns : goal.returns
 returns c =
     let f = c.args.fields in

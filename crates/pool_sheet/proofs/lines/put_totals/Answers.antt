@@ -17,12 +17,6 @@ put_column-end-requires c =
     let p = c.put_column-parked_at in
     (nineteen_wide c.args.parked c.requires.1, omega (arith, c.requires.2, p.ensures.0, p.auto.out, c.put_blanks.auto.out))
 
-pub put_text-requires : goal.put_text-requires
-put_text-requires c =
-    let p = c.put_column-end in
-    let q = c.put_column-parked_at in
-    omega (arith, c.requires.2, p.ensures.0, p.auto.out, q.ensures.0, q.auto.out, c.put_blanks.auto.out)
-
 pub returns : goal.returns
 returns c =
     let a = c.args in

@@ -10,6 +10,6 @@ pub returns : goal.returns
 unfolding paced_of ceil_div
 returns c =
     let n = c.args.n in
-    c.smaller.ensures
-    ∙ ap (λ m. min m n) c.larger.ensures
+    c.min.ensures
+    ∙ ap (λ m. min m n) c.max.ensures
     ∙ ap (λ s. min (max min_destroys_per_drain ((s + 7) / 8 + (n + 7) / 8)) n) c.arrivals_sum-sum.ensures

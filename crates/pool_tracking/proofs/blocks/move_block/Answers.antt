@@ -1,22 +1,10 @@
 -- `move_block` meets its contract: down or up by the difference. Assumes nothing.
 use mathlib.Core.Path.{◌≡◌, sym, ap, ◌∙◌}
-use Prim.Native.Nat.{ℕ, ◌+◌, ◌-◌}
+use Prim.Native.Nat.{ℕ}
 use native.Mathlib.Omega.{arith}
 use Rattle.base_blocks.specs.Blocks.{moved}
 use Rattle.pool_memory.proofs.Rewritten.{moved_self}
 use Rattle.pool_tracking.proofs.blocks.move_block.Goals as goal
-
-pub returns-then-to-from : goal.returns-then-to-from
-returns-then-to-from c =
-    let a = c.args in
-    let e : a.to + (a.from - a.to) ≡ a.from = omega (arith, c.if-to-from.true) in
-    c.shift_down.ensures ∙ ap (λ (m : ℕ). moved a.s.now a.to m a.n) e
-
-pub returns-then-from-to : goal.returns-then-from-to
-returns-then-from-to c =
-    let a = c.args in
-    let e : a.from + (a.to - a.from) ≡ a.to = omega (arith, c.if-from-to.true) in
-    c.shift_up.ensures ∙ ap (λ (m : ℕ). moved a.s.now m a.from a.n) e
 
 pub returns-else-from-to : goal.returns-else-from-to
 returns-else-from-to c =

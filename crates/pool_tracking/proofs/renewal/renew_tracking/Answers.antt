@@ -2,7 +2,8 @@
 use mathlib.Core.Path.{refl}
 use native.Mathlib.Omega.{arith}
 use Rattle.pool_tracking.proofs.Trackings.{grids_all}
-use Rattle.pool_tracking.proofs.Renewed.{readable, renewable, left_renewed}
+use Rattle.pool_tracking.proofs.Renewed.{readable, renewable}
+use Rattle.pool_tracking.proofs.LeftRenewed.{left_renewed}
 use Rattle.pool_tracking.proofs.renewal.renew_tracking.Goals as goal
 
 pub holding_at-old-requires : goal.holding_at-old-requires
@@ -19,8 +20,8 @@ fresh_grids-fresh-requires c =
     let k = renewable _ c.args.new c.requires.0 c.requires.1 c.requires.2 _ c.holding_at-old.ensures in
     k.few
 
-pub give_up-after-requires : goal.give_up-after-requires
-give_up-after-requires c =
+pub give_up-left-requires : goal.give_up-left-requires
+give_up-left-requires c =
     let k = renewable _ c.args.new c.requires.0 c.requires.1 c.requires.2 _ c.holding_at-old.ensures in
     (k.ring, k.head, k.doomed, k.within, k.spares, k.parked, k.dooming, k.since)
 
@@ -64,42 +65,27 @@ renew_block-requires c =
     let k = renewable _ c.args.new c.requires.0 c.requires.1 c.requires.2 _ c.holding_at-old.ensures in
     (omega (arith, k.stamps, k.stamps_used_lem), omega (arith, k.stamps, k.stamps_room))
 
-pub overflow_sub-after : goal.overflow_sub-after
-overflow_sub-after c =
+pub overflow_sub-result : goal.overflow_sub-result
+overflow_sub-result c =
     let k = renewable _ c.args.new c.requires.0 c.requires.1 c.requires.2 _ c.holding_at-old.ensures in
     omega (arith, k.grids)
 
-pub overflow_add-after : goal.overflow_add-after
-overflow_add-after c =
+pub overflow_add-result : goal.overflow_add-result
+overflow_add-result c =
     let k = renewable _ c.args.new c.requires.0 c.requires.1 c.requires.2 _ c.holding_at-old.ensures in
     omega (arith, k.grids_room, k.newest_most, k.grids, k.grids_used_lem, c.fresh_grids-fresh.ensures)
 
-pub overflow_sub-after-2 : goal.overflow_sub-after-2
-overflow_sub-after-2 c =
+pub overflow_sub-result-2 : goal.overflow_sub-result-2
+overflow_sub-result-2 c =
     let k = renewable _ c.args.new c.requires.0 c.requires.1 c.requires.2 _ c.holding_at-old.ensures in
     omega (arith, k.stamps)
 
-pub overflow_add-after-2 : goal.overflow_add-after-2
-overflow_add-after-2 c =
+pub overflow_add-result-2 : goal.overflow_add-result-2
+overflow_add-result-2 c =
     let k = renewable _ c.args.new c.requires.0 c.requires.1 c.requires.2 _ c.holding_at-old.ensures in
     omega (arith, k.stamps_room, k.stamps_most, k.stamps, k.stamps_used_lem)
 
-pub shape_of-textures : goal.shape_of-textures
-shape_of-textures c = c.renew_record.auto.textures
-
-pub shape_of-doomed : goal.shape_of-doomed
-shape_of-doomed c = c.give_up-after.auto.doomed
-
-pub shape_of-spares : goal.shape_of-spares
-shape_of-spares c = c.give_up-after.auto.spares
-
-pub shape_of-newest : goal.shape_of-newest
-shape_of-newest c = c.renew_newest.auto.newest
-
-pub shape_of-stamps : goal.shape_of-stamps
-shape_of-stamps c = c.renew_block.auto.s
-
 pub returns : goal.returns
 returns c =
-    let g = c.give_up-after.ensures in
+    let g = c.give_up-left.ensures in
     left_renewed _ c.args.new c.requires.0 c.requires.1 c.requires.2 _ c.holding_at-old.ensures _ _ _ _ _ _ _ _ refl c.fresh_grids-fresh.ensures g.0 g.1 g.2 c.renew_record.ensures c.renew_newest.ensures c.renew_block.ensures

@@ -5,4 +5,4 @@ use Rattle.pool_trim.proofs.look_at.is_idle.Goals as goal
 pub returns : goal.returns
 returns c =
     let a = c.args in
-    idle_test a.textures.now a.i a.current c.before-oldest.result c.before-oldest.ensures a.left
+    idle_test a.textures.now a.i a.current c.saturating_sub-oldest.result c.saturating_sub-oldest.ensures a.left

@@ -24,9 +24,6 @@ pub overflow_sub-stamps : goal.overflow_sub-stamps
 overflow_sub-stamps c =
     omega (arith, c.stamp_end.ensures, stamp_number c.args.textures.now c.args.i, c.requires)
 
-pub overflow_sub-own : goal.overflow_sub-own
-overflow_sub-own c = c.aged_count-aged.ensures.0
-
 pub returns-then-is_idle : goal.returns-then-is_idle
 unfolding look_at
 returns-then-is_idle c =

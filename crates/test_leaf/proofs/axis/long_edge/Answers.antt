@@ -7,8 +7,8 @@ use Rattle.test_leaf.proofs.axis.long_edge.Goals as goal
 
 pub overflow_mul-result : goal.overflow_mul-result
 unfolding ceil_div
-overflow_mul-result c = omega (arith, c.larger-least.ensures, ceil_least c.larger-least.result c.args.block c.requires.1)
+overflow_mul-result c = omega (arith, c.max-least.ensures, ceil_least c.max-least.result c.args.block c.requires.1)
 
 pub returns : goal.returns
 unfolding tile_edge ceil_div
-returns c = rw c.larger-least.ensures
+returns c = rw c.max-least.ensures

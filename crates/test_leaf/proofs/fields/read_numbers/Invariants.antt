@@ -1,10 +1,7 @@
 -- Numbers read one after the other. Each takes a byte or more, and the next field starts at most one past the end. Assumes nothing.
-use Prim.Native.Nat.{◌≤◌, ◌+◌, ◌-◌}
+use Prim.Native.Nat.{◌≤◌, ◌+◌}
 use lib.ListN.{length}
 use Rattle.test_leaf.proofs.fields.read_numbers.Given as goal
 
 abbrev pub invariant-loop-i : goal.invariant-loop-i
-invariant-loop-i l = (l.i ≤ l.most) × (l.at + l.i ≤ l.next) × (l.next ≤ length l.fields + 1)
-
-abbrev pub decreases-loop-i : goal.decreases-loop-i
-decreases-loop-i l = l.most - l.i
+invariant-loop-i N l = (l.at + l.i ≤ l.next) × (l.next ≤ length l.fields + 1)

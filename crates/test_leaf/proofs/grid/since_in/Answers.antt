@@ -24,9 +24,9 @@ since-requires c =
     let pos : 0 < b.result = omega (arith, b.ensures, block_edge_pos a.format) in
     let most : b.result ≤ 16 = omega (arith, b.ensures, block_edge_bound a.format) in
     record {
-      axis_ok = (
-        rw c.axis_of.ensures (axis_ok a.width b.result pos p.width_bound.0 most),
-        rw c.axis_of-2.ensures (axis_ok a.height b.result pos p.width_bound.1 most),
-      );
+      tiling_ok = record {
+        across = rw c.axis_of.ensures (axis_ok a.width b.result pos p.width_bound.0 most);
+        down = rw c.axis_of-2.ensures (axis_ok a.height b.result pos p.width_bound.1 most);
+      };
       fields_len_bound = p.fields_len_bound;
     }

@@ -30,19 +30,23 @@ rest_of-place-requires c =
     let k = c.finish-to in
     let r = c.run_lines-run in
     let w : k.result ≤ length k.new.buf = omega (arith, k.ensures.within, k.auto.buf) in (
-      ran_within _ _ _ _ b.from b.held k.result k.new.buf k.new.buf _ k.ensures.least w _ r.ensures.0,
+      ran_within _ _ _ _ b.from b.held k.result k.new.buf k.new.buf _ k.ensures.least w _ r.ensures.ran,
       w,
       omega (arith, c.requires.large, k.auto.buf),
     )
 
-pub returns : goal.returns
-returns c =
+pub returns-clause-turn : goal.returns-clause-turn
+returns-clause-turn c =
     let b = c.args.before in
     let k = c.finish-to in
     let r = c.run_lines-run in
     let z = c.rest_of-place.ensures in
-    let w : k.result ≤ length k.new.buf = omega (arith, k.ensures.within, k.auto.buf) in (
-      turn_from _ _ _ _ b.from b.held _ k.result c.args.buf.now k.new.buf k.ensures _ _ _ _ _
-          (turn _ _ _ _ b.from b.held k.result k.new.buf _ _ k.ensures.least w (ap whole_lines k.ensures.line ∙ c.requires.plain) c.requires.room _ r.ensures.0 r.ensures.1 _ z),
-      record { inside = z.inside; within = omega (arith, z.within, k.auto.buf); space = z.space },
-    )
+    let w : k.result ≤ length k.new.buf = omega (arith, k.ensures.within, k.auto.buf) in
+    turn_from _ _ _ _ b.from b.held _ k.result c.args.buf.now k.new.buf k.ensures _ _ _ _ _
+    (turn _ _ _ _ b.from b.held k.result k.new.buf _ _ k.ensures.least w (ap whole_lines k.ensures.line ∙ c.requires.plain) c.requires.room _ r.ensures.ran r.ensures.filled _ z)
+
+pub returns-clause-placed : goal.returns-clause-placed
+returns-clause-placed c =
+    let k = c.finish-to in
+    let z = c.rest_of-place.ensures in
+    record { inside = z.inside; within = omega (arith, z.within, k.auto.buf); space = z.space }

@@ -169,12 +169,6 @@ counts_without-requires c =
     let is = c.owned_at-own.ensures in
     counts_fit_lem l f i h own is
 
-pub shape_of-doomed : goal.shape_of-doomed
-shape_of-doomed c = c.push_spares.auto.doomed
-
-pub shape_of-spares : goal.shape_of-spares
-shape_of-spares c = c.remove_records.auto.s
-
 pub returns : goal.returns
 returns c =
     let a = c.args in

@@ -1,6 +1,5 @@
 -- `note_allocated` meets its contract. Assumes nothing.
 use mathlib.Core.Path.{ap, ap₂, ◌∙◌, subst}
-use Prim.Native.Nat.{◌+◌}
 use native.Mathlib.Omega.{arith}
 use Rattle.pool_memory.specs.Lent.{lent}
 use Rattle.pool_memory.specs.Writing.{pool_after}
@@ -17,7 +16,7 @@ returns-then-excess-pool c =
     let a = c.args in
     let l = lent a.pool a.book a.textures.now a.retiring.now a.doomed.now a.spares.now a.newest.now a.stamps.now in
     let f = pool_fits l c.requires in
-    let e = c.excess_over-excess.ensures in
+    let e = c.saturating_sub-excess.ensures in
     ap (λ b. (told_number 0, lent a.pool b a.textures.now a.retiring.now a.doomed.now a.spares.now a.newest.now a.stamps.now)) c.noted-after.ensures
     ∙ noted_covered l f a.allocated (omega (arith, e, c.if-excess-pool.true)) c.requires
 
@@ -35,27 +34,13 @@ bytes_before-requires c =
     let f = pool_fits l c.requires in
     countable l f
 
-pub overflow_add-freed : goal.overflow_add-freed
-overflow_add-freed c =
-    let a = c.args in
-    let l = lent a.pool a.book a.textures.now a.retiring.now a.doomed.now a.spares.now a.newest.now a.stamps.now in
-    let f = pool_fits l c.requires in
-    omega (arith, c.bytes_before.ensures.0, dooming_most l f)
-
-pub relieve-relief-requires : goal.relieve-relief-requires
-relieve-relief-requires c =
-    let a = c.args in
-    let l = lent a.pool a.book a.textures.now a.retiring.now a.doomed.now a.spares.now a.newest.now a.stamps.now in
-    let f = pool_fits l c.requires in
-    (c.requires, c.parking_line-line.ensures, ap (λ n. a.pool.dooming + n) c.bytes_before.ensures.1)
-
 pub counts_after-requires : goal.counts_after-requires
 counts_after-requires c =
     let a = c.args in
     let l = lent a.pool a.book a.textures.now a.retiring.now a.doomed.now a.spares.now a.newest.now a.stamps.now in
     let f = pool_fits l c.requires in
     let r = c.relieve-relief in
-    let e = c.excess_over-excess.ensures in
+    let e = c.saturating_sub-excess.ensures in
     counts_need l f a.allocated (r.ensures.count ∙ ap (λ x. (pool_after (relieved_pool x l) l).kept) e) (r.ensures.sum ∙ ap (λ x. doomed_bytes (spares_given x l)) e)
 
 pub returns : goal.returns
@@ -64,6 +49,6 @@ returns c =
     let l = lent a.pool a.book a.textures.now a.retiring.now a.doomed.now a.spares.now a.newest.now a.stamps.now in
     let f = pool_fits l c.requires in
     let r = c.relieve-relief in
-    let e = c.excess_over-excess.ensures in
+    let e = c.saturating_sub-excess.ensures in
     ap₂ (λ p b. (told_number 0, lent p b r.new.textures a.retiring.now r.new.doomed r.new.spares a.newest.now a.stamps.now)) c.counts_after.ensures c.noted-after.ensures
     ∙ noted_relieved l f a.allocated (subst (λ x. Relieves l x r.result.kept r.result.bytes r.new.textures r.new.doomed r.new.spares) e r.ensures) c.requires

@@ -10,24 +10,23 @@ use Rattle.pool_retire.proofs.calls.pop_retired.pop_retired.Goals as goal
 
 pub returns-then-settled-gt-LIMIT : goal.returns-then-settled-gt-LIMIT
 returns-then-settled-gt-LIMIT c =
-    pop_late (lent c.args.pool c.args.book c.args.textures.now c.args.retiring.now c.args.doomed.now c.args.spares.now c.args.newest.now c.args.stamps.now) c.requires c.args.settled c.if-settled-gt-LIMIT.true
+    pop_late _ c.requires c.args.settled c.if-settled-gt-LIMIT.true
 
 pub returns-then-pool-ne0 : goal.returns-then-pool-ne0
 returns-then-pool-ne0 c =
-    pop_full (lent c.args.pool c.args.book c.args.textures.now c.args.retiring.now c.args.doomed.now c.args.spares.now c.args.newest.now c.args.stamps.now) c.requires c.args.settled c.if-settled-gt-LIMIT.false (omega (arith, c.if-pool-ne0.true))
+    pop_full _ c.requires c.args.settled c.if-settled-gt-LIMIT.false (omega (arith, c.if-pool-ne0.true))
 
 pub returns-then-pool-eq0 : goal.returns-then-pool-eq0
 returns-then-pool-eq0 c =
-    pop_none (lent c.args.pool c.args.book c.args.textures.now c.args.retiring.now c.args.doomed.now c.args.spares.now c.args.newest.now c.args.stamps.now) c.requires c.args.settled c.if-settled-gt-LIMIT.false (omega (arith, c.if-pool-ne0.false)) (omega (arith, c.if-pool-eq0.true))
+    pop_none _ c.requires c.args.settled c.if-settled-gt-LIMIT.false (omega (arith, c.if-pool-ne0.false)) (omega (arith, c.if-pool-eq0.true))
 
 pub retiring_at-front-requires : goal.retiring_at-front-requires
 retiring_at-front-requires c =
-    let l = (lent c.args.pool c.args.book c.args.textures.now c.args.retiring.now c.args.doomed.now c.args.spares.now c.args.newest.now c.args.stamps.now) in
-    ring_room l (pool_fits l c.requires)
+    ring_room _ (pool_fits _ c.requires)
 
 pub returns-then-front-settled : goal.returns-then-front-settled
 returns-then-front-settled c =
-    unsettled_front (lent c.args.pool c.args.book c.args.textures.now c.args.retiring.now c.args.doomed.now c.args.spares.now c.args.newest.now c.args.stamps.now) c.requires c.args.settled c.if-settled-gt-LIMIT.false (omega (arith, c.if-pool-ne0.false)) (omega (arith, c.if-pool-eq0.false))
+    unsettled_front _ c.requires c.args.settled c.if-settled-gt-LIMIT.false (omega (arith, c.if-pool-ne0.false)) (omega (arith, c.if-pool-eq0.false))
     c.retiring_at-front.result c.retiring_at-front.ensures (omega (arith, c.if-front-settled.true))
 
 pub returns : goal.returns
@@ -35,5 +34,5 @@ returns c =
     ap
     (λ p. (answer (some (record { id = c.retiring_at-front.result.id; view = c.retiring_at-front.result.view })), lent p c.args.book c.args.textures.now c.args.retiring.now c.args.doomed.now c.args.spares.now c.args.newest.now c.args.stamps.now))
     c.front_popped.ensures
-    ∙ settled_front (lent c.args.pool c.args.book c.args.textures.now c.args.retiring.now c.args.doomed.now c.args.spares.now c.args.newest.now c.args.stamps.now) c.requires c.args.settled c.if-settled-gt-LIMIT.false (omega (arith, c.if-pool-ne0.false)) (omega (arith, c.if-pool-eq0.false))
+    ∙ settled_front _ c.requires c.args.settled c.if-settled-gt-LIMIT.false (omega (arith, c.if-pool-ne0.false)) (omega (arith, c.if-pool-eq0.false))
     c.retiring_at-front.result c.retiring_at-front.ensures (omega (arith, c.if-front-settled.false))

@@ -1,12 +1,9 @@
 -- `retired_version` meets its contract, for an untracked texture and a tracked one. Assumes nothing.
 use Rattle.pool_records.specs.Texture.{texture_in}
-use Rattle.pool_retire.proofs.Tracked.{says_nowhere, says_here, record_fits}
+use Rattle.pool_retire.proofs.Tracked.{says_nowhere, says_here}
 use Rattle.pool_retire.proofs.Noted.{note_untracked, note_tracked}
 use Rattle.pool_records.specs.Find.{has_id}
 use Rattle.pool_retire.proofs.calls.retire.retired_version.Goals as goal
-
-pub has_id-requires : goal.has_id-requires
-has_id-requires c = c.requires
 
 pub returns-then-not-has_id : goal.returns-then-not-has_id
 returns-then-not-has_id c =
@@ -15,12 +12,6 @@ returns-then-not-has_id c =
     note_untracked (has_id a.textures.now a.tracked a.i a.id) (texture_in a.textures.now a.i) a.id a.view
     a.seq
     (says_nowhere a.textures.now a.tracked a.i a.id h.result h.ensures c.if-not-has_id.true-raw)
-
-pub texture_at-t-requires : goal.texture_at-t-requires
-texture_at-t-requires c =
-    let a = c.args in
-    let h = c.has_id in
-    record_fits a.textures.now a.tracked a.i a.id h.result h.ensures c.if-not-has_id.false-raw c.requires
 
 pub returns : goal.returns
 returns c =

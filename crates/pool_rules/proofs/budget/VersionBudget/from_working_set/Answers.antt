@@ -7,4 +7,4 @@ pub returns-then-working-eq0 : goal.returns-then-working-eq0
 returns-then-working-eq0 c = none_recommended c.args.working (omega arith)
 
 pub returns : goal.returns
-returns c = some_recommended c.args.working c.smaller.result (omega arith) c.smaller.ensures
+returns c = some_recommended c.args.working c.min.result (omega arith) c.min.ensures

@@ -26,29 +26,12 @@ returns-then-buffer-size c =
     let l = lent a.pool a.book a.textures.now a.retiring.now a.doomed.now a.spares.now a.newest.now a.stamps.now in
     too_short l a.buffer.now c.requires c.if-buffer-size.true
 
-pub put_head-requires : goal.put_head-requires
-put_head-requires c = omega (arith, c.if-buffer-size.false)
-
 pub put_textures-requires : goal.put_textures-requires
 put_textures-requires c =
     let a = c.args in
     let l = lent a.pool a.book a.textures.now a.retiring.now a.doomed.now a.spares.now a.newest.now a.stamps.now in
     let f = pool_fits l c.requires in
     (records_there l f, records_fit l f, omega (arith, c.if-buffer-size.false, c.put_head.auto.out))
-
-pub overflow_add-tracked : goal.overflow_add-tracked
-overflow_add-tracked c =
-    let a = c.args in
-    let l = lent a.pool a.book a.textures.now a.retiring.now a.doomed.now a.spares.now a.newest.now a.stamps.now in
-    let f = pool_fits l c.requires in
-    omega (arith, tracked_most l f)
-
-pub overflow_mul-tracked : goal.overflow_mul-tracked
-overflow_mul-tracked c =
-    let a = c.args in
-    let l = lent a.pool a.book a.textures.now a.retiring.now a.doomed.now a.spares.now a.newest.now a.stamps.now in
-    let f = pool_fits l c.requires in
-    omega (arith, tracked_most l f)
 
 pub put_totals-requires : goal.put_totals-requires
 put_totals-requires c =

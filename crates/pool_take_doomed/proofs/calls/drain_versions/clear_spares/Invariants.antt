@@ -1,12 +1,7 @@
 -- `clear_spares` meets its contract: one record after the other. Assumes nothing.
 use mathlib.Core.Path.{◌≡◌}
-use Prim.Native.Nat.{◌-◌, ◌≤◌}
-use lib.ListN.{length}
 use Rattle.pool_take_doomed.specs.DrainVersions.{cleared}
 use Rattle.pool_take_doomed.proofs.calls.drain_versions.clear_spares.Given as goal
 
 abbrev pub invariant-loop-i : goal.invariant-loop-i
-invariant-loop-i l = (l.i ≤ l.n) × (length l.textures ≡ length l.initial.textures) × (l.textures ≡ cleared l.i l.initial.textures)
-
-abbrev pub decreases-loop-i : goal.decreases-loop-i
-decreases-loop-i l = l.n - l.i
+invariant-loop-i l = l.textures ≡ cleared l.i l.initial.textures

@@ -1,7 +1,6 @@
 -- `put_looked` meets its contract. Assumes nothing.
 use mathlib.Core.Path.{ap, ◌∙◌}
 use Prim.Native.Nat.{◌*◌}
-use native.Mathlib.Omega.{arith}
 use lib.Seq.{sets}
 use Rattle.pool_records.specs.declared.texture.TextureRecord.{TextureRecord}
 use Rattle.pool_records.specs.Texture.{write_texture}
@@ -15,17 +14,10 @@ returns-then-look-eq0 c =
     let a = c.args in
     put_none a.textures.now a.i a.look a.pass c.if-look-eq0.true
 
-pub overflow_sub-left : goal.overflow_sub-left
-overflow_sub-left c = omega (arith, c.requires)
-
 pub returns-then-pass-i : goal.returns-then-pass-i
 returns-then-pass-i c =
     let a = c.args in
     put_same a.textures.now a.i a.look a.pass c.if-look-eq0.false c.requires.0 c.requires.4 c.requires.5 c.if-pass-i.true
-
-pub put_texture-requires : goal.put_texture-requires
-put_texture-requires c =
-    (c.requires.1, rw c.texture_at-t.ensures c.requires.2)
 
 pub returns : goal.returns
 unfolding looked_record
@@ -33,5 +25,5 @@ returns c =
     let a = c.args in
     c.put_texture.ensures
     ∙ ap (λ (t : TextureRecord). sets a.textures.now (texture_stride * a.pass.tracked) (write_texture (looked_record a.look a.pass t)))
-    c.texture_at-t.ensures
+    c.texture_at.ensures
     ∙ put_some a.textures.now a.i a.look a.pass c.if-look-eq0.false

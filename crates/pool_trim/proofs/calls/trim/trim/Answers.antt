@@ -24,9 +24,6 @@ returns-then-nothing_aged c =
     let a = c.args in
     trim_nothing (lent a.pool a.book a.textures.now a.retiring.now a.doomed.now a.spares.now a.newest.now a.stamps.now) c.requires a.current (omega (arith, c.if-current-gt-LIMIT.false)) c.nothing_aged.ensures c.if-nothing_aged.true
 
-pub trim_textures-counts-requires : goal.trim_textures-counts-requires
-trim_textures-counts-requires c = c.requires
-
 pub returns : goal.returns
 returns c =
     let a = c.args in

@@ -1,22 +1,26 @@
 -- `trim_textures` meets its contract: the pass goes on texture by texture, and ends with the call's memory. Assumes nothing.
+use Prim.Native.Nat.{◌<◌}
+use borrow.Author.Rules.{rules}
 use native.Mathlib.Omega.{arith}
 use Rattle.pool_memory.specs.Lent.{lent}
 use Rattle.pool_memory.proofs.FromPool.{pool_fits}
+use Rattle.pool_trim.specs.Pass.{no_pass}
 use Rattle.pool_trim.proofs.Sofar.{sofar_start}
 use Rattle.pool_trim.proofs.Trimmed.{seen, sofar_next}
-use Rattle.pool_trim.proofs.TrimCalls.{look_fits, push_fits, put_fits, history_moves, pass_fits, counts_fit_lem, pass_done, textures_most}
+use Rattle.pool_trim.proofs.TrimCalls.{look_fits, push_fits, put_fits, history_moves, pass_fits, counts_fit_lem, pass_done}
 use Rattle.pool_trim.proofs.calls.trim.trim_textures.Goals as goal
 
 pub loop-i-init : goal.loop-i-init
+unfolding no_pass
 loop-i-init c =
     let a = c.args in
-    λ book e. sofar_start (lent a.pool book a.textures.now a.retiring.now a.doomed.now a.spares.now a.newest.now a.stamps.now) a.current _ c.no_pass-pass.ensures
+    λ book e. sofar_start (lent a.pool book a.textures.now a.retiring.now a.doomed.now a.spares.now a.newest.now a.stamps.now) a.current _ (search rules)
 
 pub look_at-look-requires : goal.look_at-look-requires
 look_at-look-requires c =
     let a = c.args in
     let l = lent a.pool a.book a.textures.now a.retiring.now a.doomed.now a.spares.now a.newest.now a.stamps.now in
-    look_fits l (pool_fits l c.requires) c.loop-i.i c.loop-i-test.true a.current c.loop-i.pass _ _ _ _ _ (c.loop-i.invariant a.book c.requires)
+    look_fits l (pool_fits l c.requires) c.loop-i.i (omega arith) a.current c.loop-i.pass _ _ _ _ _ (c.loop-i.invariant a.book c.requires)
 
 pub overflow_add-waiting : goal.overflow_add-waiting
 overflow_add-waiting c =
@@ -24,7 +28,7 @@ overflow_add-waiting c =
     let l = lent a.pool a.book a.textures.now a.retiring.now a.doomed.now a.spares.now a.newest.now a.stamps.now in
     let f = pool_fits l c.requires in
     let s = c.loop-i.invariant a.book c.requires in
-    let h = c.loop-i-test.true in
+    let h : c.loop-i.i < a.pool.tracked = omega arith in
     let n = seen l a.current c.loop-i.i c.loop-i.pass _ _ _ _ _ f h s c.look_at-look.result c.look_at-look.ensures in
     omega (arith, s.all, n.spares, f.versions, f.most)
 
@@ -34,7 +38,7 @@ push_spares-requires c =
     let l = lent a.pool a.book a.textures.now a.retiring.now a.doomed.now a.spares.now a.newest.now a.stamps.now in
     let f = pool_fits l c.requires in
     let s = c.loop-i.invariant a.book c.requires in
-    let h = c.loop-i-test.true in
+    let h : c.loop-i.i < a.pool.tracked = omega arith in
     push_fits l f c.loop-i.i h a.current c.loop-i.pass _ _ _ _ _ s c.look_at-look.result c.look_at-look.ensures
 
 pub overflow_mul-pass : goal.overflow_mul-pass
@@ -43,7 +47,7 @@ overflow_mul-pass c =
     let l = lent a.pool a.book a.textures.now a.retiring.now a.doomed.now a.spares.now a.newest.now a.stamps.now in
     let f = pool_fits l c.requires in
     let s = c.loop-i.invariant a.book c.requires in
-    let h = c.loop-i-test.true in
+    let h : c.loop-i.i < a.pool.tracked = omega arith in
     let n = seen l a.current c.loop-i.i c.loop-i.pass _ _ _ _ _ f h s c.look_at-look.result c.look_at-look.ensures in
     omega (arith, s.all, n.spares, f.versions, f.most)
 
@@ -53,7 +57,7 @@ overflow_add-pass c =
     let l = lent a.pool a.book a.textures.now a.retiring.now a.doomed.now a.spares.now a.newest.now a.stamps.now in
     let f = pool_fits l c.requires in
     let s = c.loop-i.invariant a.book c.requires in
-    let h = c.loop-i-test.true in
+    let h : c.loop-i.i < a.pool.tracked = omega arith in
     let n = seen l a.current c.loop-i.i c.loop-i.pass _ _ _ _ _ f h s c.look_at-look.result c.look_at-look.ensures in
     omega (arith, n.few, n.spares, f.versions, f.most)
 
@@ -63,7 +67,7 @@ overflow_mul-pass-in-loop-i c =
     let l = lent a.pool a.book a.textures.now a.retiring.now a.doomed.now a.spares.now a.newest.now a.stamps.now in
     let f = pool_fits l c.requires in
     let s = c.loop-i.invariant a.book c.requires in
-    let h = c.loop-i-test.true in
+    let h : c.loop-i.i < a.pool.tracked = omega arith in
     let n = seen l a.current c.loop-i.i c.loop-i.pass _ _ _ _ _ f h s c.look_at-look.result c.look_at-look.ensures in
     omega (arith, n.few, n.spares, f.versions, f.most)
 
@@ -73,7 +77,7 @@ overflow_sub-look c =
     let l = lent a.pool a.book a.textures.now a.retiring.now a.doomed.now a.spares.now a.newest.now a.stamps.now in
     let f = pool_fits l c.requires in
     let s = c.loop-i.invariant a.book c.requires in
-    let h = c.loop-i-test.true in
+    let h : c.loop-i.i < a.pool.tracked = omega arith in
     let n = seen l a.current c.loop-i.i c.loop-i.pass _ _ _ _ _ f h s c.look_at-look.result c.look_at-look.ensures in
     n.few
 
@@ -83,7 +87,7 @@ overflow_mul-look c =
     let l = lent a.pool a.book a.textures.now a.retiring.now a.doomed.now a.spares.now a.newest.now a.stamps.now in
     let f = pool_fits l c.requires in
     let s = c.loop-i.invariant a.book c.requires in
-    let h = c.loop-i-test.true in
+    let h : c.loop-i.i < a.pool.tracked = omega arith in
     let n = seen l a.current c.loop-i.i c.loop-i.pass _ _ _ _ _ f h s c.look_at-look.result c.look_at-look.ensures in
     omega (arith, n.few, n.spares, f.versions, f.most)
 
@@ -93,7 +97,7 @@ move_down-requires c =
     let l = lent a.pool a.book a.textures.now a.retiring.now a.doomed.now a.spares.now a.newest.now a.stamps.now in
     let f = pool_fits l c.requires in
     let s = c.loop-i.invariant a.book c.requires in
-    let h = c.loop-i-test.true in
+    let h : c.loop-i.i < a.pool.tracked = omega arith in
     let n = seen l a.current c.loop-i.i c.loop-i.pass _ _ _ _ _ f h s c.look_at-look.result c.look_at-look.ensures in
     (omega (arith, s.all), omega (arith, n.few, n.spares, f.versions, f.spares, s.s_long))
 
@@ -103,7 +107,7 @@ move_history-requires c =
     let l = lent a.pool a.book a.textures.now a.retiring.now a.doomed.now a.spares.now a.newest.now a.stamps.now in
     let f = pool_fits l c.requires in
     let s = c.loop-i.invariant a.book c.requires in
-    let h = c.loop-i-test.true in
+    let h : c.loop-i.i < a.pool.tracked = omega arith in
     history_moves l f c.loop-i.i h a.current c.loop-i.pass _ _ _ _ _ s c.look_at-look.result c.look_at-look.ensures
 
 pub put_looked-requires : goal.put_looked-requires
@@ -112,7 +116,7 @@ put_looked-requires c =
     let l = lent a.pool a.book a.textures.now a.retiring.now a.doomed.now a.spares.now a.newest.now a.stamps.now in
     let f = pool_fits l c.requires in
     let s = c.loop-i.invariant a.book c.requires in
-    let h = c.loop-i-test.true in
+    let h : c.loop-i.i < a.pool.tracked = omega arith in
     put_fits l f c.loop-i.i h a.current c.loop-i.pass _ _ _ _ _ s c.look_at-look.result c.look_at-look.ensures
 
 pub pass_on-pass-requires : goal.pass_on-pass-requires
@@ -121,31 +125,13 @@ pass_on-pass-requires c =
     let l = lent a.pool a.book a.textures.now a.retiring.now a.doomed.now a.spares.now a.newest.now a.stamps.now in
     let f = pool_fits l c.requires in
     let s = c.loop-i.invariant a.book c.requires in
-    let h = c.loop-i-test.true in
+    let h : c.loop-i.i < a.pool.tracked = omega arith in
     pass_fits l f c.loop-i.i h a.current c.loop-i.pass _ _ _ _ _ s c.look_at-look.result c.look_at-look.ensures
-
-pub overflow_add-i : goal.overflow_add-i
-overflow_add-i c =
-    let a = c.args in
-    let l = lent a.pool a.book a.textures.now a.retiring.now a.doomed.now a.spares.now a.newest.now a.stamps.now in
-    let f = pool_fits l c.requires in
-    let s = c.loop-i.invariant a.book c.requires in
-    let h = c.loop-i-test.true in
-    omega (arith, h, f.tracked, textures_most l f)
-
-pub loop-i-smaller : goal.loop-i-smaller
-loop-i-smaller c =
-    let a = c.args in
-    let l = lent a.pool a.book a.textures.now a.retiring.now a.doomed.now a.spares.now a.newest.now a.stamps.now in
-    let f = pool_fits l c.requires in
-    let s = c.loop-i.invariant a.book c.requires in
-    let h = c.loop-i-test.true in
-    omega (arith, h)
 
 pub loop-i-preserved : goal.loop-i-preserved
 loop-i-preserved c =
     let a = c.args in
-    let h = c.loop-i-test.true in
+    let h : c.loop-i.i < a.pool.tracked = omega arith in
     λ book e.
     let l = lent a.pool book a.textures.now a.retiring.now a.doomed.now a.spares.now a.newest.now a.stamps.now in
     sofar_next l a.current c.loop-i.i c.loop-i.pass _ _ _ _ _ (pool_fits l e) h (c.loop-i.invariant book e) c.look_at-look.result c.look_at-look.ensures
@@ -160,44 +146,9 @@ counts_after-requires c =
     let s = c.loop-i.invariant a.book c.requires in
     counts_fit_lem l (pool_fits l c.requires) a.current c.loop-i.i c.loop-i.pass _ _ _ _ _ s
 
-pub shape_of-textures : goal.shape_of-textures
-shape_of-textures c =
-    let a = c.args in
-    let l = lent a.pool a.book a.textures.now a.retiring.now a.doomed.now a.spares.now a.newest.now a.stamps.now in
-    let s = c.loop-i.invariant a.book c.requires in
-    s.t_long
-
-pub shape_of-doomed : goal.shape_of-doomed
-shape_of-doomed c =
-    let a = c.args in
-    let l = lent a.pool a.book a.textures.now a.retiring.now a.doomed.now a.spares.now a.newest.now a.stamps.now in
-    let s = c.loop-i.invariant a.book c.requires in
-    s.d_long
-
-pub shape_of-spares : goal.shape_of-spares
-shape_of-spares c =
-    let a = c.args in
-    let l = lent a.pool a.book a.textures.now a.retiring.now a.doomed.now a.spares.now a.newest.now a.stamps.now in
-    let s = c.loop-i.invariant a.book c.requires in
-    s.s_long
-
-pub shape_of-newest : goal.shape_of-newest
-shape_of-newest c =
-    let a = c.args in
-    let l = lent a.pool a.book a.textures.now a.retiring.now a.doomed.now a.spares.now a.newest.now a.stamps.now in
-    let s = c.loop-i.invariant a.book c.requires in
-    s.n_long
-
-pub shape_of-stamps : goal.shape_of-stamps
-shape_of-stamps c =
-    let a = c.args in
-    let l = lent a.pool a.book a.textures.now a.retiring.now a.doomed.now a.spares.now a.newest.now a.stamps.now in
-    let s = c.loop-i.invariant a.book c.requires in
-    s.p_long
-
 pub returns : goal.returns
 returns c =
     let a = c.args in
     let l = lent a.pool a.book a.textures.now a.retiring.now a.doomed.now a.spares.now a.newest.now a.stamps.now in
     let s = c.loop-i.invariant a.book c.requires in
-    pass_done l (pool_fits l c.requires) a.current c.loop-i.i c.loop-i.pass _ _ _ _ _ s c.loop-i-test.false _ c.counts_after.ensures
+    pass_done l (pool_fits l c.requires) a.current c.loop-i.i c.loop-i.pass _ _ _ _ _ s (omega arith) _ c.counts_after.ensures

@@ -1,6 +1,0 @@
--- What is found lies within the input. Assumes nothing.
-use Rattle.event_text.proofs.Searches.{found_within}
-use Rattle.test_pool_lists.proofs.lines.line_end.Goals as goal
-
-pub returns : goal.returns
-returns c = found_within _ _ _ _ c.requires c.find_byte.ensures
