@@ -10,6 +10,7 @@ pub struct Sums {
 }
 
 // Returns both sums of `a` and `b`.
+#[tactic(auto, unfolding(crate::specs::Costs::clipped, crate::specs::Costs::clipped_sums, crate::specs::Costs::plus))]
 pub fn add_sums(a: Sums, b: Sums) -> Sums
     ensures { result ≡ clipped_sums (plus a b) }
 {
