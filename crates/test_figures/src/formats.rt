@@ -1,7 +1,7 @@
 // Formats, kinds and usage bits.
 use crate::limits::shape;
-use crate::print::{figure, yes_or_no};
-use grid_shapes::{RecordsAnswer, VersionShape};
+use crate::print::figure;
+use grid_shapes::VersionShape;
 
 // Prints every format's block.
 fn print_blocks() {
@@ -22,8 +22,8 @@ fn print_slices(kind: u64) {
 // Tells whether every write is recorded, or returns the outcome of a shape that is refused.
 fn records(s: VersionShape, usage: u64) -> u64 {
     match grid_shapes::records_every_write(s, usage) {
-        RecordsAnswer::Records(records) => yes_or_no(records),
-        RecordsAnswer::Shapeless => 2,
+        Ok(records) => records as u64,
+        Err(refusal) => refusal.number(),
     }
 }
 

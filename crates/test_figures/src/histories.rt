@@ -1,20 +1,13 @@
 // Figures of histories (02, W-201), on one page of 1,024 stamps.
-use crate::calls::outcome_of;
 use crate::limits::shape;
-use crate::print::figure;
+use crate::print::{figure, outcome_of};
 use grid_shapes::VersionShape;
 use grid_stamps::PAGE_STAMPS;
 use pool_memory::Pool;
 use pool_open::{opened_book, opened_pool};
 use pool_records::{DOOMED_STRIDE, RETIRING_STRIDE, SPARE_STRIDE, TEXTURE_STRIDE};
 use pool_rules::{GRID_STRIDE, MOST_GRIDS};
-
-// What a take said, and the pool after it.
-#[derive(Clone, Copy)]
-struct Begun {
-    outcome: u64,
-    pool: Pool,
-}
+use pool_take_spare::TakeAnswer;
 
 // Takes a version of a texture that is to have a history. There is one place for a version, and none is ever made.
 fn begin(
@@ -24,11 +17,11 @@ fn begin(
     stamps: &mut [u64],
     id: u64,
     shape: VersionShape,
-) -> Begun {
+) -> TakeAnswer {
     let retiring = [0u64; RETIRING_STRIDE];
     let mut doomed = [0u64; DOOMED_STRIDE];
     let mut spares = [0u64; SPARE_STRIDE];
-    let answer = pool::take_spare(
+    pool::take_spare(
         pool,
         opened_book(),
         textures,
@@ -41,13 +34,7 @@ fn begin(
         shape,
         true,
         0,
-    );
-    let taken = answer.taken;
-    let after = answer.pool;
-    Begun {
-        outcome: outcome_of(taken),
-        pool: after,
-    }
+    )
 }
 
 // Prints the outcome of a take whose history needs so many stamps, where another texture's 31 by 32 tiles leave 32.
@@ -65,7 +52,10 @@ fn print_last(needed: u64, last: VersionShape) {
     );
     let pool = first.pool;
     let begun = begin(pool, &mut textures, &mut newest, &mut stamps, 8, last);
-    figure(b"take_with_32_stamps_free", &[needed, begun.outcome]);
+    figure(
+        b"take_with_32_stamps_free",
+        &[needed, outcome_of(&begun.taken)],
+    );
 }
 
 // Prints the outcome of a take with another shape, whose history needs so many stamps, where the texture's own history has all of them.
@@ -83,7 +73,10 @@ fn print_renewal(needed: u64, next: VersionShape) {
     );
     let pool = first.pool;
     let renewed = begin(pool, &mut textures, &mut newest, &mut stamps, 7, next);
-    figure(b"renewal_on_a_full_page", &[needed, renewed.outcome]);
+    figure(
+        b"renewal_on_a_full_page",
+        &[needed, outcome_of(&renewed.taken)],
+    );
 }
 
 // Prints the figures of histories, on both sides of each limit.

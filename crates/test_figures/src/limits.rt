@@ -1,6 +1,6 @@
 // The limits of outcome 2, on both sides, and the bytes that they leave.
-use crate::print::{figure, yes_or_no};
-use grid_shapes::{BytesAnswer, MOST_SHAPE_BYTES, VersionShape};
+use crate::print::{figure, outcome_of};
+use grid_shapes::{MOST_SHAPE_BYTES, VersionShape};
 
 // Returns the shape of the six fields of an event line, the rest 0.
 pub fn shape(
@@ -29,10 +29,7 @@ pub fn shape(
 
 // Returns 0, or the outcome of a shape that is refused.
 fn outcome(s: VersionShape) -> u64 {
-    match grid_shapes::bytes(s) {
-        BytesAnswer::Bytes(_) => 0,
-        BytesAnswer::NoShape => 2,
-    }
+    outcome_of(&grid_shapes::bytes(s))
 }
 
 // Prints it for a width.
@@ -85,10 +82,7 @@ fn print_format(format: u64) {
 
 // Returns the bytes of a shape that no limit lets grow, 0 if it is refused.
 fn largest_of(format: u64, kind: u64) -> u64 {
-    match grid_shapes::bytes(shape(format, 16384, 16384, 2048, 15, kind)) {
-        BytesAnswer::Bytes(bytes) => bytes,
-        BytesAnswer::NoShape => 0,
-    }
+    grid_shapes::bytes(shape(format, 16384, 16384, 2048, 15, kind)).unwrap_or(0)
 }
 
 // Prints the most bytes of a version, and whether that passes 2^44. A cube has more slices than a volume, and fewer bytes.
@@ -98,7 +92,7 @@ fn print_largest() {
     figure(b"largest_volume", &[largest]);
     figure(
         b"largest_volume_passes_2_44",
-        &[yes_or_no(MOST_SHAPE_BYTES < largest)],
+        &[(MOST_SHAPE_BYTES < largest) as u64],
     );
 }
 

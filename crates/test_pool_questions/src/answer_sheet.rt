@@ -1,20 +1,18 @@
 // The question for the sheet.
+use grid_shapes::Refusal;
 use pool_memory::{PacingBook, Pool};
-use pool_sheet::SheetAnswer;
 use test_common::STDOUT_FILENO;
 
 // Prints what the call answers, behind the number of its line.
-fn print_answer(answer: SheetAnswer) {
+fn print_answer(answer: Result<usize, Refusal>) {
     match answer {
-        SheetAnswer::Printed(length) => {
+        Ok(length) => {
             io::write_all(STDOUT_FILENO, b",0,");
             io::print_decimal(STDOUT_FILENO, length as u64);
         }
-        SheetAnswer::NoPool => {
-            io::write_all(STDOUT_FILENO, b",1");
-        }
-        SheetAnswer::ShortBuffer => {
-            io::write_all(STDOUT_FILENO, b",11");
+        Err(refusal) => {
+            io::write_all(STDOUT_FILENO, b",");
+            io::print_decimal(STDOUT_FILENO, refusal.number());
         }
     }
 }

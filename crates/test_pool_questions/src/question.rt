@@ -3,7 +3,7 @@ ghost use Rattle.std.specs.Prelude.{◌≤◌, IfSome};
 
 use crate::answer_sheet::answer_sheet;
 use event_sessions::Session;
-use event_text::{Number, number_of};
+use event_text::number_of;
 use test_common::STDOUT_FILENO;
 
 // Returns the bytes of the buffer that is asked for: what stands after the word is a comma and a number up to `most`. A second number is malformed too,
@@ -11,9 +11,7 @@ use test_common::STDOUT_FILENO;
 fn asked_bytes(fields: &[u8], most: usize) -> Option<usize>
     ensures { IfSome result (λ bytes. bytes ≤ most) }
 {
-    let Number::Is(bytes) = number_of(fields.get(1..)?) else {
-        return None;
-    };
+    let bytes = number_of(fields.get(1..)?)?;
     if bytes <= most as u64 {
         Some(bytes as usize)
     } else {

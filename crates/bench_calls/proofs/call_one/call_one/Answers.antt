@@ -1,5 +1,6 @@
 -- `call_one` meets its contract: each call leaves a pool. Assumes nothing.
 use Rattle.std.proofs.Common.{refl}
+use Rattle.grid_shapes.specs.Outcomes.{outcome_number}
 use Rattle.pool_memory.specs.Calls.{told_number}
 use Rattle.pool_retire.specs.Answers.{popped_told}
 use Rattle.pool_take_doomed.specs.Answer.{handed_told}
@@ -113,7 +114,7 @@ pub shape_of-notes-in-Retire : goal.shape_of-notes-in-Retire
 shape_of-notes-in-Retire c = refl
 
 pub returns-in-Retire : goal.returns-in-Retire
-returns-in-Retire c = let m = c.retire-said in retire_keeps _ _ c.requires (told_number m.result.outcome) _ _ _ m.ensures
+returns-in-Retire c = let m = c.retire-said in retire_keeps _ _ c.requires (told_number (outcome_number m.result.outcome)) _ _ _ m.ensures
 
 pub shape_of-textures-in-NoteWrite : goal.shape_of-textures-in-NoteWrite
 shape_of-textures-in-NoteWrite c = c.note_write-said.auto.textures
@@ -137,7 +138,7 @@ pub shape_of-notes-in-NoteWrite : goal.shape_of-notes-in-NoteWrite
 shape_of-notes-in-NoteWrite c = refl
 
 pub returns-in-NoteWrite : goal.returns-in-NoteWrite
-returns-in-NoteWrite c = let m = c.note_write-said in write_keeps _ _ c.requires (told_number m.result.outcome) _ _ _ _ m.ensures
+returns-in-NoteWrite c = let m = c.note_write-said in write_keeps _ _ c.requires (told_number (outcome_number m.result.outcome)) _ _ _ _ m.ensures
 
 pub shape_of-textures-in-PopRetired : goal.shape_of-textures-in-PopRetired
 shape_of-textures-in-PopRetired c = refl
@@ -179,7 +180,7 @@ pub shape_of-stamps-in-Park : goal.shape_of-stamps-in-Park
 shape_of-stamps-in-Park c = refl
 
 pub returns-in-Park : goal.returns-in-Park
-returns-in-Park c = let m = c.park-said in park_keeps _ _ c.requires (told_number m.result.outcome) _ _ m.ensures
+returns-in-Park c = let m = c.park-said in park_keeps _ _ c.requires (told_number (outcome_number m.result.outcome)) _ _ m.ensures
 
 pub shape_of-textures-in-NoteAllocated : goal.shape_of-textures-in-NoteAllocated
 shape_of-textures-in-NoteAllocated c = c.note_allocated-said.auto.textures
@@ -200,7 +201,7 @@ pub shape_of-stamps-in-NoteAllocated : goal.shape_of-stamps-in-NoteAllocated
 shape_of-stamps-in-NoteAllocated c = refl
 
 pub returns-in-NoteAllocated : goal.returns-in-NoteAllocated
-returns-in-NoteAllocated c = let m = c.note_allocated-said in note_keeps _ _ c.requires (told_number m.result.outcome) _ m.ensures
+returns-in-NoteAllocated c = let m = c.note_allocated-said in note_keeps _ _ c.requires (told_number (outcome_number m.result.outcome)) _ m.ensures
 
 pub shape_of-textures-in-TakeDoomed : goal.shape_of-textures-in-TakeDoomed
 shape_of-textures-in-TakeDoomed c = refl
@@ -245,7 +246,7 @@ pub shape_of-stamps-in-Trim : goal.shape_of-stamps-in-Trim
 shape_of-stamps-in-Trim c = c.trim-said.auto.stamps
 
 pub returns-in-Trim : goal.returns-in-Trim
-returns-in-Trim c = let m = c.trim-said in trim_keeps _ _ c.requires (told_number m.result.outcome) _ m.ensures
+returns-in-Trim c = let m = c.trim-said in trim_keeps _ _ c.requires (told_number (outcome_number m.result.outcome)) _ m.ensures
 
 pub shape_of-textures-in-NoteMipRegeneration : goal.shape_of-textures-in-NoteMipRegeneration
 shape_of-textures-in-NoteMipRegeneration c = c.note_mip_regeneration-said.auto.textures
@@ -269,7 +270,7 @@ pub shape_of-notes-in-NoteMipRegeneration : goal.shape_of-notes-in-NoteMipRegene
 shape_of-notes-in-NoteMipRegeneration c = refl
 
 pub returns-in-NoteMipRegeneration : goal.returns-in-NoteMipRegeneration
-returns-in-NoteMipRegeneration c = let m = c.note_mip_regeneration-said in regeneration_keeps _ _ c.requires (told_number m.result.outcome) _ m.ensures
+returns-in-NoteMipRegeneration c = let m = c.note_mip_regeneration-said in regeneration_keeps _ _ c.requires (told_number (outcome_number m.result.outcome)) _ m.ensures
 
 pub shape_of-textures-in-DrainVersions : goal.shape_of-textures-in-DrainVersions
 shape_of-textures-in-DrainVersions c = c.drain_versions-said.auto.textures
@@ -317,4 +318,4 @@ pub shape_of-notes-in-ForgetTexture : goal.shape_of-notes-in-ForgetTexture
 shape_of-notes-in-ForgetTexture c = refl
 
 pub returns-in-ForgetTexture : goal.returns-in-ForgetTexture
-returns-in-ForgetTexture c = let m = c.forget_texture-said in forget_keeps _ _ c.requires (told_number m.result.outcome) _ m.ensures
+returns-in-ForgetTexture c = let m = c.forget_texture-said in forget_keeps _ _ c.requires (told_number (outcome_number m.result.outcome)) _ m.ensures

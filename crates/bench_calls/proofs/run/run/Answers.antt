@@ -1,9 +1,10 @@
 -- `run` meets its contract: a pool that was opened is one, and every phase leaves one. Assumes nothing.
-use Rattle.std.proofs.Common.{refl, ◌∙◌}
+use Rattle.std.proofs.Common.{refl, ap, ◌∙◌}
+use Rattle.grid_shapes.specs.Outcomes.{outcome_number}
 use Rattle.bench_calls.proofs.run.run.Goals as goal
 
 pub loop-k-init : goal.loop-k-init
-loop-k-init g c = (c.open_work-opened.ensures c.if-opened-ne0.false, refl, refl, refl, refl, refl, refl, refl)
+loop-k-init g c = (c.open_work-opened.ensures (ap outcome_number c.in-Ok.is), refl, refl, refl, refl, refl, refl, refl)
 
 pub call_all-done-requires : goal.call_all-done-requires
 call_all-done-requires g c = c.loop-k.invariant.0
