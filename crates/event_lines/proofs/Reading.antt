@@ -335,7 +335,3 @@ module _ (text : List ℕ) (i : ℕ) where
       go : (u : List ℕ) → get_or u 0 10 ≡ 10 → i + index_of 10 u ≡ i
       go [] q = add-zero i
       go (b ∷ bs) q = rw (eq-eqb b 10 q) (add-zero i)
-
--- what was not formed says nothing of its end
-pub formless : (t : Bool) (a b : ℕ) → t ≡ false → t ≡ true → a ≡ b
-formless t a b e q = no_way (sym q ∙ e)

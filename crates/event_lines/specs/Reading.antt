@@ -1,5 +1,5 @@
 -- Helper: What the functions that read a line's fields answer: the fields as numbers first, then what each word asks of them.
-use Rattle.std.specs.Prelude.{ℕ, suc, ◌-◌, ◌^◌, Bool, true, false, cond, ◌&&◌, ◌||◌, List, [], ◌∷◌, eqb, ltb, leb, length, set, replicate}
+use Rattle.std.specs.Prelude.{ℕ, suc, ◌-◌, ◌^◌, Bool, true, false, cond, Option, Some, None, ◌&&◌, ◌||◌, List, [], ◌∷◌, eqb, ltb, leb, length, set, replicate}
 use Rattle.base_blocks.specs.Lists.{tests}
 use Rattle.event_text.specs.Fields.{fields_of, first_line, same, dash}
 use Rattle.base_digits.specs.Digits.{decimal}
@@ -19,12 +19,13 @@ pub record Scanned : Type 0 where
   pub values : List ℕ
   pub dash : Bool
 
-abbrev pub scanned_of : Fields → Scanned
-scanned_of r = record { formed = r.formed; count = r.count; values = r.values; dash = r.dash }
-
 -- fields that no word has
 abbrev pub unread_fields : Scanned
 unread_fields = record { formed = false; count = 0; values = replicate 9 0; dash = false }
+
+abbrev pub scanned_of : Option Fields → Scanned
+scanned_of (Some r) = record { formed = true; count = r.count; values = r.values; dash = r.dash }
+scanned_of None = unread_fields
 
 -- field i of the nine that a word can have is a number; field 1 can be "-"
 unfoldable pub may_be : ℕ → List ℕ → Bool

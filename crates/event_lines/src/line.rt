@@ -196,25 +196,20 @@ pub fn parse_first(text: &[u8]) -> Parsed
     ensures { (result.event ≡ event_of (first_line text.now)) × (result.end ≡ index_of 10 text.now) }
 {
     let start = start_of(text);
-    let word = start.word;
-    let read = read_fields(text, start.end);
-    if !read.formed {
-        let end = find_byte(text, 0, b'\n');
+    let Some(read) = read_fields(text, start.end) else {
         return Parsed {
             event: Event::Unread,
-            end,
+            end: find_byte(text, 0, b'\n'),
         };
-    }
-    let values = read.values;
-    let end = read.end;
+    };
     if read.dash {
         return Parsed {
-            event: dash_event(word, &values, read.count),
-            end,
+            event: dash_event(start.word, &read.values, read.count),
+            end: read.end,
         };
     }
     Parsed {
-        event: numbers_event(word, &values, read.count),
-        end,
+        event: numbers_event(start.word, &read.values, read.count),
+        end: read.end,
     }
 }

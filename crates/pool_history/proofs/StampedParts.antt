@@ -10,7 +10,8 @@ use Rattle.base_blocks.specs.Lists.{over}
 use Rattle.grid_shapes.specs.declared.shape.VersionShape.{VersionShape}
 use Rattle.grid_shapes.specs.Shapes.{is_shape}
 use Rattle.grid_rects.specs.declared.rect.TexelRect.{TexelRect}
-use Rattle.grid_stamps.specs.Grids.{Tiling, StampGrid, grid_in, tiling_of, stamp_count, stamped_by}
+use Rattle.grid_stamps.specs.declared.grid.Tiling.{Tiling}
+use Rattle.grid_stamps.specs.Grids.{StampGrid, grid_in, tiling_of, stamp_count, stamped_by}
 use Rattle.grid_stamps.proofs.Tilings.{tiling_ok}
 use Rattle.grid_stamps.proofs.Stamps.{length_stamped}
 use Rattle.pool_memory.specs.Reading.{grid_on}

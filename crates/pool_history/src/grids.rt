@@ -13,7 +13,7 @@ ghost use Rattle.pool_rules.specs.RuleConstants.{grid_stride};
 use grid_rects::{TexelRect, level_rect};
 use grid_shapes::{VersionShape, level_extent};
 use grid_stamps::{stamp, stamp_count};
-use pool_access::{across_at, down_at, shape_grids, stamps_at};
+use pool_access::{shape_grids, stamps_at, tiling_at};
 use pool_rules::GRID_STRIDE;
 
 // Stamps a level's grid with n where the rectangle touches a tile. The grid's newest stamp has place p in `newest`, its tiling
@@ -38,11 +38,10 @@ pub fn stamp_grid(
         ≡ sets stamps.old at
         (stamped_by (tiling_of shape level) rect n (grid_on shape level newest.old stamps.old p at)).stamps) }
 {
-    let across = across_at(newest, p, shape, level);
-    let down = down_at(newest, p, shape, level);
-    let count = stamp_count(across, down) as usize;
+    let tiling = tiling_at(newest, p, shape, level);
+    let count = stamp_count(tiling) as usize;
     let end = at + count;
-    let latest = stamp(&mut stamps[at..end], across, down, rect, n, newest[p]);
+    let latest = stamp(&mut stamps[at..end], tiling, rect, n, newest[p]);
     newest[p] = latest;
     end
 }

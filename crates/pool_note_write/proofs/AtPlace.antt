@@ -22,8 +22,8 @@ use Rattle.pool_rules.specs.Histories.{in_shape, grid_place}
 use Rattle.pool_rules.specs.HistorySizes.{grid_start, history_size}
 use Rattle.pool_rules.proofs.HistorySizes.{grid_end_lem, grid_size_lem, grids_most}
 use Rattle.pool_rules.specs.RuleConstants.{grid_stride, most_grids}
-use Rattle.pool_records.specs.declared.recorded.Recorded.{Recorded}
-use Rattle.pool_records.specs.declared.recorded.Recorded.TheVariants.{Writes, NoHistory}
+use Rattle.pool_records.specs.Recorded.{Recorded}
+use Rattle.std.specs.Prelude.{Some, None}
 use Rattle.pool_records.specs.declared.texture.TextureRecord.{TextureRecord}
 use Rattle.pool_records.specs.Texture.{read_texture, texture_in, recorded_grids, record_grids, recorded_stamps, record_stamps}
 use Rattle.pool_records.specs.Find.{id_of, has_id}
@@ -120,7 +120,7 @@ module _ (l : Lent) (f : Fits l) (i : ℕ) (h : i < l.pool.tracked) where
       ∙ ap₂ (λ (g n : ℕ). history_read l t.shape g n r) (grid_held_at l f.starts i h) (stamp_held_at l f.starts i h)
 
   -- the grids and the stamps of a history that is recorded
-  module _ (n : ℕ) (e : (texture_in l.textures i).history ≡ Writes n) where
+  module _ (n : ℕ) (e : (texture_in l.textures i).history ≡ Some n) where
     pub grids_recorded : (texture_in l.textures i).grid + grid_stride * grid_count (texture_in l.textures i).shape ≤ l.pool.grids
     grids_recorded =
         let c : grid_count_at l i ≡ grid_stride * grid_count (texture_in l.textures i).shape =
@@ -155,15 +155,15 @@ module _ (l : Lent) (f : Fits l) (id : ℕ) where
   -- what is known where the record at the place says this of its history
   pub data Unrecorded : Type 0 where
     untracked : (Tracked → ⊥) → Unrecorded
-    unrecorded : Tracked → (texture_in l.textures at).history ≡ NoHistory → Unrecorded
+    unrecorded : Tracked → (texture_in l.textures at).history ≡ None → Unrecorded
 
   pub record Recording (n : ℕ) : Type 0 where
     pub tracked : Tracked
-    pub history : (texture_in l.textures at).history ≡ Writes n
+    pub history : (texture_in l.textures at).history ≡ Some n
 
   abbrev pub Says : Recorded → Type 0
-  Says NoHistory = Unrecorded
-  Says (Writes n) = Recording n
+  Says None = Unrecorded
+  Says (Some n) = Recording n
 
   here : Bool
   here = has_id l.textures l.pool.tracked at id
@@ -184,10 +184,10 @@ module _ (l : Lent) (f : Fits l) (id : ℕ) where
   unfolding recorded_at here
   record_says = go here refl (texture_in l.textures at).history refl
     where
-      go : (b : Bool) → here ≡ b → (r : Recorded) → (texture_in l.textures at).history ≡ r → Says (cond b r NoHistory)
+      go : (b : Bool) → here ≡ b → (r : Recorded) → (texture_in l.textures at).history ≡ r → Says (cond b r None)
       go false e r q = untracked (not_here e)
-      go true e NoHistory q = unrecorded (is_tracked e) q
-      go true e (Writes n) q = record { tracked = is_tracked e; history = q }
+      go true e None q = unrecorded (is_tracked e) q
+      go true e (Some n) q = record { tracked = is_tracked e; history = q }
 
   -- ---- a texture with a history
 
@@ -199,7 +199,7 @@ module _ (l : Lent) (f : Fits l) (id : ℕ) where
     }
 
     pub has_history_lem : (state_of l at).history ≡ some history_is
-    has_history_lem = history_read_lem l f at r.tracked.0 (Writes n) r.history
+    has_history_lem = history_read_lem l f at r.tracked.0 (Some n) r.history
 
     pub shape_formed : is_shape (texture_in l.textures at).shape ≡ true
     shape_formed = shape_passes l at r.tracked.0 f

@@ -21,7 +21,7 @@ use Rattle.pool_rules.specs.Histories.{grid_at, grid_place, stamp_write, regener
 use Rattle.pool_rules.specs.HistorySizes.{grid_size, grid_start, history_size, newest_used, stamps_used}
 use Rattle.pool_rules.specs.RuleConstants.{grid_stride}
 use Rattle.pool_rules.proofs.HistorySizes.{grid_size_lem, grid_last}
-use Rattle.pool_records.specs.declared.recorded.Recorded.TheVariants.{Writes}
+use Rattle.std.specs.Prelude.{Some}
 use Rattle.pool_records.specs.declared.texture.TextureRecord.{TextureRecord}
 use Rattle.pool_records.specs.Texture.{write_texture, texture_in}
 use Rattle.pool_records.specs.Tilings.{tiling_number, TilingsAt}
@@ -50,7 +50,7 @@ use Rattle.pool_records.specs.RecordConstants.{texture_stride}
 -- what is left of a history that is kept, with another count
 abbrev pub kept_lent : Lent → ℕ → ℕ → List ℕ → List ℕ → Lent
 kept_lent l i writes newest stamps =
-    lent l.pool l.book (sets l.textures (texture_stride * i) (write_texture (recorded_as (Writes writes) (texture_in l.textures i))))
+    lent l.pool l.book (sets l.textures (texture_stride * i) (write_texture (recorded_as (Some writes) (texture_in l.textures i))))
     l.retiring l.doomed l.spares newest stamps
 
 module _ (l : Lent) (f : Fits l) (i : ℕ) (h : i < l.pool.tracked) where
@@ -123,7 +123,7 @@ module _ (l : Lent) (f : Fits l) (i : ℕ) (h : i < l.pool.tracked) where
       still_left newest stamps a b =
           history_left (some new) l.pool.grids l.pool.stamps (omega (arith, grids_left (some new), same_grids))
           (omega (arith, stamps_left (some new), same_stamps))
-          (sets l.textures (texture_stride * i) (write_texture (recorded_as (Writes new.writes) (texture_in l.textures i)))) newest stamps
+          (sets l.textures (texture_stride * i) (write_texture (recorded_as (Some new.writes) (texture_in l.textures i)))) newest stamps
           (ap (λ (t : TextureRecord). sets l.textures (texture_stride * i) (write_texture t)) (sym (other_record (some new)))
           ∙ textures_set l (other_pool (some new)) f i (other_state (some new)) h refl same_grids same_stamps)
           a b

@@ -13,7 +13,7 @@ use Rattle.pool_rules.specs.Model.{WriteHistory, VersionState, PoolModel, Out, a
 use Rattle.pool_rules.specs.Updates.{with_history, with_textures, change}
 use Rattle.pool_rules.specs.Histories.{regenerated, stamp_regeneration, spent}
 use Rattle.pool_rules.specs.NoteWrite.{history_in, note_mip_regeneration}
-use Rattle.pool_records.specs.declared.recorded.Recorded.TheVariants.{NoHistory}
+use Rattle.std.specs.Prelude.{None}
 use Rattle.pool_memory.specs.Lent.{Lent}
 use Rattle.pool_memory.specs.Reading.{model_of}
 use Rattle.pool_memory.specs.Writing.{lent_after}
@@ -66,7 +66,7 @@ module _ (l : Lent) (e : is_pool l ≡ true) (id : ℕ) where
       sym (passes (ap (λ (o : Option (VersionState ℕ)). spent (history_in o)) (not_found l id (ids_ascend l fits) ne)) (model_of l).textures (not_changed l id (ids_ascend l fits) ne regenerate)
       ∙ ap (λ (l' : Lent). (answer tt, l')) (nothing_changed l fits))
   regeneration_unrecorded (unrecorded tr q) =
-      let bare : (state_of l i).history ≡ none = history_read_lem l fits i tr.0 NoHistory q in
+      let bare : (state_of l i).history ≡ none = history_read_lem l fits i tr.0 None q in
       sym (passes (ap (λ (o : Option (VersionState ℕ)). spent (history_in o)) (found l id (ids_ascend l fits) tr) ∙ ap spent bare) (model_of l).textures
       (changed l id (ids_ascend l fits) tr regenerate
       ∙ ap (λ (o : Option WriteHistory). set (model_of l).textures i (with_history o (state_of l i))) (ap (regenerated (state_of l i).shape) bare ∙ sym bare)

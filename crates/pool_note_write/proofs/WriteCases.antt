@@ -17,7 +17,7 @@ use Rattle.pool_rules.specs.Model.{WriteHistory, VersionState, PoolModel, Out, a
 use Rattle.pool_rules.specs.Updates.{with_history, with_textures, change}
 use Rattle.pool_rules.specs.Histories.{in_shape, written, stamp_write, spent}
 use Rattle.pool_rules.specs.NoteWrite.{write_spent, note_write}
-use Rattle.pool_records.specs.declared.recorded.Recorded.TheVariants.{NoHistory}
+use Rattle.std.specs.Prelude.{None}
 use Rattle.pool_records.specs.declared.texture.TextureRecord.{TextureRecord}
 use Rattle.pool_memory.specs.Lent.{Lent}
 use Rattle.pool_memory.specs.Reading.{model_of}
@@ -75,7 +75,7 @@ module _ (l : Lent) (e : is_pool l ≡ true) (id slice level : ℕ) (r : TexelRe
       sym (passes (ap (λ (o : Option (VersionState ℕ)). write_spent o slice level) (not_found l id (ids_ascend l fits) ne)) (model_of l).textures (not_changed l id (ids_ascend l fits) ne write)
       ∙ ap (λ (l' : Lent). (answer tt, l')) (nothing_changed l fits))
   write_unrecorded (unrecorded tr q) =
-      let bare : (state_of l i).history ≡ none = history_read_lem l fits i tr.0 NoHistory q in
+      let bare : (state_of l i).history ≡ none = history_read_lem l fits i tr.0 None q in
       let s = (state_of l i).shape in
       sym (passes
       (ap (λ (o : Option (VersionState ℕ)). write_spent o slice level) (found l id (ids_ascend l fits) tr)

@@ -2,7 +2,7 @@
 use Rattle.std.specs.Prelude.{ℕ, ◌+◌, ◌*◌, ◌-◌, ◌≤◌, ◌<◌, List, length}
 use Rattle.std.proofs.lemmas.List.Edits.{sets}
 use Rattle.base_blocks.specs.Blocks.{moved}
-use Rattle.pool_records.specs.declared.recorded.Recorded.TheVariants.{NoHistory}
+use Rattle.std.specs.Prelude.{None}
 use Rattle.pool_records.specs.Texture.{write_texture, texture_in}
 use Rattle.pool_records.specs.Starts.{less_by, starts_moved, StartsMove, grid_end, stamp_end, grids_held, stamps_held}
 use Rattle.pool_records.specs.RecordConstants.{texture_stride}
@@ -21,7 +21,7 @@ run_at textures n used i = record {
 
 -- record i without a history
 abbrev pub record_dropped : List ℕ → ℕ → List ℕ
-record_dropped textures i = sets textures (texture_stride * i) (write_texture (recorded_as NoHistory (texture_in textures i)))
+record_dropped textures i = sets textures (texture_stride * i) (write_texture (recorded_as None (texture_in textures i)))
 
 -- and those behind it, up to n, moved down by its grids and stamps
 unfoldable pub records_dropped : List ℕ → ℕ → HistoryRun → ℕ → List ℕ

@@ -7,8 +7,8 @@ use Rattle.pool_rules.specs.Model.{grid_count}
 use Rattle.pool_rules.specs.Histories.{grid_place}
 use Rattle.pool_rules.specs.HistorySizes.{grid_start, history_size}
 use Rattle.pool_rules.specs.RuleConstants.{grid_stride}
-use Rattle.pool_records.specs.declared.recorded.Recorded.{Recorded}
-use Rattle.pool_records.specs.declared.recorded.Recorded.TheVariants.{NoHistory}
+use Rattle.pool_records.specs.Recorded.{Recorded}
+use Rattle.std.specs.Prelude.{None}
 use Rattle.pool_records.specs.declared.texture.TextureRecord.{TextureRecord}
 use Rattle.pool_records.specs.Texture.{texture_in}
 use Rattle.pool_records.specs.Find.{has_id}
@@ -19,23 +19,11 @@ use Rattle.pool_records.specs.RecordConstants.{texture_stride}
 
 -- what it says of its history if it is there and has the id
 unfoldable pub recorded_at : List ℕ → ℕ → ℕ → ℕ → Recorded
-recorded_at textures tracked i id = cond (has_id textures tracked i id) (texture_in textures i).history NoHistory
+recorded_at textures tracked i id = cond (has_id textures tracked i id) (texture_in textures i).history None
 
 -- a record with another history
 abbrev pub recorded_as : Recorded → TextureRecord → TextureRecord
-recorded_as h t = record {
-  id = t.id;
-  shape = t.shape;
-  epoch = t.epoch;
-  history = h;
-  birth = t.birth;
-  rename = t.rename;
-  due = t.due;
-  spares = t.spares;
-  bytes = t.bytes;
-  grid = t.grid;
-  stamp = t.stamp;
-}
+recorded_as h t = record t { history = h }
 
 -- record i is there, its shape passes 2, the numbers of `newest` and the stamps of a history of that shape lie within the lent ones, and beside each
 -- grid's newest stamp stands its tiling

@@ -8,7 +8,7 @@ ghost use Rattle.pool_records.specs.RecordConstants.{texture_stride};
 use crate::history::set_history;
 use pool_access::{grid_end, move_starts, stamp_end};
 use pool_history::{HistoryRun, Used, remove_grids};
-use pool_records::{Recorded, Shift, TEXTURE_GRID_AT, TEXTURE_STAMP_AT, TEXTURE_STRIDE};
+use pool_records::{Shift, TEXTURE_GRID_AT, TEXTURE_STAMP_AT, TEXTURE_STRIDE};
 
 // Returns where the grids and the stamps of texture i of n begin, and how many they are: where those of the next one begin says it, so
 // nothing is added up.
@@ -48,7 +48,7 @@ pub fn drop_history(
 {
     let run = history_run(textures, n, used, i);
     remove_grids(newest, stamps, used, run);
-    set_history(textures, i, Recorded::NoHistory);
+    set_history(textures, i, None);
     let by_grids = Shift {
         less: run.grids as u64,
         more: 0,

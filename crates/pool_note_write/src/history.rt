@@ -12,16 +12,16 @@ use grid_rects::TexelRect;
 use grid_shapes::{VersionShape, slices};
 use pool_access::{has_id, put_texture, start_at, texture_at};
 use pool_history::{regenerate_grids, stamp_grid};
-use pool_records::{Recorded, TextureRecord};
+use pool_records::TextureRecord;
 use pool_rules::GRID_STRIDE;
 
 // Returns what record i, where the search for the id ended, says of its history. A texture that is not tracked has none.
-pub fn history_at(textures: &[u64], tracked: usize, i: usize, id: u64) -> Recorded
+pub fn history_at(textures: &[u64], tracked: usize, i: usize, id: u64) -> Option<u64>
     requires { texture_stride * tracked ≤ length textures.now }
     ensures { result ≡ recorded_at textures.now tracked i id }
 {
     if !has_id(textures, tracked, i, id) {
-        return Recorded::NoHistory;
+        return None;
     }
     texture_at(textures, i).history
 }
@@ -34,7 +34,7 @@ pub fn in_shape(s: VersionShape, slice: u64, level: u64) -> bool
 }
 
 // Writes record i over with another history.
-pub fn set_history(textures: &mut [u64], i: usize, history: Recorded)
+pub fn set_history(textures: &mut [u64], i: usize, history: Option<u64>)
     requires { (texture_stride * i + texture_stride ≤ length textures.old) × RecordedFits history }
     ensures { textures.new
         ≡ sets textures.old (texture_stride * i) (write_texture (recorded_as history (texture_in textures.old i))) }

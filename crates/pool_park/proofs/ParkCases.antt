@@ -120,9 +120,9 @@ module _ (l : Lent) (e : is_pool l ≡ true) (failed current : ℕ) where
       ap (λ (b : Bool). (cond b (answer tt) (refused_with n), l)) (ne_eqb n 0 h)
       ∙ sym (asked_refused (λ a. a) l (λ (p : PoolModel ℕ). park p failed current) e n (rule ∙ refuses late l.pool.popped n q h))
 
-  -- ---- the code's number is 0: the ring's front is the hand
+  -- ---- nothing is refused: the ring's front is the hand
 
-  module _ (r : ℕ) (worked : r ≡ park_refusal l.pool failed current) (none-refused : r ≡ 0) where
+  module _ (passed : 0 ≡ park_refusal l.pool failed current) where
     passes : (a b : Bool) → first_of a b ≡ 0 → (a ≡ false) × (b ≡ false)
     passes true b q = absurd (let y : ⊥ = omega (arith, q) in y)
     passes false true q = absurd (let y : ⊥ = omega (arith, q) in y)
@@ -130,7 +130,7 @@ module _ (l : Lent) (e : is_pool l ≡ true) (failed current : ℕ) where
 
     both : (late ≡ false) × (eqb l.pool.popped 0 ≡ false)
     unfolding park_refusal
-    both = passes late (eqb l.pool.popped 0) (sym worked ∙ none-refused)
+    both = passes late (eqb l.pool.popped 0) (sym passed)
 
     pub held : l.pool.popped ≡ 1
     held = omega (arith, eqb-false l.pool.popped 0 both.1, fits.hand)

@@ -1,10 +1,12 @@
 // Whether the hand's version is kept or destroyed, and what `park` refuses.
 ghost use Rattle.std.specs.Prelude.{◌≡◌, ◌*◌, ◌≤◌, length};
+ghost use Rattle.grid_shapes.specs.Outcomes.{outcome_number};
 ghost use Rattle.pool_records.specs.Texture.{texture_in};
 ghost use Rattle.pool_park.specs.Park.{park_refusal, parking_of};
 ghost use Rattle.pool_records.specs.RecordConstants.{texture_stride};
 ghost use Rattle.pool_records.specs.Find.{has_id};
 
+use grid_shapes::Refusal;
 use pool_access::{has_id, texture_at};
 use pool_memory::Pool;
 use pool_records::RetiringRecord;
@@ -17,17 +19,17 @@ pub enum Parking {
     Kept(u64),
 }
 
-// Returns the number of the first refusal, or 0.
-pub fn park_refusal(pool: Pool, failed: u64, current: u64) -> u64
-    ensures { result ≡ park_refusal pool failed current }
+// Refuses a submission past the limit, and a park with no version in the hand.
+pub fn check_park(pool: Pool, failed: u64, current: u64) -> Result<(), Refusal>
+    ensures { outcome_number result ≡ park_refusal pool failed current }
 {
     if (failed > LIMIT) | (current > LIMIT) {
-        return 3;
+        return Err(Refusal::BadSubmission);
     }
     if pool.popped == 0 {
-        return 10;
+        return Err(Refusal::HandEmpty);
     }
-    0
+    Ok(())
 }
 
 // Decides by the texture's record, at which the search for the version's id ended. A version is destroyed if its texture is gone or

@@ -96,22 +96,19 @@ module _ (l : Lent) (e : is_pool l ≡ true) (id view seq : ℕ) where
       (rule ∙ guards_refused (accepted tt queued) (ltb limit seq) (leb (places l) (ring_count l.pool + l.pool.kept + l.pool.doomed))
       (ltb seq (last_queued l.pool l.retiring (places l))) n q h))
 
-  -- the code's number is 0
-  module _ (r : ℕ) (found : r ≡ refusal_of) (zero : r ≡ 0) where
-    passed : refusal_of ≡ 0
-    passed = sym found ∙ zero
-
+  -- nothing is refused
+  module _ (passed : 0 ≡ refusal_of) where
     rule_passed : retire (model_of l) id view seq ≡ accepted tt queued
     unfolding retire_refusal
     rule_passed =
         rule ∙ guards_passed (accepted tt queued) (ltb limit seq) (leb (places l) (ring_count l.pool + l.pool.kept + l.pool.doomed))
-        (ltb seq (last_queued l.pool l.retiring (places l))) passed
+        (ltb seq (last_queued l.pool l.retiring (places l))) (sym passed)
 
     -- there is a place after the ring's last
     pub push_fits : (retiring_stride * places l ≤ length l.retiring) × (l.pool.head < places l) × (ring_count l.pool < places l)
     push_fits =
         let b = refusal_fits l fits in
-        (b.0, b.1, omega (arith, place_left l.pool l.retiring (places l) seq passed))
+        (b.0, b.1, omega (arith, place_left l.pool l.retiring (places l) seq (sym passed)))
 
     -- ---- what is left, part by part
 

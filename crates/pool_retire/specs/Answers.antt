@@ -1,10 +1,12 @@
 -- Rule: What the answer of a pop says: 01's number, and the values of an accepted one.
+use Rattle.std.specs.Prelude.{Result, Ok, Err, Option as Maybe, Some, None}
 use Rattle.std.proofs.Math.Option.{Option, none, some}
-use Rattle.pool_memory.specs.Calls.{Told, refused_with, answer, PoppedVersion}
-use Rattle.pool_retire.specs.declared.calls.pop_retired.Popped.{Popped}
-use Rattle.pool_retire.specs.declared.calls.pop_retired.Popped.TheVariants.{Version, NothingSettled, Refused}
+use Rattle.grid_shapes.specs.declared.refusal.Refusal.{Refusal}
+use Rattle.grid_shapes.specs.Outcomes.{number_of}
+use Rattle.pool_memory.specs.declared.answer.PoppedVersion.{PoppedVersion}
+use Rattle.pool_memory.specs.Calls.{Told, refused_with, answer}
 
-abbrev pub popped_told : Popped → Told (Option PoppedVersion)
-popped_told (Version id view) = answer (some (record { id = id; view = view }))
-popped_told NothingSettled = answer none
-popped_told (Refused n) = refused_with n
+abbrev pub popped_told : Result (Maybe PoppedVersion) Refusal → Told (Option PoppedVersion)
+popped_told (Ok (Some v)) = answer (some v)
+popped_told (Ok None) = answer none
+popped_told (Err r) = refused_with (number_of r)

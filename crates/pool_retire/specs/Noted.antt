@@ -1,9 +1,8 @@
 -- Helper: What `retire` notes, on the records of the lent slices.
-use Rattle.std.specs.Prelude.{ℕ, ◌+◌, ◌-◌, Bool, true, false, cond, List, leb, ltb, eqb}
+use Rattle.std.specs.Prelude.{ℕ, ◌+◌, ◌-◌, Bool, true, false, cond, List, leb, ltb, eqb, Some, None}
 use Rattle.base_tables.specs.Rings.{along}
 use Rattle.pool_rules.specs.Model.{limit}
-use Rattle.pool_records.specs.declared.recorded.Recorded.{Recorded}
-use Rattle.pool_records.specs.declared.recorded.Recorded.TheVariants.{Writes, NoHistory}
+use Rattle.pool_records.specs.Recorded.{Recorded}
 use Rattle.pool_records.specs.declared.texture.TextureRecord.{TextureRecord}
 use Rattle.pool_records.specs.declared.retiring.RetiringRecord.{RetiringRecord}
 use Rattle.pool_records.specs.Retiring.{read_retiring}
@@ -23,8 +22,8 @@ retire_refusal p retiring places seq =
     (cond (ltb seq (last_queued p retiring places)) 8 0))
 
 abbrev pub writes_counted : Recorded → ℕ
-writes_counted NoHistory = 0
-writes_counted (Writes n) = n
+writes_counted None = 0
+writes_counted (Some n) = n
 
 -- of a tracked texture by its record; of an untracked one the tracking and all else are 0
 unfoldable pub retired_record : Bool → TextureRecord → ℕ → ℕ → ℕ → RetiringRecord

@@ -4,5 +4,5 @@
 mod calls;
 mod counts;
 
-pub use calls::pop_retired::{PopAnswer, Popped, pop_retired};
+pub use calls::pop_retired::{PopAnswer, pop_retired};
 pub use calls::retire::retire;

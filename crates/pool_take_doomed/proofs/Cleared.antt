@@ -13,7 +13,7 @@ use Rattle.base_tables.specs.Records.{record_at, table, flat}
 use Rattle.base_tables.proofs.Records.{length_table, flat_append, length_flat}
 use Rattle.pool_records.specs.declared.texture.TextureRecord.{TextureRecord}
 use Rattle.pool_records.specs.Texture.{read_texture, write_texture, texture_in, textures_in}
-use Rattle.pool_records.proofs.Codecs.{texture_codec}
+use Rattle.pool_records.specs.Codecs.{texture_codec}
 use Rattle.pool_take_doomed.specs.DrainVersions.{spareless, cleared}
 use Rattle.pool_records.specs.RecordConstants.{texture_spares_at, texture_stride}
 

@@ -7,7 +7,11 @@ use native.Mathlib.Omega.{arith}
 use borrow.Author.Tests.{lt-ltb, le-ltb, le-leb, lt-leb, not-true, not-false}
 use lib.Dec.{ltb, leb}
 use lib.ListN.{length}
+use Rattle.std.specs.Prelude.{Result, Ok, Err, IfOk}
+use Rattle.grid_shapes.specs.declared.refusal.Refusal.{Refusal}
+use Rattle.grid_shapes.specs.declared.refusal.Refusal.TheVariants.{BadShape, BadSubmission, TexturesFull}
 use Rattle.grid_shapes.specs.declared.shape.VersionShape.{VersionShape}
+use Rattle.grid_shapes.specs.Outcomes.{number_of, outcome_number}
 use Rattle.grid_shapes.specs.Shapes.{is_shape, same_shape}
 use Rattle.pool_rules.specs.Model.{PoolModel, find, limit}
 use Rattle.pool_rules.specs.HistorySizes.{history_size}
@@ -36,7 +40,6 @@ use Rattle.pool_tracking.specs.Cases.{TrackedAt}
 use Rattle.pool_tracking.proofs.Refusals.{take_refused}
 use Rattle.pool_tracking.proofs.Tracked.{found_there, not_there}
 use Rattle.pool_tracking.proofs.Ends.{stamps_most, stamp_begins, stamp_end_bound, stamps_held_lem}
-use Rattle.pool_take_spare.specs.declared.take_refusal.Refusal.{Refusal}
 use Rattle.pool_take_spare.specs.TakeRefusal.{Readable, refusal_at, IsRefusal}
 
 -- ---- a tracking begun
@@ -85,37 +88,35 @@ module _ (pool : Counts) (textures : List ℕ) (lent i id : ℕ) (shape : Versio
   unfolding refusal_at
   by_tests a b c e1 e2 e3 = λ j. cond (not (sym e1 j)) 2 (cond (sym e2 j) 3 (cond (sym e3 j) said_tracked said_untracked))
 
-  -- a refusal takes no stamps, and a texture tracked with the same shape takes none
-  abbrev Is : Refusal → Type 0
+  abbrev Is : Result ℕ Refusal → Type 0
   Is r = IsRefusal pool textures lent i id shape records seq r
 
-  abbrev saying : ℕ → ℕ → Refusal
-  saying n stamps = record { outcome = n; stamps = stamps }
+  refusing : (r : Refusal) → number_of r ≡ said → Is (Err r)
+  refusing r e = record { outcome = e; fresh = tt }
 
-  refusing : (n : ℕ) → suc n ≡ said → Is (saying (suc n) 0)
-  refusing n e = record { outcome = e; fresh = λ z other. absurd (let y : ⊥ = omega (arith, z) in y) }
-
-  beginning : (r : Refusal) → r.outcome ≡ said → r.stamps ≡ fresh_stamps shape records → Is r
-  beginning r e q = record { outcome = e; fresh = λ z other. q }
+  -- a texture tracked with the same shape takes no stamps
+  beginning : (r : Result ℕ Refusal) → outcome_number r ≡ said → IfOk r (λ (n : ℕ). n ≡ fresh_stamps shape records) → Is r
+  beginning (Ok n) e q = record { outcome = e; fresh = λ other. q }
+  beginning (Err r) e q = record { outcome = e; fresh = tt }
 
   module _ (r : Bool) (is : r ≡ is_shape shape) where
-    pub said_two : not r ≡ true → Is (saying 2 0)
-    said_two q = refusing 1 (by_tests false (ltb limit seq) (has_id textures pool.tracked i id) (sym is ∙ not-true r q) refl refl)
+    pub said_two : not r ≡ true → Is (Err BadShape)
+    said_two q = refusing BadShape (by_tests false (ltb limit seq) (has_id textures pool.tracked i id) (sym is ∙ not-true r q) refl refl)
 
     module _ (shaped : not r ≡ false) where
-      pub said_three : limit < seq → Is (saying 3 0)
-      said_three h = refusing 2 (by_tests true true (has_id textures pool.tracked i id) (sym is ∙ not-false r shaped) (lt-ltb limit seq h) refl)
+      pub said_three : limit < seq → Is (Err BadSubmission)
+      said_three h = refusing BadSubmission (by_tests true true (has_id textures pool.tracked i id) (sym is ∙ not-false r shaped) (lt-ltb limit seq h) refl)
 
       module _ (early : seq ≤ limit) (b : Bool) (has : b ≡ has_id textures pool.tracked i id) where
         by_found : (c : Bool) → b ≡ c → cond c said_tracked said_untracked ≡ said
         by_found c e = by_tests true false c (sym is ∙ not-false r shaped) (le-ltb limit seq early) (sym has ∙ e)
 
-        pub said_five : not b ≡ true → length textures / texture_stride ≤ pool.tracked → Is (saying 5 0)
+        pub said_five : not b ≡ true → length textures / texture_stride ≤ pool.tracked → Is (Err TexturesFull)
         said_five out h =
-            refusing 4 (sym (ap (λ (c : Bool). cond c 5 (begun 0)) (le-leb (length textures / texture_stride) pool.tracked h)) ∙ by_found false (not-true b out))
+            refusing TexturesFull (sym (ap (λ (c : Bool). cond c 5 (begun 0)) (le-leb (length textures / texture_stride) pool.tracked h)) ∙ by_found false (not-true b out))
 
-        pub said_new : not b ≡ true → pool.tracked < length textures / texture_stride → (x : Refusal) → x.outcome ≡ begun 0
-            → x.stamps ≡ fresh_stamps shape records → Is x
+        pub said_new : not b ≡ true → pool.tracked < length textures / texture_stride → (x : Result ℕ Refusal) → outcome_number x ≡ begun 0
+            → IfOk x (λ (k : ℕ). k ≡ fresh_stamps shape records) → Is x
         said_new out h x e n =
             beginning x
             (e ∙ sym (ap (λ (c : Bool). cond c 5 (begun 0)) (lt-leb (length textures / texture_stride) pool.tracked h)) ∙ by_found false (not-true b out)) n
@@ -127,14 +128,14 @@ module _ (pool : Counts) (textures : List ℕ) (lent i id : ℕ) (shape : Versio
           by_shape : (c : Bool) → q ≡ c → cond c 0 (begun (stamps_held textures pool.tracked pool.stamps i)) ≡ said
           by_shape c y = sym (ap (λ (d : Bool). cond d 0 (begun (stamps_held textures pool.tracked pool.stamps i))) (sym same_is ∙ y)) ∙ by_found true (not-false b into)
 
-          pub said_same : q ≡ true → Is (saying 0 0)
+          pub said_same : q ≡ true → Is (Ok 0)
           said_same y = record {
             outcome = by_shape true y;
-            fresh = λ z other. absurd (true≢false (sym y ∙ same_is ∙ other (sym has ∙ not-false b into)));
+            fresh = λ other. absurd (true≢false (sym y ∙ same_is ∙ other (sym has ∙ not-false b into)));
           }
 
-          pub said_other : q ≡ false → (end : ℕ) → end ≡ stamp_end textures pool.tracked pool.stamps i → (x : Refusal)
-              → x.outcome ≡ begun (end - t.stamp) → x.stamps ≡ fresh_stamps shape records → Is x
+          pub said_other : q ≡ false → (end : ℕ) → end ≡ stamp_end textures pool.tracked pool.stamps i → (x : Result ℕ Refusal)
+              → outcome_number x ≡ begun (end - t.stamp) → IfOk x (λ (k : ℕ). k ≡ fresh_stamps shape records) → Is x
           said_other y end ends x en n =
               beginning x (en ∙ ap₂ (λ (k : ℕ) (u : TextureRecord). begun (k - u.stamp)) ends is-record ∙ by_shape false y) n
 

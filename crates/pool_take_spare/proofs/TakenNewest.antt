@@ -28,7 +28,8 @@ use Rattle.pool_memory.specs.declared.pool.Pool.{Pool as Counts}
 use Rattle.pool_memory.specs.Lent.{Lent, lent}
 use Rattle.pool_memory.specs.Reading.{spare_read, state_read, model_of}
 use Rattle.pool_memory.specs.Writing.{texture_record, every_spare, pool_after, spares_after, lent_after}
-use Rattle.pool_memory.specs.Calls.{Told, answer, TakenVersion, taken_of, take_spare_on}
+use Rattle.pool_memory.specs.declared.answer.TakenVersion.{TakenVersion}
+use Rattle.pool_memory.specs.Calls.{Told, answer, taken_of, take_spare_on}
 use Rattle.pool_memory.proofs.Fits.{Fits}
 use Rattle.pool_memory.proofs.FromPool.{pool_fits}
 use Rattle.pool_memory.proofs.Runs.{spares_of, spare_count, first_spare, first_grid, first_stamp, state_of, tracked_model, kept_model, grids_model, stamps_used_model}

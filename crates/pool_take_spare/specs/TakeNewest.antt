@@ -12,7 +12,8 @@ use Rattle.pool_records.specs.Recorded.{RecordedFits}
 use Rattle.pool_records.specs.Spare.{read_spare}
 use Rattle.pool_records.specs.Texture.{write_texture, texture_in, spares_to}
 use Rattle.pool_memory.specs.declared.pool.Pool.{Pool}
-use Rattle.pool_memory.specs.Calls.{Told, answer, TakenVersion}
+use Rattle.pool_memory.specs.declared.answer.TakenVersion.{TakenVersion}
+use Rattle.pool_memory.specs.Calls.{Told, answer}
 
 -- its record after the rename: `left` spares are left
 abbrev pub renamed_record : ℕ → ℕ → TextureRecord → TextureRecord

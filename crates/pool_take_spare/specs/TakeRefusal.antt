@@ -1,7 +1,9 @@
 -- Helper: The number that take_spare is refused by, as it is read off the textures' slice.
-use Rattle.std.specs.Prelude.{ℕ, ◌*◌, ◌/◌, ◌≤◌, ◌<◌, ◌≡◌, Bool, true, false, cond, not, List, leb, ltb, length}
+use Rattle.std.specs.Prelude.{ℕ, ◌*◌, ◌/◌, ◌≤◌, ◌<◌, ◌≡◌, Bool, true, false, cond, not, List, leb, ltb, length, Result, IfOk}
 use Rattle.base_blocks.specs.Lists.{ascending}
+use Rattle.grid_shapes.specs.declared.refusal.Refusal.{Refusal}
 use Rattle.grid_shapes.specs.declared.shape.VersionShape.{VersionShape}
+use Rattle.grid_shapes.specs.Outcomes.{outcome_number}
 use Rattle.grid_shapes.specs.Shapes.{is_shape, same_shape}
 use Rattle.pool_rules.specs.Model.{limit}
 use Rattle.pool_records.specs.RecordConstants.{texture_stride}
@@ -11,7 +13,6 @@ use Rattle.pool_records.specs.Find.{id_of, has_id}
 use Rattle.pool_memory.specs.declared.pool.Pool.{Pool}
 use Rattle.pool_tracking.specs.Begun.{fresh_stamps}
 use Rattle.pool_tracking.specs.Refusal.{most_stamps, tracking_refusal}
-use Rattle.pool_take_spare.specs.declared.take_refusal.Refusal.{Refusal}
 
 -- what is asked of the textures and of the stamps that are lent and in use: a texture's stamps end behind where they begin, within those in use
 pub record Readable (pool : Pool) (textures : List ℕ) (lent : ℕ) : Type 0 where
@@ -33,7 +34,7 @@ refusal_at pool textures lent i id shape records seq =
     (cond (leb (length textures / texture_stride) pool.tracked) 5 (tracking_refusal lent 0 pool.stamps pool.trackings shape records))))
 
 -- what is said of it; where a tracking begins, also how many stamps its history takes
-pub record IsRefusal (pool : Pool) (textures : List ℕ) (lent i id : ℕ) (shape : VersionShape) (records : Bool) (seq : ℕ) (r : Refusal) : Type 0 where
-  pub outcome : r.outcome ≡ refusal_at pool textures lent i id shape records seq
-  pub fresh : r.outcome ≡ 0 → (has_id textures pool.tracked i id ≡ true → same_shape (texture_in textures i).shape shape ≡ false)
-      → r.stamps ≡ fresh_stamps shape records
+pub record IsRefusal (pool : Pool) (textures : List ℕ) (lent i id : ℕ) (shape : VersionShape) (records : Bool) (seq : ℕ) (r : Result ℕ Refusal) : Type 0 where
+  pub outcome : outcome_number r ≡ refusal_at pool textures lent i id shape records seq
+  pub fresh : IfOk r (λ (stamps : ℕ). (has_id textures pool.tracked i id ≡ true → same_shape (texture_in textures i).shape shape ≡ false)
+      → stamps ≡ fresh_stamps shape records)

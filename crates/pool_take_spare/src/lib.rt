@@ -3,9 +3,9 @@
 
 mod answer;
 mod calls;
+mod check_take;
 mod look_up;
 mod take_newest;
-mod take_refusal;
 
-pub use answer::{TakeAnswer, Taken};
+pub use answer::TakeAnswer;
 pub use calls::take_spare::take_spare;

@@ -2,18 +2,17 @@
 ghost use Rattle.pool_take_spare.specs.TakeRefusal.{Readable};
 ghost use Rattle.pool_take_spare.specs.LookUp.{Looked};
 
-use crate::take_refusal::take_refusal;
-use grid_shapes::{VersionShape, same_shape};
+use crate::check_take::check_take;
+use grid_shapes::{Refusal, VersionShape, same_shape};
 use pool_access::{has_id, texture_at};
 use pool_memory::Pool;
 use pool_records::find_texture;
 
-// The id's place among the textures, 01's number of a refusal or 0, whether the id is tracked, whether with the same shape, and the
-// stamps of the history that begins where one does.
+// The id's place among the textures, whether the id is tracked, whether with the same shape, and the stamps of the history that begins
+// where one does.
 #[derive(Clone, Copy)]
 pub struct Look {
     pub place: usize,
-    pub outcome: u64,
     pub tracked: bool,
     pub same: bool,
     pub stamps: usize,
@@ -29,28 +28,26 @@ pub fn look_up(
     shape: VersionShape,
     records: bool,
     seq: u64,
-) -> Look
+) -> Result<Look, Refusal>
     requires { Readable pool textures.now lent }
     ensures { Looked pool textures.now lent id shape records seq result }
 {
     let place = find_texture(textures, pool.tracked, id);
-    let refusal = take_refusal(pool, textures, lent, place, id, shape, records, seq);
+    let stamps = check_take(pool, textures, lent, place, id, shape, records, seq)?;
     if !has_id(textures, pool.tracked, place, id) {
-        return Look {
+        return Ok(Look {
             place,
-            outcome: refusal.outcome,
             tracked: false,
             same: false,
-            stamps: refusal.stamps,
-        };
+            stamps,
+        });
     }
     let t = texture_at(textures, place);
     let same = same_shape(t.shape, shape);
-    Look {
+    Ok(Look {
         place,
-        outcome: refusal.outcome,
         tracked: true,
         same,
-        stamps: refusal.stamps,
-    }
+        stamps,
+    })
 }

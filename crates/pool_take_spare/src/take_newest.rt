@@ -3,10 +3,10 @@ ghost use Rattle.std.specs.Prelude.{◌≡◌};
 ghost use Rattle.pool_take_spare.specs.Answer.{taken_told};
 ghost use Rattle.pool_take_spare.specs.TakeNewest.{renamed_record, NewestFits, newest_taken};
 
-use crate::answer::{TakeAnswer, Taken};
+use crate::answer::TakeAnswer;
 use base_tables::remove_records;
 use pool_access::{put_texture, spare_at, spares_before, texture_at};
-use pool_memory::Pool;
+use pool_memory::{Pool, TakenVersion};
 use pool_records::{SPARE_STRIDE, TextureRecord};
 
 // Returns the texture's record after the rename, which keeps it tracked for another STATE_MAX_IDLE_SUBMITS submissions.
@@ -38,7 +38,7 @@ pub fn take_newest(
         put_texture(textures, i, renamed(t, seq, 0));
         return TakeAnswer {
             pool,
-            taken: Taken::NoSpare,
+            taken: Ok(None),
         };
     }
     let left = t.spares - 1;
@@ -52,9 +52,9 @@ pub fn take_newest(
             parked: pool.parked - t.bytes,
             ..pool
         },
-        taken: Taken::Spare {
+        taken: Ok(Some(TakenVersion {
             view: spare.view,
             held: spare.held,
-        },
+        })),
     }
 }

@@ -10,10 +10,10 @@ ghost use Rattle.pool_note_write.specs.History.{HistoryAt, stamps_on};
 ghost use Rattle.pool_records.specs.Texture.{texture_in};
 
 use crate::history::{history_at, in_shape};
-use grid_stamps::{DirtyTile, stamp_count};
-use pool_access::{across_at, down_at, start_at, texture_at};
+use grid_stamps::{Tile, stamp_count};
+use pool_access::{start_at, texture_at, tiling_at};
 use pool_memory::{PacingBook, Pool};
-use pool_records::{Recorded, find_texture};
+use pool_records::find_texture;
 use pool_rules::GRID_STRIDE;
 
 // Finds some tile of a subresource of texture i that is stamped above `held`, in its grid's part of the stamps: where that begins and its
@@ -26,7 +26,7 @@ fn dirty_subresource(
     slice: u64,
     level: u64,
     held: u64,
-) -> DirtyTile
+) -> Option<Tile>
     requires { HistoryAt textures.now newest.now stamps.now i × (in_shape (texture_in textures.now i).shape slice level ≡ true) }
     ensures { IsDirtyTile (tiling_of (texture_in textures.now i).shape level) held
         (stamps_on textures.now i slice level stamps.now) result }
@@ -35,11 +35,10 @@ fn dirty_subresource(
     let shape = t.shape;
     let p = t.grid as usize + GRID_STRIDE * (slice * shape.levels + level) as usize;
     let a = t.stamp as usize + start_at(newest, p);
-    let across = across_at(newest, p, shape, level);
-    let down = down_at(newest, p, shape, level);
-    let count = stamp_count(across, down) as usize;
+    let tiling = tiling_at(newest, p, shape, level);
+    let count = stamp_count(tiling) as usize;
     let e = a + count;
-    grid_views::dirty_tile(&stamps[a..e], across, down, held)
+    grid_views::dirty_tile(&stamps[a..e], tiling, held)
 }
 
 // Finds some tile of a subresource stamped above `held`, or none if there is none; which one is left open. There is none where the
@@ -57,19 +56,16 @@ pub fn dirty_tile(
     slice: u64,
     level: u64,
     held: u64,
-) -> DirtyTile
+) -> Option<Tile>
     requires { is_pool (lent_by pool book textures.now retiring.now doomed.now spares.now newest.now stamps.now) ≡ true }
     ensures { IsDirtyTileOf (model_of (at_entry pool book textures.now retiring.now doomed.now spares.now newest.now stamps.now)) id slice level held result }
 {
     let tracked = pool.tracked;
     let i = find_texture(textures, tracked, id);
-    let history = history_at(textures, tracked, i, id);
-    let Recorded::Writes(_) = history else {
-        return DirtyTile::NoTile;
-    };
+    history_at(textures, tracked, i, id)?;
     let t = texture_at(textures, i);
     if !in_shape(t.shape, slice, level) {
-        return DirtyTile::NoTile;
+        return None;
     }
     dirty_subresource(textures, newest, stamps, i, slice, level, held)
 }

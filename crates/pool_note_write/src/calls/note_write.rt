@@ -2,15 +2,17 @@
 ghost use Rattle.std.specs.Prelude.{◌≡◌, true};
 ghost use Rattle.pool_memory.specs.Lent.{lent_by, at_entry, at_exit};
 ghost use Rattle.pool_memory.specs.IsPool.{is_pool};
+ghost use Rattle.grid_shapes.specs.Outcomes.{outcome_number};
 ghost use Rattle.pool_memory.specs.Calls.{told_number, note_write_on};
 
 use crate::dropping::drop_history;
 use crate::history::{history_at, in_shape, set_history, stamp_subresource};
 use grid_rects::TexelRect;
+use grid_shapes::Refusal;
 use pool_access::texture_at;
 use pool_history::Used;
 use pool_memory::{DoneAnswer, PacingBook, Pool, same_counts};
-use pool_records::{Recorded, find_texture};
+use pool_records::find_texture;
 use pool_rules::LIMIT;
 
 // Notes a write of the rectangle to a slice's level. A write outside the texture's slices or levels means that the history no
@@ -30,16 +32,16 @@ pub fn note_write(
     rect: TexelRect,
 ) -> DoneAnswer
     requires { is_pool (lent_by pool book textures.old retiring.now doomed.now spares.now newest.old stamps.old) ≡ true }
-    ensures { (told_number result.outcome, at_exit result.pool book textures.new retiring.now doomed.now spares.now newest.new stamps.new)
+    ensures { (told_number (outcome_number result.outcome), at_exit result.pool book textures.new retiring.now doomed.now spares.now newest.new stamps.new)
         ≡ note_write_on (at_entry pool book textures.old retiring.now doomed.now spares.now newest.old stamps.old) id slice level rect }
 {
     let tracked = pool.tracked;
     let i = find_texture(textures, tracked, id);
     let history = history_at(textures, tracked, i, id);
-    let Recorded::Writes(n) = history else {
+    let Some(n) = history else {
         return DoneAnswer {
             pool: same_counts(pool),
-            outcome: 0,
+            outcome: Ok(()),
         };
     };
     let t = texture_at(textures, i);
@@ -55,16 +57,19 @@ pub fn note_write(
                 stamps: still.stamps,
                 ..pool
             },
-            outcome: 0,
+            outcome: Ok(()),
         };
     }
     if LIMIT <= n {
         return DoneAnswer {
             pool: same_counts(pool),
-            outcome: 12,
+            outcome: Err(Refusal::CounterSpent),
         };
     }
     stamp_subresource(textures, newest, stamps, i, slice, level, rect, n + 1);
-    set_history(textures, i, Recorded::Writes(n + 1));
-    DoneAnswer { pool, outcome: 0 }
+    set_history(textures, i, Some(n + 1));
+    DoneAnswer {
+        pool,
+        outcome: Ok(()),
+    }
 }

@@ -7,7 +7,7 @@ ghost use Rattle.pool_memory.specs.IsPool.{is_pool};
 
 use crate::history::history_at;
 use pool_memory::{PacingBook, Pool};
-use pool_records::{Recorded, find_texture};
+use pool_records::find_texture;
 
 // Tells whether the texture keeps a write history, so that its writes are to be reported.
 pub fn records_writes(
@@ -26,9 +26,5 @@ pub fn records_writes(
 {
     let tracked = pool.tracked;
     let i = find_texture(textures, tracked, id);
-    let history = history_at(textures, tracked, i, id);
-    match history {
-        Recorded::Writes(_) => true,
-        Recorded::NoHistory => false,
-    }
+    history_at(textures, tracked, i, id).is_some()
 }

@@ -1,12 +1,13 @@
 // park: the version in the hand becomes its texture's newest spare, or is queued for destruction.
 ghost use Rattle.std.specs.Prelude.{◌≡◌, true};
+ghost use Rattle.grid_shapes.specs.Outcomes.{outcome_number};
 ghost use Rattle.pool_memory.specs.Lent.{lent_by, at_entry, at_exit};
 ghost use Rattle.pool_memory.specs.IsPool.{is_pool};
 ghost use Rattle.pool_memory.specs.Calls.{told_number, park_on};
 
 use crate::counts::{hand_doomed, hand_kept};
 use crate::keep_version::{keep_version, spare_parked};
-use crate::park_or_destroy::{Parking, park_or_destroy, park_refusal};
+use crate::park_or_destroy::{Parking, check_park, park_or_destroy};
 use base_tables::ring_drop;
 use pool_access::{push_doomed, retiring_at};
 use pool_memory::{DoneAnswer, PacingBook, Pool};
@@ -27,14 +28,13 @@ pub fn park(
     current: u64,
 ) -> DoneAnswer
     requires { is_pool (lent_by pool book textures.old retiring.now doomed.old spares.old newest.now stamps.now) ≡ true }
-    ensures { (told_number result.outcome, at_exit result.pool book textures.new retiring.now doomed.new spares.new newest.now stamps.now)
+    ensures { (told_number (outcome_number result.outcome), at_exit result.pool book textures.new retiring.now doomed.new spares.new newest.now stamps.now)
         ≡ park_on (at_entry pool book textures.old retiring.now doomed.old spares.old newest.now stamps.now) failed current }
 {
-    let refusal = park_refusal(pool, failed, current);
-    if refusal != 0 {
+    if let Err(refusal) = check_park(pool, failed, current) {
         return DoneAnswer {
             pool,
-            outcome: refusal,
+            outcome: Err(refusal),
         };
     }
     let places = retiring.len() / RETIRING_STRIDE;
@@ -47,7 +47,7 @@ pub fn park(
             push_doomed(doomed, places, pool.first, pool.doomed, v.view, bytes);
             DoneAnswer {
                 pool: hand_doomed(pool, head, bytes),
-                outcome: 0,
+                outcome: Ok(()),
             }
         }
         Parking::Kept(bytes) => {
@@ -55,7 +55,7 @@ pub fn park(
             keep_version(textures, spares, pool.tracked, pool.kept, i, spare);
             DoneAnswer {
                 pool: hand_kept(pool, head, bytes),
-                outcome: 0,
+                outcome: Ok(()),
             }
         }
     }

@@ -6,24 +6,17 @@ ghost use Rattle.pool_memory.specs.Calls.{pop_retired_on};
 ghost use Rattle.pool_retire.specs.Answers.{popped_told};
 
 use crate::counts::front_popped;
+use grid_shapes::Refusal;
 use pool_access::retiring_at;
-use pool_memory::{PacingBook, Pool};
+use pool_memory::{PacingBook, Pool, PoppedVersion};
 use pool_records::RETIRING_STRIDE;
 use pool_rules::LIMIT;
 
-// The version that is in the hand then; none, since no queued submission is settled; or 01's number of a refusal.
-#[derive(Clone, Copy)]
-pub enum Popped {
-    Version { id: u64, view: u64 },
-    NothingSettled,
-    Refused(u64),
-}
-
-// The pool after the call, with what it answers.
+// The pool after the call, with the version that is in the hand then, or none, since no queued submission is settled.
 #[derive(Clone, Copy)]
 pub struct PopAnswer {
     pub pool: Pool,
-    pub popped: Popped,
+    pub popped: Result<Option<PoppedVersion>, Refusal>,
 }
 
 // Takes the queue's front into the hand if `settled` has passed its submission, so that no command that named the version still
@@ -46,19 +39,19 @@ pub fn pop_retired(
     if settled > LIMIT {
         return PopAnswer {
             pool,
-            popped: Popped::Refused(3),
+            popped: Err(Refusal::BadSubmission),
         };
     }
     if pool.popped != 0 {
         return PopAnswer {
             pool,
-            popped: Popped::Refused(9),
+            popped: Err(Refusal::HandFull),
         };
     }
     if pool.queued == 0 {
         return PopAnswer {
             pool,
-            popped: Popped::NothingSettled,
+            popped: Ok(None),
         };
     }
     let places = retiring.len() / RETIRING_STRIDE;
@@ -66,14 +59,14 @@ pub fn pop_retired(
     if front.seq > settled {
         return PopAnswer {
             pool,
-            popped: Popped::NothingSettled,
+            popped: Ok(None),
         };
     }
     PopAnswer {
         pool: front_popped(pool),
-        popped: Popped::Version {
+        popped: Ok(Some(PoppedVersion {
             id: front.id,
             view: front.view,
-        },
+        })),
     }
 }

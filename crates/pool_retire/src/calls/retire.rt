@@ -1,6 +1,7 @@
 // retire: the version that a rename just replaced is queued, with what parking it will need to know.
 ghost use Rattle.std.specs.Prelude.{◌≡◌, true, cond, ◌+◌, ◌*◌, ◌≤◌, ◌<◌, length};
 ghost use Rattle.std.proofs.lemmas.List.Edits.{sets};
+ghost use Rattle.grid_shapes.specs.Outcomes.{outcome_number};
 ghost use Rattle.pool_records.specs.Recorded.{RecordedFits};
 ghost use Rattle.pool_records.specs.Texture.{write_texture, texture_in};
 ghost use Rattle.pool_memory.specs.Lent.{lent_by, at_entry, at_exit};
@@ -13,44 +14,42 @@ ghost use Rattle.pool_rules.specs.RuleConstants.{most_places};
 ghost use Rattle.pool_records.specs.Find.{has_id};
 
 use crate::counts::{one_queued, ring_count};
+use grid_shapes::Refusal;
 use pool_access::{has_id, push_retiring, put_texture, retiring_at, texture_at};
 use pool_memory::{DoneAnswer, PacingBook, Pool, same_counts};
-use pool_records::{RETIRING_STRIDE, Recorded, RetiringRecord, TextureRecord, find_texture};
+use pool_records::{RETIRING_STRIDE, RetiringRecord, TextureRecord, find_texture};
 use pool_rules::LIMIT;
 
-// Returns the number of the first refusal, or 0. Submissions must not go backwards, since pop_retired looks at the queue's front
-// alone.
-fn retire_refusal(pool: Pool, retiring: &[u64], places: usize, seq: u64) -> u64
+// Refuses a submission past the limit, a version for which no place is left, and a submission below the last one in the queue: they must
+// not go backwards, since pop_retired looks at the queue's front alone.
+fn check_retire(pool: Pool, retiring: &[u64], places: usize, seq: u64) -> Result<(), Refusal>
     requires { (retiring_stride * places ≤ length retiring.now) × (pool.head < places) × (ring_count pool + pool.kept + pool.doomed ≤ places)
         × (places ≤ most_places) }
-    ensures { result ≡ retire_refusal pool retiring.now places seq }
+    ensures { outcome_number result ≡ retire_refusal pool retiring.now places seq }
 {
     if seq > LIMIT {
-        return 3;
+        return Err(Refusal::BadSubmission);
     }
     let n = ring_count(pool);
     if places <= n + pool.kept + pool.doomed {
-        return 7;
+        return Err(Refusal::VersionsFull);
     }
     let queued = pool.queued;
     if queued == 0 {
-        return 0;
+        return Ok(());
     }
     let last = retiring_at(retiring, places, pool.head, n - 1);
     if seq < last.seq {
-        return 8;
+        return Err(Refusal::OutOfOrder);
     }
-    0
+    Ok(())
 }
 
 // Returns the writes that a history has counted; 0 without one.
-fn writes_counted(history: Recorded) -> u64
+fn writes_counted(history: Option<u64>) -> u64
     ensures { result ≡ writes_counted history }
 {
-    match history {
-        Recorded::Writes(n) => n,
-        Recorded::NoHistory => 0,
-    }
+    history.unwrap_or(0)
 }
 
 // Returns what is noted of the version: it holds every write that the texture's history has counted so far. Of an untracked texture
@@ -78,14 +77,13 @@ fn retired_version(
         };
     }
     let t = texture_at(textures, i);
-    let history = t.history;
     RetiringRecord {
         id,
         view,
         seq,
         epoch: t.epoch,
         birth: t.birth,
-        held: writes_counted(history),
+        held: writes_counted(t.history),
         bytes: t.bytes,
     }
 }
@@ -128,15 +126,14 @@ pub fn retire(
     seq: u64,
 ) -> DoneAnswer
     requires { is_pool (lent_by pool book textures.old retiring.old doomed.now spares.now newest.now stamps.now) ≡ true }
-    ensures { (told_number result.outcome, at_exit result.pool book textures.new retiring.new doomed.now spares.now newest.now stamps.now)
+    ensures { (told_number (outcome_number result.outcome), at_exit result.pool book textures.new retiring.new doomed.now spares.now newest.now stamps.now)
         ≡ retire_on (at_entry pool book textures.old retiring.old doomed.now spares.now newest.now stamps.now) id view seq }
 {
     let places = retiring.len() / RETIRING_STRIDE;
-    let refusal = retire_refusal(pool, retiring, places, seq);
-    if refusal != 0 {
+    if let Err(refusal) = check_retire(pool, retiring, places, seq) {
         return DoneAnswer {
             pool: same_counts(pool),
-            outcome: refusal,
+            outcome: Err(refusal),
         };
     }
     let i = find_texture(textures, pool.tracked, id);
@@ -145,6 +142,6 @@ pub fn retire(
     push_retiring(retiring, places, pool.head, ring_count(pool), version);
     DoneAnswer {
         pool: one_queued(pool),
-        outcome: 0,
+        outcome: Ok(()),
     }
 }

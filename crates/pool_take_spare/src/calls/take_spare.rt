@@ -5,7 +5,7 @@ ghost use Rattle.pool_memory.specs.IsPool.{is_pool};
 ghost use Rattle.pool_memory.specs.Calls.{take_spare_on};
 ghost use Rattle.pool_take_spare.specs.Answer.{taken_told};
 
-use crate::answer::{TakeAnswer, Taken};
+use crate::answer::TakeAnswer;
 use crate::look_up::look_up;
 use crate::take_newest::take_newest;
 use grid_shapes::VersionShape;
@@ -32,13 +32,15 @@ pub fn take_spare(
     ensures { (taken_told result.taken, at_exit result.pool book textures.new retiring.now doomed.new spares.new newest.new stamps.new)
         ≡ take_spare_on (at_entry pool book textures.old retiring.now doomed.old spares.old newest.old stamps.old) id shape records seq }
 {
-    let look = look_up(pool, textures, stamps.len(), id, shape, records, seq);
-    if look.outcome != 0 {
-        return TakeAnswer {
-            pool: same_counts(pool),
-            taken: Taken::Refused(look.outcome),
-        };
-    }
+    let look = match look_up(pool, textures, stamps.len(), id, shape, records, seq) {
+        Ok(look) => look,
+        Err(refusal) => {
+            return TakeAnswer {
+                pool: same_counts(pool),
+                taken: Err(refusal),
+            };
+        }
+    };
     if look.same {
         return take_newest(pool, textures, spares, look.place, seq);
     }
@@ -54,7 +56,7 @@ pub fn take_spare(
         let after = start_tracking(pool, textures, newest, stamps, new);
         return TakeAnswer {
             pool: after,
-            taken: Taken::NoSpare,
+            taken: Ok(None),
         };
     }
     let after = renew_tracking(
@@ -62,6 +64,6 @@ pub fn take_spare(
     );
     TakeAnswer {
         pool: after,
-        taken: Taken::NoSpare,
+        taken: Ok(None),
     }
 }

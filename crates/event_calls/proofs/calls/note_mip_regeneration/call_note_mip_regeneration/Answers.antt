@@ -1,4 +1,5 @@
 -- `call_regen` meets its contract: the call, with its answer as a line's. Assumes nothing.
+use Rattle.grid_shapes.specs.Outcomes.{outcome_number}
 use Rattle.pool_memory.specs.Calls.{told_number}
 use Rattle.event_calls.proofs.Alone.{made_regen}
 use Rattle.event_calls.proofs.calls.note_mip_regeneration.call_note_mip_regeneration.Goals as goal
@@ -8,4 +9,4 @@ returns c =
     let m = c.note_mip_regeneration-said in
     let s = c.answer_done in
     let a = c.args in
-    made_regen _ _ (told_number m.result.outcome) _ s.ensures a.id m.ensures
+    made_regen _ _ (told_number (outcome_number m.result.outcome)) _ s.ensures a.id m.ensures

@@ -1,4 +1,5 @@
 -- `call_trim` meets its contract: the call, with its answer as a line's. Assumes nothing.
+use Rattle.grid_shapes.specs.Outcomes.{outcome_number}
 use Rattle.pool_memory.specs.Calls.{told_number}
 use Rattle.event_calls.proofs.Alone.{made_trim}
 use Rattle.event_calls.proofs.calls.trim.call_trim.Goals as goal
@@ -8,4 +9,4 @@ returns c =
     let m = c.trim-said in
     let s = c.answer_done in
     let a = c.args in
-    made_trim _ _ (told_number m.result.outcome) _ s.ensures a.current m.ensures
+    made_trim _ _ (told_number (outcome_number m.result.outcome)) _ s.ensures a.current m.ensures

@@ -1,18 +1,18 @@
 -- `dirty_subresource` meets its contract: the grid's part of the stamps is lent on to the scan. Assumes nothing.
-use mathlib.Core.Path.{◌≡◌, ap, ap₂, ◌∙◌}
+use mathlib.Core.Path.{◌≡◌, ap, ◌∙◌}
 use mathlib.Core.Bool.{true}
 use mathlib.Core.List.{[]}
 use Prim.Native.Nat.{ℕ, ◌+◌, ◌*◌, ◌-◌, ◌≤◌, ◌<◌}
 use native.Mathlib.Omega.{arith}
 use lib.ListN.{length}
 use Rattle.grid_shapes.specs.Shapes.{is_shape}
-use Rattle.grid_stamps.specs.Grids.{tiled, tiling_of, stamp_count}
+use Rattle.grid_stamps.specs.Grids.{tiling_of, stamp_count}
 use Rattle.pool_rules.specs.HistorySizes.{grid_start}
 use Rattle.pool_rules.specs.RuleConstants.{grid_stride, most_grids}
 use Rattle.pool_records.specs.declared.texture.TextureRecord.{TextureRecord}
 use Rattle.pool_records.specs.Tilings.{EdgesAt}
 use Rattle.pool_memory.proofs.GridParts.{part_fits}
-use Rattle.pool_access.proofs.Levels.{axes_ok, count_known}
+use Rattle.pool_access.proofs.Levels.{tiling_known_ok}
 use Rattle.pool_note_write.proofs.AtPlace.{shape_read, place_few, place_read, start_beside, edges_beside, start_read}
 use Rattle.pool_note_write.proofs.QueryCases.{dirty_part}
 use Rattle.pool_note_write.proofs.calls.dirty_tile.dirty_subresource.Goals as goal
@@ -62,11 +62,7 @@ module _ (c : After-start_at) where
       omega (arith, whole, begun)
 
 counted : (c : After-stamp_count-count) → c.stamp_count-count.result ≡ stamp_count (tiling_of c.texture_at-t.result.shape c.args.level)
-counted c =
-    let a = c.args in
-    let shaped = shape_read a.textures.now a.newest.now a.stamps.now a.i c.requires.0 c.texture_at-t.result c.texture_at-t.ensures in
-    count_known c.texture_at-t.result.shape shaped a.level c.across_at-across.result c.down_at-down.result
-    c.across_at-across.ensures c.down_at-down.ensures c.stamp_count-count.result c.stamp_count-count.ensures
+counted c = c.stamp_count-count.ensures ∙ ap stamp_count c.tiling_at-tiling.ensures
 
 pub overflow_mul-p : goal.overflow_mul-p
 overflow_mul-p c = omega (arith, few (goal.at.overflow_mul-p c).After-texture_at-t)
@@ -86,15 +82,13 @@ start_at-requires c = omega (arith, below (goal.at.start_at-requires c).After-te
 pub overflow_add-a : goal.overflow_add-a
 overflow_add-a c = omega (arith, at_room (goal.at.overflow_add-a c).After-start_at)
 
-pub across_at-across-requires : goal.across_at-across-requires
-across_at-across-requires c = (below (goal.at.across_at-across-requires c).After-texture_at-t, edges (goal.at.across_at-across-requires c).After-texture_at-t)
-
-pub down_at-down-requires : goal.down_at-down-requires
-down_at-down-requires c = (below (goal.at.down_at-down-requires c).After-texture_at-t, edges (goal.at.down_at-down-requires c).After-texture_at-t)
+pub tiling_at-tiling-requires : goal.tiling_at-tiling-requires
+tiling_at-tiling-requires c = (below (goal.at.tiling_at-tiling-requires c).After-texture_at-t, edges (goal.at.tiling_at-tiling-requires c).After-texture_at-t)
 
 pub stamp_count-count-requires : goal.stamp_count-count-requires
 stamp_count-count-requires c =
-    axes_ok (texture (goal.at.stamp_count-count-requires c).After-texture_at-t).shape (shaped (goal.at.stamp_count-count-requires c).After-texture_at-t) c.args.level c.across_at-across.result c.down_at-down.result c.across_at-across.ensures c.down_at-down.ensures
+    let t = (goal.at.stamp_count-count-requires c).After-texture_at-t in
+    tiling_known_ok (texture t).shape (shaped t) c.args.level c.tiling_at-tiling.result c.tiling_at-tiling.ensures
 
 pub overflow_add-e : goal.overflow_add-e
 overflow_add-e c = omega (arith, at_room (goal.at.overflow_add-e c).After-start_at, counted (goal.at.overflow_add-e c).After-stamp_count-count)
@@ -108,14 +102,16 @@ slice_bounds-dirty_tile-end c = omega (arith, at_room (goal.at.slice_bounds-dirt
 pub dirty_tile-requires : goal.dirty_tile-requires
 dirty_tile-requires c =
     let a = c.args in
-    let at = (texture (goal.at.dirty_tile-requires c).After-texture_at-t).stamp + c.start_at.result in
-    part_fits (texture (goal.at.dirty_tile-requires c).After-texture_at-t).shape (shaped (goal.at.dirty_tile-requires c).After-texture_at-t) a.level [] a.stamps.now 0 at (at_room (goal.at.dirty_tile-requires c).After-start_at) (at + c.stamp_count-count.result - at) c.across_at-across.result
-    c.down_at-down.result (omega (arith, counted (goal.at.dirty_tile-requires c).After-stamp_count-count)) c.across_at-across.ensures c.down_at-down.ensures
+    let t = (goal.at.dirty_tile-requires c).After-texture_at-t in
+    let at = (texture t).stamp + c.start_at.result in
+    part_fits (texture t).shape (shaped t) a.level [] a.stamps.now 0 at (at_room (goal.at.dirty_tile-requires c).After-start_at) (at + c.stamp_count-count.result - at)
+    c.tiling_at-tiling.result (omega (arith, counted (goal.at.dirty_tile-requires c).After-stamp_count-count)) c.tiling_at-tiling.ensures
 
 pub returns : goal.returns
 returns c =
     let a = c.args in
-    let at = (texture (goal.at.returns c).After-texture_at-t).stamp + c.start_at.result in
-    dirty_part a.textures.now a.stamps.now a.i a.slice a.level a.held (texture (goal.at.returns c).After-texture_at-t) c.texture_at-t.ensures at (at + c.stamp_count-count.result - at)
-    (ap (λ (n : ℕ). (texture (goal.at.returns c).After-texture_at-t).stamp + n) (begun (goal.at.returns c).After-start_at)) (omega (arith, counted (goal.at.returns c).After-stamp_count-count)) (tiled c.across_at-across.result c.down_at-down.result)
-    (ap₂ tiled c.across_at-across.ensures c.down_at-down.ensures) c.dirty_tile.result c.dirty_tile.ensures
+    let t = (goal.at.returns c).After-texture_at-t in
+    let at = (texture t).stamp + c.start_at.result in
+    dirty_part a.textures.now a.stamps.now a.i a.slice a.level a.held (texture t) c.texture_at-t.ensures at (at + c.stamp_count-count.result - at)
+    (ap (λ (n : ℕ). (texture t).stamp + n) (begun (goal.at.returns c).After-start_at)) (omega (arith, counted (goal.at.returns c).After-stamp_count-count))
+    c.tiling_at-tiling.result c.tiling_at-tiling.ensures c.dirty_tile.result c.dirty_tile.ensures

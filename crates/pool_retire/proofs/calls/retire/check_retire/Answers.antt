@@ -1,7 +1,7 @@
--- `retire_refusal` meets its contract, test by test. Assumes nothing.
+-- `check_retire` meets its contract, test by test. Assumes nothing.
 use native.Mathlib.Omega.{arith}
 use Rattle.pool_retire.proofs.RetireRefusals.{refused_late, refused_full, nothing_queued, refused_behind, in_order}
-use Rattle.pool_retire.proofs.calls.retire.retire_refusal.Goals as goal
+use Rattle.pool_retire.proofs.calls.retire.check_retire.Goals as goal
 
 pub returns-then-seq-gt-LIMIT : goal.returns-then-seq-gt-LIMIT
 returns-then-seq-gt-LIMIT c =

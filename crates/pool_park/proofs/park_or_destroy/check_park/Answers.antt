@@ -1,7 +1,7 @@
--- `park_refusal` meets its contract, test by test. Assumes nothing.
+-- `check_park` meets its contract, test by test. Assumes nothing.
 use native.Mathlib.Omega.{arith}
 use Rattle.pool_park.proofs.Parked.{refused_late, refused_empty, hand_there}
-use Rattle.pool_park.proofs.park_or_destroy.park_refusal.Goals as goal
+use Rattle.pool_park.proofs.park_or_destroy.check_park.Goals as goal
 
 pub returns-then-failed-current : goal.returns-then-failed-current
 returns-then-failed-current c =
