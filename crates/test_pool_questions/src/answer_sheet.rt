@@ -1,4 +1,5 @@
 // The question for the sheet.
+use event_sessions::Stores;
 use grid_shapes::Refusal;
 use pool_memory::{PacingBook, Pool};
 use test_common::STDOUT_FILENO;
@@ -18,21 +19,19 @@ fn print_answer(answer: Result<usize, Refusal>) {
 }
 
 // Has the sheet printed into the buffer, and prints the answer and the whole buffer.
-pub fn answer_sheet(
-    pool: Pool,
-    book: PacingBook,
-    textures: &[u64],
-    retiring: &[u64],
-    doomed: &[u64],
-    spares: &[u64],
-    newest: &[u64],
-    stamps: &[u64],
-    buffer: &mut [u8],
-) {
+pub fn answer_sheet(pool: Pool, book: PacingBook, stores: &Stores<'_>, buffer: &mut [u8]) {
     // Filled, so that what the sheet leaves can be seen.
     buffer.fill(b'#');
     let answer = pool::print_sheet(
-        pool, book, textures, retiring, doomed, spares, newest, stamps, buffer,
+        pool,
+        book,
+        stores.textures,
+        stores.retiring,
+        stores.doomed,
+        stores.spares,
+        stores.newest,
+        stores.stamps,
+        buffer,
     );
     print_answer(answer);
     io::write_all(STDOUT_FILENO, b"\n");
