@@ -1,5 +1,4 @@
 // Figures of calls, each made of a pool of one texture place, one version place and one page, just opened.
-use crate::limits::shape;
 use crate::print::{figure, outcome_of};
 use grid_shapes::Refusal;
 use grid_stamps::PAGE_STAMPS;
@@ -7,6 +6,7 @@ use pool_memory::COPY_STRIDE;
 use pool_open::{opened_book, opened_pool};
 use pool_records::{DOOMED_STRIDE, RETIRING_STRIDE, SPARE_STRIDE, TEXTURE_STRIDE};
 use pool_rules::{GRID_STRIDE, Held, LIMIT, MOST_GRIDS};
+use test_common::plain_shape;
 
 // What a take and a trim said, and how many textures are tracked afterwards.
 #[derive(Clone, Copy)]
@@ -35,7 +35,7 @@ fn trimmed(seq: u64, current: u64) -> AfterTrim {
         &mut newest,
         &mut stamps,
         7,
-        shape(2, 64, 64, 1, 1, 0),
+        plain_shape(2, 64, 64, 1, 1, 0),
         true,
         seq,
     );
@@ -116,7 +116,7 @@ fn plan(answers: &mut [u64]) -> Result<usize, Refusal> {
         &stamps,
         answers,
         7,
-        shape(2, 16384, 16384, 1, 15, 1),
+        plain_shape(2, 16384, 16384, 1, 15, 1),
         Held::Unknown,
         0,
         0,

@@ -1,5 +1,4 @@
 // Figures of histories (02, W-201), on one page of 1,024 stamps.
-use crate::limits::shape;
 use crate::print::{figure, outcome_of};
 use grid_shapes::VersionShape;
 use grid_stamps::PAGE_STAMPS;
@@ -8,6 +7,7 @@ use pool_open::{opened_book, opened_pool};
 use pool_records::{DOOMED_STRIDE, RETIRING_STRIDE, SPARE_STRIDE, TEXTURE_STRIDE};
 use pool_rules::{GRID_STRIDE, MOST_GRIDS};
 use pool_take_spare::TakeAnswer;
+use test_common::plain_shape;
 
 // Takes a version of a texture that is to have a history. There is one place for a version, and none is ever made.
 fn begin(
@@ -48,7 +48,7 @@ fn print_last(needed: u64, last: VersionShape) {
         &mut newest,
         &mut stamps,
         7,
-        shape(2, 496, 512, 1, 1, 0),
+        plain_shape(2, 496, 512, 1, 1, 0),
     );
     let pool = first.pool;
     let begun = begin(pool, &mut textures, &mut newest, &mut stamps, 8, last);
@@ -69,7 +69,7 @@ fn print_renewal(needed: u64, next: VersionShape) {
         &mut newest,
         &mut stamps,
         7,
-        shape(0, 512, 512, 1, 1, 0),
+        plain_shape(0, 512, 512, 1, 1, 0),
     );
     let pool = first.pool;
     let renewed = begin(pool, &mut textures, &mut newest, &mut stamps, 7, next);
@@ -81,8 +81,8 @@ fn print_renewal(needed: u64, next: VersionShape) {
 
 // Prints the figures of histories, on both sides of each limit.
 pub fn print_histories() {
-    print_last(32, shape(2, 512, 16, 1, 1, 0));
-    print_last(33, shape(2, 176, 48, 1, 1, 0));
-    print_renewal(1024, shape(2, 512, 512, 1, 1, 0));
-    print_renewal(1280, shape(2, 512, 512, 1, 2, 0));
+    print_last(32, plain_shape(2, 512, 16, 1, 1, 0));
+    print_last(33, plain_shape(2, 176, 48, 1, 1, 0));
+    print_renewal(1024, plain_shape(2, 512, 512, 1, 1, 0));
+    print_renewal(1280, plain_shape(2, 512, 512, 1, 2, 0));
 }

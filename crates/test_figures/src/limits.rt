@@ -1,31 +1,7 @@
 // The limits of outcome 2, on both sides, and the bytes that they leave.
 use crate::print::{figure, outcome_of};
 use grid_shapes::{MOST_SHAPE_BYTES, VersionShape};
-
-// Returns the shape of the six fields of an event line, the rest 0.
-pub fn shape(
-    format: u64,
-    width: u64,
-    height: u64,
-    depth: u64,
-    levels: u64,
-    kind: u64,
-) -> VersionShape {
-    VersionShape {
-        format,
-        width,
-        height,
-        depth,
-        levels,
-        kind,
-        storage: 0,
-        usage: 0,
-        red: 0,
-        green: 0,
-        blue: 0,
-        alpha: 0,
-    }
-}
+use test_common::plain_shape;
 
 // Returns 0, or the outcome of a shape that is refused.
 fn outcome(s: VersionShape) -> u64 {
@@ -36,7 +12,7 @@ fn outcome(s: VersionShape) -> u64 {
 fn print_width(width: u64) {
     figure(
         b"outcome_of_width",
-        &[width, outcome(shape(2, width, 1, 1, 1, 0))],
+        &[width, outcome(plain_shape(2, width, 1, 1, 1, 0))],
     );
 }
 
@@ -44,7 +20,7 @@ fn print_width(width: u64) {
 fn print_height(height: u64) {
     figure(
         b"outcome_of_height",
-        &[height, outcome(shape(2, 1, height, 1, 1, 0))],
+        &[height, outcome(plain_shape(2, 1, height, 1, 1, 0))],
     );
 }
 
@@ -52,7 +28,7 @@ fn print_height(height: u64) {
 fn print_depth(depth: u64) {
     figure(
         b"outcome_of_depth",
-        &[depth, outcome(shape(2, 1, 1, depth, 1, 2))],
+        &[depth, outcome(plain_shape(2, 1, 1, depth, 1, 2))],
     );
 }
 
@@ -60,7 +36,7 @@ fn print_depth(depth: u64) {
 fn print_levels(levels: u64) {
     figure(
         b"outcome_of_levels",
-        &[levels, outcome(shape(2, 1, 1, 1, levels, 0))],
+        &[levels, outcome(plain_shape(2, 1, 1, 1, levels, 0))],
     );
 }
 
@@ -68,7 +44,7 @@ fn print_levels(levels: u64) {
 fn print_kind(kind: u64) {
     figure(
         b"outcome_of_kind",
-        &[kind, outcome(shape(2, 1, 1, 1, 1, kind))],
+        &[kind, outcome(plain_shape(2, 1, 1, 1, 1, kind))],
     );
 }
 
@@ -76,13 +52,13 @@ fn print_kind(kind: u64) {
 fn print_format(format: u64) {
     figure(
         b"outcome_of_format",
-        &[format, outcome(shape(format, 1, 1, 1, 1, 0))],
+        &[format, outcome(plain_shape(format, 1, 1, 1, 1, 0))],
     );
 }
 
 // Returns the bytes of a shape that no limit lets grow, 0 if it is refused.
 fn largest_of(format: u64, kind: u64) -> u64 {
-    grid_shapes::bytes(shape(format, 16384, 16384, 2048, 15, kind)).unwrap_or(0)
+    grid_shapes::bytes(plain_shape(format, 16384, 16384, 2048, 15, kind)).unwrap_or(0)
 }
 
 // Prints the most bytes of a version, and whether that passes 2^44. A cube has more slices than a volume, and fewer bytes.
