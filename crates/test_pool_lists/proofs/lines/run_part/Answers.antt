@@ -2,9 +2,6 @@
 use Rattle.test_pool_lists.proofs.Fronts.{put_back}
 use Rattle.test_pool_lists.proofs.lines.run_part.Goals as goal
 
-pub run_step-requires : goal.run_step-requires
-run_step-requires c = c.requires
-
 pub shape_of-textures : goal.shape_of-textures
 shape_of-textures c =
     let r = c.run_step in
@@ -52,9 +49,3 @@ shape_of-views c =
     let r = c.run_step in
     let y = c.min-v in
     put_back c.args.views.now r.new.views _ y.result y.ensures r.auto.views
-
-pub shape_of-copy : goal.shape_of-copy
-shape_of-copy c = c.run_step.auto.copy
-
-pub shape_of-out : goal.shape_of-out
-shape_of-out c = c.run_step.auto.out
