@@ -3,11 +3,11 @@ ghost use Rattle.std.specs.Prelude.{◌≡◌, ◌≤◌, ◌<◌, length};
 ghost use Rattle.event_sessions.specs.Sessions.{state_of};
 ghost use Rattle.event_runs.specs.Lines.{longest_answer};
 ghost use Rattle.event_feed.specs.FeedConstants.{kept_bytes};
-ghost use Rattle.event_stream.specs.Streams.{RunOf};
+ghost use Rattle.event_stream.specs.Streams.{RunOf, reason_number};
 ghost use Rattle.event_sessions.specs.Noted.{fresh_session};
 
 use crate::calls::byte_count::byte_count;
-use crate::calls::reason::{GOING, is_full, reason};
+use crate::calls::reason::{StopReason, is_full, reason};
 use crate::calls::write_out::write_out;
 use crate::read_more::read_more;
 use event_feed::{begin, feed};
@@ -16,8 +16,7 @@ use std::io::Read;
 
 #[derive(Clone, Copy)]
 pub struct Stopped {
-    // The reason, as in reason.rt.
-    pub why: u64,
+    pub why: StopReason,
     // Bytes read, lines run, bytes of output.
     pub read: u64,
     pub lines: u64,
@@ -48,31 +47,29 @@ pub fn run_all(
         stamps.old)
         (state_of result.session textures.new retiring.new doomed.new spares.new newest.new
         stamps.new)
-        result.why result.read result.lines result.written }
+        (reason_number result.why) result.read result.lines result.written }
 {
     let mut at = begin();
     let mut read = 0;
     let mut written = 0;
-    let mut why = GOING;
-    while why == GOING {
+    loop {
         let end = read_more(input, buf, at);
         let came = end - (at.from + at.held);
         read += byte_count(end - at.end);
         at = feed(
             at, end, buf, textures, retiring, doomed, spares, newest, stamps, copies, views, out,
         );
-        let filled = at.filled;
-        let wrote = write_out(&out[0..filled], shown);
+        let wrote = write_out(&out[..at.filled], shown);
         written += byte_count(wrote.bytes);
         let full = is_full(read, buf.len(), written, out.len());
-        why = reason(came, wrote.all, full);
-    }
-    let session = at.session;
-    Stopped {
-        why,
-        read,
-        lines: at.number,
-        written,
-        session,
+        if let Some(why) = reason(came, wrote.all, full) {
+            return Stopped {
+                why,
+                read,
+                lines: at.number,
+                written,
+                session: at.session,
+            };
+        }
     }
 }
