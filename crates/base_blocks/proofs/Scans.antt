@@ -1,5 +1,6 @@
 -- Laws of scans of a list of numbers. Assumes nothing.
 use Rattle.std.proofs.Common.{◌≡◌, ℕ, zero, suc, ◌+◌, ◌<◌, ◌≤◌, max, Bool, true, false, ◌&&◌, ◌||◌, eqb, leb, List, [], ◌∷◌, ◌++◌, length, get_or, take, drop, sym, refl, ap, ◌∙◌, ap₂, add-one, arith, take-append-drop, drop_of_length-le, drop-cons, drop-drop, eq-eqb, eqb-true, le-leb, leb-true}
+use Rattle.std.specs.List.{list_any}
 use native.Mathlib.Nat.{max-zero}
 use native.Mathlib.Decide.{dec_lt}
 use Rattle.base_blocks.specs.Lists.{all}
@@ -61,9 +62,6 @@ module _ (p : ℕ → Bool) (i : ℕ) (s : List ℕ) where
     pub all_block_more : all p (take w (drop i s)) ≡ true → all p (from i s) ≡ all p (from (i + w) s)
     all_block_more e = all_block ∙ ap (λ (b : Bool). b && all p (from (i + w) s)) e
 
-    pub all_block_stop : all p (take w (drop i s)) ≡ false → all p (from i s) ≡ false
-    all_block_stop e = all_block ∙ ap (λ (b : Bool). b && all p (from (i + w) s)) e
-
   -- the four tests of a turn, as the code joins them
   pub all_four_read : i + 4 ≤ length s → p (get_or s i 0) && p (get_or s (i + 1) 0) && p (get_or s (i + 2) 0) && p (get_or s (i + 3) 0) ≡ all p (take 4 (drop i s))
   unfolding all
@@ -87,19 +85,13 @@ member_append b (x ∷ xs) ys = ap (λ (t : Bool). eqb x b || t) (member_append 
     or_assoc true c d = refl
     or_assoc false c d = refl
 
+-- as std has it
+pub member_any : (b : ℕ) (xs : List ℕ) → list_any (λ y. eqb y b) xs ≡ member b xs
+unfolding member
+member_any b [] = refl
+member_any b (x ∷ xs) = ap (λ (t : Bool). eqb x b || t) (member_any b xs)
+
 module _ (b i : ℕ) (s : List ℕ) where
-  pub member_more : i < length s → eqb (get_or s i 0) b ≡ false → member b (from i s) ≡ member b (from (i + 1) s)
-  unfolding member
-  member_more h t = rw (from_step i (i + 1) s refl h, t)
-
-  pub member_stop : i < length s → eqb (get_or s i 0) b ≡ true → member b (from i s) ≡ true
-  unfolding member
-  member_stop h t = rw (from_step i (i + 1) s refl h, t)
-
-  pub member_done : length s ≤ i → member b (from i s) ≡ false
-  unfolding member
-  member_done h = rw (from_none i s h)
-
   member_four : member b (from i s) ≡ member b (take 4 (drop i s)) || member b (from (i + 4) s)
   member_four = ap (member b) (from_block 4 i s) ∙ member_append b (take 4 (drop i s)) (from (i + 4) s)
 

@@ -36,7 +36,7 @@ pub fn ring_push(s: &mut [u64], w: usize, cap: usize, head: usize, n: usize, r: 
     put_record(s, w, p, r);
 }
 
-// Returns where the head is once the first k records are dropped.
+// Returns where the head is once the first k records are dropped. That is a `place`, but docs/CONTRACTS.md names both, and a caller that drops records reads as one.
 pub fn ring_drop(cap: usize, head: usize, k: usize) -> usize
     requires { (head < cap) × (k ≤ cap) }
     ensures { (result < cap) × (result ≡ place_of cap head k) }

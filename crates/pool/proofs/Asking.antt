@@ -2,7 +2,8 @@
 use mathlib.Core.Path.{◌≡◌, refl, sym, ap, ◌∙◌}
 use mathlib.Core.Bool.{Bool, true, false, cond}
 use Prim.Native.Nat.{ℕ}
-use Rattle.grid_stamps.specs.declared.dirty.DirtyTile.{DirtyTile}
+use Rattle.std.specs.Prelude.{Option}
+use Rattle.grid_stamps.specs.declared.grid.Tile.{Tile}
 use Rattle.pool_rules.specs.NoteWrite.{records_writes, IsDirtyTileOf}
 use Rattle.pool_memory.specs.Lent.{Lent}
 use Rattle.pool_memory.specs.Reading.{model_of}
@@ -41,10 +42,6 @@ module _ (l : Lent) where
     unfolding pending_destroy_bytes_on model_of
     pending_said = sym (ap (λ (b : Bool). cond b (answer l.pool.dooming) (refused_with 1)) e)
 
-    pub tile_said : (id slice level held : ℕ) (t : DirtyTile) → IsDirtyTileOf (model_of l) id slice level held t → DirtyTileOn l id slice level held (answer t)
+    pub tile_said : (id slice level held : ℕ) (t : Option Tile) → IsDirtyTileOf (model_of l) id slice level held t → DirtyTileOn l id slice level held (answer t)
     unfolding DirtyTileOn
     tile_said id slice level held t q = rw e q
-
-    -- by what the answer was matched with
-    pub tile_as : (id slice level held : ℕ) (r t : DirtyTile) → r ≡ t → IsDirtyTileOf (model_of l) id slice level held r → DirtyTileOn l id slice level held (answer t)
-    tile_as id slice level held r t e q = rw (sym e) (tile_said id slice level held r q)

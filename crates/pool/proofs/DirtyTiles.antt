@@ -2,8 +2,9 @@
 use Prim.Native.Nat.{ℕ}
 use mathlib.Core.Path.{◌≡◌, refl, sym, ap, subst}
 use mathlib.Core.Bool.{Bool, true, false, cond}
-use Rattle.grid_stamps.specs.declared.dirty.DirtyTile.{DirtyTile}
-use Rattle.grid_stamps.specs.declared.dirty.DirtyTile.TheVariants.{At, NoTile}
+use Rattle.std.specs.Prelude.{Option, None}
+use Rattle.grid_stamps.specs.declared.grid.Tile.{Tile}
+use Rattle.grid_stamps.specs.Grids.{some_tile}
 use Rattle.pool_rules.specs.NoteWrite.{IsDirtyTileOf}
 use Rattle.pool_rules.proofs.DirtyTiles.{tile_answered, tile_answerable, tile_clean, tile_none}
 use Rattle.pool_memory.specs.Lent.{Lent}
@@ -14,22 +15,13 @@ use Rattle.pool.specs.Queries.{IsTile, DirtyTileOn}
 use Rattle.pool.specs.DirtyTiles.{DirtyCallsPinned}
 use Rattle.pool.proofs.Asking.{no_tile, tile_said}
 
--- holds of refusals, and of no answer
-abbrev Refusal : Told DirtyTile → Type 0
-Refusal (refused_with n) = Unit {0}
-Refusal (answer t) = ⊥
-
-abbrev number_of : Told DirtyTile → ℕ
-number_of (refused_with n) = n
-number_of (answer t) = 0
-
 module _ (l : Lent) (id slice level held : ℕ) where
   module _ (n : ℕ) where
-    number_by : (b : Bool) → cond b (IsTile l id slice level held (refused_with n)) (◌≡◌ {A = Told DirtyTile} (refused_with n) (refused_with 1)) → n ≡ 1
+    number_by : (b : Bool) → cond b (IsTile l id slice level held (refused_with n)) (◌≡◌ {A = Told (Option Tile)} (refused_with n) (refused_with 1)) → n ≡ 1
     number_by true q = absurd q
-    number_by false q = ap number_of q
+    number_by false q = cc
 
-    no_pool_by : (b : Bool) → cond b (IsTile l id slice level held (refused_with n)) (◌≡◌ {A = Told DirtyTile} (refused_with n) (refused_with 1)) → b ≡ false
+    no_pool_by : (b : Bool) → cond b (IsTile l id slice level held (refused_with n)) (◌≡◌ {A = Told (Option Tile)} (refused_with n) (refused_with 1)) → b ≡ false
     no_pool_by true q = absurd q
     no_pool_by false q = refl
 
@@ -41,14 +33,14 @@ module _ (l : Lent) (id slice level held : ℕ) where
     unfolding DirtyTileOn
     refused_no_pool q = no_pool_by (is_pool l) q
 
-  module _ (t : DirtyTile) where
+  module _ (t : Option Tile) where
     pool_by : (b : Bool) → cond b (IsTile l id slice level held (answer t)) (answer t ≡ refused_with 1) → b ≡ true
     pool_by true q = refl
-    pool_by false q = absurd (subst Refusal (sym q) tt)
+    pool_by false q = cc
 
     allowed_by : (b : Bool) → cond b (IsTile l id slice level held (answer t)) (answer t ≡ refused_with 1) → IsDirtyTileOf (model_of l) id slice level held t
     allowed_by true q = q
-    allowed_by false q = absurd (subst Refusal (sym q) tt)
+    allowed_by false q = cc
 
     answered_pool : DirtyTileOn l id slice level held (answer t) → is_pool l ≡ true
     unfolding DirtyTileOn
@@ -65,8 +57,8 @@ dirty_calls_pinned l id slice level held = record {
   no_pool = refused_no_pool l id slice level held;
   refused = λ e. no_tile l e id slice level held;
   pool = answered_pool l id slice level held;
-  tile = λ column row q. tile_answered (model_of l) id slice level held column row (answered_allowed l id slice level held (At column row) q);
-  tile_may = λ e column row a. tile_said l e id slice level held (At column row) (tile_answerable (model_of l) id slice level held column row a);
-  clean = λ q. tile_clean (model_of l) id slice level held (answered_allowed l id slice level held NoTile q);
-  clean_may = λ e never. tile_said l e id slice level held NoTile (tile_none (model_of l) id slice level held never);
+  tile = λ column row q. tile_answered (model_of l) id slice level held column row (answered_allowed l id slice level held (some_tile column row) q);
+  tile_may = λ e column row a. tile_said l e id slice level held (some_tile column row) (tile_answerable (model_of l) id slice level held column row a);
+  clean = λ q. tile_clean (model_of l) id slice level held (answered_allowed l id slice level held None q);
+  clean_may = λ e never. tile_said l e id slice level held None (tile_none (model_of l) id slice level held never);
 }

@@ -7,19 +7,19 @@
 
 mod calls;
 
-pub use calls::dirty_tile::{DirtyAnswer, dirty_tile};
+pub use calls::dirty_tile::dirty_tile;
 pub use calls::drain_versions::drain_versions;
 pub use calls::forget_texture::forget_texture;
 pub use calls::note_allocated::note_allocated;
 pub use calls::note_mip_regeneration::note_mip_regeneration;
 pub use calls::note_write::note_write;
 pub use calls::park::park;
-pub use calls::parked_bytes::{BytesAnswer, parked_bytes};
+pub use calls::parked_bytes::parked_bytes;
 pub use calls::pending_destroy_bytes::pending_destroy_bytes;
 pub use calls::pop_retired::pop_retired;
 pub use calls::preserve_plan::preserve_plan;
 pub use calls::print_sheet::print_sheet;
-pub use calls::records_writes::{RecordsAnswer, records_writes};
+pub use calls::records_writes::records_writes;
 pub use calls::retire::retire;
 pub use calls::take_doomed::take_doomed;
 pub use calls::take_spare::take_spare;

@@ -25,20 +25,13 @@ without_record textures n i own =
     (moved textures (texture_stride * i) (texture_stride * i + texture_stride * 1) (texture_stride * (n - (i + 1))))
 
 unfoldable pub without : Counts → Owned → Counts
-without c own = record {
+without c own = record c {
   tracked = c.tracked - 1;
   kept = c.kept - own.spares;
   grids = c.grids - own.grids;
   stamps = c.stamps - own.stamps;
-  head = c.head;
-  popped = c.popped;
-  queued = c.queued;
-  first = c.first;
   doomed = c.doomed + own.spares;
   since = c.since + own.spares;
-  trackings = c.trackings;
   parked = c.parked - own.bytes * own.spares;
   dooming = c.dooming + own.bytes * own.spares;
-  cap = c.cap;
-  line = c.line;
 }

@@ -1,10 +1,10 @@
 // What a call answers that hands versions back and was lent the pacing book.
+use grid_shapes::Refusal;
 use pool_memory::Pool;
-use pool_take_doomed::Handed;
 
-// The pool after the call; after a refusal it is as it was.
+// The pool after the call, and how many views stand in the answer buffer; after a refusal the pool is as it was.
 #[derive(Clone, Copy)]
 pub struct HandedAnswer {
     pub pool: Pool,
-    pub handed: Handed,
+    pub handed: Result<usize, Refusal>,
 }

@@ -29,29 +29,9 @@ pub record Relieves (l : Lent) (excess kept bytes : ℕ) (textures doomed spares
 
 -- the counts when `kept` spares are left, and `bytes` bytes went to the destroy queue
 abbrev pub counts_relieved : Counts → ℕ → ℕ → Counts
-counts_relieved c kept bytes = record {
-  tracked = c.tracked;
-  kept = kept;
-  grids = c.grids;
-  stamps = c.stamps;
-  head = c.head;
-  popped = c.popped;
-  queued = c.queued;
-  first = c.first;
-  doomed = c.doomed + (c.kept - kept);
-  since = c.since + (c.kept - kept);
-  trackings = c.trackings;
-  parked = c.parked - bytes;
-  dooming = c.dooming + bytes;
-  cap = c.cap;
-  line = c.line;
-}
+counts_relieved c kept bytes = record c { kept = kept; doomed = c.doomed + (c.kept - kept); since = c.since + (c.kept - kept); parked = c.parked - bytes; dooming = c.dooming + bytes }
 
 -- the book with the mark and the excess of `allocated` bytes
 abbrev pub noted_book : Counts → PacingBook → ℕ → PacingBook
-noted_book c b allocated = record {
-  arrivals = b.arrivals;
-  slot = b.slot;
-  pressed = mark_of (pressed_after (record { cap = c.cap; line = c.line }) allocated (eqb b.pressed 1));
-  excess = allocated - c.line;
-}
+noted_book c b allocated =
+    record b { pressed = mark_of (pressed_after (record { cap = c.cap; line = c.line }) allocated (eqb b.pressed 1)); excess = allocated - c.line }

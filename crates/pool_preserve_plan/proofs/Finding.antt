@@ -7,6 +7,7 @@ use Prim.Native.Nat.{ℕ, ◌+◌, ◌≤◌, ◌<◌}
 use native.Mathlib.Omega.{arith}
 use lib.ListN.{length, get_or}
 use Rattle.base_tables.proofs.Records.{get_or_table}
+use Rattle.std.specs.Prelude.{Some, None}
 use Rattle.grid_shapes.specs.declared.shape.VersionShape.{VersionShape}
 use Rattle.grid_shapes.specs.Shapes.{same_shape}
 use Rattle.grid_shapes.proofs.Shapes.{same_shape_lem}
@@ -15,8 +16,7 @@ use Rattle.pool_rules.specs.declared.held.Held.TheVariants.{Known, Unknown}
 use Rattle.pool_rules.specs.Model.{WriteHistory, Out, PreserveCopy, UploadFootprint, guard, find}
 use Rattle.pool_rules.specs.Histories.{spent}
 use Rattle.pool_rules.specs.PreservePlan.{plan_with, plan_found}
-use Rattle.pool_records.specs.declared.recorded.Recorded.{Recorded}
-use Rattle.pool_records.specs.declared.recorded.Recorded.TheVariants.{Writes, NoHistory}
+use Rattle.pool_records.specs.Recorded.{Recorded}
 use Rattle.pool_records.specs.declared.texture.TextureRecord.{TextureRecord}
 use Rattle.pool_records.specs.Texture.{read_texture, texture_in, textures_in, recorded_grids, recorded_stamps}
 use Rattle.pool_records.specs.Find.{id_of, below, has_id}
@@ -69,7 +69,7 @@ found_place textures tracked id shape i e = ap (found_at textures tracked id sha
 
 -- the history that was found
 abbrev pub history_in : Lent → VersionShape → Found → Option WriteHistory
-history_in l s (History grid stamp n) = history_read l s grid stamp (Writes n)
+history_in l s (History grid stamp n) = history_read l s grid stamp (Some n)
 history_in l s NothingRecorded = none
 history_in l s OtherShape = none
 
@@ -79,12 +79,12 @@ spent_found l s NothingRecorded = refl
 spent_found l s OtherShape = refl
 
 recorded_in : (l : Lent) (s : VersionShape) (grid stamp : ℕ) (h : Recorded) → history_in l s (recorded_found grid stamp h) ≡ history_read l s grid stamp h
-recorded_in l s grid stamp NoHistory = refl
-recorded_in l s grid stamp (Writes n) = refl
+recorded_in l s grid stamp None = refl
+recorded_in l s grid stamp (Some n) = refl
 
 recorded_same : (grid stamp : ℕ) (h : Recorded) → is_other (recorded_found grid stamp h) ≡ false
-recorded_same grid stamp NoHistory = refl
-recorded_same grid stamp (Writes n) = refl
+recorded_same grid stamp None = refl
+recorded_same grid stamp (Some n) = refl
 
 module _ (l : Lent) (shape : VersionShape) (held : Held) (u : UploadFootprint) (room : ℕ) where
   -- the rule, by what was found
@@ -155,9 +155,9 @@ module _ (l : Lent) (fits : Fits l) (id : ℕ) (shape : VersionShape) where
 
   recorded_fits : (grid stamp : ℕ) (h : Recorded) (held : Held) → Room shape grid stamp h
       → SinceFits (since_of (recorded_found grid stamp h) held) shape l.newest l.stamps
-  recorded_fits grid stamp NoHistory held q = tt
-  recorded_fits grid stamp (Writes n) (Known k) q = (q.0, tiling_there l shape grid q.1, q.2)
-  recorded_fits grid stamp (Writes n) Unknown q = tt
+  recorded_fits grid stamp None held q = tt
+  recorded_fits grid stamp (Some n) (Known k) q = (q.0, tiling_there l shape grid q.1, q.2)
+  recorded_fits grid stamp (Some n) Unknown q = tt
 
   state_fits : (t : TextureRecord) (held : Held) → Room t.shape t.grid t.stamp t.history
       → SinceFits (since_of (found_of shape t) held) shape l.newest l.stamps

@@ -10,15 +10,14 @@ use Rattle.base_blocks.specs.Lists.{over}
 use Rattle.base_blocks.proofs.Listed.{left, left_all, left_step, left_none}
 use Rattle.base_tables.specs.Records.{flat}
 use Rattle.base_tables.proofs.Records.{flat_append}
+use Rattle.std.specs.Prelude.{Option, Some, None}
 use Rattle.grid_shapes.specs.declared.shape.VersionShape.{VersionShape}
 use Rattle.grid_rects.specs.declared.rect.Region.{Region}
 use Rattle.grid_rects.specs.declared.rect.Region.TheVariants.{Whole, Part}
 use Rattle.pool_rules.specs.Model.{PreserveCopy, UploadFootprint, grid_count}
 use Rattle.pool_memory.specs.Calls.{copy_numbers}
 use Rattle.pool_memory.proofs.Rewritten.{sets_append}
-use Rattle.pool_preserve_plan.specs.declared.copy.Planned.{Planned}
-use Rattle.pool_preserve_plan.specs.declared.copy.Planned.TheVariants.{Skipped, Copied}
-use Rattle.pool_preserve_plan.specs.declared.since.Since.{Since}
+use Rattle.pool_preserve_plan.specs.declared.since.After.{After}
 use Rattle.pool_preserve_plan.specs.Copies.{planned_at, copy_list, in_order, copies_at, lent_copies, with_copies}
 use Rattle.pool_preserve_plan.proofs.Planned.{IsPlace, slice_of, level_of}
 use Rattle.pool_memory.specs.MemoryConstants.{copy_stride}
@@ -53,7 +52,7 @@ module _ (f : ℕ → List PreserveCopy) (n : ℕ) where
   next_room i count t room h inv fits = omega (arith, count_more i count t h inv)
 
 -- all of a plan
-pub lent_all : (newest stamps : List ℕ) (s : VersionShape) (since : Since) (u : UploadFootprint) (all : ℕ) → all ≡ grid_count s
+pub lent_all : (newest stamps : List ℕ) (s : VersionShape) (since : Option After) (u : UploadFootprint) (all : ℕ) → all ≡ grid_count s
     → rest (copies_at newest stamps s since u) all 0 ≡ lent_copies newest stamps s since u
 unfolding lent_copies
 lent_all newest stamps s since u all e = rest_all (copies_at newest stamps s since u) all ∙ ap (in_order (copies_at newest stamps s since u)) e
@@ -61,30 +60,30 @@ lent_all newest stamps s since u all e = rest_all (copies_at newest stamps s sin
 -- ---- one subresource
 
 -- how many copies does not depend on where
-pub list_length : (p : Planned) (a b c d : ℕ) → length (copy_list p a b) ≡ length (copy_list p c d)
+pub list_length : (p : Option Region) (a b c d : ℕ) → length (copy_list p a b) ≡ length (copy_list p c d)
 unfolding copy_list
-list_length Skipped a b c d = refl
-list_length (Copied region) a b c d = refl
+list_length None a b c d = refl
+list_length (Some region) a b c d = refl
 
-pub list_most : (p : Planned) (a b : ℕ) → length (copy_list p a b) ≤ 1
+pub list_most : (p : Option Region) (a b : ℕ) → length (copy_list p a b) ≤ 1
 unfolding copy_list
-list_most Skipped a b = omega arith
-list_most (Copied region) a b = omega arith
+list_most None a b = omega arith
+list_most (Some region) a b = omega arith
 
-pub list_none : (p : Planned) (a b : ℕ) → p ≡ Skipped → copy_list p a b ≡ []
+pub list_none : (p : Option Region) (a b : ℕ) → p ≡ None → copy_list p a b ≡ []
 unfolding copy_list
-list_none p a b e = ap (λ (x : Planned). copy_list x a b) e
+list_none p a b e = ap (λ (x : Option Region). copy_list x a b) e
 
-pub list_one : (p : Planned) (region : Region) (a b : ℕ) → p ≡ Copied region → copy_list p a b ≡ record { slice = a; level = b; region = region } ∷ []
+pub list_one : (p : Option Region) (region : Region) (a b : ℕ) → p ≡ Some region → copy_list p a b ≡ record { slice = a; level = b; region = region } ∷ []
 unfolding copy_list
-list_one p region a b e = ap (λ (x : Planned). copy_list x a b) e
+list_one p region a b e = ap (λ (x : Option Region). copy_list x a b) e
 
 -- what the code has planned at place k are the k-th subresource's copies
-pub list_at : (newest stamps : List ℕ) (s : VersionShape) (since : Since) (u : UploadFootprint) (k slice level : ℕ) (p : Planned)
+pub list_at : (newest stamps : List ℕ) (s : VersionShape) (since : Option After) (u : UploadFootprint) (k slice level : ℕ) (p : Option Region)
     → IsPlace s.levels k slice level → p ≡ planned_at newest stamps s since u slice level → copy_list p slice level ≡ copies_at newest stamps s since u k
 unfolding copies_at
 list_at newest stamps s since u k slice level p at f =
-    ap (λ (x : Planned). copy_list x slice level) f
+    ap (λ (x : Option Region). copy_list x slice level) f
     ∙ ap₂ (λ (a b : ℕ). copy_list (planned_at newest stamps s since u a b) a b) (slice_of s.levels k slice level at) (level_of s.levels k slice level at)
 
 -- ---- copies written

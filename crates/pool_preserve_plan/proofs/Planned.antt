@@ -6,14 +6,14 @@ use Prim.Native.Nat.{ℕ, ◌+◌, ◌*◌, ◌/◌, ◌%◌, ◌≤◌, ◌<◌
 use native.Mathlib.Nat.{add-zero, zero-mul, mul-add-div_right, div-eq_of_lt}
 use native.Mathlib.Omega.{arith}
 use lib.ListN.{length, take, drop, get_or}
+use Rattle.std.specs.Prelude.{Option, Some, None}
 use Rattle.grid_shapes.specs.declared.shape.VersionShape.{VersionShape}
 use Rattle.grid_shapes.specs.Shapes.{is_shape, level_width, level_height}
 use Rattle.grid_rects.specs.declared.rect.TexelRect.{TexelRect}
 use Rattle.grid_rects.specs.declared.rect.Region.TheVariants.{Whole, Part}
 use Rattle.grid_rects.specs.Rects.{whole_level}
-use Rattle.grid_axes.specs.declared.axis.Axis.{Axis}
-use Rattle.grid_stamps.specs.declared.since.Dirty.TheVariants.{Box, Clean}
-use Rattle.grid_stamps.specs.Grids.{Tiling, tiled, tiling_of, stamp_count, StampGrid, grid_in, box_since}
+use Rattle.grid_stamps.specs.declared.grid.Tiling.{Tiling}
+use Rattle.grid_stamps.specs.Grids.{tiling_of, stamp_count, StampGrid, grid_in, box_since}
 use Rattle.grid_stamps.proofs.Seen.{since_clean}
 use Rattle.pool_rules.specs.Model.{UploadFootprint, grid_count}
 use Rattle.pool_rules.specs.Histories.{grid_place}
@@ -26,54 +26,52 @@ use Rattle.pool_records.specs.Tilings.{tiling_in, EdgesAt}
 use Rattle.pool_records.proofs.Tilings.{start_held, edges_there}
 use Rattle.pool_memory.specs.Reading.{grid_on}
 use Rattle.pool_memory.proofs.GridParts.{part_grid}
-use Rattle.pool_preserve_plan.specs.declared.copy.Planned.TheVariants.{Skipped, Copied}
-use Rattle.pool_preserve_plan.specs.declared.since.Since.{Since}
-use Rattle.pool_preserve_plan.specs.declared.since.Since.TheVariants.{After, Nothing}
+use Rattle.pool_preserve_plan.specs.declared.since.After.{After}
 use Rattle.pool_preserve_plan.specs.Copies.{SinceFits, box_planned, planned_since, planned_at}
 
 -- ---- a box
 
 module _ (s : VersionShape) (level : ℕ) (r : TexelRect) where
-  pub box_whole : same_rect r (whole_level (level_width s level) (level_height s level)) ≡ true → box_planned s level (Box r) ≡ Copied Whole
+  pub box_whole : same_rect r (whole_level (level_width s level) (level_height s level)) ≡ true → box_planned s level (Some r) ≡ Some Whole
   unfolding box_planned
-  box_whole e = ap (λ (b : Bool). Copied (cond b Whole (Part r))) e
+  box_whole e = ap (λ (b : Bool). Some (cond b Whole (Part r))) e
 
-  pub box_part : same_rect r (whole_level (level_width s level) (level_height s level)) ≡ false → box_planned s level (Box r) ≡ Copied (Part r)
+  pub box_part : same_rect r (whole_level (level_width s level) (level_height s level)) ≡ false → box_planned s level (Some r) ≡ Some (Part r)
   unfolding box_planned
-  box_part e = ap (λ (b : Bool). Copied (cond b Whole (Part r))) e
+  box_part e = ap (λ (b : Bool). Some (cond b Whole (Part r))) e
 
-pub box_clean : (s : VersionShape) (level : ℕ) → box_planned s level Clean ≡ Skipped
+pub box_clean : (s : VersionShape) (level : ℕ) → box_planned s level None ≡ None
 unfolding box_planned
 box_clean s level = refl
 
 -- ---- a subresource
 
-module _ (newest stamps : List ℕ) (s : VersionShape) (since : Since) (u : UploadFootprint) (slice level : ℕ) where
-  pub planned_covered : covers u slice level ≡ true → planned_at newest stamps s since u slice level ≡ Skipped
+module _ (newest stamps : List ℕ) (s : VersionShape) (since : Option After) (u : UploadFootprint) (slice level : ℕ) where
+  pub planned_covered : covers u slice level ≡ true → planned_at newest stamps s since u slice level ≡ None
   unfolding planned_at
-  planned_covered e = ap (λ (b : Bool). cond b Skipped (planned_since newest stamps s since slice level)) e
+  planned_covered e = ap (λ (b : Bool). cond b None (planned_since newest stamps s since slice level)) e
 
   module _ (e : covers u slice level ≡ false) where
     planned_open : planned_at newest stamps s since u slice level ≡ planned_since newest stamps s since slice level
     unfolding planned_at
-    planned_open = ap (λ (b : Bool). cond b Skipped (planned_since newest stamps s since slice level)) e
+    planned_open = ap (λ (b : Bool). cond b None (planned_since newest stamps s since slice level)) e
 
-    pub planned_unknown : since ≡ Nothing → planned_at newest stamps s since u slice level ≡ Copied Whole
-    planned_unknown f = planned_open ∙ ap (λ (x : Since). planned_since newest stamps s x slice level) f
+    pub planned_unknown : since ≡ None → planned_at newest stamps s since u slice level ≡ Some Whole
+    planned_unknown f = planned_open ∙ ap (λ (x : Option After). planned_since newest stamps s x slice level) f
 
     -- the k-th, of a history
-    module _ (grid stamp held k : ℕ) (f : since ≡ After grid stamp held) (at : k ≡ grid_place s slice level) where
+    module _ (a : After) (k : ℕ) (f : since ≡ Some a) (at : k ≡ grid_place s slice level) where
       pub planned_after : planned_at newest stamps s since u slice level
-          ≡ box_planned s level (box_since (tiling_of s level) held (grid_on s level newest stamps (grid + grid_stride * k) (stamp + grid_start s k)))
+          ≡ box_planned s level (box_since (tiling_of s level) a.held (grid_on s level newest stamps (a.grid + grid_stride * k) (a.stamp + grid_start s k)))
       planned_after =
-          planned_open ∙ ap (λ (x : Since). planned_since newest stamps s x slice level) f
-          ∙ ap (λ (n : ℕ). box_planned s level (box_since (tiling_of s level) held (grid_on s level newest stamps (grid + grid_stride * n) (stamp + grid_start s n)))) (sym at)
+          planned_open ∙ ap (λ (x : Option After). planned_since newest stamps s x slice level) f
+          ∙ ap (λ (n : ℕ). box_planned s level (box_since (tiling_of s level) a.held (grid_on s level newest stamps (a.grid + grid_stride * n) (a.stamp + grid_start s n)))) (sym at)
 
-      pub planned_held : get_or newest (grid + grid_stride * k) 0 ≤ held → planned_at newest stamps s since u slice level ≡ Skipped
+      pub planned_held : get_or newest (a.grid + grid_stride * k) 0 ≤ a.held → planned_at newest stamps s since u slice level ≡ None
       unfolding grid_on
       planned_held h =
           planned_after
-          ∙ ap (box_planned s level) (since_clean (tiling_of s level) held (get_or newest (grid + grid_stride * k) 0) (drop (stamp + grid_start s k) stamps) h)
+          ∙ ap (box_planned s level) (since_clean (tiling_of s level) a.held (get_or newest (a.grid + grid_stride * k) 0) (drop (a.stamp + grid_start s k) stamps) h)
           ∙ box_clean s level
 
 -- ---- the k-th grid of a history, whose level this is
@@ -85,29 +83,28 @@ pub record GridThere (s : VersionShape) (newest stamps : List ℕ) (grid stamp k
   pub edges : EdgesAt newest (grid + grid_stride * k) s level
   pub room : stamp + grid_start s k + stamp_count (tiling_of s level) ≤ length stamps
 
-module _ (s : VersionShape) (shaped : is_shape s ≡ true) (newest stamps : List ℕ) (grid stamp held k level : ℕ) where
-  pub grid_there : (since : Since) (slice : ℕ) → since ≡ After grid stamp held → SinceFits since s newest stamps → k < grid_count s → level < s.levels
-      → k ≡ grid_place s slice level → GridThere s newest stamps grid stamp k level
+module _ (s : VersionShape) (shaped : is_shape s ≡ true) (newest stamps : List ℕ) (a : After) (k level : ℕ) where
+  pub grid_there : (since : Option After) (slice : ℕ) → since ≡ Some a → SinceFits since s newest stamps → k < grid_count s → level < s.levels
+      → k ≡ grid_place s slice level → GridThere s newest stamps a.grid a.stamp k level
   grid_there since slice e f h q at =
-      let g : SinceFits (After grid stamp held) s newest stamps = subst (λ (x : Since). SinceFits x s newest stamps) e f in
+      let g : SinceFits (Some a) s newest stamps = subst (λ (x : Option After). SinceFits x s newest stamps) e f in
       let l : level ≡ k % s.levels = sym (ap (λ (n : ℕ). n % s.levels) at ∙ place_level slice level s.levels q) in
       record {
         numbers = omega (arith, g.0, h);
-        start = start_held s shaped newest (grid + grid_stride * k) k h (g.1 k h);
-        edges = edges_there s shaped newest grid k level h g.1 l;
+        start = start_held s shaped newest (a.grid + grid_stride * k) k h (g.1 k h);
+        edges = edges_there s shaped newest a.grid k level h g.1 l;
         room = omega (arith, g.2, grid_room s k level h l);
       }
 
   -- the box of the part that the code cuts out is the grid's
-  pub part_box : GridThere s newest stamps grid stamp k level → (start n : ℕ) (across down : Axis) → start ≡ grid_start s k
-      → n ≡ stamp_count (tiling_of s level) → across ≡ (tiling_of s level).across → down ≡ (tiling_of s level).down
-      → box_since (tiled across down) held (grid_in (tiled across down) (get_or newest (grid + grid_stride * k) 0) (take n (drop (stamp + start) stamps)))
-      ≡ box_since (tiling_of s level) held (grid_on s level newest stamps (grid + grid_stride * k) (stamp + grid_start s k))
-  part_box there start n across down b e a d =
-      let f : tiled across down ≡ tiling_of s level = ap₂ tiled a d in
-      ap₂ (λ (g : Tiling) (x : StampGrid). box_since g held x) f
-      (part_grid s shaped level newest stamps (grid + grid_stride * k) (stamp + start) (omega (arith, there.room, b)) n (tiled across down) e f)
-      ∙ ap (λ (i : ℕ). box_since (tiling_of s level) held (grid_on s level newest stamps (grid + grid_stride * k) (stamp + i))) b
+  pub part_box : GridThere s newest stamps a.grid a.stamp k level → (start n : ℕ) (g : Tiling) → start ≡ grid_start s k
+      → n ≡ stamp_count (tiling_of s level) → g ≡ tiling_of s level
+      → box_since g a.held (grid_in g (get_or newest (a.grid + grid_stride * k) 0) (take n (drop (a.stamp + start) stamps)))
+      ≡ box_since (tiling_of s level) a.held (grid_on s level newest stamps (a.grid + grid_stride * k) (a.stamp + grid_start s k))
+  part_box there start n g b e f =
+      ap₂ (λ (h : Tiling) (x : StampGrid). box_since h a.held x) f
+      (part_grid s shaped level newest stamps (a.grid + grid_stride * k) (a.stamp + start) (omega (arith, there.room, b)) n g e f)
+      ∙ ap (λ (i : ℕ). box_since (tiling_of s level) a.held (grid_on s level newest stamps (a.grid + grid_stride * k) (a.stamp + i))) b
 
 -- ---- from subresource to subresource
 

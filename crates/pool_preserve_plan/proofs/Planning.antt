@@ -10,10 +10,10 @@ use lib.Dec.{ltb}
 use lib.ListN.{length, drop, get_or, length-append}
 use Rattle.base_blocks.specs.Lists.{listed}
 use Rattle.base_blocks.proofs.Listed.{listed_split, get_or_listed}
+use Rattle.std.specs.Prelude.{Option, Some, None}
+use Rattle.grid_rects.specs.declared.rect.TexelRect.{TexelRect}
 use Rattle.grid_shapes.specs.declared.shape.VersionShape.{VersionShape}
 use Rattle.grid_shapes.specs.Shapes.{is_shape, slices_of}
-use Rattle.grid_stamps.specs.declared.since.Dirty.{Dirty}
-use Rattle.grid_stamps.specs.declared.since.Dirty.TheVariants.{Box, Clean}
 use Rattle.grid_stamps.specs.Grids.{StampGrid, tiling_of, grid_in, box_since}
 use Rattle.grid_stamps.proofs.RowByRow.{tile_place}
 use Rattle.pool_rules.specs.declared.held.Held.{Held}
@@ -34,8 +34,7 @@ use Rattle.pool_memory.proofs.Parts.{flat_append}
 use Rattle.pool_memory.proofs.Stays.{nothing_changed}
 use Rattle.pool_memory.proofs.Written.{no_grid}
 use Rattle.pool_memory.proofs.Asked.{asked_refused, asked_accepted}
-use Rattle.pool_preserve_plan.specs.declared.copy.Planned.TheVariants.{Skipped}
-use Rattle.pool_preserve_plan.specs.declared.since.Since.{Since}
+use Rattle.pool_preserve_plan.specs.declared.since.After.{After}
 use Rattle.pool_preserve_plan.specs.declared.history.Found.{Found}
 use Rattle.pool_preserve_plan.specs.declared.history.Found.TheVariants.{OtherShape, NothingRecorded, History}
 use Rattle.pool_preserve_plan.specs.Copies.{box_planned, planned_since, planned_at, copy_list, in_order, copies_at, lent_copies, with_copies}
@@ -87,7 +86,7 @@ in_order_most f m h n = go 0 n
     go i zero = omega (arith, zero-mul m)
     go i (suc n) = omega (arith, go (suc i) n, h i, suc-mul n m, length-append (f i) (flat_map f (listed (λ (k : ℕ). k) (suc i) n)))
 
-pub copies_most : (newest stamps : List ℕ) (s : VersionShape) (since : Since) (u : UploadFootprint)
+pub copies_most : (newest stamps : List ℕ) (s : VersionShape) (since : Option After) (u : UploadFootprint)
     → length (lent_copies newest stamps s since u) ≤ grid_count s
 unfolding lent_copies copies_at
 copies_most newest stamps s since u =
@@ -100,10 +99,10 @@ copies_most newest stamps s since u =
 
 -- ---- one subresource
 
-box_list : (s : VersionShape) (slice level : ℕ) (d : Dirty) → copy_list (box_planned s level d) slice level ≡ box_copy s slice level d
+box_list : (s : VersionShape) (slice level : ℕ) (d : Option TexelRect) → copy_list (box_planned s level d) slice level ≡ box_copy s slice level d
 unfolding copy_list box_planned box_copy
-box_list s slice level Clean = refl
-box_list s slice level (Box r) = refl
+box_list s slice level None = refl
+box_list s slice level (Some r) = refl
 
 module _ (l : Lent) (s : VersionShape) where
   -- the grid that stands there is the model's
@@ -139,7 +138,7 @@ module _ (l : Lent) (s : VersionShape) where
         (place_slice slice level s.levels q) (place_level slice level s.levels q)
         ∙ go (covers u slice level)
       where
-        go : (b : Bool) → copy_list (cond b Skipped (planned_since l.newest l.stamps s (since_of f held) slice level)) slice level
+        go : (b : Bool) → copy_list (cond b None (planned_since l.newest l.stamps s (since_of f held) slice level)) slice level
             ≡ cond b [] (copy_of s (history_in l s f) held slice level)
         go true = refl
         go false = since_list f held slice level p q
@@ -242,9 +241,9 @@ module _ (l : Lent) (pool : is_pool l ≡ true) (id : ℕ) (shape : VersionShape
         (sym (with_front planned buffer (omega (arith, (plan_room (length buffer / copy_stride) h).1)))) (nothing_changed l fits))
 
     -- as the code has them: what it found, what bounds the copies and the number that it worked out
-    module _ (f : Found) (since : Since) (e : f ≡ found) (b : since ≡ since_of f held) where
+    module _ (f : Found) (since : Option After) (e : f ≡ found) (b : since ≡ since_of f held) where
       same_copies : lent_copies l.newest l.stamps shape since u ≡ planned
-      same_copies = ap (λ (x : Since). lent_copies l.newest l.stamps shape x u) (b ∙ ap (λ (x : Found). since_of x held) e)
+      same_copies = ap (λ (x : Option After). lent_copies l.newest l.stamps shape x u) (b ∙ ap (λ (x : Found). since_of x held) e)
 
       same_number : (n : ℕ) → n ≡ plan_refusal shape f u (length (lent_copies l.newest l.stamps shape since u)) (length buffer / copy_stride)
           → n ≡ number_of (length buffer / copy_stride)

@@ -7,10 +7,11 @@ use native.Mathlib.Omega.{arith}
 use borrow.Author.Tests.{le-ltb}
 use lib.Dec.{ltb}
 use lib.ListN.{length}
+use Rattle.std.specs.Prelude.{Option}
 use Rattle.grid_shapes.specs.declared.shape.VersionShape.{VersionShape}
 use Rattle.grid_shapes.specs.Shapes.{is_shape}
 use Rattle.pool_rules.specs.Model.{UploadFootprint, grid_count}
-use Rattle.pool_preserve_plan.specs.declared.since.Since.{Since}
+use Rattle.pool_preserve_plan.specs.declared.since.After.{After}
 use Rattle.pool_preserve_plan.specs.declared.history.Found.{Found}
 use Rattle.pool_preserve_plan.specs.Copies.{lent_copies}
 use Rattle.pool_preserve_plan.proofs.Planning.{copies_most}
@@ -41,7 +42,7 @@ module _ (s : VersionShape) (f : Found) (u : UploadFootprint) (count room : ℕ)
 
 -- ---- the room that always suffices
 
-pub room_for_all : (newest stamps : List ℕ) (s : VersionShape) (since : Since) (u : UploadFootprint) (n room : ℕ) → n ≡ grid_count s
+pub room_for_all : (newest stamps : List ℕ) (s : VersionShape) (since : Option After) (u : UploadFootprint) (n room : ℕ) → n ≡ grid_count s
     → n ≤ room → ltb room (length (lent_copies newest stamps s since u)) ≡ false
 room_for_all newest stamps s since u n room e h =
     le-ltb room (length (lent_copies newest stamps s since u)) (omega (arith, copies_most newest stamps s since u, e))

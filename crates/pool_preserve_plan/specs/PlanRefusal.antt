@@ -1,26 +1,24 @@
 -- Helper: What a plan finds of its texture in the lent slices, and what it refuses by.
-use Rattle.std.specs.Prelude.{ℕ, Bool, true, false, cond, ◌&&◌, not, List, leb, ltb}
+use Rattle.std.specs.Prelude.{ℕ, Bool, true, false, cond, ◌&&◌, not, List, leb, ltb, Option, Some, None}
 use Rattle.grid_shapes.specs.declared.shape.VersionShape.{VersionShape}
 use Rattle.grid_shapes.specs.Shapes.{is_shape, same_shape}
 use Rattle.pool_rules.specs.declared.held.Held.{Held}
 use Rattle.pool_rules.specs.declared.held.Held.TheVariants.{Known, Unknown}
 use Rattle.pool_rules.specs.Model.{UploadFootprint, limit}
 use Rattle.pool_rules.specs.Histories.{in_shape}
-use Rattle.pool_records.specs.declared.recorded.Recorded.{Recorded}
-use Rattle.pool_records.specs.declared.recorded.Recorded.TheVariants.{Writes, NoHistory}
+use Rattle.pool_records.specs.Recorded.{Recorded}
 use Rattle.pool_records.specs.declared.texture.TextureRecord.{TextureRecord}
 use Rattle.pool_records.specs.Texture.{texture_in, textures_in}
 use Rattle.pool_records.specs.Find.{below, has_id}
-use Rattle.pool_preserve_plan.specs.declared.since.Since.{Since}
-use Rattle.pool_preserve_plan.specs.declared.since.Since.TheVariants.{After, Nothing}
+use Rattle.pool_preserve_plan.specs.declared.since.After.{After}
 use Rattle.pool_preserve_plan.specs.declared.history.Found.{Found}
 use Rattle.pool_preserve_plan.specs.declared.history.Found.TheVariants.{OtherShape, NothingRecorded, History}
 
 -- ---- the texture
 
 abbrev pub recorded_found : ℕ → ℕ → Recorded → Found
-recorded_found grid stamp NoHistory = NothingRecorded
-recorded_found grid stamp (Writes n) = History grid stamp n
+recorded_found grid stamp None = NothingRecorded
+recorded_found grid stamp (Some n) = History grid stamp n
 
 -- what the record of a texture says
 unfoldable pub found_of : VersionShape → TextureRecord → Found
@@ -34,14 +32,14 @@ unfoldable pub history_found : List ℕ → ℕ → ℕ → VersionShape → Fou
 history_found textures tracked id shape = found_at textures tracked id shape (below id (textures_in tracked textures))
 
 -- the copies are bounded where both are known
-abbrev pub since_held : ℕ → ℕ → Held → Since
-since_held grid stamp (Known n) = After grid stamp n
-since_held grid stamp Unknown = Nothing
+abbrev pub since_held : ℕ → ℕ → Held → Option After
+since_held grid stamp (Known n) = Some (record { grid = grid; stamp = stamp; held = n })
+since_held grid stamp Unknown = None
 
-abbrev pub since_of : Found → Held → Since
+abbrev pub since_of : Found → Held → Option After
 since_of (History grid stamp n) held = since_held grid stamp held
-since_of NothingRecorded held = Nothing
-since_of OtherShape held = Nothing
+since_of NothingRecorded held = None
+since_of OtherShape held = None
 
 -- ---- refusals, the lowest number first
 

@@ -3,45 +3,28 @@ ghost use Rattle.std.specs.Prelude.{◌≡◌, true, ◌<◌};
 ghost use Rattle.grid_shapes.specs.Shapes.{is_shape};
 ghost use Rattle.pool_rules.specs.Histories.{grid_place};
 ghost use Rattle.pool_rules.specs.Model.{grid_count};
-ghost use Rattle.pool_rules.specs.PreservePlan.{same_rect};
 ghost use Rattle.pool_preserve_plan.specs.Copies.{box_planned, SinceFits, footprint, planned_at, copy_numbers_of};
 
-use crate::since::{Since, Upload};
+use crate::since::{After, Upload};
 use grid_rects::{Region, TexelRect, level_rect};
 use grid_shapes::{VersionShape, level_extent};
-use grid_stamps::{Dirty, stamp_count};
+use grid_stamps::stamp_count;
 use grid_views::written_since;
-use pool_access::{across_at, down_at, start_at};
+use pool_access::{start_at, tiling_at};
 use pool_memory::COPY_STRIDE;
 use pool_rules::GRID_STRIDE;
 
-// A subresource of a plan: left out, or copied whole or in part.
-#[derive(Clone, Copy)]
-pub enum Planned {
-    Skipped,
-    Copied(Region),
-}
-
-// Tells whether two rectangles are equal.
-fn same_rect(a: TexelRect, b: TexelRect) -> bool
-    ensures { result ≡ same_rect a b }
-{
-    (a.x == b.x) & (a.y == b.y) & (a.width == b.width) & (a.height == b.height)
-}
-
-// Plans the copy of a box. One that is the whole level is reported as whole.
-fn box_planned(shape: VersionShape, level: u64, dirty: Dirty) -> Planned
+// Plans the copy of a box, or none where there is no box. One that is the whole level is reported as whole.
+fn box_planned(shape: VersionShape, level: u64, dirty: Option<TexelRect>) -> Option<Region>
     ensures { result ≡ box_planned shape level dirty }
 {
-    let Dirty::Box(part) = dirty else {
-        return Planned::Skipped;
-    };
+    let part = dirty?;
     let width = level_extent(shape.width, level);
     let height = level_extent(shape.height, level);
-    if same_rect(part, level_rect(width, height)) {
-        return Planned::Copied(Region::Whole);
+    if part == level_rect(width, height) {
+        return Some(Region::Whole);
     }
-    Planned::Copied(Region::Part(part))
+    Some(Region::Part(part))
 }
 
 // Plans the copy of a slice's level, the k-th of the plan: none where the upload rewrites it entirely, whole where nothing is known,
@@ -52,32 +35,31 @@ pub fn copy_at(
     newest: &[u64],
     stamps: &[u64],
     shape: VersionShape,
-    since: Since,
+    since: Option<After>,
     upload: Upload,
     slice: u64,
     level: u64,
     k: usize,
-) -> Planned
+) -> Option<Region>
     requires { (is_shape shape ≡ true) × SinceFits since shape newest.now stamps.now × (k < grid_count shape) × (level < shape.levels)
         × (k ≡ grid_place shape slice level) }
     ensures { result ≡ planned_at newest.now stamps.now shape since (footprint upload) slice level }
 {
     let covered = upload.cover & ((slice == upload.slice) & (level == upload.level));
     if covered {
-        return Planned::Skipped;
+        return None;
     }
-    let Since::After { grid, stamp, held } = since else {
-        return Planned::Copied(Region::Whole);
+    let Some(after) = since else {
+        return Some(Region::Whole);
     };
-    let p = grid + GRID_STRIDE * k;
-    if newest[p] <= held {
-        return Planned::Skipped;
+    let p = after.grid + GRID_STRIDE * k;
+    if newest[p] <= after.held {
+        return None;
     }
-    let start = stamp + start_at(newest, p);
-    let across = across_at(newest, p, shape, level);
-    let down = down_at(newest, p, shape, level);
-    let end = start + stamp_count(across, down) as usize;
-    let dirty = written_since(&stamps[start..end], across, down, newest[p], held);
+    let start = after.stamp + start_at(newest, p);
+    let tiling = tiling_at(newest, p, shape, level);
+    let end = start + stamp_count(tiling) as usize;
+    let dirty = written_since(&stamps[start..end], tiling, newest[p], after.held);
     box_planned(shape, level, dirty)
 }
 

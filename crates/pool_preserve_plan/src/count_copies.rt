@@ -3,20 +3,18 @@ ghost use Rattle.std.specs.Prelude.{◌≡◌, true, ◌≤◌, length};
 ghost use Rattle.grid_shapes.specs.Shapes.{is_shape};
 ghost use Rattle.pool_preserve_plan.specs.Copies.{SinceFits, footprint, copy_list, lent_copies};
 
-use crate::copy::{Planned, copy_at};
-use crate::since::{Since, Upload};
+use crate::copy::copy_at;
+use crate::since::{After, Upload};
 use crate::subresource::{Subresource, next_subresource};
+use grid_rects::Region;
 use grid_shapes::VersionShape;
 use pool_access::shape_grids;
 
 // Counts a subresource's copy: 1, or 0 if it is left out.
-fn copy_count(planned: Planned) -> usize
+fn copy_count(planned: Option<Region>) -> usize
     ensures { (result ≤ 1) × (result ≡ length (copy_list planned 0 0)) }
 {
-    match planned {
-        Planned::Skipped => 0,
-        Planned::Copied(_) => 1,
-    }
+    usize::from(planned.is_some())
 }
 
 // Counts the copies of every slice and level.
@@ -24,7 +22,7 @@ pub fn count_copies(
     newest: &[u64],
     stamps: &[u64],
     shape: VersionShape,
-    since: Since,
+    since: Option<After>,
     upload: Upload,
 ) -> usize
     requires { (is_shape shape ≡ true) × SinceFits since shape newest.now stamps.now }

@@ -6,10 +6,10 @@ ghost use Rattle.pool_records.specs.Find.{id_of};
 ghost use Rattle.pool_records.specs.RecordConstants.{texture_stride};
 ghost use Rattle.pool_preserve_plan.specs.PlanRefusal.{history_found, since_held, since_of, is_other, is_spent};
 
-use crate::since::Since;
+use crate::since::After;
 use grid_shapes::{VersionShape, same_shape};
 use pool_access::{has_id, texture_at};
-use pool_records::{Recorded, find_texture};
+use pool_records::find_texture;
 use pool_rules::{Held, LIMIT};
 
 // A texture tracked with another shape; one with no history, tracked or not; or where the grids and the stamps of a history begin, and
@@ -38,8 +38,7 @@ pub fn find_history(textures: &[u64], tracked: usize, id: u64, shape: VersionSha
     if !same_shape(t.shape, shape) {
         return Found::OtherShape;
     }
-    let history = t.history;
-    let Recorded::Writes(writes) = history else {
+    let Some(writes) = t.history else {
         return Found::NothingRecorded;
     };
     Found::History {
@@ -51,26 +50,21 @@ pub fn find_history(textures: &[u64], tracked: usize, id: u64, shape: VersionSha
 
 // Returns what bounds the copies by the history that begins there, where the held writes are known: a spare of unknown contents gets
 // every level whole.
-fn since_held(grid: usize, stamp: usize, held: Held) -> Since
+fn since_held(grid: usize, stamp: usize, held: Held) -> Option<After>
     ensures { result ≡ since_held grid stamp held }
 {
     match held {
-        Held::Known(n) => Since::After {
-            grid,
-            stamp,
-            held: n,
-        },
-        Held::Unknown => Since::Nothing,
+        Held::Known(held) => Some(After { grid, stamp, held }),
+        Held::Unknown => None,
     }
 }
 
-// Returns what bounds the copies: a history and held writes that are known, or nothing.
-pub fn since_of(found: Found, held: Held) -> Since
+// Returns what bounds the copies, or none where the history or the held writes are not known.
+pub fn since_of(found: Found, held: Held) -> Option<After>
     ensures { result ≡ since_of found held }
 {
     match found {
-        Found::OtherShape => Since::Nothing,
-        Found::NothingRecorded => Since::Nothing,
+        Found::OtherShape | Found::NothingRecorded => None,
         Found::History { grid, stamp, .. } => since_held(grid, stamp, held),
     }
 }

@@ -2,12 +2,12 @@
 #![tactic(auto)]
 
 mod calls;
+mod check_plan;
 mod copy;
 mod count_copies;
 mod history;
-mod plan_refusal;
 mod put_copies;
 mod since;
 mod subresource;
 
-pub use calls::preserve_plan::{PlanAnswer, preserve_plan};
+pub use calls::preserve_plan::preserve_plan;

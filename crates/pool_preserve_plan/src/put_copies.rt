@@ -4,21 +4,22 @@ ghost use Rattle.grid_shapes.specs.Shapes.{is_shape};
 ghost use Rattle.pool_preserve_plan.specs.Copies.{SinceFits, footprint, copy_list, lent_copies, with_copies};
 ghost use Rattle.pool_memory.specs.MemoryConstants.{copy_stride};
 
-use crate::copy::{Planned, copy_at, copy_numbers};
-use crate::since::{Since, Upload};
+use crate::copy::{copy_at, copy_numbers};
+use crate::since::{After, Upload};
 use crate::subresource::{Subresource, next_subresource};
 use base_tables::put_record;
+use grid_rects::Region;
 use grid_shapes::VersionShape;
 use pool_access::shape_grids;
 use pool_memory::COPY_STRIDE;
 
 // Stores a subresource's copy, if there is one, after the `at` copies of the buffer. Returns how many there are then.
-fn put_copy(buffer: &mut [u64], at: usize, planned: Planned, slice: u64, level: u64) -> usize
+fn put_copy(buffer: &mut [u64], at: usize, planned: Option<Region>, slice: u64, level: u64) -> usize
     requires { copy_stride * (at + length (copy_list planned slice level)) ≤ length buffer.old }
     ensures { (result ≡ at + length (copy_list planned slice level))
         × (buffer.new ≡ with_copies at (copy_list planned slice level) buffer.old) }
 {
-    let Planned::Copied(region) = planned else {
+    let Some(region) = planned else {
         return at;
     };
     let numbers = copy_numbers(slice, level, region);
@@ -32,7 +33,7 @@ pub fn put_copies(
     newest: &[u64],
     stamps: &[u64],
     shape: VersionShape,
-    since: Since,
+    since: Option<After>,
     upload: Upload,
 ) -> usize
     requires { (is_shape shape ≡ true) × SinceFits since shape newest.now stamps.now

@@ -1,15 +1,12 @@
 // What a plan goes by.
 
-// What bounds the copies, where both are known: where the texture's history begins in `newest` and in the stamps, and the writes that
-// the new version holds.
+// What bounds the copies of a history whose held writes are known: where it begins in `newest` and in the stamps, and the writes that the
+// new version holds.
 #[derive(Clone, Copy)]
-pub enum Since {
-    After {
-        grid: usize,
-        stamp: usize,
-        held: u64,
-    },
-    Nothing,
+pub struct After {
+    pub grid: usize,
+    pub stamp: usize,
+    pub held: u64,
 }
 
 // The subresource that the upload writes, and whether it covers it whole.

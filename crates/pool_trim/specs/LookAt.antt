@@ -48,19 +48,7 @@ look_at now c textures spares i first =
 
 -- the record after it: its grids and stamps begin behind those of the textures that stay before it
 unfoldable pub looked_record : Look → Pass → TextureRecord → TextureRecord
-looked_record look pass t = record {
-  id = t.id;
-  shape = t.shape;
-  epoch = t.epoch;
-  history = t.history;
-  birth = t.birth;
-  rename = t.rename;
-  due = look.due;
-  spares = look.own - look.aged;
-  bytes = t.bytes;
-  grid = pass.grids;
-  stamp = pass.stamps;
-}
+looked_record look pass t = record t { due = look.due; spares = look.own - look.aged; grid = pass.grids; stamp = pass.stamps }
 
 -- written behind those that stay
 unfoldable pub looked_put : List ℕ → ℕ → Look → Pass → List ℕ

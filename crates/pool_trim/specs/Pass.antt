@@ -28,22 +28,15 @@ pass_on pass look = record {
 }
 
 unfoldable pub counts_trimmed : Counts → Pass → Counts
-counts_trimmed c pass = record {
+counts_trimmed c pass = record c {
   tracked = pass.tracked;
   kept = pass.kept;
   grids = pass.grids;
   stamps = pass.stamps;
-  head = c.head;
-  popped = c.popped;
-  queued = c.queued;
-  first = c.first;
   doomed = c.doomed + pass.count;
   since = c.since + pass.count;
-  trackings = c.trackings;
   parked = c.parked - pass.freed;
   dooming = c.dooming + pass.freed;
-  cap = c.cap;
-  line = c.line;
 }
 
 -- ---- the pool

@@ -2,16 +2,10 @@
 ghost use Rattle.pool_memory.specs.Lent.{at_entry};
 ghost use Rattle.pool.specs.Queries.{tile_told, DirtyTileOn};
 
-use grid_stamps::DirtyTile;
+use grid_shapes::Refusal;
+use grid_stamps::Tile;
 use pool_formed::is_pool;
 use pool_memory::{PacingBook, Pool};
-
-#[derive(Clone, Copy)]
-pub enum DirtyAnswer {
-    Tile { column: u64, row: u64 },
-    NoTile,
-    NoPool,
-}
 
 // Some tile of a subresource stamped above `held`, or none if there is none.
 pub fn dirty_tile(
@@ -27,19 +21,15 @@ pub fn dirty_tile(
     slice: u64,
     level: u64,
     held: u64,
-) -> DirtyAnswer
+) -> Result<Option<Tile>, Refusal>
     ensures { DirtyTileOn (at_entry pool book textures.now retiring.now doomed.now spares.now newest.now stamps.now) id slice level held (tile_told result) }
 {
     if !is_pool(
         pool, book, textures, retiring, doomed, spares, newest, stamps,
     ) {
-        return DirtyAnswer::NoPool;
+        return Err(Refusal::NoPool);
     }
-    let tile = pool_note_write::dirty_tile(
+    Ok(pool_note_write::dirty_tile(
         pool, book, textures, retiring, doomed, spares, newest, stamps, id, slice, level, held,
-    );
-    match tile {
-        DirtyTile::At { column, row } => DirtyAnswer::Tile { column, row },
-        DirtyTile::NoTile => DirtyAnswer::NoTile,
-    }
+    ))
 }

@@ -4,9 +4,10 @@ ghost use Rattle.pool_memory.specs.Lent.{at_entry, at_exit};
 ghost use Rattle.pool_memory.specs.Calls.{drain_versions_on};
 ghost use Rattle.pool_take_doomed.specs.Answer.{handed_told};
 
+use grid_shapes::Refusal;
 use pool_formed::is_pool;
 use pool_memory::{PacingBook, Pool};
-use pool_take_doomed::{DrainAnswer, Handed};
+use pool_take_doomed::DrainAnswer;
 
 // Hands back every version but the one in the hand.
 pub fn drain_versions(
@@ -29,7 +30,7 @@ pub fn drain_versions(
         return DrainAnswer {
             pool,
             book,
-            handed: Handed::Refused(1),
+            handed: Err(Refusal::NoPool),
         };
     }
     pool_take_doomed::drain_versions(

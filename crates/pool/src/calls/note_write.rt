@@ -1,8 +1,10 @@
 // note_write, on any memory: a write to one subresource.
 ghost use Rattle.std.specs.Prelude.{◌≡◌};
 ghost use Rattle.pool_memory.specs.Lent.{at_entry, at_exit};
+ghost use Rattle.grid_shapes.specs.Outcomes.{outcome_number};
 ghost use Rattle.pool_memory.specs.Calls.{told_number, note_write_on};
 
+use grid_shapes::Refusal;
 use grid_rects::TexelRect;
 use pool_formed::is_pool;
 use pool_memory::{DoneAnswer, PacingBook, Pool};
@@ -22,13 +24,13 @@ pub fn note_write(
     level: u64,
     rect: TexelRect,
 ) -> DoneAnswer
-    ensures { (told_number result.outcome, at_exit result.pool book textures.new retiring.now doomed.now spares.now newest.new stamps.new)
+    ensures { (told_number (outcome_number result.outcome), at_exit result.pool book textures.new retiring.now doomed.now spares.now newest.new stamps.new)
         ≡ note_write_on (at_entry pool book textures.old retiring.now doomed.now spares.now newest.old stamps.old) id slice level rect }
 {
     if !is_pool(
         pool, book, textures, retiring, doomed, spares, newest, stamps,
     ) {
-        return DoneAnswer { pool, outcome: 1 };
+        return DoneAnswer { pool, outcome: Err(Refusal::NoPool) };
     }
     pool_note_write::note_write(
         pool, book, textures, retiring, doomed, spares, newest, stamps, id, slice, level, rect,

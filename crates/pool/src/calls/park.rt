@@ -1,8 +1,10 @@
 // park, on any memory: the version in the hand becomes a spare, or is queued for destruction.
 ghost use Rattle.std.specs.Prelude.{◌≡◌};
 ghost use Rattle.pool_memory.specs.Lent.{at_entry, at_exit};
+ghost use Rattle.grid_shapes.specs.Outcomes.{outcome_number};
 ghost use Rattle.pool_memory.specs.Calls.{told_number, park_on};
 
+use grid_shapes::Refusal;
 use pool_formed::is_pool;
 use pool_memory::{DoneAnswer, PacingBook, Pool};
 
@@ -19,13 +21,13 @@ pub fn park(
     failed: u64,
     current: u64,
 ) -> DoneAnswer
-    ensures { (told_number result.outcome, at_exit result.pool book textures.new retiring.now doomed.new spares.new newest.now stamps.now)
+    ensures { (told_number (outcome_number result.outcome), at_exit result.pool book textures.new retiring.now doomed.new spares.new newest.now stamps.now)
         ≡ park_on (at_entry pool book textures.old retiring.now doomed.old spares.old newest.now stamps.now) failed current }
 {
     if !is_pool(
         pool, book, textures, retiring, doomed, spares, newest, stamps,
     ) {
-        return DoneAnswer { pool, outcome: 1 };
+        return DoneAnswer { pool, outcome: Err(Refusal::NoPool) };
     }
     pool_park::park(
         pool, book, textures, retiring, doomed, spares, newest, stamps, failed, current,

@@ -3,14 +3,9 @@ ghost use Rattle.std.specs.Prelude.{◌≡◌};
 ghost use Rattle.pool_memory.specs.Lent.{at_entry};
 ghost use Rattle.pool.specs.Queries.{bytes_told, parked_bytes_on};
 
+use grid_shapes::Refusal;
 use pool_formed::is_pool;
 use pool_memory::{PacingBook, Pool};
-
-#[derive(Clone, Copy)]
-pub enum BytesAnswer {
-    Bytes(u64),
-    NoPool,
-}
 
 // Bytes of all spares.
 pub fn parked_bytes(
@@ -22,13 +17,13 @@ pub fn parked_bytes(
     spares: &[u64],
     newest: &[u64],
     stamps: &[u64],
-) -> BytesAnswer
+) -> Result<u64, Refusal>
     ensures { bytes_told result ≡ parked_bytes_on (at_entry pool book textures.now retiring.now doomed.now spares.now newest.now stamps.now) }
 {
     if !is_pool(
         pool, book, textures, retiring, doomed, spares, newest, stamps,
     ) {
-        return BytesAnswer::NoPool;
+        return Err(Refusal::NoPool);
     }
-    BytesAnswer::Bytes(pool.parked)
+    Ok(pool.parked)
 }

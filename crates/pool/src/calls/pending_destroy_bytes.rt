@@ -3,7 +3,7 @@ ghost use Rattle.std.specs.Prelude.{◌≡◌};
 ghost use Rattle.pool_memory.specs.Lent.{at_entry};
 ghost use Rattle.pool.specs.Queries.{bytes_told, pending_destroy_bytes_on};
 
-use crate::calls::parked_bytes::BytesAnswer;
+use grid_shapes::Refusal;
 use pool_formed::is_pool;
 use pool_memory::{PacingBook, Pool};
 
@@ -17,13 +17,13 @@ pub fn pending_destroy_bytes(
     spares: &[u64],
     newest: &[u64],
     stamps: &[u64],
-) -> BytesAnswer
+) -> Result<u64, Refusal>
     ensures { bytes_told result ≡ pending_destroy_bytes_on (at_entry pool book textures.now retiring.now doomed.now spares.now newest.now stamps.now) }
 {
     if !is_pool(
         pool, book, textures, retiring, doomed, spares, newest, stamps,
     ) {
-        return BytesAnswer::NoPool;
+        return Err(Refusal::NoPool);
     }
-    BytesAnswer::Bytes(pool.dooming)
+    Ok(pool.dooming)
 }

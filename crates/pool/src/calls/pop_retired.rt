@@ -4,9 +4,10 @@ ghost use Rattle.pool_memory.specs.Lent.{at_entry, at_exit};
 ghost use Rattle.pool_memory.specs.Calls.{pop_retired_on};
 ghost use Rattle.pool_retire.specs.Answers.{popped_told};
 
+use grid_shapes::Refusal;
 use pool_formed::is_pool;
 use pool_memory::{PacingBook, Pool};
-use pool_retire::{PopAnswer, Popped};
+use pool_retire::PopAnswer;
 
 // Puts the queue's front in the hand if its submission is settled.
 pub fn pop_retired(
@@ -28,7 +29,7 @@ pub fn pop_retired(
     ) {
         return PopAnswer {
             pool,
-            popped: Popped::Refused(1),
+            popped: Err(Refusal::NoPool),
         };
     }
     pool_retire::pop_retired(

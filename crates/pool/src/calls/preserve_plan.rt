@@ -4,10 +4,9 @@ ghost use Rattle.pool_memory.specs.Lent.{at_entry};
 ghost use Rattle.pool_memory.specs.Calls.{preserve_plan_on};
 ghost use Rattle.pool_preserve_plan.specs.PreservePlan.{planned_told};
 
-use grid_shapes::VersionShape;
+use grid_shapes::{Refusal, VersionShape};
 use pool_formed::is_pool;
 use pool_memory::{PacingBook, Pool};
-use pool_preserve_plan::PlanAnswer;
 use pool_rules::Held;
 
 // The copies that bring a rename's new version up to the live one, written to the buffer.
@@ -27,7 +26,7 @@ pub fn preserve_plan(
     slice: u64,
     level: u64,
     cover: bool,
-) -> PlanAnswer
+) -> Result<usize, Refusal>
     ensures { (planned_told result, (buffer.new, at_entry pool book textures.now retiring.now doomed.now spares.now newest.now stamps.now))
         ≡ preserve_plan_on (at_entry pool book textures.now retiring.now doomed.now spares.now newest.now stamps.now) buffer.old id shape held
         (record { slice = slice; level = level; cover = cover }) }
@@ -35,7 +34,7 @@ pub fn preserve_plan(
     if !is_pool(
         pool, book, textures, retiring, doomed, spares, newest, stamps,
     ) {
-        return PlanAnswer::Refused(1);
+        return Err(Refusal::NoPool);
     }
     pool_preserve_plan::preserve_plan(
         pool, book, textures, retiring, doomed, spares, newest, stamps, buffer, id, shape, held,

@@ -3,14 +3,9 @@ ghost use Rattle.std.specs.Prelude.{◌≡◌};
 ghost use Rattle.pool_memory.specs.Lent.{at_entry};
 ghost use Rattle.pool.specs.Queries.{records_told, records_writes_on};
 
+use grid_shapes::Refusal;
 use pool_formed::is_pool;
 use pool_memory::{PacingBook, Pool};
-
-#[derive(Clone, Copy)]
-pub enum RecordsAnswer {
-    Records(bool),
-    NoPool,
-}
 
 // Whether the texture keeps a history of its writes.
 pub fn records_writes(
@@ -23,16 +18,15 @@ pub fn records_writes(
     newest: &[u64],
     stamps: &[u64],
     id: u64,
-) -> RecordsAnswer
+) -> Result<bool, Refusal>
     ensures { records_told result ≡ records_writes_on (at_entry pool book textures.now retiring.now doomed.now spares.now newest.now stamps.now) id }
 {
     if !is_pool(
         pool, book, textures, retiring, doomed, spares, newest, stamps,
     ) {
-        return RecordsAnswer::NoPool;
+        return Err(Refusal::NoPool);
     }
-    let records = pool_note_write::records_writes(
+    Ok(pool_note_write::records_writes(
         pool, book, textures, retiring, doomed, spares, newest, stamps, id,
-    );
-    RecordsAnswer::Records(records)
+    ))
 }

@@ -4,9 +4,10 @@ ghost use Rattle.pool_memory.specs.Lent.{at_entry, at_exit};
 ghost use Rattle.pool_memory.specs.Calls.{take_doomed_on};
 ghost use Rattle.pool_take_doomed.specs.Answer.{handed_told};
 
+use grid_shapes::Refusal;
 use pool_formed::is_pool;
 use pool_memory::{PacingBook, Pool};
-use pool_take_doomed::{DrainAnswer, Handed};
+use pool_take_doomed::DrainAnswer;
 
 // Hands back the next batch of versions to destroy.
 pub fn take_doomed(
@@ -29,7 +30,7 @@ pub fn take_doomed(
         return DrainAnswer {
             pool,
             book,
-            handed: Handed::Refused(1),
+            handed: Err(Refusal::NoPool),
         };
     }
     pool_take_doomed::take_doomed(

@@ -4,10 +4,10 @@ ghost use Rattle.pool_memory.specs.Lent.{at_entry, at_exit};
 ghost use Rattle.pool_memory.specs.Calls.{take_spare_on};
 ghost use Rattle.pool_take_spare.specs.Answer.{taken_told};
 
-use grid_shapes::VersionShape;
+use grid_shapes::{Refusal, VersionShape};
 use pool_formed::is_pool;
 use pool_memory::{PacingBook, Pool};
-use pool_take_spare::{TakeAnswer, Taken};
+use pool_take_spare::TakeAnswer;
 
 // Starts a rename: the texture's newest spare, if it has one.
 pub fn take_spare(
@@ -32,7 +32,7 @@ pub fn take_spare(
     ) {
         return TakeAnswer {
             pool,
-            taken: Taken::Refused(1),
+            taken: Err(Refusal::NoPool),
         };
     }
     pool_take_spare::take_spare(

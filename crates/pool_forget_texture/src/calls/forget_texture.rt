@@ -2,6 +2,7 @@
 ghost use Rattle.std.specs.Prelude.{◌≡◌, true};
 ghost use Rattle.pool_memory.specs.Lent.{lent, lent_by};
 ghost use Rattle.pool_memory.specs.IsPool.{is_pool};
+ghost use Rattle.grid_shapes.specs.Outcomes.{outcome_number};
 ghost use Rattle.pool_memory.specs.Calls.{told_number, forget_texture_on};
 
 use crate::moves::move_down;
@@ -27,7 +28,7 @@ pub fn forget_texture(
 ) -> DoneAnswer
     requires { is_pool (lent_by pool book textures.old retiring.now doomed.old spares.old newest.old stamps.old) ≡ true }
     ensures { (
-      told_number result.outcome,
+      told_number (outcome_number result.outcome),
       lent result.pool book textures.new retiring.now doomed.new spares.new
           newest.new stamps.new,
     )
@@ -37,7 +38,7 @@ pub fn forget_texture(
     let tracked = pool.tracked;
     let i = find_texture(textures, tracked, id);
     if !has_id(textures, tracked, i, id) {
-        return DoneAnswer { pool, outcome: 0 };
+        return DoneAnswer { pool, outcome: Ok(()) };
     }
     let own = owned_at(pool, textures, i);
     let places = retiring.len() / RETIRING_STRIDE;
@@ -59,6 +60,6 @@ pub fn forget_texture(
     remove_record(textures, tracked, i, own);
     DoneAnswer {
         pool: counts_without(pool, own),
-        outcome: 0,
+        outcome: Ok(()),
     }
 }

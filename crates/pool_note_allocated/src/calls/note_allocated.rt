@@ -4,21 +4,23 @@ ghost use Rattle.pool_rules.specs.declared.budget.VersionBudget.{VersionBudget};
 ghost use Rattle.pool_rules.specs.NoteAllocated.{pressed_after};
 ghost use Rattle.pool_memory.specs.Lent.{lent_by, at_entry, at_exit};
 ghost use Rattle.pool_memory.specs.IsPool.{is_pool};
+ghost use Rattle.grid_shapes.specs.Outcomes.{outcome_number};
 ghost use Rattle.pool_memory.specs.Calls.{told_number, note_allocated_on};
 ghost use Rattle.pool_note_allocated.specs.NoteAllocated.{counts_relieved, noted_book};
 ghost use Rattle.pool_rules.specs.RuleConstants.{most_places};
 
 use crate::relieve::relieve;
+use grid_shapes::Refusal;
 use pool_memory::{PacingBook, Pool};
 use pool_relief_line::{bytes_before, parking_line};
 use pool_rules::VersionBudget;
 
-// The pool and the book after the call, and 01's number: it is 0 on every pool.
+// The pool and the book after the call, and whether it was accepted: it is on every pool.
 #[derive(Clone, Copy)]
 pub struct NotedAnswer {
     pub pool: Pool,
     pub book: PacingBook,
-    pub outcome: u64,
+    pub outcome: Result<(), Refusal>,
 }
 
 // Tells whether the mark is set then: it is set above the line, released below `resume_below`, and otherwise as it was, so that a
@@ -78,7 +80,7 @@ pub fn note_allocated(
     allocated: u64,
 ) -> NotedAnswer
     requires { is_pool (lent_by pool book textures.old retiring.now doomed.old spares.old newest.now stamps.now) ≡ true }
-    ensures { (told_number result.outcome, at_exit result.pool result.book textures.new retiring.now doomed.new spares.new newest.now stamps.now)
+    ensures { (told_number (outcome_number result.outcome), at_exit result.pool result.book textures.new retiring.now doomed.new spares.new newest.now stamps.now)
         ≡ note_allocated_on (at_entry pool book textures.old retiring.now doomed.old spares.old newest.now stamps.now) allocated }
 {
     let after = noted(pool, book, allocated);
@@ -87,7 +89,7 @@ pub fn note_allocated(
         return NotedAnswer {
             pool,
             book: after,
-            outcome: 0,
+            outcome: Ok(()),
         };
     }
     let line = parking_line(textures, pool.tracked, spares, pool.dooming, excess);
@@ -98,6 +100,6 @@ pub fn note_allocated(
     NotedAnswer {
         pool: counts_after(pool, relief.kept, relief.bytes),
         book: after,
-        outcome: 0,
+        outcome: Ok(()),
     }
 }

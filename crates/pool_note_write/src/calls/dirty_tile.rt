@@ -62,10 +62,7 @@ pub fn dirty_tile(
 {
     let tracked = pool.tracked;
     let i = find_texture(textures, tracked, id);
-    let history = history_at(textures, tracked, i, id);
-    let Some(_) = history else {
-        return None;
-    };
+    history_at(textures, tracked, i, id)?;
     let t = texture_at(textures, i);
     if !in_shape(t.shape, slice, level) {
         return None;

@@ -5,24 +5,17 @@ ghost use Rattle.pool_memory.specs.IsPool.{is_pool};
 ghost use Rattle.pool_memory.specs.Calls.{preserve_plan_on};
 ghost use Rattle.pool_preserve_plan.specs.PreservePlan.{planned_told};
 
+use crate::check_plan::check_plan;
 use crate::history::{find_history, since_of};
-use crate::plan_refusal::plan_refusal;
 use crate::put_copies::put_copies;
 use crate::since::Upload;
-use grid_shapes::VersionShape;
+use grid_shapes::{Refusal, VersionShape};
 use pool_memory::{COPY_STRIDE, PacingBook, Pool};
 use pool_rules::Held;
 
-// How many copies stand in the answer buffer, or 01's number of a refusal. A copy is seven numbers: slice, level, whole or not,
-// left, top, width, height.
-#[derive(Clone, Copy)]
-pub enum PlanAnswer {
-    Copies(usize),
-    Refused(u64),
-}
-
 // Plans the copies that bring a version with these held writes up to the live one, before an upload to a slice's level that covers
-// it or not. A fresh allocation holds nothing known, so that every level is copied whole. It alters nothing but the buffer.
+// it or not. A fresh allocation holds nothing known, so that every level is copied whole. It alters nothing but the buffer. Returns how
+// many copies stand in the buffer, each seven numbers: slice, level, whole or not, left, top, width, height.
 pub fn preserve_plan(
     pool: Pool,
     book: PacingBook,
@@ -39,7 +32,7 @@ pub fn preserve_plan(
     slice: u64,
     level: u64,
     cover: bool,
-) -> PlanAnswer
+) -> Result<usize, Refusal>
     requires { is_pool (lent_by pool book textures.now retiring.now doomed.now spares.now newest.now stamps.now) ≡ true }
     ensures { (planned_told result, (buffer.new, at_entry pool book textures.now retiring.now doomed.now spares.now newest.now stamps.now))
         ≡ preserve_plan_on (at_entry pool book textures.now retiring.now doomed.now spares.now newest.now stamps.now)
@@ -54,10 +47,7 @@ pub fn preserve_plan(
         cover,
     };
     let room = buffer.len() / COPY_STRIDE;
-    let why = plan_refusal(newest, stamps, shape, found, since, upload, room);
-    if why != 0 {
-        return PlanAnswer::Refused(why);
-    }
+    check_plan(newest, stamps, shape, found, since, upload, room)?;
     let count = put_copies(buffer, newest, stamps, shape, since, upload);
-    PlanAnswer::Copies(count)
+    Ok(count)
 }

@@ -4,12 +4,12 @@ ghost use Rattle.pool_memory.specs.Lent.{lent_by, at_entry};
 ghost use Rattle.pool_memory.specs.IsPool.{is_pool};
 ghost use Rattle.pool_sheet.specs.PrintSheet.{sheet_told, print_sheet_on};
 
-use crate::answer::SheetAnswer;
 use crate::lines::{LINE_BYTES, put_head, put_textures, put_totals};
+use grid_shapes::Refusal;
 use pool_memory::{PacingBook, Pool};
 
 // Prints the sheet at the front of the buffer: a line for each texture between a head line and one of totals. The totals are the pool's own
-// counts, so that nothing is added up.
+// counts, so that nothing is added up. Answers how many bytes the sheet has, or that the buffer is shorter.
 pub fn print_sheet(
     pool: Pool,
     book: PacingBook,
@@ -20,7 +20,7 @@ pub fn print_sheet(
     newest: &[u64],
     stamps: &[u64],
     buffer: &mut [u8],
-) -> SheetAnswer
+) -> Result<usize, Refusal>
     requires { is_pool (lent_by pool book textures.now retiring.now doomed.now spares.now newest.now stamps.now) ≡ true }
     ensures { (sheet_told result, buffer.new)
         ≡ print_sheet_on (at_entry pool book textures.now retiring.now doomed.now spares.now newest.now stamps.now) buffer.old }
@@ -28,7 +28,7 @@ pub fn print_sheet(
     let tracked = pool.tracked;
     let size = LINE_BYTES * (tracked + 2);
     if buffer.len() < size {
-        return SheetAnswer::ShortBuffer;
+        return Err(Refusal::ShortAnswer);
     }
     put_head(buffer);
     put_textures(buffer, LINE_BYTES, textures, tracked);
@@ -38,5 +38,5 @@ pub fn print_sheet(
         pool.kept as u64,
         pool.parked,
     );
-    SheetAnswer::Printed(size)
+    Ok(size)
 }

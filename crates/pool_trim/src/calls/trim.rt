@@ -6,6 +6,7 @@ ghost use Rattle.base_blocks.specs.Blocks.{moved};
 ghost use Rattle.pool_memory.specs.Lent.{lent, lent_by, at_exit};
 ghost use Rattle.pool_memory.specs.IsPool.{is_pool};
 ghost use Rattle.pool_memory.specs.Writing.{lent_after};
+ghost use Rattle.grid_shapes.specs.Outcomes.{outcome_number};
 ghost use Rattle.pool_memory.specs.Calls.{told_number, trim_on};
 ghost use Rattle.pool_trim.specs.LookAt.{looked_put};
 ghost use Rattle.pool_trim.specs.Pass.{trimmed};
@@ -14,6 +15,7 @@ ghost use Rattle.pool_records.specs.RecordConstants.{texture_stride};
 use crate::look_at::{Look, look_at};
 use crate::nothing_aged::nothing_aged;
 use crate::pass::{Pass, counts_after, pass_on};
+use grid_shapes::Refusal;
 use pool_access::{put_texture, texture_at};
 use pool_forget_texture::move_down;
 use pool_memory::{DoneAnswer, PacingBook, Pool};
@@ -129,7 +131,7 @@ pub fn trim(
 ) -> DoneAnswer
     requires { is_pool (lent_by pool book textures.old retiring.now doomed.old spares.old newest.old stamps.old) ≡ true }
     ensures { (
-      told_number result.outcome,
+      told_number (outcome_number result.outcome),
       lent result.pool book textures.new retiring.now doomed.new spares.new
           newest.new stamps.new,
     )
@@ -137,16 +139,16 @@ pub fn trim(
         newest.old stamps.old) current }
 {
     if current > LIMIT {
-        return DoneAnswer { pool, outcome: 3 };
+        return DoneAnswer { pool, outcome: Err(Refusal::BadSubmission) };
     }
     if nothing_aged(textures, spares, pool.tracked, current) {
-        return DoneAnswer { pool, outcome: 0 };
+        return DoneAnswer { pool, outcome: Ok(()) };
     }
     let counts = trim_textures(
         pool, book, textures, retiring, doomed, spares, newest, stamps, current,
     );
     DoneAnswer {
         pool: counts,
-        outcome: 0,
+        outcome: Ok(()),
     }
 }

@@ -3,7 +3,7 @@ use mathlib.Core.Path.{◌≡◌, sym, ◌∙◌}
 use mathlib.Core.Bool.{true}
 use Prim.Native.Nat.{ℕ, ◌<◌}
 use borrow.Author.Tests.{not-true, not-false}
-use Rattle.pool_records.specs.declared.recorded.Recorded.TheVariants.{Writes, NoHistory}
+use Rattle.std.specs.Prelude.{Some, None}
 use Rattle.pool_access.proofs.Ids as ids
 use Rattle.pool_preserve_plan.proofs.Finding.{found_none, found_other, found_recorded, found_place}
 use Rattle.pool_records.specs.Find.{has_id}
@@ -39,7 +39,7 @@ pub returns-in_default : goal.returns-in_default
 returns-in_default c =
     let a = c.args in
     sym (found_recorded a.textures.now a.tracked a.id a.shape (at (goal.at.returns-in_default c).After-has_id) c.texture_at-t.result c.texture_at-t.ensures
-    (sym c.has_id.ensures ∙ not-false _ c.if-not-has_id.false-raw) NoHistory
+    (sym c.has_id.ensures ∙ not-false _ c.if-not-has_id.false-raw) None
     (sym c.same_shape.ensures ∙ not-false _ c.if-not-same_shape.false-raw)
     c.in_default.is)
     ∙ placed (goal.at.returns-in_default c).After-has_id
@@ -48,7 +48,7 @@ pub returns : goal.returns
 returns c =
     let a = c.args in
     sym (found_recorded a.textures.now a.tracked a.id a.shape (at (goal.at.returns c).After-has_id) c.texture_at-t.result c.texture_at-t.ensures
-    (sym c.has_id.ensures ∙ not-false _ c.if-not-has_id.false-raw) (Writes c.in-Writes.writes)
+    (sym c.has_id.ensures ∙ not-false _ c.if-not-has_id.false-raw) (Some c.in-Some.writes)
     (sym c.same_shape.ensures ∙ not-false _ c.if-not-same_shape.false-raw)
-    c.in-Writes.is)
+    c.in-Some.is)
     ∙ placed (goal.at.returns c).After-has_id

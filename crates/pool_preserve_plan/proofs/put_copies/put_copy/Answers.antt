@@ -19,14 +19,14 @@ returns-in_default c =
 pub put_record-requires : goal.put_record-requires
 put_record-requires c =
     let a = c.args in
-    let e = list_one a.planned c.in-Copied.region a.slice a.level c.in-Copied.is in
-    omega (arith, c.requires, ap length e, ap length c.copy_numbers-numbers.ensures, copy_long (record { slice = a.slice; level = a.level; region = c.in-Copied.region }))
+    let e = list_one a.planned c.in-Some.region a.slice a.level c.in-Some.is in
+    omega (arith, c.requires, ap length e, ap length c.copy_numbers-numbers.ensures, copy_long (record { slice = a.slice; level = a.level; region = c.in-Some.region }))
 
 pub returns : goal.returns
 returns c =
     let a = c.args in
-    let copy : PreserveCopy = record { slice = a.slice; level = a.level; region = c.in-Copied.region } in
-    let e = list_one a.planned c.in-Copied.region a.slice a.level c.in-Copied.is in (
+    let copy : PreserveCopy = record { slice = a.slice; level = a.level; region = c.in-Some.region } in
+    let e = list_one a.planned c.in-Some.region a.slice a.level c.in-Some.is in (
       omega (arith, ap length e),
       c.put_record.ensures
           ∙ ap (sets a.buffer.now (copy_stride * a.at)) c.copy_numbers-numbers.ensures

@@ -2,7 +2,7 @@
 use borrow.Author.Tests.{not-true, not-false}
 use mathlib.Core.Path.{sym, ◌∙◌}
 use Rattle.pool_memory.specs.Lent.{lent}
-use Rattle.pool.proofs.Asking.{no_tile, tile_as}
+use Rattle.pool.proofs.Asking.{no_tile, tile_said}
 use Rattle.pool.proofs.calls.dirty_tile.dirty_tile.Goals as goal
 
 pub returns-then-not-is_pool : goal.returns-then-not-is_pool
@@ -10,15 +10,10 @@ returns-then-not-is_pool c =
     let a = c.args in
     no_tile (lent a.pool a.book a.textures.now a.retiring.now a.doomed.now a.spares.now a.newest.now a.stamps.now) (sym c.is_pool.ensures ∙ not-true _ c.if-not-is_pool.true-raw) a.id a.slice a.level a.held
 
-pub dirty_tile-tile-requires : goal.dirty_tile-tile-requires
-dirty_tile-tile-requires c = sym c.is_pool.ensures ∙ not-false _ c.if-not-is_pool.false-raw
+pub dirty_tile-requires : goal.dirty_tile-requires
+dirty_tile-requires c = sym c.is_pool.ensures ∙ not-false _ c.if-not-is_pool.false-raw
 
-pub returns-in-At : goal.returns-in-At
-returns-in-At c =
+pub returns : goal.returns
+returns c =
     let a = c.args in
-    tile_as (lent a.pool a.book a.textures.now a.retiring.now a.doomed.now a.spares.now a.newest.now a.stamps.now) (sym c.is_pool.ensures ∙ not-false _ c.if-not-is_pool.false-raw) a.id a.slice a.level a.held c.dirty_tile-tile.result _ c.in-At.is c.dirty_tile-tile.ensures
-
-pub returns-in-NoTile : goal.returns-in-NoTile
-returns-in-NoTile c =
-    let a = c.args in
-    tile_as (lent a.pool a.book a.textures.now a.retiring.now a.doomed.now a.spares.now a.newest.now a.stamps.now) (sym c.is_pool.ensures ∙ not-false _ c.if-not-is_pool.false-raw) a.id a.slice a.level a.held c.dirty_tile-tile.result _ c.in-NoTile.is c.dirty_tile-tile.ensures
+    tile_said (lent a.pool a.book a.textures.now a.retiring.now a.doomed.now a.spares.now a.newest.now a.stamps.now) (sym c.is_pool.ensures ∙ not-false _ c.if-not-is_pool.false-raw) a.id a.slice a.level a.held c.dirty_tile.result c.dirty_tile.ensures

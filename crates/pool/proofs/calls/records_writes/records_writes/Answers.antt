@@ -10,10 +10,10 @@ returns-then-not-is_pool c =
     let a = c.args in
     no_records (lent a.pool a.book a.textures.now a.retiring.now a.doomed.now a.spares.now a.newest.now a.stamps.now) (sym c.is_pool.ensures ∙ not-true _ c.if-not-is_pool.true-raw) a.id
 
-pub records_writes-records-requires : goal.records_writes-records-requires
-records_writes-records-requires c = sym c.is_pool.ensures ∙ not-false _ c.if-not-is_pool.false-raw
+pub records_writes-requires : goal.records_writes-requires
+records_writes-requires c = sym c.is_pool.ensures ∙ not-false _ c.if-not-is_pool.false-raw
 
 pub returns : goal.returns
 returns c =
     let a = c.args in
-    records_said (lent a.pool a.book a.textures.now a.retiring.now a.doomed.now a.spares.now a.newest.now a.stamps.now) (sym c.is_pool.ensures ∙ not-false _ c.if-not-is_pool.false-raw) a.id c.records_writes-records.result c.records_writes-records.ensures
+    records_said (lent a.pool a.book a.textures.now a.retiring.now a.doomed.now a.spares.now a.newest.now a.stamps.now) (sym c.is_pool.ensures ∙ not-false _ c.if-not-is_pool.false-raw) a.id c.records_writes.result c.records_writes.ensures

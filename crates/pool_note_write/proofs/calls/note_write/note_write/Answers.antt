@@ -32,19 +32,22 @@ module _ (c : In-Some) where
   abbrev count : ℕ
   count = c.in-Some.n
 
-  recording : Recording (here c.before.before.before.before.before.before.before.before.before.before) (fit c.before.before.before.before.before.before.before.before.before.before) c.args.id count
+  abbrev l : Lent
+  l = let a = c.args in lent a.pool a.book a.textures.now a.retiring.now a.doomed.now a.spares.now a.newest.now a.stamps.now
+
+  recording : Recording l (pool_fits l c.requires) c.args.id count
   recording =
-      told (here c.before.before.before.before.before.before.before.before.before.before) (fit c.before.before.before.before.before.before.before.before.before.before) c.args.id c.find_texture-i.result c.find_texture-i.ensures c.history_at-history.result (Some count)
+      told l (pool_fits l c.requires) c.args.id c.find_texture-i.result c.find_texture-i.ensures c.history_at-history.result (Some count)
       c.history_at-history.ensures c.in-Some.is
 
   held : HistoryAt c.args.textures.now c.args.newest.now c.args.stamps.now c.find_texture-i.result
-  held = history_here (here c.before.before.before.before.before.before.before.before.before.before) (fit c.before.before.before.before.before.before.before.before.before.before) c.args.id c.find_texture-i.result c.find_texture-i.ensures count recording
+  held = history_here l (pool_fits l c.requires) c.args.id c.find_texture-i.result c.find_texture-i.ensures count recording
 
-  droppable : CanDrop c.args.textures.now c.args.newest.now c.args.stamps.now c.args.pool.tracked (used_in (here c.before.before.before.before.before.before.before.before.before.before))
+  droppable : CanDrop c.args.textures.now c.args.newest.now c.args.stamps.now c.args.pool.tracked (used_in l)
       c.find_texture-i.result
   droppable =
-      can_drop (here c.before.before.before.before.before.before.before.before.before.before) (fit c.before.before.before.before.before.before.before.before.before.before) c.find_texture-i.result
-      (tracked_here (here c.before.before.before.before.before.before.before.before.before.before) (fit c.before.before.before.before.before.before.before.before.before.before) c.args.id c.find_texture-i.result c.find_texture-i.ensures count recording)
+      can_drop l (pool_fits l c.requires) c.find_texture-i.result
+      (tracked_here l (pool_fits l c.requires) c.args.id c.find_texture-i.result c.find_texture-i.ensures count recording)
 
 pub find_texture-i-requires : goal.find_texture-i-requires
 find_texture-i-requires c = (textures_fit_lem (here (goal.at.find_texture-i-requires c).Start) (fit (goal.at.find_texture-i-requires c).Start), ids_ascend (here (goal.at.find_texture-i-requires c).Start) (fit (goal.at.find_texture-i-requires c).Start))

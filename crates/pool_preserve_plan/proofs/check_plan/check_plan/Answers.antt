@@ -1,4 +1,4 @@
--- `plan_refusal` meets its contract. Assumes nothing.
+-- `check_plan` meets its contract. Assumes nothing.
 use mathlib.Core.Path.{◌≡◌, sym, ◌∙◌}
 use mathlib.Core.Bool.{true, false}
 use Prim.Native.Nat.{ℕ}
@@ -8,8 +8,8 @@ use Rattle.grid_shapes.specs.Shapes.{is_shape}
 use Rattle.pool_preserve_plan.specs.Copies.{footprint, lent_copies}
 use Rattle.pool_preserve_plan.proofs.Refusals.{refusal_shape, refusal_other, refusal_short, refusal_spent, refusal_none}
 use Rattle.pool_preserve_plan.specs.PlanRefusal.{is_other}
-use Rattle.pool_preserve_plan.proofs.plan_refusal.plan_refusal.Goals as goal
-use Rattle.pool_preserve_plan.proofs.plan_refusal.plan_refusal.Goals.{Else-is_other, Start}
+use Rattle.pool_preserve_plan.proofs.check_plan.check_plan.Goals as goal
+use Rattle.pool_preserve_plan.proofs.check_plan.check_plan.Goals.{Else-is_other, Start}
 
 -- how many copies
 module _ (c : Start) where

@@ -4,7 +4,7 @@ use native.Mathlib.Omega.{arith}
 use Rattle.pool_rules.proofs.HistorySizes.{grids_most}
 use Rattle.pool_preserve_plan.specs.Copies.{footprint}
 use Rattle.pool_preserve_plan.proofs.Refusals.{room_for_all}
-use Rattle.pool_preserve_plan.proofs.plan_refusal.is_short.Goals as goal
+use Rattle.pool_preserve_plan.proofs.check_plan.is_short.Goals as goal
 
 pub shape_grids-requires : goal.shape_grids-requires
 shape_grids-requires c = omega (arith, grids_most c.args.shape c.requires.0)

@@ -1,13 +1,14 @@
 // What a plan is refused by.
 ghost use Rattle.std.specs.Prelude.{◌≡◌, true, ltb, length};
+ghost use Rattle.grid_shapes.specs.Outcomes.{outcome_number};
 ghost use Rattle.grid_shapes.specs.Shapes.{is_shape};
 ghost use Rattle.pool_preserve_plan.specs.Copies.{SinceFits, footprint, lent_copies};
 ghost use Rattle.pool_preserve_plan.specs.PlanRefusal.{skips_spent, plan_refusal};
 
 use crate::count_copies::count_copies;
 use crate::history::{Found, is_other, is_spent};
-use crate::since::{Since, Upload};
-use grid_shapes::{VersionShape, is_shape, slices};
+use crate::since::{After, Upload};
+use grid_shapes::{Refusal, VersionShape, is_shape, slices};
 use pool_access::shape_grids;
 
 // Tells whether there are more copies than the buffer has room for. They are counted only where that could be: a plan has at most
@@ -16,7 +17,7 @@ fn is_short(
     newest: &[u64],
     stamps: &[u64],
     shape: VersionShape,
-    since: Since,
+    since: Option<After>,
     upload: Upload,
     room: usize,
 ) -> bool
@@ -38,33 +39,33 @@ fn skips_spent(shape: VersionShape, found: Found, upload: Upload) -> bool
     upload.cover & inside & is_spent(found)
 }
 
-// Returns 01's number of the first refusal, or 0.
-pub fn plan_refusal(
+// Refuses no shape, a texture tracked with another shape, more copies than there is room for, and a level left out that could not be counted.
+pub fn check_plan(
     newest: &[u64],
     stamps: &[u64],
     shape: VersionShape,
     found: Found,
-    since: Since,
+    since: Option<After>,
     upload: Upload,
     room: usize,
-) -> u64
+) -> Result<(), Refusal>
     requires { SinceFits since shape newest.now stamps.now }
-    ensures { result ≡ plan_refusal shape found (footprint upload)
+    ensures { outcome_number result ≡ plan_refusal shape found (footprint upload)
         (length (lent_copies newest.now stamps.now shape since (footprint upload))) room }
 {
     if !is_shape(shape) {
-        return 2;
+        return Err(Refusal::BadShape);
     }
     if is_other(found) {
-        return 4;
+        return Err(Refusal::OtherShape);
     }
     let short = is_short(newest, stamps, shape, since, upload, room);
     let spent = skips_spent(shape, found, upload);
     if short {
-        return 11;
+        return Err(Refusal::ShortAnswer);
     }
     if spent {
-        return 12;
+        return Err(Refusal::CounterSpent);
     }
-    0
+    Ok(())
 }
