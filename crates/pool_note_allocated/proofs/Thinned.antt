@@ -25,7 +25,7 @@ use Rattle.pool_records.specs.declared.doomed.DoomedRecord.{DoomedRecord}
 use Rattle.pool_records.specs.Texture.{read_texture, write_texture, texture_in, record_grids, record_stamps}
 use Rattle.pool_records.specs.Spare.{read_spare, write_spare}
 use Rattle.pool_records.specs.Doomed.{write_doomed}
-use Rattle.pool_records.proofs.Codecs.{texture_codec, spare_codec}
+use Rattle.pool_records.specs.Codecs.{texture_codec, spare_codec}
 use Rattle.pool_memory.specs.Lent.{Lent, version_places}
 use Rattle.pool_memory.specs.Reading.{tracked_records, spare_read, state_read, model_of}
 use Rattle.pool_memory.specs.Writing.{texture_record, texture_records, spare_record, doomed_record, every_spare}

@@ -14,7 +14,7 @@ use Rattle.base_tables.specs.Records.{record_at, table, flat}
 use Rattle.base_tables.proofs.Records.{Codec, length_flat, flat_append, flat_table, length_table, record_past}
 use Rattle.pool_records.specs.declared.texture.TextureRecord.{TextureRecord}
 use Rattle.pool_records.specs.Texture.{read_texture, write_texture, texture_in}
-use Rattle.pool_records.proofs.Codecs.{texture_codec}
+use Rattle.pool_records.specs.Codecs.{texture_codec}
 use Rattle.pool_records.specs.RecordConstants.{texture_spares_at, texture_stride}
 
 -- ---- a run of records, written out

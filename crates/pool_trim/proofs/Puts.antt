@@ -12,7 +12,7 @@ use Rattle.base_blocks.proofs.Lists.{and_both}
 use Rattle.base_tables.proofs.Records.{rewritten}
 use Rattle.pool_records.specs.declared.texture.TextureRecord.{TextureRecord}
 use Rattle.pool_records.specs.Texture.{write_texture, texture_in}
-use Rattle.pool_records.proofs.Codecs.{texture_codec}
+use Rattle.pool_records.specs.Codecs.{texture_codec}
 use Rattle.pool_access.proofs.Fields.{spares_number}
 use Rattle.pool_trim.specs.declared.look_at.Look.{Look}
 use Rattle.pool_trim.specs.declared.pass.Pass.{Pass}

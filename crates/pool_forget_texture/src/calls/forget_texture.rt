@@ -38,7 +38,10 @@ pub fn forget_texture(
     let tracked = pool.tracked;
     let i = find_texture(textures, tracked, id);
     if !has_id(textures, tracked, i, id) {
-        return DoneAnswer { pool, outcome: Ok(()) };
+        return DoneAnswer {
+            pool,
+            outcome: Ok(()),
+        };
     }
     let own = owned_at(pool, textures, i);
     let places = retiring.len() / RETIRING_STRIDE;

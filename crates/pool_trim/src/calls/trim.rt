@@ -139,10 +139,16 @@ pub fn trim(
         newest.old stamps.old) current }
 {
     if current > LIMIT {
-        return DoneAnswer { pool, outcome: Err(Refusal::BadSubmission) };
+        return DoneAnswer {
+            pool,
+            outcome: Err(Refusal::BadSubmission),
+        };
     }
     if nothing_aged(textures, spares, pool.tracked, current) {
-        return DoneAnswer { pool, outcome: Ok(()) };
+        return DoneAnswer {
+            pool,
+            outcome: Ok(()),
+        };
     }
     let counts = trim_textures(
         pool, book, textures, retiring, doomed, spares, newest, stamps, current,
