@@ -1,5 +1,6 @@
 -- A pool that was opened is one. Assumes nothing.
 use Rattle.std.proofs.Common.{◌≡◌, ℕ, Bool, true, false, cond, List, sym, refl, ap, ◌∙◌, subst, arith}
+use Rattle.grid_shapes.specs.Outcomes.{outcome_number}
 use Rattle.pool_memory.specs.Lent.{lent}
 use Rattle.pool_memory.specs.IsPool.{is_pool}
 use Rattle.pool_memory.specs.Calls.{opened_pool, opened_book, open_number}
@@ -13,13 +14,8 @@ accepted false e = absurd (omega (arith, e))
 
 module _ (working : ℕ) (textures retiring doomed spares newest stamps : List ℕ) where
   pub opened_forms : (a : OpenAnswer)
-      → a ≡ record {
-        outcome = open_number (lent (opened_pool working) opened_book textures retiring doomed spares newest stamps);
-        pool = opened_pool working;
-        book = opened_book;
-      }
-      → a.outcome ≡ 0 → is_pool (lent a.pool a.book textures retiring doomed spares newest stamps) ≡ true
+      → outcome_number a.outcome ≡ open_number (lent (opened_pool working) opened_book textures retiring doomed spares newest stamps)
+      → a.pool ≡ opened_pool working → a.book ≡ opened_book
+      → outcome_number a.outcome ≡ 0 → is_pool (lent a.pool a.book textures retiring doomed spares newest stamps) ≡ true
   unfolding open_number OpenedIsPool
-  opened_forms a q z =
-      subst (λ (x : OpenAnswer). is_pool (lent x.pool x.book textures retiring doomed spares newest stamps) ≡ true) (sym q)
-      (opened_is_pool working textures retiring doomed spares newest stamps (accepted _ (sym (ap (λ (x : OpenAnswer). x.outcome) q) ∙ z)))
+  opened_forms a o p b z = rw (p, b) (opened_is_pool working textures retiring doomed spares newest stamps (accepted _ (sym o ∙ z)))

@@ -1,16 +1,21 @@
 // What the calls answer, as numbers.
-use pool_preserve_plan::PlanAnswer;
-use pool_retire::Popped;
+use grid_shapes::Refusal;
+use pool_memory::{PoppedVersion, TakenVersion};
 use pool_rules::Held;
-use pool_take_doomed::Handed;
-use pool_take_spare::Taken;
+
+// Returns the number of an outcome: 0, or that of the refusal.
+pub fn outcome_number(outcome: Result<(), Refusal>) -> u64 {
+    match outcome {
+        Ok(()) => 0,
+        Err(refusal) => refusal.number(),
+    }
+}
 
 // Returns the writes that a spare holds as a number: one more than a known count, or 0.
-pub fn held_number(taken: Taken) -> u64 {
+pub fn held_number(taken: Result<Option<TakenVersion>, Refusal>) -> u64 {
     match taken {
-        Taken::Spare { held, .. } => known_number(held),
-        Taken::NoSpare => 0,
-        Taken::Refused(_) => 0,
+        Ok(Some(spare)) => known_number(spare.held),
+        _ => 0,
     }
 }
 
@@ -30,27 +35,15 @@ pub fn held_from(number: u64) -> Held {
     Held::Known(number - 1)
 }
 
-// Returns the number of copies of a plan.
-pub fn copies_number(planned: PlanAnswer) -> u64 {
-    match planned {
-        PlanAnswer::Copies(n) => n as u64,
-        PlanAnswer::Refused(_) => 0,
-    }
+// Returns the number of copies of a plan, or of views that were handed out.
+pub fn entries_number(answered: Result<usize, Refusal>) -> u64 {
+    answered.unwrap_or(0) as u64
 }
 
 // Returns the view of the version popped, or 0.
-pub fn popped_number(popped: Popped) -> u64 {
+pub fn popped_number(popped: Result<Option<PoppedVersion>, Refusal>) -> u64 {
     match popped {
-        Popped::Version { view, .. } => view,
-        Popped::NothingSettled => 0,
-        Popped::Refused(_) => 0,
-    }
-}
-
-// Returns how many views were handed out.
-pub fn handed_number(handed: Handed) -> u64 {
-    match handed {
-        Handed::Views(n) => n as u64,
-        Handed::Refused(_) => 0,
+        Ok(Some(version)) => version.view,
+        _ => 0,
     }
 }

@@ -1,25 +1,13 @@
 // What the calls are asked: flat textures that record their writes.
 ghost use Rattle.std.specs.Prelude.{◌*◌, ◌≤◌};
 
+use bench_common::plain_shape;
 use grid_rects::TexelRect;
 use grid_shapes::VersionShape;
 
 // Returns the shape of a flat square texture.
 fn square(format: u64, extent: u64, levels: u64) -> VersionShape {
-    VersionShape {
-        format,
-        width: extent,
-        height: extent,
-        depth: 1,
-        levels,
-        kind: 0,
-        storage: 0,
-        usage: 0,
-        red: 0,
-        green: 0,
-        blue: 0,
-        alpha: 0,
-    }
+    plain_shape(format, extent, extent, 1, levels, 0)
 }
 
 // Returns the shape of n textures: 64 by 64 texels of four bytes, sixteen tiles; where n is odd, 512 by 512 of one byte, with as many

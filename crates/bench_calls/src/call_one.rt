@@ -3,7 +3,7 @@ ghost use Rattle.std.specs.Prelude.{◌≡◌, true};
 ghost use Rattle.pool_memory.specs.Lent.{lent_by, at_exit};
 ghost use Rattle.pool_memory.specs.IsPool.{is_pool};
 
-use crate::answered::{copies_number, handed_number, held_from, held_number, popped_number};
+use crate::answered::{entries_number, held_from, held_number, outcome_number, popped_number};
 use crate::asked::rect_of;
 use crate::notes::{held_at, id_at, keep_held};
 use crate::phases::Call;
@@ -69,7 +69,7 @@ pub fn call_one(
             Called {
                 pool,
                 book,
-                number: copies_number(said),
+                number: entries_number(said),
             }
         }
         Call::Retire => {
@@ -81,7 +81,7 @@ pub fn call_one(
             Called {
                 pool,
                 book,
-                number: said.outcome,
+                number: outcome_number(said.outcome),
             }
         }
         Call::NoteWrite => {
@@ -94,7 +94,7 @@ pub fn call_one(
             Called {
                 pool,
                 book,
-                number: said.outcome,
+                number: outcome_number(said.outcome),
             }
         }
         Call::PopRetired => {
@@ -117,7 +117,7 @@ pub fn call_one(
             Called {
                 pool,
                 book,
-                number: said.outcome,
+                number: outcome_number(said.outcome),
             }
         }
         // Far below the pressure line.
@@ -130,7 +130,7 @@ pub fn call_one(
             Called {
                 pool,
                 book,
-                number: said.outcome,
+                number: outcome_number(said.outcome),
             }
         }
         Call::TakeDoomed => {
@@ -143,7 +143,7 @@ pub fn call_one(
             Called {
                 pool,
                 book,
-                number: handed_number(handed),
+                number: entries_number(handed),
             }
         }
         Call::Trim => {
@@ -154,7 +154,7 @@ pub fn call_one(
             Called {
                 pool,
                 book,
-                number: said.outcome,
+                number: outcome_number(said.outcome),
             }
         }
         Call::NoteMipRegeneration => {
@@ -166,7 +166,7 @@ pub fn call_one(
             Called {
                 pool,
                 book,
-                number: said.outcome,
+                number: outcome_number(said.outcome),
             }
         }
         Call::DrainVersions => {
@@ -179,7 +179,7 @@ pub fn call_one(
             Called {
                 pool,
                 book,
-                number: handed_number(handed),
+                number: entries_number(handed),
             }
         }
         Call::ForgetTexture => {
@@ -191,7 +191,7 @@ pub fn call_one(
             Called {
                 pool,
                 book,
-                number: said.outcome,
+                number: outcome_number(said.outcome),
             }
         }
     }

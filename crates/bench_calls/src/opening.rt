@@ -1,5 +1,6 @@
 // The pool to begin with.
 ghost use Rattle.std.specs.Prelude.{◌≡◌, true};
+ghost use Rattle.grid_shapes.specs.Outcomes.{outcome_number};
 ghost use Rattle.pool_memory.specs.Lent.{at_exit};
 ghost use Rattle.pool_memory.specs.IsPool.{is_pool};
 
@@ -14,7 +15,7 @@ pub fn open_work(
     newest: &[u64],
     stamps: &[u64],
 ) -> OpenAnswer
-    ensures { result.outcome ≡ 0 → is_pool (at_exit result.pool result.book textures.now retiring.now doomed.now spares.now newest.now stamps.now) ≡ true }
+    ensures { outcome_number result.outcome ≡ 0 → is_pool (at_exit result.pool result.book textures.now retiring.now doomed.now spares.now newest.now stamps.now) ≡ true }
 {
     open(
         17179869184,

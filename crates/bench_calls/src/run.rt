@@ -27,9 +27,9 @@ fn run(
     task: Task,
 ) {
     let opened = open_work(textures, retiring, doomed, spares, newest, stamps);
-    if opened.outcome != 0 {
+    let Ok(()) = opened.outcome else {
         return;
-    }
+    };
     number_textures(notes, task.textures, task.order);
     let mut totals = no_totals();
     let mut counts = opened.pool;

@@ -1,5 +1,5 @@
 // The textures of a sheet: numbers of many lengths, all kinds, one to thirteen levels, none to three spares.
-use bench_common::random_from;
+use bench_common::{plain_shape, random_from};
 use grid_shapes::VersionShape;
 
 // Returns the id of the i-th texture: up to 20 digits. Its lowest twelve bits are those of i, so that no two are equal.
@@ -19,20 +19,8 @@ pub fn submission_of(i: u64) -> u64 {
 pub fn shape_of(seq: u64) -> VersionShape {
     let kind = seq % 3;
     let extent = 16 << (seq % 4);
-    VersionShape {
-        format: 2,
-        width: extent,
-        height: extent,
-        depth: if kind == 2 { 4 } else { 1 },
-        levels: 1 + seq % 13,
-        kind,
-        storage: 0,
-        usage: 0,
-        red: 0,
-        green: 0,
-        blue: 0,
-        alpha: 0,
-    }
+    let depth = if kind == 2 { 4 } else { 1 };
+    plain_shape(2, extent, extent, depth, 1 + seq % 13, kind)
 }
 
 // Returns how many spares it has: one in the mean, since no more versions than textures can be lent.

@@ -3,16 +3,12 @@ ghost use Rattle.std.specs.Prelude.{◌≡◌, true};
 ghost use Rattle.pool_memory.specs.Lent.{lent_by};
 ghost use Rattle.pool_memory.specs.IsPool.{is_pool};
 
+use grid_shapes::Refusal;
 use pool_memory::{PacingBook, Pool};
-use pool_sheet::SheetAnswer;
 
 // Returns how many bytes a sheet has, or 0.
-fn sheet_number(answer: SheetAnswer) -> u64 {
-    match answer {
-        SheetAnswer::Printed(n) => n as u64,
-        SheetAnswer::NoPool => 0,
-        SheetAnswer::ShortBuffer => 0,
-    }
+fn sheet_number(answer: Result<usize, Refusal>) -> u64 {
+    answer.unwrap_or(0) as u64
 }
 
 // Prints the sheet k times, and adds up the bytes.

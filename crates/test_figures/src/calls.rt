@@ -1,22 +1,12 @@
 // Figures of calls, each made of a pool of one texture place, one version place and one page, just opened.
-use crate::limits::shape;
-use crate::print::figure;
+use crate::print::{figure, outcome_of};
+use grid_shapes::Refusal;
 use grid_stamps::PAGE_STAMPS;
 use pool_memory::COPY_STRIDE;
 use pool_open::{opened_book, opened_pool};
-use pool_preserve_plan::PlanAnswer;
 use pool_records::{DOOMED_STRIDE, RETIRING_STRIDE, SPARE_STRIDE, TEXTURE_STRIDE};
-use pool_retire::Popped;
 use pool_rules::{GRID_STRIDE, Held, LIMIT, MOST_GRIDS};
-use pool_take_spare::Taken;
-
-// Returns 0, or the number of a take's refusal.
-pub fn outcome_of(taken: Taken) -> u64 {
-    match taken {
-        Taken::Refused(n) => n,
-        _ => 0,
-    }
-}
+use test_common::plain_shape;
 
 // What a take and a trim said, and how many textures are tracked afterwards.
 #[derive(Clone, Copy)]
@@ -45,11 +35,10 @@ fn trimmed(seq: u64, current: u64) -> AfterTrim {
         &mut newest,
         &mut stamps,
         7,
-        shape(2, 64, 64, 1, 1, 0),
+        plain_shape(2, 64, 64, 1, 1, 0),
         true,
         seq,
     );
-    let taken = begun.taken;
     let done = pool::trim(
         begun.pool,
         book,
@@ -63,8 +52,8 @@ fn trimmed(seq: u64, current: u64) -> AfterTrim {
     );
     let pool = done.pool;
     AfterTrim {
-        taken: outcome_of(taken),
-        trimmed: done.outcome,
+        taken: outcome_of(&begun.taken),
+        trimmed: outcome_of(&done.outcome),
         tracked: pool.tracked,
     }
 }
@@ -105,15 +94,11 @@ fn print_settled(settled: u64) {
         &stamps,
         settled,
     );
-    let popped = answer.popped;
-    match popped {
-        Popped::Refused(n) => figure(b"pop_settled", &[settled, n]),
-        _ => figure(b"pop_settled", &[settled, 0]),
-    }
+    figure(b"pop_settled", &[settled, outcome_of(&answer.popped)]);
 }
 
 // Returns the plan of a fresh version of a cube of fifteen levels, whose copies are as many as a shape can have.
-fn plan(answers: &mut [u64]) -> PlanAnswer {
+fn plan(answers: &mut [u64]) -> Result<usize, Refusal> {
     let textures = [0u64; TEXTURE_STRIDE];
     let retiring = [0u64; RETIRING_STRIDE];
     let doomed = [0u64; DOOMED_STRIDE];
@@ -131,7 +116,7 @@ fn plan(answers: &mut [u64]) -> PlanAnswer {
         &stamps,
         answers,
         7,
-        shape(2, 16384, 16384, 1, 15, 1),
+        plain_shape(2, 16384, 16384, 1, 15, 1),
         Held::Unknown,
         0,
         0,
@@ -140,10 +125,10 @@ fn plan(answers: &mut [u64]) -> PlanAnswer {
 }
 
 // Prints how many copies that plan has, or the number of its refusal.
-fn print_plan(answer: PlanAnswer) {
+fn print_plan(answer: Result<usize, Refusal>) {
     match answer {
-        PlanAnswer::Copies(n) => figure(b"copies_of_the_longest_plan", &[n as u64]),
-        PlanAnswer::Refused(n) => figure(b"longest_plan_refused", &[n]),
+        Ok(n) => figure(b"copies_of_the_longest_plan", &[n as u64]),
+        Err(refusal) => figure(b"longest_plan_refused", &[refusal.number()]),
     }
 }
 

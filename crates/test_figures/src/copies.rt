@@ -1,18 +1,17 @@
 // Bytes of a copy, in a shape of 5 by 5 by 3 texels and two levels.
 ghost use Rattle.std.specs.Prelude.{◌≤◌, length};
 
-use crate::limits::shape;
 use crate::print::figure;
 use grid_rects::{Region, TexelRect, copy_bytes};
-use grid_shapes::BytesAnswer;
+use test_common::plain_shape;
 
 // Prints the outcome of a copy, and its bytes if that is 0.
 fn print_copy(name: &[u8], format: u64, kind: u64, level: u64, region: Region)
     requires { length name.now ≤ 64 }
 {
-    match copy_bytes(shape(format, 5, 5, 3, 2, kind), level, region) {
-        BytesAnswer::Bytes(bytes) => figure(name, &[0, bytes]),
-        BytesAnswer::NoShape => figure(name, &[2]),
+    match copy_bytes(plain_shape(format, 5, 5, 3, 2, kind), level, region) {
+        Ok(bytes) => figure(name, &[0, bytes]),
+        Err(refusal) => figure(name, &[refusal.number()]),
     }
 }
 

@@ -4,6 +4,7 @@ ghost use Rattle.grid_axes.specs.EdgeTables.{has_table};
 
 use crate::print::figure;
 use grid_axes::{TILE_EDGES_1, TILE_EDGES_4};
+use grid_stamps::Tiling;
 
 // What was seen of the edges so far: the least and the largest, by how much one exceeds the larger of 16 and a 32nd of the extent
 // rounded up, what is left of one by whole blocks, and the most tiles along an axis.
@@ -85,7 +86,10 @@ fn stamps(extent: u64, block: u64) -> u64
     requires { (extent ≤ 16384) × (has_table block ≡ true) }
 {
     let axis = grid_axes::axis_of(extent, block);
-    grid_stamps::stamp_count(axis, axis)
+    grid_stamps::stamp_count(Tiling {
+        across: axis,
+        down: axis,
+    })
 }
 
 // Prints how many entries the tables of tile edges have.

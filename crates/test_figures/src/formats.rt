@@ -1,7 +1,7 @@
 // Formats, kinds and usage bits.
-use crate::limits::shape;
-use crate::print::{figure, yes_or_no};
-use grid_shapes::{RecordsAnswer, VersionShape};
+use crate::print::figure;
+use grid_shapes::VersionShape;
+use test_common::plain_shape;
 
 // Prints every format's block.
 fn print_blocks() {
@@ -15,15 +15,18 @@ fn print_blocks() {
 fn print_slices(kind: u64) {
     figure(
         b"slices",
-        &[kind, grid_shapes::slices(shape(2, 64, 64, 1, 1, kind))],
+        &[
+            kind,
+            grid_shapes::slices(plain_shape(2, 64, 64, 1, 1, kind)),
+        ],
     );
 }
 
 // Tells whether every write is recorded, or returns the outcome of a shape that is refused.
 fn records(s: VersionShape, usage: u64) -> u64 {
     match grid_shapes::records_every_write(s, usage) {
-        RecordsAnswer::Records(records) => yes_or_no(records),
-        RecordsAnswer::Shapeless => 2,
+        Ok(records) => records as u64,
+        Err(refusal) => refusal.number(),
     }
 }
 
@@ -31,7 +34,7 @@ fn records(s: VersionShape, usage: u64) -> u64 {
 fn print_usage(usage: u64) {
     figure(
         b"records_with_usage",
-        &[usage, records(shape(2, 64, 64, 1, 1, 0), usage)],
+        &[usage, records(plain_shape(2, 64, 64, 1, 1, 0), usage)],
     );
 }
 
@@ -39,7 +42,7 @@ fn print_usage(usage: u64) {
 fn print_format(format: u64) {
     figure(
         b"records_with_format",
-        &[format, records(shape(format, 64, 64, 1, 1, 0), 0)],
+        &[format, records(plain_shape(format, 64, 64, 1, 1, 0), 0)],
     );
 }
 
@@ -47,7 +50,7 @@ fn print_format(format: u64) {
 fn print_kind(kind: u64) {
     figure(
         b"records_with_kind",
-        &[kind, records(shape(2, 64, 64, 1, 1, kind), 0)],
+        &[kind, records(plain_shape(2, 64, 64, 1, 1, kind), 0)],
     );
 }
 

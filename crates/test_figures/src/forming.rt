@@ -1,5 +1,5 @@
 // The limits of the numbers that a pool may hold, on both sides.
-use crate::print::{figure, outcome_1};
+use crate::print::{figure, pool_outcome};
 use grid_shapes::MOST_SHAPE_BYTES;
 use grid_stamps::PAGE_STAMPS;
 use pool_formed::is_pool;
@@ -50,7 +50,7 @@ fn outcome(pool: Pool, book: PacingBook) -> u64 {
     let formed = is_pool(
         pool, book, &textures, &retiring, &doomed, &spares, &newest, &stamps,
     );
-    outcome_1(formed)
+    pool_outcome(formed)
 }
 
 // Prints it for a count of trackings.

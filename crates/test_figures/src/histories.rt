@@ -1,20 +1,13 @@
 // Figures of histories (02, W-201), on one page of 1,024 stamps.
-use crate::calls::outcome_of;
-use crate::limits::shape;
-use crate::print::figure;
+use crate::print::{figure, outcome_of};
 use grid_shapes::VersionShape;
 use grid_stamps::PAGE_STAMPS;
 use pool_memory::Pool;
 use pool_open::{opened_book, opened_pool};
 use pool_records::{DOOMED_STRIDE, RETIRING_STRIDE, SPARE_STRIDE, TEXTURE_STRIDE};
 use pool_rules::{GRID_STRIDE, MOST_GRIDS};
-
-// What a take said, and the pool after it.
-#[derive(Clone, Copy)]
-struct Begun {
-    outcome: u64,
-    pool: Pool,
-}
+use pool_take_spare::TakeAnswer;
+use test_common::plain_shape;
 
 // Takes a version of a texture that is to have a history. There is one place for a version, and none is ever made.
 fn begin(
@@ -24,11 +17,11 @@ fn begin(
     stamps: &mut [u64],
     id: u64,
     shape: VersionShape,
-) -> Begun {
+) -> TakeAnswer {
     let retiring = [0u64; RETIRING_STRIDE];
     let mut doomed = [0u64; DOOMED_STRIDE];
     let mut spares = [0u64; SPARE_STRIDE];
-    let answer = pool::take_spare(
+    pool::take_spare(
         pool,
         opened_book(),
         textures,
@@ -41,13 +34,7 @@ fn begin(
         shape,
         true,
         0,
-    );
-    let taken = answer.taken;
-    let after = answer.pool;
-    Begun {
-        outcome: outcome_of(taken),
-        pool: after,
-    }
+    )
 }
 
 // Prints the outcome of a take whose history needs so many stamps, where another texture's 31 by 32 tiles leave 32.
@@ -61,11 +48,14 @@ fn print_last(needed: u64, last: VersionShape) {
         &mut newest,
         &mut stamps,
         7,
-        shape(2, 496, 512, 1, 1, 0),
+        plain_shape(2, 496, 512, 1, 1, 0),
     );
     let pool = first.pool;
     let begun = begin(pool, &mut textures, &mut newest, &mut stamps, 8, last);
-    figure(b"take_with_32_stamps_free", &[needed, begun.outcome]);
+    figure(
+        b"take_with_32_stamps_free",
+        &[needed, outcome_of(&begun.taken)],
+    );
 }
 
 // Prints the outcome of a take with another shape, whose history needs so many stamps, where the texture's own history has all of them.
@@ -79,17 +69,20 @@ fn print_renewal(needed: u64, next: VersionShape) {
         &mut newest,
         &mut stamps,
         7,
-        shape(0, 512, 512, 1, 1, 0),
+        plain_shape(0, 512, 512, 1, 1, 0),
     );
     let pool = first.pool;
     let renewed = begin(pool, &mut textures, &mut newest, &mut stamps, 7, next);
-    figure(b"renewal_on_a_full_page", &[needed, renewed.outcome]);
+    figure(
+        b"renewal_on_a_full_page",
+        &[needed, outcome_of(&renewed.taken)],
+    );
 }
 
 // Prints the figures of histories, on both sides of each limit.
 pub fn print_histories() {
-    print_last(32, shape(2, 512, 16, 1, 1, 0));
-    print_last(33, shape(2, 176, 48, 1, 1, 0));
-    print_renewal(1024, shape(2, 512, 512, 1, 1, 0));
-    print_renewal(1280, shape(2, 512, 512, 1, 2, 0));
+    print_last(32, plain_shape(2, 512, 16, 1, 1, 0));
+    print_last(33, plain_shape(2, 176, 48, 1, 1, 0));
+    print_renewal(1024, plain_shape(2, 512, 512, 1, 1, 0));
+    print_renewal(1280, plain_shape(2, 512, 512, 1, 2, 0));
 }

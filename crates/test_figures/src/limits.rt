@@ -1,45 +1,18 @@
 // The limits of outcome 2, on both sides, and the bytes that they leave.
-use crate::print::{figure, yes_or_no};
-use grid_shapes::{BytesAnswer, MOST_SHAPE_BYTES, VersionShape};
-
-// Returns the shape of the six fields of an event line, the rest 0.
-pub fn shape(
-    format: u64,
-    width: u64,
-    height: u64,
-    depth: u64,
-    levels: u64,
-    kind: u64,
-) -> VersionShape {
-    VersionShape {
-        format,
-        width,
-        height,
-        depth,
-        levels,
-        kind,
-        storage: 0,
-        usage: 0,
-        red: 0,
-        green: 0,
-        blue: 0,
-        alpha: 0,
-    }
-}
+use crate::print::{figure, outcome_of};
+use grid_shapes::{MOST_SHAPE_BYTES, VersionShape};
+use test_common::plain_shape;
 
 // Returns 0, or the outcome of a shape that is refused.
 fn outcome(s: VersionShape) -> u64 {
-    match grid_shapes::bytes(s) {
-        BytesAnswer::Bytes(_) => 0,
-        BytesAnswer::NoShape => 2,
-    }
+    outcome_of(&grid_shapes::bytes(s))
 }
 
 // Prints it for a width.
 fn print_width(width: u64) {
     figure(
         b"outcome_of_width",
-        &[width, outcome(shape(2, width, 1, 1, 1, 0))],
+        &[width, outcome(plain_shape(2, width, 1, 1, 1, 0))],
     );
 }
 
@@ -47,7 +20,7 @@ fn print_width(width: u64) {
 fn print_height(height: u64) {
     figure(
         b"outcome_of_height",
-        &[height, outcome(shape(2, 1, height, 1, 1, 0))],
+        &[height, outcome(plain_shape(2, 1, height, 1, 1, 0))],
     );
 }
 
@@ -55,7 +28,7 @@ fn print_height(height: u64) {
 fn print_depth(depth: u64) {
     figure(
         b"outcome_of_depth",
-        &[depth, outcome(shape(2, 1, 1, depth, 1, 2))],
+        &[depth, outcome(plain_shape(2, 1, 1, depth, 1, 2))],
     );
 }
 
@@ -63,7 +36,7 @@ fn print_depth(depth: u64) {
 fn print_levels(levels: u64) {
     figure(
         b"outcome_of_levels",
-        &[levels, outcome(shape(2, 1, 1, 1, levels, 0))],
+        &[levels, outcome(plain_shape(2, 1, 1, 1, levels, 0))],
     );
 }
 
@@ -71,7 +44,7 @@ fn print_levels(levels: u64) {
 fn print_kind(kind: u64) {
     figure(
         b"outcome_of_kind",
-        &[kind, outcome(shape(2, 1, 1, 1, 1, kind))],
+        &[kind, outcome(plain_shape(2, 1, 1, 1, 1, kind))],
     );
 }
 
@@ -79,16 +52,13 @@ fn print_kind(kind: u64) {
 fn print_format(format: u64) {
     figure(
         b"outcome_of_format",
-        &[format, outcome(shape(format, 1, 1, 1, 1, 0))],
+        &[format, outcome(plain_shape(format, 1, 1, 1, 1, 0))],
     );
 }
 
 // Returns the bytes of a shape that no limit lets grow, 0 if it is refused.
 fn largest_of(format: u64, kind: u64) -> u64 {
-    match grid_shapes::bytes(shape(format, 16384, 16384, 2048, 15, kind)) {
-        BytesAnswer::Bytes(bytes) => bytes,
-        BytesAnswer::NoShape => 0,
-    }
+    grid_shapes::bytes(plain_shape(format, 16384, 16384, 2048, 15, kind)).unwrap_or(0)
 }
 
 // Prints the most bytes of a version, and whether that passes 2^44. A cube has more slices than a volume, and fewer bytes.
@@ -98,7 +68,7 @@ fn print_largest() {
     figure(b"largest_volume", &[largest]);
     figure(
         b"largest_volume_passes_2_44",
-        &[yes_or_no(MOST_SHAPE_BYTES < largest)],
+        &[(MOST_SHAPE_BYTES < largest) as u64],
     );
 }
 

@@ -2,7 +2,7 @@
 // made on lengths here: 4,096 pages have 2^22 stamps, more than a program's stack holds.
 ghost use Rattle.std.specs.Prelude.{◌≤◌};
 
-use crate::print::{figure, outcome_1};
+use crate::print::{figure, pool_outcome};
 use grid_stamps::PAGE_STAMPS;
 use pool_open::lengths_fit;
 use pool_records::{DOOMED_STRIDE, RETIRING_STRIDE, SPARE_STRIDE, TEXTURE_STRIDE};
@@ -20,7 +20,7 @@ fn opening(textures: usize, versions: usize, newest: usize, stamps: usize) -> u6
         newest,
         stamps,
     );
-    outcome_1(fit)
+    pool_outcome(fit)
 }
 
 // Prints it for a number of texture places.

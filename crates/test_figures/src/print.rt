@@ -2,6 +2,7 @@
 ghost use Rattle.std.specs.Prelude.{◌+◌, ◌≤◌, length};
 
 use base_digits::put_text;
+use grid_shapes::Refusal;
 use test_common::{STDOUT_FILENO, put_digits};
 
 // Puts a blank and a number, and returns where they end.
@@ -26,12 +27,15 @@ pub fn figure(name: &[u8], values: &[u64])
     io::write_all(STDOUT_FILENO, &out[0..end]);
 }
 
-// Returns 1 for yes, 0 for no.
-pub fn yes_or_no(yes: bool) -> u64 {
-    if yes { 1 } else { 0 }
+// Returns the number of an outcome: 0, or that of the refusal.
+pub fn outcome_of<T>(said: &Result<T, Refusal>) -> u64 {
+    match said {
+        Ok(_) => 0,
+        Err(refusal) => refusal.number(),
+    }
 }
 
-// Returns the outcome of a test that refuses with 1.
-pub fn outcome_1(passed: bool) -> u64 {
-    if passed { 0 } else { 1 }
+// Returns the outcome of a test that memory forms a pool.
+pub fn pool_outcome(passed: bool) -> u64 {
+    if passed { 0 } else { Refusal::NoPool.number() }
 }

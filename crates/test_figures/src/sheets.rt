@@ -1,16 +1,16 @@
 // Figures of the pool sheet (02, W-202), read off a sheet of a pool just opened.
 ghost use Rattle.std.specs.Prelude.{◌≤◌, length};
 
-use crate::print::figure;
+use crate::print::{figure, outcome_of};
+use grid_shapes::Refusal;
 use grid_stamps::PAGE_STAMPS;
 use pool_memory::Pool;
 use pool_open::{opened_book, opened_pool};
 use pool_records::{DOOMED_STRIDE, RETIRING_STRIDE, SPARE_STRIDE, TEXTURE_STRIDE};
 use pool_rules::{GRID_STRIDE, MOST_GRIDS};
-use pool_sheet::SheetAnswer;
 
 // Prints the sheet of a pool that has one place for a texture, one for a version and one page.
-fn print_into(pool: Pool, buffer: &mut [u8]) -> SheetAnswer {
+fn print_into(pool: Pool, buffer: &mut [u8]) -> Result<usize, Refusal> {
     let textures = [0u64; TEXTURE_STRIDE];
     let retiring = [0u64; RETIRING_STRIDE];
     let doomed = [0u64; DOOMED_STRIDE];
@@ -28,15 +28,6 @@ fn print_into(pool: Pool, buffer: &mut [u8]) -> SheetAnswer {
         &stamps,
         buffer,
     )
-}
-
-// Returns the outcome of a sheet's answer.
-fn outcome_of(answer: SheetAnswer) -> u64 {
-    match answer {
-        SheetAnswer::Printed(_) => 0,
-        SheetAnswer::NoPool => 1,
-        SheetAnswer::ShortBuffer => 11,
-    }
 }
 
 // Returns where the next run of bytes ends that are other than `b`, after a run of bytes that are `b`.
@@ -82,19 +73,19 @@ fn print_widths(line: &[u8]) {
 pub fn print_sheets() {
     let mut buffer = [b'#'; 146];
     let answer = print_into(opened_pool(0), &mut buffer);
-    if let SheetAnswer::Printed(size) = answer {
+    if let Ok(size) = answer {
         figure(b"sheet_bytes_of_no_texture", &[size as u64]);
     }
     let line = word_end(&buffer, 0, b'\n');
     figure(b"sheet_line_characters", &[line as u64]);
     print_widths(&buffer[0..line]);
     let whole = print_into(opened_pool(0), &mut buffer);
-    figure(b"sheet_in_bytes", &[146, outcome_of(whole)]);
+    figure(b"sheet_in_bytes", &[146, outcome_of(&whole)]);
     let mut shorter = [b'#'; 145];
     let short = print_into(opened_pool(0), &mut shorter);
-    figure(b"sheet_in_bytes", &[145, outcome_of(short)]);
+    figure(b"sheet_in_bytes", &[145, outcome_of(&short)]);
     let mut none = opened_pool(0);
     none.tracked = 2;
     let refused = print_into(none, &mut shorter);
-    figure(b"sheet_of_no_pool_in_bytes", &[145, outcome_of(refused)]);
+    figure(b"sheet_of_no_pool_in_bytes", &[145, outcome_of(&refused)]);
 }

@@ -3,15 +3,15 @@ ghost use Rattle.std.specs.Prelude.{◌≤◌, length};
 
 use crate::print::figure;
 use event_lines::{Event, parse_first};
-use event_text::{Number, number_of};
+use event_text::number_of;
 
 // Prints 1 and the number that a text is, or 0.
 fn print_number(name: &[u8], text: &[u8])
     requires { length name.now ≤ 64 }
 {
     match number_of(text) {
-        Number::Is(n) => figure(name, &[1, n]),
-        Number::NoNumber => figure(name, &[0]),
+        Some(n) => figure(name, &[1, n]),
+        None => figure(name, &[0]),
     }
 }
 

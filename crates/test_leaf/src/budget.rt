@@ -1,14 +1,11 @@
 // The question on budgets, answered by the crate `pool_rules`.
 use crate::answer::{Answer, Rest};
-use event_text::{Number, number_of};
+use event_text::number_of;
 use pool_rules::VersionBudget;
 
 // Answers WORKING_SET with the cap, the line and where parking resumes. A second field is malformed too, since a comma is no digit.
 pub fn budget_of(fields: &[u8]) -> Option<Answer> {
-    let Number::Is(working) = number_of(fields) else {
-        return None;
-    };
-    let budget = VersionBudget::from_working_set(working);
+    let budget = VersionBudget::from_working_set(number_of(fields)?);
     Some(Answer {
         first: budget.cap,
         rest: Rest::Pair(budget.line, budget.resume_below()),

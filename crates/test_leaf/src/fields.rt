@@ -1,7 +1,7 @@
 // The fields of a question, which are parted by commas and may be empty, and their numbers. The event program's text is read by the same functions.
 ghost use Rattle.std.specs.Prelude.{◌+◌, ◌≤◌, length, IfSome};
 
-use event_text::{NumberAt, number_at};
+use event_text::number_at;
 use grid_rects::TexelRect;
 use test_common::part_end;
 
@@ -31,11 +31,9 @@ pub fn read_numbers<const N: usize>(fields: &[u8], at: usize) -> Option<Numbers<
         if fields.len() < next {
             return None;
         }
-        let NumberAt::Ends(value, end) = number_at(fields, next) else {
-            return None;
-        };
-        values[i] = value;
-        next = end + 1;
+        let read = number_at(fields, next)?;
+        values[i] = read.value;
+        next = read.end + 1;
     }
     Some(Numbers { values, next })
 }

@@ -4,7 +4,7 @@ ghost use Rattle.std.specs.Prelude.{◌≤◌, length};
 use crate::answer::{Answer, Rest, refused, told};
 use crate::fields::{are_u32, field_end, read_all, read_numbers, rect_of};
 use crate::shape::yes_or_no;
-use event_text::{Number, is_word, number_of};
+use event_text::{is_word, number_of};
 use grid_rects::TexelRect;
 use grid_shapes::Refusal;
 
@@ -13,10 +13,7 @@ fn source_of(field: &[u8]) -> Option<Option<u64>> {
     if is_word(field, b"-") {
         return Some(None);
     }
-    match number_of(field) {
-        Number::Is(format) => Some(Some(format)),
-        Number::NoNumber => None,
-    }
+    Some(Some(number_of(field)?))
 }
 
 // Answers FORMAT,X,Y,WIDTH,HEIGHT,EXTENT_W,EXTENT_H with the rectangle that an upload writes.

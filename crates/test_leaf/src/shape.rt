@@ -5,23 +5,11 @@ ghost use Rattle.std.specs.Prelude.{◌≤◌, length};
 use crate::answer::{Answer, Rest, accepted, number, refused, told};
 use crate::fields::{are_u32, read_all};
 use grid_shapes::{Refusal, VersionShape};
+use test_common::plain_shape;
 
-// Returns the shape of format, width, height, depth, levels and kind; all else is 0.
+// Returns the shape of format, width, height, depth, levels and kind.
 pub fn shape_of([format, width, height, depth, levels, kind]: [u64; 6]) -> VersionShape {
-    VersionShape {
-        format,
-        width,
-        height,
-        depth,
-        levels,
-        kind,
-        storage: 0,
-        usage: 0,
-        red: 0,
-        green: 0,
-        blue: 0,
-        alpha: 0,
-    }
+    plain_shape(format, width, height, depth, levels, kind)
 }
 
 // Returns the shape of those six numbers if width, height, depth and levels are 32-bit numbers.

@@ -1,51 +1,50 @@
 // What a call answers, as the answer of a line.
 use crate::called::Called;
 use event_answers::Answer;
+use grid_shapes::Refusal;
+use pool_memory::{PoppedVersion, TakenVersion};
 use pool_note_allocated::NotedAnswer;
-use pool_preserve_plan::PlanAnswer;
-use pool_retire::Popped;
-use pool_take_doomed::{DrainAnswer, Handed};
-use pool_take_spare::Taken;
+use pool_take_doomed::DrainAnswer;
 
 // Returns the answer of a call that says its outcome alone.
-pub fn answer_done(outcome: u64) -> Answer {
+pub fn answer_done(outcome: Result<(), Refusal>) -> Answer {
     match outcome {
-        0 => Answer::Done,
-        n => Answer::Refused(n),
+        Ok(()) => Answer::Done,
+        Err(refusal) => Answer::Refused(refusal.number()),
     }
 }
 
 // Returns the answer of take_spare.
-pub fn answer_taken(taken: Taken) -> Answer {
+pub fn answer_taken(taken: Result<Option<TakenVersion>, Refusal>) -> Answer {
     match taken {
-        Taken::Spare { view, held } => Answer::Spare(view, held),
-        Taken::NoSpare => Answer::NoSpare,
-        Taken::Refused(n) => Answer::Refused(n),
+        Ok(Some(spare)) => Answer::Spare(spare.view, spare.held),
+        Ok(None) => Answer::NoSpare,
+        Err(refusal) => Answer::Refused(refusal.number()),
     }
 }
 
 // Returns the answer of preserve_plan.
-pub fn answer_planned(planned: PlanAnswer) -> Answer {
+pub fn answer_planned(planned: Result<usize, Refusal>) -> Answer {
     match planned {
-        PlanAnswer::Copies(n) => Answer::Copies(n),
-        PlanAnswer::Refused(n) => Answer::Refused(n),
+        Ok(count) => Answer::Copies(count),
+        Err(refusal) => Answer::Refused(refusal.number()),
     }
 }
 
 // Returns the answer of pop_retired.
-pub fn answer_popped(popped: Popped) -> Answer {
+pub fn answer_popped(popped: Result<Option<PoppedVersion>, Refusal>) -> Answer {
     match popped {
-        Popped::Version { id, view } => Answer::Version(id, view),
-        Popped::NothingSettled => Answer::NothingSettled,
-        Popped::Refused(n) => Answer::Refused(n),
+        Ok(Some(version)) => Answer::Version(version.id, version.view),
+        Ok(None) => Answer::NothingSettled,
+        Err(refusal) => Answer::Refused(refusal.number()),
     }
 }
 
 // Returns the answer of take_doomed and of drain_versions.
-fn answer_handed(handed: Handed) -> Answer {
+fn answer_handed(handed: Result<usize, Refusal>) -> Answer {
     match handed {
-        Handed::Views(n) => Answer::Views(n),
-        Handed::Refused(n) => Answer::Refused(n),
+        Ok(count) => Answer::Views(count),
+        Err(refusal) => Answer::Refused(refusal.number()),
     }
 }
 

@@ -1,7 +1,7 @@
 // Reads the fields behind a line's word as numbers.
 ghost use Rattle.std.specs.Prelude.{◌≤◌, length};
 
-use event_text::{NumberAt, number_at};
+use event_text::number_at;
 use test_common::part_end;
 
 // The most numbers behind a word: a put has a store, an index and fourteen values.
@@ -36,15 +36,15 @@ pub fn read_numbers(line: &[u8], at: usize) -> LineNumbers
                 count,
             };
         }
-        let NumberAt::Ends(value, next) = number_at(line, end + 1) else {
+        let Some(read) = number_at(line, end + 1) else {
             return LineNumbers {
                 formed: false,
                 values,
                 count,
             };
         };
-        values[count] = value;
-        end = next;
+        values[count] = read.value;
+        end = read.end;
     }
     LineNumbers {
         formed: line.len() <= end,

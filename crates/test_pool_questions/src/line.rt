@@ -1,10 +1,11 @@
 // One line run: an event, a question, or the beginning of a list.
 ghost use Rattle.std.specs.Prelude.{◌≤◌};
-ghost use Rattle.event_sessions.specs.Sessions.{state_of, HoldsPool};
+ghost use Rattle.event_sessions.specs.Sessions.{HoldsPool};
+ghost use Rattle.event_sessions.specs.LentStores.{state_in, SameStores};
 
 use crate::question::answer_question;
 use event_lines::parse_first;
-use event_sessions::{Session, answer_event, fresh};
+use event_sessions::{Session, Stores, answer_event, fresh};
 use event_text::is_word;
 use test_common::{STDOUT_FILENO, part_end};
 
@@ -21,20 +22,12 @@ pub fn run_line(
     line: &[u8],
     number: u64,
     session: Session,
-    textures: &mut [u64],
-    retiring: &mut [u64],
-    doomed: &mut [u64],
-    spares: &mut [u64],
-    newest: &mut [u64],
-    stamps: &mut [u64],
-    copies: &mut [u64],
-    views: &mut [u64],
+    stores: &mut Stores<'_>,
     page: &mut [u8],
 ) -> RanLine
-    requires { HoldsPool (state_of session textures.old retiring.old doomed.old spares.old newest.old stamps.old) }
-    ensures { HoldsPool (state_of result.session textures.new retiring.new doomed.new spares.new
-        newest.new stamps.new)
-        × (result.number ≤ number) }
+    requires { HoldsPool (state_in session stores.old) }
+    ensures same { SameStores stores.old stores.new }
+    ensures holds { HoldsPool (state_in result.session stores.new) × (result.number ≤ number) }
 {
     let end = part_end(line, 0, b',');
     if is_word(&line[0..end], b"=") {
@@ -46,28 +39,13 @@ pub fn run_line(
         };
     }
     if is_word(&line[0..end], b"sheet") {
-        answer_question(
-            &line[end..],
-            number,
-            session,
-            textures,
-            retiring,
-            doomed,
-            spares,
-            newest,
-            stamps,
-            page,
-        );
+        answer_question(&line[end..], number, session, stores, page);
         return RanLine { session, number };
     }
     let parsed = parse_first(line);
-    let event = parsed.event;
-    let answered = answer_event(
-        session, textures, retiring, doomed, spares, newest, stamps, copies, views, event,
-    );
-    let after = answered.session;
+    let answered = answer_event(session, stores, parsed.event);
     RanLine {
-        session: after,
+        session: answered.session,
         number,
     }
 }

@@ -9,6 +9,7 @@ mod lines;
 mod question;
 
 use constants::{ENTRIES, INPUT_BYTES, PAGE_BYTES, PAGES, TEXTURES, VERSIONS};
+use event_sessions::Stores;
 use grid_stamps::PAGE_STAMPS;
 use lines::run_lines;
 use pool_memory::COPY_STRIDE;
@@ -28,16 +29,15 @@ fn main() {
     let mut input = [0; INPUT_BYTES];
     let mut page = [0; PAGE_BYTES];
     let to = io::read_full(STDIN_FILENO, &mut input);
-    run_lines(
-        &input[0..to],
-        &mut textures,
-        &mut retiring,
-        &mut doomed,
-        &mut spares,
-        &mut newest,
-        &mut stamps,
-        &mut copies,
-        &mut views,
-        &mut page,
-    );
+    let mut stores = Stores {
+        textures: &mut textures,
+        retiring: &mut retiring,
+        doomed: &mut doomed,
+        spares: &mut spares,
+        newest: &mut newest,
+        stamps: &mut stamps,
+        copies: &mut copies,
+        views: &mut views,
+    };
+    run_lines(&input[0..to], &mut stores, &mut page);
 }

@@ -2,8 +2,8 @@
 ghost use Rattle.std.specs.Prelude.{◌≤◌, IfSome};
 
 use crate::answer_sheet::answer_sheet;
-use event_sessions::Session;
-use event_text::{Number, number_of};
+use event_sessions::{Session, Stores};
+use event_text::number_of;
 use test_common::STDOUT_FILENO;
 
 // Returns the bytes of the buffer that is asked for: what stands after the word is a comma and a number up to `most`. A second number is malformed too,
@@ -11,9 +11,7 @@ use test_common::STDOUT_FILENO;
 fn asked_bytes(fields: &[u8], most: usize) -> Option<usize>
     ensures { IfSome result (λ bytes. bytes ≤ most) }
 {
-    let Number::Is(bytes) = number_of(fields.get(1..)?) else {
-        return None;
-    };
+    let bytes = number_of(fields.get(1..)?)?;
     if bytes <= most as u64 {
         Some(bytes as usize)
     } else {
@@ -26,12 +24,7 @@ pub fn answer_question(
     fields: &[u8],
     number: u64,
     session: Session,
-    textures: &[u64],
-    retiring: &[u64],
-    doomed: &[u64],
-    spares: &[u64],
-    newest: &[u64],
-    stamps: &[u64],
+    stores: &Stores<'_>,
     page: &mut [u8],
 ) {
     io::print_decimal(STDOUT_FILENO, number);
@@ -44,17 +37,5 @@ pub fn answer_question(
         io::write_all(STDOUT_FILENO, b",?\n");
         return;
     };
-    let pool = session.pool;
-    let book = session.book;
-    answer_sheet(
-        pool,
-        book,
-        textures,
-        retiring,
-        doomed,
-        spares,
-        newest,
-        stamps,
-        &mut page[0..bytes],
-    );
+    answer_sheet(session.pool, session.book, stores, &mut page[0..bytes]);
 }

@@ -31,10 +31,10 @@ fn answer_open(
         };
     }
     let said = pool::open(working, textures, retiring, doomed, spares, newest, stamps);
-    if said.outcome != 0 {
+    if let Err(refusal) = said.outcome {
         return Answered {
             session,
-            reply: Some(Reply::Event(Answer::Refused(said.outcome))),
+            reply: Some(Reply::Event(Answer::Refused(refusal.number()))),
         };
     }
     let pool = said.pool;

@@ -4,6 +4,8 @@ ghost use Rattle.event_answers.specs.Printed.{most_row};
 
 use base_digits::put_text;
 use event_answers::{Answer, put_answer};
+use grid_shapes::Refusal;
+use grid_stamps::Tile;
 use pool_memory::COPY_STRIDE;
 use test_common::{STDOUT_FILENO, put_digits, put_field};
 use test_pool_calls::{Queried, Told};
@@ -45,12 +47,12 @@ fn put_event(out: &mut [u8], number: u64, answer: Answer, copies: &[u64], views:
 }
 
 // Puts an accepted query's line of two numbers.
-fn put_tile(out: &mut [u8], at: usize, column: u64, row: u64) -> usize
+fn put_tile(out: &mut [u8], at: usize, tile: Tile) -> usize
     requires { at + 45 ≤ length out.old }
 {
     let first = put_text(out, at, b",0");
-    let second = put_field(out, first, column);
-    let third = put_field(out, second, row);
+    let second = put_field(out, first, tile.column);
+    let third = put_field(out, second, tile.row);
     put_text(out, third, b"\n")
 }
 
@@ -64,15 +66,15 @@ fn put_told(out: &mut [u8], at: usize, told: u64) -> usize
 }
 
 // Puts the number of a query's refusal.
-fn put_refusal(out: &mut [u8], at: usize, refusal: u64) -> usize
+fn put_refusal(out: &mut [u8], at: usize, refusal: Refusal) -> usize
     requires { at + 22 ≤ length out.old }
 {
-    let end = put_field(out, at, refusal);
+    let end = put_field(out, at, refusal.number());
     put_text(out, end, b"\n")
 }
 
 // Puts a query's answer and returns where it ends.
-fn put_query(out: &mut [u8], number: u64, answer: Option<Result<Told, u64>>) -> usize
+fn put_query(out: &mut [u8], number: u64, answer: Option<Result<Told, Refusal>>) -> usize
     requires { most_row ≤ length out.old }
 {
     let at = put_digits(out, 0, number);
@@ -81,8 +83,8 @@ fn put_query(out: &mut [u8], number: u64, answer: Option<Result<Told, u64>>) -> 
         Some(Err(refusal)) => put_refusal(out, at, refusal),
         Some(Ok(Told::Formed)) => put_text(out, at, b",0\n"),
         Some(Ok(Told::Number(told))) => put_told(out, at, told),
-        Some(Ok(Told::Tile { column, row })) => put_tile(out, at, column, row),
-        Some(Ok(Told::NoTile)) => put_text(out, at, b",0,-,-\n"),
+        Some(Ok(Told::Tile(Some(tile)))) => put_tile(out, at, tile),
+        Some(Ok(Told::Tile(None))) => put_text(out, at, b",0,-,-\n"),
     }
 }
 

@@ -3,7 +3,7 @@ ghost use Rattle.std.specs.Prelude.{◌≤◌, IfSome};
 ghost use Rattle.test_replay.specs.ReplayConstants.{most_entries, most_pages, most_textures, most_versions};
 
 use crate::constants::{MOST_ENTRIES, MOST_PAGES, MOST_TEXTURES, MOST_VERSIONS};
-use event_text::{NumberAt, number_at};
+use event_text::number_at;
 
 // The places that the list's program has.
 #[derive(Clone, Copy)]
@@ -28,15 +28,13 @@ fn given_at(line: &[u8], at: usize, most: usize) -> Option<Size>
     if line.len() < at {
         return None;
     }
-    let NumberAt::Ends(value, end) = number_at(line, at) else {
-        return None;
-    };
-    if ((most as u64) < value) | (line.len() <= end) {
+    let read = number_at(line, at)?;
+    if ((most as u64) < read.value) | (line.len() <= read.end) {
         return None;
     }
     Some(Size {
-        places: value as usize,
-        next: end + 1,
+        places: read.value as usize,
+        next: read.end + 1,
     })
 }
 

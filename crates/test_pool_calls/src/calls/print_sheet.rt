@@ -1,7 +1,7 @@
 // print_sheet, made on any memory, into a buffer of its own.
 use crate::queried::{Queried, Told};
+use grid_shapes::Refusal;
 use pool_memory::{PacingBook, Pool};
-use pool_sheet::SheetAnswer;
 
 // The bytes of the largest buffer, into which the sheet of twelve textures goes.
 const MOST_BYTES: usize = 1024;
@@ -15,15 +15,10 @@ fn is_rest_kept(buffer: &[u8], from: usize) -> bool {
 }
 
 // Returns what print_sheet says. A refusal may write no byte, and the sheet none past it.
-fn say_sheet(answer: SheetAnswer, buffer: &[u8]) -> Queried {
-    let (told, end) = match answer {
-        SheetAnswer::Printed(length) => (Ok(Told::Number(length as u64)), length),
-        SheetAnswer::NoPool => (Err(1), 0),
-        SheetAnswer::ShortBuffer => (Err(11), 0),
-    };
+fn say_sheet(answer: Result<usize, Refusal>, buffer: &[u8]) -> Queried {
     Queried {
-        answer: Some(told),
-        kept: is_rest_kept(buffer, end),
+        answer: Some(answer.map(|length| Told::Number(length as u64))),
+        kept: is_rest_kept(buffer, answer.unwrap_or(0)),
     }
 }
 

@@ -3,4 +3,6 @@ use Rattle.bench_calls.proofs.Opened.{opened_forms}
 use Rattle.bench_calls.proofs.opening.open_work.Goals as goal
 
 pub returns : goal.returns
-returns c = opened_forms _ _ _ _ _ _ _ _ c.«open».ensures
+returns c =
+    let o = c.«open» in
+    opened_forms _ _ _ _ _ _ _ o.result o.ensures.outcome o.ensures.pool o.ensures.book

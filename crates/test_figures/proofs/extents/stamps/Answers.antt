@@ -8,4 +8,4 @@ stamp_count-requires c =
     let a = c.args in
     let p = c.requires in
     let ok = axis_ok a.extent a.block (block_pos _ p.1) p.0 (block_most _ p.1) in
-    rw c.axis_of-axis.ensures (ok, ok)
+    rw c.axis_of-axis.ensures (record { across = ok; down = ok })

@@ -5,4 +5,4 @@ use lib.ListN.{length}
 use Rattle.test_leaf.proofs.lines.answer_all.Given as goal
 
 abbrev pub invariant-loop : goal.invariant-loop
-invariant-loop g l = (l.held < length l.initial.buf) × (length l.buf ≡ length l.initial.buf) × (length l.out ≡ length l.initial.out)
+invariant-loop g l = (l.held < length l.initial.buf) × (length l.buf ≡ length l.initial.buf)

@@ -1,15 +1,16 @@
--- Lines until the input ends: stores of the same length, which form a pool once it is opened. The measure is the number of bytes that are left. Assumes nothing.
+-- Lines until the input ends: the same stores, which form a pool once it is opened. Assumes nothing.
 use borrow.Author.Rules.{rules}
 use mathlib.Core.Path.{refl, ◌∙◌}
 use native.Mathlib.Omega.{arith}
+use Rattle.event_sessions.proofs.Same.{same_on}
 use Rattle.test_pool_questions.proofs.Holds.{begun_holds}
 use Rattle.test_pool_questions.proofs.lines.run_lines.Goals as goal
 
 pub loop-from-init : goal.loop-from-init
-loop-from-init c = (begun_holds _ _ _ _ _ _ _ c.fresh-session.ensures, search rules, search rules, refl, refl, refl, refl, refl, refl, refl, refl, refl)
+loop-from-init c = record { holds = begun_holds _ _ _ _ _ _ _ c.fresh-session.ensures; same = search rules; numbered = omega arith; inside = omega arith; page = refl }
 
 pub run_line-ran-requires : goal.run_line-ran-requires
-run_line-ran-requires c = c.loop-from.invariant.0
+run_line-ran-requires c = c.loop-from.invariant.holds
 
 pub loop-from-smaller : goal.loop-from-smaller
 loop-from-smaller c = omega (arith, c.part_end-end.ensures.0, c.loop-from-test.true)
@@ -19,17 +20,10 @@ loop-from-preserved c =
     let i = c.loop-from.invariant in
     let r = c.run_line-ran in
     let e = c.part_end-end.ensures in
-    let k = r.auto in (
-      r.ensures.0,
-      omega (arith, r.ensures.1, i.1, e.0),
-      omega (arith, e.1),
-      k.textures ∙ i.3,
-      k.retiring ∙ i.4,
-      k.doomed ∙ i.5,
-      k.spares ∙ i.6,
-      k.newest ∙ i.7,
-      k.stamps ∙ i.8,
-      k.copies ∙ i.9,
-      k.views ∙ i.10,
-      k.page ∙ i.11,
-    )
+    record {
+      holds = r.ensures.holds.0;
+      same = same_on i.same r.ensures.same;
+      numbered = omega (arith, r.ensures.holds.1, i.numbered, e.0);
+      inside = omega (arith, e.1);
+      page = r.auto.page ∙ i.page;
+    }
