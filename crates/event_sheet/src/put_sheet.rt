@@ -29,7 +29,15 @@ pub fn put_sheet(
         return 0;
     }
     print_sheet(
-        session.pool, session.book, textures, retiring, doomed, spares, newest, stamps, out,
+        session.pool,
+        session.book,
+        textures,
+        retiring,
+        doomed,
+        spares,
+        newest,
+        stamps,
+        out,
     )
     .unwrap_or(0)
 }
