@@ -10,7 +10,11 @@ use lib.ListN.{length, get_or}
 use Rattle.base_tables.specs.Records.{table}
 use Rattle.base_tables.proofs.Records.{table_none}
 use Rattle.base_digits.specs.Put.{Put}
+use Rattle.std.specs.Prelude.{Result, Ok, Err}
+use Rattle.std.specs.Result.{result_unwrap_or}
+use Rattle.grid_shapes.specs.declared.refusal.Refusal.{Refusal}
 use Rattle.grid_shapes.specs.declared.shape.VersionShape.{VersionShape}
+use Rattle.grid_shapes.specs.Outcomes.{of_bytes}
 use Rattle.grid_rects.specs.declared.rect.Region.TheVariants.{Whole, Part}
 use Rattle.pool_books.specs.LentLists.{read_copy}
 use Rattle.pool_memory.specs.MemoryConstants.{copy_stride}
@@ -19,7 +23,7 @@ use Rattle.event_answers.specs.declared.answer.Answer.{Answer}
 use Rattle.event_answers.specs.declared.answer.Answer.TheVariants.{Question, Refused, Done, Spare, NoSpare, Version, NothingSettled, Views, Copies}
 use Rattle.event_answers.specs.Answers.{reply_told, InBuffers}
 use Rattle.event_answers.specs.Printed.{accepted_row}
-use Rattle.event_cost.specs.Costs.{plan_bytes, copies_of, clipped, plan_row, is_plan, cost_row}
+use Rattle.event_cost.specs.Costs.{accepted_bytes, plan_bytes, copies_of, clipped, plan_row, is_plan, cost_row}
 use Rattle.event_cost.specs.Told.{copy_count, row_told, event_told}
 use Rattle.event_cost.proofs.Clipping.{field_clipped}
 
@@ -102,7 +106,14 @@ module _ (copies views : List ℕ) where
   unfolding event_told cost_row
   event_told_lem n s e a = ap (λ (l : List ℕ). cond (is_plan e) l []) (row_told_lem n s a)
 
--- ---- a copy's region
+-- ---- a copy
+
+-- its bytes, as the outcome has them
+pub bytes_accepted : (r : Result ℕ Refusal) → result_unwrap_or r 0 ≡ accepted_bytes (of_bytes r)
+unfolding accepted_bytes of_bytes
+bytes_accepted (Ok n) = refl
+bytes_accepted (Err e) = refl
+
 
 module _ (s : List ℕ) where
   pub whole_region : get_or s 2 0 ≡ 1 → Whole ≡ (read_copy s).region

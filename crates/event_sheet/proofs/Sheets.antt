@@ -6,12 +6,15 @@ use Prim.Native.Nat.{ℕ, ◌≤◌}
 use native.Mathlib.Omega.{arith}
 use borrow.Author.Tests.{le-ltb}
 use lib.ListN.{length, drop, length-append}
+use Rattle.std.specs.Prelude.{Result, Ok, Err}
+use Rattle.std.specs.Result.{result_unwrap_or}
 use Rattle.base_blocks.specs.Lists.{over}
+use Rattle.grid_shapes.specs.declared.refusal.Refusal.{Refusal}
 use Rattle.pool_memory.specs.IsPool.{is_pool}
 use Rattle.pool_memory.specs.Lent.{Lent}
 use Rattle.pool_memory.specs.Calls.{Told, answer}
 use Rattle.pool_memory.proofs.FromPool.{pool_fits}
-use Rattle.pool_sheet.specs.PrintSheet.{sheet_of, printed_in, print_sheet_on}
+use Rattle.pool_sheet.specs.PrintSheet.{sheet_of, sheet_told, printed_in, print_sheet_on}
 use Rattle.pool_sheet.proofs.OfRecords.{sheet_bytes}
 use Rattle.pool_sheet.proofs.Told.{records_there}
 use Rattle.event_sessions.specs.Sessions.{SessionState, HoldsPool}
@@ -41,6 +44,11 @@ module _ (s : SessionState) (out : List ℕ) where
       let k = sheet_most s.lent p in
       let w = says ∙ with_room s.lent out p (omega (arith, k, room)) in
       rw e (ap (λ (x : Told ℕ × List ℕ). bytes_told x.0) w, ap (λ (x : Told ℕ × List ℕ). x.1) w)
+
+-- how many bytes were printed
+pub bytes_printed : (r : Result ℕ Refusal) → result_unwrap_or r 0 ≡ bytes_told (sheet_told r)
+bytes_printed (Ok n) = refl
+bytes_printed (Err e) = refl
 
 -- text laid over what was there is no longer than what stands there now
 pub laid_within : (n : ℕ) (text out exit : List ℕ) → n ≡ length text → exit ≡ over text out → n ≤ length exit

@@ -1,24 +1,12 @@
 // The sheet of the pool that a list of events leaves.
 ghost use Rattle.std.specs.Prelude.{◌≡◌, ◌≤◌, length};
 ghost use Rattle.base_blocks.specs.Lists.{over};
-ghost use Rattle.pool_sheet.specs.PrintSheet.{sheet_told};
 ghost use Rattle.event_sessions.specs.Sessions.{state_of, HoldsPool};
-ghost use Rattle.event_sheet.specs.Printed.{bytes_told, most_sheet_bytes};
+ghost use Rattle.event_sheet.specs.Printed.{most_sheet_bytes};
 ghost use Rattle.event_sheet.specs.SheetText.{sheet_text, state_at_entry};
 
 use event_sessions::Session;
-use pool_sheet::{SheetAnswer, print_sheet};
-
-// Returns how many bytes were printed.
-fn printed_bytes(answer: SheetAnswer) -> usize
-    ensures { result ≡ bytes_told (sheet_told answer) }
-{
-    match answer {
-        SheetAnswer::Printed(bytes) => bytes,
-        SheetAnswer::NoPool => 0,
-        SheetAnswer::ShortBuffer => 0,
-    }
-}
+use pool_sheet::print_sheet;
 
 // Puts the sheet of the session's pool at the front of `out`, and returns its length. Where nothing was opened there is no pool to print, so
 // `out` stays as it is.
@@ -40,8 +28,8 @@ pub fn put_sheet(
     if session.opened != 1 {
         return 0;
     }
-    let answer = print_sheet(
+    print_sheet(
         session.pool, session.book, textures, retiring, doomed, spares, newest, stamps, out,
-    );
-    printed_bytes(answer)
+    )
+    .unwrap_or(0)
 }
