@@ -3,9 +3,7 @@
 #![tactic(auto)]
 
 mod block;
-mod number;
 mod scan;
 
 pub use block::{copy_in, fill, reverse, rotate, shift_down, shift_up};
-pub use number::{larger, smaller};
 pub use scan::{contains, largest_of, within};

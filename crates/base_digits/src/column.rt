@@ -7,26 +7,11 @@ ghost use Rattle.base_digits.specs.Digits.{digits_of};
 
 use crate::digits::put_number;
 
-// Returns how many digits a number has, which are counted by fours.
+// Returns how many digits a number has.
 fn digit_count(n: u64) -> usize
     ensures { result ≡ length (digits_of n) }
 {
-    let mut rest = n;
-    let mut count = 0;
-    while 10000 <= rest {
-        rest /= 10000;
-        count += 4;
-    }
-    if rest < 10 {
-        return count + 1;
-    }
-    if rest < 100 {
-        return count + 2;
-    }
-    if rest < 1000 {
-        return count + 3;
-    }
-    count + 4
+    n.max(1).ilog10() as usize + 1
 }
 
 // Puts blanks from `at` on.

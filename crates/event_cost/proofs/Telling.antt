@@ -5,8 +5,6 @@ use mathlib.Core.List.{List, [], ◌∷◌}
 use Prim.Native.Nat.{ℕ, ◌*◌, ◌≤◌}
 use native.Mathlib.Nat.{add-zero}
 use native.Mathlib.Omega.{arith}
-use types.Run.{OneOf, miss}
-use denote.Enum.Declared.{tag_of}
 use borrow.Author.Tests.{eq-eqb, ne_eqb}
 use lib.ListN.{length, get_or}
 use Rattle.base_tables.specs.Records.{table}
@@ -17,10 +15,8 @@ use Rattle.grid_rects.specs.declared.rect.Region.TheVariants.{Whole, Part}
 use Rattle.pool_books.specs.LentLists.{read_copy}
 use Rattle.pool_memory.specs.MemoryConstants.{copy_stride}
 use Rattle.event_lines.specs.declared.event.Event.{Event}
-use Rattle.event_lines.specs.contracts.event.Event.{the_type as event_type}
 use Rattle.event_answers.specs.declared.answer.Answer.{Answer}
 use Rattle.event_answers.specs.declared.answer.Answer.TheVariants.{Question, Refused, Done, Spare, NoSpare, Version, NothingSettled, Views, Copies}
-use Rattle.event_answers.specs.contracts.answer.Answer.{the_type as answer_type}
 use Rattle.event_answers.specs.Answers.{reply_told, InBuffers}
 use Rattle.event_answers.specs.Printed.{accepted_row}
 use Rattle.event_cost.specs.Costs.{plan_bytes, copies_of, clipped, plan_row, is_plan, cost_row}
@@ -29,66 +25,26 @@ use Rattle.event_cost.proofs.Clipping.{field_clipped}
 
 -- ---- what a `match` leaves over
 
--- every event but a plan
-abbrev others : List ℕ
-others = 0 ∷ 1 ∷ 3 ∷ 4 ∷ 5 ∷ 6 ∷ 7 ∷ 8 ∷ 9 ∷ 10 ∷ 11 ∷ 12 ∷ 13 ∷ []
-
-pub no_plan : (e : Event) → OneOf others (tag_of event_type e) → false ≡ is_plan e
-unfolding is_plan
-no_plan (Event.Plan id held slice level cover) k = absurd (miss others 2 tt k)
-no_plan (Event.Open working) k = refl
-no_plan (Event.Take id shape records seq) k = refl
-no_plan (Event.Retire id view seq) k = refl
-no_plan (Event.Write id slice level rect) k = refl
-no_plan (Event.Regen id) k = refl
-no_plan (Event.Pop settled) k = refl
-no_plan (Event.Park failed now) k = refl
-no_plan (Event.Note allocated) k = refl
-no_plan Event.Doomed k = refl
-no_plan Event.Drain k = refl
-no_plan (Event.Trim now) k = refl
-no_plan (Event.Forget id) k = refl
-no_plan Event.Unread k = refl
-
--- every answer but copies
-abbrev uncopied : List ℕ
-uncopied = 0 ∷ 1 ∷ 2 ∷ 3 ∷ 4 ∷ 5 ∷ 6 ∷ 7 ∷ []
-
-pub no_copies : (a : Answer) → OneOf uncopied (tag_of answer_type a) → 0 ≡ copy_count a
-unfolding copy_count
-no_copies Question k = refl
-no_copies (Refused n) k = refl
-no_copies Done k = refl
-no_copies (Spare view held) k = refl
-no_copies NoSpare k = refl
-no_copies (Version id view) k = refl
-no_copies NothingSettled k = refl
-no_copies (Views n) k = refl
-no_copies (Copies n) k = absurd (miss uncopied 8 tt k)
-
 -- every answer but a refusal and copies
-abbrev unshown : List ℕ
-unshown = 0 ∷ 2 ∷ 3 ∷ 4 ∷ 5 ∷ 6 ∷ 7 ∷ []
-
-no_row : (n bytes : ℕ) (a : Answer) → OneOf unshown (tag_of answer_type a) → row_told n bytes a ≡ []
+no_row : (n bytes : ℕ) (a : Answer) → ((k : ℕ) → a ≡ Refused k → ⊥) → ((k : ℕ) → a ≡ Copies k → ⊥) → row_told n bytes a ≡ []
 unfolding row_told
-no_row n bytes Question k = refl
-no_row n bytes (Refused m) k = absurd (miss unshown 1 tt k)
-no_row n bytes Done k = refl
-no_row n bytes (Spare view held) k = refl
-no_row n bytes NoSpare k = refl
-no_row n bytes (Version id view) k = refl
-no_row n bytes NothingSettled k = refl
-no_row n bytes (Views m) k = refl
-no_row n bytes (Copies m) k = absurd (miss unshown 8 tt k)
+no_row n bytes Question r k = refl
+no_row n bytes (Refused m) r k = absurd (r m refl)
+no_row n bytes Done r k = refl
+no_row n bytes (Spare view held) r k = refl
+no_row n bytes NoSpare r k = refl
+no_row n bytes (Version id view) r k = refl
+no_row n bytes NothingSettled r k = refl
+no_row n bytes (Views m) r k = refl
+no_row n bytes (Copies m) r k = absurd (k m refl)
 
 -- ---- nothing put
 
 put_nothing : (text a : List ℕ) (i : ℕ) → text ≡ [] → Put a i text i a
 put_nothing text a i e = rw e (record { ends = sym (add-zero i); makes = refl })
 
-pub put_no_row : (n bytes : ℕ) (x : Answer) (a : List ℕ) (i : ℕ) → OneOf unshown (tag_of answer_type x) → Put a i (row_told n bytes x) i a
-put_no_row n bytes x a i k = put_nothing (row_told n bytes x) a i (no_row n bytes x k)
+pub put_no_row : (n bytes : ℕ) (x : Answer) (a : List ℕ) (i : ℕ) → ((k : ℕ) → x ≡ Refused k → ⊥) → ((k : ℕ) → x ≡ Copies k → ⊥) → Put a i (row_told n bytes x) i a
+put_no_row n bytes x a i r k = put_nothing (row_told n bytes x) a i (no_row n bytes x r k)
 
 pub put_no_plan : (n bytes : ℕ) (e : Event) (x : Answer) (a : List ℕ) (i : ℕ) → is_plan e ≡ false → Put a i (event_told n bytes e x) i a
 unfolding event_told

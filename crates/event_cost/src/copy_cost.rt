@@ -10,6 +10,7 @@ use grid_rects::{Region, TexelRect, copy_bytes};
 use grid_shapes::{BytesAnswer, VersionShape};
 
 // Returns the bytes that were answered: 0 for what is no shape, which no plan goes by.
+#[tactic(auto, unfolding(crate::specs::Costs::accepted_bytes, grid_shapes::specs::Outcomes::of_bytes))]
 fn answered_bytes(answer: BytesAnswer) -> u64
     ensures { result ≡ accepted_bytes (of_bytes answer) }
 {
@@ -42,10 +43,8 @@ pub fn copy_cost(shape: VersionShape, copy: &[u64]) -> Sums
 {
     let level = copy[1];
     let region = copied_region(copy);
-    let part = copy_bytes(shape, level, region);
-    let all = copy_bytes(shape, level, Region::Whole);
     Sums {
-        moved: answered_bytes(part),
-        whole: answered_bytes(all),
+        moved: answered_bytes(copy_bytes(shape, level, region)),
+        whole: answered_bytes(copy_bytes(shape, level, Region::Whole)),
     }
 }

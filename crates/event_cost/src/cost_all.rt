@@ -3,6 +3,7 @@ ghost use Rattle.std.specs.Prelude.{◌≤◌, ◌<◌, length};
 ghost use Rattle.event_sessions.specs.Sessions.{state_of};
 ghost use Rattle.event_sessions.specs.Noted.{fresh_session};
 ghost use Rattle.event_feed.specs.FeedConstants.{kept_bytes};
+ghost use Rattle.event_stream.specs.Streams.{reason_number};
 ghost use Rattle.event_cost.specs.Costs.{most_cost_row};
 ghost use Rattle.event_cost.specs.Runs.{CostRun};
 
@@ -11,14 +12,13 @@ use crate::sums::{Sums, add_sums};
 use event_feed::begin;
 use event_sessions::Session;
 use event_stream::read_more::read_more;
-use event_stream::{GOING, byte_count, is_full, reason, write_out};
+use event_stream::{StopReason, byte_count, is_full, reason, write_out};
 use std::io::Read;
 
 // What a run leaves.
 #[derive(Clone, Copy)]
 pub struct CostedRun {
-    // Why it stopped, as in crates/event_stream/src/calls/reason.rt.
-    pub why: u64,
+    pub why: StopReason,
     // Bytes read, lines run, bytes of output.
     pub read: u64,
     pub lines: u64,
@@ -50,14 +50,13 @@ pub fn cost_all(
         stamps.old)
         (state_of result.session textures.new retiring.new doomed.new spares.new newest.new
         stamps.new)
-        result.sums result.why result.read result.lines result.written }
+        result.sums (reason_number result.why) result.read result.lines result.written }
 {
     let mut at = begin();
     let mut sums = Sums { moved: 0, whole: 0 };
     let mut read = 0;
     let mut written = 0;
-    let mut why = GOING;
-    while why == GOING {
+    loop {
         let end = read_more(input, buf, at);
         let came = end - (at.from + at.held);
         read += byte_count(end - at.end);
@@ -65,21 +64,19 @@ pub fn cost_all(
             at, end, buf, textures, retiring, doomed, spares, newest, stamps, copies, views, out,
         );
         at = turn.at;
-        let cost = turn.sums;
-        sums = add_sums(sums, cost);
-        let filled = at.filled;
-        let wrote = write_out(&out[0..filled], true);
+        sums = add_sums(sums, turn.sums);
+        let wrote = write_out(&out[..at.filled], true);
         written += byte_count(wrote.bytes);
         let full = is_full(read, buf.len(), written, out.len());
-        why = reason(came, wrote.all, full);
-    }
-    let session = at.session;
-    CostedRun {
-        why,
-        read,
-        lines: at.number,
-        written,
-        sums,
-        session,
+        if let Some(why) = reason(came, wrote.all, full) {
+            return CostedRun {
+                why,
+                read,
+                lines: at.number,
+                written,
+                sums,
+                session: at.session,
+            };
+        }
     }
 }

@@ -46,18 +46,14 @@ pub fn cost_line(
         stamps.new)
         event sums result.sums filled result.filled out.old out.new }
 {
-    let shape = session.shape;
     let answered = answer_event(
         session, textures, retiring, doomed, spares, newest, stamps, copies, views, event,
     );
-    let answer = answered.answer;
-    let cost = plan_cost(shape, copies, copy_count(answer));
-    let end = put_cost(out, filled, number, event, answer, cost.moved);
-    let after = answered.session;
-    let total = add_sums(sums, cost);
+    let cost = plan_cost(session.shape, copies, copy_count(answered.answer));
+    let end = put_cost(out, filled, number, event, answered.answer, cost.moved);
     CostedLine {
-        session: after,
-        sums: total,
+        session: answered.session,
+        sums: add_sums(sums, cost),
         filled: end,
     }
 }

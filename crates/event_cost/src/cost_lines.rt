@@ -50,37 +50,42 @@ pub fn cost_lines(
         stamps.new out.new) }
 {
     let size = out.len();
-    let none = Sums { moved: 0, whole: 0 };
     let mut run = CostedLines {
         session,
-        sums: none,
+        sums: Sums { moved: 0, whole: 0 },
         number,
         from: 0,
         filled: 0,
     };
+    // Each line's own length and output say how far a turn goes, so no range counts the turns.
     while MOST_ROW <= size - run.filled {
-        let from = run.from;
-        let parsed = parse_first(&input[from..]);
-        let end = from + parsed.end;
+        let parsed = parse_first(&input[run.from..]);
+        let end = run.from + parsed.end;
         if input.len() <= end {
             return run;
         }
-        let event = parsed.event;
-        let before = run.session;
-        let sums = run.sums;
         let current = run.number + 1;
-        let next = end + 1;
         let ran = cost_line(
-            event, current, sums, before, textures, retiring, doomed, spares, newest, stamps,
-            copies, views, out, run.filled,
+            parsed.event,
+            current,
+            run.sums,
+            run.session,
+            textures,
+            retiring,
+            doomed,
+            spares,
+            newest,
+            stamps,
+            copies,
+            views,
+            out,
+            run.filled,
         );
-        let after = ran.session;
-        let total = ran.sums;
         run = CostedLines {
-            session: after,
-            sums: total,
+            session: ran.session,
+            sums: ran.sums,
             number: current,
-            from: next,
+            from: end + 1,
             filled: ran.filled,
         };
     }

@@ -42,12 +42,11 @@ pub fn cost_turn(
         result buf.old buf.new out.old out.new }
 {
     let from = before.from;
-    let session = before.session;
     let to = finish(buf, from, before.held, end);
     let run = cost_lines(
         &buf[from..to],
         before.number,
-        session,
+        before.session,
         textures,
         retiring,
         doomed,
@@ -58,16 +57,16 @@ pub fn cost_turn(
         views,
         out,
     );
-    let after = run.session;
-    let sums = run.sums;
     let place = rest_of(buf, from, to, run.from);
-    let at = FeedState {
-        session: after,
-        number: run.number,
-        from: place.from,
-        held: place.held,
-        end: place.end,
-        filled: run.filled,
-    };
-    CostedTurn { at, sums }
+    CostedTurn {
+        at: FeedState {
+            session: run.session,
+            number: run.number,
+            from: place.from,
+            held: place.held,
+            end: place.end,
+            filled: run.filled,
+        },
+        sums: run.sums,
+    }
 }

@@ -16,7 +16,7 @@ mod sums;
 
 ghost use Rattle.event_stream.specs.Lends.{Lends};
 
-use event_stream::ENDED;
+use event_stream::StopReason;
 use grid_stamps::PAGE_STAMPS;
 use pool_memory::COPY_STRIDE;
 use pool_records::{DOOMED_STRIDE, RETIRING_STRIDE, SPARE_STRIDE, TEXTURE_STRIDE};
@@ -73,9 +73,8 @@ fn main(rt: HostRuntime) {
         &mut out,
     );
     // The sums of a part of the list would pass for those of the whole.
-    if run.why == ENDED {
-        let sums = run.sums;
-        let size = put_sums::put_sums(&mut out, sums);
+    if run.why == StopReason::Ended {
+        let size = put_sums::put_sums(&mut out, run.sums);
         event_stream::write_out(&out[0..size], true);
     }
 }

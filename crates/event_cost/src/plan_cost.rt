@@ -16,12 +16,9 @@ pub fn plan_cost(shape: VersionShape, copies: &[u64], n: usize) -> Sums
     ensures { result ≡ clipped_sums (plan_sums shape (table copy_stride read_copy n copies.now)) }
 {
     let mut sums = Sums { moved: 0, whole: 0 };
-    let mut i = 0;
-    while i < n {
-        let from = COPY_STRIDE * i;
-        let cost = copy_cost(shape, &copies[from..]);
+    for i in 0..n {
+        let cost = copy_cost(shape, &copies[COPY_STRIDE * i..]);
         sums = add_sums(sums, cost);
-        i += 1;
     }
     sums
 }

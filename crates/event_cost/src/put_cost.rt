@@ -10,19 +10,11 @@ use event_answers::{Answer, put_accepted, put_row};
 use event_lines::Event;
 
 // Returns whether the event is a plan.
+#[tactic(auto, unfolding(crate::specs::Costs::is_plan))]
 fn is_plan(event: Event) -> bool
     ensures { result ≡ is_plan event }
 {
-    match event {
-        Event::Plan {
-            id: _,
-            held: _,
-            slice: _,
-            level: _,
-            cover: _,
-        } => true,
-        _ => false,
-    }
+    matches!(event, Event::Plan { .. })
 }
 
 // Puts the line of an accepted plan.

@@ -5,7 +5,6 @@ ghost use Rattle.event_text.specs.Fields.{comma};
 ghost use Rattle.event_answers.specs.Ended.{fields_ended};
 ghost use Rattle.event_cost.specs.Costs.{sum_field};
 
-use crate::sums::LARGEST;
 use base_digits::put_text;
 use event_answers::put_field;
 
@@ -14,7 +13,7 @@ pub fn put_sum(out: &mut [u8], at: usize, sum: u64) -> usize
     requires { at + 21 ≤ length out.old }
     ensures { (result ≤ at + 21) × Put out.old at (comma ∷ sum_field sum) result out.new }
 {
-    if sum == LARGEST {
+    if sum == u64::MAX {
         return put_text(out, at, b",-");
     }
     put_field(out, at, sum)

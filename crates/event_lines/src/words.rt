@@ -34,7 +34,8 @@ pub struct Start {
     pub end: usize,
 }
 
-// Returns the word that a field is. The words of the calls that a program makes most come first.
+// Returns the word that a field is. The words of the calls that a program makes most come first. With a `match` on byte strings the check asks for some fifty
+// goals, one for each leaf of its tree of lengths and bytes, and closes none of them alone.
 fn word_of(field: &[u8]) -> Word
     ensures { result ≡ word_of field.now }
 {

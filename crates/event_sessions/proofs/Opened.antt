@@ -44,14 +44,14 @@ module _ (s : Session) (textures retiring doomed spares newest stamps : List ℕ
   outcome_here =
       e ∙ ap (λ (b : Bool). cond b 0 1) (same_sizes (opened_pool working) s.pool opened_book s.book textures retiring doomed spares newest stamps)
 
-  pub open_refused : (outcome ≡ 0 → ⊥) → SaysOnly (Refused 1) before (opens before working)
+  pub open_refused : (k : ℕ) → k ≡ outcome → (outcome ≡ 0 → ⊥) → SaysOnly (Refused k) before (opens before working)
   unfolding SaysOnly opens InBuffers reply_told
-  open_refused n copies views = (tt, go (sizes_fit before.lent) outcome_here)
+  open_refused k is n copies views = (tt, go (sizes_fit before.lent) outcome_here)
     where
       go : (b : Bool) → outcome ≡ cond b 0 1
-          → ◌≡◌ {A = Option Reply × SessionState} (some (refusal 1), before) (cond b (some done, opened_state before working) (some (refusal 1), before))
+          → ◌≡◌ {A = Option Reply × SessionState} (some (refusal k), before) (cond b (some done, opened_state before working) (some (refusal 1), before))
       go true q = absurd (n q)
-      go false q = refl
+      go false q = ap (λ (x : ℕ). (some (refusal x), before)) (is ∙ q)
 
   pub open_done : outcome ≡ 0 → (p : Pool) (b : PacingBook) → p ≡ opened_pool working → b ≡ opened_book
       → SaysOnly Done (state_of (record { opened = 1; taken = s.taken; pool = p; book = b; shape = s.shape }) textures retiring doomed spares newest stamps) (opens before working)

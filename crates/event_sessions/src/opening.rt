@@ -25,20 +25,20 @@ fn open_session(session: Session, stores: &Stores<'_>, working: u64) -> Answered
         stores.newest,
         stores.stamps,
     );
-    if said.outcome != 0 {
-        return Answered {
-            session,
-            answer: Answer::Refused(1),
-        };
-    }
-    Answered {
-        session: Session {
-            opened: 1,
-            pool: said.pool,
-            book: said.book,
-            ..session
+    match said.outcome {
+        Ok(()) => Answered {
+            session: Session {
+                opened: 1,
+                pool: said.pool,
+                book: said.book,
+                ..session
+            },
+            answer: Answer::Done,
         },
-        answer: Answer::Done,
+        Err(refusal) => Answered {
+            session,
+            answer: Answer::Refused(refusal.number()),
+        },
     }
 }
 

@@ -62,9 +62,8 @@ fn main(rt: HostRuntime) {
         &mut out,
         false,
     );
-    let session = stopped.session;
     let size = put_sheet::put_sheet(
-        session, &textures, &retiring, &doomed, &spares, &newest, &stamps, &mut out,
+        stopped.session, &textures, &retiring, &doomed, &spares, &newest, &stamps, &mut out,
     );
     event_stream::write_out(&out[0..size], true);
 }

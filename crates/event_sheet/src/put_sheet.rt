@@ -40,10 +40,8 @@ pub fn put_sheet(
     if session.opened != 1 {
         return 0;
     }
-    let pool = session.pool;
-    let book = session.book;
     let answer = print_sheet(
-        pool, book, textures, retiring, doomed, spares, newest, stamps, out,
+        session.pool, session.book, textures, retiring, doomed, spares, newest, stamps, out,
     );
     printed_bytes(answer)
 }

@@ -1,4 +1,5 @@
 pub mod Reasons
 pub mod Sofar
+pub mod Turns
 pub mod Loop
 pub mod Lengths

@@ -1,12 +1,14 @@
 -- Laws of the reason why a run stops. Assumes nothing.
-use mathlib.Core.Path.{◌≡◌, refl, sym, ◌∙◌}
+use mathlib.Core.Path.{◌≡◌, refl}
 use mathlib.Core.Bool.{Bool, true, false, cond, ◌||◌}
-use Prim.Native.Nat.{ℕ, zero, suc, ◌+◌, ◌-◌, ◌^◌, ◌≤◌, ◌<◌}
-use native.Mathlib.Decide.{dec_lt}
+use Prim.Native.Nat.{ℕ, zero, suc, ◌+◌, ◌^◌, ◌≤◌, ◌<◌}
 use native.Mathlib.Omega.{arith}
-use borrow.Author.Tests.{le-leb, lt-leb, leb-false, le-ltb, lt-ltb, ne_eqb}
-use lib.Dec.{leb, ltb}
-use Rattle.event_stream.specs.Streams.{why_going, why_ended, why_too_long, is_full, reason_of}
+use borrow.Author.Tests.{lt-leb, leb-false, ne_eqb}
+use lib.Dec.{leb}
+use Rattle.std.specs.Prelude.{Option, Some, None}
+use Rattle.event_stream.specs.declared.calls.reason.StopReason.{StopReason}
+use Rattle.event_stream.specs.declared.calls.reason.StopReason.TheVariants.{Ended, Unwritten, TooLong}
+use Rattle.event_stream.specs.Streams.{why_going, why_ended, why_too_long, reason_number, why_number, is_full, reason_of}
 
 -- what each reason says of the turn
 pub record Reason (came : ℕ) (full : Bool) (why : ℕ) : Type 0 where
@@ -51,6 +53,16 @@ reason_of_lem (suc k) true full = rw (ne_eqb (suc k) 0 (λ e. omega arith)) (by_
 pub reason_says : (came : ℕ) (written full : Bool) (why : ℕ) → why ≡ reason_of came written full → Reason came full why
 reason_says came written full why e = rw e (reason_of_lem came written full)
 
+-- it goes on where there is no reason to stop
+pub no_reason : (o : Option StopReason) → ((why : StopReason) → o ≡ Some why → ⊥) → why_number o ≡ why_going
+no_reason None n = refl
+no_reason (Some why) n = absurd (n why refl)
+
+pub some_reason : (why : StopReason) → reason_number why ≡ why_going → ⊥
+some_reason Ended e = let y : ⊥ = omega arith in y
+some_reason Unwritten e = let y : ⊥ = omega arith in y
+some_reason TooLong e = let y : ⊥ = omega arith in y
+
 -- where it is not full, there are numbers for another turn
 pub not_full : (read size written room : ℕ) → is_full read size written room ≡ false → (read + size < 2 ^ 64) × (written + room < 2 ^ 64)
 unfolding is_full
@@ -65,11 +77,3 @@ not_full read size written room e = go (leb (2 ^ 64) (read + size)) (leb (2 ^ 64
 pub full_first : (size room : ℕ) → size < 2 ^ 64 → room < 2 ^ 64 → is_full 0 size 0 room ≡ false
 unfolding is_full
 full_first size room a b = rw (lt-leb (2 ^ 64) (0 + size) (omega arith), lt-leb (2 ^ 64) (0 + room) (omega arith))
-
--- the test of a count
-pub count_full : (count more : ℕ) → more < 2 ^ 64 → ltb (18446744073709551615 - more) count ≡ leb (2 ^ 64) (count + more)
-count_full count more h = go (dec_lt (18446744073709551615 - more) count)
-  where
-    go : Dec (18446744073709551615 - more < count) → ltb (18446744073709551615 - more) count ≡ leb (2 ^ 64) (count + more)
-    go (yes p) = lt-ltb (18446744073709551615 - more) count p ∙ sym (le-leb (2 ^ 64) (count + more) (omega arith))
-    go (no p) = le-ltb (18446744073709551615 - more) count (omega arith) ∙ sym (lt-leb (2 ^ 64) (count + more) (omega arith))

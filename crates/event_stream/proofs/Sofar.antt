@@ -2,11 +2,11 @@
 use mathlib.Core.Path.{◌≡◌, refl, sym, ap, ◌∙◌}
 use mathlib.Core.Bool.{Bool, true, false, cond}
 use mathlib.Core.List.{List, [], ◌∷◌, ◌++◌, append-nil}
-use Prim.Native.Nat.{ℕ, suc, ◌+◌, ◌-◌, ◌*◌, ◌^◌, ◌≤◌, ◌<◌}
+use Prim.Native.Nat.{ℕ, suc, ◌+◌, ◌≤◌}
 use native.Mathlib.Nat.{zero-add}
 use native.Mathlib.Omega.{arith}
 use lib.Dec.{eqb}
-use lib.ListN.{length, take, length-append, length-drop}
+use lib.ListN.{length, take, length-append}
 use lib.Seq.{length-take-le}
 use Rattle.event_sessions.specs.Sessions.{SessionState, HoldsPool}
 use Rattle.event_runs.specs.Lines.{in_first_line, whole_lines, output}
@@ -84,28 +84,14 @@ module _ (cs vs : ℕ) (s : SessionState) where
           let d = ap (λ (x : Carried). length (fed_output cs vs x front)) (same ∙ r.is) in
           omega (arith, t.length_is, r.put)
 
-      -- of the bytes that waited and those that were read
-      module _ (got rest : ℕ) (block_length : length block ≡ wait + got) (left_length : length left ≡ rest) where
-        rest_is : rest ≡ wait + got - t.used
-        rest_is = omega (arith, ap length t.rest, length-drop t.used block)
-
-        pub sofar_turn : Sofar cs vs s after (read + got) rest (written + filled)
-        sofar_turn = record {
-          input = r.input ++ front;
-          is = t.carried ∙ ap (λ (x : Carried). fed cs vs x front) (same ∙ r.is) ∙ fed_append cs vs (first s) r.input front;
-          bytes =
-              let a = length-append r.input front in
-              let b = length-take-le t.used block t.fits in
-              let d = t.fits in
-              let e = r.bytes in
-              let f = rest_is in
-              omega arith;
-          put = sym put_more;
-        }
-
-        -- there is less to do
-        pub turn_less : 0 < wait + got → read + got ≤ 2 ^ 64 → 2 * (2 ^ 64 - (read + got)) + rest < 2 * (2 ^ 64 - read) + wait
-        turn_less h k = let p = t.progress (omega arith) in let e = rest_is in let f = t.fits in omega arith
+      -- `rest` bytes wait of the `came` that came
+      pub sofar_turn : (came rest : ℕ) → length r.input + t.used + rest ≡ came → Sofar cs vs s after came rest (written + filled)
+      sofar_turn came rest e = record {
+        input = r.input ++ front;
+        is = t.carried ∙ ap (λ (x : Carried). fed cs vs x front) (same ∙ r.is) ∙ fed_append cs vs (first s) r.input front;
+        bytes = omega (arith, length-append r.input front, length-take-le t.used block t.fits, e);
+        put = sym put_more;
+      }
 
     -- ---- the end
 

@@ -2,12 +2,14 @@
 -- But every byte that came was fed; where the input ended, all its lines were run, and there were as many bytes of output as theirs has, which were given
 -- to be written where output is shown; and a run stops before that only where output could not be written or a 64-bit number could not count on. However
 -- it stops, it leaves a pool once one was opened, so that a caller may go on with it.
-use Rattle.std.specs.Prelude.{ℕ, ◌+◌, ◌^◌, ◌≤◌, ◌<◌, ◌≡◌, Bool, true, cond, ◌||◌, List, eqb, leb, length}
+use Rattle.std.specs.Prelude.{ℕ, ◌+◌, ◌^◌, ◌≤◌, ◌<◌, ◌≡◌, Bool, true, cond, ◌||◌, List, eqb, leb, length, Option, Some, None}
+use Rattle.event_stream.specs.declared.calls.reason.StopReason.{StopReason}
+use Rattle.event_stream.specs.declared.calls.reason.StopReason.TheVariants.{Ended, Unwritten, TooLong}
 use Rattle.event_sessions.specs.Sessions.{SessionState, HoldsPool}
 use Rattle.event_runs.specs.Lines.{whole_lines, output}
 use Rattle.event_runs.specs.Texts.{all_lines, after_lines, text_output}
 
--- ---- why a run stops, as src/calls/reason.rt numbers it
+-- ---- why a run stops, as a number, with 0 where it goes on
 
 abbrev pub why_going : ℕ
 why_going = 0
@@ -20,6 +22,15 @@ why_unwritten = 2
 
 abbrev pub why_too_long : ℕ
 why_too_long = 3
+
+abbrev pub reason_number : StopReason → ℕ
+reason_number Ended = why_ended
+reason_number Unwritten = why_unwritten
+reason_number TooLong = why_too_long
+
+abbrev pub why_number : Option StopReason → ℕ
+why_number None = why_going
+why_number (Some why) = reason_number why
 
 -- a turn that reads up to `size` bytes more and writes up to `room` bytes more could count past 2 ^ 64 - 1
 unfoldable pub is_full : ℕ → ℕ → ℕ → ℕ → Bool

@@ -5,6 +5,6 @@ mod calls;
 pub mod read_more;
 
 pub use calls::byte_count::byte_count;
-pub use calls::reason::{ENDED, GOING, is_full, reason};
+pub use calls::reason::{StopReason, is_full, reason};
 pub use calls::run_all::{Stopped, run_all};
 pub use calls::write_out::{Wrote, write_out};

@@ -39,9 +39,9 @@ unfoldable pub pending_destroy_bytes_on : Lent → Told ℕ
 pending_destroy_bytes_on l = cond (is_pool l) (answer (model_of l).dooming) (refused_with 1)
 
 -- the one answer that 01 leaves open: some tile stamped above `held`, none only where none is
-abbrev pub IsTile : Lent → ℕ → ℕ → ℕ → ℕ → Told Option Tile → Type 0
+abbrev pub IsTile : Lent → ℕ → ℕ → ℕ → ℕ → Told (Option Tile) → Type 0
 IsTile l id slice level held (refused_with n) = ⊥
 IsTile l id slice level held (answer t) = IsDirtyTileOf (model_of l) id slice level held t
 
-unfoldable pub DirtyTileOn : Lent → ℕ → ℕ → ℕ → ℕ → Told Option Tile → Type 0
+unfoldable pub DirtyTileOn : Lent → ℕ → ℕ → ℕ → ℕ → Told (Option Tile) → Type 0
 DirtyTileOn l id slice level held r = cond (is_pool l) (IsTile l id slice level held r) (r ≡ refused_with 1)

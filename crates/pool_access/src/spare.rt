@@ -13,6 +13,7 @@ ghost use Rattle.pool_rules.specs.RuleConstants.{most_places};
 
 use crate::records::{insert_at, read_at};
 use pool_records::{SpareRecord, TEXTURE_SPARES_AT, TEXTURE_STRIDE};
+use std::ops::Range;
 
 // Returns record k.
 pub fn spare_at(s: &[u64], k: usize) -> SpareRecord
@@ -51,22 +52,12 @@ fn spares_between(textures: &[u64], from: usize, to: usize) -> usize
     sum
 }
 
-// The places from one on, up to another.
-#[derive(Clone, Copy)]
-struct Stretch {
-    from: usize,
-    to: usize,
-}
-
 // Returns those of n places that are before i, or those from i on: whichever are fewer.
-fn fewer(n: usize, i: usize) -> Stretch
+fn fewer(n: usize, i: usize) -> Range<usize>
     requires { i ≤ n }
-    ensures { ((result.from ≡ 0) × (result.to ≡ i)) ⊎ ((result.from ≡ i) × (result.to ≡ n) × (0 < i)) }
+    ensures { ((result.start ≡ 0) × (result.end ≡ i)) ⊎ ((result.start ≡ i) × (result.end ≡ n) × (0 < i)) }
 {
-    if i <= n - i {
-        return Stretch { from: 0, to: i };
-    }
-    Stretch { from: i, to: n }
+    if i <= n - i { 0..i } else { i..n }
 }
 
 // Returns where the spares of texture i begin, of n textures that have `kept` in all. It counts from the nearer end, so that at
@@ -77,8 +68,8 @@ pub fn first_spare(textures: &[u64], n: usize, kept: usize, i: usize) -> usize
     ensures { result ≡ total (λ t. t.spares) (textures_in i textures.now) }
 {
     let near = fewer(n, i);
-    let sum = spares_between(textures, near.from, near.to);
-    if near.from == 0 {
+    let sum = spares_between(textures, near.start, near.end);
+    if near.start == 0 {
         return sum;
     }
     kept - sum

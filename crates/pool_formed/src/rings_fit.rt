@@ -10,7 +10,7 @@ ghost use Rattle.pool_rules.specs.RuleConstants.{most_places};
 use base_tables::ring_record;
 use grid_shapes::MOST_SHAPE_BYTES;
 use pool_memory::Pool;
-use pool_records::{DOOMED_STRIDE, RETIRING_STRIDE};
+use pool_records::{DOOMED_STRIDE, RETIRING_STRIDE, Record, RetiringRecord};
 use pool_rules::LIMIT;
 
 // A retiring version's counts and submissions are at most 2^48, its bytes at most 2^44.
@@ -18,11 +18,12 @@ fn is_retiring(p: &[u64]) -> bool
     requires { retiring_stride ≤ length p.now }
     ensures { result ≡ is_retiring (retiring_of (read_retiring p.now)) }
 {
-    (p[2] <= LIMIT)
-        & (p[3] <= LIMIT)
-        & (p[4] <= LIMIT)
-        & (p[5] <= LIMIT)
-        & (p[6] <= MOST_SHAPE_BYTES)
+    let x = RetiringRecord::read(p);
+    (x.seq <= LIMIT)
+        & (x.epoch <= LIMIT)
+        & (x.birth <= LIMIT)
+        & (x.held <= LIMIT)
+        & (x.bytes <= MOST_SHAPE_BYTES)
 }
 
 // The n versions of the retiring ring: the popped one, if there is one, and the queue.

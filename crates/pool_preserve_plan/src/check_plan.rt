@@ -39,7 +39,8 @@ fn skips_spent(shape: VersionShape, found: Found, upload: Upload) -> bool
     upload.cover & inside & is_spent(found)
 }
 
-// Refuses no shape, a texture tracked with another shape, more copies than there is room for, and a level left out that could not be counted.
+// Refuses what is no shape, a texture tracked with another shape, more copies than there is room for, and a plan that leaves out a level
+// whose write could not be counted; the lowest number first.
 pub fn check_plan(
     newest: &[u64],
     stamps: &[u64],

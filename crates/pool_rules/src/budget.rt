@@ -58,12 +58,10 @@ impl VersionBudget {
     }
 
     // Returns the allocated bytes that the process has to fall below before parking resumes.
+    #[tactic(auto, unfolding(crate::specs::Budget::resume_below))]
     pub fn resume_below(self) -> u64
         ensures { result ≡ resume_below self }
     {
-        if self.line < self.cap {
-            return 0;
-        }
-        self.line - self.cap
+        self.line.saturating_sub(self.cap)
     }
 }

@@ -8,13 +8,19 @@ use pool_access::{has_id, texture_at};
 use pool_memory::Pool;
 use pool_records::find_texture;
 
-// The id's place among the textures, whether the id is tracked, whether with the same shape, and the stamps of the history that begins
-// where one does.
+// How the texture is tracked before the call: not at all, or with the call's shape or another one.
+#[derive(Clone, Copy)]
+pub enum Before {
+    Untracked,
+    SameShape,
+    OtherShape,
+}
+
+// The id's place among the textures, how it is tracked, and the stamps of the history that begins where one does.
 #[derive(Clone, Copy)]
 pub struct Look {
     pub place: usize,
-    pub tracked: bool,
-    pub same: bool,
+    pub before: Before,
     pub stamps: usize,
 }
 
@@ -37,17 +43,21 @@ pub fn look_up(
     if !has_id(textures, pool.tracked, place, id) {
         return Ok(Look {
             place,
-            tracked: false,
-            same: false,
+            before: Before::Untracked,
             stamps,
         });
     }
     let t = texture_at(textures, place);
-    let same = same_shape(t.shape, shape);
+    if same_shape(t.shape, shape) {
+        return Ok(Look {
+            place,
+            before: Before::SameShape,
+            stamps,
+        });
+    }
     Ok(Look {
         place,
-        tracked: true,
-        same,
+        before: Before::OtherShape,
         stamps,
     })
 }

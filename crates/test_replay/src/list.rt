@@ -5,7 +5,7 @@ ghost use Rattle.event_feed.specs.FeedConstants.{kept_bytes};
 
 use crate::parts::next_part;
 use event_feed::{begin, feed};
-use event_stream::{GOING, byte_count, is_full, reason, write_out};
+use event_stream::{byte_count, is_full, reason, write_out};
 
 // Runs the lines of a list from a fresh session on, in turns as `run_all` of crates/event_stream does with standard input, and writes
 // their output.
@@ -27,18 +27,18 @@ pub fn run_list(
     let mut at = begin();
     let mut given = 0;
     let mut written = 0;
-    let mut why = GOING;
-    while why == GOING {
+    loop {
         let end = next_part(list, given, buf, at);
         let came = end - (at.from + at.held);
         given += end - at.end;
         at = feed(
             at, end, buf, textures, retiring, doomed, spares, newest, stamps, copies, views, out,
         );
-        let filled = at.filled;
-        let wrote = write_out(&out[0..filled], true);
+        let wrote = write_out(&out[..at.filled], true);
         written += byte_count(wrote.bytes);
         let full = is_full(byte_count(given), buf.len(), written, out.len());
-        why = reason(came, wrote.all, full);
+        if reason(came, wrote.all, full).is_some() {
+            return;
+        }
     }
 }

@@ -1,41 +1,38 @@
 // Why a run of the lines of an input stops.
 ghost use Rattle.std.specs.Prelude.{◌≡◌};
-ghost use Rattle.event_stream.specs.Streams.{is_full, reason_of};
+ghost use Rattle.event_stream.specs.Streams.{is_full, reason_of, why_number};
 
-// It goes on.
-pub const GOING: u64 = 0;
-
-// The input has ended, or cannot be read.
-pub const ENDED: u64 = 1;
-
-// Output could not be written.
-const UNWRITTEN: u64 = 2;
-
-// The bytes that were read or written could pass the largest number in the next turn.
-const TOO_LONG: u64 = 3;
-
-// 2^64 - 1.
-const LARGEST: u64 = 18446744073709551615;
+#[derive(Clone, Copy, PartialEq, Eq)]
+pub enum StopReason {
+    // The input has ended, or cannot be read.
+    Ended,
+    // Output could not be written.
+    Unwritten,
+    // The bytes that were read or written could pass the largest number in the next turn.
+    TooLong,
+}
 
 // Returns whether a turn that reads up to `size` bytes more and writes up to `room` bytes more could count past the largest number.
+#[tactic(auto, unfolding(crate::specs::Streams::is_full))]
 pub fn is_full(read: u64, size: usize, written: u64, room: usize) -> bool
     ensures { result ≡ is_full read size written room }
 {
-    (LARGEST - (size as u64) < read) | (LARGEST - (room as u64) < written)
+    read.checked_add(size as u64).is_none() | written.checked_add(room as u64).is_none()
 }
 
-// Returns whether to go on after a turn for which `came` bytes were there, and if not, why.
-pub fn reason(came: usize, written: bool, full: bool) -> u64
-    ensures { result ≡ reason_of came written full }
+// Returns why a run stops after a turn for which `came` bytes were there, if it does.
+#[tactic(auto, unfolding(crate::specs::Streams::reason_of))]
+pub fn reason(came: usize, written: bool, full: bool) -> Option<StopReason>
+    ensures { why_number result ≡ reason_of came written full }
 {
     if !written {
-        return UNWRITTEN;
+        return Some(StopReason::Unwritten);
     }
     if came == 0 {
-        return ENDED;
+        return Some(StopReason::Ended);
     }
     if full {
-        return TOO_LONG;
+        return Some(StopReason::TooLong);
     }
-    GOING
+    None
 }

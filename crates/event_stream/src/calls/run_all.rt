@@ -1,23 +1,22 @@
 // The lines of standard input run one after the other: each turn reads where nothing waits, feeds, and writes the turn's output.
 ghost use Rattle.std.specs.Prelude.{◌≡◌, ◌≤◌, ◌<◌, length};
-ghost use Rattle.event_sessions.specs.Sessions.{state_of};
+ghost use Rattle.event_sessions.specs.LentStores.{state_in, SameStores};
 ghost use Rattle.event_runs.specs.Lines.{longest_answer};
 ghost use Rattle.event_feed.specs.FeedConstants.{kept_bytes};
-ghost use Rattle.event_stream.specs.Streams.{RunOf};
+ghost use Rattle.event_stream.specs.Streams.{RunOf, reason_number};
 ghost use Rattle.event_sessions.specs.Noted.{fresh_session};
 
 use crate::calls::byte_count::byte_count;
-use crate::calls::reason::{GOING, is_full, reason};
+use crate::calls::reason::{StopReason, is_full, reason};
 use crate::calls::write_out::write_out;
 use crate::read_more::read_more;
 use event_feed::{begin, feed};
-use event_sessions::Session;
+use event_sessions::{Session, Stores};
 use std::io::Read;
 
 #[derive(Clone, Copy)]
 pub struct Stopped {
-    // The reason, as in reason.rt.
-    pub why: u64,
+    pub why: StopReason,
     // Bytes read, lines run, bytes of output.
     pub read: u64,
     pub lines: u64,
@@ -31,48 +30,34 @@ pub struct Stopped {
 pub fn run_all(
     input: &mut impl Read,
     buf: &mut [u8],
-    textures: &mut [u64],
-    retiring: &mut [u64],
-    doomed: &mut [u64],
-    spares: &mut [u64],
-    newest: &mut [u64],
-    stamps: &mut [u64],
-    copies: &mut [u64],
-    views: &mut [u64],
+    stores: &mut Stores<'_>,
     out: &mut [u8],
     shown: bool,
 ) -> Stopped
-    requires { (kept_bytes < length buf.old) × (longest_answer (length copies.old) (length views.old) ≤ length out.old) }
-    ensures { RunOf (length copies.old) (length views.old) (length buf.old) (length out.old)
-        (state_of fresh_session textures.old retiring.old doomed.old spares.old newest.old
-        stamps.old)
-        (state_of result.session textures.new retiring.new doomed.new spares.new newest.new
-        stamps.new)
-        result.why result.read result.lines result.written }
+    requires { (kept_bytes < length buf.old) × (longest_answer (length stores.old.copies.now) (length stores.old.views.now) ≤ length out.old) }
+    ensures same { SameStores stores.old stores.new }
+    ensures ran { RunOf (length stores.old.copies.now) (length stores.old.views.now) (length buf.old) (length out.old) (state_in fresh_session stores.old)
+        (state_in result.session stores.new) (reason_number result.why) result.read result.lines result.written }
 {
     let mut at = begin();
     let mut read = 0;
     let mut written = 0;
-    let mut why = GOING;
-    while why == GOING {
+    loop {
         let end = read_more(input, buf, at);
         let came = end - (at.from + at.held);
         read += byte_count(end - at.end);
-        at = feed(
-            at, end, buf, textures, retiring, doomed, spares, newest, stamps, copies, views, out,
-        );
-        let filled = at.filled;
-        let wrote = write_out(&out[0..filled], shown);
+        at = feed(at, end, buf, stores, out);
+        let wrote = write_out(&out[..at.filled], shown);
         written += byte_count(wrote.bytes);
         let full = is_full(read, buf.len(), written, out.len());
-        why = reason(came, wrote.all, full);
-    }
-    let session = at.session;
-    Stopped {
-        why,
-        read,
-        lines: at.number,
-        written,
-        session,
+        if let Some(why) = reason(came, wrote.all, full) {
+            return Stopped {
+                why,
+                read,
+                lines: at.number,
+                written,
+                session: at.session,
+            };
+        }
     }
 }

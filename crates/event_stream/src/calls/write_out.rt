@@ -4,7 +4,8 @@ ghost use Rattle.std.specs.Prelude.{◌≡◌, length};
 // The descriptor of standard output.
 const STDOUT_FILENO: i32 = 1;
 
-// How many bytes of output there were, and whether all were written that are to be shown.
+// How many bytes of output there were, and whether all were written that are to be shown. Both are told together, since `CostRun` of
+// crates/event_cost/specs/Runs.antt counts the bytes of a failed write too.
 #[derive(Clone, Copy)]
 pub struct Wrote {
     pub bytes: usize,
@@ -16,12 +17,8 @@ pub struct Wrote {
 pub fn write_out(bytes: &[u8], shown: bool) -> Wrote
     ensures { result.bytes ≡ length bytes.now }
 {
-    let mut all = true;
-    if shown {
-        all = io::write_all(STDOUT_FILENO, bytes);
-    }
     Wrote {
         bytes: bytes.len(),
-        all,
+        all: !shown || io::write_all(STDOUT_FILENO, bytes),
     }
 }

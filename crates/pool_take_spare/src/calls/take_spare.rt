@@ -6,11 +6,25 @@ ghost use Rattle.pool_memory.specs.Calls.{take_spare_on};
 ghost use Rattle.pool_take_spare.specs.Answer.{taken_told};
 
 use crate::answer::TakeAnswer;
-use crate::look_up::look_up;
+use crate::look_up::{Before, Look, look_up};
 use crate::take_newest::take_newest;
 use grid_shapes::VersionShape;
 use pool_memory::{PacingBook, Pool, same_counts};
 use pool_tracking::{NewTracking, renew_tracking, start_tracking};
+
+// Returns the tracking that begins, at the place and with the stamps that were looked up.
+fn begun(look: Look, id: u64, shape: VersionShape, records: bool, seq: u64) -> NewTracking
+    ensures { result ≡ record { place = look.place; id = id; shape = shape; records = records; seq = seq; stamps = look.stamps } }
+{
+    NewTracking {
+        place: look.place,
+        id,
+        shape,
+        records,
+        seq,
+        stamps: look.stamps,
+    }
+}
 
 // Starts a rename of the texture and hands back its newest spare, if it has one. For a texture that is not tracked, or is tracked
 // with another shape, a tracking begins: it has no spare yet. `seq` is the submission that the rename belongs to.
@@ -41,29 +55,23 @@ pub fn take_spare(
             };
         }
     };
-    if look.same {
-        return take_newest(pool, textures, spares, look.place, seq);
-    }
-    let new = NewTracking {
-        place: look.place,
-        id,
-        shape,
-        records,
-        seq,
-        stamps: look.stamps,
-    };
-    if !look.tracked {
-        let after = start_tracking(pool, textures, newest, stamps, new);
-        return TakeAnswer {
-            pool: after,
-            taken: Ok(None),
-        };
-    }
-    let after = renew_tracking(
-        pool, book, textures, retiring, doomed, spares, newest, stamps, new,
-    );
-    TakeAnswer {
-        pool: after,
-        taken: Ok(None),
+    match look.before {
+        Before::SameShape => take_newest(pool, textures, spares, look.place, seq),
+        Before::Untracked => {
+            let new = begun(look, id, shape, records, seq);
+            TakeAnswer {
+                pool: start_tracking(pool, textures, newest, stamps, new),
+                taken: Ok(None),
+            }
+        }
+        Before::OtherShape => {
+            let renewed = begun(look, id, shape, records, seq);
+            TakeAnswer {
+                pool: renew_tracking(
+                    pool, book, textures, retiring, doomed, spares, newest, stamps, renewed,
+                ),
+                taken: Ok(None),
+            }
+        }
     }
 }

@@ -12,6 +12,6 @@ returns c =
     let z = c.copied_region-region in
     let a = c.args in
     λ i. record {
-      moved = (c.answered_bytes.ensures ∙ ap accepted_bytes (c.copy_bytes-part.ensures ∙ ap (copy_outcome a.shape (get_or a.copy.now 1 0)) z.ensures)) i;
-      whole = (c.answered_bytes-2.ensures ∙ ap accepted_bytes c.copy_bytes-all.ensures) i;
+      moved = (c.answered_bytes.ensures ∙ ap accepted_bytes (c.copy_bytes.ensures ∙ ap (copy_outcome a.shape (get_or a.copy.now 1 0)) z.ensures)) i;
+      whole = (c.answered_bytes-2.ensures ∙ ap accepted_bytes c.copy_bytes-2.ensures) i;
     }

@@ -1,6 +1,5 @@
 -- `plan_cost` meets its contract: the sums are those of the copies before i. Assumes nothing.
 use mathlib.Core.Path.{◌≡◌}
-use Prim.Native.Nat.{◌-◌, ◌≤◌}
 use Rattle.base_tables.specs.Records.{table}
 use Rattle.pool_books.specs.LentLists.{read_copy}
 use Rattle.pool_memory.specs.MemoryConstants.{copy_stride}
@@ -8,7 +7,4 @@ use Rattle.event_cost.specs.Costs.{clipped_sums, plan_sums}
 use Rattle.event_cost.proofs.plan_cost.plan_cost.Given as goal
 
 abbrev pub invariant-loop-i : goal.invariant-loop-i
-invariant-loop-i l = (l.i ≤ l.n) × (l.sums ≡ clipped_sums (plan_sums l.shape (table copy_stride read_copy l.i l.copies)))
-
-abbrev pub decreases-loop-i : goal.decreases-loop-i
-decreases-loop-i l = l.n - l.i
+invariant-loop-i l = l.sums ≡ clipped_sums (plan_sums l.shape (table copy_stride read_copy l.i l.copies))

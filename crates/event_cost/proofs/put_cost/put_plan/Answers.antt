@@ -1,5 +1,4 @@
 -- `put_plan` meets its contract. Assumes nothing.
-use borrow.Enum.Refused.{opened}
 use borrow.Author.Rules.{rules}
 use mathlib.Core.Path.{sym, ap}
 use native.Mathlib.Omega.{arith}
@@ -25,4 +24,4 @@ returns-in-Copies c =
 pub returns-in_default : goal.returns-in_default
 returns-in_default c =
     let a = c.args in
-    (search rules, put_no_row a.number a.bytes a.answer a.out.now a.at (opened c.in_default.in_default-own.keys3))
+    (search rules, put_no_row a.number a.bytes a.answer a.out.now a.at c.in_default.not-Refused c.in_default.not-Copies)

@@ -1,18 +1,26 @@
 -- `open_session` meets its contract: the sizes of the slices decide. Assumes nothing.
-use mathlib.Core.Path.{ap}
-use Rattle.pool_open.specs.declared.calls.open.OpenAnswer.{OpenAnswer}
+use mathlib.Core.List.{[]}
+use mathlib.Core.Path.{◌≡◌, sym, ap, ◌∙◌}
+use Rattle.std.specs.Prelude.{Result}
+use Rattle.grid_shapes.specs.declared.refusal.Refusal.{Refusal}
+use Rattle.grid_shapes.specs.Outcomes.{refused, outcome_number}
+use Rattle.grid_shapes.proofs.Outcomes.{accepted_apart}
 use Rattle.event_sessions.proofs.Opened.{open_refused, open_done}
 use Rattle.event_sessions.proofs.opening.open_session.Goals as goal
 
-pub returns-then-said-ne0 : goal.returns-then-said-ne0
-returns-then-said-ne0 c =
+pub returns-in-Ok : goal.returns-in-Ok
+returns-in-Ok c =
     let a = c.args in
+    let s = a.stores.now in
     let o = c.open-said in
-    open_refused a.session a.stores.now.textures.now a.stores.now.retiring.now a.stores.now.doomed.now a.stores.now.spares.now a.stores.now.newest.now a.stores.now.stamps.now a.working _ (ap (λ (x : OpenAnswer). x.outcome) o.ensures) c.if-said-ne0.true
+    let e = ap (outcome_number {A = Unit {0}}) c.in-Ok.is in
+    open_done a.session s.textures.now s.retiring.now s.doomed.now s.spares.now s.newest.now s.stamps.now a.working _ o.ensures.outcome e _ _ o.ensures.pool o.ensures.book
 
-pub returns : goal.returns
-returns c =
+pub returns-in-Err : goal.returns-in-Err
+returns-in-Err c =
     let a = c.args in
+    let s = a.stores.now in
     let o = c.open-said in
-    open_done a.session a.stores.now.textures.now a.stores.now.retiring.now a.stores.now.doomed.now a.stores.now.spares.now a.stores.now.newest.now a.stores.now.stamps.now a.working _ (ap (λ (x : OpenAnswer). x.outcome) o.ensures) c.if-said-ne0.false _ _
-    (ap (λ (x : OpenAnswer). x.pool) o.ensures) (ap (λ (x : OpenAnswer). x.book) o.ensures)
+    let e = ap (outcome_number {A = Unit {0}}) c.in-Err.is in
+    open_refused a.session s.textures.now s.retiring.now s.doomed.now s.spares.now s.newest.now s.stamps.now a.working _ o.ensures.outcome _
+    (c.number.ensures ∙ sym e) (λ z. accepted_apart {fields = []} _ (ap refused (sym z ∙ e)))

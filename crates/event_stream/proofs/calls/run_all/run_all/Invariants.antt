@@ -1,20 +1,19 @@
 -- Turns until the run stops: what is carried is what some input left, of which every byte that came was fed or waits. The measure falls by the bytes that
 -- were read and fed. Assumes nothing.
-use mathlib.Core.Path.{◌≡◌}
-use Prim.Native.Nat.{◌+◌, ◌-◌, ◌*◌, ◌^◌}
 use lib.ListN.{length}
-use Rattle.event_sessions.specs.Sessions.{state_of}
-use Rattle.event_feed.specs.Places.{carried_of, waiting}
-use Rattle.event_stream.proofs.Loop.{Going, left_while}
+use Rattle.event_sessions.specs.LentStores.{state_in, SameStores}
 use Rattle.event_sessions.specs.Noted.{fresh_session}
+use Rattle.event_feed.specs.Places.{carried_of}
+use Rattle.event_stream.proofs.Loop.{Going}
+use Rattle.event_stream.proofs.Turns.{left_of}
 use Rattle.event_stream.proofs.calls.run_all.run_all.Given as goal
 
 abbrev pub invariant-loop-why : goal.invariant-loop-why
-invariant-loop-why g l =
-    Going (length l.initial.copies) (length l.initial.views) (length l.initial.buf) (length l.initial.out) (state_of fresh_session l.initial.textures l.initial.retiring l.initial.doomed l.initial.spares l.initial.newest l.initial.stamps)
-    (carried_of l.at (state_of l.at.session l.textures l.retiring l.doomed l.spares l.newest l.stamps) l.buf) l.at l.read l.written l.why
-    × (length l.buf ≡ length l.initial.buf) × (length l.textures ≡ length l.initial.textures) × (length l.retiring ≡ length l.initial.retiring) × (length l.doomed ≡ length l.initial.doomed) × (length l.spares ≡ length l.initial.spares) × (length l.newest ≡ length l.initial.newest) × (length l.stamps ≡ length l.initial.stamps) × (length l.copies ≡ length l.initial.copies) × (length l.views ≡ length l.initial.views) × (length l.out ≡ length l.initial.out)
+invariant-loop-why g l = record {
+  going : Going (length l.initial.stores.copies.now) (length l.initial.stores.views.now) (length l.initial.buf) (length l.initial.out) (state_in fresh_session l.initial.stores)
+      (carried_of l.at (state_in l.at.session l.stores) l.buf) l.at l.read l.written;
+  same : SameStores l.initial.stores l.stores;
+}
 
 abbrev pub decreases-loop-why : goal.decreases-loop-why
-decreases-loop-why g l =
-    left_while l.why (2 * (2 ^ 64 - l.read) + waiting l.at)
+decreases-loop-why g l = left_of l.read l.at

@@ -1,7 +1,6 @@
 -- `park` meets its contract: refused, destroyed or kept. Assumes nothing.
 use mathlib.Core.Path.{sym, ap}
 use mathlib.Core.List.{[]}
-use native.Mathlib.Omega.{arith}
 use Rattle.grid_shapes.specs.Outcomes.{refused, number_of}
 use Rattle.grid_shapes.proofs.Outcomes.{accepted_apart}
 use Rattle.pool_memory.proofs.FromPool.{pool_fits}

@@ -6,7 +6,6 @@ use Rattle.grid_shapes.specs.Outcomes.{refused, number_of}
 use Rattle.grid_shapes.proofs.Outcomes.{accepted_apart}
 use Rattle.pool_memory.proofs.FromPool.{pool_fits}
 use Rattle.pool_memory.proofs.Stays.{textures_fit_lem, ids_ascend}
-use Rattle.pool_preserve_plan.specs.Copies.{footprint}
 use Rattle.pool_preserve_plan.proofs.Finding.{found_fits}
 use Rattle.pool_preserve_plan.proofs.Planning.{fits_room, says_refused, says_accepted}
 use Rattle.pool_preserve_plan.proofs.calls.preserve_plan.preserve_plan.Goals as goal
