@@ -56,7 +56,7 @@ pub fn pop_retired(
     }
     let places = retiring.len() / RETIRING_STRIDE;
     let front = retiring_at(retiring, places, pool.head, 0);
-    if front.seq > settled - settled + LIMIT {
+    if front.seq > settled {
         return PopAnswer {
             pool,
             popped: Ok(None),
