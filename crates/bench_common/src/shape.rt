@@ -1,4 +1,4 @@
-// Shapes as event lines give them.
+// Shapes as event lines give them, as in test_common: a benchmark may not stand on the tests (docs/dependencies.py).
 use grid_shapes::VersionShape;
 
 // Returns the shape of the six numbers of an event line, the rest 0.

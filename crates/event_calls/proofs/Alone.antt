@@ -6,7 +6,9 @@ use mathlib.Core.Option.{Option, none, some}
 use Rattle.grid_shapes.specs.declared.shape.VersionShape.{VersionShape}
 use Rattle.grid_rects.specs.declared.rect.TexelRect.{TexelRect}
 use Rattle.pool_memory.specs.Lent.{Lent}
-use Rattle.pool_memory.specs.Calls.{Told, refused_with, answer, TakenVersion, PoppedVersion, take_spare_on, retire_on, note_write_on, note_mip_regeneration_on, pop_retired_on, park_on, note_allocated_on, trim_on, forget_texture_on}
+use Rattle.pool_memory.specs.declared.answer.TakenVersion.{TakenVersion}
+use Rattle.pool_memory.specs.declared.answer.PoppedVersion.{PoppedVersion}
+use Rattle.pool_memory.specs.Calls.{Told, refused_with, answer, take_spare_on, retire_on, note_write_on, note_mip_regeneration_on, pop_retired_on, park_on, note_allocated_on, trim_on, forget_texture_on}
 use Rattle.pool_books.specs.Demand3.{Reply, done}
 use Rattle.pool_books.specs.LentLists.{LentCall, said, reply_of as told_reply, taken_reply, popped_version_reply, lent_call}
 use Rattle.event_answers.specs.Answers.{reply_told, InBuffers}

@@ -2,7 +2,9 @@
 use Rattle.std.specs.Prelude.{ℕ, ◌≡◌, List, length, replicate}
 use Rattle.std.proofs.Math.Option.{Option, none, some}
 use Rattle.pool_memory.specs.Lent.{Lent}
-use Rattle.pool_memory.specs.Calls.{Told, refused_with, answer, TakenVersion, PoppedVersion}
+use Rattle.pool_memory.specs.declared.answer.TakenVersion.{TakenVersion}
+use Rattle.pool_memory.specs.declared.answer.PoppedVersion.{PoppedVersion}
+use Rattle.pool_memory.specs.Calls.{Told, refused_with, answer}
 use Rattle.pool_books.specs.Demand3.{Reply}
 use Rattle.pool_books.specs.LentLists.{LentCall, lent_call}
 use Rattle.event_answers.specs.Answers.{reply_told, InBuffers}

@@ -1,6 +1,6 @@
 -- What the dirty-tile call may say: refusal 1 just where no pool is formed, and otherwise what the model's condition allows. Assumes nothing.
 use Prim.Native.Nat.{ℕ}
-use mathlib.Core.Path.{◌≡◌, refl, sym, ap, subst}
+use mathlib.Core.Path.{◌≡◌, refl}
 use mathlib.Core.Bool.{Bool, true, false, cond}
 use Rattle.std.specs.Prelude.{Option, None}
 use Rattle.grid_stamps.specs.declared.grid.Tile.{Tile}

@@ -3,6 +3,9 @@
 // that, a call tests all the memory that is in use, so it costs what that memory costs. The same calls without the test, for
 // callers who are proved to pass a pool (or who keep the memory to themselves), are those of `pool_take_spare`, `pool_preserve_plan`, `pool_retire`,
 // `pool_park`, `pool_note_write`, `pool_note_allocated`, `pool_take_doomed`, `pool_trim` and `pool_sheet`.
+// Each call tests the memory by itself, in an `if`: a closure that is made only on a pool, given to one function that tests, would capture the slices by
+// `&mut`, and where it is not called nothing says that they are left as they are, for an `FnOnce` has no clause on what it captured. The six slices stay
+// parameters of each call, since a call lends by `&mut` only those that it writes.
 #![tactic(auto)]
 
 mod calls;

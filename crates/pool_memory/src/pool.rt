@@ -24,25 +24,9 @@ pub struct Pool {
     pub line: u64,
 }
 
-// Returns the same counts, put one by one: copied as a block at several exits of a call, they would be kept in memory by the compiler.
+// Returns the same counts, for an exit of a call that changes none.
 pub fn same_counts(pool: Pool) -> Pool
     ensures { result ≡ pool }
 {
-    Pool {
-        tracked: pool.tracked,
-        kept: pool.kept,
-        grids: pool.grids,
-        stamps: pool.stamps,
-        head: pool.head,
-        popped: pool.popped,
-        queued: pool.queued,
-        first: pool.first,
-        doomed: pool.doomed,
-        since: pool.since,
-        trackings: pool.trackings,
-        parked: pool.parked,
-        dooming: pool.dooming,
-        cap: pool.cap,
-        line: pool.line,
-    }
+    pool
 }

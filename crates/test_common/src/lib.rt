@@ -7,6 +7,6 @@ mod parts;
 mod shape;
 
 pub use descriptors::{STDIN_FILENO, STDOUT_FILENO};
-pub use numbers::{put_digits, put_field};
+pub use numbers::{put_after, put_digits};
 pub use parts::part_end;
 pub use shape::plain_shape;

@@ -11,11 +11,11 @@ pub fn put_digits(out: &mut [u8], at: usize, value: u64) -> usize
     put_number(out, at, value)
 }
 
-// Puts a comma and a number, and returns where they end.
-pub fn put_field(out: &mut [u8], at: usize, value: u64) -> usize
+// Puts a byte and the number behind it, and returns where they end.
+pub fn put_after(out: &mut [u8], at: usize, mark: &[u8; 1], value: u64) -> usize
     requires { at + 21 ≤ length out.old }
     ensures { result ≤ at + 21 }
 {
-    let next = put_text(out, at, b",");
+    let next = put_text(out, at, mark);
     put_digits(out, next, value)
 }

@@ -1,18 +1,9 @@
 // A figure's line.
-ghost use Rattle.std.specs.Prelude.{◌+◌, ◌≤◌, length};
+ghost use Rattle.std.specs.Prelude.{◌≤◌, length};
 
 use base_digits::put_text;
 use grid_shapes::Refusal;
-use test_common::{STDOUT_FILENO, put_digits};
-
-// Puts a blank and a number, and returns where they end.
-fn put_value(out: &mut [u8], at: usize, value: u64) -> usize
-    requires { at + 21 ≤ length out.old }
-    ensures { result ≤ at + 21 }
-{
-    let next = put_text(out, at, b" ");
-    put_digits(out, next, value)
-}
+use test_common::{STDOUT_FILENO, put_after};
 
 // Prints a figure: its name, its arguments and its value.
 pub fn figure(name: &[u8], values: &[u64])
@@ -21,7 +12,7 @@ pub fn figure(name: &[u8], values: &[u64])
     let mut out = [0u8; 256];
     let mut at = put_text(&mut out, 0, name);
     for value in values {
-        at = put_value(&mut out, at, *value);
+        at = put_after(&mut out, at, b" ", *value);
     }
     let end = put_text(&mut out, at, b"\n");
     io::write_all(STDOUT_FILENO, &out[0..end]);

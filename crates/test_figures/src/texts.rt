@@ -20,11 +20,8 @@ fn print_read(name: &[u8], line: &[u8])
     requires { length name.now ≤ 64 }
 {
     let parsed = parse_first(line);
-    let event = parsed.event;
-    match event {
-        Event::Unread => figure(name, &[0]),
-        _ => figure(name, &[1]),
-    }
+    let read = !matches!(parsed.event, Event::Unread);
+    figure(name, &[read as u64]);
 }
 
 // Prints what texts are read as numbers.

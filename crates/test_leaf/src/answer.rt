@@ -4,7 +4,7 @@ ghost use Rattle.std.specs.Prelude.{◌+◌, ◌≤◌, length};
 use base_digits::put_text;
 use grid_rects::TexelRect;
 use grid_shapes::Refusal;
-use test_common::{put_digits, put_field};
+use test_common::{put_after, put_digits};
 
 // What follows an answer's first number.
 #[derive(Clone, Copy)]
@@ -56,8 +56,8 @@ fn put_pair(out: &mut [u8], at: usize, first: u64, second: u64) -> usize
     requires { at + 42 ≤ length out.old }
     ensures { result ≤ at + 42 }
 {
-    let next = put_field(out, at, first);
-    put_field(out, next, second)
+    let next = put_after(out, at, b",", first);
+    put_after(out, next, b",", second)
 }
 
 // Puts the four fields of a rectangle, and returns where they end.
@@ -76,7 +76,7 @@ fn put_rest(out: &mut [u8], at: usize, rest: Rest) -> usize
 {
     match rest {
         Rest::End => at,
-        Rest::Number(n) => put_field(out, at, n),
+        Rest::Number(n) => put_after(out, at, b",", n),
         Rest::Pair(n, m) => put_pair(out, at, n, m),
         Rest::Box(rect) => put_rect(out, at, rect),
         Rest::NoBox => put_text(out, at, b",-"),

@@ -1,4 +1,4 @@
-// What a call answers, as the answer of a line.
+// What a call answers, as the answer of a line: by the tests' own functions, so that an error in those of event_calls shows.
 use crate::called::Called;
 use event_answers::Answer;
 use grid_shapes::Refusal;

@@ -7,7 +7,8 @@ use test_common::part_end;
 // The most numbers behind a word: a put has a store, an index and fourteen values.
 pub const MOST_FIELDS: usize = 16;
 
-// The numbers of the first fields, and how many there are; `formed` if they are all the fields.
+// The numbers of the first fields, and how many there are; `formed` if they are all the fields. The array has room for the most, since there is no heap, and
+// the numbers count without `formed` too: those of a list's first line stand before its name.
 #[derive(Clone, Copy)]
 pub struct LineNumbers {
     pub formed: bool,

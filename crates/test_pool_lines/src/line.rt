@@ -34,7 +34,7 @@ pub enum OwnLine {
     Dump,
 }
 
-// A line with the numbers behind its word. An event is no line of ours, nor is anything else.
+// A line with the numbers behind its word, in an array with room for the most, since there is no heap. An event is no line of ours, nor is anything else.
 #[derive(Clone, Copy)]
 pub struct OwnRead {
     pub line: Option<OwnLine>,

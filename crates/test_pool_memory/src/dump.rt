@@ -2,7 +2,7 @@
 ghost use Rattle.std.specs.Prelude.{◌≤◌, length};
 
 use base_digits::put_text;
-use test_common::{STDOUT_FILENO, put_field};
+use test_common::{STDOUT_FILENO, put_after};
 
 // Puts put,STORE,INDEX,VALUE at the front and returns where it ends.
 fn put_line(out: &mut [u8], store: u64, index: u64, value: u64) -> usize
@@ -10,9 +10,9 @@ fn put_line(out: &mut [u8], store: u64, index: u64, value: u64) -> usize
     ensures { result ≤ 68 }
 {
     let word = put_text(out, 0, b"put");
-    let first = put_field(out, word, store);
-    let second = put_field(out, first, index);
-    let third = put_field(out, second, value);
+    let first = put_after(out, word, b",", store);
+    let second = put_after(out, first, b",", index);
+    let third = put_after(out, second, b",", value);
     put_text(out, third, b"\n")
 }
 

@@ -7,7 +7,7 @@ use event_answers::{Answer, put_answer};
 use grid_shapes::Refusal;
 use grid_stamps::Tile;
 use pool_memory::COPY_STRIDE;
-use test_common::{STDOUT_FILENO, put_digits, put_field};
+use test_common::{STDOUT_FILENO, put_after, put_digits};
 use test_pool_calls::{Queried, Told};
 
 // The most bytes of a line of output, as `most_row` of crates/event_answers/specs/Printed.antt.
@@ -51,8 +51,8 @@ fn put_tile(out: &mut [u8], at: usize, tile: Tile) -> usize
     requires { at + 45 ≤ length out.old }
 {
     let first = put_text(out, at, b",0");
-    let second = put_field(out, first, tile.column);
-    let third = put_field(out, second, tile.row);
+    let second = put_after(out, first, b",", tile.column);
+    let third = put_after(out, second, b",", tile.row);
     put_text(out, third, b"\n")
 }
 
@@ -61,7 +61,7 @@ fn put_told(out: &mut [u8], at: usize, told: u64) -> usize
     requires { at + 24 ≤ length out.old }
 {
     let first = put_text(out, at, b",0");
-    let second = put_field(out, first, told);
+    let second = put_after(out, first, b",", told);
     put_text(out, second, b"\n")
 }
 
@@ -69,7 +69,7 @@ fn put_told(out: &mut [u8], at: usize, told: u64) -> usize
 fn put_refusal(out: &mut [u8], at: usize, refusal: Refusal) -> usize
     requires { at + 22 ≤ length out.old }
 {
-    let end = put_field(out, at, refusal.number());
+    let end = put_after(out, at, b",", refusal.number());
     put_text(out, end, b"\n")
 }
 

@@ -2,12 +2,14 @@
 use event_lines::Event;
 use grid_shapes::VersionShape;
 use pool_memory::{PacingBook, Pool};
+use pool_open::opened_book;
 use test_pool_lines::Lengths;
 
 // Everything but the slices. Calls are made once the pool is opened, or numbers were put, or it was asked whether they form one; until then
 // a line that calls is answered as the event program does.
 #[derive(Clone, Copy)]
 pub struct Session {
+    // No Option of the pool: numbers are put into its counts before calls are made too.
     pub opened: bool,
     // The pacing book is lent.
     pub lends: bool,
@@ -41,16 +43,6 @@ fn no_pool() -> Pool {
     }
 }
 
-// Returns a pacing book of zeros.
-fn no_book() -> PacingBook {
-    PacingBook {
-        arrivals: [0; 8],
-        slot: 0,
-        pressed: 0,
-        excess: 0,
-    }
-}
-
 // Returns the session that a list begins with.
 pub fn fresh(lengths: Lengths) -> Session {
     Session {
@@ -58,7 +50,7 @@ pub fn fresh(lengths: Lengths) -> Session {
         lends: false,
         number: 0,
         pool: no_pool(),
-        book: no_book(),
+        book: opened_book(),
         shape: None,
         lengths,
     }

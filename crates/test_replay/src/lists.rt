@@ -7,6 +7,7 @@ ghost use Rattle.test_replay.specs.ReplayConstants.{most_entries, most_pages, mo
 
 use crate::list::run_list;
 use crate::sizes::sizes_of;
+use event_sessions::Stores;
 use event_text::find_byte;
 use grid_stamps::PAGE_STAMPS;
 use pool_memory::COPY_STRIDE;
@@ -78,19 +79,17 @@ fn run_next(
     let m = PAGE_STAMPS * pages;
     let g = newest_length(sizes.textures, m);
     let c = COPY_STRIDE * answers;
-    run_list(
-        list,
-        buf,
-        &mut textures[0..t],
-        &mut retiring[0..r],
-        &mut doomed[0..d],
-        &mut spares[0..s],
-        &mut newest[0..g],
-        &mut stamps[0..m],
-        &mut copies[0..c],
-        &mut views[0..answers],
-        out,
-    );
+    let mut stores = Stores {
+        textures: &mut textures[0..t],
+        retiring: &mut retiring[0..r],
+        doomed: &mut doomed[0..d],
+        spares: &mut spares[0..s],
+        newest: &mut newest[0..g],
+        stamps: &mut stamps[0..m],
+        copies: &mut copies[0..c],
+        views: &mut views[0..answers],
+    };
+    run_list(list, buf, &mut stores, out);
 }
 
 // Runs all lists of standard input.

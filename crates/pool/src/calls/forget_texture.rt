@@ -26,7 +26,10 @@ pub fn forget_texture(
     if !is_pool(
         pool, book, textures, retiring, doomed, spares, newest, stamps,
     ) {
-        return DoneAnswer { pool, outcome: Err(Refusal::NoPool) };
+        return DoneAnswer {
+            pool,
+            outcome: Err(Refusal::NoPool),
+        };
     }
     pool_forget_texture::forget_texture(
         pool, book, textures, retiring, doomed, spares, newest, stamps, id,

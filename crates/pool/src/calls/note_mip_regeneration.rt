@@ -26,7 +26,10 @@ pub fn note_mip_regeneration(
     if !is_pool(
         pool, book, textures, retiring, doomed, spares, newest, stamps,
     ) {
-        return DoneAnswer { pool, outcome: Err(Refusal::NoPool) };
+        return DoneAnswer {
+            pool,
+            outcome: Err(Refusal::NoPool),
+        };
     }
     pool_note_write::note_mip_regeneration(
         pool, book, textures, retiring, doomed, spares, newest, stamps, id,

@@ -4,8 +4,8 @@ ghost use Rattle.pool_memory.specs.Lent.{at_entry, at_exit};
 ghost use Rattle.grid_shapes.specs.Outcomes.{outcome_number};
 ghost use Rattle.pool_memory.specs.Calls.{told_number, note_write_on};
 
-use grid_shapes::Refusal;
 use grid_rects::TexelRect;
+use grid_shapes::Refusal;
 use pool_formed::is_pool;
 use pool_memory::{DoneAnswer, PacingBook, Pool};
 
@@ -30,7 +30,10 @@ pub fn note_write(
     if !is_pool(
         pool, book, textures, retiring, doomed, spares, newest, stamps,
     ) {
-        return DoneAnswer { pool, outcome: Err(Refusal::NoPool) };
+        return DoneAnswer {
+            pool,
+            outcome: Err(Refusal::NoPool),
+        };
     }
     pool_note_write::note_write(
         pool, book, textures, retiring, doomed, spares, newest, stamps, id, slice, level, rect,

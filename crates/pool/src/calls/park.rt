@@ -27,7 +27,10 @@ pub fn park(
     if !is_pool(
         pool, book, textures, retiring, doomed, spares, newest, stamps,
     ) {
-        return DoneAnswer { pool, outcome: Err(Refusal::NoPool) };
+        return DoneAnswer {
+            pool,
+            outcome: Err(Refusal::NoPool),
+        };
     }
     pool_park::park(
         pool, book, textures, retiring, doomed, spares, newest, stamps, failed, current,

@@ -28,7 +28,10 @@ pub fn retire(
     if !is_pool(
         pool, book, textures, retiring, doomed, spares, newest, stamps,
     ) {
-        return DoneAnswer { pool, outcome: Err(Refusal::NoPool) };
+        return DoneAnswer {
+            pool,
+            outcome: Err(Refusal::NoPool),
+        };
     }
     pool_retire::retire(
         pool, book, textures, retiring, doomed, spares, newest, stamps, id, view, seq,

@@ -26,7 +26,10 @@ pub fn trim(
     if !is_pool(
         pool, book, textures, retiring, doomed, spares, newest, stamps,
     ) {
-        return DoneAnswer { pool, outcome: Err(Refusal::NoPool) };
+        return DoneAnswer {
+            pool,
+            outcome: Err(Refusal::NoPool),
+        };
     }
     pool_trim::trim(
         pool, book, textures, retiring, doomed, spares, newest, stamps, current,

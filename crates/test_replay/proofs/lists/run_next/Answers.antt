@@ -59,56 +59,56 @@ shape_of-textures c =
     let r = c.run_list in
     let y = c.sizes_of-sizes in
     let z = y.result in
-    put_back c.args.textures.now r.new.textures (texture_stride * z.textures) (omega (arith, c.requires.0.textures_are, y.ensures.0)) r.auto.textures
+    put_back c.args.textures.now r.new.stores.textures.now (texture_stride * z.textures) (omega (arith, c.requires.0.textures_are, y.ensures.0)) r.ensures.textures_long
 
 pub shape_of-retiring : goal.shape_of-retiring
 shape_of-retiring c =
     let r = c.run_list in
     let y = c.sizes_of-sizes in
     let z = y.result in
-    put_back c.args.retiring.now r.new.retiring (retiring_stride * z.versions) (omega (arith, c.requires.0.retiring_are, y.ensures.1)) r.auto.retiring
+    put_back c.args.retiring.now r.new.stores.retiring.now (retiring_stride * z.versions) (omega (arith, c.requires.0.retiring_are, y.ensures.1)) r.ensures.retiring_long
 
 pub shape_of-doomed : goal.shape_of-doomed
 shape_of-doomed c =
     let r = c.run_list in
     let y = c.sizes_of-sizes in
     let z = y.result in
-    put_back c.args.doomed.now r.new.doomed (doomed_stride * z.versions) (omega (arith, c.requires.0.doomed_are, y.ensures.1)) r.auto.doomed
+    put_back c.args.doomed.now r.new.stores.doomed.now (doomed_stride * z.versions) (omega (arith, c.requires.0.doomed_are, y.ensures.1)) r.ensures.doomed_long
 
 pub shape_of-spares : goal.shape_of-spares
 shape_of-spares c =
     let r = c.run_list in
     let y = c.sizes_of-sizes in
     let z = y.result in
-    put_back c.args.spares.now r.new.spares (spare_stride * z.versions) (omega (arith, c.requires.0.spares_are, y.ensures.1)) r.auto.spares
+    put_back c.args.spares.now r.new.stores.spares.now (spare_stride * z.versions) (omega (arith, c.requires.0.spares_are, y.ensures.1)) r.ensures.spares_long
 
 pub shape_of-newest : goal.shape_of-newest
 shape_of-newest c =
     let r = c.run_list in
     let y = c.sizes_of-sizes in
     let g = c.newest_length-g in
-    put_back c.args.newest.now r.new.newest g.result (grids_fit_lem _ _ _ _ y.ensures.0 c.requires.0.newest_are g.ensures) r.auto.newest
+    put_back c.args.newest.now r.new.stores.newest.now g.result (grids_fit_lem _ _ _ _ y.ensures.0 c.requires.0.newest_are g.ensures) r.ensures.newest_long
 
 pub shape_of-stamps : goal.shape_of-stamps
 shape_of-stamps c =
     let r = c.run_list in
     let y = c.sizes_of-sizes in
     let z = y.result in
-    put_back c.args.stamps.now r.new.stamps (page_stamps * z.pages) (omega (arith, c.requires.0.stamps_are, y.ensures.2)) r.auto.stamps
+    put_back c.args.stamps.now r.new.stores.stamps.now (page_stamps * z.pages) (omega (arith, c.requires.0.stamps_are, y.ensures.2)) r.ensures.stamps_long
 
 pub shape_of-copies : goal.shape_of-copies
 shape_of-copies c =
     let r = c.run_list in
     let y = c.sizes_of-sizes in
     let z = y.result in
-    put_back c.args.copies.now r.new.copies (copy_stride * z.answers) (omega (arith, c.requires.0.copies_are, y.ensures.3)) r.auto.copies
+    put_back c.args.copies.now r.new.stores.copies.now (copy_stride * z.answers) (omega (arith, c.requires.0.copies_are, y.ensures.3)) r.ensures.copies_long
 
 pub shape_of-views : goal.shape_of-views
 shape_of-views c =
     let r = c.run_list in
     let y = c.sizes_of-sizes in
     let z = y.result in
-    put_back c.args.views.now r.new.views z.answers (omega (arith, c.requires.0.views_are, y.ensures.3)) r.auto.views
+    put_back c.args.views.now r.new.stores.views.now z.answers (omega (arith, c.requires.0.views_are, y.ensures.3)) r.ensures.views_long
 
 pub shape_of-out : goal.shape_of-out
 shape_of-out c = c.run_list.auto.out

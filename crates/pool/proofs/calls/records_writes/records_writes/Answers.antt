@@ -10,9 +10,6 @@ returns-then-not-is_pool c =
     let a = c.args in
     no_records (lent a.pool a.book a.textures.now a.retiring.now a.doomed.now a.spares.now a.newest.now a.stamps.now) (sym c.is_pool.ensures ∙ not-true _ c.if-not-is_pool.true-raw) a.id
 
-pub records_writes-requires : goal.records_writes-requires
-records_writes-requires c = sym c.is_pool.ensures ∙ not-false _ c.if-not-is_pool.false-raw
-
 pub returns : goal.returns
 returns c =
     let a = c.args in

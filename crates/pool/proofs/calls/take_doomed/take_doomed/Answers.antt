@@ -1,5 +1,5 @@
 -- `take_doomed` meets its contract: the test, then the same call on a pool. Assumes nothing.
-use borrow.Author.Tests.{not-true, not-false}
+use borrow.Author.Tests.{not-true}
 use mathlib.Core.Path.{sym, ◌∙◌}
 use Rattle.pool_memory.specs.Lent.{lent}
 use Rattle.pool.proofs.NoPool.{no_doomed}
@@ -9,6 +9,3 @@ pub returns-then-not-is_pool : goal.returns-then-not-is_pool
 returns-then-not-is_pool c =
     let a = c.args in
     no_doomed (lent a.pool a.book a.textures.now a.retiring.now a.doomed.now a.spares.now a.newest.now a.stamps.now) (sym c.is_pool.ensures ∙ not-true _ c.if-not-is_pool.true-raw) a.buffer.now
-
-pub take_doomed-requires : goal.take_doomed-requires
-take_doomed-requires c = sym c.is_pool.ensures ∙ not-false _ c.if-not-is_pool.false-raw
