@@ -4,6 +4,7 @@ use Rattle.std.proofs.lemmas.List.Edits.{sets}
 use Rattle.event_lines.specs.declared.event.Event.{Event}
 use Rattle.event_lines.specs.Grammar.{event_of}
 use Rattle.event_sessions.specs.Sessions.{SessionState, state_of, line_step, HoldsPool}
+use Rattle.event_sessions.specs.declared.stores.Stores.{Stores}
 use Rattle.event_runs.specs.Lines.{whole_lines, line_state}
 use Rattle.event_runs.specs.Texts.{last_line, after_lines}
 use Rattle.event_cost.specs.declared.sums.Sums.{Sums}
@@ -64,6 +65,10 @@ cost_progress r textures retiring doomed spares newest stamps out = record {
   filled = r.filled;
   out = out;
 }
+
+-- the same, with what stands in the lent stores
+abbrev pub cost_progress_in : CostedLines → Stores → List ℕ → CostProgress
+cost_progress_in r s out = cost_progress r s.textures.now s.retiring.now s.doomed.now s.spares.now s.newest.now s.stamps.now out
 
 -- Lines were run from state s on, n lines having been run before: the first whole lines of the input, and all of them unless the output's buffer has
 -- no room for another line's output.

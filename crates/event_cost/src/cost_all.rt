@@ -1,6 +1,6 @@
 // The lines of standard input run one after the other: each turn reads where nothing waits, runs lines, and writes the turn's output.
 ghost use Rattle.std.specs.Prelude.{◌≤◌, ◌<◌, length};
-ghost use Rattle.event_sessions.specs.Sessions.{state_of};
+ghost use Rattle.event_sessions.specs.LentStores.{state_in, SameStores};
 ghost use Rattle.event_sessions.specs.Noted.{fresh_session};
 ghost use Rattle.event_feed.specs.FeedConstants.{kept_bytes};
 ghost use Rattle.event_stream.specs.Streams.{reason_number};
@@ -10,7 +10,7 @@ ghost use Rattle.event_cost.specs.Runs.{CostRun};
 use crate::cost_turn::cost_turn;
 use crate::sums::{Sums, add_sums};
 use event_feed::begin;
-use event_sessions::Session;
+use event_sessions::{Session, Stores};
 use event_stream::read_more::read_more;
 use event_stream::{StopReason, byte_count, is_full, reason, write_out};
 use std::io::Read;
@@ -34,22 +34,12 @@ pub struct CostedRun {
 pub fn cost_all(
     input: &mut impl Read,
     buf: &mut [u8],
-    textures: &mut [u64],
-    retiring: &mut [u64],
-    doomed: &mut [u64],
-    spares: &mut [u64],
-    newest: &mut [u64],
-    stamps: &mut [u64],
-    copies: &mut [u64],
-    views: &mut [u64],
+    stores: &mut Stores<'_>,
     out: &mut [u8],
 ) -> CostedRun
     requires { (kept_bytes < length buf.old) × (most_cost_row ≤ length out.old) }
-    ensures { CostRun (length copies.old) (length views.old)
-        (state_of fresh_session textures.old retiring.old doomed.old spares.old newest.old
-        stamps.old)
-        (state_of result.session textures.new retiring.new doomed.new spares.new newest.new
-        stamps.new)
+    ensures same { SameStores stores.old stores.new }
+    ensures costed { CostRun (length stores.old.copies.now) (length stores.old.views.now) (state_in fresh_session stores.old) (state_in result.session stores.new)
         result.sums (reason_number result.why) result.read result.lines result.written }
 {
     let mut at = begin();
@@ -60,9 +50,7 @@ pub fn cost_all(
         let end = read_more(input, buf, at);
         let came = end - (at.from + at.held);
         read += byte_count(end - at.end);
-        let turn = cost_turn(
-            at, end, buf, textures, retiring, doomed, spares, newest, stamps, copies, views, out,
-        );
+        let turn = cost_turn(at, end, buf, stores, out);
         at = turn.at;
         sums = add_sums(sums, turn.sums);
         let wrote = write_out(&out[..at.filled], true);

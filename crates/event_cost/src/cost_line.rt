@@ -1,6 +1,7 @@
 // One line run, and what its plan costs.
 ghost use Rattle.std.specs.Prelude.{◌+◌, ◌≤◌, length};
-ghost use Rattle.event_sessions.specs.Sessions.{state_of, HoldsPool};
+ghost use Rattle.event_sessions.specs.Sessions.{HoldsPool};
+ghost use Rattle.event_sessions.specs.LentStores.{state_in, SameStores};
 ghost use Rattle.event_cost.specs.Costs.{most_cost_row};
 ghost use Rattle.event_cost.specs.Lines.{EventCosted};
 
@@ -9,7 +10,7 @@ use crate::plan_cost::plan_cost;
 use crate::put_cost::put_cost;
 use crate::sums::{Sums, add_sums};
 use event_lines::Event;
-use event_sessions::{Session, answer_event};
+use event_sessions::{Session, Stores, answer_event};
 
 // What a line leaves: the session, the sums with its cost, and where its output ends.
 #[derive(Clone, Copy)]
@@ -26,30 +27,17 @@ pub fn cost_line(
     number: u64,
     sums: Sums,
     session: Session,
-    textures: &mut [u64],
-    retiring: &mut [u64],
-    doomed: &mut [u64],
-    spares: &mut [u64],
-    newest: &mut [u64],
-    stamps: &mut [u64],
-    copies: &mut [u64],
-    views: &mut [u64],
+    stores: &mut Stores<'_>,
     out: &mut [u8],
     filled: usize,
 ) -> CostedLine
-    requires { HoldsPool (state_of session textures.old retiring.old doomed.old spares.old newest.old stamps.old)
-        × (filled + most_cost_row ≤ length out.old) }
-    ensures { EventCosted (length copies.old) (length views.old) number
-        (state_of session textures.old retiring.old doomed.old spares.old newest.old
-        stamps.old)
-        (state_of result.session textures.new retiring.new doomed.new spares.new newest.new
-        stamps.new)
+    requires { HoldsPool (state_in session stores.old) × (filled + most_cost_row ≤ length out.old) }
+    ensures same { SameStores stores.old stores.new }
+    ensures costed { EventCosted (length stores.old.copies.now) (length stores.old.views.now) number (state_in session stores.old) (state_in result.session stores.new)
         event sums result.sums filled result.filled out.old out.new }
 {
-    let answered = answer_event(
-        session, textures, retiring, doomed, spares, newest, stamps, copies, views, event,
-    );
-    let cost = plan_cost(session.shape, copies, copy_count(answered.answer));
+    let answered = answer_event(session, stores, event);
+    let cost = plan_cost(session.shape, stores.copies, copy_count(answered.answer));
     let end = put_cost(out, filled, number, event, answered.answer, cost.moved);
     CostedLine {
         session: answered.session,

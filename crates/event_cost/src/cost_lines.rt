@@ -1,12 +1,13 @@
 // The whole lines of a block of input, run as long as the output has room.
 ghost use Rattle.std.specs.Prelude.{◌+◌, ◌^◌, ◌<◌, length};
-ghost use Rattle.event_sessions.specs.Sessions.{state_of, HoldsPool};
-ghost use Rattle.event_cost.specs.Lines.{cost_progress, LinesCosted};
+ghost use Rattle.event_sessions.specs.Sessions.{HoldsPool};
+ghost use Rattle.event_sessions.specs.LentStores.{state_in, SameStores};
+ghost use Rattle.event_cost.specs.Lines.{cost_progress_in, LinesCosted};
 
 use crate::cost_line::cost_line;
 use crate::sums::Sums;
 use event_lines::parse_first;
-use event_sessions::Session;
+use event_sessions::{Session, Stores};
 
 // The most bytes of a line of output, as `most_cost_row` of specs/Costs.antt.
 const MOST_ROW: usize = 44;
@@ -31,23 +32,13 @@ pub fn cost_lines(
     input: &[u8],
     number: u64,
     session: Session,
-    textures: &mut [u64],
-    retiring: &mut [u64],
-    doomed: &mut [u64],
-    spares: &mut [u64],
-    newest: &mut [u64],
-    stamps: &mut [u64],
-    copies: &mut [u64],
-    views: &mut [u64],
+    stores: &mut Stores<'_>,
     out: &mut [u8],
 ) -> CostedLines
-    requires { HoldsPool (state_of session textures.old retiring.old doomed.old spares.old newest.old stamps.old)
-        × (number + length input.now < 2 ^ 64) }
-    ensures { LinesCosted (length copies.old) (length views.old) input.now number
-        (state_of session textures.old retiring.old doomed.old spares.old newest.old
-        stamps.old) out.old
-        (cost_progress result textures.new retiring.new doomed.new spares.new newest.new
-        stamps.new out.new) }
+    requires { HoldsPool (state_in session stores.old) × (number + length input.now < 2 ^ 64) }
+    ensures same { SameStores stores.old stores.new }
+    ensures costed { LinesCosted (length stores.old.copies.now) (length stores.old.views.now) input.now number (state_in session stores.old) out.old
+        (cost_progress_in result stores.new out.new) }
 {
     let size = out.len();
     let mut run = CostedLines {
@@ -70,14 +61,7 @@ pub fn cost_lines(
             current,
             run.sums,
             run.session,
-            textures,
-            retiring,
-            doomed,
-            spares,
-            newest,
-            stamps,
-            copies,
-            views,
+            stores,
             out,
             run.filled,
         );

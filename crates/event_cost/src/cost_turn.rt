@@ -1,6 +1,6 @@
 // One turn.
 ghost use Rattle.std.specs.Prelude.{length};
-ghost use Rattle.event_sessions.specs.Sessions.{state_of};
+ghost use Rattle.event_sessions.specs.LentStores.{state_in, SameStores};
 ghost use Rattle.event_cost.specs.Runs.{TurnReady, TurnCosted};
 
 use crate::cost_lines::cost_lines;
@@ -8,6 +8,7 @@ use crate::sums::Sums;
 use event_feed::FeedState;
 use event_feed::finish::finish;
 use event_feed::rest_of::rest_of;
+use event_sessions::Stores;
 
 // What a turn leaves, and what its lines cost.
 #[derive(Clone, Copy)]
@@ -22,41 +23,17 @@ pub fn cost_turn(
     before: FeedState,
     end: usize,
     buf: &mut [u8],
-    textures: &mut [u64],
-    retiring: &mut [u64],
-    doomed: &mut [u64],
-    spares: &mut [u64],
-    newest: &mut [u64],
-    stamps: &mut [u64],
-    copies: &mut [u64],
-    views: &mut [u64],
+    stores: &mut Stores<'_>,
     out: &mut [u8],
 ) -> CostedTurn
-    requires { TurnReady before end
-        (state_of before.session textures.old retiring.old doomed.old spares.old newest.old stamps.old) buf.old out.old }
-    ensures { TurnCosted (length copies.old) (length views.old) before end
-        (state_of before.session textures.old retiring.old doomed.old spares.old newest.old
-        stamps.old)
-        (state_of result.at.session textures.new retiring.new doomed.new spares.new newest.new
-        stamps.new)
-        result buf.old buf.new out.old out.new }
+    requires { TurnReady before end (state_in before.session stores.old) buf.old out.old }
+    ensures same { SameStores stores.old stores.new }
+    ensures costed { TurnCosted (length stores.old.copies.now) (length stores.old.views.now) before end (state_in before.session stores.old)
+        (state_in result.at.session stores.new) result buf.old buf.new out.old out.new }
 {
     let from = before.from;
     let to = finish(buf, from, before.held, end);
-    let run = cost_lines(
-        &buf[from..to],
-        before.number,
-        before.session,
-        textures,
-        retiring,
-        doomed,
-        spares,
-        newest,
-        stamps,
-        copies,
-        views,
-        out,
-    );
+    let run = cost_lines(&buf[from..to], before.number, before.session, stores, out);
     let place = rest_of(buf, from, to, run.from);
     CostedTurn {
         at: FeedState {

@@ -16,6 +16,7 @@ mod sums;
 
 ghost use Rattle.event_stream.specs.Lends.{Lends};
 
+use event_sessions::Stores;
 use event_stream::StopReason;
 use grid_stamps::PAGE_STAMPS;
 use pool_memory::COPY_STRIDE;
@@ -57,21 +58,19 @@ fn main(rt: HostRuntime) {
     lends(
         &textures, &retiring, &doomed, &spares, &newest, &stamps, &copies, &views,
     );
+    let mut stores = Stores {
+        textures: &mut textures,
+        retiring: &mut retiring,
+        doomed: &mut doomed,
+        spares: &mut spares,
+        newest: &mut newest,
+        stamps: &mut stamps,
+        copies: &mut copies,
+        views: &mut views,
+    };
     let mut buf = io::large_buffer();
     let mut out = io::large_buffer();
-    let run = cost_all::cost_all(
-        &mut rt.stdin(),
-        &mut buf,
-        &mut textures,
-        &mut retiring,
-        &mut doomed,
-        &mut spares,
-        &mut newest,
-        &mut stamps,
-        &mut copies,
-        &mut views,
-        &mut out,
-    );
+    let run = cost_all::cost_all(&mut rt.stdin(), &mut buf, &mut stores, &mut out);
     // The sums of a part of the list would pass for those of the whole.
     if run.why == StopReason::Ended {
         let size = put_sums::put_sums(&mut out, run.sums);

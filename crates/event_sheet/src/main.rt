@@ -6,6 +6,7 @@ mod put_sheet;
 
 ghost use Rattle.event_stream.specs.Lends.{Lends};
 
+use event_sessions::Stores;
 use grid_stamps::PAGE_STAMPS;
 use pool_memory::COPY_STRIDE;
 use pool_records::{DOOMED_STRIDE, RETIRING_STRIDE, SPARE_STRIDE, TEXTURE_STRIDE};
@@ -46,22 +47,19 @@ fn main(rt: HostRuntime) {
     lends(
         &textures, &retiring, &doomed, &spares, &newest, &stamps, &copies, &views,
     );
+    let mut stores = Stores {
+        textures: &mut textures,
+        retiring: &mut retiring,
+        doomed: &mut doomed,
+        spares: &mut spares,
+        newest: &mut newest,
+        stamps: &mut stamps,
+        copies: &mut copies,
+        views: &mut views,
+    };
     let mut buf = io::large_buffer();
     let mut out = io::large_buffer();
-    let stopped = event_stream::run_all(
-        &mut rt.stdin(),
-        &mut buf,
-        &mut textures,
-        &mut retiring,
-        &mut doomed,
-        &mut spares,
-        &mut newest,
-        &mut stamps,
-        &mut copies,
-        &mut views,
-        &mut out,
-        false,
-    );
+    let stopped = event_stream::run_all(&mut rt.stdin(), &mut buf, &mut stores, &mut out, false);
     let size = put_sheet::put_sheet(
         stopped.session,
         &textures,

@@ -25,15 +25,15 @@ pub rest_of-place-requires : goal.rest_of-place-requires
 rest_of-place-requires c =
     let k = c.finish-to in
     let r = c.cost_lines-run in (
-      turn_within _ _ c.args.before c.args.end k.result _ c.args.buf.now k.new.buf c.args.out.now k.auto.buf c.requires k.ensures _ r.ensures,
+      turn_within _ _ c.args.before c.args.end k.result _ c.args.buf.now k.new.buf c.args.out.now k.auto.buf c.requires k.ensures _ r.ensures.costed,
       omega (arith, k.ensures.within, k.auto.buf),
       omega (arith, c.requires.large, k.auto.buf),
     )
 
-pub returns : goal.returns
-returns c =
+pub returns-clause-costed : goal.returns-clause-costed
+returns-clause-costed c =
     let k = c.finish-to in
     let r = c.cost_lines-run in
     let z = c.rest_of-place in
-    turned _ _ c.args.before c.args.end k.result _ c.args.buf.now k.new.buf c.args.out.now k.auto.buf c.requires k.ensures _ r.ensures
+    turned _ _ c.args.before c.args.end k.result _ c.args.buf.now k.new.buf c.args.out.now k.auto.buf c.requires k.ensures _ r.ensures.costed
     z.result _ z.ensures r.result.session
