@@ -5,7 +5,9 @@ use Rattle.grid_shapes.specs.declared.shape.VersionShape.{VersionShape}
 use Rattle.grid_rects.specs.declared.rect.TexelRect.{TexelRect}
 use Rattle.pool_memory.specs.Lent.{Lent}
 use Rattle.pool_memory.specs.IsPool.{is_pool}
-use Rattle.pool_memory.specs.Calls.{Told, TakenVersion, PoppedVersion, take_spare_on, retire_on, note_write_on, pop_retired_on, park_on, note_allocated_on, take_doomed_on, trim_on, note_mip_regeneration_on, drain_versions_on, forget_texture_on}
+use Rattle.pool_memory.specs.declared.answer.TakenVersion.{TakenVersion}
+use Rattle.pool_memory.specs.declared.answer.PoppedVersion.{PoppedVersion}
+use Rattle.pool_memory.specs.Calls.{Told, take_spare_on, retire_on, note_write_on, pop_retired_on, park_on, note_allocated_on, take_doomed_on, trim_on, note_mip_regeneration_on, drain_versions_on, forget_texture_on}
 use Rattle.pool_books.specs.Demand3.{Reply, done}
 use Rattle.pool_books.specs.LentLists.{LentCall, said, filled, reply_of, taken_reply, popped_version_reply, views_filled, lent_call, EveryCallKeepsPool}
 use Rattle.pool_books.proofs.LentLists.{calls_keep_pool}

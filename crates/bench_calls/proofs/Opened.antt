@@ -1,5 +1,5 @@
 -- A pool that was opened is one. Assumes nothing.
-use Rattle.std.proofs.Common.{◌≡◌, ℕ, Bool, true, false, cond, List, sym, refl, ap, ◌∙◌, subst, arith}
+use Rattle.std.proofs.Common.{◌≡◌, ℕ, Bool, true, false, cond, List, sym, refl, ◌∙◌, arith}
 use Rattle.grid_shapes.specs.Outcomes.{outcome_number}
 use Rattle.pool_memory.specs.Lent.{lent}
 use Rattle.pool_memory.specs.IsPool.{is_pool}
