@@ -90,6 +90,3 @@ loop-at-preserved c =
       same = same_on i.same f.ensures.same;
       given = omega (arith, r.ensures.2, r.ensures.0, i.given);
     }
-
-pub returns : goal.returns
-returns c = same_on c.loop-at.invariant.same c.feed-at.ensures.same
