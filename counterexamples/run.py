@@ -123,20 +123,25 @@ def unfoldable(crate, skip=()):
 def declare(folder, copied):
     """The declared types of the copied crates alone: the functions and their contracts are not what is tried here."""
     os.makedirs(folder)
-    mods = ''
+    found, places = [], {}
     for c in copied:
         # A folder below src/ has no types (grid_axes: tables).
         for f in sorted(f for f in os.listdir('%s/crates/%s/src' % (root, c)) if f.endswith('.rt')):
             text = read('%s/crates/%s/src/%s' % (root, c, f))
             types = re.findall(r'^(?:#\[derive\([^\n]*\)\]\n)?pub (?:struct|enum) .*?^}\n', text, re.M | re.S)
             if types:
-                lines = []
-                for other, names in re.findall(r'^use (\w+)::\{?([\w, \n]+)\}?;$', text, re.M):
+                found.append((f, text, types))
+                places.update((name, f[:-3]) for t in types for name in re.findall(r'^pub (?:struct|enum) (\w+)', t, re.M))
+    mods = ''
+    for f, text, types in found:
+        lines = []
+        for other, names in re.findall(r'^use ((?:\w+::)*\w+)::\{?([\w, \n]+)\}?;$', text, re.M):
+            for n in re.findall(r'[A-Z]\w*[a-z]\w*', names):
+                if any(re.search(r'\b%s\b' % n, t) for t in types):
                     # A copied crate's types stand in this one.
-                    other = 'crate' if other in copied else other
-                    lines += ['use %s::%s;\n' % (other, n) for n in re.findall(r'[A-Z]\w*[a-z]\w*', names) if any(re.search(r'\b%s\b' % n, t) for t in types)]
-                write_file('%s/%s' % (folder, f), ''.join(lines) + '\n'.join(types))
-                mods += 'pub mod %s;\n' % f[:-3]
+                    lines.append('use %s::%s;\n' % ('crate::' + places[n] if n in places else other, n))
+        write_file('%s/%s' % (folder, f), ''.join(lines) + '\n'.join(types))
+        mods += 'pub mod %s;\n' % f[:-3]
     write_file(folder + '/lib.rt', '#![tactic(auto)]\n\n' + mods)
 
 
