@@ -14,15 +14,6 @@ use Rattle.event_runs.specs.Lines.{longest_answer}
 use Rattle.event_stream.proofs.Lengths.{zeros_count}
 use Rattle.test_replay.specs.ReplayConstants.{most_pages, most_textures}
 
--- a store has its length again when its front of e numbers comes back
-pub put_back : (store part : List ℕ) (e : ℕ) → e ≤ length store → length part ≡ length (take (e - 0) (drop 0 store))
-    → length (take 0 store ++ (part ++ drop (e - 0) (drop 0 store))) ≡ length store
-put_back store part e h k =
-    let n : e - 0 ≡ e = omega arith in
-    let t : length part ≡ length (take e store) = subst (λ (i : ℕ). length part ≡ length (take i (drop 0 store))) n k in
-    subst (λ (i : ℕ). length (part ++ drop i store) ≡ length store) (sym n)
-    (length-append part (drop e store) ∙ (let m : length part + length (drop e store) ≡ length store = omega (arith, t, length-take-le e store h, length-drop e store) in m))
-
 -- a front of e numbers has that many
 pub front_length : (store : List ℕ) (e : ℕ) → e ≤ length store → length (take (e - 0) (drop 0 store)) ≡ e
 front_length store e h = let n : e - 0 ≡ e = omega arith in subst (λ (i : ℕ). length (take i store) ≡ e) (sym n) (length-take-le e store h)

@@ -91,5 +91,5 @@ loop-at-preserved c =
       given = omega (arith, r.ensures.2, r.ensures.0, i.given);
     }
 
-pub returns : goal.returns
-returns c = same_on c.loop-at.invariant.same c.feed-at.ensures.same
+pub returns-then-is_some : goal.returns-then-is_some
+returns-then-is_some c = same_on c.loop-at.invariant.same c.feed-at.ensures.same
