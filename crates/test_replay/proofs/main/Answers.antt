@@ -1,5 +1,4 @@
 -- `main`: the memory has the lengths that are asked for, which laws say, since to count it out takes long. Assumes nothing.
-use borrow.Author.Rules.{rules}
 use mathlib.Core.Path.{sym}
 use native.Mathlib.Omega.{arith}
 use Rattle.event_stream.proofs.Lengths.{zeros_count}

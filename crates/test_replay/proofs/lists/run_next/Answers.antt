@@ -1,10 +1,7 @@
 -- `run_next` meets its contract: the parts of the stores are as long as the line asks, and the stores have room for them. Assumes nothing.
-use borrow.Author.Rules.{rules}
 use Prim.Native.Nat.{◌*◌}
 use native.Mathlib.Omega.{arith}
-use Rattle.grid_stamps.specs.StampConstants.{page_stamps}
 use Rattle.pool_memory.specs.MemoryConstants.{copy_stride}
-use Rattle.pool_records.specs.RecordConstants.{doomed_stride, retiring_stride, spare_stride, texture_stride}
 use Rattle.test_replay.specs.ReplayConstants.{most_entries}
 use Rattle.test_replay.proofs.Stores.{front_length, answers_fit, grids_fit_lem}
 use Rattle.test_replay.proofs.lists.run_next.Goals as goal
