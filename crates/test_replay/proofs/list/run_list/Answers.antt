@@ -90,6 +90,3 @@ loop-at-preserved c =
       same = same_on i.same f.ensures.same;
       given = omega (arith, r.ensures.2, r.ensures.0, i.given);
     }
-
-pub returns-then-is_some : goal.returns-then-is_some
-returns-then-is_some c = same_on c.loop-at.invariant.same c.feed-at.ensures.same
