@@ -1,15 +1,8 @@
--- Rule: The session on the stores that a program lends, and what a call never does to them.
+-- Rule: The session on the stores that a program lends, and what no function does to them.
 use Rattle.std.specs.Prelude.{◌≡◌, length}
-use Rattle.pool_memory.specs.declared.pool.Pool.{Pool}
-use Rattle.pool_memory.specs.declared.book.PacingBook.{PacingBook}
-use Rattle.pool_memory.specs.Lent.{Lent, lent}
 use Rattle.event_sessions.specs.declared.session.Session.{Session}
 use Rattle.event_sessions.specs.declared.stores.Stores.{Stores}
 use Rattle.event_sessions.specs.Sessions.{SessionState, state_of}
-
--- a pool's counts and its pacing book, with what stands in the stores
-abbrev pub lent_in : Pool → PacingBook → Stores → Lent
-lent_in pool book s = lent pool book s.textures.now s.retiring.now s.doomed.now s.spares.now s.newest.now s.stamps.now
 
 -- a session, with what stands in the stores
 abbrev pub state_in : Session → Stores → SessionState
