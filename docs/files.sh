@@ -123,7 +123,8 @@ read_files() {
             print "# Files\n"
             print "Every file of the crates, in the order of crates.txt, with its lines and the comment that it begins with. docs/files.sh writes this list."
             print "A *rule* is a file of specs/ that a reader of the contracts and theorems must believe; a *helper* only serves proofs. Laws are the lemmas of"
-            print "proofs/; what is written of the functions\047 own proofs is counted and not listed.\n"
+            print "proofs/; those of a trait, which the code cites, stand in specs/ and count as helpers (`pool_records`, `Codecs.antt` and `Counts.antt`). What is"
+            print "written of the functions\047 own proofs is counted and not listed.\n"
             print "| lines | rules | helpers | code | laws | proofs of functions | must-fail edits |"
             print "|---|---|---|---|---|---|---|"
             split("base grid pool event test bench", name, " ")

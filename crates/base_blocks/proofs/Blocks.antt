@@ -1,11 +1,11 @@
 -- Laws of blocks of numbers moved, copied, filled and turned within one list. Assumes nothing.
-use Rattle.std.proofs.Common.{◌≡◌, ℕ, ◌+◌, ◌-◌, ◌<◌, ◌≤◌, List, ◌++◌, reverse, length, replicate, get_or, take, drop, sym, refl, ap, ◌∙◌, ap₂, append_assoc, arith, length-append, length-drop, take-append-drop, length-take-le, get_or-drop, get_or-take, take-take, drop-drop, take_at, get_or-append-add, drop_at}
-use mathlib.Core.List.{reverse-append, reverse-reverse}
+use Rattle.std.proofs.Common.{◌≡◌, ℕ, ◌+◌, ◌-◌, ◌<◌, ◌≤◌, List, ◌++◌, reverse, length, replicate, get_or, take, drop, sym, refl, ap, ◌∙◌, ap₂, append_assoc, arith, length-append, length-drop, take-append-drop, length-take-le, get_or-drop, get_or-take, take-take, drop-drop, take_at, get_or-append-add, drop_at, zero, suc, [], ◌∷◌, set, drop-cons, add-one}
+use mathlib.Core.List.{reverse-append, reverse-reverse, reverse-cons}
 use lib.ListN.{length-replicate, length-reverse, get_or-append}
 use borrow.Rule.Slice.PartMut.{put_mid}
 use Rattle.std.proofs.lemmas.Slice.{put_mid-paste}
 use Rattle.std.proofs.lemmas.List.Edits.{paste_all}
-use lib.Seq.{paste, paste-zero, sets, sets-eq, take-append_seam, drop-append_seam, drop-append-add, take-append-le}
+use lib.Seq.{paste, paste-zero, sets, sets-eq, take-append_seam, drop-append_seam, drop-append-add, take-append-le, append_snoc, set_at}
 use Rattle.base_blocks.specs.Lists.{over}
 use Rattle.base_blocks.specs.Blocks.{moved, turned, rotated}
 use Rattle.base_blocks.proofs.Lists.{drop_over}
@@ -130,6 +130,63 @@ module _ {ℓ} {A : Type ℓ} where
       sym (ap (λ (l : List A). take at s ++ (take n (drop at s) ++ l)) (sym (drop-drop n at s))
       ∙ ap (λ (l : List A). take at s ++ l) (take-append-drop n (drop at s))
       ∙ take-append-drop at s)
+
+  -- of no element and of one, nothing changes
+  pub turned_none : (at n : ℕ) (s : List A) → at + n ≤ length s → n ≤ 1 → turned at n s ≡ s
+  unfolding turned
+  turned_none at zero s h k = sym (thirds at 0 s)
+  turned_none at (suc zero) s h k =
+      ap (λ (l : List A). take at s ++ (l ++ drop (at + 1) s)) (one (take 1 (drop at s)) (length-take-le 1 (drop at s) (omega (arith, length-drop at s)))) ∙ sym (thirds at 1 s)
+    where
+      one : (l : List A) → length l ≡ 1 → reverse l ≡ l
+      one [] e = refl
+      one (x ∷ []) e = refl
+      one (x ∷ y ∷ l) e = absurd (let y : ⊥ = omega arith in y)
+  turned_none at (suc (suc n)) s h k = absurd (let y : ⊥ = omega arith in y)
+
+  -- a block between two ends that change places
+  turned_ends : (p : List A) (x : A) (m : List A) (y : A) (t : List A) (at n : ℕ) → length p ≡ at → length m ≡ n
+      → turned at (suc (suc n)) (p ++ (x ∷ (m ++ (y ∷ t)))) ≡ turned (suc at) n (p ++ (y ∷ (m ++ (x ∷ t))))
+  turned_ends p x m y t at n hp hm =
+      let la : length (x ∷ (m ++ (y ∷ []))) ≡ suc (suc n) = ap suc (length-append m (y ∷ []) ∙ (let q : length m + 1 ≡ suc n = omega arith in q)) in
+      let lq : length (p ++ (y ∷ [])) ≡ suc at = length-append p (y ∷ []) ∙ (let q : length p + 1 ≡ suc at = omega arith in q) in
+      let whole : x ∷ (m ++ (y ∷ t)) ≡ (x ∷ (m ++ (y ∷ []))) ++ t = ap (λ (l : List A). x ∷ l) (sym (append_snoc m y t)) in
+      let back : reverse (x ∷ (m ++ (y ∷ []))) ≡ y ∷ (reverse m ++ (x ∷ [])) =
+      reverse-cons x (m ++ (y ∷ [])) ∙ ap (λ (l : List A). l ++ (x ∷ [])) (reverse-append m (y ∷ [])) in
+      ap (λ (l : List A). turned at (suc (suc n)) (p ++ l)) whole
+      ∙ turned_parts p (x ∷ (m ++ (y ∷ []))) t at (suc (suc n)) hp la
+      ∙ ap (λ (l : List A). p ++ (l ++ t)) back
+      ∙ ap (λ (l : List A). p ++ (y ∷ l)) (append_snoc (reverse m) x t)
+      ∙ sym (append_snoc p y (reverse m ++ (x ∷ t)))
+      ∙ sym (turned_parts (p ++ (y ∷ [])) m (x ∷ t) (suc at) n lq hm)
+      ∙ ap (turned (suc at) n) (append_snoc p y (m ++ (x ∷ t)))
+
+-- the outermost two have changed places: what lies between is still to be turned
+pub turn_step : (s : List ℕ) (lo hi : ℕ) → lo + 1 < hi → hi ≤ length s
+    → turned lo (hi - lo) s ≡ turned (lo + 1) (hi - 1 - (lo + 1)) (set (set s lo (get_or s (hi - 1) 0)) (hi - 1) (get_or s lo 0))
+turn_step s lo hi h k =
+    let n = hi - 1 - (lo + 1) in
+    let p = take lo s in
+    let x = get_or s lo 0 in
+    let y = get_or s (hi - 1) 0 in
+    let m = take n (drop (suc lo) s) in
+    let t = drop (suc (hi - 1)) s in
+    let lp : length p ≡ lo = length-take-le lo s (omega arith) in
+    let lm : length m ≡ n = length-take-le n (drop (suc lo) s) (omega (arith, length-drop (suc lo) s)) in
+    let hi-is : suc lo + n ≡ hi - 1 = omega arith in
+    let inner : drop (suc lo) s ≡ m ++ (y ∷ t) =
+    sym (take-append-drop n (drop (suc lo) s)) ∙ ap (λ (l : List ℕ). m ++ l) (drop-drop n (suc lo) s ∙ ap (λ (i : ℕ). drop i s) hi-is ∙ drop-cons s (hi - 1) 0 (omega arith)) in
+    let cut : s ≡ p ++ (x ∷ (m ++ (y ∷ t))) = sym (take-append-drop lo s) ∙ ap (λ (l : List ℕ). p ++ l) (drop-cons s lo 0 (omega arith) ∙ ap (λ (l : List ℕ). x ∷ l) inner) in
+    let mid : length (p ++ (y ∷ m)) ≡ hi - 1 = length-append p (y ∷ m) ∙ (let q : length p + suc (length m) ≡ hi - 1 = omega arith in q) in
+    let stored : set (set s lo y) (hi - 1) x ≡ p ++ (y ∷ (m ++ (x ∷ t))) =
+    ap (λ (l : List ℕ). set (set l lo y) (hi - 1) x) cut
+    ∙ ap (λ (l : List ℕ). set l (hi - 1) x) (set_at p x (m ++ (y ∷ t)) y lo lp ∙ sym (append_assoc p (y ∷ m) (y ∷ t)))
+    ∙ set_at (p ++ (y ∷ m)) y t x (hi - 1) mid
+    ∙ append_assoc p (y ∷ m) (x ∷ t) in
+    ap (λ (i : ℕ). turned lo i s) (let q : hi - lo ≡ suc (suc n) = omega arith in q)
+    ∙ ap (turned lo (suc (suc n))) cut
+    ∙ turned_ends p x m y t lo n lp lm
+    ∙ ap₂ (λ (i : ℕ) (l : List ℕ). turned i n l) (sym (add-one lo)) (sym stored)
 
 -- the part of length k from at on, which is turned now
 pub put_mid_turned : {A : Type 0} (at n k : ℕ) (xs zs : List A) → k ≡ n → zs ≡ reverse (take k (drop at xs)) → put_mid at k xs zs ≡ turned at n xs

@@ -62,6 +62,9 @@ module _ (p : ℕ → Bool) (i : ℕ) (s : List ℕ) where
     pub all_block_more : all p (take w (drop i s)) ≡ true → all p (from i s) ≡ all p (from (i + w) s)
     all_block_more e = all_block ∙ ap (λ (b : Bool). b && all p (from (i + w) s)) e
 
+    pub all_block_stop : all p (take w (drop i s)) ≡ false → all p (from i s) ≡ false
+    all_block_stop e = all_block ∙ ap (λ (b : Bool). b && all p (from (i + w) s)) e
+
   -- the four tests of a turn, as the code joins them
   pub all_four_read : i + 4 ≤ length s → p (get_or s i 0) && p (get_or s (i + 1) 0) && p (get_or s (i + 2) 0) && p (get_or s (i + 3) 0) ≡ all p (take 4 (drop i s))
   unfolding all

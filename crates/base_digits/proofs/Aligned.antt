@@ -13,11 +13,31 @@ use Rattle.base_blocks.specs.Lists.{all}
 use Rattle.base_blocks.proofs.Lists.{and_both}
 use Rattle.base_digits.specs.Characters.{blank}
 use Rattle.base_digits.specs.Aligned.{right}
-use Rattle.base_digits.specs.Digits.{is_digit, value, decimal, digits, digits_of}
+use Rattle.base_digits.specs.Digits.{is_digit, value, decimal, digits, digits_of, last_digits}
 use Rattle.base_digits.proofs.Printing.{digits_length, digits_some, digits_are, digits_value}
-use Rattle.base_digits.proofs.ShortNumbers.{enough, sets_append}
+use Rattle.base_digits.proofs.ShortNumbers.{enough, sets_append, of_one, of_two, of_three, of_four, length_last, four_behind}
 
 -- ---- how many digits a number has
+
+pub count_one_lem : (n : ℕ) → n < 10 → length (digits_of n) ≡ 1
+count_one_lem n h = ap length (of_one n h)
+
+pub count_two : (n : ℕ) → 10 ≤ n → n < 100 → length (digits_of n) ≡ 2
+count_two n h k = ap length (of_two n h k)
+
+pub count_three : (n : ℕ) → 100 ≤ n → n < 1000 → length (digits_of n) ≡ 3
+count_three n h k = ap length (of_three n h k)
+
+pub count_four : (n : ℕ) → 1000 ≤ n → n < 10000 → length (digits_of n) ≡ 4
+count_four n h k = ap length (of_four n h k) ∙ length_last 4 n
+
+-- four more than without the last four
+pub count_more : (n : ℕ) → 10000 ≤ n → n < 2 ^ 64 → length (digits_of n) ≡ 4 + length (digits_of (n / 10000))
+count_more n h k =
+    let b = four_behind n h k in
+    let e : length (digits_of n) ≡ length (digits_of (n / 10000)) + length (last_digits 4 (n % 10000)) = ap length b.joined ∙ length-append (digits_of (n / 10000)) (last_digits 4 (n % 10000)) in
+    let w = b.counted in
+    omega (arith, e, w)
 
 -- a number below 10 to the k has at most k
 pub count_most : (k n : ℕ) → k < 20 → n < 10 ^ suc k → length (digits_of n) ≤ suc k

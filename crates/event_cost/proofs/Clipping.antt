@@ -1,7 +1,7 @@
 -- Laws of sums that stop at 2 ^ 64 - 1. Assumes nothing.
 use mathlib.Core.Path.{◌≡◌, refl, sym, ap, ◌∙◌}
 use mathlib.Core.List.{List, [], ◌∷◌, ◌++◌}
-use Prim.Native.Nat.{ℕ, ◌+◌, ◌≤◌, ◌<◌, min}
+use Prim.Native.Nat.{ℕ, ◌+◌, ◌≤◌, ◌<◌, min, ◌^◌, ◌-◌}
 use native.Mathlib.Nat.{add-zero, zero-add, add_assoc}
 use native.Mathlib.Numerals.{add-one}
 use native.Mathlib.Decide.{dec_lt}
@@ -20,6 +20,15 @@ use Rattle.event_cost.specs.declared.sums.Sums.{Sums}
 use Rattle.event_cost.specs.Costs.{copy_cost, whole_cost, plan_bytes, whole_bytes, copy_sums, plan_sums, no_sums, plus, largest_sum, clipped, clipped_sums, sum_field}
 
 -- ---- one sum
+
+-- a sum past the largest, and one within it
+pub clip_past : (a b : ℕ) → a < 2 ^ 64 → largest_sum - a < b → largest_sum ≡ clipped (a + b)
+unfolding clipped
+clip_past a b f h = omega arith
+
+pub clip_within : (a b : ℕ) → a < 2 ^ 64 → b ≤ largest_sum - a → a + b ≡ clipped (a + b)
+unfolding clipped
+clip_within a b f h = omega arith
 
 clip_first : (a b : ℕ) → clipped (clipped a + b) ≡ clipped (a + b)
 unfolding clipped

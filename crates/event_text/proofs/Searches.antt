@@ -54,12 +54,26 @@ none_among (suc k) b (x ∷ xs) h e = go (eqb x b) (none_among k b xs (omega ari
     go true r q = absurd (let z : ◌≡◌ {A = ℕ} 0 1 = cc in let y : ⊥ = omega arith in y)
     go false r q = let g = r q in omega arith
 
+-- one of the next k is b
+one_among : (k b : ℕ) (s : List ℕ) → k ≤ length s → among k b s ≡ true → index_of b s < length s
+unfolding among index_of
+one_among zero b s h e = absurd (let z : ◌≡◌ {A = ℕ} 0 1 = cc in let y : ⊥ = omega arith in y)
+one_among (suc k) b [] h e = absurd (let y : ⊥ = omega arith in y)
+one_among (suc k) b (x ∷ xs) h e = go (eqb x b) (one_among k b xs (omega arith)) e
+  where
+    go : (t : Bool) → (among k b xs ≡ true → index_of b xs < length xs) → t || among k b xs ≡ true → cond t 0 (suc (index_of b xs)) < suc (length xs)
+    go true r q = omega arith
+    go false r q = let g = r q in omega arith
+
 module _ (b i : ℕ) (s : List ℕ) (room : i + 8 ≤ length s) where
   pub found_eight : among 8 b (drop i s) ≡ false → i + index_of b (drop i s) ≡ i + 8 + index_of b (drop (i + 8) s)
   found_eight e =
       let g = none_among 8 b (drop i s) (omega (arith, length-drop i s)) e in
       let q : i + (8 + index_of b (drop 8 (drop i s))) ≡ i + 8 + index_of b (drop 8 (drop i s)) = omega arith in
       ap (λ (k : ℕ). i + k) g ∙ q ∙ ap (λ (l : List ℕ). i + 8 + index_of b l) (drop-drop 8 i s)
+
+  pub found_known : among 8 b (drop i s) ≡ true → i + index_of b (drop i s) < length s
+  found_known e = let g = one_among 8 b (drop i s) (omega (arith, length-drop i s)) e in omega (arith, length-drop i s)
 
   -- the tests of a turn, as the code joins them
   eight_read : from i s ≡ get_or s i 0 ∷ get_or s (i + 1) 0 ∷ get_or s (i + 2) 0 ∷ get_or s (i + 3) 0 ∷ get_or s (i + 4) 0 ∷ get_or s (i + 5) 0 ∷ get_or s (i + 6) 0 ∷ get_or s (i + 7) 0

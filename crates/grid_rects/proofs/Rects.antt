@@ -34,6 +34,11 @@ unfolding is_multiple_of
 multiple_mod number zero = rw (mod-zero number)
 multiple_mod number (suc block) = rw (ne_eqb (suc block) 0 (λ e. let y : ⊥ = omega arith in y))
 
+-- of 0 only 0 is a multiple
+pub multiple_zero : (number block : ℕ) → block ≡ 0 → is_multiple_of number block ≡ eqb number 0
+unfolding is_multiple_of
+multiple_zero number block e = rw (eq-eqb block 0 e)
+
 pub mod_multiple : (number block : ℕ) → number % block ≡ 0 → is_multiple_of number block ≡ true
 mod_multiple number block e = multiple_mod number block ∙ eq-eqb (number % block) 0 e
 

@@ -14,6 +14,10 @@ use Rattle.grid_shapes.specs.Outcomes.{Outcome, accepted, refused, number_of, of
 pub field : {a b : Outcome} (k : ℕ) → a ≡ b → get_or a.fields k 0 ≡ get_or b.fields k 0
 field k e = ap (λ (o : Outcome). get_or o.fields k 0) e
 
+-- two with different numbers are not the same
+pub apart : (a b : Outcome) → (a.number ≡ b.number → ⊥) → a ≡ b → ⊥
+apart a b h e = h (ap (λ (o : Outcome). o.number) e)
+
 -- the refusals in order, after one that stands at 0
 refusals : List Refusal
 refusals =

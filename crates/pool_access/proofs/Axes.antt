@@ -8,6 +8,19 @@ use Rattle.grid_stamps.specs.declared.grid.Tiling.{Tiling}
 use Rattle.grid_stamps.specs.Grids.{tiling_of}
 use Rattle.pool_records.specs.declared.tiling.GridTiling.{GridTiling}
 
+-- each axis by itself
+module _ (s : VersionShape) (level extent edge : ℕ) where
+  pub across_known : extent ≡ level_extent s.width level → edge ≡ (tiling_of s level).across.edge
+      → record { extent = extent; edge = edge } ≡ (tiling_of s level).across
+  unfolding tiling_of axis_of level_width
+  across_known e f = λ i. record { extent = e i; edge = f i }
+
+  pub down_known : extent ≡ level_extent s.height level → edge ≡ (tiling_of s level).down.edge
+      → record { extent = extent; edge = edge } ≡ (tiling_of s level).down
+  unfolding tiling_of axis_of level_height
+  down_known e f = λ i. record { extent = e i; edge = f i }
+
+-- both
 module _ (s : VersionShape) (level width height : ℕ) (t : GridTiling) where
   pub tiling_known : width ≡ level_extent s.width level → height ≡ level_extent s.height level → t.across ≡ (tiling_of s level).across.edge
       → t.down ≡ (tiling_of s level).down.edge

@@ -2,7 +2,8 @@
 use mathlib.Core.Path.{◌≡◌, sym, ap}
 use mathlib.Core.Bool.{cond}
 use mathlib.Core.List.{List}
-use Prim.Native.Nat.{ℕ, ◌+◌, ◌*◌}
+use Prim.Native.Nat.{ℕ, ◌+◌, ◌*◌, ◌≤◌}
+use borrow.Author.Tests.{le-ltb}
 use lib.Dec.{ltb}
 use lib.ListN.{get_or}
 use lib.Seq.{get_or-drop}
@@ -22,6 +23,15 @@ module _ (s : List ℕ) (n used i : ℕ) where
   unfolding grid_end
   next_grid = ap (λ (k : ℕ). cond (ltb (i + 1) n) k used) (grid_number s (i + 1))
 
+  -- the last record of them all ends where all end
+  pub last_grid : n ≤ i + 1 → used ≡ grid_end s n used i
+  unfolding grid_end
+  last_grid h = let e = le-ltb (i + 1) n h in rw e
+
   pub next_stamp : cond (ltb (i + 1) n) (get_or s (texture_stride * (i + 1) + texture_stamp_at) 0) used ≡ stamp_end s n used i
   unfolding stamp_end
   next_stamp = ap (λ (k : ℕ). cond (ltb (i + 1) n) k used) (stamp_number s (i + 1))
+
+  pub last_stamp : n ≤ i + 1 → used ≡ stamp_end s n used i
+  unfolding stamp_end
+  last_stamp h = let e = le-ltb (i + 1) n h in rw e

@@ -8,13 +8,15 @@ use Rattle.grid_shapes.specs.declared.shape.VersionShape.{VersionShape}
 use Rattle.grid_shapes.specs.Shapes.{is_shape, slices_of}
 use Rattle.grid_shapes.proofs.Shapes.{shape_bounds}
 use Rattle.grid_stamps.specs.declared.grid.Tiling.{Tiling}
-use Rattle.grid_stamps.specs.Grids.{TilingOk, tiling_of, stamp_count}
+use Rattle.grid_stamps.specs.Grids.{TilingOk, tiling_of, stamp_count, tiled}
 use Rattle.grid_stamps.specs.StampConstants.{page_stamps}
 use Rattle.grid_stamps.proofs.Tilings.{tiling_ok, count_bound}
 use Rattle.pool_rules.specs.Model.{grid_count}
 use Rattle.pool_rules.specs.HistorySizes.{history_size, level_start}
 use Rattle.pool_rules.specs.RuleConstants.{most_grids}
 use Rattle.pool_rules.proofs.HistorySizes.{history_size_lem, history_most, level_none, level_next}
+use Rattle.grid_axes.specs.declared.axis.Axis.{Axis}
+use Rattle.grid_axes.specs.Axes.{AxisOk}
 
 -- a history has a grid for each slice and level
 pub grids_by_slices : (s : VersionShape) (n : ℕ) → n ≡ slices_of s → n * s.levels ≡ grid_count s
@@ -25,6 +27,15 @@ grids_by_slices s n e = ap (λ (k : ℕ). k * s.levels) e
 
 pub tiling_known_ok : (s : VersionShape) → is_shape s ≡ true → (level : ℕ) (g : Tiling) → g ≡ tiling_of s level → TilingOk g
 tiling_known_ok s shaped level g e = subst TilingOk (sym e) (tiling_ok s shaped level)
+
+-- the two axes apart: both fit, and what they count together is what the level counts
+module _ (s : VersionShape) (shaped : is_shape s ≡ true) (level : ℕ) (across down : Axis) (f : across ≡ (tiling_of s level).across)
+    (g : down ≡ (tiling_of s level).down) where
+  pub axes_ok : AxisOk across × AxisOk down
+  axes_ok = let ok = tiling_ok s shaped level in (subst AxisOk (sym f) ok.across, subst AxisOk (sym g) ok.down)
+
+  pub count_known : (r : ℕ) → r ≡ stamp_count (tiled across down) → r ≡ stamp_count (tiling_of s level)
+  count_known r e = e ∙ ap stamp_count (ap₂ tiled f g)
 
 -- ---- levels in a row
 

@@ -7,8 +7,9 @@ use native.Mathlib.Nat.{zero-add, add-zero}
 use native.Mathlib.Omega.{arith}
 use Rattle.base_blocks.specs.Lists.{listed, total}
 use Rattle.base_tables.specs.Records.{record_at, table}
+use Rattle.base_tables.proofs.Records.{table_left}
 use Rattle.base_blocks.proofs.Lists.{total_append}
-use Rattle.base_blocks.proofs.Listed.{listed_more, left, left_split, total_more}
+use Rattle.base_blocks.proofs.Listed.{listed_more, left, left_split, total_more, total_done}
 
 module _ {ℓ} {A : Type ℓ} (w : ℕ) (rd : List ℕ → A) (f : A → ℕ) (s : List ℕ) where
   pub total_none : total f (table w rd 0 s) ≡ 0
@@ -37,3 +38,19 @@ module _ {ℓ} {A : Type ℓ} (w : ℕ) (rd : List ℕ → A) (f : A → ℕ) (s
   -- nor do they with record i
   pub total_with : (i n : ℕ) → i < n → total f (table w rd i s) + f (record_at w rd s i) ≤ total f (table w rd n s)
   total_with i n h = omega (arith, total_split i n (omega arith), total_more (record_at w rd s) n f i h)
+
+  -- ---- the loop that sums the first n up: what it has, and what is left
+
+  pub sum_start : (n : ℕ) → 0 + total f (left (record_at w rd s) n 0) ≡ total f (table w rd n s)
+  sum_start n = zero-add (total f (left (record_at w rd s) n 0)) ∙ ap (total f) (table_left w rd n s)
+
+  module _ (n i sum : ℕ) (inv : sum + total f (left (record_at w rd s) n i) ≡ total f (table w rd n s)) where
+    -- with the next one it stays within the sum of all
+    pub sum_fits : (x : ℕ) → x ≡ f (record_at w rd s i) → i < n → sum + x ≤ total f (table w rd n s)
+    sum_fits x e h = omega (arith, total_more (record_at w rd s) n f i h)
+
+    pub sum_more : (x : ℕ) → x ≡ f (record_at w rd s i) → i < n → sum + x + total f (left (record_at w rd s) n (i + 1)) ≡ total f (table w rd n s)
+    sum_more x e h = omega (arith, total_more (record_at w rd s) n f i h)
+
+    pub sum_done : n ≤ i → sum ≡ total f (table w rd n s)
+    sum_done h = omega (arith, total_done (record_at w rd s) n f i h)

@@ -15,8 +15,8 @@ use Rattle.base_blocks.proofs.Listed.{left, all_stop, all_done}
 use Rattle.grid_shapes.specs.declared.shape.VersionShape.{VersionShape}
 use Rattle.grid_shapes.specs.Shapes.{is_shape}
 use Rattle.grid_stamps.specs.declared.grid.Tiling.{Tiling}
-use Rattle.grid_stamps.specs.Grids.{TilingOk, tiling_of, stamp_count, grid_in, largest_stamp}
-use Rattle.grid_stamps.proofs.Tilings.{count_pos}
+use Rattle.grid_stamps.specs.Grids.{TilingOk, tiling_of, stamp_count, grid_in, largest_stamp, tiled}
+use Rattle.grid_stamps.proofs.Tilings.{count_pos, tiling_ok}
 use Rattle.pool_access.proofs.Levels.{tiling_known_ok}
 use Rattle.pool_rules.specs.Model.{grid_count}
 use Rattle.pool_rules.specs.HistorySizes.{grid_size, grid_start, history_size}
@@ -29,8 +29,18 @@ use Rattle.pool_records.proofs.Tilings.{tiling_fits}
 use Rattle.pool_memory.specs.IsPool.{is_grid}
 use Rattle.pool_formed_textures.specs.Textures.{own_grid, own_tiling, axes_tiling, grids_fit}
 use Rattle.pool_formed_textures.proofs.Tests.{fails}
+use Rattle.grid_axes.specs.declared.axis.Axis.{Axis}
+use Rattle.grid_axes.specs.Axes.{AxisOk}
 
 -- ---- one grid
+
+-- its two axes, where they are a level's: together its tiling, and each fits
+module _ (s : VersionShape) (level : ℕ) (a d : Axis) (ea : a ≡ (tiling_of s level).across) (ed : d ≡ (tiling_of s level).down) where
+  pub tiling_same : tiled a d ≡ tiling_of s level
+  tiling_same = λ j. record { across = ea j; down = ed j }
+
+  pub axes_ready : is_shape s ≡ true → AxisOk a × AxisOk d
+  axes_ready h = let ok = tiling_ok s h level in (subst AxisOk (sym ea) ok.across, subst AxisOk (sym ed) ok.down)
 
 module _ (s : VersionShape) (level : ℕ) (g : Tiling) (e : g ≡ tiling_of s level) where
   -- its stamps stand at the front of those from `at` on

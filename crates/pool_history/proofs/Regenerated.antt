@@ -3,7 +3,7 @@ use mathlib.Core.Path.{◌≡◌, refl, sym, ap, ap₂, ◌∙◌}
 use mathlib.Core.Bool.{Bool, true, cond}
 use mathlib.Core.List.{List, [], ◌∷◌, ◌++◌, flat_map, append-nil}
 use Prim.Native.Nat.{ℕ, zero, suc, ◌+◌, ◌*◌, ◌%◌, ◌≤◌, ◌<◌}
-use native.Mathlib.Nat.{zero-add, mod-eq_of_lt, mod-lt, mod-add-mod}
+use native.Mathlib.Nat.{zero-add, mod-eq_of_lt, mod-lt, mod-add-mod, mod_self}
 use native.Mathlib.Numerals.{add-one}
 use native.Mathlib.Omega.{arith}
 use borrow.Author.Tests.{ne_eqb, eq-eqb}
@@ -60,6 +60,13 @@ regenerate_listed s n f k (suc m) =
 
 pub level_first : (s : VersionShape) → is_shape s ≡ true → (0 < s.levels) × (0 ≡ 0 % s.levels)
 level_first s shaped = let h = (shape_bounds s shaped).levels_pos in (h, sym (mod-eq_of_lt h))
+
+-- the next level, and after the last the first
+pub level_next : (level levels : ℕ) → level + 1 < levels → level + 1 ≡ (level + 1) % levels
+level_next level levels h = sym (mod-eq_of_lt h)
+
+pub level_wraps : (level levels : ℕ) → level < levels → levels ≤ level + 1 → 0 ≡ (level + 1) % levels
+level_wraps level levels h k = let e : level + 1 ≡ levels = omega arith in sym (ap (λ (i : ℕ). i % levels) e ∙ mod_self levels)
 
 pub next_below : (next level levels : ℕ) → level < levels → next ≡ (level + 1) % levels → next < levels
 next_below next level levels h e = omega (arith, e, mod-lt (level + 1) {m = levels} (omega arith))

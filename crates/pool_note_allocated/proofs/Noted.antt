@@ -1,11 +1,12 @@
 -- note_allocated on lent memory: what relief leaves, with the counts and the book, is what the model's rule leaves; and where the queued bytes cover the
 -- excess the book alone changes. Assumes nothing.
 use mathlib.Core.Path.{◌≡◌, refl, sym, ap, ap₂, ◌∙◌}
-use mathlib.Core.Bool.{true}
+use mathlib.Core.Bool.{true, Bool, false}
 use mathlib.Core.List.{List, [], ◌∷◌, ◌++◌, map, flat_map, append-nil}
 use Prim.Native.Nat.{ℕ, ◌+◌, ◌-◌, ◌*◌, ◌≤◌, ◌<◌, ◌^◌}
 use native.Mathlib.Nat.{add-zero, sub-zero, mul-le-mul_right}
 use native.Mathlib.Omega.{arith}
+use mir.Val.{bool_byte}
 use lib.Dec.{eqb}
 use lib.ListN.{length, length-append, length-map}
 use Rattle.base_blocks.specs.Lists.{total}
@@ -21,7 +22,7 @@ use Rattle.pool_rules.proofs.Lists.{total_map}
 use Rattle.pool_rules.proofs.Moves.{lessened, given, given_bytes, given_count}
 use Rattle.pool_memory.specs.Lent.{Lent, lent}
 use Rattle.pool_memory.specs.Reading.{model_of}
-use Rattle.pool_memory.specs.Writing.{textures_after, spares_after, newest_after, stamps_after, head_after, retiring_after, first_after, doomed_after, pool_after, pacing_after, lent_after}
+use Rattle.pool_memory.specs.Writing.{textures_after, spares_after, newest_after, stamps_after, head_after, retiring_after, first_after, doomed_after, pool_after, pacing_after, lent_after, mark_of}
 use Rattle.pool_memory.specs.IsPool.{is_pool}
 use Rattle.pool_memory.specs.Calls.{answer, told_number, note_allocated_on}
 use Rattle.pool_memory.proofs.Fits.{Fits}
@@ -51,6 +52,11 @@ spare_bytes_most (cons {x = t} p ps) =
       spare_bytes_most ps,
       mul-le-mul_right {m = bytes_of t.shape} {n = most_shape_bytes} (length t.spares) (bytes_bound t.shape p.shape),
     )
+
+-- a mark as the byte of a truth value
+pub mark_byte : (b : Bool) → bool_byte b ≡ mark_of b
+mark_byte true = refl
+mark_byte false = refl
 
 module _ (l : Lent) (f : Fits l) (allocated : ℕ) where
   abbrev excess : ℕ

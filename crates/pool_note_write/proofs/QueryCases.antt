@@ -38,11 +38,11 @@ module _ (l : Lent) (f : Fits l) (id : ℕ) where
   none_found (untracked ne) = ap history_in (not_found l id (ids_ascend l f) ne)
   none_found (unrecorded tr q) = ap history_in (found l id (ids_ascend l f) tr) ∙ history_read_lem l f i tr.0 None q
 
-  records_none : Unrecorded l f id → false ≡ records_writes (model_of l) id
+  pub records_none : Unrecorded l f id → false ≡ records_writes (model_of l) id
   unfolding records_writes
   records_none u = sym (ap has_history (none_found u))
 
-  records_some : (n : ℕ) → Recording l f id n → true ≡ records_writes (model_of l) id
+  pub records_some : (n : ℕ) → Recording l f id n → true ≡ records_writes (model_of l) id
   unfolding records_writes
   records_some n rec = sym (ap has_history (ap history_in (found l id (ids_ascend l f) rec.tracked) ∙ has_history_lem l f id n rec))
 

@@ -1,6 +1,7 @@
 -- What `park` refuses, decides and notes, on the records that the code reads. Assumes nothing.
-use mathlib.Core.Path.{◌≡◌, refl, sym, ap, ap₂, ◌∙◌}
+use mathlib.Core.Path.{◌≡◌, refl, sym, ap, ap₂, ◌∙◌, subst}
 use mathlib.Core.Bool.{Bool, true, false, cond, not, ◌&&◌, ◌||◌, true≢false}
+use mathlib.Core.List.{List}
 use Prim.Native.Nat.{ℕ, ◌+◌, ◌-◌, ◌≤◌, ◌<◌, ◌^◌}
 use native.Mathlib.Decide.{dec_lt}
 use native.Mathlib.Omega.{arith}
@@ -8,14 +9,18 @@ use borrow.Author.Tests.{lt-ltb, le-ltb, ltb-false, eq-eqb, ne_eqb}
 use lib.Dec.{leb, ltb, eqb}
 use Rattle.pool_rules.specs.declared.held.Held.TheVariants.{Known, Unknown}
 use Rattle.pool_rules.specs.Model.{limit}
+use Rattle.pool_rules.specs.RuleConstants.{most_places}
 use Rattle.pool_records.specs.declared.texture.TextureRecord.{TextureRecord}
 use Rattle.pool_records.specs.declared.retiring.RetiringRecord.{RetiringRecord}
 use Rattle.pool_records.specs.Held.{HeldFits, held_number}
+use Rattle.pool_records.specs.Recorded.{RecordedFits}
+use Rattle.pool_records.specs.Texture.{texture_in, textures_in}
 use Rattle.pool_memory.specs.declared.pool.Pool.{Pool}
 use Rattle.pool_park.specs.declared.park_or_destroy.Parking.{Parking}
 use Rattle.pool_park.specs.declared.park_or_destroy.Parking.TheVariants.{Destroyed, Kept}
-use Rattle.pool_park.specs.Park.{park_refusal, parking_of, held_parked}
+use Rattle.pool_park.specs.Park.{park_refusal, parking_of, held_parked, one_more, spares_end}
 use Rattle.grid_shapes.specs.ShapeConstants.{most_shape_bytes}
+use Rattle.base_blocks.specs.Lists.{total}
 
 -- ---- the code's refusals, in order
 
@@ -116,3 +121,15 @@ held_fits failed v h = go (not (eqb failed 0) && leb v.birth failed)
     go : (b : Bool) → held_number (cond b Unknown (Known v.held)) < 2 ^ 64
     go true = omega arith
     go false = omega (arith, h)
+
+-- a texture with one spare more: its history fits as before, and its spares end where those of the textures before it and its own do
+module _ (a : List ℕ) (i : ℕ) (u : TextureRecord) (read : u ≡ texture_in a i) where
+  pub keep_history : (w : TextureRecord) → w ≡ one_more u → RecordedFits (texture_in a i).history → RecordedFits w.history
+  keep_history w more h = subst (λ (t : TextureRecord). RecordedFits t.history) (sym (more ∙ ap one_more read)) h
+
+  module _ (m : ℕ) (before : m ≡ total (λ (t : TextureRecord). t.spares) (textures_in i a)) where
+    end_is : m + u.spares ≡ spares_end a i
+    end_is = ap₂ (λ (n : ℕ) (t : TextureRecord). n + t.spares) before read
+
+    pub end_fits : (kept : ℕ) → spares_end a i ≤ kept → kept ≤ most_places → (m + u.spares ≤ kept) × (u.spares ≤ most_places)
+    end_fits kept h k = (omega (arith, end_is, h), omega (arith, end_is, h, k))

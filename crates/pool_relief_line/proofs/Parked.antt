@@ -2,6 +2,7 @@
 use mathlib.Core.Path.{◌≡◌, refl, sym, ap, ap₂, ◌∙◌}
 use mathlib.Core.Bool.{Bool, true, false, cond}
 use mathlib.Core.List.{List, [], ◌∷◌}
+use mathlib.Core.Logic.{◌⊎◌, inl, inr, ⊎_elim}
 use Prim.Native.Nat.{ℕ, suc, ◌+◌, ◌-◌, ◌*◌, ◌≤◌, ◌<◌}
 use native.Mathlib.Nat.{mul-le-mul_left}
 use native.Mathlib.Omega.{arith}
@@ -19,9 +20,10 @@ use Rattle.pool_records.specs.declared.texture.TextureRecord.{TextureRecord}
 use Rattle.pool_records.specs.Texture.{read_texture, texture_in, record_spares, record_bytes}
 use Rattle.pool_records.specs.Spare.{read_spare}
 use Rattle.pool_access.proofs.Fields.{spares_number}
-use Rattle.pool_relief_line.specs.Line.{count_before, taken_at, gives}
+use Rattle.pool_relief_line.specs.Line.{count_before, taken_at, gives, IsLine}
 use Rattle.pool_relief_line.specs.Parked.{parked_at, parkings, bytes_from}
 use Rattle.pool_records.specs.RecordConstants.{spare_parked_at, spare_stride, texture_bytes_at, texture_spares_at, texture_stride}
+use Rattle.pool_rules.specs.Model.{limit}
 
 -- a parking number is the third number of its record
 pub parked_at_lem : (spares : List ℕ) (k : ℕ) → get_or spares (spare_stride * k + spare_parked_at) 0 ≡ parked_at spares k
@@ -174,3 +176,13 @@ unfolding bytes_from total record_bytes
 before_most spares line from [] = omega arith
 before_most spares line from (t ∷ ts) =
     omega (arith, counted_bytes (bytes_of t.shape) line spares from t.spares, before_most spares line (from + t.spares) ts)
+
+-- where the two ends of a search by halving meet, there is the line
+pub ends_meet : (dooming excess : ℕ) (below : ℕ → ℕ) (lo hi : ℕ) → lo < hi → hi ≤ lo + 1 → dooming + below lo < excess
+    → (excess ≤ dooming + below hi) ⊎ (hi ≡ limit + 2) → IsLine dooming excess below lo
+ends_meet dooming excess below lo hi h k short last = record {
+  short = short;
+  last =
+      let e : hi ≡ suc lo = omega arith in
+      ⊎_elim (λ q. inl (omega (arith, q, ap below e))) (λ q. inr (omega arith)) last;
+}

@@ -1,5 +1,5 @@
 -- What `retire` notes of the version and in its texture's record, by whether the texture is tracked. Assumes nothing.
-use mathlib.Core.Path.{◌≡◌, refl, sym, ap, ◌∙◌}
+use mathlib.Core.Path.{◌≡◌, refl, sym, ap, ◌∙◌, subst}
 use mathlib.Core.Bool.{Bool, true, false}
 use mathlib.Core.Option.{Option, none, some}
 use Prim.Native.Nat.{ℕ}
@@ -7,8 +7,9 @@ use Rattle.grid_shapes.specs.Shapes.{bytes_of}
 use Rattle.pool_rules.specs.Model.{WriteHistory, VersionState, writes_of}
 use Rattle.pool_rules.specs.Retire.{retired}
 use Rattle.pool_records.specs.declared.texture.TextureRecord.{TextureRecord}
+use Rattle.pool_records.specs.Recorded.{RecordedFits}
 use Rattle.pool_memory.specs.Writing.{recorded_history, texture_record, retiring_record}
-use Rattle.pool_retire.specs.Noted.{writes_counted, retired_record}
+use Rattle.pool_retire.specs.Noted.{writes_counted, retired_record, born_at}
 
 -- ---- as the code notes it
 
@@ -25,6 +26,10 @@ module _ (b : Bool) (t : TextureRecord) (id view seq : ℕ) where
       (λ i. record { id = id; view = view; seq = seq; epoch = u.epoch; birth = u.birth; held = e1 i; bytes = u.bytes })
       ∙ ap (λ (v : TextureRecord). retired_record true v id view seq) read
       ∙ sym (ap (λ (a : Bool). retired_record a t id view seq) e)
+
+-- the history of a record with a birth noted fits as before
+pub birth_fits : (u t w : TextureRecord) (seq : ℕ) → u ≡ t → w ≡ born_at seq u → RecordedFits t.history → RecordedFits w.history
+birth_fits u t w seq read born h = subst (λ (v : TextureRecord). RecordedFits v.history) (sym (born ∙ ap (born_at seq) read)) h
 
 -- ---- as the model does
 

@@ -6,18 +6,19 @@ use native.Mathlib.Nat.{add-zero, zero-add, min-le_right}
 use native.Mathlib.Numerals.{add-one}
 use native.Mathlib.Omega.{arith}
 use borrow.Author.Tests.{lt-ltb, le-ltb}
-use lib.ListN.{get_or}
+use lib.ListN.{get_or, length}
 use lib.Seq.{get_or-drop}
 use Rattle.std.specs.Prelude.{sum}
 use Rattle.std.proofs.lemmas.List.Sums.{sum_by-cons}
 use Rattle.base_blocks.specs.Lists.{listed, total}
 use Rattle.base_blocks.proofs.Lists.{total_append}
-use Rattle.base_blocks.proofs.Listed.{listed_more, left, left_step, left_none, left_split, take_listed, drop_left}
+use Rattle.base_blocks.proofs.Listed.{listed_more, left, left_step, left_none, left_split, take_listed, drop_left, listed_get_d}
 use Rattle.base_tables.specs.Records.{record_at}
 use Rattle.base_tables.specs.Rings.{place_of, along}
 use Rattle.pool_records.specs.Doomed.{read_doomed}
 use Rattle.pool_rules.specs.Model.{Doomed, doomed_bytes}
 use Rattle.pool_rules.specs.TakeDoomed.{cover_more}
+use Rattle.pool_rules.specs.RuleConstants.{destroy_spread_drains}
 use Rattle.pool_take_doomed.specs.NextBatch.{doomed_entry, doomed_entries, paced_of, batch_of}
 use Rattle.pool_records.specs.RecordConstants.{doomed_bytes_at, doomed_stride}
 
@@ -26,6 +27,15 @@ pub total_sum : (a : List ℕ) → total (λ (n : ℕ). n) a ≡ sum a
 unfolding total
 total_sum [] = refl
 total_sum (x ∷ xs) = ap (λ (n : ℕ). x + n) (total_sum xs) ∙ sym (sum_by-cons (λ (n : ℕ). n) x xs)
+
+-- the eight drains of a batch, one by one
+pub eight_sum : (a : List ℕ) → length a ≡ destroy_spread_drains
+    → total (λ (n : ℕ). n) a ≡ get_or a 0 0 + get_or a 1 0 + get_or a 2 0 + get_or a 3 0 + get_or a 4 0 + get_or a 5 0 + get_or a 6 0 + get_or a 7 0
+unfolding total listed
+eight_sum a e =
+    let f : ℕ → ℕ = λ k. get_or a k 0 in
+    ap (total (λ (n : ℕ). n)) (sym (listed_get_d 0 a) ∙ ap (listed f 0) e)
+    ∙ (let q : f 0 + (f 1 + (f 2 + (f 3 + (f 4 + (f 5 + (f 6 + (f 7 + 0))))))) ≡ f 0 + f 1 + f 2 + f 3 + f 4 + f 5 + f 6 + f 7 = omega arith in q)
 
 -- no more than there are
 pub paced_most : (arrivals : List ℕ) (n : ℕ) → paced_of arrivals n ≤ n

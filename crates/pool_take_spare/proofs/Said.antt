@@ -2,7 +2,7 @@
 use mathlib.Core.Path.{◌≡◌, refl, sym, ap, ap₂, ◌∙◌}
 use mathlib.Core.Bool.{Bool, true, false, cond, not, ◌&&◌, true≢false}
 use mathlib.Core.List.{List}
-use Prim.Native.Nat.{ℕ, ◌+◌, ◌-◌, ◌/◌, ◌≤◌, ◌<◌}
+use Prim.Native.Nat.{ℕ, ◌+◌, ◌-◌, ◌/◌, ◌≤◌, ◌<◌, ◌*◌}
 use native.Mathlib.Omega.{arith}
 use borrow.Author.Tests.{lt-ltb, le-ltb, le-leb, lt-leb, not-true, not-false}
 use lib.Dec.{ltb, leb}
@@ -35,7 +35,7 @@ use Rattle.pool_memory.proofs.Asked.{asked_refused}
 use Rattle.pool_memory.proofs.Tracked.{shape_at, stamps_at}
 use Rattle.pool_access.proofs.Ids as ids
 use Rattle.pool_tracking.specs.Begun.{fresh_stamps}
-use Rattle.pool_tracking.specs.Refusal.{tracking_refusal, begun_refusal, found_refusal, take_refusal}
+use Rattle.pool_tracking.specs.Refusal.{tracking_refusal, begun_refusal, found_refusal, take_refusal, most_stamps}
 use Rattle.pool_tracking.specs.Cases.{TrackedAt}
 use Rattle.pool_tracking.proofs.Refusals.{take_refused}
 use Rattle.pool_tracking.proofs.Tracked.{found_there, not_there}
@@ -138,6 +138,22 @@ module _ (pool : Counts) (textures : List ℕ) (lent i id : ℕ) (shape : Versio
               → outcome_number x ≡ begun (end - t.stamp) → IfOk x (λ (k : ℕ). k ≡ fresh_stamps shape records) → Is x
           said_other y end ends x en n =
               beginning x (en ∙ ap₂ (λ (k : ℕ) (u : TextureRecord). begun (k - u.stamp)) ends is-record ∙ by_shape false y) n
+
+-- of a texture that is tracked: its place, its record, and its own stamps
+module _ (pool : Counts) (textures : List ℕ) (lent i id : ℕ) (k : Readable pool textures lent) (b : Bool) (has : b ≡ has_id textures pool.tracked i id)
+    (into : not b ≡ false) where
+  pub is_place : i < pool.tracked
+  is_place = (ids.found textures pool.tracked i id (sym has ∙ not-false b into)).0
+
+  pub tracked_fits : texture_stride * i + texture_stride ≤ length textures
+  tracked_fits = omega (arith, k.there, is_place)
+
+  module _ (t : TextureRecord) (is-record : t ≡ texture_in textures i) (end : ℕ) (ends : end ≡ stamp_end textures pool.tracked pool.stamps i) where
+    pub own_begins : t.stamp ≤ end
+    own_begins = omega (arith, k.begins i is_place, ends, ap (λ (u : TextureRecord). u.stamp) is-record)
+
+    pub own_few : end - t.stamp ≤ most_stamps
+    own_few = omega (arith, k.ends i is_place, ends, k.used)
 
 -- ---- the rule
 

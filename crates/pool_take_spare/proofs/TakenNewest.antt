@@ -47,6 +47,7 @@ use Rattle.pool_tracking.proofs.Refusals.{take_tracked_lem}
 use Rattle.pool_tracking.proofs.Counts.{counted, counts_after}
 use Rattle.pool_tracking.proofs.Tracked.{spares_within, kept_fits, is_there, found_there, here}
 use Rattle.pool_records.specs.RecordConstants.{spare_stride, texture_stride}
+use Rattle.pool_records.specs.Recorded.{RecordedFits}
 
 -- ---- lists
 
@@ -75,6 +76,10 @@ fewer (s ∷ t ∷ ts) = ap suc (fewer (t ∷ ts)) ∙ (let e : suc (suc (length
 renamed_record_lem : (grid stamp seq : ℕ) (u : VersionState ℕ)
     → texture_record grid stamp (renamed_state seq u) ≡ renamed_record seq (length u.spares - 1) (texture_record grid stamp u)
 renamed_record_lem grid stamp seq u = ap (λ (n : ℕ). renamed_record seq n (texture_record grid stamp u)) (fewer u.spares)
+
+-- the history of a record renamed fits as before
+pub renamed_fits : (x t u : TextureRecord) (seq left : ℕ) → RecordedFits u.history → x ≡ renamed_record seq left t → t ≡ u → RecordedFits x.history
+renamed_fits x t u seq left fits e q = rw (sym (ap (λ (r : TextureRecord). r.history) e ∙ ap (λ (r : TextureRecord). r.history) q)) at fits
 
 -- what is answered, the counts, the textures and the spares
 abbrev Left : Type 0

@@ -1,5 +1,5 @@
 -- A tracking just begun: its record, the numbers of its grids, and its stamps, which are all 0. Assumes nothing.
-use mathlib.Core.Path.{◌≡◌, refl, ap, ◌∙◌}
+use mathlib.Core.Path.{◌≡◌, refl, ap, ◌∙◌, sym}
 use mathlib.Core.Bool.{Bool, true, false}
 use mathlib.Core.List.{List, flat_map}
 use Prim.Native.Nat.{ℕ, ◌+◌, ◌*◌, ◌-◌, ◌/◌, ◌≤◌}
@@ -18,6 +18,8 @@ use Rattle.pool_rules.specs.TakeSpare.{new_state}
 use Rattle.pool_rules.specs.RuleConstants.{grid_stride, most_grids}
 use Rattle.pool_rules.proofs.HistorySizes.{grids_most, history_most}
 use Rattle.pool_records.specs.Tilings.{fresh_from}
+use Rattle.pool_records.specs.declared.texture.TextureRecord.{TextureRecord}
+use Rattle.pool_records.specs.Recorded.{RecordedFits}
 use Rattle.pool_memory.specs.Writing.{texture_record, newest_from, newest_of, stamps_of}
 use Rattle.pool_memory.proofs.Rewritten.{length_zeros}
 use Rattle.pool_memory.proofs.Fresh.{fresh_newest, fresh_stamps_lem}
@@ -57,6 +59,14 @@ module _ (new : NewTracking) (epoch : ℕ) where
       }
       go true = refl
       go false = refl
+
+  -- its history fits its number
+  pub begun_fits : (grid stamp : ℕ) (x : TextureRecord) → x ≡ new_record new epoch grid stamp → RecordedFits x.history
+  begun_fits grid stamp x e = rw (sym (ap (λ (r : TextureRecord). r.history) e)) at (go new.records)
+    where
+      go : (b : Bool) → RecordedFits (fresh_history b)
+      go true = omega arith
+      go false = omega arith
 
   -- ---- what its history has
 
