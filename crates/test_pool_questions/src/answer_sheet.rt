@@ -2,7 +2,7 @@
 use event_sessions::Stores;
 use grid_shapes::Refusal;
 use pool_memory::{PacingBook, Pool};
-use test_common::STDOUT_FILENO;
+use test_common::{STDOUT_FILENO, put_after};
 
 // Prints what the call answers, behind the number of its line.
 fn print_answer(answer: Result<usize, Refusal>) {
@@ -12,8 +12,10 @@ fn print_answer(answer: Result<usize, Refusal>) {
             io::print_decimal(STDOUT_FILENO, length as u64);
         }
         Err(refusal) => {
-            io::write_all(STDOUT_FILENO, b",");
-            io::print_decimal(STDOUT_FILENO, refusal.number());
+            // In one write, as every other part of an answer's line that has no length of its own.
+            let mut field = [0u8; 21];
+            let end = put_after(&mut field, 0, b",", refusal.number());
+            io::write_all(STDOUT_FILENO, &field[..end]);
         }
     }
 }
