@@ -31,7 +31,7 @@ fn box_planned(shape: VersionShape, level: u64, dirty: Option<TexelRect>) -> Opt
 // otherwise the box of what was written after the new version retired. A box that the upload's rectangle covers is copied still: the
 // upload can decline after the rename, and the version must be whole without it. A level whose newest stamp is at most `held` is left
 // out at once; of any other, where its stamps begin and its tiles' edges stand beside that stamp.
-// Asks to be part of its callers: as a call, which is handed the shape copy by copy, it takes some 60 instructions more for each.
+// Asks to be part of its callers: as a call, which is handed the whole shape for each copy, it takes some 60 instructions more a copy.
 #[inline(always)]
 pub fn copy_at(
     newest: &[u64],

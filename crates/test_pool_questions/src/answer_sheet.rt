@@ -12,7 +12,7 @@ fn print_answer(answer: Result<usize, Refusal>) {
             io::print_decimal(STDOUT_FILENO, length as u64);
         }
         Err(refusal) => {
-            // In one write, as every other part of an answer's line that has no length of its own.
+            // Writes the comma and the number at once.
             let mut field = [0u8; 21];
             let end = put_after(&mut field, 0, b",", refusal.number());
             io::write_all(STDOUT_FILENO, &field[..end]);
