@@ -52,6 +52,8 @@ fn put_copy(out: &mut [u8], at: usize, number: u64, copy: &[u64]) -> usize
 }
 
 // Puts a line for each of the first n copies.
+// Stays a call of its own: within its caller, which is large, the place where a line ends goes through memory, and a plan of 90 copies takes a fifth more time.
+#[inline(never)]
 pub fn put_copies(out: &mut [u8], at: usize, number: u64, copies: &[u64], n: usize) -> usize
     requires { (at + most_row * n ≤ length out.old) × (copy_stride * n ≤ length copies.now) }
     ensures { Put out.old at (flat_map (copy_row number) (table copy_stride read_copy n copies.now)) result out.new }
